@@ -1,0 +1,154 @@
+-- What a call gives, from the areas that it made.
+use Rattle.std.proofs.Common.{◌≡◌, ℕ, ◌<◌, ◌≤◌, ◌^◌, Bool, true, false, not, cond, ◌==◌, List, length, Option, Some, None, refl, sym, ap, subst, ◌∙◌, inl, inr}
+use Rattle.std.specs.Prelude.{nat_lt, IsSome}
+use Rattle.std.specs.Cmp.{nat_cmp_total}
+use Rattle.std.specs.FinMap as finmap
+use Rattle.std.specs.FinMap.{get-from_entries, get-entries, nat_cmp-IsAntisymmetric}
+use Rattle.std.proofs.lemmas.Bool.{eq-eqb, ne_eqb, cond-true, cond-false, cases_lt, lt-ltb, le-ltb}
+use Rattle.sd_areas.specs.declared.area.Area.{Area}
+use Rattle.sd_areas.specs.declared.prot.Prot.{Prot}
+use Rattle.sd_areas.specs.Pages.{is_within}
+use Rattle.sd_areas.specs.Areas.{PageMap, AreMaximal, AreAreasOf, AreInSpace, pages_of, areas_of}
+use Rattle.std.specs.Prelude.{Ok, Err}
+use Rattle.std.specs.FinMap.{get-retain_keys}
+use Rattle.std.proofs.Common.{◌%◌}
+use Rattle.std.proofs.lemmas.Bool.{not_from_true, not_from_false}
+use Rattle.sd_areas.specs.declared.errno.Errno.TheVariants.{Einval, Enomem}
+use Rattle.sd_areas.specs.Pages.{page_of, pages_for, is_invalid, is_outside}
+use Rattle.sd_areas.specs.Calls.{set_pages, remove_pages, within_areas, mapped, unmapped, has_hole, protected}
+use Rattle.sd_areas.specs.Runs.{HasRun, HasGap}
+use Rattle.sd_areas.proofs.PagesOf.{find-run, get-pages_of, pages_of_areas, same_pages}
+use Rattle.sd_areas.proofs.Entries.{areas_of_is}
+use Rattle.sd_areas.proofs.Put.{none_outside}
+
+pub get-set_pages : (pages : PageMap) (first count : ℕ) (prot : Prot) (page : ℕ) → finmap.get (set_pages pages first count prot) page ≡ cond (is_within first count page) (Some prot) (finmap.get pages page)
+unfolding set_pages
+get-set_pages pages first count prot page =
+    get-from_entries nat_cmp_total _ page ∙ find-run first count prot (finmap.entries pages) page
+    ∙ ap (cond (is_within first count page) (Some prot)) (sym (get-entries pages page))
+
+alike : (first count q x : ℕ) → q ≡ x → not (is_within first count x) ≡ not (is_within first count q)
+alike first count q x e = ap (λ n. not (is_within first count n)) (sym e)
+
+turned : (b : Bool) (o : Option Prot) → cond (not b) o None ≡ cond b None o
+turned true o = refl
+turned false o = refl
+
+pub get-remove_pages : (pages : PageMap) (first count page : ℕ) → finmap.get (remove_pages pages first count) page ≡ cond (is_within first count page) None (finmap.get pages page)
+unfolding remove_pages
+get-remove_pages pages first count page =
+    get-retain_keys pages (λ q. not (is_within first count q)) page (λ x e. alike first count page x (nat_cmp-IsAntisymmetric page x e))
+    ∙ turned (is_within first count page) (finmap.get pages page)
+
+-- ---- the space of a list of areas
+none_some : (o : Option Prot) → o ≡ None → IsSome o → ⊥
+none_some o e s = cc
+
+pub areas_in_space : (areas : List Area) → AreMaximal None areas → AreInSpace (pages_of areas)
+areas_in_space areas m page some =
+    elim (cases_lt page (2 ^ 35)) [
+      | inl l ↦ l
+      | inr g ↦ absurd (none_some (finmap.get (pages_of areas) page) (get-pages_of areas page ∙ none_outside None areas page m g) some)
+    ]
+
+pub areas_of_pages_of : (areas : List Area) → AreMaximal None areas → areas_of (pages_of areas) ≡ areas
+areas_of_pages_of areas m = areas_of_is (pages_of areas) areas (areas_in_space areas m) (pages_of_areas areas m)
+
+pub within_ok : (areas : List Area) → AreMaximal None areas → length areas ≤ 1024 → within_areas (pages_of areas) ≡ Ok (pages_of areas)
+unfolding within_areas
+within_ok areas m l = cond-false (nat_lt 1024 (length (areas_of (pages_of areas)))) (Err Enomem) (Ok (pages_of areas)) (rw (areas_of_pages_of areas m) (le-ltb 1024 (length areas) l))
+
+pub within_err : (areas : List Area) → AreMaximal None areas → 1024 < length areas → within_areas (pages_of areas) ≡ Err Enomem
+unfolding within_areas
+within_err areas m l = cond-true (nat_lt 1024 (length (areas_of (pages_of areas)))) (Err Enomem) (Ok (pages_of areas)) (rw (areas_of_pages_of areas m) (lt-ltb 1024 (length areas) l))
+
+pub run_is : (old new : List Area) (area : Area) → HasRun old new area → set_pages (pages_of old) area.first area.count area.prot ≡ pages_of new
+run_is old new area h = same_pages _ _ (λ page.
+    get-set_pages (pages_of old) area.first area.count area.prot page
+    ∙ ap (cond (is_within area.first area.count page) (Some area.prot)) (get-pages_of old page)
+    ∙ sym (h.same page) ∙ sym (get-pages_of new page))
+
+pub gap_is : (old new : List Area) (first count : ℕ) → HasGap old new first count → remove_pages (pages_of old) first count ≡ pages_of new
+gap_is old new first count h = same_pages _ _ (λ page.
+    get-remove_pages (pages_of old) first count page
+    ∙ ap (cond (is_within first count page) None) (get-pages_of old page)
+    ∙ sym (h.same page) ∙ sym (get-pages_of new page))
+
+-- ---- `mmap`
+pub mapped_invalid : (pages : PageMap) (address bytes : ℕ) (prot : Prot) → is_invalid address bytes ≡ true → mapped pages address bytes prot ≡ Err Einval
+unfolding mapped
+mapped_invalid pages address bytes prot e = cond-true _ _ _ e
+
+pub mapped_outside : (pages : PageMap) (address bytes : ℕ) (prot : Prot) → is_invalid address bytes ≡ false → is_outside address bytes ≡ true → mapped pages address bytes prot ≡ Err Enomem
+unfolding mapped
+mapped_outside pages address bytes prot e o = cond-false _ _ _ e ∙ cond-true _ _ _ o
+
+pub mapped_within : (pages : PageMap) (address bytes : ℕ) (prot : Prot) → is_invalid address bytes ≡ false → is_outside address bytes ≡ false → mapped pages address bytes prot ≡ within_areas (set_pages pages (page_of address) (pages_for bytes) prot)
+unfolding mapped
+mapped_within pages address bytes prot e o = cond-false _ _ _ e ∙ cond-false _ _ _ o
+
+-- ---- what a caller sees
+pub shown_areas : (areas shown : List Area) (pages : PageMap) → shown ≡ areas → pages_of areas ≡ pages → AreMaximal None areas → AreAreasOf pages shown
+shown_areas areas shown pages e v m =
+    subst (λ (l : List Area). AreAreasOf pages l) (sym e) (subst (λ (p : PageMap). AreAreasOf p areas) v (pages_of_areas areas m))
+
+pub shown_value : (areas shown : List Area) (pages : PageMap) → shown ≡ areas → pages_of areas ≡ pages → AreMaximal None areas → shown ≡ areas_of pages
+shown_value areas shown pages e v m = e ∙ sym (ap areas_of (sym v) ∙ areas_of_pages_of areas m)
+
+-- the space afterwards is what `mmap` gives, as far as the limit allows
+pub mapped_run : (pages : PageMap) (old new : List Area) (area : Area) (address bytes : ℕ) (prot : Prot) → pages_of old ≡ pages → is_invalid address bytes ≡ false → is_outside address bytes ≡ false →
+    area.first ≡ page_of address → area.count ≡ pages_for bytes → area.prot ≡ prot → HasRun old new area → mapped pages address bytes prot ≡ within_areas (pages_of new)
+mapped_run pages old new area address bytes prot v valid inside_space f n p h =
+    mapped_within pages address bytes prot valid inside_space
+    ∙ ap within_areas (rw (← v, ← f, ← n, ← p) (run_is old new area h))
+
+-- ---- `munmap`
+pub unmapped_invalid : (pages : PageMap) (address bytes : ℕ) → is_invalid address bytes ≡ true → unmapped pages address bytes ≡ Err Einval
+unfolding unmapped
+unmapped_invalid pages address bytes e = cond-true _ _ _ e
+
+pub unmapped_outside : (pages : PageMap) (address bytes : ℕ) → is_invalid address bytes ≡ false → is_outside address bytes ≡ true → unmapped pages address bytes ≡ Err Einval
+unfolding unmapped
+unmapped_outside pages address bytes e o = cond-false _ _ _ e ∙ cond-true _ _ _ o
+
+pub unmapped_within : (pages : PageMap) (address bytes : ℕ) → is_invalid address bytes ≡ false → is_outside address bytes ≡ false → unmapped pages address bytes ≡ within_areas (remove_pages pages (page_of address) (pages_for bytes))
+unfolding unmapped
+unmapped_within pages address bytes e o = cond-false _ _ _ e ∙ cond-false _ _ _ o
+
+pub unmapped_gap : (pages : PageMap) (old new : List Area) (first count address bytes : ℕ) → pages_of old ≡ pages → is_invalid address bytes ≡ false → is_outside address bytes ≡ false →
+    first ≡ page_of address → count ≡ pages_for bytes → HasGap old new first count → unmapped pages address bytes ≡ within_areas (pages_of new)
+unmapped_gap pages old new first count address bytes v valid inside_space f n h =
+    unmapped_within pages address bytes valid inside_space
+    ∙ ap within_areas (rw (← v, ← f, ← n) (gap_is old new first count h))
+
+-- ---- `mprotect`
+pub protected_invalid : (pages : PageMap) (address bytes : ℕ) (prot : Prot) → (address % 4096 == 0) ≡ false → protected pages address bytes prot ≡ Err Einval
+unfolding protected
+protected_invalid pages address bytes prot e = cond-true _ _ _ (not_from_false _ e)
+
+pub protected_nothing : (pages : PageMap) (address bytes : ℕ) (prot : Prot) → (address % 4096 == 0) ≡ true → bytes ≡ 0 → protected pages address bytes prot ≡ Ok pages
+unfolding protected
+protected_nothing pages address bytes prot e z = cond-false _ _ _ (not_from_true _ e) ∙ cond-true _ _ _ (eq-eqb bytes 0 z)
+
+pub protected_outside : (pages : PageMap) (address bytes : ℕ) (prot : Prot) → (address % 4096 == 0) ≡ true → (bytes ≡ 0 → ⊥) → is_outside address bytes ≡ true → protected pages address bytes prot ≡ Err Enomem
+unfolding protected
+protected_outside pages address bytes prot e z o = cond-false _ _ _ (not_from_true _ e) ∙ cond-false _ _ _ (ne_eqb bytes 0 z) ∙ cond-true _ _ _ o
+
+pub protected_hole : (pages : PageMap) (address bytes : ℕ) (prot : Prot) → (address % 4096 == 0) ≡ true → (bytes ≡ 0 → ⊥) → is_outside address bytes ≡ false → has_hole pages (page_of address) (pages_for bytes) ≡ true → protected pages address bytes prot ≡ Err Enomem
+unfolding protected
+protected_hole pages address bytes prot e z o h = cond-false _ _ _ (not_from_true _ e) ∙ cond-false _ _ _ (ne_eqb bytes 0 z) ∙ cond-false _ _ _ o ∙ cond-true _ _ _ h
+
+pub protected_within : (pages : PageMap) (address bytes : ℕ) (prot : Prot) → (address % 4096 == 0) ≡ true → (bytes ≡ 0 → ⊥) → is_outside address bytes ≡ false → has_hole pages (page_of address) (pages_for bytes) ≡ false →
+    protected pages address bytes prot ≡ within_areas (set_pages pages (page_of address) (pages_for bytes) prot)
+unfolding protected
+protected_within pages address bytes prot e z o h = cond-false _ _ _ (not_from_true _ e) ∙ cond-false _ _ _ (ne_eqb bytes 0 z) ∙ cond-false _ _ _ o ∙ cond-false _ _ _ h
+
+-- the test for a hole, as the code makes it
+pub hole_test : (pages : PageMap) (old : List Area) (first count address bytes : ℕ) (b : Bool) → pages_of old ≡ pages → first ≡ page_of address → count ≡ pages_for bytes → b ≡ has_hole (pages_of old) first count → has_hole pages (page_of address) (pages_for bytes) ≡ b
+hole_test pages old first count address bytes b v f n h = rw (← v, ← f, ← n) (sym h)
+
+pub protected_run : (pages : PageMap) (old new : List Area) (area : Area) (address bytes : ℕ) (prot : Prot) → pages_of old ≡ pages → (address % 4096 == 0) ≡ true → (bytes ≡ 0 → ⊥) → is_outside address bytes ≡ false →
+    has_hole pages (page_of address) (pages_for bytes) ≡ false → area.first ≡ page_of address → area.count ≡ pages_for bytes → area.prot ≡ prot → HasRun old new area → protected pages address bytes prot ≡ within_areas (pages_of new)
+protected_run pages old new area address bytes prot v valid some inside_space full f n p h =
+    protected_within pages address bytes prot valid some inside_space full
+    ∙ ap within_areas (rw (← v, ← f, ← n, ← p) (run_is old new area h))

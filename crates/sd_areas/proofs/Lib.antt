@@ -1,0 +1,13 @@
+pub mod Maximal
+pub mod Extended
+pub mod Parts
+pub mod PagesOf
+pub mod Unique
+pub mod Entries
+pub mod Put
+pub mod Calls
+pub mod Find
+pub mod Holes
+pub mod PageLaws
+pub mod Memory
+pub mod PageRuns

@@ -1,0 +1,6 @@
+use Rattle.sd_areas.proofs.Put.{run_put_at}
+use Rattle.sd_areas.proofs.runs.with_area.Goals as goal
+
+pub returns : goal.returns
+returns c = run_put_at _ _ _ _ _ _ _ c.new-joined.ensures.items c.number-begin.ensures.value c.requires.maximal c.requires.within
+    c.in_ok-push_parts.ensures.ok c.in_ok-push_area.ensures.ok c.in_ok-push_parts-2.ensures.ok

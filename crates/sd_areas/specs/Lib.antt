@@ -1,0 +1,9 @@
+pub mod Pages
+pub mod Prot
+pub mod Areas
+pub mod Codes
+pub mod Calls
+pub mod Laws
+pub mod Runs
+pub mod PlainMemory
+pub mod Memory

@@ -1,0 +1,166 @@
+ghost use Rattle.std.specs.Prelude.{◌≡◌, ◌==◌, ◌%◌, ◌≤◌, IsTrue, IsFalse, length, None, Ok, Err, IfErr, OnOk, OnErr};
+ghost use Rattle.std.specs.FinMap as finmap;
+ghost use Rattle.sd_areas.specs.Pages.{is_invalid, is_outside};
+
+use crate::area::Area;
+use crate::errno::{AreaError, Errno};
+use crate::page_no::PageNo;
+use crate::page_range::{PageRange, is_page_start, is_range};
+use crate::prot::Prot;
+use crate::runs::{find_prot, meets_hole, with_area, without_pages};
+use std::alloc::Global;
+use std::marker::Model;
+
+/// How many areas a space can have.
+pub const AREA_LIMIT: usize = 1024;
+
+/// The address space of one task: which pages are mapped, and with which permissions.
+///
+/// It keeps the maximal runs of pages with equal permissions, at most 1,024 of them, so a call costs time by the areas, and not by the pages.
+#[derive(Clone, Drop)]
+pub struct AreaMap {
+    alloc: Global,
+    areas: Vec<Area>,
+}
+
+impl Model for AreaMap {
+    ghost use Rattle.std.specs.Prelude.{◌≤◌, length, None};
+    ghost use Rattle.std.specs.FinMap as finmap;
+    ghost use Rattle.std.specs.Coded.{coded_ℕ};
+    ghost use Rattle.sd_areas.specs.Areas.{PageMap, AreMaximal, pages_of};
+    ghost use Rattle.sd_areas.specs.Codes.{prot_code};
+
+    ghost Value = { PageMap };
+
+    ghost coded = { finmap.code coded_ℕ prot_code };
+
+    ghost view = { λ a. pages_of a.areas.items };
+
+    ghost invariant = { λ a. AreMaximal None a.areas.items × (length a.areas.items ≤ 1024) };
+}
+
+impl AreaMap {
+    ghost use Rattle.sd_areas.specs.Areas.{AreAreasOf, AreMaximal, areas_of, pages_of};
+    ghost use Rattle.sd_areas.specs.Calls.{mapped, unmapped, protected, within_areas, Answers};
+    ghost use Rattle.sd_areas.specs.declared.errno.AreaError.TheVariants.{Refused};
+    ghost use Rattle.sd_areas.specs.declared.errno.Errno.TheVariants.{Einval, Enomem};
+
+    /// A space without pages.
+    pub fn new(alloc: Global) -> Self
+        ensures { result ≡ finmap.empty }
+    {
+        AreaMap {
+            alloc,
+            areas: Vec::new(alloc),
+        }
+    }
+
+    /// The maximal runs of pages with equal permissions, in the order of their addresses: at most 1,024.
+    pub fn areas(&self) -> &[Area]
+        ensures value { result.now ≡ areas_of self.now }
+        ensures runs { AreAreasOf self.now result.now }
+        ensures limit { length result.now ≤ 1024 }
+    {
+        self.areas.as_slice()
+    }
+
+    /// The permissions of a page, or none where it isn't mapped. The time grows with the logarithm of the areas.
+    pub fn prot_of(&self, page: PageNo) -> Option<Prot>
+        ensures { result ≡ finmap.get self.now page }
+    {
+        find_prot(&self.areas, page)
+    }
+
+    /// Maps the whole pages of a range with these permissions, whatever was mapped there, as `mmap` with MAP_FIXED of POSIX.1-2017.
+    /// An address and a length are in bytes; the last page is mapped whole.
+    ///
+    /// # Errors
+    ///
+    /// EINVAL for a length of 0 or an address that is no multiple of 4,096.
+    /// ENOMEM for a range that ends past 2^47, and where the space would have over 1,024 areas.
+    /// Out of memory where the list of areas can't grow. An error changes nothing.
+    pub fn map(&mut self, address: u64, bytes: u64, prot: Prot) -> Result<(), AreaError>
+        ensures ok { OnOk result (mapped self.old address bytes prot ≡ Ok self.new) }
+        ensures refused { IfErr result (Answers (mapped self.old address bytes prot)) }
+        ensures invalid { IsTrue (is_invalid address bytes) → result ≡ Err (Refused Einval) }
+        ensures outside { IsFalse (is_invalid address bytes) → IsTrue (is_outside address bytes) → result ≡ Err (Refused Enomem) }
+        ensures err { OnErr result (self.new ≡ self.old) }
+    {
+        if !is_range(address, bytes) {
+            return Err(AreaError::Refused(Errno::Einval));
+        }
+        let Some(range) = PageRange::new(address, bytes) else {
+            return Err(AreaError::Refused(Errno::Enomem));
+        };
+        let areas = with_area(self.alloc, &self.areas, range.with(prot))?;
+        self.replace(areas)
+    }
+
+    /// Unmaps each whole page that contains a part of a range of bytes, as `munmap` of POSIX.1-2017. Pages of it that aren't mapped have no effect.
+    ///
+    /// # Errors
+    ///
+    /// EINVAL for a length of 0, an address that is no multiple of 4,096, or a range that ends past 2^47.
+    /// ENOMEM where the space would have over 1,024 areas, since the range lies within one.
+    /// Out of memory where the list of areas can't grow. An error changes nothing.
+    pub fn unmap(&mut self, address: u64, bytes: u64) -> Result<(), AreaError>
+        ensures ok { OnOk result (unmapped self.old address bytes ≡ Ok self.new) }
+        ensures refused { IfErr result (Answers (unmapped self.old address bytes)) }
+        ensures invalid { IsTrue (is_invalid address bytes) → result ≡ Err (Refused Einval) }
+        ensures outside { IsFalse (is_invalid address bytes) → IsTrue (is_outside address bytes) → result ≡ Err (Refused Einval) }
+        ensures err { OnErr result (self.new ≡ self.old) }
+    {
+        if !is_range(address, bytes) {
+            return Err(AreaError::Refused(Errno::Einval));
+        }
+        let Some(range) = PageRange::new(address, bytes) else {
+            return Err(AreaError::Refused(Errno::Einval));
+        };
+        let areas = without_pages(self.alloc, &self.areas, range)?;
+        self.replace(areas)
+    }
+
+    /// Gives the whole pages of a range of bytes these permissions, as `mprotect` of POSIX.1-2017. A length of 0 changes nothing.
+    ///
+    /// # Errors
+    ///
+    /// EINVAL for an address that is no multiple of 4,096.
+    /// ENOMEM for a range that ends past 2^47, where a page of it isn't mapped, and where the space would have over 1,024 areas.
+    /// Out of memory where the list of areas can't grow. An error changes nothing.
+    pub fn protect(&mut self, address: u64, bytes: u64, prot: Prot) -> Result<(), AreaError>
+        ensures ok { OnOk result (protected self.old address bytes prot ≡ Ok self.new) }
+        ensures refused { IfErr result (Answers (protected self.old address bytes prot)) }
+        ensures invalid { IsFalse (address % 4096 == 0) → result ≡ Err (Refused Einval) }
+        ensures nothing { IsTrue (address % 4096 == 0) → bytes ≡ 0 → result ≡ Ok tt }
+        ensures outside { IsFalse (is_invalid address bytes) → IsTrue (is_outside address bytes) → result ≡ Err (Refused Enomem) }
+        ensures err { OnErr result (self.new ≡ self.old) }
+    {
+        if !is_page_start(address) {
+            return Err(AreaError::Refused(Errno::Einval));
+        }
+        if bytes == 0 {
+            return Ok(());
+        }
+        let Some(range) = PageRange::new(address, bytes) else {
+            return Err(AreaError::Refused(Errno::Enomem));
+        };
+        if meets_hole(&self.areas, &range) {
+            return Err(AreaError::Refused(Errno::Enomem));
+        }
+        let areas = with_area(self.alloc, &self.areas, range.with(prot))?;
+        self.replace(areas)
+    }
+
+    fn replace(&mut self, areas: Vec<Area>) -> Result<(), AreaError>
+        requires { AreMaximal None areas.items }
+        ensures ok { OnOk result (within_areas (pages_of areas.items) ≡ Ok self.new) }
+        ensures refused { IfErr result (Answers (within_areas (pages_of areas.items))) }
+        ensures err { OnErr result (self.new ≡ self.old) }
+    {
+        if AREA_LIMIT < areas.len() {
+            return Err(AreaError::Refused(Errno::Enomem));
+        }
+        self.areas = areas;
+        Ok(())
+    }
+}

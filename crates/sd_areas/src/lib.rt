@@ -1,0 +1,28 @@
+//! Address spaces as areas of pages with permissions, and the memory of one moment.
+#![tactic(auto)]
+
+mod area;
+mod area_map;
+mod errno;
+mod laws;
+mod page_no;
+mod page_range;
+mod prot;
+mod runs;
+mod snapshot;
+mod snapshot_page;
+mod space_id;
+#[cfg(test)]
+mod tests;
+
+pub use area::Area;
+pub use area_map::{AREA_LIMIT, AreaMap};
+pub use errno::{AreaError, Errno};
+pub use laws::{
+    areas_law, limit_law, mapped_law, memory_law, one_list_law, protected_law, unmapped_law,
+};
+pub use page_no::{PAGE_LIMIT, PAGE_SIZE, PageNo};
+pub use prot::Prot;
+pub use snapshot::{Snapshot, areas_in};
+pub use snapshot_page::SnapshotPage;
+pub use space_id::SpaceId;

@@ -1,0 +1,195 @@
+//! Lists of areas that rise and are maximal, built from the front.
+ghost use Rattle.std.specs.Prelude.{◌≡◌, if◌then◌else◌, ℕ, ◌+◌, ◌<◌, ◌≤◌, ◌^◌, OnOk, IfOk, Some, None, MatchOption, min, max};
+ghost use Rattle.sd_areas.specs.Areas.{AreMaximal, prot_in, pages_of};
+ghost use Rattle.sd_areas.specs.Pages.{is_within};
+ghost use Rattle.sd_areas.specs.Calls.{has_hole};
+ghost use Rattle.sd_areas.specs.Runs.{is_continued, end_of_all, IsExtended, IsPart, HasPart, HasParts, HasRun, HasGap};
+
+use crate::area::Area;
+use crate::page_no::{PAGE_LIMIT, PageNo};
+use crate::page_range::PageRange;
+use crate::prot::Prot;
+use std::alloc::{AllocError, Global};
+
+/// Whether an area goes on where the one before it ends, with equal permissions.
+fn continues(last: &Area, area: &Area) -> bool
+    requires { last.now.first + last.now.count ≤ 2 ^ 35 }
+    ensures { result ≡ is_continued last.now area.now }
+{
+    last.first.number() + last.count == area.first.number() && last.prot.bits() == area.prot.bits()
+}
+
+/// An area with more pages at its end.
+fn longer(area: Area, count: u64) -> Area
+    requires { area.first + area.count + count ≤ 2 ^ 35 }
+    ensures first { result.first ≡ area.first }
+    ensures count { result.count ≡ area.count + count }
+    ensures prot { result.prot ≡ area.prot }
+{
+    Area {
+        first: area.first,
+        count: area.count + count,
+        prot: area.prot,
+    }
+}
+
+/// Puts an area behind the others: as a part of the last, where it continues that one.
+pub(crate) fn push_area(areas: &mut Vec<Area>, area: Area) -> Result<(), AllocError>
+    requires maximal { AreMaximal None areas.old.items }
+    requires behind { end_of_all areas.old.items ≤ area.first }
+    requires pages { 0 < area.count }
+    requires within { area.first + area.count ≤ 2 ^ 35 }
+    ensures ok { OnOk result (IsExtended areas.old.items areas.new.items area) }
+{
+    if let Some(last) = areas.pop() {
+        if continues(&last, &area) {
+            areas.push(longer(last, area.count))?;
+            return Ok(());
+        }
+        areas.push(last)?;
+    }
+    areas.push(area)?;
+    Ok(())
+}
+
+/// The part of an area from one page up to another, if there is one.
+fn part_of(area: &Area, from: u64, to: u64) -> Option<Area>
+    requires { area.now.first + area.now.count ≤ 2 ^ 35 }
+    ensures { MatchOption result (min (area.now.first + area.now.count) to ≤ max area.now.first from) (IsPart area.now from to) }
+{
+    let begin = area.first.number().max(from);
+    let end = to.min(area.first.number() + area.count);
+    if end <= begin {
+        return None;
+    }
+    let first = PageNo::new(begin)?;
+    Some(Area {
+        first,
+        count: end - begin,
+        prot: area.prot,
+    })
+}
+
+fn push_part(areas: &mut Vec<Area>, area: &Area, from: u64, to: u64) -> Result<(), AllocError>
+    requires maximal { AreMaximal None areas.old.items }
+    requires behind { end_of_all areas.old.items ≤ max area.now.first from }
+    requires within { area.now.first + area.now.count ≤ 2 ^ 35 }
+    ensures ok { OnOk result (HasPart areas.old.items areas.new.items area.now from to) }
+{
+    match part_of(area, from, to) {
+        Some(part) => push_area(areas, part),
+        None => Ok(()),
+    }
+}
+
+/// Puts the parts of a list of areas behind others: what lies from one page up to another.
+pub(crate) fn push_parts(
+    areas: &mut Vec<Area>,
+    source: &[Area],
+    from: u64,
+    to: u64,
+) -> Result<(), AllocError>
+    requires maximal { AreMaximal None areas.old.items }
+    requires behind { end_of_all areas.old.items ≤ from }
+    requires source_maximal { AreMaximal None source.now }
+    ensures ok { OnOk result (HasParts areas.old.items areas.new.items source.now from to) }
+{
+    for area in source {
+        push_part(areas, area, from, to)?;
+    }
+    Ok(())
+}
+
+/// The areas afterwards where the pages of one area get its permissions.
+pub(crate) fn with_area(alloc: Global, areas: &[Area], area: Area) -> Result<Vec<Area>, AllocError>
+    requires maximal { AreMaximal None areas.now }
+    requires pages { 0 < area.count }
+    requires within { area.first + area.count ≤ 2 ^ 35 }
+    ensures { IfOk result (λ new. HasRun areas.now new.items area) }
+{
+    let begin = area.first.number();
+    let end = begin + area.count;
+    let mut joined = Vec::new(alloc);
+    push_parts(&mut joined, areas, 0, begin)?;
+    push_area(&mut joined, area)?;
+    push_parts(&mut joined, areas, end, PAGE_LIMIT)?;
+    Ok(joined)
+}
+
+/// The areas afterwards where a run of pages is unmapped.
+pub(crate) fn without_pages(
+    alloc: Global,
+    areas: &[Area],
+    range: PageRange,
+) -> Result<Vec<Area>, AllocError>
+    requires maximal { AreMaximal None areas.now }
+    requires within { range.first + range.count ≤ 2 ^ 35 }
+    ensures { IfOk result (λ new. HasGap areas.now new.items range.first range.count) }
+{
+    let begin = range.first.number();
+    let end = begin + range.count;
+    let mut joined = Vec::new(alloc);
+    push_parts(&mut joined, areas, 0, begin)?;
+    push_parts(&mut joined, areas, end, PAGE_LIMIT)?;
+    Ok(joined)
+}
+
+/// The permissions of a page, by a binary search.
+pub(crate) fn find_prot(areas: &[Area], page: PageNo) -> Option<Prot>
+    requires { AreMaximal None areas.now }
+    ensures { result ≡ prot_in areas.now page }
+{
+    let after = areas.partition_point(|area| area.first.number() <= page.number());
+    if after == 0 {
+        return None;
+    }
+    let area = areas[after - 1];
+    (page.number() - area.first.number() < area.count).then_some(area.prot)
+}
+
+/// The end of the area where it has this page, else the page.
+fn reach(area: &Area, page: u64) -> u64
+    requires { area.now.first + area.now.count ≤ 2 ^ 35 }
+    ensures { result ≡ (if is_within area.now.first area.now.count page then area.now.first + area.now.count else page) }
+{
+    let first = area.first.number();
+    let end = first + area.count;
+    if first <= page && page < end {
+        end
+    } else {
+        page
+    }
+}
+
+/// Whether a page of the run isn't mapped.
+pub(crate) fn meets_hole(areas: &[Area], range: &PageRange) -> bool
+    requires maximal { AreMaximal None areas.now }
+    requires within { range.now.first + range.now.count ≤ 2 ^ 35 }
+    ensures { result ≡ has_hole (pages_of areas.now) range.now.first range.now.count }
+{
+    let mut next = range.first.number();
+    for area in areas {
+        next = reach(area, next);
+    }
+    next < range.first.number() + range.count
+}
+
+/// Puts one page behind the areas.
+pub(crate) fn push_page(areas: &mut Vec<Area>, page: PageNo, prot: Prot) -> Result<(), AllocError>
+    requires maximal { AreMaximal None areas.old.items }
+    requires behind { end_of_all areas.old.items ≤ page }
+    ensures maximal { OnOk result (AreMaximal None areas.new.items) }
+    ensures ends { OnOk result (end_of_all areas.new.items ≡ page + 1) }
+    ensures same { OnOk result ((q : ℕ) → prot_in areas.new.items q ≡ (if is_within page 1 q then Some prot else prot_in areas.old.items q)) }
+{
+    let first = page;
+    let _number = page.number();
+    push_area(
+        areas,
+        Area {
+            first,
+            count: 1,
+            prot,
+        },
+    )
+}

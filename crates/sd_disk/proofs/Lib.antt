@@ -1,0 +1,4 @@
+pub mod FolderLemmas
+pub mod MemoryLemmas
+pub mod SlotLemmas
+pub mod StepLemmas

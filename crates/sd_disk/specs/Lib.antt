@@ -1,0 +1,5 @@
+pub mod Contents
+pub mod Events
+pub mod Failures
+pub mod Folder
+pub mod Memory

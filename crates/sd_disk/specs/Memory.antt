@@ -1,0 +1,59 @@
+-- What a disk in memory holds, and what each call does to it.
+use Rattle.std.specs.Prelude.{◌≡◌, ℕ, ◌+◌, ◌-◌, ◌<◌, ◌≤◌, ◌^◌, min, List, take, length, map, slice_index}
+use Rattle.sd_disk.specs.Events.{failures_in}
+use Rattle.sd_disk.specs.declared.slot.Slot.{Slot}
+use Rattle.sd_disk.specs.declared.memory.MemDisk.{MemDisk}
+
+-- the file in a slot
+abbrev pub held : Slot → List ℕ
+held slot = take slot.len slot.room.items
+
+-- how many bytes it has room for
+abbrev pub room_of : Slot → ℕ
+room_of slot = length slot.room.items
+
+-- its files
+abbrev pub memory_files : MemDisk → List (List ℕ)
+memory_files disk = map held disk.slots.items
+
+-- how many bytes each slot has room for
+abbrev pub memory_rooms : MemDisk → List ℕ
+memory_rooms disk = map room_of disk.slots.items
+
+-- how many more writes, cuts and syncs it has room for
+abbrev pub memory_calls : MemDisk → ℕ
+memory_calls disk = disk.budget.calls_left
+
+-- how often it has failed
+abbrev pub memory_failures : MemDisk → ℕ
+memory_failures disk = failures_in disk.budget.journal.record.events
+
+-- how often it was read
+abbrev pub memory_reads : MemDisk → ℕ
+memory_reads disk = disk.reads
+
+-- there is room for a write of n bytes
+abbrev pub HasRoom : MemDisk → ℕ → ℕ → ℕ → Type 0
+HasRoom disk slot at n = (0 < memory_calls disk) × (at + n ≤ slice_index (memory_rooms disk) slot)
+
+-- a call that was done
+pub record UsesCall (old new : MemDisk) : Type 0 where
+  pub calls : memory_calls old ≡ memory_calls new + 1
+  pub failures : memory_failures new ≡ memory_failures old
+  pub rooms : memory_rooms new ≡ memory_rooms old
+  pub reads : memory_reads new ≡ memory_reads old
+
+-- a call that there was no room for
+pub record Refuses (old new : MemDisk) : Type 0 where
+  pub calls : memory_calls new ≡ memory_calls old
+  pub failures : memory_failures new ≡ memory_failures old + 1
+  pub rooms : memory_rooms new ≡ memory_rooms old
+  pub reads : memory_reads new ≡ memory_reads old
+  pub files : memory_files new ≡ memory_files old
+
+-- a read
+pub record CountsRead (old new : MemDisk) : Type 0 where
+  pub calls : memory_calls new ≡ memory_calls old
+  pub failures : memory_failures new ≡ memory_failures old
+  pub rooms : memory_rooms new ≡ memory_rooms old
+  pub reads : memory_reads new ≡ min (memory_reads old + 1) (2 ^ 64 - 1)

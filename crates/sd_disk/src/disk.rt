@@ -1,0 +1,73 @@
+ghost use Rattle.std.specs.Prelude.{◌≡◌, ℕ, ◌+◌, ◌-◌, ◌<◌, ◌≤◌, ◌^◌, min, List, length, take, OnOk, IfOk, slice_range, slice_set};
+ghost use Rattle.sd_disk.specs.Contents.{file_at, written, Torn, Cut, AtSlot};
+ghost use Rattle.sd_disk.specs.Failures.{HasCause};
+
+use crate::error::DeviceError;
+
+/// Slots numbered from 0, each a file of bytes.
+///
+/// `contents` is what the slots hold. What `len` and `read` answer is tied to it under `is_honest` alone:
+/// each answer so far was that of a device which keeps what it was given. A device in memory is always honest;
+/// of a real file that is a premise.
+pub trait Disk {
+    ghost contents: { Self → List (List ℕ) };
+
+    /// How often the device has failed.
+    ghost failed: { Self → ℕ };
+
+    ghost is_honest: { Self → Type 0 };
+
+    /// The number of slots. It never changes.
+    fn slots(&self) -> usize
+        ensures { result ≡ length (contents self.now) };
+
+    /// The number of failed calls so far, as far as 64 bits hold it.
+    fn failures(&self) -> u64
+        ensures { result ≡ min (failed self.now) (2 ^ 64 - 1) };
+
+    /// The length of a slot's file, in bytes.
+    fn len(&mut self, slot: usize) -> Result<usize, DeviceError>
+        requires { slot < length (contents self.old) }
+        ensures length { is_honest self.new → IfOk result (λ n. n ≡ length (file_at (contents self.old) slot)) }
+        ensures same { contents self.new ≡ contents self.old }
+        ensures honest { is_honest self.new → is_honest self.old }
+        ensures cause { HasCause (failed self.old) (failed self.new) result };
+
+    /// Fills the buffer from a slot's file, from byte `at` on. On an error the buffer may hold anything.
+    fn read(&mut self, slot: usize, at: usize, buffer: &mut [u8]) -> Result<(), DeviceError>
+        requires slot { slot < length (contents self.old) }
+        requires inside { is_honest self.old → at + length buffer.old ≤ length (file_at (contents self.old) slot) }
+        ensures bytes { is_honest self.new → OnOk result (buffer.new
+            ≡ slice_range (file_at (contents self.old) slot) at (at + length buffer.old)) }
+        ensures same { contents self.new ≡ contents self.old }
+        ensures honest { is_honest self.new → is_honest self.old }
+        ensures cause { HasCause (failed self.old) (failed self.new) result };
+
+    /// Writes all bytes at `at`, also past the file's end: the gap then reads as zeros.
+    /// On an error the range may hold anything.
+    fn write_at(&mut self, slot: usize, at: usize, bytes: &[u8]) -> Result<(), DeviceError>
+        requires slot { slot < length (contents self.old) }
+        requires some { 0 < length bytes.now }
+        ensures written { OnOk result (contents self.new
+            ≡ slice_set (contents self.old) slot (written (file_at (contents self.old) slot) at bytes.now)) }
+        ensures torn { AtSlot slot (Torn at (length bytes.now)) (contents self.old) (contents self.new) }
+        ensures honest { is_honest self.new → is_honest self.old }
+        ensures cause { HasCause (failed self.old) (failed self.new) result };
+
+    /// Cuts a slot's file to `len` bytes. On an error it may have cut.
+    fn cut(&mut self, slot: usize, len: usize) -> Result<(), DeviceError>
+        requires slot { slot < length (contents self.old) }
+        requires no_longer { is_honest self.old → len ≤ length (file_at (contents self.old) slot) }
+        ensures cut { OnOk result (contents self.new
+            ≡ slice_set (contents self.old) slot (take len (file_at (contents self.old) slot))) }
+        ensures torn { AtSlot slot (Cut len) (contents self.old) (contents self.new) }
+        ensures honest { is_honest self.new → is_honest self.old }
+        ensures cause { HasCause (failed self.old) (failed self.new) result };
+
+    /// Waits until a slot's file is on the device as it reads.
+    fn sync(&mut self, slot: usize) -> Result<(), DeviceError>
+        requires { slot < length (contents self.old) }
+        ensures same { contents self.new ≡ contents self.old }
+        ensures honest { is_honest self.new → is_honest self.old }
+        ensures cause { HasCause (failed self.old) (failed self.new) result };
+}

@@ -1,0 +1,134 @@
+//! A disk over the files of a folder.
+ghost use Rattle.std.specs.Prelude.{◌≡◌, length};
+ghost use Rattle.sd_disk.specs.Events.{Outside};
+
+use crate::call::Call;
+use crate::disk::Disk;
+use crate::error::DeviceError;
+use crate::image::{self, Folder};
+use crate::journal::Journal;
+
+/// A disk over the slots' files in a folder. A file that is missing has length 0, and a write to it fails.
+///
+/// Each method makes one call of `image` and notes it, with its answer, in the journal: no contract says what
+/// a real file gives, so `is_honest` is the premise that each answer was that of the files by the journal.
+#[derive(Drop)]
+pub struct DirDisk {
+    folder: Folder,
+    journal: Journal,
+    ghost one_each: { length journal.record.outside.found ≡ length folder.images.items },
+}
+
+impl DirDisk {
+    ghost use Rattle.sd_disk.specs.Folder.{folder_files, folder_failures};
+
+    /// `outside` stands for what the files hold, and for what each failed write and cut will leave of them.
+    pub fn new(folder: Folder) -> DirDisk
+        ghost outside: { Outside }
+        requires { length outside.found ≡ 64 }
+        ensures found { folder_files result ≡ outside.found }
+        ensures failed { folder_failures result ≡ 0 }
+    {
+        DirDisk {
+            folder,
+            journal: Journal::new(),
+        }
+    }
+}
+
+impl Disk for DirDisk {
+    ghost use Rattle.std.specs.Prelude.{◌<◌, [], ◌∷◌, OnOk};
+    ghost use Rattle.sd_disk.specs.Failures.{HasCause};
+    ghost use Rattle.sd_disk.specs.Folder.{folder_files, folder_events, folder_failures, IsFolderHonest};
+
+    ghost contents = { folder_files };
+
+    ghost failed = { folder_failures };
+
+    ghost is_honest = { IsFolderHonest };
+
+    #[tactic(auto, using(crate::proofs::FolderLemmas::length_files))]
+    fn slots(&self) -> usize {
+        self.folder.slots()
+    }
+
+    fn failures(&self) -> u64 {
+        self.journal.failures()
+    }
+
+    #[tactic(auto, using(crate::proofs::FolderLemmas::length_files))]
+    fn len(&mut self, slot: usize) -> Result<usize, DeviceError> {
+        match image::len(self.folder.image(slot)) {
+            Ok(len) => {
+                self.journal.note(&Call::Measured { slot, len }, &[]);
+                Ok(len)
+            }
+            Err(_) => {
+                self.journal.note(&Call::Failed, &[]);
+                Err(DeviceError)
+            }
+        }
+    }
+
+    #[tactic(auto, using(crate::proofs::FolderLemmas::length_files))]
+    fn read(&mut self, slot: usize, at: usize, buffer: &mut [u8]) -> Result<(), DeviceError> {
+        match image::read(self.folder.image(slot), at, buffer) {
+            Ok(()) => {
+                self.journal.note(&Call::Read { slot, at }, buffer);
+                Ok(())
+            }
+            Err(_) => {
+                self.journal.note(&Call::Failed, &[]);
+                Err(DeviceError)
+            }
+        }
+    }
+
+    #[tactic(auto, using(crate::proofs::FolderLemmas::length_files))]
+    fn write_at(&mut self, slot: usize, at: usize, bytes: &[u8]) -> Result<(), DeviceError> {
+        match image::write(self.folder.image(slot), at, bytes) {
+            Ok(()) => {
+                self.journal.note(&Call::Written { slot, at }, bytes);
+                Ok(())
+            }
+            Err(_) => {
+                self.journal.note(&Call::WriteFailed { slot, at }, bytes);
+                Err(DeviceError)
+            }
+        }
+    }
+
+    #[tactic(auto, using(crate::proofs::FolderLemmas::length_files))]
+    fn cut(&mut self, slot: usize, len: usize) -> Result<(), DeviceError> {
+        match image::cut(self.folder.image(slot), len) {
+            Ok(()) => {
+                self.journal.note(&Call::Cut { slot, len }, &[]);
+                Ok(())
+            }
+            Err(_) => {
+                self.journal.note(&Call::CutFailed { slot, len }, &[]);
+                Err(DeviceError)
+            }
+        }
+    }
+
+    #[tactic(auto, using(crate::proofs::FolderLemmas::length_files))]
+    fn sync(&mut self, slot: usize) -> Result<(), DeviceError>
+        requires { slot < length (folder_files self.old) }
+        ensures noted { OnOk result (folder_events self.new ≡ (Call.Synced slot, []) ∷ folder_events self.old) }
+        ensures same { folder_files self.new ≡ folder_files self.old }
+        ensures honest { IsFolderHonest self.new → IsFolderHonest self.old }
+        ensures cause { HasCause (folder_failures self.old) (folder_failures self.new) result }
+    {
+        match image::sync(self.folder.image(slot)) {
+            Ok(()) => {
+                self.journal.note(&Call::Synced { slot }, &[]);
+                Ok(())
+            }
+            Err(_) => {
+                self.journal.note(&Call::Failed, &[]);
+                Err(DeviceError)
+            }
+        }
+    }
+}

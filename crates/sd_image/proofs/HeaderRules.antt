@@ -1,0 +1,223 @@
+-- The rules of a header: those that hold of what is read, and of what was written.
+use Rattle.std.proofs.Common.{◌≡◌, ℕ, zero, suc, ◌≤◌, Bool, true, false, not, ◌&&◌, ltb, List, [], ◌∷◌, length, get_or, take, drop, Result, Ok, refl, sym, ap, subst, ◌∙◌, arith}
+use Rattle.std.specs.List.{slice_range}
+use Rattle.std.proofs.lemmas.Bool.{and_parts, and_from, not-false, eqb-true, eqb-false, ltb-true, leb-true, eq-eqb, ne_eqb, lt-ltb, le-leb}
+use Rattle.std.proofs.lemmas.List.{drop_all, drop_more, length-take-le, length-drop}
+use Rattle.std.proofs.lemmas.Slice.Eq.{bytes_eq-Decides}
+use Rattle.byteorder.specs.Endian.{little_number}
+use Rattle.byteorder.specs.Numbers.{little_number-reads_back}
+use Rattle.sd_image.specs.declared.header.Header.{Header}
+use Rattle.sd_image.specs.declared.header.Kind.{Kind}
+use Rattle.sd_image.specs.declared.header.Kind.TheVariants.{PreDump, Dump, Merged}
+use Rattle.sd_image.specs.declared.reason.Reason.{Reason}
+use Rattle.sd_image.specs.declared.reason.Reason.TheVariants as reason
+use Rattle.sd_image.specs.Words.{kind_number, number_bytes, zeros}
+use Rattle.sd_image.specs.Header.{magic, header_text, AreNumbers, HasWords, IsHeader}
+use Rattle.sd_image.specs.Reading.{◌>>=◌, rules_kept, number_at, are_zero, kind_of, breaks_bytes, bytes_kept, kind_in, fields_of, stands_rightly, parent_rightly, breaks_fields, fields_kept, header_in}
+use Rattle.sd_image.proofs.Steps.{bind_ok, guard_ok, ok_is, IsBytes, piece}
+use Rattle.sd_image.proofs.Numbers.{bytes_2, bytes_8, number_fits, zeros_are}
+
+-- a first rule that holds
+kept_first : (breaks : Reason → Bool) (rule : Reason) (rules : List Reason) (u : Unit {0}) → rules_kept breaks (rule ∷ rules) ≡ Ok u → (breaks rule ≡ false) × (rules_kept breaks rules ≡ Ok u)
+kept_first breaks rule rules u e = guard_ok (breaks rule) rule (rules_kept breaks rules) u e
+
+-- what the bytes are where their rules hold
+record AreKept (bytes : List ℕ) : Type 0 where
+  magic_is : magic ≡ take 7 (drop 1 bytes)
+  version : number_at 2 8 bytes ≡ 1
+  kind_low : 1 ≤ number_at 2 10 bytes
+  kind_high : number_at 2 10 bytes ≤ 3
+  reserved : are_zero (take 4 (drop 12 bytes)) ≡ true
+  rest : are_zero (take 4032 (drop 64 bytes)) ≡ true
+
+are_kept : (bytes : List ℕ) (u : Unit {0}) → bytes_kept bytes ≡ Ok u → AreKept bytes
+unfolding bytes_kept
+are_kept bytes u e =
+    let a = kept_first (breaks_bytes bytes) reason.Magic (reason.Version ∷ reason.Kind ∷ reason.Reserved ∷ []) u e in
+    let b = kept_first (breaks_bytes bytes) reason.Version (reason.Kind ∷ reason.Reserved ∷ []) u a.1 in
+    let k = kept_first (breaks_bytes bytes) reason.Kind (reason.Reserved ∷ []) u b.1 in
+    let r = kept_first (breaks_bytes bytes) reason.Reserved [] u k.1 in
+    let m : slice_range bytes 1 8 ≡ magic = (bytes_eq-Decides (slice_range bytes 1 8) magic).0 (not-false _ a.0) in
+    let ks = and_parts _ _ (not-false _ k.0) in
+    let rs = and_parts _ _ (not-false _ r.0) in
+    record { magic_is = sym m; version = eqb-true _ _ (not-false _ b.0); kind_low = leb-true _ _ ks.0; kind_high = leb-true _ _ ks.1; reserved = rs.0; rest = rs.1 }
+
+kind_back : (n : ℕ) → 1 ≤ n → n ≤ 3 → kind_number (kind_of n) ≡ n
+kind_back zero low high = absurd (omega arith)
+kind_back (suc zero) low high = refl
+kind_back (suc (suc zero)) low high = refl
+kind_back (suc (suc (suc zero))) low high = refl
+kind_back (suc (suc (suc (suc n)))) low high = absurd (omega arith)
+
+-- the bytes spell the fields
+spelled_so : (bytes : List ℕ) → length bytes ≡ 4096 → IsBytes bytes → AreKept bytes → drop 1 bytes ≡ header_text (fields_of (kind_of (number_at 2 10 bytes)) bytes)
+unfolding header_text fields_of
+spelled_so bytes long fits kept =
+    let end : drop 4096 bytes ≡ [] = drop_all 4096 bytes (omega arith) in
+    let p64 = piece 64 4032 4096 bytes (zeros 4032) [] refl (zeros_are 4032 (take 4032 (drop 64 bytes)) (length-take-le 4032 (drop 64 bytes) (omega (arith, length-drop 64 bytes))) kept.rest) end in
+    let p56 = piece 56 8 64 bytes _ _ refl (bytes_8 56 bytes fits (omega arith)) p64 in
+    let p48 = piece 48 8 56 bytes _ _ refl (bytes_8 48 bytes fits (omega arith)) p56 in
+    let p40 = piece 40 8 48 bytes _ _ refl (bytes_8 40 bytes fits (omega arith)) p48 in
+    let p32 = piece 32 8 40 bytes _ _ refl (bytes_8 32 bytes fits (omega arith)) p40 in
+    let p24 = piece 24 8 32 bytes _ _ refl (bytes_8 24 bytes fits (omega arith)) p32 in
+    let p16 = piece 16 8 24 bytes _ _ refl (bytes_8 16 bytes fits (omega arith)) p24 in
+    let p12 = piece 12 4 16 bytes (zeros 4) _ refl (zeros_are 4 (take 4 (drop 12 bytes)) (length-take-le 4 (drop 12 bytes) (omega (arith, length-drop 12 bytes))) kept.reserved) p16 in
+    let kind : number_bytes 2 (kind_number (kind_of (number_at 2 10 bytes))) ≡ take 2 (drop 10 bytes) = ap (number_bytes 2) (kind_back (number_at 2 10 bytes) kept.kind_low kept.kind_high) ∙ bytes_2 10 bytes fits (omega arith) in
+    let p10 = piece 10 2 12 bytes _ _ refl kind p12 in
+    let version : number_bytes 2 1 ≡ take 2 (drop 8 bytes) = ap (number_bytes 2) (sym kept.version) ∙ bytes_2 8 bytes fits (omega arith) in
+    let p8 = piece 8 2 10 bytes _ _ refl version p10 in
+    piece 1 7 8 bytes magic _ refl kept.magic_is p8
+
+numbers_are : (kind : Kind) (serial stands_for parent : ℕ) → stands_rightly kind serial stands_for ≡ true → parent_rightly kind serial parent ≡ true → AreNumbers kind serial stands_for parent
+numbers_are PreDump serial stands_for parent s p = (eqb-true _ _ s, ltb-true _ _ p)
+numbers_are Dump serial stands_for parent s p = (eqb-true _ _ s, ltb-true _ _ p)
+numbers_are Merged serial stands_for parent s p =
+    let parts = and_parts (ltb 0 stands_for) (ltb stands_for serial) s in
+    (ltb-true _ _ parts.0, ltb-true _ _ parts.1, eqb-true _ _ p)
+
+-- fields whose rules hold, and that fit, are a header's
+is_header : (h : Header) (len : ℕ) (u : Unit {0}) → HasWords h → fields_kept h len ≡ Ok u → IsHeader h len
+unfolding fields_kept
+is_header h len u words e =
+    let a = kept_first (breaks_fields h len) reason.Serial (reason.StandsFor ∷ reason.Parent ∷ reason.Checkpoint ∷ reason.Length ∷ []) u e in
+    let b = kept_first (breaks_fields h len) reason.StandsFor (reason.Parent ∷ reason.Checkpoint ∷ reason.Length ∷ []) u a.1 in
+    let p = kept_first (breaks_fields h len) reason.Parent (reason.Checkpoint ∷ reason.Length ∷ []) u b.1 in
+    let k = kept_first (breaks_fields h len) reason.Checkpoint (reason.Length ∷ []) u p.1 in
+    let l = kept_first (breaks_fields h len) reason.Length [] u k.1 in
+    let serial : h.serial ≡ 0 → ⊥ = eqb-false h.serial 0 a.0 in
+    let checkpoint : h.checkpoint ≡ 0 → ⊥ = eqb-false h.checkpoint 0 k.0 in
+    record {
+      words = words;
+      serial = omega arith;
+      numbers = numbers_are h.kind h.serial h.stands_for h.parent (not-false _ b.0) (not-false _ p.0);
+      checkpoint = omega arith;
+      fills = eqb-true _ _ (not-false _ l.0);
+    }
+
+have_words : (kind : Kind) (bytes : List ℕ) → IsBytes bytes → HasWords (fields_of kind bytes)
+unfolding fields_of
+have_words kind bytes fits = record {
+  serial = number_fits 8 16 bytes fits;
+  stands_for = number_fits 8 24 bytes fits;
+  parent = number_fits 8 32 bytes fits;
+  checkpoint = number_fits 8 40 bytes fits;
+  pages = number_fits 8 48 bytes fits;
+  table_len = number_fits 8 56 bytes fits;
+}
+
+-- what is read is spelled so, and is a header
+pub header_takes : (bytes : List ℕ) (len : ℕ) (h : Header) → length bytes ≡ 4096 → IsBytes bytes → header_in bytes len ≡ Ok h → (drop 1 bytes ≡ header_text h) × IsHeader h len
+unfolding header_in kind_in
+header_takes bytes len h long fits e =
+    let a = bind_ok (kind_in bytes) (λ kind. fields_kept (fields_of kind bytes) len >>= λ _. Ok (fields_of kind bytes)) h e in
+    let b = bind_ok (fields_kept (fields_of a.0 bytes) len) (λ _. Ok (fields_of a.0 bytes)) h a.2 in
+    let k = bind_ok (bytes_kept bytes) (λ _. Ok (kind_of (number_at 2 10 bytes))) a.0 a.1 in
+    let kept = are_kept bytes k.0 k.1 in
+    let kind : kind_of (number_at 2 10 bytes) ≡ a.0 = ok_is _ _ k.2 in
+    let text : drop 1 bytes ≡ header_text (fields_of a.0 bytes) = subst (λ (x : Kind). drop 1 bytes ≡ header_text (fields_of x bytes)) kind (spelled_so bytes long fits kept) in
+    let whole : IsHeader (fields_of a.0 bytes) len = is_header (fields_of a.0 bytes) len b.0 (have_words a.0 bytes fits) b.1 in
+    subst (λ (x : Header). (drop 1 bytes ≡ header_text x) × IsHeader x len) (ok_is _ _ b.2) (text, whole)
+
+-- ---- what was written is read again
+
+kind_again : (kind : Kind) → kind_of (kind_number kind) ≡ kind
+kind_again PreDump = refl
+kind_again Dump = refl
+kind_again Merged = refl
+
+kind_fits : (kind : Kind) → (1 ≤ kind_number kind) × (kind_number kind ≤ 3)
+kind_fits PreDump = (omega arith, omega arith)
+kind_fits Dump = (omega arith, omega arith)
+kind_fits Merged = (omega arith, omega arith)
+
+-- two headers are one where their fields are
+same_header : (g h : Header) → g.kind ≡ h.kind → g.serial ≡ h.serial → g.stands_for ≡ h.stands_for → g.parent ≡ h.parent → g.checkpoint ≡ h.checkpoint → g.pages ≡ h.pages → g.table_len ≡ h.table_len → g ≡ h
+same_header g h a b c d e f i = rw (a, b, c, d, e, f, i) refl
+
+kind_at : (b : ℕ) (h : Header) → number_at 2 10 (b ∷ header_text h) ≡ kind_number h.kind
+unfolding number_at header_text number_bytes
+kind_at b h = little_number-reads_back 2 (kind_number h.kind) (drop 12 (b ∷ header_text h)) (omega (arith, kind_fits h.kind))
+
+fields_again : (b : ℕ) (h : Header) → HasWords h → fields_of h.kind (b ∷ header_text h) ≡ h
+unfolding fields_of number_at header_text number_bytes zeros
+fields_again b h words =
+    let serial : little_number 8 (drop 16 (b ∷ header_text h)) ≡ h.serial = little_number-reads_back 8 h.serial (drop 24 (b ∷ header_text h)) words.serial in
+    let stands_for : little_number 8 (drop 24 (b ∷ header_text h)) ≡ h.stands_for = little_number-reads_back 8 h.stands_for (drop 32 (b ∷ header_text h)) words.stands_for in
+    let parent : little_number 8 (drop 32 (b ∷ header_text h)) ≡ h.parent = little_number-reads_back 8 h.parent (drop 40 (b ∷ header_text h)) words.parent in
+    let checkpoint : little_number 8 (drop 40 (b ∷ header_text h)) ≡ h.checkpoint = little_number-reads_back 8 h.checkpoint (drop 48 (b ∷ header_text h)) words.checkpoint in
+    let pages : little_number 8 (drop 48 (b ∷ header_text h)) ≡ h.pages = little_number-reads_back 8 h.pages (drop 56 (b ∷ header_text h)) words.pages in
+    let table_len : little_number 8 (drop 56 (b ∷ header_text h)) ≡ h.table_len = little_number-reads_back 8 h.table_len (drop 64 (b ∷ header_text h)) words.table_len in
+    same_header _ h refl serial stands_for parent checkpoint pages table_len
+
+magic_again : (b : ℕ) (h : Header) → slice_range (b ∷ header_text h) 1 8 ≡ magic
+unfolding header_text number_bytes zeros
+magic_again b h = refl
+
+version_again : (b : ℕ) (h : Header) → number_at 2 8 (b ∷ header_text h) ≡ 1
+unfolding number_at header_text number_bytes zeros
+version_again b h = refl
+
+reserved_again : (b : ℕ) (h : Header) → (are_zero (slice_range (b ∷ header_text h) 12 16) && are_zero (slice_range (b ∷ header_text h) 64 4096)) ≡ true
+unfolding are_zero header_text number_bytes zeros
+reserved_again b h = refl
+
+keeps_first : (breaks : Reason → Bool) (rule : Reason) (rules : List Reason) (r : Result (Unit {0}) Reason) → breaks rule ≡ false → rules_kept breaks rules ≡ r → rules_kept breaks (rule ∷ rules) ≡ r
+keeps_first breaks rule rules r holds e = rw holds e
+
+abbrev all_kept : Result (Unit {0}) Reason
+all_kept = Ok tt
+
+bytes_again : (b : ℕ) (h : Header) → bytes_kept (b ∷ header_text h) ≡ all_kept
+unfolding bytes_kept
+bytes_again b h =
+    let bytes = b ∷ header_text h in
+    let magic_is : breaks_bytes bytes reason.Magic ≡ false = ap not ((bytes_eq-Decides (slice_range bytes 1 8) magic).1 (magic_again b h)) in
+    let version_is : breaks_bytes bytes reason.Version ≡ false = ap not (eq-eqb _ _ (version_again b h)) in
+    let fits = kind_fits h.kind in
+    let kind_is : breaks_bytes bytes reason.Kind ≡ false = rw (kind_at b h) (ap not (and_from _ _ (le-leb _ _ fits.0) (le-leb _ _ fits.1))) in
+    let zero_is : breaks_bytes bytes reason.Reserved ≡ false = ap not (reserved_again b h) in
+    keeps_first (breaks_bytes bytes) reason.Magic (reason.Version ∷ reason.Kind ∷ reason.Reserved ∷ []) all_kept magic_is (keeps_first (breaks_bytes bytes) reason.Version (reason.Kind ∷ reason.Reserved ∷ []) all_kept version_is (keeps_first (breaks_bytes bytes) reason.Kind (reason.Reserved ∷ []) all_kept kind_is (keeps_first (breaks_bytes bytes) reason.Reserved [] all_kept zero_is refl)))
+
+stand_again : (kind : Kind) (serial stands_for parent : ℕ) → AreNumbers kind serial stands_for parent → (stands_rightly kind serial stands_for ≡ true) × (parent_rightly kind serial parent ≡ true)
+stand_again PreDump serial stands_for parent n = (eq-eqb _ _ n.0, lt-ltb _ _ n.1)
+stand_again Dump serial stands_for parent n = (eq-eqb _ _ n.0, lt-ltb _ _ n.1)
+stand_again Merged serial stands_for parent n = (and_from _ _ (lt-ltb _ _ n.0) (lt-ltb _ _ n.1), eq-eqb _ _ n.2)
+
+fields_are_kept : (h : Header) (len : ℕ) → IsHeader h len → fields_kept h len ≡ all_kept
+unfolding fields_kept
+fields_are_kept h len good =
+    let numbers = stand_again h.kind h.serial h.stands_for h.parent good.numbers in
+    let serial : breaks_fields h len reason.Serial ≡ false = ne_eqb h.serial 0 (λ e. omega (arith, good.serial)) in
+    let stands : breaks_fields h len reason.StandsFor ≡ false = ap not numbers.0 in
+    let parent : breaks_fields h len reason.Parent ≡ false = ap not numbers.1 in
+    let checkpoint : breaks_fields h len reason.Checkpoint ≡ false = ne_eqb h.checkpoint 0 (λ e. omega (arith, good.checkpoint)) in
+    let fills : breaks_fields h len reason.Length ≡ false = ap not (eq-eqb _ _ good.fills) in
+    keeps_first (breaks_fields h len) reason.Serial (reason.StandsFor ∷ reason.Parent ∷ reason.Checkpoint ∷ reason.Length ∷ []) all_kept serial (keeps_first (breaks_fields h len) reason.StandsFor (reason.Parent ∷ reason.Checkpoint ∷ reason.Length ∷ []) all_kept stands (keeps_first (breaks_fields h len) reason.Parent (reason.Checkpoint ∷ reason.Length ∷ []) all_kept parent (keeps_first (breaks_fields h len) reason.Checkpoint (reason.Length ∷ []) all_kept checkpoint (keeps_first (breaks_fields h len) reason.Length [] all_kept fills refl))))
+
+abbrev found_header : Header → Result Header Reason
+found_header h = Ok h
+
+text_again : (b : ℕ) (h : Header) (len : ℕ) → IsHeader h len → header_in (b ∷ header_text h) len ≡ found_header h
+unfolding header_in kind_in
+text_again b h len good =
+    let kind : kind_of (number_at 2 10 (b ∷ header_text h)) ≡ h.kind = ap kind_of (kind_at b h) ∙ kind_again h.kind in
+    rw (bytes_again b h, kind, fields_again b h good.words, fields_are_kept h len good) refl
+
+-- what is spelled so is read
+pub header_again : (bytes : List ℕ) (len : ℕ) (h : Header) → length bytes ≡ 4096 → drop 1 bytes ≡ header_text h → IsHeader h len → header_in bytes len ≡ Ok h
+header_again bytes len h long e good =
+    let whole : bytes ≡ get_or bytes 0 0 ∷ header_text h = drop_more bytes 0 0 (omega arith) ∙ ap (λ (x : List ℕ). get_or bytes 0 0 ∷ x) e in
+    ap (λ (x : List ℕ). header_in x len) whole ∙ text_again (get_or bytes 0 0) h len good
+
+-- ---- one text has one header
+
+pub header_length : (h : Header) → length (header_text h) ≡ 4095
+unfolding header_text number_bytes zeros
+header_length h = refl
+
+pub header_once : (g h : Header) → HasWords g → HasWords h → header_text g ≡ header_text h → g ≡ h
+header_once g h a b e =
+    let number : number_at 2 10 (0 ∷ header_text g) ≡ number_at 2 10 (0 ∷ header_text h) = ap (λ (t : List ℕ). number_at 2 10 (0 ∷ t)) e in
+    let kind : g.kind ≡ h.kind = sym (kind_again g.kind) ∙ ap kind_of (sym (kind_at 0 g) ∙ number ∙ kind_at 0 h) ∙ kind_again h.kind in
+    let fields : fields_of g.kind (0 ∷ header_text g) ≡ fields_of h.kind (0 ∷ header_text h) = ap (λ (k : Kind). fields_of k (0 ∷ header_text g)) kind ∙ ap (λ (t : List ℕ). fields_of h.kind (0 ∷ t)) e in
+    sym (fields_again 0 g a) ∙ fields ∙ fields_again 0 h b

@@ -1,0 +1,14 @@
+pub mod Steps
+pub mod Numbers
+pub mod HeaderBytes
+pub mod HeaderRules
+pub mod Written
+pub mod PageLists
+pub mod Sums
+pub mod Items
+pub mod Many
+pub mod ManyLaws
+pub mod ItemLaws
+pub mod SpaceLaws
+pub mod TableLaws
+pub mod ShowsLemmas

@@ -1,0 +1,25 @@
+-- The small words of the format.
+use Rattle.std.specs.Prelude.{ℕ, List, replicate}
+use Rattle.std.specs.Int.{bytes_low_first}
+use Rattle.sd_image.specs.declared.header.Kind.{Kind}
+use Rattle.sd_image.specs.declared.header.Kind.TheVariants.{PreDump, Dump, Merged}
+use Rattle.sd_image.specs.declared.run.RunKind.{RunKind}
+use Rattle.sd_image.specs.declared.run.RunKind.TheVariants.{Data, Parent, Zero}
+
+-- a number in n bytes, little endian
+unfoldable pub number_bytes : ℕ → ℕ → List ℕ
+number_bytes n x = bytes_low_first 0 n x
+
+-- n zeros
+unfoldable pub zeros : ℕ → List ℕ
+zeros n = replicate n 0
+
+abbrev pub kind_number : Kind → ℕ
+kind_number PreDump = 1
+kind_number Dump = 2
+kind_number Merged = 3
+
+abbrev pub run_kind_number : RunKind → ℕ
+run_kind_number Data = 1
+run_kind_number Parent = 2
+run_kind_number Zero = 3

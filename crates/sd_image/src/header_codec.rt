@@ -1,0 +1,179 @@
+//! The first 4,096 bytes of an image.
+
+ghost use Rattle.std.specs.Prelude.{◌≡◌, ℕ, ◌<◌, ◌≤◌, ◌+◌, ◌*◌, ◌⊎◌, ◌++◌, length, take, drop, IfOk, MatchOption, Ok};
+ghost use Rattle.sd_image.specs.declared.header.Header.{Header};
+ghost use Rattle.sd_image.specs.Header.{header_text, IsHeader};
+ghost use Rattle.sd_image.specs.Words.{kind_number};
+ghost use Rattle.sd_image.specs.Reading.{Reads, number_at, kind_of, kind_in, fields_of, fields_kept, stands_rightly, parent_rightly, header_in};
+
+use crate::fields::{are_zero, u16_at, u64_at};
+use crate::header::{Header, Kind};
+use crate::reason::Reason;
+
+const MAGIC: &[u8; 7] = b"SDCHAIN";
+
+const VERSION: u16 = 1;
+
+/// Where the header ends, and the data pages begin.
+const HEADER_LEN: usize = 4096;
+
+/// The number by which a header names the kind.
+fn number_of(kind: Kind) -> u16
+    ensures { result ≡ kind_number kind }
+{
+    match kind {
+        Kind::PreDump => 1,
+        Kind::Dump => 2,
+        Kind::Merged => 3,
+    }
+}
+
+/// The kind with this number, or none.
+fn kind_with(number: u16) -> Option<Kind>
+    ensures { MatchOption result (number < 1 ⊎ 3 < number) (λ kind. (1 ≤ number) × (number ≤ 3) × (kind ≡ kind_of number)) }
+{
+    match number {
+        1 => Some(Kind::PreDump),
+        2 => Some(Kind::Dump),
+        3 => Some(Kind::Merged),
+        _ => None,
+    }
+}
+
+/// Writes a field at its place in the bytes behind the gate.
+fn put(text: &mut [u8; 4095], place: usize, field: &[u8])
+    requires { place + length field.now ≤ 4095 }
+    ensures { text.new ≡ take place text.old ++ field.now ++ drop (place + length field.now) text.old }
+{
+    text[place..place + field.len()].copy_from_slice(field);
+}
+
+/// Bytes 1 to 4,095 of an image with this header.
+pub fn encode_header(header: &Header) -> [u8; 4095]
+    ensures text { result ≡ header_text header.now }
+    ensures length { length result ≡ 4095 }
+{
+    let mut text = [0; 4095];
+    put(&mut text, 0, MAGIC);
+    put(&mut text, 7, &VERSION.to_le_bytes());
+    put(&mut text, 9, &number_of(header.kind).to_le_bytes());
+    put(&mut text, 15, &header.serial.to_le_bytes());
+    put(&mut text, 23, &header.stands_for.to_le_bytes());
+    put(&mut text, 31, &header.parent.to_le_bytes());
+    put(&mut text, 39, &header.checkpoint.to_le_bytes());
+    put(&mut text, 47, &header.pages.to_le_bytes());
+    put(&mut text, 55, &header.table_len.to_le_bytes());
+    text
+}
+
+/// What the bytes themselves have to be, whatever the fields say.
+#[tactic(auto, unfolding(crate::specs::Reading::kind_in, crate::specs::Reading::bytes_kept))]
+fn check_bytes(bytes: &[u8]) -> Result<Kind, Reason>
+    requires { length bytes.now ≡ 4096 }
+    ensures { Reads (λ kind. kind) result (kind_in bytes.now) }
+{
+    if bytes[1..8] != MAGIC[..] {
+        return Err(Reason::Magic);
+    }
+    if u16_at(bytes, 8) != VERSION {
+        return Err(Reason::Version);
+    }
+    let kind = kind_with(u16_at(bytes, 10)).ok_or(Reason::Kind)?;
+    if !are_zero(&bytes[12..16]) || !are_zero(&bytes[64..HEADER_LEN]) {
+        return Err(Reason::Reserved);
+    }
+    Ok(kind)
+}
+
+/// Whether an image of this kind and number may stand for that number.
+fn stands_rightly(kind: Kind, serial: u64, stands_for: u64) -> bool
+    ensures { result ≡ stands_rightly kind serial stands_for }
+{
+    match kind {
+        Kind::PreDump | Kind::Dump => stands_for == serial,
+        Kind::Merged => 0 < stands_for && stands_for < serial,
+    }
+}
+
+/// Whether an image of this kind and number may have that parent.
+fn parent_rightly(kind: Kind, serial: u64, parent: u64) -> bool
+    ensures { result ≡ parent_rightly kind serial parent }
+{
+    match kind {
+        Kind::PreDump | Kind::Dump => parent < serial,
+        Kind::Merged => parent == 0,
+    }
+}
+
+/// How long a file with this header is.
+fn file_len(header: &Header) -> u128
+    ensures { result ≡ 4096 + 4096 * header.now.pages + header.now.table_len }
+{
+    4096 + 4096 * u128::from(header.pages) + u128::from(header.table_len)
+}
+
+/// What the fields have to be, in a file of this length.
+#[tactic(auto, unfolding(crate::specs::Reading::fields_kept))]
+fn check_fields(header: &Header, len: u64) -> Result<(), Reason>
+    ensures { Reads (λ _. tt) result (fields_kept header.now len) }
+{
+    if header.serial == 0 {
+        return Err(Reason::Serial);
+    }
+    if !stands_rightly(header.kind, header.serial, header.stands_for) {
+        return Err(Reason::StandsFor);
+    }
+    if !parent_rightly(header.kind, header.serial, header.parent) {
+        return Err(Reason::Parent);
+    }
+    if header.checkpoint == 0 {
+        return Err(Reason::Checkpoint);
+    }
+    if file_len(header) != u128::from(len) {
+        return Err(Reason::Length);
+    }
+    Ok(())
+}
+
+/// The fields, where the bytes are what they have to be.
+#[tactic(auto, unfolding(crate::specs::Reading::fields_of))]
+fn fields(bytes: &[u8], kind: Kind) -> Header
+    requires { length bytes.now ≡ 4096 }
+    ensures { result ≡ fields_of kind bytes.now }
+{
+    Header {
+        kind,
+        serial: u64_at(bytes, 16),
+        stands_for: u64_at(bytes, 24),
+        parent: u64_at(bytes, 32),
+        checkpoint: u64_at(bytes, 40),
+        pages: u64_at(bytes, 48),
+        table_len: u64_at(bytes, 56),
+    }
+}
+
+/// The header of a file of this length: the reading of its first bytes, and nothing else.
+#[tactic(auto, unfolding(crate::specs::Reading::header_in))]
+fn header_of(bytes: &[u8], len: u64) -> Result<Header, Reason>
+    requires { length bytes.now ≡ 4096 }
+    ensures { result ≡ header_in bytes.now len }
+{
+    let kind = check_bytes(bytes)?;
+    let header = fields(bytes, kind);
+    check_fields(&header, len)?;
+    Ok(header)
+}
+
+/// The header in the first 4,096 bytes of a file of this length, or the least reason why it is none. Its gate
+/// may be open or closed.
+pub fn decode_header(bytes: &[u8], len: u64) -> Result<Header, Reason>
+    requires { length bytes.now ≡ 4096 }
+    // What is read is spelled so, and is a header.
+    ensures found { IfOk result (λ h. (drop 1 bytes.now ≡ header_text h) × IsHeader h len) }
+    // What is spelled so is read.
+    ensures only { (h : Header) → drop 1 bytes.now ≡ header_text h → IsHeader h len → result ≡ Ok h }
+    // Which reason it is.
+    ensures exact { result ≡ header_in bytes.now len }
+{
+    header_of(bytes, len)
+}
