@@ -12,3 +12,7 @@ pub mod ItemLaws
 pub mod SpaceLaws
 pub mod TableLaws
 pub mod ShowsLemmas
+pub mod OneImage
+pub mod PagePlaces
+pub mod OneMemory
+pub mod FirstImage

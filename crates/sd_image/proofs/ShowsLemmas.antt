@@ -20,7 +20,7 @@ pub record Opened (contents : List (List ℕ)) (old : List Image) (i : Image) : 
   pub slots : OpenImages contents images
   pub adds : Adds old images i
 
-true_not_false : (b : Bool) → b ≡ true → b ≡ false → {A : Type 0} → A
+pub true_not_false : (b : Bool) → b ≡ true → b ≡ false → {A : Type 0} → A
 true_not_false b t f = absurd (let e : true ≡ false = sym t ∙ f in cc)
 
 with_first : (contents : List (List ℕ)) (old : List Image) (i first : Image) (file : List ℕ) → is_open file ≡ true → IsImage file first
@@ -51,13 +51,13 @@ images_of_opened (old ∷ contents) images (suc slot) file i (inr was) within cl
     (with_first _ _ _ was.0 old was.3 was.4 (images_of_opened contents was.1 slot file i was.5 (omega arith) closed opens image))
 
 -- an element at the front, or one among the others
-contains_front : {X : Type 0} (x : X) (xs : List X) → Contains (x ∷ xs) x
+pub contains_front : {X : Type 0} (x : X) (xs : List X) → Contains (x ∷ xs) x
 contains_front x xs = (0, omega arith, refl)
 
-contains_later : {X : Type 0} (x y : X) (xs : List X) → Contains xs y → Contains (x ∷ xs) y
+pub contains_later : {X : Type 0} (x y : X) (xs : List X) → Contains xs y → Contains (x ∷ xs) y
 contains_later x y xs c = (suc c.0, omega arith, c.2)
 
-contains_cons_cases : {X : Type 0} (x y : X) (xs : List X) → Contains (x ∷ xs) y → (y ≡ x) ⊎ Contains xs y
+pub contains_cons_cases : {X : Type 0} (x y : X) (xs : List X) → Contains (x ∷ xs) y → (y ≡ x) ⊎ Contains xs y
 contains_cons_cases x y xs c = at_place c.0 c.1 c.2
   where
     at_place : (k : ℕ) → k < length (x ∷ xs) → slice_index_or (x ∷ xs) k y ≡ y → (y ≡ x) ⊎ Contains xs y

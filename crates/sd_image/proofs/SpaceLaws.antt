@@ -147,7 +147,7 @@ begins_end before run e = elim (or_cases (ltb (before.first + before.count) run.
   | inr at ↦ omega (arith, eqb-true _ _ (and_parts (eqb (before.first + before.count) run.first) (not (eqb (run_kind_number before.kind) (run_kind_number run.kind))) at).0)
 ]
 
-run_begins : (parent : ℕ) (before run : Run) → is_run_after parent (Some before) run ≡ true → before.first + before.count ≤ run.first
+pub run_begins : (parent : ℕ) (before run : Run) → is_run_after parent (Some before) run ≡ true → before.first + before.count ≤ run.first
 run_begins parent before run e =
     let outer = and_parts (ltb 0 run.count && leb (run.first + run.count) (2 ^ 35) && begins_behind (Some before) run) (has_source parent run) e in
     let middle = and_parts (ltb 0 run.count && leb (run.first + run.count) (2 ^ 35)) (begins_behind (Some before) run) outer.0 in

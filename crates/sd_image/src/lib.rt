@@ -17,7 +17,10 @@ mod totals;
 
 pub use header::{Header, Kind};
 pub use header_codec::{decode_header, encode_header};
-pub use laws::newest_is_shown;
+pub use laws::{
+    first_image_is_shown, held_once, named_once, newest_is_shown, one_image, one_store, shown_once,
+    tip_once,
+};
 pub use reason::Reason;
 pub use run::{Run, RunKind};
 pub use table::{SpaceTable, Table};
