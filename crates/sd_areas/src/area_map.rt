@@ -16,7 +16,8 @@ pub const AREA_LIMIT: usize = 1024;
 
 /// The address space of one task: which pages are mapped, and with which permissions.
 ///
-/// It keeps the maximal runs of pages with equal permissions, at most 1,024 of them, so a call costs time by the areas, and not by the pages.
+/// It keeps the maximal runs of pages with equal permissions, at most 1,024 of them.
+/// A call costs time by the areas that the space has, and not by the pages.
 #[derive(Clone, Drop)]
 pub struct AreaMap {
     alloc: Global,
@@ -55,7 +56,8 @@ impl AreaMap {
         }
     }
 
-    /// The maximal runs of pages with equal permissions, in the order of their addresses: at most 1,024.
+    /// The maximal runs of pages with equal permissions, in the order of their addresses.
+    /// They are at most 1,024.
     pub fn areas(&self) -> &[Area]
         ensures value { result.now ≡ areas_of self.now }
         ensures runs { AreAreasOf self.now result.now }
@@ -64,15 +66,17 @@ impl AreaMap {
         self.areas.as_slice()
     }
 
-    /// The permissions of a page, or none where it isn't mapped. The time grows with the logarithm of the areas.
+    /// The permissions of a page, or none where it isn't mapped.
+    /// The time grows with the logarithm of the areas.
     pub fn prot_of(&self, page: PageNo) -> Option<Prot>
         ensures { result ≡ finmap.get self.now page }
     {
         find_prot(&self.areas, page)
     }
 
-    /// Maps the whole pages of a range with these permissions, whatever was mapped there, as `mmap` with MAP_FIXED of POSIX.1-2017.
-    /// An address and a length are in bytes; the last page is mapped whole.
+    /// Maps the whole pages of a range with these permissions, whatever was mapped there, as
+    /// `mmap` with MAP_FIXED of POSIX.1-2017 does.
+    /// The address and the length are in bytes; the last page is mapped whole.
     ///
     /// # Errors
     ///
@@ -83,7 +87,8 @@ impl AreaMap {
         ensures ok { OnOk result (mapped self.old address bytes prot ≡ Ok self.new) }
         ensures refused { IfErr result (Answers (mapped self.old address bytes prot)) }
         ensures invalid { IsTrue (is_invalid address bytes) → result ≡ Err (Refused Einval) }
-        ensures outside { IsFalse (is_invalid address bytes) → IsTrue (is_outside address bytes) → result ≡ Err (Refused Enomem) }
+        ensures outside { IsFalse (is_invalid address bytes) → IsTrue (is_outside address bytes)
+            → result ≡ Err (Refused Enomem) }
         ensures err { OnErr result (self.new ≡ self.old) }
     {
         if !is_range(address, bytes) {
@@ -96,18 +101,21 @@ impl AreaMap {
         self.replace(areas)
     }
 
-    /// Unmaps each whole page that contains a part of a range of bytes, as `munmap` of POSIX.1-2017. Pages of it that aren't mapped have no effect.
+    /// Unmaps each whole page that contains a part of a range, as `munmap` of POSIX.1-2017 does.
+    /// Pages of it that aren't mapped have no effect. The address and the length are in bytes.
     ///
     /// # Errors
     ///
-    /// EINVAL for a length of 0, an address that is no multiple of 4,096, or a range that ends past 2^47.
+    /// EINVAL for a length of 0, an address that is no multiple of 4,096, or a range that ends
+    /// past 2^47.
     /// ENOMEM where the space would have over 1,024 areas, since the range lies within one.
     /// Out of memory where the list of areas can't grow. An error changes nothing.
     pub fn unmap(&mut self, address: u64, bytes: u64) -> Result<(), AreaError>
         ensures ok { OnOk result (unmapped self.old address bytes ≡ Ok self.new) }
         ensures refused { IfErr result (Answers (unmapped self.old address bytes)) }
         ensures invalid { IsTrue (is_invalid address bytes) → result ≡ Err (Refused Einval) }
-        ensures outside { IsFalse (is_invalid address bytes) → IsTrue (is_outside address bytes) → result ≡ Err (Refused Einval) }
+        ensures outside { IsFalse (is_invalid address bytes) → IsTrue (is_outside address bytes)
+            → result ≡ Err (Refused Einval) }
         ensures err { OnErr result (self.new ≡ self.old) }
     {
         if !is_range(address, bytes) {
@@ -120,19 +128,22 @@ impl AreaMap {
         self.replace(areas)
     }
 
-    /// Gives the whole pages of a range of bytes these permissions, as `mprotect` of POSIX.1-2017. A length of 0 changes nothing.
+    /// Gives the whole pages of a range these permissions, as `mprotect` of POSIX.1-2017 does.
+    /// A length of 0 changes nothing. The address and the length are in bytes.
     ///
     /// # Errors
     ///
     /// EINVAL for an address that is no multiple of 4,096.
-    /// ENOMEM for a range that ends past 2^47, where a page of it isn't mapped, and where the space would have over 1,024 areas.
+    /// ENOMEM for a range that ends past 2^47, where a page of it isn't mapped, and where the space
+    /// would have over 1,024 areas.
     /// Out of memory where the list of areas can't grow. An error changes nothing.
     pub fn protect(&mut self, address: u64, bytes: u64, prot: Prot) -> Result<(), AreaError>
         ensures ok { OnOk result (protected self.old address bytes prot ≡ Ok self.new) }
         ensures refused { IfErr result (Answers (protected self.old address bytes prot)) }
         ensures invalid { IsFalse (address % 4096 == 0) → result ≡ Err (Refused Einval) }
         ensures nothing { IsTrue (address % 4096 == 0) → bytes ≡ 0 → result ≡ Ok tt }
-        ensures outside { IsFalse (is_invalid address bytes) → IsTrue (is_outside address bytes) → result ≡ Err (Refused Enomem) }
+        ensures outside { IsFalse (is_invalid address bytes) → IsTrue (is_outside address bytes)
+            → result ≡ Err (Refused Enomem) }
         ensures err { OnErr result (self.new ≡ self.old) }
     {
         if !is_page_start(address) {
@@ -151,6 +162,7 @@ impl AreaMap {
         self.replace(areas)
     }
 
+    /// Puts other areas in place of the space's own, or answers ENOMEM where they are too many.
     fn replace(&mut self, areas: Vec<Area>) -> Result<(), AreaError>
         requires { AreMaximal None areas.items }
         ensures ok { OnOk result (within_areas (pages_of areas.items) ≡ Ok self.new) }

@@ -37,6 +37,7 @@ impl PageNo {
         }
     }
 
+    /// Its number, below 2^35.
     pub fn number(self) -> u64
         ensures value { result ≡ self }
         ensures within { result < 2 ^ 35 }

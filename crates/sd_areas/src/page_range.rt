@@ -15,7 +15,8 @@ pub(crate) struct PageRange {
 }
 
 impl PageRange {
-    /// The whole pages that contain a part of the range, or none where they reach past the last address.
+    /// The whole pages that contain a part of a range of bytes, or none where they reach past the
+    /// last address, 2^47 - 1.
     pub(crate) fn new(address: u64, bytes: u64) -> Option<Self>
         requires { 0 < bytes }
         ensures within { not (is_some result) ≡ is_outside address bytes }

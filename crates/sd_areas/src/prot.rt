@@ -2,7 +2,8 @@ ghost use Rattle.std.specs.Prelude.{◌≡◌, ℕ, ◌+◌, ◌<◌, ◌≤◌,
 
 use std::fmt;
 
-/// The permissions of a page, as `mmap` of POSIX.1-2017 has them: any of read, write and execute, or none.
+/// The permissions of a page, as `mmap` of POSIX.1-2017 has them: any of read, write and
+/// execute, or none.
 #[derive(Clone, Copy, Debug, PartialEq, Eq, Hash)]
 pub struct Prot {
     pub read: bool,
@@ -13,6 +14,7 @@ pub struct Prot {
 impl Prot {
     ghost use Rattle.sd_areas.specs.Prot.{prot_bits};
 
+    /// The permissions as a number, 0 to 7: read 1, write 2 and execute 4, added up.
     pub fn bits(self) -> u8
         ensures value { result ≡ prot_bits self }
     {
@@ -32,6 +34,7 @@ impl Prot {
     }
 }
 
+/// Prints the letters `rwx`, each a `-` where the permission is missing.
 impl fmt::Display for Prot {
     ghost use Rattle.std.specs.Prelude.{Some};
     ghost use Rattle.sd_areas.specs.Prot.{prot_text};

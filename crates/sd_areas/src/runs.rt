@@ -55,7 +55,9 @@ pub(crate) fn push_area(areas: &mut Vec<Area>, area: Area) -> Result<(), AllocEr
 /// The part of an area from one page up to another, if there is one.
 fn part_of(area: &Area, from: u64, to: u64) -> Option<Area>
     requires { area.now.first + area.now.count ≤ 2 ^ 35 }
-    ensures { MatchOption result (min (area.now.first + area.now.count) to ≤ max area.now.first from) (IsPart area.now from to) }
+    ensures { MatchOption result
+        (min (area.now.first + area.now.count) to ≤ max area.now.first from)
+        (IsPart area.now from to) }
 {
     let begin = area.first.number().max(from);
     let end = to.min(area.first.number() + area.count);
@@ -70,6 +72,7 @@ fn part_of(area: &Area, from: u64, to: u64) -> Option<Area>
     })
 }
 
+/// Puts the part of an area from one page up to another behind the others, if there is one.
 fn push_part(areas: &mut Vec<Area>, area: &Area, from: u64, to: u64) -> Result<(), AllocError>
     requires maximal { AreMaximal None areas.old.items }
     requires behind { end_of_all areas.old.items ≤ max area.now.first from }
@@ -150,7 +153,8 @@ pub(crate) fn find_prot(areas: &[Area], page: PageNo) -> Option<Prot>
 /// The end of the area where it has this page, else the page.
 fn reach(area: &Area, page: u64) -> u64
     requires { area.now.first + area.now.count ≤ 2 ^ 35 }
-    ensures { result ≡ (if is_within area.now.first area.now.count page then area.now.first + area.now.count else page) }
+    ensures { result ≡ (if is_within area.now.first area.now.count page
+        then area.now.first + area.now.count else page) }
 {
     let first = area.first.number();
     let end = first + area.count;
@@ -180,7 +184,8 @@ pub(crate) fn push_page(areas: &mut Vec<Area>, page: PageNo, prot: Prot) -> Resu
     requires behind { end_of_all areas.old.items ≤ page }
     ensures maximal { OnOk result (AreMaximal None areas.new.items) }
     ensures ends { OnOk result (end_of_all areas.new.items ≡ page + 1) }
-    ensures same { OnOk result ((q : ℕ) → prot_in areas.new.items q ≡ (if is_within page 1 q then Some prot else prot_in areas.old.items q)) }
+    ensures same { OnOk result ((other : ℕ) → prot_in areas.new.items other
+        ≡ (if is_within page 1 other then Some prot else prot_in areas.old.items other)) }
 {
     let first = page;
     let _number = page.number();

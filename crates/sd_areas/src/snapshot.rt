@@ -17,6 +17,7 @@ use std::collections::BTreeMap;
 pub struct Snapshot {
     /// The number of the checkpoint that it was saved by.
     pub checkpoint: u64,
+    /// The pages of each living space.
     pub spaces: BTreeMap<SpaceId, BTreeMap<PageNo, SnapshotPage>>,
 }
 
@@ -35,8 +36,13 @@ impl Snapshot {
     }
 
     /// Adds a space without pages. Where one of that number is there, it loses its pages.
+    ///
+    /// # Errors
+    ///
+    /// Out of memory where the map can't grow: nothing changes.
     pub fn add_space(&mut self, alloc: Global, space: SpaceId) -> Result<(), AllocError>
-        ensures ok { OnOk result (memory_of self.new ≡ finmap.insert (memory_of self.old) space finmap.empty) }
+        ensures ok { OnOk result (memory_of self.new
+            ≡ finmap.insert (memory_of self.old) space finmap.empty) }
         ensures err { OnErr result (memory_of self.new ≡ memory_of self.old) }
         ensures checkpoint { self.new.checkpoint ≡ self.old.checkpoint }
     {
@@ -45,6 +51,10 @@ impl Snapshot {
     }
 
     /// Puts a page into a space that is there, in place of what it had at that number.
+    ///
+    /// # Errors
+    ///
+    /// Out of memory where the space's map can't grow: nothing changes.
     pub fn put_page(
         &mut self,
         space: SpaceId,
@@ -53,7 +63,9 @@ impl Snapshot {
         bytes: Box<[u8; PAGE_SIZE]>,
     ) -> Result<(), AllocError>
         requires { IsTrue (finmap.contains_key (memory_of self.old) space) }
-        ensures ok { OnOk result (memory_of self.new ≡ put_page (memory_of self.old) space page (record { prot = prot; bytes = bytes.value })) }
+        ensures ok { OnOk result (memory_of self.new
+            ≡ put_page (memory_of self.old) space page
+            (record { prot = prot; bytes = bytes.value })) }
         ensures err { OnErr result (memory_of self.new ≡ memory_of self.old) }
         ensures checkpoint { self.new.checkpoint ≡ self.old.checkpoint }
     {
@@ -65,6 +77,10 @@ impl Snapshot {
 }
 
 /// The maximal runs of a space's pages with equal permissions, in one pass over the pages.
+///
+/// # Errors
+///
+/// Out of memory where the list of areas can't grow.
 pub fn areas_in(
     alloc: Global,
     pages: &BTreeMap<PageNo, SnapshotPage>,

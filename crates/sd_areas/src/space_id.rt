@@ -17,12 +17,14 @@ impl Model for SpaceId {
 }
 
 impl SpaceId {
+    /// The space with this number, also one that can't be alive.
     pub fn new(number: u64) -> Self
         ensures { result ≡ number }
     {
         SpaceId { number }
     }
 
+    /// Its number.
     pub fn number(self) -> u64
         ensures { result ≡ self }
     {

@@ -1,6 +1,9 @@
+ghost use Rattle.std.specs.Prelude.{◌≡◌, IfOk};
+
 use super::{
     Area, AreaError, AreaMap, Errno, PAGE_SIZE, PageNo, Prot, Snapshot, SpaceId, areas_in,
 };
+use std::alloc::{AllocError, Global};
 use std::process::Abort;
 use std::test::Fail;
 
@@ -20,6 +23,34 @@ const EINVAL: AreaError = AreaError::Refused(Errno::Einval);
 
 const ENOMEM: AreaError = AreaError::Refused(Errno::Enomem);
 
+/// The first address behind the last page: 2^47.
+const END: u64 = 0x8000_0000_0000;
+
+/// The address of the last page.
+const LAST_PAGE: u64 = 0x7FFF_FFFF_F000;
+
+/// The greatest multiple of 4,096 below 2^64.
+const LAST_MULTIPLE: u64 = 0xFFFF_FFFF_FFFF_F000;
+
+/// An area as its first page, how many pages it has, and its permissions.
+type Run = (u64, u64, Prot);
+
+/// A call on a space: the address and the length are in bytes.
+#[derive(Clone, Copy, Debug)]
+enum Call {
+    Map(u64, u64, Prot),
+    Unmap(u64, u64),
+    Protect(u64, u64, Prot),
+}
+
+fn answer(map: &mut AreaMap, call: Call) -> Result<(), AreaError> {
+    match call {
+        Call::Map(address, bytes, prot) => map.map(address, bytes, prot),
+        Call::Unmap(address, bytes) => map.unmap(address, bytes),
+        Call::Protect(address, bytes, prot) => map.protect(address, bytes, prot),
+    }
+}
+
 fn page(rt: &impl Abort, number: u64) -> PageNo {
     PageNo::new(number).expect(rt, "a page number")
 }
@@ -29,94 +60,358 @@ fn area(rt: &impl Abort, first: u64, count: u64, prot: Prot) -> Area {
     Area { first, count, prot }
 }
 
+/// Whether a space has these areas, and no others.
+fn has_areas(map: &AreaMap, wanted: &[Run]) -> bool {
+    map.areas().len() == wanted.len()
+        && map.areas().iter().zip(wanted).all(|(found, (first, count, prot))| {
+            found.first.number() == *first && found.count == *count && found.prot == *prot
+        })
+}
+
+/// A caller of `clone` knows that the copy is the same space.
+fn copied(map: &AreaMap) -> Result<AreaMap, AllocError>
+    ensures { IfOk result (λ copy. copy ≡ map.now) }
+{
+    map.clone()
+}
+
 #[test]
-fn refuses_ranges_in_order(rt: HostRuntime) {
-    let mut map = AreaMap::new(rt.alloc());
-    let cases = [
-        (0x10000, 0, Err(EINVAL)),
-        (0x10001, 4096, Err(EINVAL)),
-        (0x10001, 0, Err(EINVAL)),
-        (0x7FFF_FFFF_F000, 8192, Err(ENOMEM)),
-        (0x7FFF_FFFF_F000, 4097, Err(ENOMEM)),
-        (0x1000, 0xFFFF_FFFF_FFFF_FFFF, Err(ENOMEM)),
-        (0xFFFF_FFFF_FFFF_F000, 0xFFFF_FFFF_FFFF_FFFF, Err(ENOMEM)),
-        (0x7FFF_FFFF_F000, 4096, Ok(())),
-        (0, 1, Ok(())),
-    ];
-    for (address, bytes, answer) in cases {
-        assert_eq!(rt;
-            map.map(address, bytes, READ),
-            answer,
-            "at {address} for {bytes}"
+fn rounds_lengths_up_to_pages(rt: HostRuntime) {
+    for (bytes, count) in [
+        (1, 1),
+        (4095, 1),
+        (4096, 1),
+        (4097, 2),
+        (8191, 2),
+        (8192, 2),
+        (8193, 3),
+    ] {
+        let mut map = AreaMap::new(rt.alloc());
+        assert_eq!(rt; map.map(0x10000, bytes, READ), Ok(()));
+        assert!(rt; has_areas(&map, &[(16, count, READ)]), "mapped {bytes}");
+        assert_eq!(rt; map.map(0x10000, 0x4000, READ), Ok(()));
+        assert_eq!(rt; map.protect(0x10000, bytes, READ_WRITE), Ok(()));
+        let parts = [(16, count, READ_WRITE), (16 + count, 4 - count, READ)];
+        assert!(rt; has_areas(&map, &parts), "protected {bytes}");
+        assert_eq!(rt; map.unmap(0x10000, bytes), Ok(()));
+        assert!(rt;
+            has_areas(&map, &[(16 + count, 4 - count, READ)]),
+            "unmapped {bytes}"
         );
     }
-    assert_eq!(rt; map.areas().len(), 2);
-    assert_eq!(rt; map.prot_of(page(&rt, 0)), Some(READ));
-    assert_eq!(rt; map.prot_of(page(&rt, 1)), None);
-    assert_eq!(rt; map.unmap(0x7FFF_FFFF_F000, 8192), Err(EINVAL));
-    assert_eq!(rt; map.unmap(0x1000, 0), Err(EINVAL));
-    assert_eq!(rt; map.protect(1, 0, READ), Err(EINVAL));
-    assert_eq!(rt; map.protect(0xFFFF_FFFF_FFFF_F000, 0, READ), Ok(()));
-    assert_eq!(rt; map.protect(0x7FFF_FFFF_F000, 8192, READ), Err(ENOMEM));
-    assert_eq!(rt; map.protect(0, 8192, READ_WRITE), Err(ENOMEM));
-    assert_eq!(rt; map.prot_of(page(&rt, 0)), Some(READ));
+}
+
+#[test]
+fn reaches_the_last_page(rt: HostRuntime) {
+    for (address, bytes, first, count) in [
+        (0, 1, 0, 1),
+        (LAST_PAGE, 1, 0x7_FFFF_FFFF, 1),
+        (LAST_PAGE, 4095, 0x7_FFFF_FFFF, 1),
+        (LAST_PAGE, 4096, 0x7_FFFF_FFFF, 1),
+        (0x1000, LAST_PAGE, 1, 0x7_FFFF_FFFF),
+        (0, END - 1, 0, 0x8_0000_0000),
+        (0, END, 0, 0x8_0000_0000),
+    ] {
+        let mut map = AreaMap::new(rt.alloc());
+        assert_eq!(rt; map.map(address, bytes, READ), Ok(()));
+        assert!(rt;
+            has_areas(&map, &[(first, count, READ)]),
+            "mapped {address} {bytes}"
+        );
+        assert_eq!(rt; map.protect(address, bytes, READ_WRITE), Ok(()));
+        assert!(rt;
+            has_areas(&map, &[(first, count, READ_WRITE)]),
+            "protected {address} {bytes}"
+        );
+        assert_eq!(rt; map.unmap(address, bytes), Ok(()));
+        assert_eq!(rt; map.areas().len(), 0, "unmapped {address} {bytes}");
+    }
+}
+
+/// Makes a call that leaves the two areas of `answers_each` as they are.
+fn keeps(rt: &impl Abort, map: &mut AreaMap, call: Call, wanted: Result<(), AreaError>) {
+    assert_eq!(rt; answer(map, call), wanted, "{call:?}");
+    let kept = [(16, 1, READ), (0x7_FFFF_FFFF, 1, READ)];
+    assert!(rt; has_areas(map, &kept), "after {call:?}");
+}
+
+/// Makes each call on two areas over each of these ranges: all answer so, and the areas stay.
+fn answers_each(
+    rt: &impl Abort,
+    alloc: Global,
+    ranges: &[(u64, u64)],
+    mapped: Result<(), AreaError>,
+    unmapped: Result<(), AreaError>,
+    protected: Result<(), AreaError>,
+) {
+    let mut map = AreaMap::new(alloc);
+    assert_eq!(rt; map.map(0x10000, 4096, READ), Ok(()));
+    assert_eq!(rt; map.map(LAST_PAGE, 4096, READ), Ok(()));
+    for (address, bytes) in ranges {
+        keeps(
+            rt,
+            &mut map,
+            Call::Map(*address, *bytes, READ_WRITE),
+            mapped,
+        );
+        keeps(rt, &mut map, Call::Unmap(*address, *bytes), unmapped);
+        keeps(
+            rt,
+            &mut map,
+            Call::Protect(*address, *bytes, READ_WRITE),
+            protected,
+        );
+    }
+}
+
+#[test]
+fn refuses_length_zero_but_to_protect(rt: HostRuntime) {
+    let ranges = [
+        (0x10000, 0),
+        (0x20000, 0),
+        (LAST_PAGE, 0),
+        (END, 0),
+        (LAST_MULTIPLE, 0),
+    ];
+    answers_each(&rt, rt.alloc(), &ranges, Err(EINVAL), Err(EINVAL), Ok(()));
+}
+
+#[test]
+fn refuses_addresses_between_pages(rt: HostRuntime) {
+    let ranges = [
+        (0x10001, 0),
+        (0x10001, 4096),
+        (0x10FFF, 1),
+        (0x10800, 4096),
+        (END + 1, 0),
+        (END + 1, 1),
+        (u64::MAX, 0),
+        (u64::MAX, 1),
+        (u64::MAX, u64::MAX),
+    ];
+    answers_each(
+        &rt,
+        rt.alloc(),
+        &ranges,
+        Err(EINVAL),
+        Err(EINVAL),
+        Err(EINVAL),
+    );
+}
+
+#[test]
+fn refuses_pages_past_the_last(rt: HostRuntime) {
+    let ranges = [
+        (LAST_PAGE, 4097),
+        (LAST_PAGE, 8192),
+        (LAST_PAGE, u64::MAX),
+        (0, END + 1),
+        (0x1000, END),
+        (0x10000, u64::MAX),
+        (0, u64::MAX),
+        (END, 1),
+        (END, 4096),
+        (LAST_MULTIPLE, 1),
+        (LAST_MULTIPLE, 4096),
+        (LAST_MULTIPLE, 4097),
+        (LAST_MULTIPLE, u64::MAX),
+    ];
+    answers_each(
+        &rt,
+        rt.alloc(),
+        &ranges,
+        Err(ENOMEM),
+        Err(EINVAL),
+        Err(ENOMEM),
+    );
+}
+
+/// Makes calls in turn, each with the areas after it.
+/// A call that wants for memory changes nothing, and is made again.
+fn follows(rt: &impl Abort, alloc: Global, steps: &[(Call, &[Run])]) {
+    let mut map = AreaMap::new(alloc);
+    let mut before: &[Run] = &[];
+    for (call, after) in steps {
+        let mut given = answer(&mut map, *call);
+        if given == Err(AreaError::OutOfMemory) {
+            assert!(rt; has_areas(&map, before), "unchanged by {call:?}");
+            given = answer(&mut map, *call);
+        }
+        assert_eq!(rt; given, Ok(()), "{call:?}");
+        assert!(rt; has_areas(&map, after), "after {call:?}");
+        before = after;
+    }
 }
 
 #[test]
 fn splits_and_joins_areas(rt: HostRuntime) {
-    let mut map = AreaMap::new(rt.alloc());
-    assert_eq!(rt; map.map(0x10000, 0x8000, READ), Ok(()));
-    assert_eq!(rt; map.map(0x12000, 0x1001, READ_WRITE), Ok(()));
-    assert_eq!(rt;
-        map.areas(),
-        [
-            area(&rt, 16, 2, READ),
-            area(&rt, 18, 2, READ_WRITE),
-            area(&rt, 20, 4, READ)
-        ]
-        .as_slice()
-    );
-    assert_eq!(rt; map.protect(0x11000, 0x2000, READ_WRITE), Ok(()));
-    assert_eq!(rt;
-        map.areas(),
-        [
-            area(&rt, 16, 1, READ),
-            area(&rt, 17, 3, READ_WRITE),
-            area(&rt, 20, 4, READ)
-        ]
-        .as_slice()
-    );
-    assert_eq!(rt; map.unmap(0x17000, 0x10000), Ok(()));
-    assert_eq!(rt; map.unmap(0x11000, 1), Ok(()));
-    assert_eq!(rt;
-        map.areas(),
-        [
-            area(&rt, 16, 1, READ),
-            area(&rt, 18, 2, READ_WRITE),
-            area(&rt, 20, 3, READ)
-        ]
-        .as_slice()
-    );
-    assert_eq!(rt; map.map(0x11000, 0x3000, READ), Ok(()));
-    assert_eq!(rt; map.areas(), [area(&rt, 16, 7, READ)].as_slice());
-    assert_eq!(rt; map.prot_of(page(&rt, 22)), Some(READ));
-    assert_eq!(rt; map.prot_of(page(&rt, 23)), None);
-    assert_eq!(rt; map.prot_of(page(&rt, 15)), None);
+    let whole: &[Run] = &[(16, 8, READ)];
+    let split: &[Run] = &[(16, 2, READ), (18, 2, READ_WRITE), (20, 4, READ)];
+    let front: &[Run] = &[(16, 2, READ_WRITE), (18, 6, READ)];
+    let ends: &[Run] = &[(16, 2, READ_WRITE), (18, 4, READ), (22, 2, READ_WRITE)];
+    let longer: &[Run] = &[(16, 10, READ_WRITE)];
+    let steps = [
+        (Call::Map(0x10000, 0x8000, READ), whole),
+        (Call::Protect(0x12000, 0x1001, READ_WRITE), split),
+        (Call::Protect(0x12000, 0x2000, READ), whole),
+        (Call::Map(0x12000, 0x1001, READ_WRITE), split),
+        (Call::Map(0x12000, 0x2000, READ), whole),
+        (Call::Protect(0x10000, 0x2000, READ_WRITE), front),
+        (Call::Protect(0x16000, 0x2000, READ_WRITE), ends),
+        (
+            Call::Protect(0x12000, 0x4000, READ_WRITE),
+            &[(16, 8, READ_WRITE)],
+        ),
+        (Call::Map(0x18000, 0x2000, READ_WRITE), longer),
+        (
+            Call::Map(0xF000, 0x1000, READ_WRITE),
+            &[(15, 11, READ_WRITE)],
+        ),
+        (Call::Map(0xE000, 0xE000, READ), &[(14, 14, READ)]),
+    ];
+    follows(&rt, rt.alloc(), &steps);
 }
 
 #[test]
-fn holds_1024_areas(rt: HostRuntime) {
+fn unmaps_over_holes(rt: HostRuntime) {
+    let split: &[Run] = &[(16, 2, READ), (19, 5, READ)];
+    let apart: &[Run] = &[(16, 1, READ), (20, 4, READ)];
+    let steps = [
+        (Call::Unmap(0x10000, 0x1000), [].as_slice()),
+        (Call::Map(0x10000, 0x8000, READ), &[(16, 8, READ)]),
+        (Call::Unmap(0x12000, 1), split),
+        (Call::Unmap(0x11000, 0x2001), apart),
+        (Call::Unmap(0x11000, 0x3000), apart),
+        (Call::Unmap(0, 0x10000), apart),
+        (Call::Unmap(0x18000, 0x10000), apart),
+        (Call::Map(0x11000, 0x3000, READ), &[(16, 8, READ)]),
+        (Call::Unmap(0, 0x11000), &[(17, 7, READ)]),
+        (Call::Unmap(0x17000, 0x10000), &[(17, 6, READ)]),
+        (Call::Unmap(0, END), &[]),
+    ];
+    follows(&rt, rt.alloc(), &steps);
+}
+
+/// The list of areas grows within the later calls.
+#[test]
+fn maps_six_areas(rt: HostRuntime) {
+    let apart = [
+        (0, 1, READ),
+        (2, 1, READ),
+        (4, 1, READ),
+        (6, 1, READ),
+        (8, 1, READ),
+        (10, 1, READ),
+    ];
+    let steps = [
+        (Call::Map(0, 1, READ), &apart[..1]),
+        (Call::Map(0x2000, 1, READ), &apart[..2]),
+        (Call::Map(0x4000, 1, READ), &apart[..3]),
+        (Call::Map(0x6000, 1, READ), &apart[..4]),
+        (Call::Map(0x8000, 1, READ), &apart[..5]),
+        (Call::Map(0xA000, 1, READ), &apart),
+        (Call::Protect(0x2000, 1, READ), &apart),
+        (Call::Unmap(0xA000, 1), &apart[..5]),
+    ];
+    follows(&rt, rt.alloc(), &steps);
+}
+
+#[test]
+fn protects_no_hole(rt: HostRuntime) {
     let mut map = AreaMap::new(rt.alloc());
-    for number in 0u64..1024 {
-        assert_eq!(rt; map.map(number * 8192, 4096, READ), Ok(()));
+    assert_eq!(rt; map.map(0x10000, 0x2000, READ), Ok(()));
+    assert_eq!(rt; map.map(0x13000, 0x2000, READ), Ok(()));
+    for (address, bytes) in [
+        (0x10000, 0x2001),
+        (0x10000, 0x5000),
+        (0x11000, 0x3000),
+        (0x12000, 1),
+        (0x12000, 0x2000),
+        (0xF000, 0x2000),
+        (0x14000, 0x1001),
+        (0x15000, 0x1000),
+        (0, END),
+    ] {
+        assert_eq!(rt;
+            map.protect(address, bytes, READ_WRITE),
+            Err(ENOMEM),
+            "{address} {bytes}"
+        );
+        assert!(rt;
+            has_areas(&map, &[(16, 2, READ), (19, 2, READ)]),
+            "{address} {bytes}"
+        );
     }
-    assert_eq!(rt; map.areas().len(), 1024);
-    assert_eq!(rt; map.map(0x1000, 4096, READ_WRITE), Err(ENOMEM));
-    assert_eq!(rt; map.map(1024 * 8192, 4096, READ), Err(ENOMEM));
-    assert_eq!(rt; map.areas().len(), 1024);
-    assert_eq!(rt; map.prot_of(page(&rt, 1)), None);
-    assert_eq!(rt; map.map(0x1000, 4096, READ), Ok(()));
-    assert_eq!(rt; map.areas().len(), 1023);
+    for (number, prot) in [
+        (0, None),
+        (15, None),
+        (16, Some(READ)),
+        (17, Some(READ)),
+        (18, None),
+        (19, Some(READ)),
+        (20, Some(READ)),
+        (21, None),
+        (0x7_FFFF_FFFF, None),
+    ] {
+        assert_eq!(rt; map.prot_of(page(&rt, number)), prot, "{number}");
+    }
+}
+
+/// A space of 1,024 areas: three pages each, with one page between them.
+fn full_space(rt: &impl Abort, alloc: Global) -> AreaMap {
+    let mut full = AreaMap::new(alloc);
+    for number in 0u64..1024 {
+        assert_eq!(rt; full.map(number * 0x4000, 0x3000, READ), Ok(()));
+    }
+    assert_eq!(rt; full.areas().len(), 1024);
+    full
+}
+
+/// Each call is made on 1,024 areas.
+#[test]
+fn holds_1024_areas(rt: HostRuntime) -> Result<(), Fail> {
+    let full = full_space(&rt, rt.alloc());
+    for (call, wanted, count) in [
+        (Call::Map(0x3000, 0x1000, READ_WRITE), Err(ENOMEM), 1024),
+        (Call::Map(0x100_0000, 0x1000, READ), Err(ENOMEM), 1024),
+        (Call::Map(0x5000, 0x1000, READ_WRITE), Err(ENOMEM), 1024),
+        (Call::Map(0x4000, 0x1000, READ_WRITE), Err(ENOMEM), 1024),
+        (Call::Unmap(0x5000, 1), Err(ENOMEM), 1024),
+        (Call::Protect(0x5000, 1, READ_WRITE), Err(ENOMEM), 1024),
+        (Call::Protect(0x4000, 1, READ_WRITE), Err(ENOMEM), 1024),
+        (Call::Map(0x3000, 0x1000, READ), Ok(()), 1023),
+        (Call::Map(0x5000, 0x1000, READ), Ok(()), 1024),
+        (Call::Map(0, END, READ_WRITE), Ok(()), 1),
+        (Call::Unmap(0x4000, 0x1000), Ok(()), 1024),
+        (Call::Unmap(0x4000, 0x3000), Ok(()), 1023),
+        (Call::Unmap(0x3000, 0x1000), Ok(()), 1024),
+        (Call::Protect(0x5000, 1, READ), Ok(()), 1024),
+        (Call::Protect(0x4000, 0x3000, READ_WRITE), Ok(()), 1024),
+    ] {
+        let mut map = copied(&full)?;
+        assert_eq!(rt; answer(&mut map, call), wanted, "{call:?}");
+        assert_eq!(rt; map.areas().len(), count, "{call:?}");
+        if wanted.is_err() {
+            assert!(rt; map.areas() == full.areas(), "unchanged by {call:?}");
+        }
+    }
+    Ok(())
+}
+
+/// The calls are made in turn, from 1,024 areas on.
+#[test]
+fn frees_an_area(rt: HostRuntime) {
+    let mut map = full_space(&rt, rt.alloc());
+    for (call, wanted, count) in [
+        (Call::Unmap(0, 0x3000), Ok(()), 1023),
+        (Call::Protect(0x5000, 1, READ_WRITE), Err(ENOMEM), 1023),
+        (Call::Map(0x5000, 1, READ_WRITE), Err(ENOMEM), 1023),
+        (Call::Unmap(0x5000, 1), Ok(()), 1024),
+        (Call::Unmap(0x9000, 1), Err(ENOMEM), 1024),
+    ] {
+        assert_eq!(rt; answer(&mut map, call), wanted, "{call:?}");
+        assert_eq!(rt; map.areas().len(), count, "{call:?}");
+    }
 }
 
 #[test]
@@ -156,6 +451,27 @@ fn keeps_a_snapshot(rt: HostRuntime) -> Result<(), Fail> {
 
 #[test]
 fn prints_permissions(rt: HostRuntime) -> Result<(), Fail> {
-    assert_eq!(rt; format!(in rt.alloc(); "{READ_WRITE}")?.as_str(), "rw-");
+    for (bits, text) in [
+        (0, "---"),
+        (1, "r--"),
+        (2, "-w-"),
+        (3, "rw-"),
+        (4, "--x"),
+        (5, "r-x"),
+        (6, "-wx"),
+        (7, "rwx"),
+    ] {
+        let prot = Prot::from_bits(bits).expect(&rt, "a permission");
+        assert_eq!(rt; prot.bits(), bits);
+        assert_eq!(rt; format!(in rt.alloc(); "{prot}")?.as_str(), text);
+    }
+    assert_eq!(rt; Prot::from_bits(8), None);
+    for (error, text) in [
+        (EINVAL, "EINVAL"),
+        (ENOMEM, "ENOMEM"),
+        (AreaError::OutOfMemory, "out-of-memory"),
+    ] {
+        assert_eq!(rt; format!(in rt.alloc(); "{error}")?.as_str(), text);
+    }
     Ok(())
 }
