@@ -1,0 +1,36 @@
+use Rattle.std.proofs.Common.{List, All, subst}
+use Rattle.sd_areas.specs.Memory.{memory_of}
+use Rattle.sd_image.specs.Laws.{IsWholeMemory}
+use Rattle.ckpt.specs.declared.found.Found.{Found}
+use Rattle.ckpt.specs.Found.{image_of, IsRestored, IsNewest}
+use Rattle.ckpt.proofs.RestoreLemmas.{shows_newest, shows_none}
+use Rattle.std.proofs.Common.{rules, ℕ, ◌⊎◌}
+use Rattle.ckpt.specs.Faulty.{Names, IsDamage, IsBrokenChain}
+use Rattle.ckpt.proofs.FaultLemmas.{broken_chain}
+use Rattle.ckpt.proofs.restore.restore.Goals as goal
+
+pub returns-in_default-clause-empty : goal.returns-in_default-clause-empty
+returns-in_default-clause-empty g c = λ honest _.
+    shows_none (g.D.Disk.contents c.args.disk.now) c.in_ok-found.found.items (c.in_ok-found.ensures.found honest)
+    (subst (λ found. All (λ (one : Found). IsRestored one → ⊥) found) c.deref.ensures.value c.in_default.ensures)
+
+pub returns-clause-shown : goal.returns-clause-shown
+returns-clause-shown g c = λ honest.
+    let contents = g.D.Disk.contents c.args.disk.now in
+    let newest = c.in-Some.newest.now in
+    let whole : IsWholeMemory (image_of contents newest) (memory_of c.in_ok-snapshot.snapshot) =
+    subst (λ contents. IsWholeMemory (image_of contents newest) (memory_of c.in_ok-snapshot.snapshot)) c.in_ok-found.ensures.same (c.in_ok-snapshot.ensures.memory honest) in
+    shows_newest contents c.in_ok-found.found.items newest c.in_ok-snapshot.snapshot.checkpoint (memory_of c.in_ok-snapshot.snapshot)
+    (c.in_ok-found.ensures.found (c.in_ok-snapshot.ensures.honest honest))
+    (subst (λ (found : List Found). IsNewest found newest) c.deref.ensures.value c.in-Some.ensures)
+    c.in_ok-snapshot.ensures.checkpoint whole
+
+pub returns-in_err-snapshot-clause-damaged : goal.returns-in_err-snapshot-clause-damaged
+returns-in_err-snapshot-clause-damaged g c = λ honest.
+    let contents : List (List ℕ) = g.D.Disk.contents c.args.disk.now in
+    let named : Names (λ slot reason. IsDamage contents slot reason ⊎ IsBrokenChain contents slot reason) c.in_err-snapshot.field-0.0 =
+    broken_chain contents c.in_ok-found.found.items c.in-Some.newest.now c.in_err-snapshot.field-0.0
+    (c.in_ok-found.ensures.found (c.in_err-snapshot.ensures.honest honest))
+    (subst (λ (found : List Found). IsNewest found c.in-Some.newest.now) c.deref.ensures.value c.in-Some.ensures)
+    c.in_err-snapshot.ensures.broken in
+    search rules

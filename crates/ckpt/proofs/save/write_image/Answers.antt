@@ -1,0 +1,16 @@
+use Rattle.std.proofs.Common.{map, sym, ◌∙◌}
+use Rattle.std.proofs.lemmas.List.{length-map}
+use Rattle.ckpt.specs.ImageText.{file_of}
+use Rattle.ckpt.specs.Plain.{bytes_at}
+use Rattle.ckpt.proofs.SlotLemmas.{image_written}
+use Rattle.ckpt.proofs.save.write_image.Goals as goal
+
+pub returns-clause-written : goal.returns-clause-written
+returns-clause-written g c =
+    let contents = g.D.Disk.contents in
+    let stored = c.args.text.now.stored in
+    image_written (contents c.args.disk.now) (contents c.format.new.disk) (contents c.write_pages.new.disk) (contents c.close_body.new.disk) c.args.slot
+    (map (bytes_at c.args.plain.now) stored.items) (file_of c.args.plain.now c.args.text.now) c.requires.slot
+    c.in_ok-format.ensures.formatted (rw c.deref.ensures.value at c.in_ok-write_pages.ensures.written)
+    (λ body. rw c.deref-2.ensures.value at (c.in_ok-close_body.ensures.opened (map (bytes_at c.args.plain.now) stored.items) c.requires.whole
+    (length-map stored.items (bytes_at c.args.plain.now) ∙ sym stored.ok.0 ∙ sym c.len.ensures) body))

@@ -1,0 +1,15 @@
+pub mod Mapped
+pub mod Plain
+pub mod Runs
+pub mod SlotFile
+pub mod Dump
+pub mod DumpImage
+pub mod Slots
+pub mod ImageText
+pub mod Access
+pub mod Found
+pub mod Reading
+pub mod Answers
+pub mod Line
+pub mod Script
+pub mod Faulty

@@ -1,0 +1,21 @@
+//! The words that the program is called with.
+
+use clap::{Arg, Command, Error};
+use std::alloc::Global;
+
+/// The command line: one subcommand for each program.
+pub fn command<'a>(alloc: Global) -> Result<Command<'a>, Error> {
+    let run = Command::new(alloc, "run")
+        .about("Runs a script over the store in a folder, which is made where it is missing")
+        .arg(Arg::new(alloc, "DIR").required(true))?
+        .arg(Arg::new(alloc, "SCRIPT").required(true))?;
+    let restore = Command::new(alloc, "restore")
+        .about("Prints the memory that the store in a folder shows")
+        .arg(Arg::new(alloc, "DIR").required(true))?;
+    let command = Command::new(alloc, "ckpt")
+        .about("Saves modelled memories into image files, and restores them")
+        .subcommand_required(true)
+        .subcommand(run)?
+        .subcommand(restore)?;
+    Ok(command)
+}

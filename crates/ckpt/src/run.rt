@@ -1,0 +1,85 @@
+//! Running a script over a store.
+ghost use Rattle.std.specs.Prelude.{◌≡◌, IsSome};
+ghost use Rattle.ckpt.specs.Script.{first_unfit_line};
+
+use crate::ending;
+use crate::fault::Fault;
+use crate::plain::Plain;
+use crate::read_memory::read_memory;
+use crate::reply::Reply;
+use crate::scan::scan;
+use crate::script::Script;
+use crate::script_error::ScriptError;
+use crate::session::Session;
+use crate::stop::Stop;
+use crate::tip::{greatest_number, tip};
+use sd_disk::Disk;
+use std::alloc::Global;
+use std::io::Write;
+
+/// Parses a whole script and then runs it over a disk, printing one line for each request.
+/// Answers the disk and the exit status.
+pub fn run_script<D: Disk, W: Write>(alloc: Global, disk: D, script: &[u8], out: &mut W) -> (D, u8)
+    // A script with a line that doesn't fit changes nothing.
+    ensures unfit { IsSome (first_unfit_line script.now) → D.contents result.0 ≡ D.contents disk }
+    ensures honest { D.is_honest result.0 → D.is_honest disk }
+{
+    let mut disk = disk;
+    let status = match Script::parse(alloc, script) {
+        Ok(script) => run_lines(alloc, &mut disk, &script, out),
+        Err(error) => refuse_script(error, out),
+    };
+    (disk, status)
+}
+
+/// Prints why a script can't be taken, and answers the exit status.
+pub fn refuse_script<W: Write>(error: ScriptError, out: &mut W) -> u8 {
+    match error {
+        ScriptError::OutOfMemory => ending::status(Err(Stop::Fault(Fault::OutOfMemory)), out),
+        ScriptError::Line(number) => match writeln!(out, "script line {number}") {
+            Ok(()) => 2,
+            Err(_) => 1,
+        },
+    }
+}
+
+/// Runs a parsed script over a disk, and answers the exit status.
+pub fn run_lines<D: Disk, W: Write>(alloc: Global, disk: &mut D, script: &Script, out: &mut W) -> u8
+    ensures honest { D.is_honest disk.new → D.is_honest disk.old }
+{
+    let ended = answer_all(alloc, disk, script, out);
+    ending::status(ended, out)
+}
+
+fn answer_all<D: Disk, W: Write>(
+    alloc: Global,
+    disk: &mut D,
+    script: &Script,
+    out: &mut W,
+) -> Result<(), Stop>
+    ensures honest { D.is_honest disk.new → D.is_honest disk.old }
+{
+    let (mut session, found) = open(alloc, disk)?;
+    writeln!(out, "{}", Reply::Reopened(found))?;
+    for line in &script.lines {
+        let reply = session.answer(alloc, disk, line)?;
+        writeln!(out, "{reply}")?;
+    }
+    Ok(())
+}
+
+/// A session that goes on from what a store has, and the store's checkpoint, if it has one.
+fn open<D: Disk>(alloc: Global, disk: &mut D) -> Result<(Session, Option<u64>), Fault>
+    ensures same { D.contents disk.new ≡ D.contents disk.old }
+    ensures honest { D.is_honest disk.new → D.is_honest disk.old }
+{
+    let found = scan(alloc, disk)?;
+    let greatest = greatest_number(&found);
+    let Some(newest) = tip(&found) else {
+        return Ok((Session::new(Plain::new(alloc), greatest), None));
+    };
+    let snapshot = read_memory(alloc, disk, newest)?;
+    let checkpoint = snapshot.checkpoint;
+    let plain = Plain::from_snapshot(alloc, snapshot, newest.slot)?;
+    Ok((Session::new(plain, greatest), Some(checkpoint)))
+}

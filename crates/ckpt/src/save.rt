@@ -1,0 +1,74 @@
+//! Saving a memory: one whole dump, into the lowest free slot.
+ghost use Rattle.std.specs.Prelude.{◌≡◌, ◌≢◌, ◌<◌, ◌≤◌, ◌∷◌, ℕ, List, length, map, Some, OnOk, IsErr, IsErrOf, slice_set};
+ghost use Rattle.sd_disk.specs.Failures.{HasCause};
+ghost use Rattle.sd_disk.specs.Contents.{file_at};
+ghost use Rattle.sd_image.specs.Image.{Image};
+ghost use Rattle.sd_image.specs.Shows.{IsStore, Shows};
+ghost use Rattle.sd_image.specs.Laws.{AreBelow};
+ghost use Rattle.ckpt.specs.ImageText.{file_of};
+ghost use Rattle.ckpt.specs.Plain.{bytes_at, memory_of};
+ghost use Rattle.ckpt.specs.Slots.{raw_slots};
+ghost use Rattle.ckpt.specs.SlotFile.{AreWhole, closed_file};
+
+use crate::free_slot::free_slot;
+use crate::image_text::{ImageText, image_text};
+use crate::plain::Plain;
+use crate::save_error::SaveError;
+use crate::slot_writer::{close_body, format, write_pages};
+use sd_disk::{DeviceError, Disk};
+use std::alloc::Global;
+
+/// Saves a memory as the dump of the checkpoint with this number, which has to be above every checkpoint and serial of
+/// the store. It goes into the lowest slot that is shorter than a header, and one more such slot has to be there.
+///
+/// # Errors
+///
+/// `NoSlot` where fewer than two slots are free and `OutOfMemory`: nothing was written. `Device` where the disk failed:
+/// the slot may hold anything behind a closed gate.
+pub fn save<D: Disk>(
+    alloc: Global,
+    disk: &mut D,
+    plain: &Plain,
+    number: u64,
+) -> Result<(), SaveError>
+    requires { 0 < number }
+
+    // What is saved is what the store then shows.
+    ensures shown { D.is_honest disk.new → (images : List Image) → IsStore (D.contents disk.old) images → AreBelow number images
+        → OnOk result (Shows (D.contents disk.new) (Some (number, memory_of plain.now))) }
+
+    // It is written into the lowest of the free slots, and nowhere else.
+    ensures place { D.is_honest disk.new → OnOk result ((slot next : ℕ) (others : List ℕ) → raw_slots (D.contents disk.old) ≡ slot ∷ next ∷ others
+        → D.contents disk.new ≡ slice_set (D.contents disk.old) slot (file_at (D.contents disk.new) slot)) }
+    ensures no_slot { D.is_honest disk.new → IsErrOf result SaveError.NoSlot → length (raw_slots (D.contents disk.old)) < 2 }
+    ensures refused { result ≢ Err SaveError.Device → IsErr result → D.contents disk.new ≡ D.contents disk.old }
+    ensures device { IsErrOf result SaveError.Device → D.failed disk.old < D.failed disk.new }
+    ensures honest { D.is_honest disk.new → D.is_honest disk.old }
+{
+    let slot = free_slot(disk)?;
+    let text = image_text(alloc, plain, number)?;
+    write_image(disk, slot, plain, &text)?;
+    Ok(())
+}
+
+/// Writes an image into a slot: its body behind a closed gate, and then the gate.
+fn write_image<D: Disk>(
+    disk: &mut D,
+    slot: usize,
+    plain: &Plain,
+    text: &ImageText,
+) -> Result<(), DeviceError>
+    requires slot { slot < length (D.contents disk.old) }
+    requires header { length text.now.header ≡ 4095 }
+    requires few { length text.now.stored.items ≤ 65536 }
+    requires whole { AreWhole (map (bytes_at plain.now) text.now.stored.items) }
+    requires table { 0 < length text.now.table.items }
+    ensures written { OnOk result (D.contents disk.new ≡ slice_set (D.contents disk.old) slot (file_of plain.now text.now)) }
+    ensures honest { D.is_honest disk.new → D.is_honest disk.old }
+    ensures cause { HasCause (D.failed disk.old) (D.failed disk.new) result }
+{
+    format(disk, slot)?;
+    write_pages(disk, slot, plain, &text.stored)?;
+    close_body(disk, slot, text.stored.len(), &text.header, &text.table)?;
+    Ok(())
+}

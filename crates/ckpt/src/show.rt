@@ -1,0 +1,82 @@
+//! Printing the memory that a store shows.
+ghost use Rattle.std.specs.Prelude.{◌≡◌};
+
+use crate::ending;
+use crate::restore::restore;
+use crate::stop::Stop;
+use sd_areas::{PAGE_SIZE, PageNo, Snapshot, SnapshotPage};
+use sd_disk::Disk;
+use std::alloc::Global;
+use std::collections::BTreeMap;
+use std::io;
+use std::io::Write;
+
+/// How many bytes one line shows.
+const LINE_BYTES: usize = 32;
+
+/// Prints the memory that a store shows, and answers the exit status.
+pub fn restore_to<D: Disk, W: Write>(alloc: Global, disk: &mut D, out: &mut W) -> u8
+    ensures same { D.contents disk.new ≡ D.contents disk.old }
+    ensures honest { D.is_honest disk.new → D.is_honest disk.old }
+{
+    let ended = show(alloc, disk, out);
+    ending::status(ended, out)
+}
+
+fn show<D: Disk, W: Write>(alloc: Global, disk: &mut D, out: &mut W) -> Result<(), Stop>
+    ensures same { D.contents disk.new ≡ D.contents disk.old }
+    ensures honest { D.is_honest disk.new → D.is_honest disk.old }
+{
+    let snapshot = restore(alloc, disk)?;
+    show_snapshot(alloc, &snapshot, out)
+}
+
+fn show_snapshot<W: Write>(alloc: Global, snapshot: &Snapshot, out: &mut W) -> Result<(), Stop> {
+    writeln!(out, "checkpoint {}", snapshot.checkpoint)?;
+    for (space, pages) in &snapshot.spaces {
+        writeln!(out, "space {}", space.number())?;
+        show_areas(alloc, pages, out)?;
+        show_pages(pages, out)?;
+    }
+    Ok(())
+}
+
+fn show_areas<W: Write>(
+    alloc: Global,
+    pages: &BTreeMap<PageNo, SnapshotPage>,
+    out: &mut W,
+) -> Result<(), Stop> {
+    for area in &sd_areas::areas_in(alloc, pages)? {
+        let first = area.first.number() * 4096;
+        let end = first.wrapping_add(area.count.wrapping_mul(4096));
+        writeln!(out, "area {first:#x} {end:#x} {}", area.prot)?;
+    }
+    Ok(())
+}
+
+fn show_pages<W: Write>(pages: &BTreeMap<PageNo, SnapshotPage>, out: &mut W) -> io::Result<()> {
+    for (page, found) in pages {
+        show_page(page.number() * 4096, found.bytes.as_slice(), out)?;
+    }
+    Ok(())
+}
+
+/// Prints the parts of a page that aren't all zeros.
+fn show_page<W: Write>(address: u64, bytes: &[u8], out: &mut W) -> io::Result<()> {
+    let mut at = address;
+    for line in bytes.chunks(LINE_BYTES) {
+        if line.iter().any(|byte| *byte != 0) {
+            show_line(at, line, out)?;
+        }
+        at = at.wrapping_add(LINE_BYTES as u64);
+    }
+    Ok(())
+}
+
+fn show_line<W: Write>(address: u64, bytes: &[u8], out: &mut W) -> io::Result<()> {
+    write!(out, "bytes {address:#x} ")?;
+    for byte in bytes {
+        write!(out, "{byte:02x}")?;
+    }
+    writeln!(out)
+}
