@@ -23,6 +23,7 @@ pub use laws::{
 };
 pub use page_no::{PAGE_LIMIT, PAGE_SIZE, PageNo};
 pub use prot::Prot;
+pub use runs::find_prot;
 pub use snapshot::{Snapshot, areas_in};
 pub use snapshot_page::SnapshotPage;
 pub use space_id::SpaceId;

@@ -137,8 +137,9 @@ pub(crate) fn without_pages(
     Ok(joined)
 }
 
-/// The permissions of a page, by a binary search.
-pub(crate) fn find_prot(areas: &[Area], page: PageNo) -> Option<Prot>
+/// The permissions that a space's areas, rising and maximal, give a page; none where it isn't mapped.
+/// The time grows with the logarithm of the areas.
+pub fn find_prot(areas: &[Area], page: PageNo) -> Option<Prot>
     requires { AreMaximal None areas.now }
     ensures { result ≡ prot_in areas.now page }
 {
