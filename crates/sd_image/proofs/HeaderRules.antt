@@ -197,7 +197,7 @@ fields_are_kept h len good =
 abbrev found_header : Header → Result Header Reason
 found_header h = Ok h
 
-text_again : (b : ℕ) (h : Header) (len : ℕ) → IsHeader h len → header_in (b ∷ header_text h) len ≡ found_header h
+pub text_again : (b : ℕ) (h : Header) (len : ℕ) → IsHeader h len → header_in (b ∷ header_text h) len ≡ found_header h
 unfolding header_in kind_in
 text_again b h len good =
     let kind : kind_of (number_at 2 10 (b ∷ header_text h)) ≡ h.kind = ap kind_of (kind_at b h) ∙ kind_again h.kind in

@@ -12,7 +12,12 @@ pub mod ItemLaws
 pub mod SpaceLaws
 pub mod TableLaws
 pub mod ShowsLemmas
+pub mod ReadyLemmas
 pub mod OneImage
+pub mod OneRuns
 pub mod PagePlaces
 pub mod OneMemory
 pub mod FirstImage
+pub mod FileLaws
+pub mod LeastReason
+pub mod FirstFaultLaws

@@ -6,7 +6,7 @@ use Rattle.sd_image.specs.declared.header.Header.{Header}
 use Rattle.sd_image.specs.Header.{header_text}
 use Rattle.sd_image.specs.Table.{table_text, IsTable}
 use Rattle.sd_image.specs.Image.{Image, IsImage, OpenImages, gate, image_text, is_open}
-use Rattle.sd_image.specs.Laws.{NamedOnce, OneImage, OneStore, TipOnce}
+use Rattle.sd_image.specs.Laws.{NamedOnce, OneImage, OneSpelling, OneStore, TipOnce}
 use Rattle.sd_image.proofs.HeaderRules.{header_length, header_once}
 use Rattle.sd_image.proofs.TableLaws.{table_once}
 use Rattle.sd_image.proofs.ShowsLemmas.{contains_cons_cases, true_not_false}
@@ -42,6 +42,9 @@ same_image i j h p s = rw (h, p, s) refl
 
 after_gate : (a b : List ℕ) → gate ∷ a ≡ gate ∷ b → a ≡ b
 after_gate a b e = cc
+
+pub one_spelling_lem : OneSpelling
+one_spelling_lem one other i a b = a.spelled ∙ sym b.spelled
 
 pub one_image_lem : OneImage
 one_image_lem file i j a b =

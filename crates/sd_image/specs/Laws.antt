@@ -1,16 +1,34 @@
 -- What the layers above use of images and of what contents show, each a law that a function with an empty body carries.
-use Rattle.std.specs.Prelude.{◌≡◌, ℕ, ◌<◌, ◌≤◌, ◌^◌, true, false, List, [], ◌∷◌, length, All, Contains, slice_index_or, slice_set, Option, Some}
+use Rattle.std.specs.Prelude.{◌≡◌, ℕ, ◌+◌, ◌<◌, ◌≤◌, ◌^◌, true, false, if◌then◌else◌, List, [], ◌∷◌, length, All, Contains, slice_index_or, slice_set, Option, Some, None}
 use Rattle.std.specs.FinMap as finmap
 use Rattle.sd_areas.specs.declared.prot.Prot.{Prot}
+use Rattle.sd_areas.specs.Pages.{is_within}
 use Rattle.sd_areas.specs.PlainMemory.{PlainMemory}
 use Rattle.sd_image.specs.declared.header.Kind.TheVariants.{Dump}
+use Rattle.sd_image.specs.declared.run.Run.{Run}
+use Rattle.sd_image.specs.declared.run.RunKind.{RunKind}
 use Rattle.sd_image.specs.declared.run.RunKind.TheVariants.{Data}
+use Rattle.sd_image.specs.Table.{AreRuns}
 use Rattle.sd_image.specs.Image.{Image, IsImage, OpenImages, gate, image_text, is_open}
 use Rattle.sd_image.specs.Shows.{Holds, IsMemory, IsNamed, IsRestorable, IsStore, IsTip, Shows}
 
 -- A file has at most one image.
 abbrev pub OneImage : Type 0
 OneImage = (file : List ℕ) (i j : Image) → IsImage file i → IsImage file j → i ≡ j
+
+-- An image has one spelling.
+abbrev pub OneSpelling : Type 0
+OneSpelling = (one other : List ℕ) (i : Image) → IsImage one i → IsImage other i → one ≡ other
+
+-- in which way a list of runs has a page
+abbrev pub kind_in : List Run → ℕ → Option RunKind
+kind_in [] page = None
+kind_in (run ∷ runs) page = if is_within run.first run.count page then Some run.kind else kind_in runs page
+
+-- There is one list of runs that has each page in its way.
+abbrev pub OneListOfRuns : Type 0
+OneListOfRuns = (parent : ℕ) (one other : List Run) → AreRuns parent None one → AreRuns parent None other
+    → ((page : ℕ) → kind_in one page ≡ kind_in other page) → one ≡ other
 
 -- Contents have at most one list of open images.
 abbrev pub OneStore : Type 0
@@ -60,6 +78,29 @@ FirstImageIsShown = (n space page : ℕ) (prot : Prot) (bytes : List ℕ)
 -- every number of these images is below n
 abbrev pub AreBelow : ℕ → List Image → Type 0
 AreBelow n = All (λ (i : Image). (i.header.serial < n) × (i.header.checkpoint < n))
+
+-- The slots are a store, and every number in it is below n: an image with this number may be written.
+pub record IsReady (contents : List (List ℕ)) (n : ℕ) : Type 0 where
+  pub images : List Image
+  pub store : IsStore contents images
+  pub below : AreBelow n images
+
+-- Once the image with this number stands in a slot that was closed, the store is ready for the next number.
+abbrev pub ReadyAgain : Type 0
+ReadyAgain = (contents : List (List ℕ)) (n slot : ℕ) (file : List ℕ) (i : Image)
+    → IsReady contents n → slot < length contents → is_open (slice_index_or contents slot []) ≡ false
+    → IsImage file i → i.header.serial ≡ n → i.header.checkpoint ≡ n
+    → IsReady (slice_set contents slot file) (n + 1)
+
+-- What is written behind a closed gate leaves a store as ready as it was.
+abbrev pub ReadyStill : Type 0
+ReadyStill = (contents : List (List ℕ)) (n slot : ℕ) (file : List ℕ)
+    → IsReady contents n → slot < length contents → is_open (slice_index_or contents slot []) ≡ false → is_open file ≡ false
+    → IsReady (slice_set contents slot file) n
+
+-- A store that is ready for a number is ready for each higher one.
+abbrev pub ReadyAbove : Type 0
+ReadyAbove = (contents : List (List ℕ)) (m n : ℕ) → m ≤ n → IsReady contents m → IsReady contents n
 
 -- the memory of an image that needs no other
 abbrev pub IsWholeMemory : Image → PlainMemory → Type 0

@@ -6,3 +6,5 @@ pub mod Coverage
 pub mod Image
 pub mod Shows
 pub mod Laws
+pub mod ReasonLaws
+pub mod FirstFault

@@ -217,3 +217,10 @@ table_in h bytes = do
   head ← head_at bytes
   spaces ← many (space_at h) (λ s. s.space) head.0 0 head.1
   if ends_rightly h spaces.0 spaces.1 then Ok spaces.0 else Err reason.Total
+
+-- The header and the spaces that a whole file spells, whatever its gate; or the reason why it spells none: the header's before the table's.
+abbrev pub file_in : List ℕ → Result (Header × List Listed) Reason
+file_in file = do
+  header ← header_in (slice_range file 0 4096) (length file)
+  spaces ← table_in header (drop (4096 + 4096 * header.pages) file)
+  Ok (header, spaces)

@@ -1,6 +1,6 @@
 //! The first 4,096 bytes of an image.
 
-ghost use Rattle.std.specs.Prelude.{◌≡◌, ℕ, ◌<◌, ◌≤◌, ◌+◌, ◌*◌, ◌⊎◌, ◌++◌, length, take, drop, IfOk, MatchOption, Ok};
+ghost use Rattle.std.specs.Prelude.{◌≡◌, ℕ, ◌<◌, ◌≤◌, ◌+◌, ◌*◌, ◌⊎◌, ◌∷◌, ◌++◌, length, take, drop, IfOk, MatchOption, Ok};
 ghost use Rattle.sd_image.specs.declared.header.Header.{Header};
 ghost use Rattle.sd_image.specs.Header.{header_text, IsHeader};
 ghost use Rattle.sd_image.specs.Words.{kind_number};
@@ -52,6 +52,8 @@ fn put(text: &mut [u8; 4095], place: usize, field: &[u8])
 pub fn encode_header(header: &Header) -> [u8; 4095]
     ensures text { result ≡ header_text header.now }
     ensures length { length result ≡ 4095 }
+    // What is written is read back, behind any gate.
+    ensures read_back { (gate len : ℕ) → IsHeader header.now len → header_in (gate ∷ result) len ≡ Ok header.now }
 {
     let mut text = [0; 4095];
     put(&mut text, 0, MAGIC);

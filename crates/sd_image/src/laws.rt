@@ -1,14 +1,39 @@
 //! Laws about images and contents that the layers above use.
-ghost use Rattle.sd_image.specs.Laws.{FirstImageIsShown, HeldOnce, NamedOnce, NewestIsShown, OneImage, OneStore, ShownOnce, TipOnce};
+ghost use Rattle.sd_image.specs.Laws.{FirstImageIsShown, HeldOnce, NamedOnce, NewestIsShown, OneImage, OneListOfRuns, OneSpelling, OneStore, ReadyAbove, ReadyAgain, ReadyStill, ShownOnce, TipOnce};
 
 /// A whole image, written into a closed slot with numbers above all others, is what contents then show.
 pub fn newest_is_shown()
     ensures { NewestIsShown }
 {}
 
+/// Once the image with a number stands in a slot that was closed, the store is ready for the next number.
+pub fn ready_again()
+    ensures { ReadyAgain }
+{}
+
+/// What is written behind a closed gate leaves a store as ready as it was.
+pub fn ready_still()
+    ensures { ReadyStill }
+{}
+
+/// A store that is ready for a number is ready for each higher one.
+pub fn ready_above()
+    ensures { ReadyAbove }
+{}
+
 /// A file has at most one image.
 pub fn one_image()
     ensures { OneImage }
+{}
+
+/// An image has one spelling.
+pub fn one_spelling()
+    ensures { OneSpelling }
+{}
+
+/// There is one list of runs that has each page in its way.
+pub fn one_list_of_runs()
+    ensures { OneListOfRuns }
 {}
 
 /// Contents have at most one list of open images.

