@@ -1,4 +1,11 @@
+pub mod CallLemmas
+pub mod CrashLemmas
 pub mod FolderLemmas
+pub mod LeaveLemmas
 pub mod MemoryLemmas
+pub mod OutcomeLemmas
+pub mod ShadowLemmas
 pub mod SlotLemmas
+pub mod SoundLemmas
 pub mod StepLemmas
+pub mod TrackLemmas

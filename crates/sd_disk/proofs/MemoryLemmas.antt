@@ -3,7 +3,7 @@ use Rattle.std.proofs.Common.{◌≡◌, ℕ, ◌<◌, List, [], length, map, sl
 use Rattle.std.proofs.lemmas.List.{get_or-map, map-set, length-map}
 use Rattle.std.proofs.Math.Seq.{map-set_same}
 use Rattle.sd_disk.specs.Contents.{file_at, AtSlot}
-use Rattle.sd_disk.specs.Memory.{held, room_of}
+use Rattle.sd_disk.specs.Slots.{held, room_of}
 use Rattle.sd_disk.specs.declared.slot.Slot.{Slot}
 use Rattle.sd_disk.proofs.StepLemmas.{at_slot}
 

@@ -46,10 +46,10 @@ cut_taken file n =
     let size = length-take n file in
     record { no_shorter = omega (arith, size); no_longer = omega (arith, size); below = λ i old near. get_or-take n file i 0 near }
 
-length_mixed : (count : ℕ) (kept : ℕ → Bool) (file others : List ℕ) → length (mixed count kept file others) ≡ count
+pub length_mixed : (count : ℕ) (kept : ℕ → Bool) (file others : List ℕ) → length (mixed count kept file others) ≡ count
 length_mixed count kept file others = length-map-range_with_len _ 0 count
 
-mixed_at : (count : ℕ) (kept : ℕ → Bool) (file others : List ℕ) (i : ℕ) → i < count
+pub mixed_at : (count : ℕ) (kept : ℕ → Bool) (file others : List ℕ) (i : ℕ) → i < count
     → slice_index (mixed count kept file others) i ≡ cond (kept i) (slice_index file i) (slice_index others i)
 mixed_at count kept file others i near =
     get_or-map-range_with_len (λ k. cond (kept k) (slice_index file k) (slice_index others k)) 0 count i i 0 near (zero-add i)

@@ -1,6 +1,8 @@
 -- What a disk over files holds, by its record of calls.
 use Rattle.std.specs.Prelude.{ℕ, List, length}
 use Rattle.sd_disk.specs.Events.{Event, files_after, failures_in, AreAnswers}
+use Rattle.sd_disk.specs.Outcomes.{MayLeave}
+use Rattle.sd_disk.specs.Moments.{LeftSince}
 use Rattle.sd_disk.specs.declared.folder.DirDisk.{DirDisk}
 use Rattle.sd_disk.specs.declared.image.Folder.{Folder}
 
@@ -15,6 +17,18 @@ folder_events disk = disk.journal.record.events
 -- its files
 abbrev pub folder_files : DirDisk → List (List ℕ)
 folder_files disk = files_after disk.journal.record.outside (folder_events disk)
+
+-- what a crash now may leave of them
+abbrev pub folder_may_leave : DirDisk → List (List ℕ) → Type 0
+folder_may_leave disk = MayLeave disk.journal.record.outside (folder_events disk)
+
+-- the moment, by the number of calls
+abbrev pub folder_moment : DirDisk → ℕ
+folder_moment disk = length (folder_events disk)
+
+-- what a crash since a moment might have left
+abbrev pub folder_left_since : DirDisk → ℕ → List (List ℕ) → Type 0
+folder_left_since disk = LeftSince disk.journal.record.outside (folder_events disk)
 
 -- how often it has failed
 abbrev pub folder_failures : DirDisk → ℕ

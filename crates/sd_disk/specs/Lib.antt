@@ -1,5 +1,12 @@
 pub mod Contents
+pub mod Crash
 pub mod Events
 pub mod Failures
 pub mod Folder
+pub mod Fused
+pub mod Laws
 pub mod Memory
+pub mod Moments
+pub mod Outcomes
+pub mod Slots
+pub mod Spans

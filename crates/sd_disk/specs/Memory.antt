@@ -1,16 +1,10 @@
 -- What a disk in memory holds, and what each call does to it.
-use Rattle.std.specs.Prelude.{◌≡◌, ℕ, ◌+◌, ◌-◌, ◌<◌, ◌≤◌, ◌^◌, min, List, take, length, map, slice_index}
-use Rattle.sd_disk.specs.Events.{failures_in}
-use Rattle.sd_disk.specs.declared.slot.Slot.{Slot}
+use Rattle.std.specs.Prelude.{◌≡◌, ℕ, ◌+◌, ◌-◌, ◌<◌, ◌≤◌, ◌^◌, min, List, length, map, slice_index}
+use Rattle.sd_disk.specs.Events.{Event, failures_in}
+use Rattle.sd_disk.specs.Outcomes.{MayLeave}
+use Rattle.sd_disk.specs.Moments.{LeftSince}
+use Rattle.sd_disk.specs.Slots.{held, room_of}
 use Rattle.sd_disk.specs.declared.memory.MemDisk.{MemDisk}
-
--- the file in a slot
-abbrev pub held : Slot → List ℕ
-held slot = take slot.len slot.room.items
-
--- how many bytes it has room for
-abbrev pub room_of : Slot → ℕ
-room_of slot = length slot.room.items
 
 -- its files
 abbrev pub memory_files : MemDisk → List (List ℕ)
@@ -31,6 +25,22 @@ memory_failures disk = failures_in disk.budget.journal.record.events
 -- how often it was read
 abbrev pub memory_reads : MemDisk → ℕ
 memory_reads disk = disk.reads
+
+-- the calls on it, the last first
+abbrev pub memory_events : MemDisk → List Event
+memory_events disk = disk.budget.journal.record.events
+
+-- what a crash now may leave
+abbrev pub memory_may_leave : MemDisk → List (List ℕ) → Type 0
+memory_may_leave disk = MayLeave disk.budget.journal.record.outside (memory_events disk)
+
+-- the moment, by the number of calls
+abbrev pub memory_moment : MemDisk → ℕ
+memory_moment disk = length (memory_events disk)
+
+-- what a crash since a moment might have left
+abbrev pub memory_left_since : MemDisk → ℕ → List (List ℕ) → Type 0
+memory_left_since disk = LeftSince disk.budget.journal.record.outside (memory_events disk)
 
 -- there is room for a write of n bytes
 abbrev pub HasRoom : MemDisk → ℕ → ℕ → ℕ → Type 0

@@ -1,5 +1,6 @@
 ghost use Rattle.std.specs.Prelude.{◌≡◌, ℕ, ◌+◌, ◌-◌, ◌<◌, ◌≤◌, ◌^◌, min, List, length, take, OnOk, IfOk, slice_range, slice_set};
 ghost use Rattle.sd_disk.specs.Contents.{file_at, written, Torn, Cut, AtSlot};
+ghost use Rattle.sd_disk.specs.Crash.{Follows, Within, OnlyAt, Elapses};
 ghost use Rattle.sd_disk.specs.Failures.{HasCause};
 
 use crate::error::DeviceError;
@@ -9,8 +10,22 @@ use crate::error::DeviceError;
 /// `contents` is what the slots hold. What `len` and `read` answer is tied to it under `is_honest` alone:
 /// each answer so far was that of a device which keeps what it was given. A device in memory is always honest;
 /// of a real file that is a premise.
+///
+/// `may_leave` are the contents that a crash now may leave, and `left_since` those that a crash at some moment
+/// since another may have left, during a call or between two. Slots are independent. After a successful `sync` of
+/// a slot a crash leaves what a read of it gives. Until the next, each write and cut may be there whole, in part
+/// or not at all, and what lies past the end of a file may be anything. A call that failed may have been done.
 pub trait Disk {
     ghost contents: { Self → List (List ℕ) };
+
+    /// What a crash now may leave.
+    ghost may_leave: { Self → List (List ℕ) → Type 0 };
+
+    /// The moment, as a number that does not fall.
+    ghost moment: { Self → ℕ };
+
+    /// What a crash at some moment from that one on might have left.
+    ghost left_since: { Self → ℕ → List (List ℕ) → Type 0 };
 
     /// How often the device has failed.
     ghost failed: { Self → ℕ };
@@ -30,6 +45,8 @@ pub trait Disk {
         requires { slot < length (contents self.old) }
         ensures length { is_honest self.new → IfOk result (λ n. n ≡ length (file_at (contents self.old) slot)) }
         ensures same { contents self.new ≡ contents self.old }
+        ensures crash { Within (may_leave self.new) (may_leave self.old) }
+        ensures time { Elapses (moment self.old) (moment self.new) (left_since self.old) (left_since self.new) (may_leave self.new) }
         ensures honest { is_honest self.new → is_honest self.old }
         ensures cause { HasCause (failed self.old) (failed self.new) result };
 
@@ -40,6 +57,8 @@ pub trait Disk {
         ensures bytes { is_honest self.new → OnOk result (buffer.new
             ≡ slice_range (file_at (contents self.old) slot) at (at + length buffer.old)) }
         ensures same { contents self.new ≡ contents self.old }
+        ensures crash { Within (may_leave self.new) (may_leave self.old) }
+        ensures time { Elapses (moment self.old) (moment self.new) (left_since self.old) (left_since self.new) (may_leave self.new) }
         ensures honest { is_honest self.new → is_honest self.old }
         ensures cause { HasCause (failed self.old) (failed self.new) result };
 
@@ -51,6 +70,8 @@ pub trait Disk {
         ensures written { OnOk result (contents self.new
             ≡ slice_set (contents self.old) slot (written (file_at (contents self.old) slot) at bytes.now)) }
         ensures torn { AtSlot slot (Torn at (length bytes.now)) (contents self.old) (contents self.new) }
+        ensures crash { Follows (AtSlot slot (Torn at (length bytes.now))) (may_leave self.old) (may_leave self.new) }
+        ensures time { Elapses (moment self.old) (moment self.new) (left_since self.old) (left_since self.new) (may_leave self.new) }
         ensures honest { is_honest self.new → is_honest self.old }
         ensures cause { HasCause (failed self.old) (failed self.new) result };
 
@@ -61,13 +82,30 @@ pub trait Disk {
         ensures cut { OnOk result (contents self.new
             ≡ slice_set (contents self.old) slot (take len (file_at (contents self.old) slot))) }
         ensures torn { AtSlot slot (Cut len) (contents self.old) (contents self.new) }
+        ensures crash { Follows (AtSlot slot (Cut len)) (may_leave self.old) (may_leave self.new) }
+        ensures time { Elapses (moment self.old) (moment self.new) (left_since self.old) (left_since self.new) (may_leave self.new) }
         ensures honest { is_honest self.new → is_honest self.old }
         ensures cause { HasCause (failed self.old) (failed self.new) result };
 
     /// Waits until a slot's file is on the device as it reads.
     fn sync(&mut self, slot: usize) -> Result<(), DeviceError>
         requires { slot < length (contents self.old) }
+        ensures durable { OnOk result (OnlyAt slot (file_at (contents self.old) slot) (may_leave self.new)) }
         ensures same { contents self.new ≡ contents self.old }
+        ensures crash { Within (may_leave self.new) (may_leave self.old) }
+        ensures time { Elapses (moment self.old) (moment self.new) (left_since self.old) (left_since self.new) (may_leave self.new) }
         ensures honest { is_honest self.new → is_honest self.old }
         ensures cause { HasCause (failed self.old) (failed self.new) result };
+
+    /// The contents as read are one outcome of a crash now.
+    ghost as_read: { (disk : Self) → may_leave disk (contents disk) };
+
+    /// A crash leaves as many slots.
+    ghost same_slots: { (disk : Self) (c : List (List ℕ)) → may_leave disk c → length c ≡ length (contents disk) };
+
+    /// This moment is one of those since an earlier one.
+    ghost counts_now: { (disk : Self) (t : ℕ) (c : List (List ℕ)) → t ≤ moment disk → may_leave disk c → left_since disk t c };
+
+    /// Since this moment there is no other.
+    ghost only_now: { (disk : Self) (c : List (List ℕ)) → left_since disk (moment disk) c → may_leave disk c };
 }

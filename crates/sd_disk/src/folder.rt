@@ -39,13 +39,30 @@ impl DirDisk {
 impl Disk for DirDisk {
     ghost use Rattle.std.specs.Prelude.{◌<◌, [], ◌∷◌, OnOk};
     ghost use Rattle.sd_disk.specs.Failures.{HasCause};
-    ghost use Rattle.sd_disk.specs.Folder.{folder_files, folder_events, folder_failures, IsFolderHonest};
+    ghost use Rattle.sd_disk.specs.Contents.{file_at};
+    ghost use Rattle.sd_disk.specs.Crash.{Within, OnlyAt, Elapses};
+    ghost use Rattle.sd_disk.specs.Folder.{folder_files, folder_events, folder_failures, IsFolderHonest, folder_may_leave, folder_moment, folder_left_since};
+    ghost use Rattle.sd_disk.specs.Moments.{counts_now, only_now};
 
     ghost contents = { folder_files };
+
+    ghost may_leave = { folder_may_leave };
+
+    ghost moment = { folder_moment };
+
+    ghost left_since = { folder_left_since };
 
     ghost failed = { folder_failures };
 
     ghost is_honest = { IsFolderHonest };
+
+    ghost as_read = { λ disk. disk.journal.as_read };
+
+    ghost same_slots = { λ disk c left. left.count };
+
+    ghost counts_now = { λ disk t c since now. counts_now disk.journal.record.outside (folder_events disk) t c since now };
+
+    ghost only_now = { λ disk c left. only_now disk.journal.record.outside (folder_events disk) c left };
 
     #[tactic(auto, using(crate::proofs::FolderLemmas::length_files))]
     fn slots(&self) -> usize {
@@ -116,7 +133,10 @@ impl Disk for DirDisk {
     fn sync(&mut self, slot: usize) -> Result<(), DeviceError>
         requires { slot < length (folder_files self.old) }
         ensures noted { OnOk result (folder_events self.new ≡ (Call.Synced slot, []) ∷ folder_events self.old) }
+        ensures durable { OnOk result (OnlyAt slot (file_at (folder_files self.old) slot) (folder_may_leave self.new)) }
         ensures same { folder_files self.new ≡ folder_files self.old }
+        ensures crash { Within (folder_may_leave self.new) (folder_may_leave self.old) }
+        ensures time { Elapses (folder_moment self.old) (folder_moment self.new) (folder_left_since self.old) (folder_left_since self.new) (folder_may_leave self.new) }
         ensures honest { IsFolderHonest self.new → IsFolderHonest self.old }
         ensures cause { HasCause (folder_failures self.old) (folder_failures self.new) result }
     {

@@ -1,6 +1,7 @@
 //! A device's record, with its failures counted.
 ghost use Rattle.std.specs.Prelude.{◌≡◌, ◌-◌, ◌^◌, ◌∷◌, [], min};
-ghost use Rattle.sd_disk.specs.Events.{Outside, failures_in};
+ghost use Rattle.sd_disk.specs.Events.{Outside, failures_in, files_after};
+ghost use Rattle.sd_disk.specs.Outcomes.{MayLeave};
 
 use crate::call::Call;
 use crate::record::Record;
@@ -10,6 +11,7 @@ pub(crate) struct Journal {
     record: Record,
     failures: u64,
     ghost counted: { failures ≡ min (failures_in record.events) (2 ^ 64 - 1) },
+    ghost as_read: { MayLeave record.outside record.events (files_after record.outside record.events) },
 }
 
 impl Journal {

@@ -32,7 +32,7 @@ fn all_of<D: Disk>(
     Ok(bytes)
 }
 
-fn put<D: Disk>(
+pub(crate) fn put<D: Disk>(
     rt: &impl Abort,
     disk: &mut D,
     slot: usize,
@@ -44,14 +44,19 @@ fn put<D: Disk>(
     Ok(())
 }
 
-fn shorten<D: Disk>(rt: &impl Abort, disk: &mut D, slot: usize, len: usize) -> Result<(), Fail> {
+pub(crate) fn shorten<D: Disk>(
+    rt: &impl Abort,
+    disk: &mut D,
+    slot: usize,
+    len: usize,
+) -> Result<(), Fail> {
     assert!(rt; slot < disk.slots());
     assert!(rt; len <= disk.len(slot)?);
     disk.cut(slot, len)?;
     Ok(())
 }
 
-fn holds<D: Disk>(
+pub(crate) fn holds<D: Disk>(
     rt: &(impl Abort + AllocGlobal),
     disk: &mut D,
     slot: usize,

@@ -1,0 +1,7 @@
+use Rattle.std.proofs.Common.{[], map}
+use Rattle.sd_disk.specs.Slots.{held}
+use Rattle.sd_disk.proofs.memory.MemDisk.settled.Given as goal
+
+-- the files are those that it begins with
+abbrev pub ghost-new : goal.ghost-new
+ghost-new a = record { found = map held a.slots.now; left = [] }

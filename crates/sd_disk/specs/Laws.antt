@@ -1,0 +1,23 @@
+-- Laws of what a crash may leave.
+use Rattle.std.specs.Prelude.{◌≡◌, ◌↔◌, ℕ, List, ◌∷◌, length}
+use Rattle.sd_disk.specs.Contents.{file_at, Torn, Cut, AtSlot}
+use Rattle.sd_disk.specs.Events.{Outside, Event, files_after}
+use Rattle.sd_disk.specs.Outcomes.{MayLeave}
+use Rattle.sd_disk.specs.declared.call.Call.{Call}
+use Rattle.sd_disk.specs.declared.call.Call.TheVariants.{Measured, Read, Written, Cut as Cuts, Synced, Failed, WriteFailed, CutFailed}
+
+-- the outcomes after a call are those before it with the call done, in part or whole or not at all
+abbrev pub Leads : Call → List ℕ → List (List ℕ) → List (List ℕ) → List (List ℕ) → Type 0
+Leads (Measured slot len) bytes files before c = before ≡ c
+Leads (Read slot at) bytes files before c = before ≡ c
+Leads (Written slot at) bytes files before c = AtSlot slot (Torn at (length bytes)) before c
+Leads (Cuts slot len) bytes files before c = AtSlot slot (Cut len) before c
+Leads (Synced slot) bytes files before c = (before ≡ c) × (file_at c slot ≡ file_at files slot)
+Leads Failed bytes files before c = before ≡ c
+Leads (WriteFailed slot at) bytes files before c = AtSlot slot (Torn at (length bytes)) before c
+Leads (CutFailed slot len) bytes files before c = AtSlot slot (Cut len) before c
+
+-- The rules, call by call, in both directions.
+abbrev pub CrashOutcomes : Type 0
+CrashOutcomes = (outside : Outside) (event : Event) (earlier : List Event) (c : List (List ℕ))
+    → MayLeave outside (event ∷ earlier) c ↔ ((before : List (List ℕ)) × MayLeave outside earlier before × Leads event.0 event.1 (files_after outside earlier) before c)
