@@ -1,17 +1,16 @@
 -- Which slot a fault names.
-use Rattle.std.proofs.Common.{◌≡◌, ◌⊎◌, ℕ, Bool, true, false, not, nat_eq, List, ◌++◌, take, drop, length, ◌<◌, ◌+◌, slice_index_or, refl, sym, ◌∙◌, ap, subst, inr}
+use Rattle.std.proofs.Common.{◌≡◌, ℕ, Bool, true, false, not, nat_eq, List, ◌++◌, take, drop, length, ◌<◌, ◌+◌, slice_index_or, refl, sym, ◌∙◌, ap, subst}
 use Rattle.std.specs.List.{list_any, IsDistinct}
 use Rattle.std.proofs.lemmas.List.{take-append-drop}
 use Rattle.sd_disk.specs.Contents.{file_at}
 use Rattle.sd_image.specs.declared.reason.Reason.{Reason}
 use Rattle.sd_image.specs.Image.{Image, OpenImages}
-use Rattle.sd_image.specs.declared.reason.Reason.TheVariants.{Chain}
 use Rattle.sd_image.specs.Shows.{IsStore}
 use Rattle.ckpt.specs.declared.fault.Fault.{Fault}
 use Rattle.ckpt.specs.declared.fault.Fault.TheVariants.{EmptyChain, Damaged, Device, OutOfMemory}
 use Rattle.ckpt.specs.declared.found.Found.{Found}
 use Rattle.ckpt.specs.Found.{serials_of, images_of, IsNewest}
-use Rattle.ckpt.specs.Faulty.{Names, IsFaulty, IsFirstFaulty, IsFirstDouble, IsDamage, IsBrokenChain}
+use Rattle.ckpt.specs.Faulty.{Names, IsFaulty, IsFirstFaulty, IsFirstDouble, NeedsParent, IsBrokenChain}
 use Rattle.ckpt.proofs.TakeLemmas.{left}
 
 pub names_more : (P Q : ℕ → Reason → Type 0) (fault : Fault) → ((slot : ℕ) (reason : Reason) → P slot reason → Q slot reason) → Names P fault → Names Q fault
@@ -42,7 +41,6 @@ first_double all i one added there less is distinct old fresh has = record {
 }
 
 pub broken_chain : (contents : List (List ℕ)) (all : List Found) (newest : Found) (fault : Fault) → IsStore contents (images_of contents all) → IsNewest all newest
-    → Names (λ slot reason. (slot ≡ newest.slot) × (reason ≡ Chain)) fault
-    → Names (λ slot reason. IsDamage contents slot reason ⊎ IsBrokenChain contents slot reason) fault
+    → Names (NeedsParent newest) fault → Names (IsBrokenChain contents) fault
 broken_chain contents all newest fault store is = names_more _ _ fault (λ slot reason named.
-    inr (record { why = named.1; all = all; store = store; newest = newest; is = is; names = sym named.0 }))
+    record { why = named.why; all = all; store = store; newest = newest; is = is; names = sym named.names; parent = named.parent })

@@ -20,3 +20,5 @@ pub mod Fields
 pub mod Numerals
 pub mod Lines
 pub mod Parsing
+pub mod EndingLemmas
+pub mod GoodLemmas

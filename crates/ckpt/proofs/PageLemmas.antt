@@ -1,20 +1,26 @@
 -- Pages that are put into a memory.
-use Rattle.std.proofs.Common.{◌≡◌, ◌≢◌, ◌⊎◌, ℕ, cond, List, [], ◌∷◌, ◌++◌, Option, Some, None, MatchOption, Contains, refl, sym, ◌∙◌, ap, subst, arith, inl, inr}
+use Rattle.std.proofs.Common.{◌≡◌, ◌≢◌, ◌⊎◌, ℕ, true, false, cond, List, [], ◌∷◌, ◌++◌, Option, Some, None, MatchOption, Contains, refl, sym, ◌∙◌, ap, subst, arith, inl, inr}
 use Rattle.std.specs.Prelude.{unwrap_or, is_some, IsTrue}
 use Rattle.std.specs.Option.{option_and_then}
 use Rattle.std.specs.Ordering.{nat_cmp, eq_by_cmp}
 use Rattle.std.specs.FinMap as finmap
 use Rattle.std.specs.FinMap.{get-insert, get-empty}
 use Rattle.std.proofs.lemmas.Cmp.{nat_cmp_total}
+use Rattle.std.proofs.lemmas.Bool.Decides.{nat_tests}
 use Rattle.std.proofs.lemmas.Bool.{cond-true, cond-false, cases_eq}
 use Rattle.std.proofs.lemmas.List.Elements.{Contains-push_cases, Contains-append_cases}
 use Rattle.sd_areas.specs.Memory.{put_page}
 use Rattle.sd_areas.specs.PlainMemory.{Page, Space, PlainMemory}
-use Rattle.sd_areas.proofs.PagesOf.{tied, untied}
 use Rattle.sd_image.specs.Image.{Image}
 use Rattle.sd_image.specs.Table.{Listed}
 use Rattle.sd_image.specs.Shows.{page_in}
 use Rattle.ckpt.specs.Reading.{IsPageOf, AddsPages}
+
+pub tied : (q k : ℕ) → q ≡ k → eq_by_cmp nat_cmp q k ≡ true
+tied q k e = grind (arith, nat_tests)
+
+pub untied : (q k : ℕ) → q ≢ k → eq_by_cmp nat_cmp q k ≡ false
+untied q k e = grind (arith, nat_tests)
 
 of_space : (o : Option Space) (page : ℕ) → finmap.get (unwrap_or o finmap.empty) page ≡ option_and_then (λ pages. finmap.get pages page) o
 of_space None page = get-empty nat_cmp page

@@ -50,3 +50,6 @@ shows_none contents found store none = record {
       let o = image_among contents found i among in
       All-contains (λ (one : Found). IsRestored one → ⊥) found o.one none o.among (subst IsRestorable o.is restorable);
 }
+
+pub none_is_no_moment : (moment : ℕ × PlainMemory) → None ≡ Some moment → ⊥
+none_is_no_moment moment e = absurd (let f : None ≡ Some moment = e in cc)

@@ -1,5 +1,5 @@
 -- The spaces of an image, one run after the other.
-use Rattle.std.proofs.Common.{◌≡◌, ◌⊎◌, ◌<◌, ◌≤◌, ◌+◌, ◌^◌, ℕ, zero, suc, true, IsTrue, List, [], ◌∷◌, ◌++◌, take, drop, length, Option, Some, None, MatchOption, Contains, sym, ◌∙◌, ap, subst, arith, inl, inr, append_assoc, append-nil, length-append, slice_index_or}
+use Rattle.std.proofs.Common.{◌≡◌, ◌≢◌, ◌⊎◌, ◌<◌, ◌≤◌, ◌+◌, ◌^◌, ℕ, zero, suc, true, IsTrue, List, [], ◌∷◌, ◌++◌, take, drop, length, Option, Some, None, MatchOption, Contains, sym, ◌∙◌, ap, subst, arith, inl, inr, append_assoc, append-nil, length-append, slice_index_or}
 use Rattle.std.specs.List.{flat_map}
 use Rattle.std.specs.FinMap as finmap
 use Rattle.std.specs.FinMap.{get-insert}
@@ -9,8 +9,9 @@ use Rattle.std.proofs.lemmas.Bool.Decides.{nat_tests}
 use Rattle.std.proofs.lemmas.Grind.{flat_map-append}
 use Rattle.std.proofs.lemmas.List.Elements.{Contains-append_left, Contains-append_right}
 use Rattle.sd_areas.specs.PlainMemory.{Page, PlainMemory}
-use Rattle.sd_areas.proofs.PagesOf.{untied}
+use Rattle.ckpt.proofs.PageLemmas.{untied}
 use Rattle.sd_image.specs.declared.run.Run.{Run}
+use Rattle.sd_image.specs.declared.run.RunKind.TheVariants.{Parent}
 use Rattle.sd_image.specs.Table.{Listed, run_pages, AreRuns, is_run_after}
 use Rattle.sd_image.specs.Image.{Image}
 use Rattle.sd_image.specs.Shows.{page_in}
@@ -65,6 +66,15 @@ run_within parent before (r ∷ runs) zero run are less is = subst (λ (k : Run)
     ends : (before : Option Run) (r : Run) → IsTrue (is_run_after parent before r) → r.first + r.count ≤ 2 ^ 35
     ends before r after = grind (arith, nat_tests)
 run_within parent before (r ∷ runs) (suc i) run are less is = run_within parent (Some r) runs i run are.1 (omega arith) is
+
+-- a run in the parent needs one
+pub run_source : (parent : ℕ) (before : Option Run) (runs : List Run) (i : ℕ) (run : Run) → AreRuns parent before runs → i < length runs → run ≡ slice_index_or runs i run → run.kind ≡ Parent → parent ≢ 0
+run_source parent before [] i run are less is kind = absurd (omega arith)
+run_source parent before (r ∷ runs) zero run are less is kind = source before r are.0 (ap (λ (k : Run). k.kind) (sym is) ∙ kind)
+  where
+    source : (before : Option Run) (r : Run) → IsTrue (is_run_after parent before r) → r.kind ≡ Parent → parent ≢ 0
+    source before r after kind none = grind (arith, nat_tests)
+run_source parent before (r ∷ runs) (suc i) run are less is kind = run_source parent (Some r) runs i run are.1 (omega arith) is kind
 
 -- a space that was added without pages, and then has those of its runs
 pub reads_space : (i : Image) (s : Listed) (old mid new : PlainMemory) → mid ≡ finmap.insert old s.space finmap.empty → AddsPages i s (flat_map run_pages s.runs) mid new

@@ -1,25 +1,16 @@
 -- Which slot is at fault, and why.
-use Rattle.std.specs.Prelude.{◌≡◌, ℕ, ◌+◌, ◌*◌, ◌⊎◌, true, ◌==◌, List, ◌∷◌, ◌++◌, length, take, drop, slice_range, Result, Ok, Err, IsTrue}
+use Rattle.std.specs.Prelude.{◌≡◌, ◌≢◌, ℕ, ◌⊎◌, true, ◌==◌, List, ◌∷◌, ◌++◌, take, Err, IsTrue}
 use Rattle.std.specs.List.{list_any, IsDistinct}
 use Rattle.sd_disk.specs.Contents.{file_at}
-use Rattle.sd_image.specs.declared.header.Header.{Header}
 use Rattle.sd_image.specs.declared.reason.Reason.{Reason}
 use Rattle.sd_image.specs.declared.reason.Reason.TheVariants.{Chain, DoubleSerial}
-use Rattle.sd_image.specs.Table.{Listed}
 use Rattle.sd_image.specs.Image.{Image, OpenImages, is_open}
 use Rattle.sd_image.specs.Shows.{IsStore}
-use Rattle.sd_image.specs.Reading.{◌>>=◌, header_in, table_in}
+use Rattle.sd_image.specs.Reading.{file_in}
 use Rattle.ckpt.specs.declared.fault.Fault.{Fault}
 use Rattle.ckpt.specs.declared.fault.Fault.TheVariants.{EmptyChain, Damaged, Device, OutOfMemory}
 use Rattle.ckpt.specs.declared.found.Found.{Found}
 use Rattle.ckpt.specs.Found.{images_of, serials_of, IsNewest}
-
--- the header and the spaces that a file spells, or the least reason why it spells none
-abbrev pub file_in : List ℕ → Result (Header × List Listed) Reason
-file_in file = do
-  header ← header_in (slice_range file 0 4096) (length file)
-  spaces ← table_in header (drop (4096 + 4096 * header.pages) file)
-  Ok (header, spaces)
 
 -- a fault that names a slot and a reason has them rightly
 abbrev pub Names : (ℕ → Reason → Type 0) → Fault → Type 0
@@ -60,7 +51,13 @@ pub record IsDoubleSerial (contents : List (List ℕ)) (slot : ℕ) (reason : Re
 abbrev pub IsDamage : List (List ℕ) → ℕ → Reason → Type 0
 IsDamage contents slot reason = IsFirstFaulty contents slot reason ⊎ IsDoubleSerial contents slot reason
 
--- the slots are a store, and its newest image is in this one
+-- an image's page is in its parent
+pub record NeedsParent (image : Found) (slot : ℕ) (reason : Reason) : Type 0 where
+  pub why : reason ≡ Chain
+  pub names : slot ≡ image.slot
+  pub parent : image.header.parent ≢ 0
+
+-- the slots are a store, its newest image is in this one, and has a parent
 pub record IsBrokenChain (contents : List (List ℕ)) (slot : ℕ) (reason : Reason) : Type 0 where
   pub why : reason ≡ Chain
   pub all : List Found
@@ -68,3 +65,4 @@ pub record IsBrokenChain (contents : List (List ℕ)) (slot : ℕ) (reason : Rea
   pub newest : Found
   pub is : IsNewest all newest
   pub names : newest.slot ≡ slot
+  pub parent : newest.header.parent ≢ 0

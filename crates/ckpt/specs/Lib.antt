@@ -13,3 +13,4 @@ pub mod Answers
 pub mod Line
 pub mod Script
 pub mod Faulty
+pub mod Ending

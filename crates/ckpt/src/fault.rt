@@ -1,3 +1,6 @@
+ghost use Rattle.std.specs.Prelude.{◌≡◌};
+ghost use Rattle.ckpt.specs.Ending.{status_of};
+
 use sd_disk::DeviceError;
 use sd_image::Reason;
 use std::alloc::{AllocError, AllocFailed};
@@ -20,7 +23,9 @@ pub enum Fault {
 
 impl Fault {
     /// The exit status of a program that ends with this fault.
-    pub fn status(self) -> u8 {
+    pub fn status(self) -> u8
+        ensures { result ≡ status_of self }
+    {
         match self {
             Fault::EmptyChain => 3,
             Fault::Damaged { .. } | Fault::Device | Fault::OutOfMemory => 1,

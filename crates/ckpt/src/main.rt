@@ -24,7 +24,6 @@ mod line_error;
 mod need;
 mod page_reader;
 mod plain;
-mod prots;
 mod read_memory;
 mod refusal;
 mod reply;

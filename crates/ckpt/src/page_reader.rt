@@ -8,16 +8,14 @@ ghost use Rattle.sd_disk.specs.Contents.{file_at};
 ghost use Rattle.sd_image.specs.declared.run.RunKind.TheVariants as way;
 ghost use Rattle.sd_image.specs.Table.{listed, run_pages};
 ghost use Rattle.sd_image.specs.Shows.{pages_of};
-ghost use Rattle.sd_image.specs.declared.reason.Reason.TheVariants.{Chain};
-ghost use Rattle.ckpt.specs.Faulty.{Names};
+ghost use Rattle.ckpt.specs.Faulty.{Names, NeedsParent};
 ghost use Rattle.ckpt.specs.Found.{IsDecoded, image_of, spaces_of};
 ghost use Rattle.ckpt.specs.Reading.{StandsAt, AddsPages, run_places};
 
 use crate::fault::Fault;
 use crate::found::Found;
-use crate::prots::find_prot;
 use crate::slot_reader::HEADER_SIZE;
-use sd_areas::{PAGE_SIZE, PageNo, Snapshot};
+use sd_areas::{PAGE_SIZE, PageNo, Snapshot, find_prot};
 use sd_disk::Disk;
 use sd_image::{Reason, Run, RunKind, SpaceTable};
 use std::alloc::{AllocError, Global};
@@ -151,9 +149,10 @@ pub fn read_run<D: Disk>(
     requires among { (p : ℕ × ℕ) → Contains (run_places way.Zero space.now.space run.now) p → Contains (pages_of way.Zero (spaces_of tip.now)) p }
     requires mapped { (page : ℕ) → Contains (run_pages run.now) page → IsSome (prot_in space.now.areas.items page) }
     requires within { run.now.first + run.now.count ≤ 2 ^ 35 }
+    requires source { run.now.kind ≡ way.Parent → tip.now.header.parent ≢ 0 }
     ensures adds { D.is_honest disk.new → OnOk result (AddsPages (image_of (D.contents disk.old) tip.now) (listed space.now) (run_pages run.now) (memory_of snapshot.old) (memory_of snapshot.new)) }
     ensures next { IfOk result (λ next. next ≡ place + length (run_places way.Data space.now.space run.now)) }
-    ensures broken { IfErr result (Names (λ slot reason. (slot ≡ tip.now.slot) × (reason ≡ Chain))) }
+    ensures broken { IfErr result (Names (NeedsParent tip.now)) }
     ensures alive { OnOk result (IsTrue (finmap.contains_key (memory_of snapshot.new) space.now.space)) }
     ensures checkpoint { snapshot.new.checkpoint ≡ snapshot.old.checkpoint }
     ensures same { D.contents disk.new ≡ D.contents disk.old }

@@ -1,5 +1,5 @@
 //! The memory that the engine keeps: the areas of space 1, and the pages that were stored to.
-ghost use Rattle.std.specs.Prelude.{◌≡◌, ◌≤◌, ◌↔◌, IsTrue, ◌+◌, ◌/◌, ◌%◌, ◌<◌, ◌^◌, Bool, true, false, ℕ, OnOk, OnErr, IfOk, IsSome, length, slice_range};
+ghost use Rattle.std.specs.Prelude.{◌≡◌, ◌≤◌, ◌↔◌, IsTrue, ◌+◌, ◌/◌, ◌%◌, ◌<◌, ◌^◌, Bool, true, false, ℕ, OnOk, OnErr, IfOk, IfErr, IsSome, length, slice_range};
 ghost use Rattle.sd_areas.specs.Areas.{areas_of};
 ghost use Rattle.ckpt.specs.Access.{stored_at};
 ghost use Rattle.ckpt.specs.Mapped.{IsTooMuch, mapped_total};
@@ -83,6 +83,7 @@ impl Plain {
     ghost use Rattle.ckpt.specs.declared.refusal.Refusal.TheVariants.{Einval, Enomem};
     ghost use Rattle.ckpt.specs.declared.segv.Segv.TheVariants.{Maperr, Accerr};
     ghost use Rattle.ckpt.specs.Access.{is_bad_access, Allows};
+    ghost use Rattle.ckpt.specs.Faulty.{Names};
     ghost use Rattle.ckpt.specs.Plain.{bytes_at, areas_in};
 
     /// A space without pages.
@@ -101,7 +102,10 @@ impl Plain {
     /// # Errors
     ///
     /// `Damaged` with that slot where it has other spaces, and `OutOfMemory`.
-    pub fn from_snapshot(alloc: Global, snapshot: Snapshot, slot: usize) -> Result<Self, Fault> {
+    pub fn from_snapshot(alloc: Global, snapshot: Snapshot, slot: usize) -> Result<Self, Fault>
+        ensures damaged { IfErr result (Names (λ at reason. (at ≡ slot) × (reason ≡ Reason.Space))) }
+        ensures empty { result ≢ Err Fault.EmptyChain }
+    {
         let mut plain = Plain::new(alloc);
         let mut spaces = snapshot.spaces;
         match spaces.remove(&SpaceId::new(SPACE)) {
@@ -122,7 +126,9 @@ impl Plain {
         &mut self,
         alloc: Global,
         pages: &BTreeMap<PageNo, SnapshotPage>,
-    ) -> Result<(), Fault> {
+    ) -> Result<(), Fault>
+        ensures memory { OnErr result (result ≡ Err Fault.OutOfMemory) }
+    {
         for area in &sd_areas::areas_in(alloc, pages)? {
             let address = area.first.number() * 4096;
             let bytes = area.count.wrapping_mul(4096);

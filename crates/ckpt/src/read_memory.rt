@@ -9,8 +9,7 @@ ghost use Rattle.sd_image.specs.declared.run.RunKind.TheVariants as way;
 ghost use Rattle.sd_image.specs.Table.{listed, run_pages, AreRuns};
 ghost use Rattle.sd_image.specs.Laws.{IsWholeMemory};
 ghost use Rattle.sd_image.specs.Shows.{pages_of};
-ghost use Rattle.sd_image.specs.declared.reason.Reason.TheVariants.{Chain};
-ghost use Rattle.ckpt.specs.Faulty.{Names};
+ghost use Rattle.ckpt.specs.Faulty.{Names, NeedsParent};
 ghost use Rattle.ckpt.specs.Found.{IsDecoded, IsFound, IsRestored, image_of, spaces_of};
 ghost use Rattle.ckpt.specs.Reading.{StandsAt, ReadsSpace, run_places};
 
@@ -39,7 +38,7 @@ fn read_space<D: Disk>(
     requires runs { AreRuns tip.now.header.parent None space.now.runs.items }
     requires stands { StandsAt (pages_of way.Data (spaces_of tip.now)) place (flat_map (run_places way.Data space.now.space) space.now.runs.items) }
     requires among { (p : ℕ × ℕ) → Contains (flat_map (run_places way.Zero space.now.space) space.now.runs.items) p → Contains (pages_of way.Zero (spaces_of tip.now)) p }
-    ensures broken { IfErr result (Names (λ slot reason. (slot ≡ tip.now.slot) × (reason ≡ Chain))) }
+    ensures broken { IfErr result (Names (NeedsParent tip.now)) }
     ensures reads { D.is_honest disk.new → OnOk result (ReadsSpace (image_of (D.contents disk.old) tip.now) (listed space.now) (memory_of snapshot.old) (memory_of snapshot.new)) }
     ensures next { IfOk result (λ next. next ≡ place + length (flat_map (run_places way.Data space.now.space) space.now.runs.items)) }
     ensures checkpoint { snapshot.new.checkpoint ≡ snapshot.old.checkpoint }
@@ -67,7 +66,7 @@ pub fn read_memory<D: Disk>(alloc: Global, disk: &mut D, tip: &Found) -> Result<
     requires decoded { IsDecoded tip.now }
     requires restored { IsRestored tip.now }
     requires image { D.is_honest disk.old → IsFound (D.contents disk.old) tip.now }
-    ensures broken { IfErr result (Names (λ slot reason. (slot ≡ tip.now.slot) × (reason ≡ Chain))) }
+    ensures broken { IfErr result (Names (NeedsParent tip.now)) }
     ensures memory { D.is_honest disk.new → IfOk result (λ snapshot. IsWholeMemory (image_of (D.contents disk.old) tip.now) (memory_of snapshot)) }
     ensures checkpoint { IfOk result (λ snapshot. snapshot.checkpoint ≡ tip.now.header.checkpoint) }
     ensures same { D.contents disk.new ≡ D.contents disk.old }

@@ -47,23 +47,36 @@ fn table(alloc: Global) -> Result<Table, Fail> {
     Ok(Table { spaces })
 }
 
-/// The file of a dump with this number and checkpoint, whose data page is filled with that checkpoint.
-fn image(alloc: Global, serial: u64, checkpoint: u8) -> Result<Vec<u8>, Fail> {
+/// The file of an image with these numbers, whose data page is filled with a byte.
+fn file(
+    alloc: Global,
+    kind: Kind,
+    serial: u64,
+    stands_for: u64,
+    checkpoint: u64,
+    filled: u8,
+) -> Result<Vec<u8>, Fail> {
     let table = encode_table(alloc, &table(alloc)?)?;
     let header = Header {
-        kind: Kind::Dump,
+        kind,
         serial,
-        stands_for: serial,
+        stands_for,
         parent: 0,
-        checkpoint: u64::from(checkpoint),
+        checkpoint,
         pages: 1,
         table_len: table.len() as u64,
     };
     let mut file = vec![in alloc; 0xA5]?;
     file.extend_from_slice(&encode_header(&header))?;
-    file.extend_from_slice(&[checkpoint; PAGE_SIZE])?;
+    file.extend_from_slice(&[filled; PAGE_SIZE])?;
     file.extend_from_slice(&table)?;
     Ok(file)
+}
+
+/// The file of a dump with this number and checkpoint, whose data page is filled with that checkpoint.
+fn image(alloc: Global, serial: u64, checkpoint: u8) -> Result<Vec<u8>, Fail> {
+    let number = u64::from(checkpoint);
+    file(alloc, Kind::Dump, serial, serial, number, checkpoint)
 }
 
 fn put<D: Disk>(
@@ -103,6 +116,31 @@ fn the_newest_dump_is_restored(rt: HostRuntime) -> Result<(), Fail> {
         assert!(rt; found.prot == PROT);
         assert!(rt; found.bytes.iter().all(|b| *b == byte));
     }
+    Ok(())
+}
+
+/// The number and the first byte that a store of these files gives back.
+fn restored(rt: &(impl Abort + AllocGlobal), files: &[Vec<u8>]) -> Result<(u64, Option<u8>), Fail> {
+    let mut disk = store(rt, files)?;
+    let snapshot = restore(rt.alloc(), &mut disk).ok().ok_or("a memory")?;
+    let pages = snapshot.spaces.get(&SpaceId::new(3)).ok_or("space 3")?;
+    let page = PageNo::new(16).ok_or("a page")?;
+    let found = pages.get(&page).ok_or("page 16")?;
+    Ok((snapshot.checkpoint, found.bytes.first().copied()))
+}
+
+/// A merged image has a greater serial than the dumps before it, but an older checkpoint is no newer for that.
+#[test]
+fn a_merged_image_keeps_its_checkpoint(rt: HostRuntime) -> Result<(), Fail> {
+    let alloc = rt.alloc();
+    let merged = file(alloc, Kind::Merged, 3, 1, 1, 9)?;
+    let files = vec![in alloc; image(alloc, 2, 2)?, image(alloc, 1, 1)?, merged]?;
+    assert_eq!(rt; restored(&rt, &files)?, (2, Some(2)));
+
+    // Without the dump of checkpoint 2 it is the newest, by its serial.
+    let merged = file(alloc, Kind::Merged, 3, 1, 1, 9)?;
+    let files = vec![in alloc; image(alloc, 1, 1)?, merged]?;
+    assert_eq!(rt; restored(&rt, &files)?, (1, Some(9)));
     Ok(())
 }
 

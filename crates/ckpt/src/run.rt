@@ -1,9 +1,14 @@
 //! Running a script over a store.
-ghost use Rattle.std.specs.Prelude.{◌≡◌, IsSome};
+ghost use Rattle.std.specs.Prelude.{◌≡◌, ◌≢◌, ◌+◌, ◌≤◌, Err, IsSome, IfOk, OnOk};
+ghost use Rattle.ckpt.specs.declared.fault.Fault.TheVariants as fault;
+ghost use Rattle.ckpt.specs.declared.stop.Stop.TheVariants as stop;
+ghost use Rattle.sd_image.specs.Laws.{IsReady};
+ghost use Rattle.ckpt.specs.Ending.{EndsRefused, IsReadable};
 ghost use Rattle.ckpt.specs.Script.{first_unfit_line};
 
 use crate::ending;
 use crate::fault::Fault;
+use crate::line::Line;
 use crate::plain::Plain;
 use crate::read_memory::read_memory;
 use crate::reply::Reply;
@@ -33,7 +38,9 @@ pub fn run_script<D: Disk, W: Write>(alloc: Global, disk: D, script: &[u8], out:
 }
 
 /// Prints why a script can't be taken, and answers the exit status.
-pub fn refuse_script<W: Write>(error: ScriptError, out: &mut W) -> u8 {
+pub fn refuse_script<W: Write>(error: ScriptError, out: &mut W) -> u8
+    ensures { EndsRefused error result }
+{
     match error {
         ScriptError::OutOfMemory => ending::status(Err(Stop::Fault(Fault::OutOfMemory)), out),
         ScriptError::Line(number) => match writeln!(out, "script line {number}") {
@@ -45,6 +52,10 @@ pub fn refuse_script<W: Write>(error: ScriptError, out: &mut W) -> u8 {
 
 /// Runs a parsed script over a disk, and answers the exit status.
 pub fn run_lines<D: Disk, W: Write>(alloc: Global, disk: &mut D, script: &Script, out: &mut W) -> u8
+    // Status 0 only where every slot of the store can be read afterwards.
+    ensures readable { D.is_honest disk.new → result ≡ 0 → IsReadable (D.contents disk.new) }
+    // A store without a checkpoint is no fault here, and neither is the script.
+    ensures status { result ≤ 1 }
     ensures honest { D.is_honest disk.new → D.is_honest disk.old }
 {
     let ended = answer_all(alloc, disk, script, out);
@@ -57,11 +68,29 @@ fn answer_all<D: Disk, W: Write>(
     script: &Script,
     out: &mut W,
 ) -> Result<(), Stop>
+    ensures readable { D.is_honest disk.new → OnOk result (IsReadable (D.contents disk.new)) }
+    ensures empty { result ≢ Err (stop.Fault fault.EmptyChain) }
     ensures honest { D.is_honest disk.new → D.is_honest disk.old }
 {
     let (mut session, found) = open(alloc, disk)?;
     writeln!(out, "{}", Reply::Reopened(found))?;
-    for line in &script.lines {
+    answer_lines(alloc, disk, &mut session, &script.lines, out)
+}
+
+/// Answers one line after the other, and prints each answer.
+fn answer_lines<D: Disk, W: Write>(
+    alloc: Global,
+    disk: &mut D,
+    session: &mut Session,
+    lines: &[Line],
+    out: &mut W,
+) -> Result<(), Stop>
+    ensures ready { D.is_honest disk.new → IsReady (D.contents disk.old) (session.old.greatest + 1)
+        → OnOk result (IsReady (D.contents disk.new) (session.new.greatest + 1)) }
+    ensures empty { result ≢ Err (stop.Fault fault.EmptyChain) }
+    ensures honest { D.is_honest disk.new → D.is_honest disk.old }
+{
+    for line in lines {
         let reply = session.answer(alloc, disk, line)?;
         writeln!(out, "{reply}")?;
     }
@@ -70,6 +99,8 @@ fn answer_all<D: Disk, W: Write>(
 
 /// A session that goes on from what a store has, and the store's checkpoint, if it has one.
 fn open<D: Disk>(alloc: Global, disk: &mut D) -> Result<(Session, Option<u64>), Fault>
+    ensures ready { D.is_honest disk.new → IfOk result (λ opened. IsReady (D.contents disk.new) (opened.0.greatest + 1)) }
+    ensures empty { result ≢ Err Fault.EmptyChain }
     ensures same { D.contents disk.new ≡ D.contents disk.old }
     ensures honest { D.is_honest disk.new → D.is_honest disk.old }
 {

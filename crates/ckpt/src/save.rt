@@ -1,10 +1,9 @@
 //! Saving a memory: one whole dump, into the lowest free slot.
-ghost use Rattle.std.specs.Prelude.{◌≡◌, ◌≢◌, ◌<◌, ◌≤◌, ◌∷◌, ℕ, List, length, map, Some, OnOk, IsErr, IsErrOf, slice_set};
+ghost use Rattle.std.specs.Prelude.{◌≡◌, ◌≢◌, ◌+◌, ◌<◌, ◌≤◌, ◌∷◌, ℕ, List, length, map, Some, OnOk, IsErr, IsErrOf, slice_set};
 ghost use Rattle.sd_disk.specs.Failures.{HasCause};
 ghost use Rattle.sd_disk.specs.Contents.{file_at};
-ghost use Rattle.sd_image.specs.Image.{Image};
-ghost use Rattle.sd_image.specs.Shows.{IsStore, Shows};
-ghost use Rattle.sd_image.specs.Laws.{AreBelow};
+ghost use Rattle.sd_image.specs.Shows.{Shows};
+ghost use Rattle.sd_image.specs.Laws.{IsReady};
 ghost use Rattle.ckpt.specs.ImageText.{file_of};
 ghost use Rattle.ckpt.specs.Plain.{bytes_at, memory_of};
 ghost use Rattle.ckpt.specs.Slots.{raw_slots};
@@ -16,6 +15,7 @@ use crate::plain::Plain;
 use crate::save_error::SaveError;
 use crate::slot_writer::{close_body, format, write_pages};
 use sd_disk::{DeviceError, Disk};
+use sd_image::{newest_is_shown, ready_again};
 use std::alloc::Global;
 
 /// Saves a memory as the dump of the checkpoint with this number, which has to be above every checkpoint and serial of
@@ -34,8 +34,12 @@ pub fn save<D: Disk>(
     requires { 0 < number }
 
     // What is saved is what the store then shows.
-    ensures shown { D.is_honest disk.new → (images : List Image) → IsStore (D.contents disk.old) images → AreBelow number images
+    ensures shown { D.is_honest disk.new → IsReady (D.contents disk.old) number
         → OnOk result (Shows (D.contents disk.new) (Some (number, memory_of plain.now))) }
+
+    // And the store is ready for the number above.
+    ensures ready { D.is_honest disk.new → IsReady (D.contents disk.old) number
+        → OnOk result (IsReady (D.contents disk.new) (number + 1)) }
 
     // It is written into the lowest of the free slots, and nowhere else.
     ensures place { D.is_honest disk.new → OnOk result ((slot next : ℕ) (others : List ℕ) → raw_slots (D.contents disk.old) ≡ slot ∷ next ∷ others
@@ -48,6 +52,8 @@ pub fn save<D: Disk>(
     let slot = free_slot(disk)?;
     let text = image_text(alloc, plain, number)?;
     write_image(disk, slot, plain, &text)?;
+    newest_is_shown();
+    ready_again();
     Ok(())
 }
 

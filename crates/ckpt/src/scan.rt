@@ -1,7 +1,7 @@
 //! The open slots of a store.
 ghost use Rattle.std.specs.Prelude.{◌≡◌, ◌≢◌, ◌<◌, ◌≤◌, ◌++◌, ◌∷◌, [], List, ℕ, length, All, IfOk, IfErr, OnOk, IsErrOf};
 ghost use Rattle.sd_disk.specs.Contents.{file_at};
-ghost use Rattle.sd_image.specs.Image.{OpenImages};
+ghost use Rattle.sd_image.specs.Image.{Image, OpenImages};
 ghost use Rattle.sd_image.specs.Shows.{IsStore};
 ghost use Rattle.ckpt.specs.Faulty.{Names, IsFaulty, IsFirstFaulty, IsDamage};
 ghost use Rattle.ckpt.specs.Found.{IsDecoded, IsFound, images_of};
@@ -11,6 +11,7 @@ use crate::found::Found;
 use crate::serials::check_serials;
 use crate::slot_reader::read_slot;
 use sd_disk::Disk;
+use sd_image::{good_store_has_no_reason, one_store};
 use std::alloc::Global;
 
 /// Reads a slot, and puts what is in it behind the others.
@@ -70,6 +71,8 @@ fn open_slots<D: Disk>(alloc: Global, disk: &mut D) -> Result<Vec<Found>, Fault>
 pub fn scan<D: Disk>(alloc: Global, disk: &mut D) -> Result<Vec<Found>, Fault>
     ensures found { D.is_honest disk.new → IfOk result (λ found. IsStore (D.contents disk.old) (images_of (D.contents disk.old) found.items)) }
     ensures damaged { D.is_honest disk.new → IfErr result (Names (IsDamage (D.contents disk.old))) }
+    // A store in which every open slot is an image with a serial of its own is never called damaged.
+    ensures good { D.is_honest disk.new → (images : List Image) → IsStore (D.contents disk.old) images → IfErr result (Names (λ _ _. ⊥)) }
     ensures images { D.is_honest disk.new → IfOk result (λ found. All (IsFound (D.contents disk.old)) found.items) }
     ensures slots { IfOk result (λ found. All (λ one. one.slot < length (D.contents disk.old)) found.items) }
     ensures decoded { IfOk result (λ found. All IsDecoded found.items) }
@@ -79,6 +82,8 @@ pub fn scan<D: Disk>(alloc: Global, disk: &mut D) -> Result<Vec<Found>, Fault>
     ensures device { IsErrOf result Fault.Device → D.failed disk.old < D.failed disk.new }
     ensures empty { result ≢ Err Fault.EmptyChain }
 {
+    good_store_has_no_reason();
+    one_store();
     let found = open_slots(alloc, disk)?;
     check_serials(alloc, &found)?;
     Ok(found)

@@ -1,8 +1,7 @@
 //! The engine: it keeps a memory, and answers one request after the other.
 ghost use Rattle.std.specs.Prelude.{◌≡◌, ◌≢◌, ◌+◌, ◌<◌, ◌≤◌, ◌^◌, ◌↔◌, ℕ, List, Some, Ok, Err, IsErr, IfOk, OnOk, OnErr};
-ghost use Rattle.sd_image.specs.Image.{Image};
-ghost use Rattle.sd_image.specs.Shows.{IsStore, Shows};
-ghost use Rattle.sd_image.specs.Laws.{AreBelow};
+ghost use Rattle.sd_image.specs.Shows.{Shows};
+ghost use Rattle.sd_image.specs.Laws.{IsReady};
 ghost use Rattle.ckpt.specs.declared.denied.Denied.TheVariants.{Refused};
 ghost use Rattle.ckpt.specs.declared.refusal.Refusal.TheVariants.{NoSuchSpace};
 ghost use Rattle.ckpt.specs.Answers.{Does, IfBytes, Loads, reply_to};
@@ -51,12 +50,15 @@ impl Session {
 
         // A checkpoint is numbered one above the greatest number, and its memory is what the store then shows.
         ensures acked { (n : ℕ) → result ≡ Ok (Reply.Acked n) → (n ≡ self.old.greatest + 1) × (self.new.greatest ≡ n) }
-        ensures shown { D.is_honest disk.new → (n : ℕ) → result ≡ Ok (Reply.Acked n)
-            → (images : List Image) → IsStore (D.contents disk.old) images → AreBelow n images
-            → Shows (D.contents disk.new) (Some (n, memory_of self.new.plain)) }
+        ensures shown { D.is_honest disk.new → IsReady (D.contents disk.old) (self.old.greatest + 1)
+            → (n : ℕ) → result ≡ Ok (Reply.Acked n) → Shows (D.contents disk.new) (Some (n, memory_of self.new.plain)) }
+        ensures ready { D.is_honest disk.new → IsReady (D.contents disk.old) (self.old.greatest + 1)
+            → OnOk result (IsReady (D.contents disk.new) (self.new.greatest + 1)) }
 
-        // No other line touches the disk.
+        // No other line touches the disk or the numbers.
         ensures quiet { line.now ≢ Line.Checkpoint → D.contents disk.new ≡ D.contents disk.old }
+        ensures numbers { line.now ≢ Line.Checkpoint → self.new.greatest ≡ self.old.greatest }
+        ensures failed { OnErr result (result ≡ Err Fault.Device) }
         ensures device { IsErr result → D.failed disk.old < D.failed disk.new }
         ensures honest { D.is_honest disk.new → D.is_honest disk.old }
     {
@@ -70,10 +72,13 @@ impl Session {
     fn checkpoint<D: Disk>(&mut self, alloc: Global, disk: &mut D) -> Result<Reply, Fault>
         ensures numbers { result ≡ Ok (Reply.Refused Refusal.NumbersUsed) ↔ (2 ^ 63 ≤ self.old.greatest) }
         ensures acked { (n : ℕ) → result ≡ Ok (Reply.Acked n) → (n ≡ self.old.greatest + 1) × (self.new.greatest ≡ n) }
-        ensures shown { D.is_honest disk.new → (n : ℕ) → result ≡ Ok (Reply.Acked n)
-            → (images : List Image) → IsStore (D.contents disk.old) images → AreBelow n images
-            → Shows (D.contents disk.new) (Some (n, memory_of self.new.plain)) }
+        ensures shown { D.is_honest disk.new → IsReady (D.contents disk.old) (self.old.greatest + 1)
+            → (n : ℕ) → result ≡ Ok (Reply.Acked n) → Shows (D.contents disk.new) (Some (n, memory_of self.new.plain)) }
+        ensures ready { D.is_honest disk.new → IsReady (D.contents disk.old) (self.old.greatest + 1)
+            → OnOk result (IsReady (D.contents disk.new) (self.new.greatest + 1)) }
         ensures plain { self.new.plain ≡ self.old.plain }
+        ensures done { result ≢ Ok Reply.Done }
+        ensures failed { OnErr result (result ≡ Err Fault.Device) }
         ensures device { IsErr result → D.failed disk.old < D.failed disk.new }
         ensures honest { D.is_honest disk.new → D.is_honest disk.old }
     {

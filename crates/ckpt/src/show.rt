@@ -1,5 +1,9 @@
 //! Printing the memory that a store shows.
-ghost use Rattle.std.specs.Prelude.{◌≡◌};
+ghost use Rattle.std.specs.Prelude.{◌≡◌, ◌≢◌, None, Err, OnOk, OnErr};
+ghost use Rattle.sd_image.specs.Shows.{Shows};
+ghost use Rattle.ckpt.specs.declared.fault.Fault.TheVariants as fault;
+ghost use Rattle.ckpt.specs.declared.stop.Stop.TheVariants as stop;
+ghost use Rattle.ckpt.specs.Ending.{ShowsMemory};
 
 use crate::ending;
 use crate::restore::restore;
@@ -16,6 +20,9 @@ const LINE_BYTES: usize = 32;
 
 /// Prints the memory that a store shows, and answers the exit status.
 pub fn restore_to<D: Disk, W: Write>(alloc: Global, disk: &mut D, out: &mut W) -> u8
+    // Status 0 only where the store shows a memory, and 3 only where it shows that nothing was saved.
+    ensures shown { D.is_honest disk.new → result ≡ 0 → ShowsMemory (D.contents disk.old) }
+    ensures empty { D.is_honest disk.new → result ≡ 3 → Shows (D.contents disk.old) None }
     ensures same { D.contents disk.new ≡ D.contents disk.old }
     ensures honest { D.is_honest disk.new → D.is_honest disk.old }
 {
@@ -24,6 +31,8 @@ pub fn restore_to<D: Disk, W: Write>(alloc: Global, disk: &mut D, out: &mut W) -
 }
 
 fn show<D: Disk, W: Write>(alloc: Global, disk: &mut D, out: &mut W) -> Result<(), Stop>
+    ensures shown { D.is_honest disk.new → OnOk result (ShowsMemory (D.contents disk.old)) }
+    ensures empty { D.is_honest disk.new → result ≡ Err (stop.Fault fault.EmptyChain) → Shows (D.contents disk.old) None }
     ensures same { D.contents disk.new ≡ D.contents disk.old }
     ensures honest { D.is_honest disk.new → D.is_honest disk.old }
 {
@@ -31,7 +40,9 @@ fn show<D: Disk, W: Write>(alloc: Global, disk: &mut D, out: &mut W) -> Result<(
     show_snapshot(alloc, &snapshot, out)
 }
 
-fn show_snapshot<W: Write>(alloc: Global, snapshot: &Snapshot, out: &mut W) -> Result<(), Stop> {
+fn show_snapshot<W: Write>(alloc: Global, snapshot: &Snapshot, out: &mut W) -> Result<(), Stop>
+    ensures empty { result ≢ Err (stop.Fault fault.EmptyChain) }
+{
     writeln!(out, "checkpoint {}", snapshot.checkpoint)?;
     for (space, pages) in &snapshot.spaces {
         writeln!(out, "space {}", space.number())?;
@@ -45,7 +56,9 @@ fn show_areas<W: Write>(
     alloc: Global,
     pages: &BTreeMap<PageNo, SnapshotPage>,
     out: &mut W,
-) -> Result<(), Stop> {
+) -> Result<(), Stop>
+    ensures empty { result ≢ Err (stop.Fault fault.EmptyChain) }
+{
     for area in &sd_areas::areas_in(alloc, pages)? {
         let first = area.first.number() * 4096;
         let end = first.wrapping_add(area.count.wrapping_mul(4096));

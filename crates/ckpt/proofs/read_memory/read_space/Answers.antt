@@ -10,7 +10,7 @@ use Rattle.ckpt.specs.Found.{image_of, spaces_of}
 use Rattle.ckpt.specs.Reading.{AddsPages, run_places}
 use Rattle.ckpt.proofs.TakeLemmas.{taken_all}
 use Rattle.ckpt.proofs.PageLemmas.{adds_none, adds_both, bare_there}
-use Rattle.ckpt.proofs.SpaceLemmas.{others_stand, taken_parts, among_parts, run_within, reads_space}
+use Rattle.ckpt.proofs.SpaceLemmas.{others_stand, taken_parts, among_parts, run_within, run_source, reads_space}
 use Rattle.std.proofs.Common.{Contains}
 use Rattle.ckpt.proofs.MemoryLemmas.{mapped_in}
 use Rattle.ckpt.proofs.read_memory.read_space.Goals as goal
@@ -84,3 +84,10 @@ read_run-requires-clause-mapped g c = λ page among.
     let is : c.run-item.result ≡ slice_index_or runs c.loop-run.run-index c.run-item.result = rw c.deref-run-items.ensures.value at c.run-item.is in
     mapped_in c.args.space.now.areas.items page
     (subst (λ pages. Contains pages page) c.requires.covers (among_parts run_pages runs c.loop-run.run-index c.run-item.result less is page among))
+
+pub read_run-requires-clause-source : goal.read_run-requires-clause-source
+read_run-requires-clause-source g c =
+    let runs = c.args.space.now.runs.items in
+    let less : c.loop-run.run-index < length runs = rw c.deref-run-items.ensures.value at c.loop-run-test.true in
+    let is : c.run-item.result ≡ slice_index_or runs c.loop-run.run-index c.run-item.result = rw c.deref-run-items.ensures.value at c.run-item.is in
+    run_source c.args.tip.now.header.parent None runs c.loop-run.run-index c.run-item.result c.requires.runs less is
