@@ -1,0 +1,256 @@
+-- What an event makes of the bits of one page.
+use Rattle.std.proofs.Common.{◌≡◌, ◌⊎◌, ℕ, Bool, true, false, cond, nat_eq, ◌&&◌, ◌||◌, List, Option, Some, None, unwrap_or, refl, sym, ◌∙◌, ap, subst, inl, inr, arith}
+use Rattle.std.proofs.lemmas.Bool.Decides.{nat_tests}
+use Rattle.std.specs.Option.{option_map}
+use Rattle.std.specs.Ordering.{nat_cmp}
+use Rattle.std.specs.FinMap as finmap
+use Rattle.std.specs.FinMap.{get-empty}
+use Rattle.sd_areas.specs.declared.prot.Prot.{Prot}
+use Rattle.sd_areas.specs.Pages.{is_within}
+use Rattle.sd_pagetable.specs.Nested.{Table, Nested, map_values, inside, value_at, is_alive, set_within, remove_within, change_within}
+use Rattle.sd_pagetable.specs.Page.{Page, fresh_page, cleared_page, protected_page, shared_page, inherited_page, opened_page, stored_page}
+use Rattle.sd_pagetable.specs.Contents.{Contents, page_at, put_page}
+use Rattle.sd_pagetable.specs.Tracking.{Event, Mapped, Unmapped, Protected, Forked, Exited, Faulted, Tried, Stored, Cleared, Passed, Step, Opens, with_space, forked, touches, clears, opens, closes}
+use Rattle.sd_pagetable.proofs.TableLemmas.{get_removed, get-map_values, get-set_within, get-remove_within, get-change_within}
+use Rattle.sd_pagetable.proofs.NestedLemmas.{tests, value_at-insert, value_at-put}
+
+-- the page was there, and its bits are those before but where the event is one that changes them
+pub record IsKept (event : Event) (space number : ℕ) (before after : Page) : Type 0 where
+  pub soft_dirty : after.soft_dirty ≡ cond (clears space number event) false (touches space number event || before.soft_dirty)
+  pub writable : after.writable ≡ cond (closes space number event) false (opens space number event || before.writable)
+
+-- the event made the page
+pub record IsMade (event : Event) (space number : ℕ) (after : Page) : Type 0 where
+  pub touched : touches space number event ≡ true
+  pub uncleared : clears space number event ≡ false
+  pub closed : closes space number event ≡ true
+  pub soft_dirty : after.soft_dirty ≡ true
+  pub writable : after.writable ≡ false
+
+-- where a page comes from
+abbrev pub Comes : Contents → Event → ℕ → ℕ → Page → Type 0
+Comes old event space number after = ((before : Page) × (page_at old space number ≡ Some before) × IsKept event space number before after) ⊎ IsMade event space number after
+
+pub turned : (a b : ℕ) → nat_eq a b ≡ nat_eq b a
+turned a b = grind (arith, nat_tests)
+
+cases_bool : (b : Bool) → (b ≡ true) ⊎ (b ≡ false)
+cases_bool true = inl refl
+cases_bool false = inr refl
+
+same : {A : Type 0} (x y : A) → Some x ≡ Some y → x ≡ y
+same x y e = (let f : Some x ≡ Some y = e in cc)
+
+gone : {A : Type 0} (x : A) → None ≡ Some x → {B : Type 0} → B
+gone x e = absurd (let f : None ≡ Some x = e in cc)
+
+-- an event that does nothing to the page
+abbrev IsIdle : Event → ℕ → ℕ → Type 0
+IsIdle event space number = (touches space number event ≡ false) × (clears space number event ≡ false) × (opens space number event ≡ false) × (closes space number event ≡ false)
+
+idle : (event : Event) (space number : ℕ) (page : Page) → IsIdle event space number → IsKept event space number page page
+idle event space number page is = record {
+  soft_dirty = sym (ap (λ c. cond c false (touches space number event || page.soft_dirty)) is.1 ∙ ap (λ t. t || page.soft_dirty) is.0);
+  writable = sym (ap (λ c. cond c false (opens space number event || page.writable)) is.3 ∙ ap (λ o. o || page.writable) is.2);
+}
+
+kept : (old : Contents) (event : Event) (space number : ℕ) (after : Page) → page_at old space number ≡ Some after → IsIdle event space number → Comes old event space number after
+kept old event space number after there is = inl (after, there, idle event space number after is)
+
+-- what a space that has other pages has at a page
+other : (old : Contents) (s space number : ℕ) (pages : Table Page) → page_at (with_space old s pages) space number ≡ cond (nat_eq s space) (finmap.get pages number) (page_at old space number)
+other old s space number pages = value_at-insert old.spaces s pages space number ∙ ap (λ b. cond b (finmap.get pages number) (page_at old space number)) (turned space s)
+
+in_other : (s space number : ℕ) (nested : Nested Page) → nat_eq s space ≡ true → finmap.get (inside nested s) number ≡ value_at nested space number
+in_other s space number nested e = ap (λ k. finmap.get (inside nested k) number) (tests s space e)
+
+-- `mmap`
+mapped : (old : Contents) (s first count : ℕ) (prot : Prot) (space number : ℕ) (after : Page) (here within : Bool) → nat_eq s space ≡ here → is_within first count number ≡ within
+    → cond here (cond within (Some (fresh_page prot)) (finmap.get (inside old.spaces s) number)) (page_at old space number) ≡ Some after
+    → Comes old (Mapped s first count prot) space number after
+mapped old s first count prot space number after false within e f is = kept old _ space number after is (ap (λ h. h && is_within first count number) e, refl, refl, ap (λ h. h && is_within first count number) e)
+mapped old s first count prot space number after true false e f is = kept old _ space number after (sym (in_other s space number old.spaces e) ∙ is)
+    (ap (λ h. h && is_within first count number) e ∙ f, refl, refl, ap (λ h. h && is_within first count number) e ∙ f)
+mapped old s first count prot space number after true true e f is = inr (record {
+  touched = ap (λ h. h && is_within first count number) e ∙ f;
+  uncleared = refl;
+  closed = ap (λ h. h && is_within first count number) e ∙ f;
+  soft_dirty = ap (λ (p : Page). p.soft_dirty) (sym (same _ _ is));
+  writable = ap (λ (p : Page). p.writable) (sym (same _ _ is));
+})
+
+-- `munmap`
+unmapped : (old : Contents) (s first count : ℕ) (space number : ℕ) (after : Page) (here within : Bool) → nat_eq s space ≡ here → is_within first count number ≡ within
+    → cond here (cond within None (finmap.get (inside old.spaces s) number)) (page_at old space number) ≡ Some after
+    → Comes old (Unmapped s first count) space number after
+unmapped old s first count space number after false within e f is = kept old _ space number after is (refl, refl, refl, ap (λ h. h && is_within first count number) e)
+unmapped old s first count space number after true false e f is = kept old _ space number after (sym (in_other s space number old.spaces e) ∙ is)
+    (refl, refl, refl, ap (λ h. h && is_within first count number) e ∙ f)
+unmapped old s first count space number after true true e f is = gone after is
+
+-- `mprotect`
+pub changed : {A B : Type 0} (f : A → B) (o : Option A) (y : B) → option_map f o ≡ Some y → (x : A) × (o ≡ Some x) × (y ≡ f x)
+changed f None y e = gone y e
+changed f (Some x) y e = (x, refl, sym (same _ _ e))
+
+protected : (old : Contents) (s first count : ℕ) (prot : Prot) (space number : ℕ) (after : Page) (here within : Bool) → nat_eq s space ≡ here → is_within first count number ≡ within
+    → cond here (option_map (λ (p : Page). cond within (protected_page prot p) p) (finmap.get (inside old.spaces s) number)) (page_at old space number) ≡ Some after
+    → Comes old (Protected s first count prot) space number after
+protected old s first count prot space number after false within e f is = kept old _ space number after is (refl, refl, refl, ap (λ h. h && is_within first count number) e)
+protected old s first count prot space number after true false e f is =
+    let was = changed (λ (p : Page). p) _ after is in
+    kept old _ space number after (sym (in_other s space number old.spaces e) ∙ was.1 ∙ ap Some (sym was.2))
+    (refl, refl, refl, ap (λ h. h && is_within first count number) e ∙ f)
+protected old s first count prot space number after true true e f is =
+    let was = changed (λ (p : Page). protected_page prot p) _ after is in
+    inl (
+      was.0,
+      sym (in_other s space number old.spaces e) ∙ was.1,
+      record {
+        soft_dirty = ap (λ (p : Page). p.soft_dirty) was.2;
+        writable = ap (λ (p : Page). p.writable) was.2 ∙ sym (ap (λ c. cond c false was.0.writable) (ap (λ h. h && is_within first count number) e ∙ f));
+      },
+    )
+
+-- `fork`
+forked_page : (old : Contents) (parent child : ℕ) (space number : ℕ) (after : Page) (is_child is_parent : Bool) → nat_eq child space ≡ is_child → nat_eq parent space ≡ is_parent
+    → cond is_child (option_map inherited_page (finmap.get (inside old.spaces parent) number))
+    (cond is_parent (option_map shared_page (finmap.get (inside old.spaces parent) number)) (page_at old space number)) ≡ Some after
+    → Comes old (Forked parent child) space number after
+forked_page old parent child space number after true is_parent e f is =
+    let was = changed inherited_page _ after is in
+    inr (record {
+      touched = e;
+      uncleared = refl;
+      closed = either (nat_eq parent space) (nat_eq child space) e;
+      soft_dirty = ap (λ (p : Page). p.soft_dirty) was.2;
+      writable = ap (λ (p : Page). p.writable) was.2;
+    })
+  where
+    either : (a b : Bool) → b ≡ true → (a || b) ≡ true
+    either true b e = refl
+    either false b e = e
+forked_page old parent child space number after false true e f is =
+    let was = changed shared_page _ after is in
+    inl (
+      was.0,
+      sym (in_other parent space number old.spaces f) ∙ was.1,
+      record {
+        soft_dirty = ap (λ (p : Page). p.soft_dirty) was.2 ∙ sym (ap (λ t. t || was.0.soft_dirty) e);
+        writable = ap (λ (p : Page). p.writable) was.2 ∙ sym (ap (λ c. cond (c || nat_eq child space) false was.0.writable) f);
+      },
+    )
+forked_page old parent child space number after false false e f is = kept old _ space number after is (e, refl, refl, ap (λ a. a || nat_eq child space) f ∙ e)
+
+-- `exit`
+exited : (old : Contents) (s : ℕ) (space number : ℕ) (after : Page) (here : Bool) → nat_eq s space ≡ here
+    → cond here None (page_at old space number) ≡ Some after → Comes old (Exited s) space number after
+exited old s space number after true e is = gone after is
+exited old s space number after false e is = kept old _ space number after is (refl, refl, refl, refl)
+
+-- a fault or a store
+opened : (old : Contents) (s p : ℕ) (event : Event) (bytes : List ℕ) (class : ℕ) (space number : ℕ) (before after : Page) (here : Bool)
+    → touches space number event ≡ (nat_eq s space && nat_eq p number) → opens space number event ≡ (nat_eq s space && nat_eq p number)
+    → clears space number event ≡ false → closes space number event ≡ false
+    → page_at old s p ≡ Some before → (nat_eq s space && nat_eq p number) ≡ here
+    → cond here (Some (opened_page before class bytes)) (page_at old space number) ≡ Some after → Comes old event space number after
+opened old s p event bytes class space number before after false t o c d there e is = kept old event space number after is (t ∙ e, c, o ∙ e, d)
+opened old s p event bytes class space number before after true t o c d there e is =
+    inl (
+      before,
+      at_page s p space number e ∙ there,
+      record {
+        soft_dirty = ap (λ (q : Page). q.soft_dirty) (sym (same _ _ is)) ∙ sym (ap (λ b. cond b false (touches space number event || before.soft_dirty)) c ∙ ap (λ b. b || before.soft_dirty) (t ∙ e));
+        writable = ap (λ (q : Page). q.writable) (sym (same _ _ is)) ∙ sym (ap (λ b. cond b false (opens space number event || before.writable)) d ∙ ap (λ b. b || before.writable) (o ∙ e));
+      },
+    )
+  where
+    left_of : (a b : Bool) → (a && b) ≡ true → a ≡ true
+    left_of true b e = refl
+    left_of false b e = e
+
+    right_of : (a b : Bool) → (a && b) ≡ true → b ≡ true
+    right_of true b e = e
+    right_of false b e = absurd (let f : false ≡ true = e in cc)
+
+    at_page : (s p space number : ℕ) → (nat_eq s space && nat_eq p number) ≡ true → page_at old space number ≡ page_at old s p
+    at_page s p space number e =
+        ap (λ k. page_at old k number) (sym (tests s space (left_of (nat_eq s space) (nat_eq p number) e)))
+        ∙ ap (λ k. page_at old s k) (sym (tests p number (right_of (nat_eq s space) (nat_eq p number) e)))
+
+-- a store to a writable page, and a clear
+replaced : (old : Contents) (s p : ℕ) (event : Event) (space number : ℕ) (before page after : Page) (here : Bool)
+    → ((nat_eq s space && nat_eq p number) ≡ true → IsKept event space number before page) → ((nat_eq s space && nat_eq p number) ≡ false → IsIdle event space number)
+    → page_at old s p ≡ Some before → (nat_eq s space && nat_eq p number) ≡ here
+    → cond here (Some page) (page_at old space number) ≡ Some after → Comes old event space number after
+replaced old s p event space number before page after false k i there e is = kept old event space number after is (i e)
+replaced old s p event space number before page after true k i there e is =
+    inl (before, at_page s p space number e ∙ there, subst (IsKept event space number before) (same _ _ is) (k e))
+  where
+    left_of : (a b : Bool) → (a && b) ≡ true → a ≡ true
+    left_of true b e = refl
+    left_of false b e = e
+
+    right_of : (a b : Bool) → (a && b) ≡ true → b ≡ true
+    right_of true b e = e
+    right_of false b e = absurd (let f : false ≡ true = e in cc)
+
+    at_page : (s p space number : ℕ) → (nat_eq s space && nat_eq p number) ≡ true → page_at old space number ≡ page_at old s p
+    at_page s p space number e =
+        ap (λ k. page_at old k number) (sym (tests s space (left_of (nat_eq s space) (nat_eq p number) e)))
+        ∙ ap (λ k. page_at old s k) (sym (tests p number (right_of (nat_eq s space) (nat_eq p number) e)))
+
+put : (old : Contents) (s p : ℕ) (page : Page) (space number : ℕ) → page_at (put_page old s p page) space number ≡ cond (nat_eq s space && nat_eq p number) (Some page) (page_at old space number)
+put old s p page space number = value_at-put old.spaces s p page space number
+    ∙ ap (λ b. cond (b && nat_eq number p) (Some page) (page_at old space number)) (turned space s)
+    ∙ ap (λ b. cond (nat_eq s space && b) (Some page) (page_at old space number)) (turned number p)
+
+-- where a page of a memory comes from, by the event that led there; before it, what is writable has to be soft-dirty
+pub comes : (old new : Contents) (event : Event) (space number : ℕ) (after : Page)
+    → ((s p : ℕ) (page : Page) → page_at old s p ≡ Some page → page.writable ≡ true → page.soft_dirty ≡ true)
+    → Step old event new → page_at new space number ≡ Some after → Comes old event space number after
+comes old new (Mapped s first count prot) space number after dirty step there =
+    mapped old s first count prot space number after _ _ refl refl
+    (sym (other old s space number _ ∙ ap (λ o. cond (nat_eq s space) o (page_at old space number)) (get-set_within (inside old.spaces s) first count (fresh_page prot) number))
+    ∙ ap (λ c. page_at c space number) (sym step) ∙ there)
+comes old new (Unmapped s first count) space number after dirty step there =
+    unmapped old s first count space number after _ _ refl refl
+    (sym (other old s space number _ ∙ ap (λ o. cond (nat_eq s space) o (page_at old space number)) (get-remove_within (inside old.spaces s) first count number))
+    ∙ ap (λ c. page_at c space number) (sym step) ∙ there)
+comes old new (Protected s first count prot) space number after dirty step there =
+    protected old s first count prot space number after _ _ refl refl
+    (sym (other old s space number _ ∙ ap (λ o. cond (nat_eq s space) o (page_at old space number)) (get-change_within (protected_page prot) (inside old.spaces s) first count number))
+    ∙ ap (λ c. page_at c space number) (sym step) ∙ there)
+comes old new (Forked parent child) space number after dirty step there =
+    forked_page old parent child space number after _ _ refl refl
+    (sym (other (with_space old parent (map_values shared_page (inside old.spaces parent))) child space number _
+    ∙ ap (λ o. cond (nat_eq child space) o (page_at (with_space old parent (map_values shared_page (inside old.spaces parent))) space number)) (get-map_values inherited_page (inside old.spaces parent) number)
+    ∙ ap (cond (nat_eq child space) (option_map inherited_page (finmap.get (inside old.spaces parent) number)))
+    (other old parent space number _ ∙ ap (λ o. cond (nat_eq parent space) o (page_at old space number)) (get-map_values shared_page (inside old.spaces parent) number)))
+    ∙ ap (λ c. page_at c space number) (sym step.1) ∙ there)
+comes old new (Exited s) space number after dirty step there =
+    exited old s space number after _ refl (sym (removed s space number) ∙ ap (λ c. page_at c space number) (sym step) ∙ there)
+  where
+    taken : (number : ℕ) (b : Bool) (o : Option (Table Page)) → finmap.get (unwrap_or (cond b None o) finmap.empty) number ≡ cond b None (finmap.get (unwrap_or o finmap.empty) number)
+    taken number true o = get-empty nat_cmp number
+    taken number false o = refl
+
+    removed : (s space number : ℕ) → page_at (record { pool = old.pool; spaces = finmap.remove old.spaces s }) space number ≡ cond (nat_eq s space) None (page_at old space number)
+    removed s space number = ap (λ o. finmap.get (unwrap_or o finmap.empty) number) (get_removed old.spaces s space ∙ ap (λ b. cond b None (finmap.get old.spaces space)) (turned space s)) ∙ taken number (nat_eq s space) (finmap.get old.spaces space)
+comes old new (Faulted s p) space number after dirty step there =
+    opened old s p (Faulted s p) step.0.bytes step.1 space number step.0 after _ refl refl refl refl step.2 refl
+    (sym (put old s p _ space number) ∙ ap (λ c. page_at c space number) (sym step.4) ∙ there)
+comes old new (Stored s p offset bytes) space number after dirty step there =
+    opened old s p (Stored s p offset bytes) _ step.1 space number step.0 after _ refl refl refl refl step.2 refl
+    (sym (put old s p _ space number) ∙ ap (λ c. page_at c space number) (sym step.4) ∙ there)
+comes old new (Tried s p offset bytes) space number after dirty step there =
+    replaced old s p (Tried s p offset bytes) space number step.0 _ after _
+    (λ e. record { soft_dirty = dirty s p step.0 step.1 step.2 ∙ sym (ap (λ b. b || step.0.soft_dirty) e); writable = refl })
+    (λ e. (e, refl, refl, refl)) step.1 refl
+    (sym (put old s p _ space number) ∙ ap (λ c. page_at c space number) (sym step.3) ∙ there)
+comes old new (Cleared s p) space number after dirty step there =
+    replaced old s p (Cleared s p) space number step.0 _ after _
+    (λ e. record { soft_dirty = sym (ap (λ b. cond b false step.0.soft_dirty) e); writable = sym (ap (λ b. cond b false step.0.writable) e) })
+    (λ e. (refl, e, refl, e)) step.1 refl
+    (sym (put old s p _ space number) ∙ ap (λ c. page_at c space number) (sym step.2) ∙ there)
+comes old new Passed space number after dirty step there = kept old Passed space number after (ap (λ c. page_at c space number) (sym step) ∙ there) (refl, refl, refl, refl)

@@ -1,0 +1,80 @@
+-- The tracking law over whole histories.
+use Rattle.std.proofs.Common.{◌≡◌, ◌⊎◌, ℕ, ◌%◌, Bool, true, false, not, cond, nat_eq, ◌&&◌, ◌||◌, List, [], ◌∷◌, Option, Some, None, Ok, Err, refl, sym, ◌∙◌, ap, subst, inl, inr}
+use Rattle.std.specs.Option.{option_map, option_map_or}
+use Rattle.sd_areas.specs.Pages.{page_of}
+use Rattle.sd_pagetable.specs.Page.{Page, plain_page}
+use Rattle.sd_pagetable.specs.Contents.{Contents, page_at, plain_of}
+use Rattle.sd_pagetable.specs.Tracking.{Event, Step, Run, Tracks, IsBeginning, BitsLaw, TryLaw, touches, clears, opens, closes, is_dirty, is_open}
+use Rattle.std.specs.Prelude.{Result}
+use Rattle.sd_areas.specs.PlainMemory as plain
+use Rattle.sd_pagetable.specs.declared.denied.Denied.{Denied}
+use Rattle.sd_pagetable.specs.declared.denied.Denied.TheVariants.{Refused}
+use Rattle.sd_pagetable.specs.declared.refusal.Refusal.TheVariants.{Einval, NoSuchSpace}
+use Rattle.sd_pagetable.specs.declared.need.Need.TheVariants.{Write}
+use Rattle.sd_pagetable.specs.declared.tried.Tried.{Tried}
+use Rattle.sd_pagetable.specs.declared.tried.Tried.TheVariants.{Done, NeedsFault}
+use Rattle.sd_pagetable.specs.Nested.{value_at, is_alive}
+use Rattle.sd_pagetable.specs.Access.{is_bad_access}
+use Rattle.sd_pagetable.specs.Due.{access_due, answer, page_due, tried, tried_reply}
+use Rattle.sd_pagetable.proofs.LawEvents.{Comes, comes, changed}
+use Rattle.sd_pagetable.proofs.NestedLemmas.{value_at-map}
+use Rattle.sd_pagetable.proofs.LawTests.{dirty_more, open_more, open_is_dirty}
+
+step_tracks : (history : List Event) (event : Event) (old new : Contents) → Tracks history old → Step old event new → Tracks (event ∷ history) new
+step_tracks history event old new tracks step = record {
+  soft_dirty = λ space number page there. dirty_then space number page (comes old new event space number page dirty step there);
+  writable = λ space number page there. open_then space number page (comes old new event space number page dirty step there);
+}
+  where
+    dirty : (s p : ℕ) (page : Page) → page_at old s p ≡ Some page → page.writable ≡ true → page.soft_dirty ≡ true
+    dirty s p page there is = tracks.soft_dirty s p page there ∙ open_is_dirty history s p (sym (tracks.writable s p page there) ∙ is)
+
+    dirty_then : (space number : ℕ) (page : Page) → Comes old event space number page → page.soft_dirty ≡ is_dirty (event ∷ history) space number
+    dirty_then space number page (inl k) = k.2.soft_dirty
+        ∙ ap (λ b. cond (clears space number event) false (touches space number event || b)) (tracks.soft_dirty space number k.0 k.1) ∙ sym (dirty_more event history space number)
+    dirty_then space number page (inr m) = m.soft_dirty
+        ∙ sym (dirty_more event history space number ∙ ap (λ c. cond c false (touches space number event || is_dirty history space number)) m.uncleared ∙ ap (λ t. t || is_dirty history space number) m.touched)
+
+    open_then : (space number : ℕ) (page : Page) → Comes old event space number page → page.writable ≡ is_open (event ∷ history) space number
+    open_then space number page (inl k) = k.2.writable
+        ∙ ap (λ b. cond (closes space number event) false (opens space number event || b)) (tracks.writable space number k.0 k.1) ∙ sym (open_more event history space number)
+    open_then space number page (inr m) = m.writable
+        ∙ sym (open_more event history space number ∙ ap (λ c. cond c false (opens space number event || is_open history space number)) m.closed)
+
+pub bits_law : BitsLaw
+bits_law start end [] beginning run = record {
+  soft_dirty = λ space number page there. (beginning space number page (ap (λ c. page_at c space number) (sym run) ∙ there)).0;
+  writable = λ space number page there. (beginning space number page (ap (λ c. page_at c space number) (sym run) ∙ there)).1;
+}
+bits_law start end (event ∷ history) beginning run = step_tracks history event run.0 end (bits_law start run.0 history beginning run.1) run.2
+
+-- a permitted page is mapped
+permitted : (alive bad : Bool) (found : Option plain.Page) → cond alive (cond bad (Some (Refused Einval)) (page_due Write found)) (Some (Refused NoSuchSpace)) ≡ None → (page : plain.Page) × (found ≡ Some page)
+permitted false bad found e = absurd (let f : Some (Refused NoSuchSpace) ≡ None = e in cc)
+permitted true true found e = absurd (let f : Some (Refused Einval) ≡ None = e in cc)
+permitted true false None e = absurd (let f : page_due Write None ≡ None = e in cc)
+permitted true false (Some page) e = (page, refl)
+
+mapped_there : (contents : Contents) (space address bytes : ℕ) → access_due (plain_of contents) space address bytes Write ≡ None → (page : Page) × (page_at contents space (page_of address) ≡ Some page)
+unfolding plain_of
+mapped_there contents space address bytes allowed =
+    let there = permitted _ _ (value_at (plain_of contents) space (page_of address)) allowed in
+    let page = changed plain_page (page_at contents space (page_of address)) there.0 (sym (value_at-map plain_page contents.spaces space (page_of address)) ∙ there.1) in
+    (page.0, page.1)
+
+abbrev replied : Bool → Result Tried Denied
+replied b = Ok (tried_reply b)
+
+needs_fault : (b : Bool) → replied b ≡ Ok NeedsFault → b ≡ false
+needs_fault true e = absurd (let f : Ok Done ≡ Ok NeedsFault = e in cc)
+needs_fault false e = refl
+
+pub try_law : TryLaw
+try_law start end history space address bytes beginning run allowed =
+    let number = page_of address in
+    let there = mapped_there end space address bytes allowed in
+    let writable = (bits_law start end history beginning run).writable space number there.0 there.1 in
+    let reply : tried end space address bytes ≡ replied (is_open history space number) =
+    ap (λ d. answer d (tried_reply (option_map_or (λ (page : Page). page.writable) (page_at end space number) false))) allowed
+    ∙ ap (λ o. replied (option_map_or (λ (page : Page). page.writable) o false)) there.1 ∙ ap replied writable in
+    (λ e. needs_fault (is_open history space number) (sym reply ∙ e), λ e. reply ∙ ap replied e)

@@ -1,0 +1,229 @@
+-- A memory as plain memory, with its areas.
+use Rattle.std.proofs.Common.{◌≡◌, ◌⊎◌, ℕ, ◌+◌, ◌<◌, ◌≤◌, ◌^◌, ◌%◌, Bool, true, false, not, cond, nat_eq, ◌&&◌, ◌||◌, is_some, List, [], length, Option, Some, None, IsSome, unwrap_or, refl, sym, ◌∙◌, ap, subst, inl, inr, arith}
+use Rattle.std.proofs.lemmas.Bool.{cases_Bool, cond-true, cond-false, or_parts, ltb-false, and_from}
+use Rattle.std.proofs.lemmas.Bool.Decides.{nat_tests}
+use Rattle.std.specs.Option.{option_map, option_map_or}
+use Rattle.std.specs.Ordering.{nat_cmp, is_eq}
+use Rattle.std.specs.FinMap.{get-empty}
+use Rattle.std.specs.Map.{lookup}
+use Rattle.std.specs.BTreeMap.{is_at}
+use Rattle.std.specs.BTreeMap.{BTreeMap, get}
+use Rattle.std.specs.FinMap as finmap
+use Rattle.sd_areas.specs.Areas.{PageMap}
+use Rattle.sd_areas.specs.Pages.{page_of}
+use Rattle.sd_areas.specs.declared.prot.Prot.{Prot}
+use Rattle.sd_areas.specs.PlainMemory as plain
+use Rattle.sd_pagetable.specs.declared.need.Need.{Need}
+use Rattle.sd_pagetable.specs.declared.need.Need.TheVariants.{Read, Write}
+use Rattle.sd_pagetable.specs.declared.denied.Denied.{Denied}
+use Rattle.sd_pagetable.specs.declared.denied.Denied.TheVariants.{Segv as Stopped, Refused}
+use Rattle.sd_pagetable.specs.declared.segv.Segv.TheVariants.{Maperr, Accerr}
+use Rattle.sd_pagetable.specs.declared.entry.Entry.{Entry}
+use Rattle.sd_pagetable.specs.Nested.{Table, Nested, map_values, inside, value_at, is_alive, put_at}
+use Rattle.sd_pagetable.specs.Page.{Page, plain_page, opened_page, stored_page}
+use Rattle.sd_pagetable.specs.Contents.{Contents, page_at, put_page, plain_of}
+use Rattle.sd_pagetable.specs.View.{entry_of}
+use Rattle.sd_pagetable.specs.Access.{allows, stored_at, is_bad_access}
+use Rattle.sd_pagetable.specs.declared.refusal.Refusal.TheVariants.{NoSuchSpace, Einval}
+use Rattle.sd_pagetable.specs.Effects.{after_store}
+use Rattle.sd_pagetable.specs.Due.{page_due, access_due, fault_due, frame_due, or_else, Answers}
+use Rattle.sd_pagetable.specs.Tracking.{Opens}
+use Rattle.std.specs.Prelude.{Result, Ok, Err, OnOk, OnErr, IfSome}
+use Rattle.sd_pagetable.specs.declared.memory_error.MemoryError.{MemoryError}
+use Rattle.sd_pagetable.specs.declared.memory_error.MemoryError.TheVariants.{Denied as DeniedError}
+use Rattle.sd_pagetable.specs.Kept.{prots_of, HasAreas}
+use Rattle.sd_pagetable.proofs.TableLemmas.{turned_test, map_values-empty, get_put, map_values-insert, same_again, turned_in, some_of, get-map_values}
+use Rattle.sd_pagetable.proofs.NestedLemmas.{same_nested, value_at-put, alive-put, alive-put_same, value_at-map, alive-map, alive_at, tests}
+
+pub plain_alive : (m : Contents) (s : ℕ) → is_alive (plain_of m) s ≡ is_alive m.spaces s
+unfolding plain_of
+plain_alive m s = alive-map plain_page m.spaces s
+
+pub plain_at : (m : Contents) (s p : ℕ) → value_at (plain_of m) s p ≡ option_map plain_page (page_at m s p)
+unfolding plain_of
+plain_at m s p = value_at-map plain_page m.spaces s p
+
+-- ---- what is put
+pub map_put : {X Y : Type 0} (f : X → Y) (m : Nested X) (s p : ℕ) (x : X) → map_values (map_values f) (put_at m s p x) ≡ put_at (map_values (map_values f) m) s p (f x)
+map_put f m s p x = same_nested _ _
+    (λ q. alive-map f (put_at m s p x) q ∙ alive-put m s p x q ∙ ap (λ b. nat_eq q s || b) (sym (alive-map f m q)) ∙ sym (alive-put (map_values (map_values f) m) s p (f x) q))
+    (λ q r. value_at-map f (put_at m s p x) q r ∙ ap (option_map f) (value_at-put m s p x q r) ∙ turned_in (nat_eq q s && nat_eq r p) f x (value_at m q r)
+    ∙ ap (cond (nat_eq q s && nat_eq r p) (Some (f x))) (sym (value_at-map f m q r)) ∙ sym (value_at-put (map_values (map_values f) m) s p (f x) q r))
+
+pub put_again : {X : Type 0} (m : Nested X) (s p : ℕ) (x : X) → value_at m s p ≡ Some x → put_at m s p x ≡ m
+put_again m s p x h = same_nested _ _ (λ q. alive-put_same m s p x q (alive_at m s p x h)) (λ q r. value_at-put m s p x q r ∙ here q r)
+  where
+    here : (q r : ℕ) → cond (nat_eq q s && nat_eq r p) (Some x) (value_at m q r) ≡ value_at m q r
+    here q r = elim (cases_Bool (nat_eq q s && nat_eq r p)) [
+      | inl b ↦ ap (λ b. cond b (Some x) (value_at m q r)) b ∙ sym (ap (λ a. value_at m a r) (let g : q ≡ s = grind (arith, nat_tests) in g) ∙ ap (value_at m s) (let g : r ≡ p = grind (arith, nat_tests) in g) ∙ h)
+      | inr o ↦ ap (λ b. cond b (Some x) (value_at m q r)) o
+    ]
+
+pub plain_put : (m : Contents) (s p : ℕ) (x : Page) → plain_of (put_page m s p x) ≡ put_at (plain_of m) s p (plain_page x)
+unfolding plain_of
+plain_put m s p x = map_put plain_page m.spaces s p x
+
+-- the same permissions and bytes
+pub plain_same : (m : Contents) (s p : ℕ) (x y : Page) → page_at m s p ≡ Some x → plain_page y ≡ plain_page x → plain_of (put_page m s p y) ≡ plain_of m
+plain_same m s p x y h e = plain_put m s p y ∙ ap (put_at (plain_of m) s p) e ∙ put_again (plain_of m) s p (plain_page x) (plain_at m s p ∙ ap (option_map plain_page) h)
+
+-- a page with other bytes
+pub plain_stored : (m : Contents) (s address : ℕ) (bytes : List ℕ) (x y : Page) → page_at m s (page_of address) ≡ Some x → plain_page y ≡ record { prot = x.prot; bytes = stored_at x.bytes (address % 4096) bytes }
+    → plain_of (put_page m s (page_of address) y) ≡ after_store (plain_of m) s address bytes
+plain_stored m s address bytes x y h e =
+    let there : value_at (plain_of m) s (page_of address) ≡ Some (plain_page x) = plain_at m s (page_of address) ∙ ap (option_map plain_page) h in
+    plain_put m s (page_of address) y ∙ ap (put_at (plain_of m) s (page_of address)) e
+    ∙ sym (ap (λ (o : Option plain.Page). option_map_or (λ (page : plain.Page). put_at (plain_of m) s (page_of address) (record page { bytes = stored_at page.bytes (address % 4096) bytes })) o (plain_of m)) there)
+
+-- ---- areas
+inside_alive : (o : Option (Table Page)) → is_some o ≡ true → o ≡ Some (unwrap_or o finmap.empty)
+inside_alive None e = absurd (let f : false ≡ true = e in cc)
+inside_alive (Some t) e = refl
+
+pub areas_put : (areas : BTreeMap ℕ PageMap) (m : Contents) (s p : ℕ) (x y : Page) → HasAreas areas m → page_at m s p ≡ Some x → y.prot ≡ x.prot → HasAreas areas (put_page m s p y)
+unfolding put_at
+areas_put areas m s p x y h there same q =
+    let t = inside m.spaces s in
+    let alive : finmap.get m.spaces s ≡ Some t = inside_alive (finmap.get m.spaces s) (alive_at m.spaces s p x there) in
+    let f : Page → Prot = λ page. page.prot in
+    let prots : prots_of (finmap.insert t p y) ≡ prots_of t = map_values-insert f t p y ∙ ap (finmap.insert (map_values f t) p) same ∙ same_again (map_values f t) p x.prot (get-map_values f t p ∙ ap (option_map f) there) in
+    h q ∙ sym (ap (option_map prots_of) (get_put m.spaces s (finmap.insert t p y) q) ∙ (elim (cases_Bool (nat_eq q s)) [
+      | inl here ↦ ap (λ b. option_map prots_of (cond b (Some (finmap.insert t p y)) (finmap.get m.spaces q))) here ∙ ap Some prots ∙ sym (ap (option_map prots_of) (ap (finmap.get m.spaces) (tests q s here) ∙ alive))
+      | inr other ↦ ap (λ b. option_map prots_of (cond b (Some (finmap.insert t p y)) (finmap.get m.spaces q))) other
+    ]))
+
+-- ---- pages
+seen_page : (o : Option Page) (e : Entry) → option_map entry_of o ≡ Some e → (x : Page) × (o ≡ Some x) × (entry_of x ≡ e)
+seen_page None e h = absurd (let f : ◌≡◌ {A = Option Entry} None (Some e) = h in cc)
+seen_page (Some x) e h = (x, refl, (let f : ◌≡◌ {A = Option Entry} (Some (entry_of x)) (Some e) = h in cc))
+
+pub page_of_seen : (m : Contents) (s p : ℕ) (e : Entry) → option_map entry_of (page_at m s p) ≡ Some e → (x : Page) × (page_at m s p ≡ Some x) × (entry_of x ≡ e)
+page_of_seen m s p e h = seen_page (page_at m s p) e h
+
+none_seen_page : (o : Option Page) → option_map entry_of o ≡ None → o ≡ None
+none_seen_page None h = refl
+none_seen_page (Some x) h = absurd (let f : ◌≡◌ {A = Option Entry} (Some (entry_of x)) None = h in cc)
+
+pub no_page_seen : (m : Contents) (s p : ℕ) → option_map entry_of (page_at m s p) ≡ None → page_at m s p ≡ None
+no_page_seen m s p h = none_seen_page (page_at m s p) h
+
+-- what is due at a page, by the page
+pub due_none : (m : Contents) (s p : ℕ) (need : Need) → page_at m s p ≡ None → page_due need (value_at (plain_of m) s p) ≡ Some (Stopped Maperr)
+due_none m s p Read h = ap (page_due Read) (plain_at m s p ∙ ap (option_map plain_page) h)
+due_none m s p Write h = ap (page_due Write) (plain_at m s p ∙ ap (option_map plain_page) h)
+
+pub due_some : (m : Contents) (s p : ℕ) (need : Need) (x : Page) → page_at m s p ≡ Some x → page_due need (value_at (plain_of m) s p) ≡ cond (allows need x.prot) None (Some (Stopped Accerr))
+due_some m s p Read x h = ap (page_due Read) (plain_at m s p ∙ ap (option_map plain_page) h)
+due_some m s p Write x h = ap (page_due Write) (plain_at m s p ∙ ap (option_map plain_page) h)
+
+-- a page that may be accessed
+pub permitted_page : (m : Contents) (s p : ℕ) (need : Need) → page_due need (value_at (plain_of m) s p) ≡ None → (x : Page) × (page_at m s p ≡ Some x) × (allows need x.prot ≡ true)
+permitted_page m s p need h = by_page (page_at m s p) refl
+  where
+    stopped : (d : Denied) → ◌≡◌ {A = Option Denied} (Some d) None → ⊥
+    stopped d e = cc
+
+    by_prot : (x : Page) → page_at m s p ≡ Some x → (b : Bool) → allows need x.prot ≡ b → (y : Page) × (page_at m s p ≡ Some y) × (allows need y.prot ≡ true)
+    by_prot x e true a = (x, e, a)
+    by_prot x e false a = absurd (stopped (Stopped Accerr) (sym (due_some m s p need x e ∙ ap (λ b. cond b None (Some (Stopped Accerr))) a) ∙ h))
+
+    by_page : (o : Option Page) → page_at m s p ≡ o → (x : Page) × (page_at m s p ≡ Some x) × (allows need x.prot ≡ true)
+    by_page None e = absurd (stopped (Stopped Maperr) (sym (due_none m s p need e) ∙ h))
+    by_page (Some x) e = by_prot x e (allows need x.prot) refl
+
+-- ---- what is due, by what the code has tested
+pub access_dead : (m : Contents) (s address bytes : ℕ) (need : Need) → is_alive m.spaces s ≡ false → access_due (plain_of m) s address bytes need ≡ Some (Refused NoSuchSpace)
+access_dead m s address bytes need h = cond-false _ _ _ (plain_alive m s ∙ h)
+
+pub access_bad : (m : Contents) (s address bytes : ℕ) (need : Need) → is_alive m.spaces s ≡ true → is_bad_access address bytes ≡ true → access_due (plain_of m) s address bytes need ≡ Some (Refused Einval)
+access_bad m s address bytes need h b = cond-true _ _ _ (plain_alive m s ∙ h) ∙ cond-true _ _ _ b
+
+pub access_at : (m : Contents) (s address bytes : ℕ) (need : Need) → is_alive m.spaces s ≡ true → is_bad_access address bytes ≡ false → access_due (plain_of m) s address bytes need ≡ page_due need (value_at (plain_of m) s (page_of address))
+access_at m s address bytes need h b = cond-true _ _ _ (plain_alive m s ∙ h) ∙ cond-false _ _ _ b
+
+pub access_within : (address bytes : ℕ) → is_bad_access address bytes ≡ false → address % 4096 + bytes ≤ 4096
+access_within address bytes h = let p = or_parts _ _ h in ltb-false 4096 (address % 4096 + bytes) p.1
+
+-- ---- faults
+same_key : (k : ℕ) → nat_eq k k ≡ true
+same_key k = grind (arith, nat_tests)
+
+pub at_put_here : (m : Contents) (s p : ℕ) (x : Page) → page_at (put_page m s p x) s p ≡ Some x
+at_put_here m s p x = value_at-put m.spaces s p x s p ∙ cond-true _ _ _ (and_from _ _ (same_key s) (same_key p))
+
+over : {X : Type 0} (b : Bool) (x y o : Option X) → cond b y (cond b x o) ≡ cond b y o
+over true x y o = refl
+over false x y o = refl
+
+pub put_twice : (m : Contents) (s p : ℕ) (x y : Page) → put_page (put_page m s p x) s p y ≡ put_page m s p y
+put_twice m s p x y = λ i. record { pool = m.pool; spaces = twice i }
+  where
+    twice : put_at (put_at m.spaces s p x) s p y ≡ put_at m.spaces s p y
+    twice = same_nested _ _
+        (λ q. alive-put (put_at m.spaces s p x) s p y q ∙ ap (λ b. nat_eq q s || b) (alive-put m.spaces s p x q) ∙ or_again (nat_eq q s) (is_alive m.spaces q) ∙ sym (alive-put m.spaces s p y q))
+        (λ q r. value_at-put (put_at m.spaces s p x) s p y q r ∙ ap (cond (nat_eq q s && nat_eq r p) (Some y)) (value_at-put m.spaces s p x q r) ∙ over (nat_eq q s && nat_eq r p) (Some x) (Some y) (value_at m.spaces q r) ∙ sym (value_at-put m.spaces s p y q r))
+      where
+        or_again : (a b : Bool) → (a || (a || b)) ≡ (a || b)
+        or_again true b = refl
+        or_again false b = refl
+
+pub either_result : {T E : Type 0} (r : Result T E) (P Q R : Type 0) → OnOk r P → OnErr r Q → (P → R) → (Q → R) → R
+either_result (Ok x) P Q R p q f g = f p
+either_result (Err e) P Q R p q f g = g q
+
+pub fault_dead : (m : Contents) (s address : ℕ) → is_alive m.spaces s ≡ false → fault_due m s address ≡ Some (Refused NoSuchSpace)
+fault_dead m s address h = ap (λ o. or_else o (frame_due m (page_at m s (page_of address)))) (cond-false _ _ _ (plain_alive m s ∙ h))
+
+pub fault_stopped : (m : Contents) (s address : ℕ) (d : Denied) → is_alive m.spaces s ≡ true → page_due Write (value_at (plain_of m) s (page_of address)) ≡ Some d → fault_due m s address ≡ Some d
+fault_stopped m s address d h e = ap (λ o. or_else o (frame_due m (page_at m s (page_of address)))) (cond-true _ _ _ (plain_alive m s ∙ h) ∙ e)
+
+pub fault_goes : (m : Contents) (s address : ℕ) → is_alive m.spaces s ≡ true → page_due Write (value_at (plain_of m) s (page_of address)) ≡ None → fault_due m s address ≡ frame_due m (page_at m s (page_of address))
+fault_goes m s address h e = ap (λ o. or_else o (frame_due m (page_at m s (page_of address)))) (cond-true _ _ _ (plain_alive m s ∙ h) ∙ e)
+
+pub answers_err : (due : Option Denied) (d : Denied) (e : MemoryError) (r : Result (Unit {0}) MemoryError) → due ≡ Some d → e ≡ DeniedError d → r ≡ Err e → Answers due r
+answers_err due d e r h is was = subst (λ (x : Result (Unit {0}) MemoryError). Answers due x) (sym (was ∙ ap Err is)) h
+
+-- what a fault needs
+pub write_there : (m n : Contents) (s p q : ℕ) → n ≡ m → q ≡ p → page_due Write (value_at (plain_of m) s p) ≡ None → (x : Page) × (page_at n s q ≡ Some x) × (x.prot.write ≡ true)
+write_there m n s p q v e h =
+    let x = permitted_page m s p Write h in
+    (x.0, ap (page_at n s) e ∙ ap (λ (z : Contents). page_at z s p) v ∙ x.1, x.2)
+
+-- a fault leaves the plain memory
+pub plain_opened : (m n : Contents) (s p : ℕ) → Opens m s p (λ bytes. bytes) n → plain_of n ≡ plain_of m
+plain_opened m n s p (x, k, there, own, is) = ap plain_of is ∙ plain_same m s p x (opened_page x k x.bytes) there refl
+
+-- and a store behind it is a store
+pub opened_there : (m n : Contents) (s p : ℕ) → Opens m s p (λ bytes. bytes) n → (x : Page) × (page_at n s p ≡ Some x) × (x.writable ≡ true)
+opened_there m n s p (x, k, there, own, is) = (opened_page x k x.bytes, ap (λ (z : Contents). page_at z s p) is ∙ at_put_here m s p (opened_page x k x.bytes), refl)
+
+pub stored_after : (m n l : Contents) (s address : ℕ) (bytes : List ℕ) → Opens m s (page_of address) (λ b. b) n
+    → IfSome (page_at n s (page_of address)) (λ (before : Page). l ≡ put_page n s (page_of address) (stored_page before (stored_at before.bytes (address % 4096) bytes)))
+    → Opens m s (page_of address) (λ before. stored_at before (address % 4096) bytes) l × (plain_of l ≡ after_store (plain_of m) s address bytes)
+stored_after m n l s address bytes (x, k, there, own, is) h =
+    let p = page_of address in
+    let here : page_at n s p ≡ Some (opened_page x k x.bytes) = ap (λ (z : Contents). page_at z s p) is ∙ at_put_here m s p (opened_page x k x.bytes) in
+    let wrote : l ≡ put_page n s p (opened_page x k (stored_at x.bytes (address % 4096) bytes)) = rw here at h in
+    let all : l ≡ put_page m s p (opened_page x k (stored_at x.bytes (address % 4096) bytes)) = wrote ∙ ap (λ (z : Contents). put_page z s p (opened_page x k (stored_at x.bytes (address % 4096) bytes))) is ∙ put_twice m s p (opened_page x k x.bytes) (opened_page x k (stored_at x.bytes (address % 4096) bytes)) in
+    ((x, k, there, own, all), ap plain_of all ∙ plain_stored m s address bytes x (opened_page x k (stored_at x.bytes (address % 4096) bytes)) there refl)
+
+-- ---- the areas stay where the permissions do
+pub areas_opened : (areas : BTreeMap ℕ PageMap) (m n : Contents) (s p : ℕ) (f : List ℕ → List ℕ) → HasAreas areas m → Opens m s p f n → HasAreas areas n
+areas_opened areas m n s p f h (x, k, there, own, is) = subst (HasAreas areas) (sym is) (areas_put areas m s p x (opened_page x k (f x.bytes)) h there refl)
+
+pub areas_stored : (areas : BTreeMap ℕ PageMap) (m n : Contents) (s p : ℕ) (bytes : List ℕ → List ℕ) → HasAreas areas m → IsSome (page_at m s p) → IfSome (page_at m s p) (λ (before : Page). n ≡ put_page m s p (stored_page before (bytes before.bytes))) → HasAreas areas n
+areas_stored areas m n s p bytes h some is =
+    let x = some_of (page_at m s p) some in
+    subst (HasAreas areas) (sym (rw x.1 at is)) (areas_put areas m s p x.0 (stored_page x.0 (bytes x.0.bytes)) h x.1 refl)
+
+pub areas_closed : (areas : BTreeMap ℕ PageMap) (m n : Contents) (s p : ℕ) (prot : Prot) (bit : Bool) (x : Page) → HasAreas areas m → page_at m s p ≡ Some x → prot ≡ x.prot → IfSome (page_at m s p) (λ (before : Page). n ≡ put_page m s p (record before { prot = prot; writable = false; soft_dirty = bit })) → HasAreas areas n
+areas_closed areas m n s p prot bit x h there same is =
+    subst (HasAreas areas) (sym (rw there at is)) (areas_put areas m s p x (record x { prot = prot; writable = false; soft_dirty = bit }) h there same)
+
+-- one space without pages
+pub areas_of_one : (old new : BTreeMap ℕ PageMap) (m : Contents) (s : ℕ) (map : PageMap) → old.entries ≡ [] → map ≡ finmap.empty → ((q : ℕ) → get nat_cmp new q ≡ cond (is_eq (nat_cmp s q)) (Some map) (get nat_cmp old q))
+    → m.spaces ≡ finmap.insert finmap.empty s finmap.empty → HasAreas new m
+areas_of_one old new m s map none e is spaces q =
+    is q ∙ ap (λ (es : List (ℕ × PageMap)). cond (is_eq (nat_cmp s q)) (Some map) (lookup (is_at (nat_cmp q)) es)) none
+    ∙ sym (ap (λ (n : Nested Page). option_map prots_of (finmap.get n q)) spaces ∙ ap (option_map prots_of) (get_put finmap.empty s finmap.empty q ∙ ap (cond (nat_eq q s) (Some finmap.empty)) (get-empty nat_cmp q))
+    ∙ turned_in (nat_eq q s) prots_of finmap.empty None ∙ ap (λ (t : PageMap). cond (nat_eq q s) (Some t) None) (map_values-empty (λ (page : Page). page.prot) ∙ sym e) ∙ ap (λ b. cond b (Some map) None) (sym (turned_test s q)))

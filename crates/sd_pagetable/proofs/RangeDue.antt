@@ -1,0 +1,237 @@
+-- Which refusal a call over a range is due, and the areas after it.
+use Rattle.std.proofs.Common.{◌≡◌, ◌≢◌, ◌⊎◌, ℕ, ◌+◌, ◌-◌, ◌/◌, ◌%◌, ◌<◌, ◌≤◌, ◌^◌, Bool, true, false, not, cond, nat_eq, nat_lt, ◌&&◌, ◌||◌, is_some, IsSome, List, length, Option, Some, None, Result, Ok, Err, refl, sym, ◌∙◌, ap, subst, inl, inr, arith}
+use Rattle.std.proofs.lemmas.Bool.Decides.{nat_tests}
+use Rattle.std.specs.Option.{option_map, option_or}
+use Rattle.std.specs.FinMap as finmap
+use Rattle.sd_areas.specs.declared.prot.Prot.{Prot}
+use Rattle.sd_areas.specs.declared.errno.Errno.{Errno}
+use Rattle.sd_areas.specs.declared.errno.Errno.TheVariants.{Einval, Enomem}
+use Rattle.sd_areas.specs.Areas.{PageMap, areas_of}
+use Rattle.sd_areas.specs.Calls.{mapped, unmapped, protected, within_areas, set_pages, remove_pages, has_hole}
+use Rattle.sd_areas.specs.Pages.{is_within, is_invalid, is_outside, page_of, pages_for}
+use Rattle.sd_pagetable.specs.declared.denied.Denied.{Denied}
+use Rattle.sd_pagetable.specs.declared.denied.Denied.TheVariants.{Refused}
+use Rattle.sd_pagetable.specs.declared.refusal.Refusal.TheVariants.{NoSuchSpace, Enomem as NoMemory}
+use Rattle.sd_pagetable.specs.Nested.{Table, inside, is_alive, set_within, remove_within, change_within, fill_within}
+use Rattle.sd_pagetable.specs.Page.{Page, fresh_page, protected_page}
+use Rattle.sd_pagetable.specs.Contents.{Contents, plain_of, page_count}
+use Rattle.sd_pagetable.specs.Due.{area_due, in_space, or_else, mmap_due, munmap_due, mprotect_due}
+use Rattle.sd_pagetable.specs.Effects.{after_mmap}
+use Rattle.sd_pagetable.specs.declared.memory_error.MemoryError.{MemoryError}
+use Rattle.sd_pagetable.specs.declared.memory_error.MemoryError.TheVariants.{Denied as DeniedError, OutOfMemory}
+use Rattle.sd_pagetable.specs.Kept.{prots_of}
+use Rattle.sd_pagetable.specs.RangeCalls.{Refuses}
+use Rattle.sd_pagetable.specs.Ranges.{IsCleared}
+use Rattle.sd_pagetable.specs.Tracking.{with_space}
+use Rattle.sd_pagetable.proofs.TableLemmas.{same_table, get-map_values, get-set_within, get-remove_within, get-change_within, get-fill_within}
+use Rattle.std.specs.Prelude.{count_by, nat_le}
+use Rattle.sd_pagetable.specs.Contents.{page_at}
+use Rattle.sd_pagetable.proofs.MemoryLemmas.{plain_alive}
+use Rattle.sd_pagetable.proofs.RangeLemmas.{with_itself, with_twice, inside_with, at_table, change_none}
+use Rattle.sd_pagetable.proofs.RangeCounts.{same_count}
+use Rattle.sd_pagetable.proofs.PlainRanges.{prots_seen, plain_mapped, plain_many}
+
+-- ---- what is due, by the contents
+pub seen_due : (c : Contents) (s : ℕ) (due : PageMap → Option Denied) (seen : PageMap) → seen ≡ prots_of (inside c.spaces s) → in_space (plain_of c) s (due seen) ≡ in_space c.spaces s (due (prots_of (inside c.spaces s)))
+seen_due c s due seen same = ap (λ b. cond b (due seen) (Some (Refused NoSuchSpace))) (plain_alive c s) ∙ ap (λ p. in_space c.spaces s (due p)) same
+
+pub munmap_seen : (c : Contents) (s address bytes : ℕ) → munmap_due (plain_of c) s address bytes ≡ in_space c.spaces s (area_due (unmapped (prots_of (inside c.spaces s)) address bytes))
+munmap_seen c s address bytes = seen_due c s (λ p. area_due (unmapped p address bytes)) _ (prots_seen c s)
+
+pub mprotect_seen : (c : Contents) (s address bytes : ℕ) (prot : Prot) → mprotect_due (plain_of c) s address bytes prot ≡ in_space c.spaces s (area_due (protected (prots_of (inside c.spaces s)) address bytes prot))
+mprotect_seen c s address bytes prot = seen_due c s (λ p. area_due (protected p address bytes prot)) _ (prots_seen c s)
+
+too_many : ℕ → Option Denied
+too_many pages = cond (nat_lt 65536 pages) (Some (Refused NoMemory)) None
+
+pub mapped_pages : (c : Contents) (s address bytes : ℕ) (prot : Prot)
+    → page_count (after_mmap (plain_of c) s address bytes prot) ≡ page_count (with_space c s (set_within (inside c.spaces s) (page_of address) (pages_for bytes) (fresh_page prot))).spaces
+mapped_pages c s address bytes prot = sym (ap page_count (plain_mapped c s address bytes prot)) ∙ plain_many _
+
+pub mmap_seen : (c : Contents) (s address bytes : ℕ) (prot : Prot)
+    → mmap_due (plain_of c) s address bytes prot
+    ≡ in_space c.spaces s (or_else (area_due (mapped (prots_of (inside c.spaces s)) address bytes prot))
+    (cond (nat_lt 65536 (page_count (with_space c s (set_within (inside c.spaces s) (page_of address) (pages_for bytes) (fresh_page prot))).spaces)) (Some (Refused NoMemory)) None))
+mmap_seen c s address bytes prot =
+    seen_due c s (λ p. or_else (area_due (mapped p address bytes prot)) (cond (nat_lt 65536 (page_count (after_mmap (plain_of c) s address bytes prot))) (Some (Refused NoMemory)) None)) _ (prots_seen c s)
+    ∙ ap (λ n. in_space c.spaces s (or_else (area_due (mapped (prots_of (inside c.spaces s)) address bytes prot)) (cond (nat_lt 65536 n) (Some (Refused NoMemory)) None))) (mapped_pages c s address bytes prot)
+
+-- an accepted call is due nothing
+pub nothing_due : (c : Contents) (s : ℕ) (answer : Result PageMap Errno) (own : PageMap) → is_alive c.spaces s ≡ true → answer ≡ Ok own → in_space c.spaces s (area_due answer) ≡ None
+nothing_due c s answer own alive is = ap (λ b. cond b (area_due answer) (Some (Refused NoSuchSpace))) alive ∙ ap area_due is
+
+-- a first refusal is due before a second
+pub first_due : (alive : Bool) (first second : Option Denied) (denied : Denied) → cond alive first (Some (Refused NoSuchSpace)) ≡ Some denied → cond alive (or_else first second) (Some (Refused NoSuchSpace)) ≡ Some denied
+first_due true None second denied e = absurd (let f : None ≡ Some denied = e in cc)
+first_due true (Some first) second denied e = e
+first_due false first second denied e = e
+
+pub mapped_due : (c : Contents) (s : ℕ) (answer : Result PageMap Errno) (own : PageMap) (pages : ℕ) (many : Bool) → is_alive c.spaces s ≡ true → answer ≡ Ok own → nat_lt 65536 pages ≡ many
+    → in_space c.spaces s (or_else (area_due answer) (cond (nat_lt 65536 pages) (Some (Refused NoMemory)) None)) ≡ cond many (Some (Refused NoMemory)) None
+mapped_due c s answer own pages many alive is e =
+    ap (λ b. cond b (or_else (area_due answer) (cond (nat_lt 65536 pages) (Some (Refused NoMemory)) None)) (Some (Refused NoSuchSpace))) alive
+    ∙ ap (λ r. or_else (area_due r) (cond (nat_lt 65536 pages) (Some (Refused NoMemory)) None)) is ∙ ap (λ b. cond b (Some (Refused NoMemory)) None) e
+
+pub many_pages : (n : ℕ) → 65536 < n → nat_lt 65536 n ≡ true
+many_pages n less = grind (arith, nat_tests)
+
+pub few_pages : (n : ℕ) → n ≤ 65536 → nat_lt 65536 n ≡ false
+few_pages n le = grind (arith, nat_tests)
+
+-- ---- where an accepted range lies
+tested : (invalid outside : Bool) (e : Errno) (rest : Result PageMap Errno) (own : PageMap) → cond invalid (Err Einval) (cond outside (Err e) rest) ≡ Ok own → (invalid ≡ false) × (outside ≡ false)
+tested true outside e rest own is = absurd (let f : Err Einval ≡ Ok own = is in cc)
+tested false true e rest own is = absurd (let f : Err e ≡ Ok own = is in cc)
+tested false false e rest own is = (refl, refl)
+
+within_space : (address bytes : ℕ) → is_outside address bytes ≡ false → page_of address + pages_for bytes ≤ 2 ^ 35
+within_space address bytes outside = grind (arith, nat_tests)
+
+has_bytes : (address bytes : ℕ) → is_invalid address bytes ≡ false → 0 < bytes
+has_bytes address bytes valid = some bytes (not (nat_eq (address % 4096) 0)) valid
+  where
+    some : (bytes : ℕ) (b : Bool) → (nat_eq bytes 0 || b) ≡ false → 0 < bytes
+    some bytes b e = grind (arith, nat_tests)
+
+pub unmapped_within : (pages : PageMap) (address bytes : ℕ) (own : PageMap) → unmapped pages address bytes ≡ Ok own → (page_of address + pages_for bytes ≤ 2 ^ 35) × (0 < bytes)
+unfolding unmapped
+unmapped_within pages address bytes own is =
+    let t = tested (is_invalid address bytes) (is_outside address bytes) Einval _ own is in
+    (within_space address bytes t.1, has_bytes address bytes t.0)
+
+pub mapped_within : (pages : PageMap) (address bytes : ℕ) (prot : Prot) (own : PageMap) → mapped pages address bytes prot ≡ Ok own → (page_of address + pages_for bytes ≤ 2 ^ 35) × (0 < bytes)
+unfolding mapped
+mapped_within pages address bytes prot own is =
+    let t = tested (is_invalid address bytes) (is_outside address bytes) Enomem _ own is in
+    (within_space address bytes t.1, has_bytes address bytes t.0)
+
+third : (invalid none outside : Bool) (pages : PageMap) (rest : Result PageMap Errno) (own : PageMap) → none ≡ false → cond invalid (Err Einval) (cond none (Ok pages) (cond outside (Err Enomem) rest)) ≡ Ok own → outside ≡ false
+third true false outside pages rest own e is = absurd (let f : Err Einval ≡ Ok own = is in cc)
+third false false true pages rest own e is = absurd (let f : Err Enomem ≡ Ok own = is in cc)
+third false false false pages rest own e is = refl
+third true true outside pages rest own e is = absurd (let f : true ≡ false = e in cc)
+third false true outside pages rest own e is = absurd (let f : true ≡ false = e in cc)
+
+pub protected_within : (pages : PageMap) (address bytes : ℕ) (prot : Prot) (own : PageMap) → protected pages address bytes prot ≡ Ok own → (bytes ≡ 0 → ⊥) → page_of address + pages_for bytes ≤ 2 ^ 35
+unfolding protected
+protected_within pages address bytes prot own is some =
+    within_space address bytes (third (not (nat_eq (address % 4096) 0)) (nat_eq bytes 0) (is_outside address bytes) pages _ own (differs bytes some) is)
+  where
+    differs : (bytes : ℕ) → (bytes ≡ 0 → ⊥) → nat_eq bytes 0 ≡ false
+    differs bytes some = grind (arith, nat_tests)
+
+-- ---- the areas afterwards
+set_prot : (b : Bool) (prot : Prot) (o : Option Page) → cond b (Some prot) (option_map (λ (page : Page). page.prot) o) ≡ option_map (λ (page : Page). page.prot) (cond b (Some (fresh_page prot)) o)
+set_prot true prot o = refl
+set_prot false prot o = refl
+
+pub own_mapped : (t : Table Page) (own : PageMap) (first count : ℕ) (prot : Prot) → ((q : ℕ) → finmap.get own q ≡ cond (is_within first count q) (Some prot) (finmap.get (prots_of t) q)) → own ≡ prots_of (set_within t first count (fresh_page prot))
+own_mapped t own first count prot law = same_table _ _ (λ q. law q ∙ ap (cond (is_within first count q) (Some prot)) (get-map_values (λ (page : Page). page.prot) t q) ∙ set_prot (is_within first count q) prot (finmap.get t q)
+    ∙ ap (option_map (λ (page : Page). page.prot)) (sym (get-set_within t first count (fresh_page prot) q)) ∙ sym (get-map_values (λ (page : Page). page.prot) (set_within t first count (fresh_page prot)) q))
+
+remove_prot : (b : Bool) (o : Option Page) → cond b None (option_map (λ (page : Page). page.prot) o) ≡ option_map (λ (page : Page). page.prot) (cond b None o)
+remove_prot true o = refl
+remove_prot false o = refl
+
+pub own_unmapped : (t : Table Page) (own : PageMap) (first count : ℕ) → ((q : ℕ) → finmap.get own q ≡ cond (is_within first count q) None (finmap.get (prots_of t) q)) → own ≡ prots_of (remove_within t first count)
+own_unmapped t own first count law = same_table _ _ (λ q. law q ∙ ap (cond (is_within first count q) None) (get-map_values (λ (page : Page). page.prot) t q) ∙ remove_prot (is_within first count q) (finmap.get t q)
+    ∙ ap (option_map (λ (page : Page). page.prot)) (sym (get-remove_within t first count q)) ∙ sym (get-map_values (λ (page : Page). page.prot) (remove_within t first count) q))
+
+change_prot : (b : Bool) (prot : Prot) (o : Option Page) → (b ≡ true → IsSome (option_map (λ (page : Page). page.prot) o))
+    → cond b (Some prot) (option_map (λ (page : Page). page.prot) o) ≡ option_map (λ (page : Page). page.prot) (option_map (λ x. cond b (protected_page prot x) x) o)
+change_prot true prot (Some x) there = refl
+change_prot true prot None there = absurd (let f : false ≡ true = there refl in cc)
+change_prot false prot (Some x) there = refl
+change_prot false prot None there = refl
+
+pub own_protected : (t : Table Page) (own : PageMap) (first count : ℕ) (prot : Prot)
+    → ((q : ℕ) → (finmap.get own q ≡ cond (is_within first count q) (Some prot) (finmap.get (prots_of t) q)) × (is_within first count q ≡ true → IsSome (finmap.get (prots_of t) q)))
+    → own ≡ prots_of (change_within (protected_page prot) t first count)
+own_protected t own first count prot law = same_table _ _ (λ q. (law q).0 ∙ ap (cond (is_within first count q) (Some prot)) (get-map_values (λ (page : Page). page.prot) t q)
+    ∙ change_prot (is_within first count q) prot (finmap.get t q) (λ within. subst IsSome (get-map_values (λ (page : Page). page.prot) t q) ((law q).1 within))
+    ∙ ap (option_map (λ (page : Page). page.prot)) (sym (get-change_within (protected_page prot) t first count q)) ∙ sym (get-map_values (λ (page : Page). page.prot) (change_within (protected_page prot) t first count) q))
+
+-- a living space has areas
+pub has_own : (o : Option PageMap) (t : Option (Table Page)) → o ≡ option_map prots_of t → is_some t ≡ true → IsSome o
+has_own o None e alive = absurd (let f : false ≡ true = alive in cc)
+has_own o (Some t) e alive = ap is_some e
+
+-- a range of no bytes has no page
+pub no_bytes : (c : Contents) (s address bytes : ℕ) (change : Page → Page) → is_alive c.spaces s ≡ true → bytes ≡ 0 → c ≡ with_space c s (change_within change (inside c.spaces s) (page_of address) (pages_for bytes))
+no_bytes c s address bytes change alive none =
+    let count : pages_for bytes ≡ page_of address - page_of address = omega (arith, none) in
+    sym (ap (λ n. with_space c s (change_within change (inside c.spaces s) (page_of address) n)) count ∙ ap (with_space c s) (change_none change (inside c.spaces s) (page_of address)) ∙ with_itself c s alive)
+
+-- the holes by the areas are those by the pages
+hole_by_areas : (o : Option Page) → not (is_some (option_map (λ (page : Page). page.prot) o)) ≡ not (is_some o)
+hole_by_areas None = refl
+hole_by_areas (Some x) = refl
+
+pub holes_seen : (c : Contents) (s : ℕ) (own : PageMap) (pages : List ℕ) → own ≡ prots_of (inside c.spaces s)
+    → count_by (λ q. not (is_some (finmap.get own q))) pages ≡ count_by (λ q. not (is_some (page_at c s q))) pages
+holes_seen c s own pages are = same_count _ _ pages (λ q. ap (λ m. not (is_some (finmap.get m q))) are ∙ ap (λ o. not (is_some o)) (get-map_values (λ (page : Page). page.prot) (inside c.spaces s) q) ∙ hole_by_areas (finmap.get (inside c.spaces s) q))
+
+-- what a failed call was due
+pub refuses_first : (error : MemoryError) (c : Contents) (s : ℕ) (first second : Option Denied) → Refuses error (in_space c.spaces s first) → Refuses error (in_space c.spaces s (or_else first second))
+refuses_first (DeniedError denied) c s first second due = first_due (is_alive c.spaces s) first second denied due
+refuses_first OutOfMemory c s first second due = due
+
+pub refuses_many : (error : MemoryError) (c : Contents) (s : ℕ) (answer : Result PageMap Errno) (own : PageMap) (pages : ℕ) → is_alive c.spaces s ≡ true → answer ≡ Ok own
+    → (error ≡ OutOfMemory) ⊎ (error ≡ DeniedError (Refused NoMemory)) → (error ≡ DeniedError (Refused NoMemory) → 65536 < pages)
+    → Refuses error (in_space c.spaces s (or_else (area_due answer) (cond (nat_lt 65536 pages) (Some (Refused NoMemory)) None)))
+refuses_many error c s answer own pages alive is (inl e) many = subst (λ x. Refuses x (in_space c.spaces s (or_else (area_due answer) (cond (nat_lt 65536 pages) (Some (Refused NoMemory)) None)))) (sym e) tt
+refuses_many error c s answer own pages alive is (inr e) many = subst (λ x. Refuses x (in_space c.spaces s (or_else (area_due answer) (cond (nat_lt 65536 pages) (Some (Refused NoMemory)) None)))) (sym e)
+    (mapped_due c s answer own pages true alive is (many_pages pages (many e)))
+
+-- ---- mapping a run
+or_filled : (within hole : Bool) (o : Option Page) (x : Page) → hole ≡ not (is_some o) → cond (within && hole) None (option_or o (cond within (Some x) None)) ≡ o
+or_filled true hole (Some y) x e = ap (λ b. cond b None (Some y)) e
+or_filled true hole None x e = ap (λ b. cond b None (Some x)) e
+or_filled false hole (Some y) x e = refl
+or_filled false hole None x e = refl
+
+-- what was filled was taken out again
+pub filled_back : (old mid new : Contents) (s first reached : ℕ) (x : Page) (own : PageMap) → is_alive old.spaces s ≡ true → own ≡ prots_of (inside old.spaces s)
+    → mid ≡ with_space old s (fill_within (inside old.spaces s) first (reached - first) x) → IsCleared mid new s (λ q. is_within first (reached - first) q && not (is_some (finmap.get own q))) → new ≡ old
+filled_back old mid new s first reached x own alive are filled cleared =
+    cleared.others ∙ ap (λ c. with_space c s (inside new.spaces s)) filled ∙ with_twice old s _ (inside new.spaces s) ∙ ap (with_space old s) same ∙ with_itself old s alive
+  where
+    at : (q : ℕ) → page_at new s q ≡ page_at old s q
+    at q = cleared.pages q ∙ ap (cond (is_within first (reached - first) q && not (is_some (finmap.get own q))) None) (ap (λ c. page_at c s q) filled ∙ at_table old s q _ ∙ get-fill_within (inside old.spaces s) first (reached - first) x q)
+        ∙ or_filled (is_within first (reached - first) q) (not (is_some (finmap.get own q))) (page_at old s q) x
+        (ap (λ m. not (is_some (finmap.get m q))) are ∙ ap (λ o. not (is_some o)) (get-map_values (λ (page : Page). page.prot) (inside old.spaces s) q) ∙ hole_by_areas (finmap.get (inside old.spaces s) q))
+
+    same : inside new.spaces s ≡ inside old.spaces s
+    same = same_table _ _ at
+
+filled_some : (o : Option Page) (x : Page) → IsSome (option_or o (Some x))
+filled_some None x = refl
+filled_some (Some y) x = refl
+
+in_the_run : (first end q : ℕ) → first ≤ q → q < end → is_within first (end - first) q ≡ true
+in_the_run first end q from below = grind (arith, nat_tests)
+
+pub filled_there : (old mid : Contents) (s first end q : ℕ) (x : Page) → mid ≡ with_space old s (fill_within (inside old.spaces s) first (end - first) x) → first ≤ q → q < end → IsSome (page_at mid s q)
+filled_there old mid s first end q x filled from below =
+    subst IsSome (sym (ap (λ c. page_at c s q) filled ∙ at_table old s q _ ∙ get-fill_within (inside old.spaces s) first (end - first) x q
+    ∙ ap (λ b. option_or (finmap.get (inside old.spaces s) q) (cond b (Some x) None)) (in_the_run first end q from below))) (filled_some (finmap.get (inside old.spaces s) q) x)
+
+set_over : (b : Bool) (o : Option Page) (x : Page) → cond b (Some x) (option_or o (cond b (Some x) None)) ≡ cond b (Some x) o
+set_over true o x = refl
+set_over false None x = refl
+set_over false (Some y) x = refl
+
+pub renewed_run : (old mid new : Contents) (s first end : ℕ) (x : Page) → mid ≡ with_space old s (fill_within (inside old.spaces s) first (end - first) x)
+    → new ≡ with_space mid s (set_within (inside mid.spaces s) first (end - first) x) → new ≡ with_space old s (set_within (inside old.spaces s) first (end - first) x)
+renewed_run old mid new s first end x filled renewed = renewed
+    ∙ ap (λ t. with_space mid s (set_within t first (end - first) x)) (ap (λ (c : Contents). inside c.spaces s) filled ∙ inside_with old s _)
+    ∙ ap (with_space mid s) (same_table _ _ (λ q. get-set_within (fill_within (inside old.spaces s) first (end - first) x) first (end - first) x q
+    ∙ ap (cond (is_within first (end - first) q) (Some x)) (get-fill_within (inside old.spaces s) first (end - first) x q)
+    ∙ set_over (is_within first (end - first) q) (finmap.get (inside old.spaces s) q) x ∙ sym (get-set_within (inside old.spaces s) first (end - first) x q)))
+    ∙ ap (λ c. with_space c s (set_within (inside old.spaces s) first (end - first) x)) filled ∙ with_twice old s _ _
+
+pub is_at_most : (n : ℕ) → nat_le n 65536 ≡ true → n ≤ 65536
+is_at_most n e = grind (arith, nat_tests)
+
+pub is_above : (n : ℕ) → nat_le n 65536 ≡ false → 65536 < n
+is_above n e = grind (arith, nat_tests)

@@ -1,0 +1,261 @@
+-- One page of a run more.
+use Rattle.std.proofs.Common.{◌≡◌, ◌⊎◌, ℕ, ◌+◌, ◌-◌, ◌<◌, ◌≤◌, Bool, true, false, not, cond, nat_eq, nat_le, ◌&&◌, ◌||◌, is_some, IsSome, List, Option, Some, None, refl, sym, ◌∙◌, ap, subst, inl, inr, arith}
+use Rattle.std.specs.Prelude.{count_by, IfSome}
+use Rattle.std.proofs.lemmas.Bool.Decides.{nat_tests}
+use Rattle.std.specs.Option.{option_map}
+use Rattle.std.specs.Ordering.{nat_cmp}
+use Rattle.std.specs.FinMap as finmap
+use Rattle.std.specs.FinMap.{get-empty}
+use Rattle.sd_areas.specs.Pages.{pages_from, is_within}
+use Rattle.sd_pagetable.specs.Nested.{Table, Nested, inside, value_at, is_alive, fill_within, change_within, remove_within}
+use Rattle.sd_pagetable.specs.Page.{Page}
+use Rattle.sd_pagetable.specs.Contents.{Contents, page_at, put_page, remove_page, page_count}
+use Rattle.sd_pagetable.specs.Ranges.{IsCleared}
+use Rattle.sd_pagetable.specs.Tracking.{with_space}
+use Rattle.sd_pagetable.proofs.TableLemmas.{same_table, get-remove_within}
+use Rattle.sd_pagetable.proofs.NestedLemmas.{alive-insert, value_at-remove}
+use Rattle.sd_pagetable.proofs.RangeLemmas.{cases_bool, same_self, not_same, same_of, inside_with, with_twice, with_itself, put_in, remove_in, at_table, fill_none, fill_more, fill_skips, fill_outside, change_none, change_more, change_skips, change_outside}
+use Rattle.sd_pagetable.proofs.RangeCounts.{left_to_count, one_more}
+
+cases_option : (o : Option Page) → (o ≡ None) ⊎ ((x : Page) × (o ≡ Some x))
+cases_option None = inl refl
+cases_option (Some x) = inr (x, refl)
+
+pub alive_with : (c : Contents) (s : ℕ) (t : Table Page) → is_alive (with_space c s t).spaces s ≡ true
+alive_with c s t = alive-insert c.spaces s t s ∙ ap (λ b. b || is_alive c.spaces s) (same_self s)
+
+-- ---- filling
+pub none_filled : (c : Contents) (s first : ℕ) (x : Page) → is_alive c.spaces s ≡ true → c ≡ with_space c s (fill_within (inside c.spaces s) first (first - first) x)
+none_filled c s first x alive = sym (ap (with_space c s) (fill_none (inside c.spaces s) first x) ∙ with_itself c s alive)
+
+unfilled : (old now : Contents) (s first k : ℕ) (x : Page) → now ≡ with_space old s (fill_within (inside old.spaces s) first (k - first) x) → page_at now s k ≡ page_at old s k
+unfilled old now s first k x done = ap (λ c. page_at c s k) done ∙ at_table old s k _ ∙ fill_outside (inside old.spaces s) first k x
+
+-- whether a page is a hole
+abbrev pub is_hole : Contents → ℕ → ℕ → Bool
+is_hole c s page = not (is_some (page_at c s page))
+
+pub has_room : (old now : Contents) (s first k end : ℕ) (x : Page) → k < end → now ≡ with_space old s (fill_within (inside old.spaces s) first (k - first) x)
+    → page_count now.spaces + count_by (is_hole old s) (pages_from k (end - k)) ≤ 65536 → page_at now s k ≡ None → page_count now.spaces < 65536
+has_room old now s first k end x less done few none =
+    let hole : ◌≡◌ {A = ℕ} (cond (is_hole old s k) 1 0) 1 = ap (λ o. cond (not (is_some o)) 1 0) (sym (unfilled old now s first k x done) ∙ none) in
+    omega (arith, few, left_to_count (is_hole old s) k end less, hole)
+
+-- the page was there, or is there now
+pub record Fills (old now : Contents) (s first k end : ℕ) (x : Page) : Type 0 where
+  pub done : now ≡ with_space old s (fill_within (inside old.spaces s) first (k - first) x)
+  pub few : page_count now.spaces + count_by (is_hole old s) (pages_from k (end - k)) ≤ 65536
+
+pub filled_more : (old now new : Contents) (s first k end : ℕ) (x : Page) → first ≤ k → k < end → Fills old now s first k end x
+    → (page_at now s k ≡ None → new ≡ put_page now s k x) → (IsSome (page_at now s k) → new ≡ now) → Fills old new s first (k + 1) end x
+filled_more old now new s first k end x le less was added there = elim (cases_option (page_at now s k)) [
+  | inl none ↦
+      let step = added none in
+      let hole : ◌≡◌ {A = ℕ} (cond (is_hole old s k) 1 0) 1 = ap (λ o. cond (not (is_some o)) 1 0) (sym (unfilled old now s first k x was.done) ∙ none) in
+      let more : page_count new.spaces ≡ page_count now.spaces + 1 = ap (λ (c : Contents). page_count c.spaces) step ∙ one_more now s k x none in
+      record {
+        done = step ∙ ap (λ c. put_page c s k x) was.done ∙ put_in old s k _ x ∙ ap (with_space old s) (fill_more (inside old.spaces s) first k x le (sym (unfilled old now s first k x was.done) ∙ none));
+        few = omega (arith, was.few, left_to_count (is_hole old s) k end less, hole, more);
+      }
+  | inr some ↦
+      let is : IsSome (page_at now s k) = ap is_some some.1 in
+      let step = there is in
+      let same : page_count new.spaces ≡ page_count now.spaces = ap (λ (c : Contents). page_count c.spaces) step in
+      record {
+        done = step ∙ was.done ∙ ap (with_space old s) (fill_skips (inside old.spaces s) first k x le (subst IsSome (unfilled old now s first k x was.done) is));
+        few = omega (arith, was.few, left_to_count (is_hole old s) k end less, same);
+      }
+]
+
+-- ---- protecting
+pub none_changed : (change : Page → Page) (c : Contents) (s first : ℕ) → is_alive c.spaces s ≡ true → c ≡ with_space c s (change_within change (inside c.spaces s) first (first - first))
+none_changed change c s first alive = sym (ap (with_space c s) (change_none change (inside c.spaces s) first) ∙ with_itself c s alive)
+
+unchanged : (change : Page → Page) (old now : Contents) (s first k : ℕ) → now ≡ with_space old s (change_within change (inside old.spaces s) first (k - first)) → page_at now s k ≡ page_at old s k
+unchanged change old now s first k done = ap (λ c. page_at c s k) done ∙ at_table old s k _ ∙ change_outside change (inside old.spaces s) first k
+
+if_there : (P : Page → Type 0) (o : Option Page) (x : Page) → o ≡ Some x → IfSome o P → P x
+if_there P o x e given = (let g : IfSome (Some x) P = subst (λ o. IfSome o P) e given in g)
+
+pub changed_more : (change : Page → Page) (old now new : Contents) (s first k : ℕ) → first ≤ k → now ≡ with_space old s (change_within change (inside old.spaces s) first (k - first))
+    → IfSome (page_at now s k) (λ before. new ≡ put_page now s k (change before)) → (page_at now s k ≡ None → new ≡ now)
+    → new ≡ with_space old s (change_within change (inside old.spaces s) first (k + 1 - first))
+changed_more change old now new s first k le done mapped hole = elim (cases_option (page_at now s k)) [
+  | inl none ↦ hole none ∙ done ∙ ap (with_space old s) (change_skips change (inside old.spaces s) first k le (sym (unchanged change old now s first k done) ∙ none))
+  | inr some ↦ if_there (λ before. new ≡ put_page now s k (change before)) (page_at now s k) some.0 some.1 mapped ∙ ap (λ c. put_page c s k (change some.0)) done ∙ put_in old s k _ (change some.0)
+      ∙ ap (with_space old s) (change_more change (inside old.spaces s) first k some.0 le (sym (unchanged change old now s first k done) ∙ some.1))
+]
+
+-- ---- taking out
+pub cleared_none : (c : Contents) (s : ℕ) (test : ℕ → Bool) → is_alive c.spaces s ≡ true → ((page : ℕ) → test page ≡ false) → IsCleared c c s test
+cleared_none c s test alive none = record {
+  pages = λ page. ap (λ b. cond b None (page_at c s page)) (sym (none page));
+  others = sym (with_itself c s alive);
+}
+
+pub cleared_same : (old new : Contents) (s : ℕ) (test other : ℕ → Bool) → IsCleared old new s test → ((page : ℕ) → other page ≡ test page) → IsCleared old new s other
+cleared_same old new s test other cleared same = record {
+  pages = λ page. cleared.pages page ∙ ap (λ b. cond b None (page_at old s page)) (sym (same page));
+  others = cleared.others;
+}
+
+cleared_by : (a b : Bool) (o : Option Page) → cond b None (cond a None o) ≡ cond (a || b) None o
+cleared_by true true o = refl
+cleared_by true false o = refl
+cleared_by false b o = refl
+
+pub cleared_both : (a b c : Contents) (s : ℕ) (first then both : ℕ → Bool) → IsCleared a b s first → IsCleared b c s then → ((page : ℕ) → both page ≡ (first page || then page)) → IsCleared a c s both
+cleared_both a b c s first then both one two is = record {
+  pages = λ page. two.pages page ∙ ap (cond (then page) None) (one.pages page) ∙ cleared_by (first page) (then page) (page_at a s page) ∙ ap (λ x. cond x None (page_at a s page)) (sym (is page));
+  others = two.others ∙ ap (λ d. with_space d s (inside c.spaces s)) one.others ∙ with_twice a s (inside b.spaces s) (inside c.spaces s);
+}
+
+removed_by : (q p : ℕ) (o : Option Page) → (nat_eq q p ≡ true → o ≡ None) → cond (nat_eq q p) None o ≡ o
+removed_by q p o none = elim (cases_bool (nat_eq q p)) [
+  | inl here ↦ ap (λ b. cond b None o) here ∙ sym (none here)
+  | inr there ↦ ap (λ b. cond b None o) there
+]
+
+at_removed : (c : Contents) (s p q : ℕ) → page_at (remove_page c s p) s q ≡ cond (nat_eq q p) None (page_at c s q)
+at_removed c s p q = value_at-remove c.spaces s p s q ∙ ap (λ b. cond (b && nat_eq q p) None (page_at c s q)) (same_self s)
+
+pub removed_others : (c : Contents) (s p : ℕ) → is_alive c.spaces s ≡ true → remove_page c s p ≡ with_space c s (inside (remove_page c s p).spaces s)
+removed_others c s p alive =
+    let as_table : remove_page c s p ≡ with_space c s (finmap.remove (inside c.spaces s) p) = ap (λ d. remove_page d s p) (sym (with_itself c s alive)) ∙ remove_in c s p (inside c.spaces s) in
+    as_table ∙ ap (with_space c s) (sym (ap (λ (d : Contents). inside d.spaces s) as_table ∙ inside_with c s _))
+
+-- a page was taken out, where it was there
+pub dropped : (old new : Contents) (s p : ℕ) → is_alive old.spaces s ≡ true → (IsSome (page_at old s p) → new ≡ remove_page old s p) → (page_at old s p ≡ None → new ≡ old) → IsCleared old new s (λ q. nat_eq q p)
+dropped old new s p alive there hole = elim (cases_option (page_at old s p)) [
+  | inl none ↦ subst (λ c. IsCleared old c s (λ q. nat_eq q p)) (sym (hole none)) (record {
+    pages = λ q. sym (removed_by q p (page_at old s q) (λ here. ap (page_at old s) (same_of q p here) ∙ none));
+    others = sym (with_itself old s alive);
+  })
+  | inr some ↦ subst (λ c. IsCleared old c s (λ q. nat_eq q p)) (sym (there (ap is_some some.1))) (record {
+    pages = at_removed old s p;
+    others = removed_others old s p alive;
+  })
+]
+
+-- ---- unmapping a run
+pub still_outside : (old now new : Contents) (s p first count : ℕ) → new ≡ remove_page now s p → is_within first count p ≡ true
+    → ((q : ℕ) → is_within first count q ≡ false → page_at now s q ≡ page_at old s q) → (q : ℕ) → is_within first count q ≡ false → page_at new s q ≡ page_at old s q
+still_outside old now new s p first count step within was q outside =
+    ap (λ c. page_at c s q) step ∙ at_removed now s p q ∙ ap (λ b. cond b None (page_at now s q)) (not_same q p apart) ∙ was q outside
+  where
+    apart : q ≡ p → ⊥
+    apart e = absurd (let f : true ≡ false = sym within ∙ ap (is_within first count) (sym e) ∙ outside in cc)
+
+pub still_others : (old now new : Contents) (s p : ℕ) → now ≡ with_space old s (inside now.spaces s) → new ≡ remove_page now s p → new ≡ with_space old s (inside new.spaces s)
+still_others old now new s p was step =
+    let alive : is_alive now.spaces s ≡ true = ap (λ (c : Contents). is_alive c.spaces s) was ∙ alive_with old s (inside now.spaces s) in
+    step ∙ removed_others now s p alive ∙ ap (λ c. with_space c s (inside (remove_page now s p).spaces s)) was ∙ with_twice old s (inside now.spaces s) _
+    ∙ ap (λ (c : Contents). with_space old s (inside c.spaces s)) (sym step)
+
+not_some : (o : Option Page) → (IsSome o → ⊥) → o ≡ None
+not_some None never = refl
+not_some (Some x) never = absurd (never refl)
+
+pub unmapped_run : (old now : Contents) (s first count : ℕ) → now ≡ with_space old s (inside now.spaces s) → ((q : ℕ) → is_within first count q ≡ false → page_at now s q ≡ page_at old s q)
+    → ((q : ℕ) → is_within first count q ≡ true → IsSome (page_at now s q) → ⊥) → now ≡ with_space old s (remove_within (inside old.spaces s) first count)
+unmapped_run old now s first count others outside none = others ∙ ap (with_space old s) (same_table _ _ (λ q. at q ∙ sym (get-remove_within (inside old.spaces s) first count q)))
+  where
+    at : (q : ℕ) → page_at now s q ≡ cond (is_within first count q) None (page_at old s q)
+    at q = elim (cases_bool (is_within first count q)) [
+      | inl here ↦ not_some (page_at now s q) (none q here) ∙ ap (λ b. cond b None (page_at old s q)) (sym here)
+      | inr there ↦ outside q there ∙ ap (λ b. cond b None (page_at old s q)) (sym there)
+    ]
+
+-- ---- unmapping what areas don't have
+within_run : (first k q : ℕ) → first ≤ k → is_within first (k + 1 - first) q ≡ (nat_eq q k || is_within first (k - first) q)
+within_run first k q le = grind (arith, nat_tests)
+
+within_nothing : (first q : ℕ) → is_within first (first - first) q ≡ false
+within_nothing first q = grind (arith, nat_tests)
+
+pub none_unfilled : (gone : ℕ → Bool) (c : Contents) (s first : ℕ) → is_alive c.spaces s ≡ true → IsCleared c c s (λ q. is_within first (first - first) q && gone q)
+none_unfilled gone c s first alive = cleared_none c s _ alive (λ q. ap (λ b. b && gone q) (within_nothing first q))
+
+then_gone : (here before it : Bool) → (here ≡ true → it ≡ true) → ((here || before) && it) ≡ ((before && it) || here)
+then_gone true true true h = refl
+then_gone true false true h = refl
+then_gone true before false h = absurd (let f : false ≡ true = h refl in cc)
+then_gone false true true h = refl
+then_gone false true false h = refl
+then_gone false false it h = refl
+
+then_kept : (here before it : Bool) → (here ≡ true → it ≡ false) → ((here || before) && it) ≡ (before && it)
+then_kept true true false h = refl
+then_kept true false false h = refl
+then_kept true before true h = absurd (let f : true ≡ false = h refl in cc)
+then_kept false before it h = refl
+
+-- this page isn't in the areas, and was taken out
+pub unfilled_more : (gone : ℕ → Bool) (a b c : Contents) (s first k : ℕ) → first ≤ k → gone k ≡ true → IsCleared a b s (λ q. is_within first (k - first) q && gone q) → IsCleared b c s (λ q. nat_eq q k)
+    → IsCleared a c s (λ q. is_within first (k + 1 - first) q && gone q)
+unfilled_more gone a b c s first k le is one two = cleared_both a b c s _ _ _ one two
+    (λ q. ap (λ x. x && gone q) (within_run first k q le) ∙ then_gone (nat_eq q k) (is_within first (k - first) q) (gone q) (λ here. ap gone (same_of q k here) ∙ is))
+
+-- this page is in the areas, and stays
+pub unfilled_same : (gone : ℕ → Bool) (a b : Contents) (s first k : ℕ) → first ≤ k → gone k ≡ false → IsCleared a b s (λ q. is_within first (k - first) q && gone q)
+    → IsCleared a b s (λ q. is_within first (k + 1 - first) q && gone q)
+unfilled_same gone a b s first k le is one = cleared_same a b s _ _ one
+    (λ q. ap (λ x. x && gone q) (within_run first k q le) ∙ then_kept (nat_eq q k) (is_within first (k - first) q) (gone q) (λ here. ap gone (same_of q k here) ∙ is))
+
+seen : {B : Type 0} (f : Page → B) (o : Option Page) → is_some (option_map f o) ≡ is_some o
+seen f None = refl
+seen f (Some x) = refl
+
+pub seen_there : {B : Type 0} (f : Page → B) (o : Option Page) (entry : Option B) (b : Bool) → entry ≡ option_map f o → b ≡ is_some entry → is_some o ≡ b
+seen_there f o entry b e is = sym (is ∙ ap is_some e ∙ seen f o)
+
+none_of : (o : Option Page) → is_some o ≡ false → o ≡ None
+none_of None e = refl
+none_of (Some x) e = absurd (let f : true ≡ false = e in cc)
+
+pub dropped_there : (old new : Contents) (s p : ℕ) → is_alive old.spaces s ≡ true → is_some (page_at old s p) ≡ true → new ≡ remove_page old s p → IsCleared old new s (λ q. nat_eq q p)
+dropped_there old new s p alive there step = dropped old new s p alive (λ _. step) (λ none. absurd (let f : false ≡ true = sym (ap is_some none) ∙ there in cc))
+
+pub dropped_hole : (old : Contents) (s p : ℕ) → is_alive old.spaces s ≡ true → is_some (page_at old s p) ≡ false → IsCleared old old s (λ q. nat_eq q p)
+dropped_hole old s p alive hole = dropped old old s p alive (λ there. absurd (let f : true ≡ false = sym there ∙ hole in cc)) (λ _. refl)
+
+-- the first page from a place on is in the run, or none is
+pub in_run : (first end page : ℕ) → nat_le first page ≡ true → page < end → is_within first (end - first) page ≡ true
+in_run first end page from below = grind (arith, nat_tests)
+
+pub none_in_run : (c : Contents) (s first end : ℕ) → ((page : ℕ) → IsSome (page_at c s page) → nat_le first page ≡ false) → (q : ℕ) → is_within first (end - first) q ≡ true → IsSome (page_at c s q) → ⊥
+none_in_run c s first end none q within there = apart (nat_le first q) (none q there) (from first end q within)
+  where
+    apart : (b : Bool) → b ≡ false → b ≡ true → ⊥
+    apart b e f = absurd (let g : false ≡ true = sym e ∙ f in cc)
+
+    from : (first end q : ℕ) → is_within first (end - first) q ≡ true → nat_le first q ≡ true
+    from first end q within = grind (arith, nat_tests)
+
+pub past_run : (c : Contents) (s first end page : ℕ) → end ≤ page → ((q : ℕ) → IsSome (page_at c s q) → nat_le first q ≡ true → page ≤ q)
+    → (q : ℕ) → is_within first (end - first) q ≡ true → IsSome (page_at c s q) → ⊥
+past_run c s first end page past least q within there =
+    let le = least q there (from first end q within) in
+    let less = below first end q within in
+    absurd (omega (arith, past, le, less))
+  where
+    from : (first end q : ℕ) → is_within first (end - first) q ≡ true → nat_le first q ≡ true
+    from first end q within = grind (arith, nat_tests)
+
+    below : (first end q : ℕ) → is_within first (end - first) q ≡ true → q < end
+    below first end q within = grind (arith, nat_tests)
+
+-- a space without pages
+pub emptied : (old now : Contents) (s : ℕ) → now ≡ with_space old s (inside now.spaces s) → ((q : ℕ) → IsSome (page_at now s q) → true ≡ false) → now ≡ with_space old s finmap.empty
+emptied old now s others none = others ∙ ap (with_space old s) (same_table _ _ (λ q. not_some (page_at now s q) (λ there. absurd (let f : true ≡ false = none q there in cc)) ∙ sym (get-empty nat_cmp q)))
+
+pub unfilled_step : {A : Type 0} (areas : ℕ → Option A) (a b c : Contents) (s first k : ℕ) → first ≤ k → (is_some (areas k) ≡ true → c ≡ b) → (is_some (areas k) ≡ false → IsCleared b c s (λ q. nat_eq q k))
+    → IsCleared a b s (λ q. is_within first (k - first) q && not (is_some (areas q))) → IsCleared a c s (λ q. is_within first (k + 1 - first) q && not (is_some (areas q)))
+unfilled_step areas a b c s first k le stays gone was = elim (cases_bool (is_some (areas k))) [
+  | inl there ↦ subst (λ d. IsCleared a d s (λ q. is_within first (k + 1 - first) q && not (is_some (areas q)))) (sym (stays there))
+      (unfilled_same (λ q. not (is_some (areas q))) a b s first k le (ap not there) was)
+  | inr hole ↦ unfilled_more (λ q. not (is_some (areas q))) a b c s first k le (ap not hole) was (gone hole)
+]
+
+pub cleared_alive : (a b : Contents) (s : ℕ) (test : ℕ → Bool) → IsCleared a b s test → is_alive b.spaces s ≡ true
+cleared_alive a b s test cleared = ap (λ (d : Contents). is_alive d.spaces s) cleared.others ∙ alive_with a s _

@@ -1,0 +1,147 @@
+-- Frames and entries as the contents of a memory, after a change of one entry.
+use Rattle.std.proofs.Common.{◌≡◌, ◌≢◌, ◌⊎◌, ℕ, ◌+◌, ◌-◌, ◌<◌, ◌≤◌, ◌^◌, Bool, true, false, cond, nat_eq, ◌&&◌, ◌||◌, is_some, List, length, Option, Some, None, unwrap_or, IsSome, refl, sym, ◌∙◌, ap, subst, inl, inr, arith}
+use Rattle.std.proofs.lemmas.Bool.Decides.{nat_tests}
+use Rattle.std.proofs.lemmas.Bool.{cases_Bool, cases_eq, cond-true, cond-false, eqb-true, eq-eqb, and_from}
+use Rattle.std.specs.Option.{option_map, option_map_or}
+use Rattle.std.specs.Ordering.{nat_cmp}
+use Rattle.std.specs.FinMap as finmap
+use Rattle.sd_pagetable.specs.declared.entry.Entry.{Entry}
+use Rattle.sd_pagetable.specs.Nested.{Table, Nested, map_values, inside, value_at, is_alive, put_at, remove_at, total, total_within}
+use Rattle.sd_pagetable.specs.Page.{Page, zeros}
+use Rattle.sd_pagetable.specs.Contents.{Contents, page_at, put_page, remove_page, members, share_of, is_alone, page_count, IsOpen, IsSound}
+use Rattle.sd_pagetable.specs.Frames.{Pool, Cell, cell_at, count_at, bytes_at, SetsCell}
+use Rattle.sd_pagetable.specs.View.{page_of_entry, entry_of, frame_bytes, contents_of, IsKept}
+use Rattle.sd_pagetable.proofs.TableLemmas.{turned_in, turned_out, map_values-insert, map_values-remove, map_values-empty}
+use Rattle.sd_pagetable.proofs.NestedLemmas.{same_nested, value_at-put, value_at-remove, alive-put, alive-remove, alive-put_same, alive-remove_same, value_at-map, alive-map, alive_at, inside-map}
+use Rattle.sd_pagetable.proofs.TotalLemmas.{total_within-put, total_within-remove, total_within_ge}
+
+pub same_contents : (m n : Contents) → m.pool ≡ n.pool → m.spaces ≡ n.spaces → m ≡ n
+same_contents m n a b = λ i. record { pool = a i; spaces = b i }
+
+pub page_at-view : (pool : Pool) (tables : Nested Entry) (s p : ℕ) → page_at (contents_of pool tables) s p ≡ option_map (page_of_entry pool) (value_at tables s p)
+page_at-view pool tables s p = value_at-map (page_of_entry pool) tables s p
+
+pub entry_there : (pool : Pool) (tables : Nested Entry) (s p : ℕ) (e : Entry) → value_at tables s p ≡ Some e → page_at (contents_of pool tables) s p ≡ Some (page_of_entry pool e)
+entry_there pool tables s p e h = page_at-view pool tables s p ∙ ap (option_map (page_of_entry pool)) h
+
+pub none_there : (pool : Pool) (tables : Nested Entry) (m : Contents) (s p : ℕ) → contents_of pool tables ≡ m → value_at tables s p ≡ None → page_at m s p ≡ None
+none_there pool tables m s p v h = ap (λ (n : Contents). page_at n s p) (sym v) ∙ page_at-view pool tables s p ∙ ap (option_map (page_of_entry pool)) h
+
+seen_entry : (pool : Pool) (o : Option Entry) (x : Page) → option_map (page_of_entry pool) o ≡ Some x → (e : Entry) × (o ≡ Some e) × (page_of_entry pool e ≡ x)
+seen_entry pool None x h = absurd (let f : ◌≡◌ {A = Option Page} None (Some x) = h in cc)
+seen_entry pool (Some e) x h = (e, refl, (let f : ◌≡◌ {A = Option Page} (Some (page_of_entry pool e)) (Some x) = h in cc))
+
+-- a page of the contents is that of an entry
+pub page_entry : (pool : Pool) (tables : Nested Entry) (s p : ℕ) (x : Page) → page_at (contents_of pool tables) s p ≡ Some x → (e : Entry) × (value_at tables s p ≡ Some e) × (page_of_entry pool e ≡ x)
+page_entry pool tables s p x h = seen_entry pool (value_at tables s p) x (sym (page_at-view pool tables s p) ∙ h)
+
+abbrev pub is_at : ℕ → ℕ → ℕ → ℕ → Bool
+is_at s p q r = nat_eq q s && nat_eq r p
+
+-- all other entries are seen as before
+abbrev pub SameOthers : Pool → Pool → Nested Entry → ℕ → ℕ → Type 0
+SameOthers old new tables s p = (q r : ℕ) (e : Entry) → is_at s p q r ≡ false → value_at tables q r ≡ Some e → page_of_entry new e ≡ page_of_entry old e
+
+module _ (old new : Pool) (tables : Nested Entry) (s p : ℕ) (size : new.size ≡ old.size) (alive : is_alive tables s ≡ true) (others : SameOthers old new tables s p) where
+  f : Entry → Page
+  f = page_of_entry old
+
+  same_option : (q r : ℕ) (o : Option Entry) → is_at s p q r ≡ false → value_at tables q r ≡ o → option_map (page_of_entry new) o ≡ option_map (page_of_entry old) o
+  same_option q r None a h = refl
+  same_option q r (Some e) a h = ap Some (others q r e a h)
+
+  other_side : (b : Bool) (x : Option Page) (u v : Option Page) → (b ≡ false → u ≡ v) → cond b x u ≡ cond b x v
+  other_side true x u v h = refl
+  other_side false x u v h = h refl
+
+  pub view_put : (e : Entry) → contents_of new (put_at tables s p e) ≡ put_page (contents_of old tables) s p (page_of_entry new e)
+  view_put e = same_contents _ _ size (same_nested _ _
+      (λ q. alive-map (page_of_entry new) (put_at tables s p e) q ∙ alive-put tables s p e q ∙ ap (λ b. nat_eq q s || b) (sym (alive-map (page_of_entry old) tables q)) ∙ sym (alive-put (map_values (map_values (page_of_entry old)) tables) s p (page_of_entry new e) q))
+      (λ q r. value_at-map (page_of_entry new) (put_at tables s p e) q r ∙ ap (option_map (page_of_entry new)) (value_at-put tables s p e q r)
+      ∙ turned_in (is_at s p q r) (page_of_entry new) e (value_at tables q r)
+      ∙ other_side (is_at s p q r) (Some (page_of_entry new e)) (option_map (page_of_entry new) (value_at tables q r)) (option_map (page_of_entry old) (value_at tables q r)) (λ a. same_option q r (value_at tables q r) a refl)
+      ∙ ap (cond (is_at s p q r) (Some (page_of_entry new e))) (sym (value_at-map (page_of_entry old) tables q r))
+      ∙ sym (value_at-put (map_values (map_values (page_of_entry old)) tables) s p (page_of_entry new e) q r)))
+
+  pub view_remove : contents_of new (remove_at tables s p) ≡ remove_page (contents_of old tables) s p
+  view_remove = same_contents _ _ size (same_nested _ _
+      (λ q. alive-map (page_of_entry new) (remove_at tables s p) q ∙ alive-remove tables s p q ∙ ap (λ b. nat_eq q s || b) (sym (alive-map (page_of_entry old) tables q)) ∙ sym (alive-remove (map_values (map_values (page_of_entry old)) tables) s p q))
+      (λ q r. value_at-map (page_of_entry new) (remove_at tables s p) q r ∙ ap (option_map (page_of_entry new)) (value_at-remove tables s p q r)
+      ∙ turned_out (is_at s p q r) (page_of_entry new) (value_at tables q r)
+      ∙ other_side (is_at s p q r) None (option_map (page_of_entry new) (value_at tables q r)) (option_map (page_of_entry old) (value_at tables q r)) (λ a. same_option q r (value_at tables q r) a refl)
+      ∙ ap (cond (is_at s p q r) None) (sym (value_at-map (page_of_entry old) tables q r))
+      ∙ sym (value_at-remove (map_values (map_values (page_of_entry old)) tables) s p q r)))
+
+pub same_pool : (pool : Pool) (tables : Nested Entry) (s p : ℕ) → SameOthers pool pool tables s p
+same_pool pool tables s p q r e a h = refl
+
+-- ---- classes
+pub one_share : (k : ℕ) (x : Page) → x.class ≡ Some k → share_of k x ≡ 1
+one_share k x h = ap (λ o. option_map_or (λ j. cond (nat_eq j k) 1 0) o 0) h ∙ ap (λ b. cond b 1 0) (eq-eqb k k refl)
+
+-- a page alone in its class has no other page with it
+pub alone_apart : (m : Contents) (s p q r : ℕ) (x y : Page) (k : ℕ) → members m k ≡ 1 → page_at m s p ≡ Some x → page_at m q r ≡ Some y → y.class ≡ Some k → is_at s p q r ≡ false → share_of k x ≡ 0
+alone_apart m s p q r x y k one hx hy class apart =
+    let left = total_within-remove (share_of k) m.spaces s p in
+    let a : option_map_or (share_of k) (value_at m.spaces s p) 0 ≡ share_of k x = ap (λ o. option_map_or (share_of k) o 0) hx in
+    let still : value_at (remove_at m.spaces s p) q r ≡ Some y = value_at-remove m.spaces s p q r ∙ ap (λ b. cond b None (value_at m.spaces q r)) apart ∙ hy in
+    let b = total_within_ge (share_of k) (remove_at m.spaces s p) q r y still in
+    let c = one_share k y class in
+    omega (arith, left, a, b, c, one)
+
+alone_class : (m : Contents) (o : Option ℕ) → option_map_or (λ k. nat_eq (members m k) 1) o false ≡ true → (k : ℕ) × (o ≡ Some k) × (members m k ≡ 1)
+alone_class m None h = absurd (let f : false ≡ true = h in cc)
+alone_class m (Some k) h = (k, refl, eqb-true _ _ h)
+
+pub alone_in : (m : Contents) (x : Page) → is_alone m x ≡ true → (k : ℕ) × (x.class ≡ Some k) × (members m k ≡ 1)
+alone_in m x h = alone_class m x.class h
+
+pub is_alone_in : (m : Contents) (x : Page) (k : ℕ) → x.class ≡ Some k → members m k ≡ 1 → is_alone m x ≡ true
+is_alone_in m x k c one = ap (λ o. option_map_or (λ j. nat_eq (members m j) 1) o false) c ∙ eq-eqb _ _ one
+
+-- ---- one entry changed: what holds of every memory still does
+module _ (m : Contents) (sound : IsSound m) (s p : ℕ) (x : Page) (alive : is_alive m.spaces s ≡ true) where
+  at_put : (q r : ℕ) → page_at (put_page m s p x) q r ≡ cond (is_at s p q r) (Some x) (page_at m q r)
+  at_put q r = value_at-put m.spaces s p x q r
+
+  either : (q r : ℕ) (y : Page) → page_at (put_page m s p x) q r ≡ Some y → ((is_at s p q r ≡ true) × (x ≡ y)) ⊎ ((is_at s p q r ≡ false) × (page_at m q r ≡ Some y))
+  either q r y h = elim (cases_Bool (is_at s p q r)) [
+    | inl t ↦ inl (t, (let f : ◌≡◌ {A = Option Page} (Some x) (Some y) = sym (ap (λ b. cond b (Some x) (page_at m q r)) t) ∙ sym (at_put q r) ∙ h in cc))
+    | inr f ↦ inr (f, sym (ap (λ b. cond b (Some x) (page_at m q r)) f) ∙ sym (at_put q r) ∙ h)
+  ]
+
+  -- what an old page there was leaves the classes of other open pages alone
+  old_share : (q r : ℕ) (y : Page) (k : ℕ) (o : Option Page) → page_at m s p ≡ o → is_at s p q r ≡ false → page_at m q r ≡ Some y → y.class ≡ Some k → members m k ≡ 1 → option_map_or (share_of k) o 0 ≡ 0
+  old_share q r y k None h apart hy c one = refl
+  old_share q r y k (Some old) h apart hy c one = alone_apart m s p q r old y k one h hy c apart
+
+  numbers_at : (q r : ℕ) → is_at s p q r ≡ true → (q ≡ s) × (r ≡ p)
+  numbers_at q r h = (let e : q ≡ s = grind (arith, nat_tests) in e, let e : r ≡ p = grind (arith, nat_tests) in e)
+
+  pub sound_put : p < 2 ^ 35 → ((k : ℕ) → x.class ≡ Some k → k < m.pool) → page_count (put_at m.spaces s p x) ≤ 65536
+      → (x.writable ≡ true → IsOpen (put_page m s p x) x)
+      → ((q r : ℕ) (y : Page) (k : ℕ) → is_at s p q r ≡ false → page_at m q r ≡ Some y → y.writable ≡ true → y.class ≡ Some k → members m k ≡ 1 → share_of k x ≡ 0)
+      → IsSound (put_page m s p x)
+  sound_put number class few opening apart = record {
+    opened = λ q r y h w. elim (either q r y h) [
+      | inl here ↦ subst (IsOpen (put_page m s p x)) here.1 (opening (ap (λ (z : Page). z.writable) here.1 ∙ w))
+      | inr there ↦
+          let o = sound.opened q r y there.1 w in
+          let a = alone_in m y o.alone in
+          let b = total_within-put (share_of a.0) m.spaces s p x in
+          let e = apart q r y a.0 there.0 there.1 w a.1 a.2 in
+          let f = old_share q r y a.0 (page_at m s p) refl there.0 there.1 a.1 a.2 in
+          let g = a.2 in
+          record { soft_dirty = o.soft_dirty; permitted = o.permitted; alone = is_alone_in (put_page m s p x) y a.0 a.1 (omega (arith, b, e, f, g)) }
+    ];
+    classes = λ q r y k h c. elim (either q r y h) [
+      | inl here ↦ class k (ap (λ (z : Page). z.class) here.1 ∙ c)
+      | inr there ↦ sound.classes q r y k there.1 c
+    ];
+    spaces = λ q h. sound.spaces q (sym (alive-put_same m.spaces s p x q alive) ∙ h);
+    numbers = λ q r y h. elim (either q r y h) [
+      | inl here ↦ (let e = (numbers_at q r here.0).1 in omega (arith, e, number))
+      | inr there ↦ sound.numbers q r y there.1
+    ];
+    few = few;
+  }

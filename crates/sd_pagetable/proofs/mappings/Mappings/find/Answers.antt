@@ -1,0 +1,29 @@
+use Rattle.std.proofs.Common.{◌≡◌, ℕ, ◌≤◌, ◌+◌, ◌<◌, ap, ◌∙◌, sym, subst, IsSome, refl, is_some, Option, Some, None, Bool, true, false, unwrap_or, arith, List}
+use Rattle.std.specs.Option.{option_map, option_map_or, IfSome}
+use Rattle.std.specs.FinMap as finmap
+use Rattle.std.specs.Ordering.{nat_cmp}
+use Rattle.sd_pagetable.specs.declared.entry.Entry.{Entry}
+use Rattle.sd_pagetable.specs.Nested.{Table, Nested, inside, value_at, is_alive, put_at, remove_at, map_values}
+use Rattle.sd_pagetable.specs.Page.{Page, zeros, fresh_page, stored_page}
+use Rattle.sd_pagetable.specs.Contents.{Contents, page_at, put_page, remove_page, page_count, members, share_of, is_alone, IsSound, word_at, word_of_page}
+use Rattle.sd_pagetable.specs.Access.{stored_at}
+use Rattle.sd_pagetable.specs.Firsts.{IsFirstFrom, is_from}
+use Rattle.sd_pagetable.specs.Frames.{Pool, Cell, cell_at, count_at, bytes_at, SetsCell}
+use Rattle.sd_pagetable.specs.View.{page_of_entry, entry_of, frame_bytes, contents_of, IsKept}
+use Rattle.sd_pagetable.proofs.TableLemmas.{len-map_values, not_none, get-map_values, map_values-insert, map_values-empty, map_values-remove}
+use Rattle.sd_pagetable.proofs.NestedLemmas.{alive_at, alive-map, inside-map, value_at-map}
+use Rattle.sd_pagetable.proofs.ViewLemmas.{page_at-view, entry_there, view_put, same_pool, page_entry, same_contents, none_there}
+use Rattle.sd_pagetable.proofs.KeptLemmas.{frame_used, frame_counted, kept_closed, kept_added, kept_written}
+use Rattle.sd_areas.specs.Pages.{page_of}
+use Rattle.sd_pagetable.proofs.mappings.Mappings.find.Goals as goal
+
+pub returns-in_default-get-clause-none : goal.returns-in_default-get-clause-none
+returns-in_default-get-clause-none c = none_there c.self.inside.frames c.self.inside.tables c.args.self.now c.args.space (page_of c.args.address) c.self.view_is
+    (ap (value_at c.self.inside.tables c.args.space) (sym c.in-Some.ensures.value) ∙ sym c.in_default-get.ensures)
+
+pub returns-clause-found : goal.returns-clause-found
+returns-clause-found c = (
+  c.in-Some.ensures.value,
+  ap (λ (m : Contents). option_map entry_of (page_at m c.args.space (page_of c.args.address))) (sym c.self.view_is)
+      ∙ ap (option_map entry_of) (entry_there c.self.inside.frames c.self.inside.tables c.args.space (page_of c.args.address) c.in-Some-get.entry (ap (value_at c.self.inside.tables c.args.space) (sym c.in-Some.ensures.value) ∙ sym c.in-Some-get.ensures)),
+)

@@ -1,0 +1,54 @@
+use Rattle.std.proofs.Common.{◌≡◌, ℕ, ◌+◌, ◌%◌, ap, ◌∙◌, sym, subst, IsSome, refl, is_some, Option, Some, None, Bool, true, false, not, List, cond}
+use Rattle.std.proofs.lemmas.Bool.{not-true, not-false, cond-true, cond-false}
+use Rattle.std.specs.Option.{option_map, option_map_or, IfSome}
+use Rattle.std.specs.FinMap as finmap
+use Rattle.sd_areas.specs.Pages.{page_of}
+use Rattle.sd_pagetable.specs.Nested.{Table, Nested, inside, value_at, is_alive, put_at}
+use Rattle.sd_pagetable.specs.Page.{Page, cleared_page, stored_page, plain_page}
+use Rattle.sd_pagetable.specs.Contents.{Contents, page_at, put_page, plain_of}
+use Rattle.sd_pagetable.specs.Access.{stored_at, is_bad_access, allows}
+use Rattle.sd_pagetable.specs.Effects.{after_store}
+use Rattle.sd_pagetable.specs.Due.{page_due, access_due}
+use Rattle.sd_pagetable.specs.Kept.{prots_of, HasAreas}
+use Rattle.sd_pagetable.specs.View.{entry_of}
+use Rattle.sd_pagetable.specs.declared.denied.Denied.{Denied}
+use Rattle.sd_pagetable.specs.declared.denied.Denied.TheVariants.{Segv as Stopped, Refused}
+use Rattle.sd_pagetable.specs.declared.segv.Segv.TheVariants.{Maperr, Accerr}
+use Rattle.sd_pagetable.proofs.MemoryLemmas.{plain_alive, plain_at, plain_put, plain_same, plain_stored, areas_put, page_of_seen, no_page_seen, due_none, due_some, permitted_page, access_dead, access_bad, access_at, access_within}
+use Rattle.sd_pagetable.proofs.MemoryLemmas.{at_put_here, either_result, fault_dead, fault_stopped, fault_goes, answers_err, write_there, plain_opened, opened_there, stored_after}
+use Rattle.std.specs.Prelude.{Result, Ok, Err}
+use Rattle.std.proofs.lemmas.Result.{err_from_is_err_and}
+use Rattle.sd_pagetable.specs.declared.memory_error.MemoryError.{MemoryError}
+use Rattle.sd_pagetable.specs.Due.{Answers, frame_due, fault_due, store_due}
+use Rattle.sd_pagetable.specs.Tracking.{Opens}
+use Rattle.sd_pagetable.proofs.MemoryLemmas.{areas_opened, areas_stored, areas_closed, areas_of_one}
+use Rattle.sd_pagetable.proofs.memory.Memory.fault.Goals as goal
+
+pub returns-then-not-is_alive-clause-due : goal.returns-then-not-is_alive-clause-due
+returns-then-not-is_alive-clause-due c = answers_err (fault_due c.args.self.now c.args.space c.args.address) _ c.into.result (Err c.into.result) (fault_dead c.args.self.now c.args.space c.args.address (ap (λ (m : Contents). is_alive m.spaces c.args.space) (sym c.self.view_is) ∙ sym c.is_alive.ensures ∙ c.if-not-is_alive.true)) c.into.ensures refl
+
+pub returns-in_err-page-clause-due : goal.returns-in_err-page-clause-due
+returns-in_err-page-clause-due c =
+    let p = err_from_is_err_and c.from_residual.result c.from_residual.ensures.1 in
+    answers_err (fault_due c.args.self.now c.args.space c.args.address) _ p.0 c.from_residual.result (fault_stopped c.args.self.now c.args.space c.args.address _ (ap (λ (m : Contents). is_alive m.spaces c.args.space) (sym c.self.view_is) ∙ sym c.is_alive.ensures ∙ c.if-not-is_alive.false) c.in_err-page.ensures.refused) p.2 p.1
+
+pub open-requires-clause-permitted : goal.open-requires-clause-permitted
+open-requires-clause-permitted c = let x = write_there c.args.self.now c.self.inside.mappings c.args.space (page_of c.args.address) c.in_ok-page.page c.self.view_is c.in_ok-page.ensures.page c.in_ok-page.ensures.ok in rw x.1 x.2
+
+pub open-requires-clause-there : goal.open-requires-clause-there
+open-requires-clause-there c = let x = write_there c.args.self.now c.self.inside.mappings c.args.space (page_of c.args.address) c.in_ok-page.page c.self.view_is c.in_ok-page.ensures.page c.in_ok-page.ensures.ok in rw x.1 refl
+
+pub returns-clause-due : goal.returns-clause-due
+returns-clause-due c = subst (λ due. Answers due c.open.result)
+    (ap (λ p. frame_due c.self.inside.mappings (page_at c.self.inside.mappings c.args.space p)) c.in_ok-page.ensures.page
+    ∙ ap (λ (m : Contents). frame_due m (page_at m c.args.space (page_of c.args.address))) c.self.view_is
+    ∙ sym (fault_goes c.args.self.now c.args.space c.args.address (ap (λ (m : Contents). is_alive m.spaces c.args.space) (sym c.self.view_is) ∙ sym c.is_alive.ensures ∙ c.if-not-is_alive.false) c.in_ok-page.ensures.ok))
+    c.open.ensures.due
+
+pub returns-clause-memory : goal.returns-clause-memory
+returns-clause-memory c = either_result c.open.result _ _ _ c.open.ensures.opened c.open.ensures.err
+    (λ o. plain_opened c.self.inside.mappings c.open.new.self c.args.space c.in_ok-page.page o ∙ ap plain_of c.self.view_is) (λ e. ap plain_of (e ∙ c.self.view_is))
+
+pub invariant_of-self : goal.invariant_of-self
+invariant_of-self c = either_result c.open.result _ _ _ c.open.ensures.opened c.open.ensures.err
+    (λ o. areas_opened c.self.inside.areas c.self.inside.mappings c.open.new.self c.args.space c.in_ok-page.page (λ b. b) c.self.invariant o) (λ e. subst (HasAreas c.self.inside.areas) (sym e) c.self.invariant)

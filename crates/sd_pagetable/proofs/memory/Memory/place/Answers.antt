@@ -1,0 +1,39 @@
+use Rattle.std.proofs.Common.{◌≡◌, ℕ, ◌+◌, ◌%◌, ap, ◌∙◌, sym, subst, IsSome, refl, is_some, Option, Some, None, Bool, true, false, not, List, cond}
+use Rattle.std.proofs.lemmas.Bool.{not-true, not-false, cond-true, cond-false}
+use Rattle.std.specs.Option.{option_map, option_map_or, IfSome}
+use Rattle.std.specs.FinMap as finmap
+use Rattle.sd_areas.specs.Pages.{page_of}
+use Rattle.sd_pagetable.specs.Nested.{Table, Nested, inside, value_at, is_alive, put_at}
+use Rattle.sd_pagetable.specs.Page.{Page, cleared_page, stored_page, plain_page}
+use Rattle.sd_pagetable.specs.Contents.{Contents, page_at, put_page, plain_of}
+use Rattle.sd_pagetable.specs.Access.{stored_at, is_bad_access, allows}
+use Rattle.sd_pagetable.specs.Effects.{after_store}
+use Rattle.sd_pagetable.specs.Due.{page_due, access_due}
+use Rattle.sd_pagetable.specs.Kept.{prots_of, HasAreas}
+use Rattle.std.proofs.lemmas.Result.{err_from_is_err_and}
+use Rattle.sd_pagetable.specs.View.{entry_of}
+use Rattle.sd_pagetable.specs.declared.denied.Denied.{Denied}
+use Rattle.sd_pagetable.specs.declared.denied.Denied.TheVariants.{Segv as Stopped, Refused}
+use Rattle.sd_pagetable.specs.declared.segv.Segv.TheVariants.{Maperr, Accerr}
+use Rattle.sd_pagetable.proofs.MemoryLemmas.{plain_alive, plain_at, plain_put, plain_same, plain_stored, areas_put, page_of_seen, no_page_seen, due_none, due_some, permitted_page, access_dead, access_bad, access_at, access_within}
+use Rattle.sd_pagetable.proofs.memory.Memory.place.Goals as goal
+
+pub returns-then-not-is_alive-clause-refused : goal.returns-then-not-is_alive-clause-refused
+returns-then-not-is_alive-clause-refused c = access_dead c.args.self.now c.args.space c.args.address c.args.bytes c.args.need (ap (λ (m : Contents). is_alive m.spaces c.args.space) (sym c.self.view_is) ∙ sym c.is_alive.ensures ∙ c.if-not-is_alive.true)
+
+pub returns-then-is_bad_access-clause-refused : goal.returns-then-is_bad_access-clause-refused
+returns-then-is_bad_access-clause-refused c = access_bad c.args.self.now c.args.space c.args.address c.args.bytes c.args.need (ap (λ (m : Contents). is_alive m.spaces c.args.space) (sym c.self.view_is) ∙ sym c.is_alive.ensures ∙ c.if-not-is_alive.false)
+    (sym (c.is_bad_access.ensures c.args.address refl) ∙ c.if-is_bad_access.true)
+
+pub returns-in_err-page-clause-refused : goal.returns-in_err-page-clause-refused
+returns-in_err-page-clause-refused c =
+    let p = err_from_is_err_and c.from_residual.result c.from_residual.ensures.1 in
+    rw (p.1, p.2) (access_at c.args.self.now c.args.space c.args.address c.args.bytes c.args.need (ap (λ (m : Contents). is_alive m.spaces c.args.space) (sym c.self.view_is) ∙ sym c.is_alive.ensures ∙ c.if-not-is_alive.false)
+    (sym (c.is_bad_access.ensures c.args.address refl) ∙ c.if-is_bad_access.false) ∙ c.in_err-page.ensures.refused)
+
+pub returns-clause-ok : goal.returns-clause-ok
+returns-clause-ok c = access_at c.args.self.now c.args.space c.args.address c.args.bytes c.args.need (ap (λ (m : Contents). is_alive m.spaces c.args.space) (sym c.self.view_is) ∙ sym c.is_alive.ensures ∙ c.if-not-is_alive.false)
+    (sym (c.is_bad_access.ensures c.args.address refl) ∙ c.if-is_bad_access.false) ∙ c.in_ok-page.ensures.ok
+
+pub returns-clause-within : goal.returns-clause-within
+returns-clause-within c = access_within c.args.address c.args.bytes (sym (c.is_bad_access.ensures c.args.address refl) ∙ c.if-is_bad_access.false)

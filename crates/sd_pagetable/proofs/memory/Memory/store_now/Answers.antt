@@ -1,0 +1,62 @@
+use Rattle.std.proofs.Common.{◌≡◌, ℕ, ◌+◌, ◌%◌, ap, ◌∙◌, sym, subst, IsSome, refl, is_some, Option, Some, None, Bool, true, false, not, List, cond}
+use Rattle.std.proofs.lemmas.Bool.{not-true, not-false, cond-true, cond-false}
+use Rattle.std.specs.Option.{option_map, option_map_or, IfSome}
+use Rattle.std.specs.FinMap as finmap
+use Rattle.sd_areas.specs.Pages.{page_of}
+use Rattle.sd_pagetable.specs.Nested.{Table, Nested, inside, value_at, is_alive, put_at}
+use Rattle.sd_pagetable.specs.Page.{Page, cleared_page, stored_page, plain_page}
+use Rattle.sd_pagetable.specs.Contents.{Contents, page_at, put_page, plain_of}
+use Rattle.sd_pagetable.specs.Access.{stored_at, is_bad_access, allows}
+use Rattle.sd_pagetable.specs.Effects.{after_store}
+use Rattle.sd_pagetable.specs.Due.{page_due, access_due}
+use Rattle.sd_pagetable.specs.Kept.{prots_of, HasAreas}
+use Rattle.sd_pagetable.specs.View.{entry_of}
+use Rattle.sd_pagetable.specs.declared.denied.Denied.{Denied}
+use Rattle.sd_pagetable.specs.declared.denied.Denied.TheVariants.{Segv as Stopped, Refused}
+use Rattle.sd_pagetable.specs.declared.segv.Segv.TheVariants.{Maperr, Accerr}
+use Rattle.sd_pagetable.proofs.MemoryLemmas.{plain_alive, plain_at, plain_put, plain_same, plain_stored, areas_put, page_of_seen, no_page_seen, due_none, due_some, permitted_page, access_dead, access_bad, access_at, access_within}
+use Rattle.sd_pagetable.proofs.MemoryLemmas.{at_put_here, either_result, fault_dead, fault_stopped, fault_goes, answers_err, write_there, plain_opened, opened_there, stored_after}
+use Rattle.std.specs.Prelude.{Result, Ok, Err}
+use Rattle.std.proofs.lemmas.Result.{err_from_is_err_and}
+use Rattle.sd_pagetable.specs.declared.memory_error.MemoryError.{MemoryError}
+use Rattle.sd_pagetable.specs.Due.{Answers, frame_due, fault_due, store_due}
+use Rattle.sd_pagetable.specs.Tracking.{Opens}
+use Rattle.sd_pagetable.proofs.MemoryLemmas.{areas_opened, areas_stored, areas_closed, areas_of_one}
+use Rattle.sd_pagetable.proofs.memory.Memory.store_now.Goals as goal
+
+pub open-requires-clause-permitted : goal.open-requires-clause-permitted
+open-requires-clause-permitted c = let x = write_there c.args.self.now c.self.inside.mappings c.args.space (page_of c.args.address) c.in_ok-place.place.page c.self.view_is c.in_ok-place.ensures.page c.in_ok-place.ensures.permitted in rw x.1 x.2
+
+pub open-requires-clause-there : goal.open-requires-clause-there
+open-requires-clause-there c = let x = write_there c.args.self.now c.self.inside.mappings c.args.space (page_of c.args.address) c.in_ok-place.place.page c.self.view_is c.in_ok-place.ensures.page c.in_ok-place.ensures.permitted in rw x.1 refl
+
+pub write-requires-clause-there : goal.write-requires-clause-there
+write-requires-clause-there c = let x = opened_there c.self.inside.mappings c.open.new.self c.args.space c.in_ok-place.place.page c.in_ok-open.ensures.opened in rw x.1 refl
+
+pub write-requires-clause-writable : goal.write-requires-clause-writable
+write-requires-clause-writable c = let x = opened_there c.self.inside.mappings c.open.new.self c.args.space c.in_ok-place.place.page c.in_ok-open.ensures.opened in rw x.1 x.2
+
+stored : (m n l : Contents) (s address p offset : ℕ) (bytes : List ℕ) → p ≡ page_of address → offset ≡ address % 4096 → Opens m s p (λ b. b) n
+    → IfSome (page_at n s p) (λ (before : Page). l ≡ put_page n s p (stored_page before (stored_at before.bytes offset bytes)))
+    → Opens m s (page_of address) (λ before. stored_at before (address % 4096) bytes) l × (plain_of l ≡ after_store (plain_of m) s address bytes)
+stored m n l s address p offset bytes pe oe o h = stored_after m n l s address bytes (subst (λ q. Opens m s q (λ b. b) n) pe o)
+    (subst (λ q. IfSome (page_at n s q) (λ (before : Page). l ≡ put_page n s q (stored_page before (stored_at before.bytes (address % 4096) bytes)))) pe
+    (subst (λ f. IfSome (page_at n s p) (λ (before : Page). l ≡ put_page n s p (stored_page before (stored_at before.bytes f bytes)))) oe h))
+
+pub returns-clause-step : goal.returns-clause-step
+returns-clause-step c = (stored c.args.self.now c.open.new.self c.write.new.self c.args.space c.args.address c.in_ok-place.place.page c.in_ok-place.place.offset c.args.bytes.now c.in_ok-place.ensures.page c.in_ok-place.ensures.offset
+    (subst (λ (m : Contents). Opens m c.args.space c.in_ok-place.place.page (λ b. b) c.open.new.self) c.self.view_is c.in_ok-open.ensures.opened) c.write.ensures).0
+
+pub returns-clause-memory : goal.returns-clause-memory
+returns-clause-memory c = (stored c.args.self.now c.open.new.self c.write.new.self c.args.space c.args.address c.in_ok-place.place.page c.in_ok-place.place.offset c.args.bytes.now c.in_ok-place.ensures.page c.in_ok-place.ensures.offset
+    (subst (λ (m : Contents). Opens m c.args.space c.in_ok-place.place.page (λ b. b) c.open.new.self) c.self.view_is c.in_ok-open.ensures.opened) c.write.ensures).1
+
+pub invariant_of-self : goal.invariant_of-self
+invariant_of-self c = either_result c.open.result _ _ _ c.open.ensures.opened c.open.ensures.err
+    (λ o. areas_opened c.self.inside.areas c.self.inside.mappings c.open.new.self c.args.space c.in_ok-place.place.page (λ b. b) c.self.invariant o) (λ e. subst (HasAreas c.self.inside.areas) (sym e) c.self.invariant)
+
+pub invariant_of-self-2 : goal.invariant_of-self-2
+invariant_of-self-2 c =
+    let o = areas_opened c.self.inside.areas c.self.inside.mappings c.open.new.self c.args.space c.in_ok-place.place.page (λ b. b) c.self.invariant c.in_ok-open.ensures.opened in
+    let x = opened_there c.self.inside.mappings c.open.new.self c.args.space c.in_ok-place.place.page c.in_ok-open.ensures.opened in
+    areas_stored c.self.inside.areas c.open.new.self c.write.new.self c.args.space c.in_ok-place.place.page (λ b. stored_at b c.in_ok-place.place.offset c.args.bytes.now) o (ap is_some x.1) c.write.ensures

@@ -1,0 +1,44 @@
+use Rattle.std.proofs.Common.{rules, ◌≡◌, ◌+◌, ◌<◌, ◌≤◌, ◌^◌, ◌/◌, Option, Some, Ok, sym, ap, subst, ◌∙◌, arith}
+use Rattle.sd_areas.specs.Pages.{page_of, pages_for}
+use Rattle.sd_areas.specs.Calls.{unmapped}
+use Rattle.sd_pagetable.specs.Nested.{inside, remove_within}
+use Rattle.sd_pagetable.specs.Contents.{plain_of}
+use Rattle.sd_pagetable.specs.Due.{munmap_due}
+use Rattle.sd_pagetable.specs.Kept.{HasAreas, prots_of}
+use Rattle.sd_pagetable.specs.RangeCalls.{Refuses}
+use Rattle.sd_pagetable.specs.Tracking.{with_space}
+use Rattle.sd_pagetable.proofs.PlainRanges.{areas_with, plain_unmapped}
+use Rattle.sd_pagetable.proofs.RangeDue.{munmap_seen, nothing_due, unmapped_within, own_unmapped}
+use Rattle.sd_pagetable.proofs.range_calls.munmap.Goals as goal
+
+pub returns-in_err-own-clause-due : goal.returns-in_err-own-clause-due
+returns-in_err-own-clause-due c =
+    let refused : Refuses c.in_err-own.field-0.0 (munmap_due (plain_of c.args.mappings.now) c.args.space c.args.address c.args.bytes) =
+    subst (Refuses c.in_err-own.field-0.0) (sym (munmap_seen c.args.mappings.now c.args.space c.args.address c.args.bytes)) (c.in_err-own.ensures.due c.args.mappings.now c.requires.kept) in
+    search rules
+
+pub unwrap-page-requires : goal.unwrap-page-requires
+unwrap-page-requires c =
+    let is = (c.in_ok-own.ensures.ok c.args.mappings.now c.requires.kept).1 in
+    let within = unmapped_within (prots_of (inside c.args.mappings.now.spaces c.args.space)) c.args.address c.args.bytes c.in_ok-own.own is in
+    c.new.ensures.within.1 (omega (arith, within.0, within.1))
+
+pub returns-clause-kept : goal.returns-clause-kept
+returns-clause-kept c =
+    let is = (c.in_ok-own.ensures.ok c.args.mappings.now c.requires.kept).1 in
+    let t = inside c.args.mappings.now.spaces c.args.space in
+    let done : c.unmap.new.mappings ≡ with_space c.args.mappings.now c.args.space (remove_within t (page_of c.args.address) (pages_for c.args.bytes)) = search rules in
+    subst (HasAreas c.put_areas.new.areas) (sym done)
+    (areas_with c.args.areas.now c.put_areas.new.areas c.args.mappings.now c.args.space _ c.in_ok-own.own c.requires.kept
+    (own_unmapped t c.in_ok-own.own (page_of c.args.address) (pages_for c.args.bytes) (c.unmapped_law.ensures (prots_of t) c.in_ok-own.own c.args.address c.args.bytes is))
+    c.put_areas.ensures)
+
+pub returns-clause-due : goal.returns-clause-due
+returns-clause-due c =
+    let ok = c.in_ok-own.ensures.ok c.args.mappings.now c.requires.kept in
+    munmap_seen c.args.mappings.now c.args.space c.args.address c.args.bytes ∙ nothing_due c.args.mappings.now c.args.space _ c.in_ok-own.own ok.0 ok.1
+
+pub returns-clause-memory : goal.returns-clause-memory
+returns-clause-memory c =
+    let done : c.unmap.new.mappings ≡ with_space c.args.mappings.now c.args.space (remove_within (inside c.args.mappings.now.spaces c.args.space) (page_of c.args.address) (pages_for c.args.bytes)) = search rules in
+    ap plain_of done ∙ plain_unmapped c.args.mappings.now c.args.space c.args.address c.args.bytes

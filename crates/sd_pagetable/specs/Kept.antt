@@ -1,0 +1,18 @@
+-- The areas that are kept beside the pages.
+use Rattle.std.specs.Prelude.{◌≡◌, ℕ, List, Option, Some, None}
+use Rattle.std.specs.Ordering.{nat_cmp}
+use Rattle.std.specs.Option.{option_map}
+use Rattle.std.specs.BTreeMap.{BTreeMap, get}
+use Rattle.std.specs.FinMap as finmap
+use Rattle.sd_areas.specs.Areas.{PageMap}
+use Rattle.sd_pagetable.specs.Nested.{Table, Nested, map_values}
+use Rattle.sd_pagetable.specs.Page.{Page}
+use Rattle.sd_pagetable.specs.Contents.{Contents}
+
+-- the permissions of a space's pages
+abbrev pub prots_of : Table Page → PageMap
+prots_of pages = map_values (λ (page : Page). page.prot) pages
+
+-- each living space has its areas
+abbrev pub HasAreas : BTreeMap ℕ PageMap → Contents → Type 0
+HasAreas areas contents = (space : ℕ) → get nat_cmp areas space ≡ option_map prots_of (finmap.get contents.spaces space)

@@ -1,0 +1,55 @@
+-- A mapped page, with what the page table knows of it.
+use Rattle.std.specs.Prelude.{ℕ, Bool, true, false, List, replicate, Option, Some, None, refl}
+use Rattle.std.specs.Coded.{Coded, code_by, coded×, coded_bool, coded_ℕ, coded_list, coded_option}
+use Rattle.sd_areas.specs.declared.prot.Prot.{Prot}
+use Rattle.sd_areas.specs.Codes.{prot_code}
+use Rattle.sd_areas.specs.PlainMemory as plain
+
+-- a page of zeros
+unfoldable pub zeros : List ℕ
+zeros = replicate 4096 0
+
+-- its permissions, its bytes, the number of its frame class (none where no frame was needed yet), and the two bits of its entry
+pub record Page : Type 0 where
+  pub prot : Prot
+  pub bytes : List ℕ
+  pub class : Option ℕ
+  pub writable : Bool
+  pub soft_dirty : Bool
+
+-- a page just mapped: zeros, in no class, soft-dirty
+abbrev pub fresh_page : Prot → Page
+fresh_page prot = record { prot = prot; bytes = zeros; class = None; writable = false; soft_dirty = true }
+
+-- the page without what the page table knows of it
+abbrev pub plain_page : Page → plain.Page
+plain_page page = record { prot = page.prot; bytes = page.bytes }
+
+-- after a test and clear
+abbrev pub cleared_page : Page → Page
+cleared_page page = record page { writable = false; soft_dirty = false }
+
+-- after `mprotect`
+abbrev pub protected_page : Prot → Page → Page
+protected_page prot page = record page { prot = prot; writable = false }
+
+-- a page of the parent after `fork`
+abbrev pub shared_page : Page → Page
+shared_page page = record page { writable = false }
+
+-- a page of the child after `fork`
+abbrev pub inherited_page : Page → Page
+inherited_page page = record page { writable = false; soft_dirty = true }
+
+-- a page after an accepted fault or store: writable, soft-dirty, in a class with these bytes
+abbrev pub opened_page : Page → ℕ → List ℕ → Page
+opened_page page class bytes = record { prot = page.prot; bytes = bytes; class = Some class; writable = true; soft_dirty = true }
+
+-- after a store to a writable page
+abbrev pub stored_page : Page → List ℕ → Page
+stored_page page bytes = record page { bytes = bytes }
+
+-- how pages are stored as values
+abbrev pub page_code : Coded Page
+page_code = code_by (Prot × (List ℕ × (Option ℕ × (Bool × Bool)))) (coded× prot_code (coded× (coded_list coded_ℕ) (coded× (coded_option coded_ℕ) (coded× coded_bool coded_bool))))
+    (λ p. (p.prot, (p.bytes, (p.class, (p.writable, p.soft_dirty))))) (λ t. record { prot = t.0; bytes = t.1.0; class = t.1.1.0; writable = t.1.1.1.0; soft_dirty = t.1.1.1.1 }) (λ _. refl)

@@ -1,0 +1,51 @@
+ghost use Rattle.std.specs.Prelude.{◌≡◌, true, false, None, Some};
+
+use sd_areas::Prot;
+
+/// What the page table has for a mapped page: its permissions, its frame (none before one was
+/// needed), whether a store may go on without a fault, and whether it was touched since its clear.
+#[derive(Clone, Copy, Debug, PartialEq, Eq)]
+pub(crate) struct Entry {
+    pub(crate) prot: Prot,
+    pub(crate) frame: Option<usize>,
+    pub(crate) writable: bool,
+    pub(crate) soft_dirty: bool,
+}
+
+impl Entry {
+    /// The entry of a page just mapped: without a frame, and soft-dirty.
+    pub(crate) fn fresh(prot: Prot) -> Self
+        ensures { result ≡ record { prot = prot; frame = None; writable = false; soft_dirty = true } }
+    {
+        Entry {
+            prot,
+            frame: None,
+            writable: false,
+            soft_dirty: true,
+        }
+    }
+
+    /// The entry where the next store needs a fault.
+    pub(crate) fn closed(self, soft_dirty: bool) -> Self
+        ensures { result ≡ record self { writable = false; soft_dirty = soft_dirty } }
+    {
+        Entry {
+            prot: self.prot,
+            frame: self.frame,
+            writable: false,
+            soft_dirty,
+        }
+    }
+
+    /// The entry after a fault: writable and soft-dirty, with a frame of its own.
+    pub(crate) fn opened(self, frame: usize) -> Self
+        ensures { result ≡ record { prot = self.prot; frame = Some frame; writable = true; soft_dirty = true } }
+    {
+        Entry {
+            prot: self.prot,
+            frame: Some(frame),
+            writable: true,
+            soft_dirty: true,
+        }
+    }
+}

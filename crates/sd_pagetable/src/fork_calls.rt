@@ -1,0 +1,144 @@
+//! `fork` and `exit` over the pages of all spaces and the areas beside them.
+ghost use Rattle.std.specs.Prelude.{◌≡◌, ◌≢◌, ◌⊎◌, ◌+◌, ◌<◌, ◌≤◌, ◌^◌, ℕ, ◌==◌, if◌then◌else◌, true, false, None, Some, Ok, Err, IsSome, IfOk, IfErr, OnOk, OnErr, IfSome, MatchOption};
+ghost use Rattle.std.specs.Ordering.{nat_cmp};
+ghost use Rattle.std.specs.BTreeMap.{get};
+ghost use Rattle.std.specs.FinMap as finmap;
+ghost use Rattle.sd_pagetable.specs.Nested.{inside, is_alive};
+ghost use Rattle.sd_pagetable.specs.Contents.{page_count, plain_of, IsSound};
+ghost use Rattle.sd_pagetable.specs.Due.{Answers, answer, exit_due, fork_due};
+ghost use Rattle.sd_pagetable.specs.Effects.{after_exit, after_fork, IsLeastFree};
+ghost use Rattle.sd_pagetable.specs.Kept.{HasAreas};
+ghost use Rattle.sd_pagetable.specs.Tracking.{Step, Exited, Forked, forked};
+
+use crate::denied::Denied;
+use crate::mappings::{MAPPED_LIMIT, Mappings};
+use crate::memory_error::MemoryError;
+use crate::range_calls::{Areas, copy_in};
+use crate::ranges::{copy_pages, share_pages, unmap_all};
+use crate::refusal::Refusal;
+use sd_areas::{AreaMap, SpaceId};
+use std::alloc::AllocError;
+
+/// The greatest number that a space can have.
+const SPACE_LIMIT: u64 = 16;
+
+/// Puts a child's areas beside the others.
+///
+/// # Errors
+///
+/// Out of memory where the list can't grow: nothing changes.
+fn add_areas(areas: &mut Areas, child: SpaceId, own: AreaMap) -> Result<(), AllocError>
+    ensures ok { OnOk result ((q : ℕ) → get nat_cmp areas.new q ≡ (if q == child then Some own else get nat_cmp areas.old q)) }
+    ensures err { OnErr result ((q : ℕ) → get nat_cmp areas.new q ≡ get nat_cmp areas.old q) }
+{
+    areas.insert(child, own)?;
+    Ok(())
+}
+
+/// Takes a space's areas away.
+fn drop_areas(areas: &mut Areas, space: SpaceId)
+    ensures { (q : ℕ) → get nat_cmp areas.new q ≡ (if q == space then None else get nat_cmp areas.old q) }
+{
+    areas.remove(&space);
+}
+
+/// Unmaps all pages of a space, and ends it.
+fn end_space(mappings: &mut Mappings, space: SpaceId)
+    requires { is_alive mappings.old.spaces space ≡ true }
+    ensures { mappings.new ≡ record { pool = mappings.old.pool; spaces = finmap.remove mappings.old.spaces space } }
+{
+    unmap_all(mappings, space);
+    mappings.remove_space(space);
+}
+
+/// `exit` over the pages of all spaces and the areas beside them. It takes no memory.
+pub(crate) fn exit(mappings: &mut Mappings, areas: &mut Areas, space: SpaceId) -> Result<(), Denied>
+    requires kept { HasAreas areas.old mappings.old }
+    ensures kept { HasAreas areas.new mappings.new }
+    ensures due { result ≡ answer (exit_due (plain_of mappings.old) space) tt }
+    ensures step { OnOk result (Step mappings.old (Exited space) mappings.new) }
+    ensures memory { OnOk result (plain_of mappings.new ≡ after_exit (plain_of mappings.old) space) }
+    ensures err { OnErr result (mappings.new ≡ mappings.old) }
+{
+    if !mappings.is_alive(space) {
+        return Err(Denied::Refused(Refusal::NoSuchSpace));
+    }
+    if mappings.space_count() == 1 {
+        return Err(Denied::Refused(Refusal::LastSpace));
+    }
+    end_space(mappings, space);
+    drop_areas(areas, space);
+    Ok(())
+}
+
+/// Adds a child with a copy of a space's pages, which share their frames.
+///
+/// # Errors
+///
+/// Out of memory where a table can't grow: nothing changes.
+fn copy_space(mappings: &mut Mappings, space: SpaceId, child: SpaceId) -> Result<(), AllocError>
+    requires alive { is_alive mappings.old.spaces space ≡ true }
+    requires fresh { is_alive mappings.old.spaces child ≡ false }
+    requires least { 1 ≤ child }
+    requires greatest { child ≤ 16 }
+    requires few { page_count mappings.old.spaces + finmap.len (inside mappings.old.spaces space) ≤ 65536 }
+    ensures ok { OnOk result (mappings.new ≡ forked mappings.old space child) }
+    ensures err { OnErr result (mappings.new ≡ mappings.old) }
+{
+    mappings.add_space(child)?;
+    if let Err(error) = copy_pages(mappings, space, child) {
+        end_space(mappings, child);
+        return Err(error);
+    }
+    share_pages(mappings, space, child);
+    Ok(())
+}
+
+/// The least number that isn't alive, if there is one.
+fn free_number(mappings: &Mappings) -> Option<SpaceId>
+    requires { IsSound mappings.now }
+    ensures { MatchOption result
+        (16 ≤ finmap.len mappings.now.spaces)
+        (λ child. IsLeastFree (plain_of mappings.now) child × (finmap.len mappings.now.spaces < 16) × (child ≤ 16)) }
+{
+    for number in 1..=SPACE_LIMIT {
+        let space = SpaceId::new(number);
+        if !mappings.is_alive(space) {
+            return Some(space);
+        }
+    }
+    None
+}
+
+/// `fork` over the pages of all spaces and the areas beside them.
+pub(crate) fn fork(
+    mappings: &mut Mappings,
+    areas: &mut Areas,
+    space: SpaceId,
+) -> Result<SpaceId, MemoryError>
+    requires kept { HasAreas areas.old mappings.old }
+    ensures kept { HasAreas areas.new mappings.new }
+    ensures due { Answers (fork_due (plain_of mappings.old) space) result }
+    ensures child { IfOk result (λ child. IsLeastFree (plain_of mappings.old) child) }
+    ensures step { IfOk result (λ child. Step mappings.old (Forked space child) mappings.new) }
+    ensures memory { IfOk result (λ child. plain_of mappings.new ≡ after_fork (plain_of mappings.old) space child) }
+    ensures err { OnErr result (mappings.new ≡ mappings.old) }
+{
+    if !mappings.is_alive(space) {
+        return Err(Refusal::NoSuchSpace.into());
+    }
+    let mapped = mappings.mapped();
+    let Some(child) = free_number(mappings) else {
+        return Err(Refusal::TooManySpaces.into());
+    };
+    if mapped + mappings.pages_in(space) as u64 > MAPPED_LIMIT {
+        return Err(Refusal::Enomem.into());
+    }
+    let own = copy_in(areas, space)?;
+    add_areas(areas, child, own)?;
+    if let Err(error) = copy_space(mappings, space, child) {
+        drop_areas(areas, child);
+        return Err(error.into());
+    }
+    Ok(child)
+}

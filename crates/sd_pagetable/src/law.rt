@@ -1,0 +1,10 @@
+//! The tracking law.
+ghost use Rattle.sd_pagetable.specs.Law.{TrackingLaw};
+
+/// After every list of calls and clears a mapped page is soft-dirty exactly where something since its last clear
+/// touched it, or it was never cleared; it is writable exactly where a fault or store was accepted at it and nothing
+/// since closed it; and a try of a store that is permitted needs a fault exactly where the page isn't writable.
+/// After the kernel document `soft-dirty`.
+pub fn tracking_law()
+    ensures { TrackingLaw }
+{}

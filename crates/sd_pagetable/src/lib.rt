@@ -1,0 +1,32 @@
+//! Memory as page tables over counted frames: faults, copy on write, and which pages were touched since their clear.
+#![tactic(auto)]
+
+mod denied;
+mod entry;
+mod fork_calls;
+mod frame;
+mod frames;
+mod law;
+mod mappings;
+mod memory;
+mod memory_error;
+mod need;
+mod page_table;
+mod range_calls;
+mod ranges;
+mod refusal;
+mod segv;
+mod slot;
+mod tables;
+#[cfg(test)]
+mod tests;
+mod tried;
+
+pub use denied::Denied;
+pub use law::tracking_law;
+pub use memory::{Memory, SECTOR_SIZE};
+pub use memory_error::MemoryError;
+pub use need::Need;
+pub use refusal::Refusal;
+pub use segv::Segv;
+pub use tried::Tried;

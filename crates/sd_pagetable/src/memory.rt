@@ -1,0 +1,431 @@
+ghost use Rattle.sd_pagetable.specs.Access.{allows, is_bad_access};
+ghost use Rattle.std.specs.Prelude.{◌≡◌, ◌%◌, ◌+◌, ◌*◌, ◌<◌, ◌≤◌, ℕ, true, false, None, Some, Ok, length, slice_range, is_some, IsSome, OnOk, OnErr, IfOk, IfSome, IfErr};
+
+use crate::denied::Denied;
+use crate::mappings::Mappings;
+use crate::memory_error::MemoryError;
+use crate::need::Need;
+use crate::refusal::Refusal;
+use crate::segv::Segv;
+use crate::tried::Tried;
+use crate::{fork_calls, range_calls};
+use sd_areas::{AreaMap, PAGE_SIZE, PageNo, Prot, SpaceId};
+use std::alloc::{AllocError, Global};
+use std::collections::BTreeMap;
+use std::marker::Model;
+use std::ops::Bound;
+
+/// How many bytes a sector has.
+pub const SECTOR_SIZE: usize = 512;
+
+/// How many bytes a load or a store can have.
+const ACCESS_LIMIT: usize = 64;
+
+/// How many bytes a page has.
+const PAGE_BYTES: u64 = PAGE_SIZE as u64;
+
+/// How many spaces can be alive.
+const SPACE_LIMIT: u64 = 16;
+
+/// Where an access begins.
+#[derive(Clone, Copy)]
+struct Place {
+    page: PageNo,
+    offset: usize,
+}
+
+/// Address spaces of private anonymous memory, with the soft-dirty bits of their pages.
+#[derive(Drop)]
+pub struct Memory {
+    mappings: Mappings,
+    areas: BTreeMap<SpaceId, AreaMap>,
+}
+
+impl Model for Memory {
+    ghost use Rattle.sd_pagetable.specs.Contents.{Contents, contents_code};
+    ghost use Rattle.sd_pagetable.specs.Kept.{HasAreas};
+
+    ghost Value = { Contents };
+
+    ghost coded = { contents_code };
+
+    ghost view = { λ m. m.mappings };
+
+    ghost invariant = { λ m. HasAreas m.areas m.mappings };
+}
+
+impl Memory {
+    ghost use Rattle.std.specs.FinMap as finmap;
+    ghost use Rattle.std.specs.Option.{option_map};
+    ghost use Rattle.sd_areas.specs.Pages.{page_of, pages_for};
+    ghost use Rattle.sd_areas.specs.Memory.{memory_of};
+    ghost use Rattle.sd_pagetable.specs.Nested.{is_alive, value_at};
+    ghost use Rattle.sd_pagetable.specs.Page.{Page};
+    ghost use Rattle.sd_pagetable.specs.Contents.{page_at, plain_of, word_at, IsSound};
+    ghost use Rattle.sd_pagetable.specs.Effects.{after_mmap, after_munmap, after_mprotect, after_fork, after_exit, after_store, IsLeastFree};
+    ghost use Rattle.sd_pagetable.specs.Due.{answer, Answers, page_due, access_due, fault_due, store_due, tried, mmap_due, munmap_due, mprotect_due, fork_due, exit_due};
+    ghost use Rattle.sd_pagetable.specs.Tracking.{Step, IsBeginning, Mapped, Unmapped, Protected, Forked, Exited, Faulted, Tried as TriedEvent, Stored, Cleared};
+    ghost use Rattle.sd_pagetable.specs.Order.{IsNextPage, IsFirstPage, IsFirstIn};
+    ghost use Rattle.sd_pagetable.specs.Kept.{prots_of};
+    ghost use Rattle.sd_pagetable.specs.declared.need.Need.TheVariants.{Read, Write};
+    ghost use Rattle.sd_pagetable.specs.declared.tried.Tried.TheVariants.{Done, NeedsFault};
+
+    /// Space 1 alone, without pages, over a pool of so many frames, 1 to 65,536.
+    ///
+    /// # Errors
+    ///
+    /// Out of memory where there is no room for the space.
+    pub fn new(alloc: Global, frames: usize) -> Result<Self, AllocError>
+        requires least { 1 ≤ frames }
+        requires greatest { frames ≤ 65536 }
+        ensures { IfOk result (λ memory. memory ≡ record { pool = frames; spaces = finmap.insert finmap.empty 1 finmap.empty }) }
+    {
+        let space = SpaceId::new(1);
+        let mut mappings = Mappings::new(alloc, frames);
+        mappings.add_space(space)?;
+        let mut areas = BTreeMap::new(alloc);
+        areas.insert(space, AreaMap::new(alloc))?;
+        Ok(Memory { mappings, areas })
+    }
+
+    /// Maps the whole pages of a range with these permissions and zeros, whatever was mapped
+    /// there, as `mmap` of POSIX.1-2017 does with MAP_FIXED, private and anonymous.
+    /// The address and the length are in bytes; the last page is mapped whole.
+    ///
+    /// # Errors
+    ///
+    /// In this order: no-such-space; EINVAL for a length of 0 or an address that is no multiple of
+    /// 4,096; ENOMEM for a range that ends past 2^47, and where there would be over 1,024 areas in
+    /// the space or over 65,536 pages. Out of memory where a growth was refused. An error changes
+    /// nothing.
+    pub fn mmap(
+        &mut self,
+        space: SpaceId,
+        address: u64,
+        bytes: u64,
+        prot: Prot,
+    ) -> Result<(), MemoryError>
+        ensures due { Answers (mmap_due (plain_of self.old) space address bytes prot) result }
+        ensures step { OnOk result (Step self.old (Mapped space (page_of address) (pages_for bytes) prot) self.new) }
+        ensures memory { OnOk result (plain_of self.new ≡ after_mmap (plain_of self.old) space address bytes prot) }
+        ensures err { OnErr result (self.new ≡ self.old) }
+    {
+        range_calls::mmap(
+            &mut self.mappings,
+            &mut self.areas,
+            space,
+            address,
+            bytes,
+            prot,
+        )
+    }
+
+    /// Unmaps each whole page that contains a part of a range, as `munmap` of POSIX.1-2017 does.
+    /// Pages of it that aren't mapped have no effect. The address and the length are in bytes.
+    ///
+    /// # Errors
+    ///
+    /// In this order: no-such-space; EINVAL for a length of 0, an address that is no multiple of
+    /// 4,096, or a range that ends past 2^47; ENOMEM where there would be over 1,024 areas in the
+    /// space. Out of memory where a growth was refused. An error changes nothing.
+    pub fn munmap(&mut self, space: SpaceId, address: u64, bytes: u64) -> Result<(), MemoryError>
+        ensures due { Answers (munmap_due (plain_of self.old) space address bytes) result }
+        ensures step { OnOk result (Step self.old (Unmapped space (page_of address) (pages_for bytes)) self.new) }
+        ensures memory { OnOk result (plain_of self.new ≡ after_munmap (plain_of self.old) space address bytes) }
+        ensures err { OnErr result (self.new ≡ self.old) }
+    {
+        range_calls::munmap(&mut self.mappings, &mut self.areas, space, address, bytes)
+    }
+
+    /// Gives the whole pages of a range these permissions, as `mprotect` of POSIX.1-2017 does, and
+    /// takes the writable bit of each. A length of 0 changes nothing.
+    /// The address and the length are in bytes.
+    ///
+    /// # Errors
+    ///
+    /// In this order: no-such-space; EINVAL for an address that is no multiple of 4,096; ENOMEM for
+    /// a range that ends past 2^47, where a page of it isn't mapped, and where there would be over
+    /// 1,024 areas in the space. Out of memory where a growth was refused. An error changes nothing.
+    pub fn mprotect(
+        &mut self,
+        space: SpaceId,
+        address: u64,
+        bytes: u64,
+        prot: Prot,
+    ) -> Result<(), MemoryError>
+        ensures due { Answers (mprotect_due (plain_of self.old) space address bytes prot) result }
+        ensures step { OnOk result (Step self.old (Protected space (page_of address) (pages_for bytes) prot) self.new) }
+        ensures memory { OnOk result (plain_of self.new ≡ after_mprotect (plain_of self.old) space address bytes prot) }
+        ensures err { OnErr result (self.new ≡ self.old) }
+    {
+        range_calls::mprotect(
+            &mut self.mappings,
+            &mut self.areas,
+            space,
+            address,
+            bytes,
+            prot,
+        )
+    }
+
+    /// Makes a child with a copy of a space's memory, as `fork` of POSIX.1-2017 does. It takes the
+    /// least number that isn't alive. The pages share their frames until one is stored to.
+    ///
+    /// # Errors
+    ///
+    /// In this order: no-such-space; too-many-spaces where 16 are alive; ENOMEM where there would
+    /// be over 65,536 pages. Out of memory where a growth was refused. An error changes nothing.
+    pub fn fork(&mut self, space: SpaceId) -> Result<SpaceId, MemoryError>
+        ensures due { Answers (fork_due (plain_of self.old) space) result }
+        ensures child { IfOk result (λ child. IsLeastFree (plain_of self.old) child) }
+        ensures step { IfOk result (λ child. Step self.old (Forked space child) self.new) }
+        ensures memory { IfOk result (λ child. plain_of self.new ≡ after_fork (plain_of self.old) space child) }
+        ensures err { OnErr result (self.new ≡ self.old) }
+    {
+        fork_calls::fork(&mut self.mappings, &mut self.areas, space)
+    }
+
+    /// Ends a space. It takes no memory.
+    ///
+    /// # Errors
+    ///
+    /// In this order: no-such-space; last-space where it is the only one. An error changes nothing.
+    pub fn exit(&mut self, space: SpaceId) -> Result<(), Denied>
+        ensures due { result ≡ answer (exit_due (plain_of self.old) space) tt }
+        ensures step { OnOk result (Step self.old (Exited space) self.new) }
+        ensures memory { OnOk result (plain_of self.new ≡ after_exit (plain_of self.old) space) }
+        ensures err { OnErr result (self.new ≡ self.old) }
+    {
+        fork_calls::exit(&mut self.mappings, &mut self.areas, space)
+    }
+
+    /// Where an access is, if it may be made.
+    fn place(&self, space: SpaceId, address: u64, bytes: usize, need: Need) -> Result<Place, Denied>
+        ensures page { IfOk result (λ place. place.page ≡ page_of address) }
+        ensures offset { IfOk result (λ place. place.offset ≡ address % 4096) }
+        ensures within { IfOk result (λ place. place.offset + bytes ≤ 4096) }
+        ensures permitted { OnOk result (page_due need (value_at (plain_of self.now) space (page_of address)) ≡ None) }
+        ensures ok { OnOk result (access_due (plain_of self.now) space address bytes need ≡ None) }
+        ensures refused { IfErr result (λ denied. access_due (plain_of self.now) space address bytes need ≡ Some denied) }
+    {
+        if !self.mappings.is_alive(space) {
+            return Err(Denied::Refused(Refusal::NoSuchSpace));
+        }
+        let offset = (address % PAGE_BYTES) as usize;
+        if is_bad_access(offset, bytes) {
+            return Err(Denied::Refused(Refusal::Einval));
+        }
+        let page = self.permitted(space, address, need)?;
+        Ok(Place { page, offset })
+    }
+
+    /// The page of an address, if it is mapped with the permission that the access needs.
+    fn permitted(&self, space: SpaceId, address: u64, need: Need) -> Result<PageNo, Denied>
+        ensures page { IfOk result (λ page. page ≡ page_of address) }
+        ensures ok { OnOk result (page_due need (value_at (plain_of self.now) space (page_of address)) ≡ None) }
+        ensures refused { IfErr result (λ denied. page_due need (value_at (plain_of self.now) space (page_of address)) ≡ Some denied) }
+    {
+        let Some(found) = self.mappings.find(space, address) else {
+            return Err(Denied::Segv(Segv::Maperr));
+        };
+        if allows(need, found.1.prot) {
+            Ok(found.0)
+        } else {
+            Err(Denied::Segv(Segv::Accerr))
+        }
+    }
+
+    /// Reads 1 to 64 bytes from an address on, within one page, into the buffer. A load changes
+    /// no entry and takes no memory.
+    ///
+    /// # Errors
+    ///
+    /// In this order: no-such-space; EINVAL for 0 bytes, over 64, or across a page's end; maperr
+    /// where the page isn't mapped; accerr where it can't be read. An error leaves the buffer.
+    pub fn load(&self, space: SpaceId, address: u64, buffer: &mut [u8]) -> Result<(), Denied>
+        ensures due { result ≡ answer (access_due (plain_of self.now) space address (length buffer.old) Read) tt }
+        ensures bytes { OnOk result (IfSome (page_at self.now space (page_of address)) (λ (page : Page).
+            buffer.new ≡ slice_range page.bytes (address % 4096) (address % 4096 + length buffer.old))) }
+        ensures err { OnErr result (buffer.new ≡ buffer.old) }
+    {
+        let place = self.place(space, address, buffer.len(), Need::Read)?;
+        if let Some(bytes) = self.mappings.bytes(space, place.page) {
+            buffer.copy_from_slice(&bytes[place.offset..place.offset + buffer.len()]);
+        }
+        Ok(())
+    }
+
+    /// Stores 1 to 64 bytes from an address on, within one page, where the page is writable.
+    /// It takes no memory.
+    ///
+    /// # Errors
+    ///
+    /// As of `load`, where the permission is to write. An error changes nothing.
+    pub fn try_store(&mut self, space: SpaceId, address: u64, bytes: &[u8]) -> Result<Tried, Denied>
+        ensures due { result ≡ tried self.old space address (length bytes.now) }
+        ensures step { result ≡ Ok Done → Step self.old (TriedEvent space (page_of address) (address % 4096) bytes.now) self.new }
+        ensures memory { result ≡ Ok Done → plain_of self.new ≡ after_store (plain_of self.old) space address bytes.now }
+        ensures needs_fault { result ≡ Ok NeedsFault → self.new ≡ self.old }
+        ensures err { OnErr result (self.new ≡ self.old) }
+    {
+        let place = self.place(space, address, bytes.len(), Need::Write)?;
+        match self.mappings.entry(space, place.page) {
+            Some(entry) if entry.writable => {
+                self.mappings.write(space, place.page, place.offset, bytes);
+                Ok(Tried::Done)
+            }
+            _ => Ok(Tried::NeedsFault),
+        }
+    }
+
+    /// Takes a fault at an address: the page gets a frame of its own (a copy where it was shared),
+    /// and becomes writable and soft-dirty. On a writable page it changes nothing.
+    ///
+    /// # Errors
+    ///
+    /// In this order: no-such-space; maperr where the page isn't mapped; accerr where it can't be
+    /// written; no-frame where a frame is needed and every frame of the pool is used. Out of memory
+    /// where the frame can't be allocated. An error changes nothing.
+    pub fn fault(&mut self, space: SpaceId, address: u64) -> Result<(), MemoryError>
+        ensures due { Answers (fault_due self.old space address) result }
+        ensures step { OnOk result (Step self.old (Faulted space (page_of address)) self.new) }
+        ensures memory { plain_of self.new ≡ plain_of self.old }
+        ensures err { OnErr result (self.new ≡ self.old) }
+    {
+        if !self.mappings.is_alive(space) {
+            return Err(Refusal::NoSuchSpace.into());
+        }
+        let page = self.permitted(space, address, Need::Write)?;
+        self.mappings.open(space, page)
+    }
+
+    /// Stores 1 to 64 bytes from an address on, within one page, with a fault where one is needed.
+    ///
+    /// # Errors
+    ///
+    /// As of `try_store`, and then as of `fault`. An error changes nothing.
+    pub fn store_now(
+        &mut self,
+        space: SpaceId,
+        address: u64,
+        bytes: &[u8],
+    ) -> Result<(), MemoryError>
+        ensures due { Answers (store_due self.old space address (length bytes.now)) result }
+        ensures step { OnOk result (Step self.old (Stored space (page_of address) (address % 4096) bytes.now) self.new) }
+        ensures memory { OnOk result (plain_of self.new ≡ after_store (plain_of self.old) space address bytes.now) }
+        ensures err { OnErr result (self.new ≡ self.old) }
+    {
+        let place = self.place(space, address, bytes.len(), Need::Write)?;
+        self.mappings.open(space, place.page)?;
+        self.mappings.write(space, place.page, place.offset, bytes);
+        Ok(())
+    }
+
+    /// The soft-dirty bit of a page, or none where it isn't mapped. It clears that bit and the
+    /// writable bit, as writing `4` to `clear_refs` does. It takes no memory.
+    pub fn test_and_clear(&mut self, space: SpaceId, page: PageNo) -> Option<bool>
+        ensures bit { result ≡ option_map (λ (before : Page). before.soft_dirty) (page_at self.old space page) }
+        ensures step { IfSome result (λ _. Step self.old (Cleared space page) self.new) }
+        ensures memory { plain_of self.new ≡ plain_of self.old }
+        ensures none { result ≡ None → self.new ≡ self.old }
+    {
+        let entry = self.mappings.entry(space, page)?;
+        self.mappings.close(space, page, entry.prot, false);
+        Some(entry.soft_dirty)
+    }
+
+    /// Copies one of a page's eight sectors of 512 bytes, 0 to 7, and tells whether the page is
+    /// mapped. Where it isn't, the sector stays. It takes no memory.
+    pub fn read_sector(
+        &self,
+        space: SpaceId,
+        page: PageNo,
+        sector: usize,
+        bytes: &mut [u8; SECTOR_SIZE],
+    ) -> bool
+        requires { sector < 8 }
+        ensures mapped { result ≡ is_some (page_at self.now space page) }
+        ensures bytes { IfSome (page_at self.now space page) (λ (found : Page).
+            bytes.new ≡ slice_range found.bytes (512 * sector) (512 * sector + 512)) }
+        ensures none { result ≡ false → bytes.new ≡ bytes.old }
+    {
+        let Some(found) = self.mappings.bytes(space, page) else {
+            return false;
+        };
+        let start = SECTOR_SIZE * sector;
+        bytes.copy_from_slice(&found[start..start + SECTOR_SIZE]);
+        true
+    }
+
+    /// The word of a page, as the kernel document `pagemap` has it: bit 63 where it has a frame,
+    /// bit 56 where no other page has that frame, bit 55 where it is soft-dirty; 0 where it isn't
+    /// mapped. It takes no memory.
+    pub fn word(&self, space: SpaceId, page: PageNo) -> u64
+        ensures { result ≡ word_at self.now space page }
+    {
+        self.mappings.word(space, page)
+    }
+
+    /// The least mapped page above another, by space and then by page; with none, the least of all.
+    /// It takes no memory.
+    pub fn next_page(&self, after: Option<(SpaceId, PageNo)>) -> Option<(SpaceId, PageNo)>
+        ensures { IsNextPage self.now.spaces after result }
+    {
+        let Some((space, page)) = after else {
+            return self.first_page(0);
+        };
+        match self.mappings.first_from(space, Bound::Excluded(page)) {
+            Some(next) => Some((space, next)),
+            None => self.first_page(space.number()),
+        }
+    }
+
+    /// The first page of the spaces above a number.
+    fn first_page(&self, above: u64) -> Option<(SpaceId, PageNo)>
+        ensures first { IsFirstPage self.now.spaces above result }
+        ensures sound { IsSound self.now }
+    {
+        for number in 1..SPACE_LIMIT + 1 {
+            let found = self.first_page_of(number, above);
+            if found.is_some() {
+                return found;
+            }
+        }
+        None
+    }
+
+    /// The first page of a space, if it is above a number.
+    fn first_page_of(&self, number: u64, above: u64) -> Option<(SpaceId, PageNo)>
+        ensures first { IsFirstIn self.now.spaces number above result }
+        ensures sound { IsSound self.now }
+    {
+        let space = SpaceId::new(number);
+        let page = self.mappings.first_in(space)?;
+        (above < number).then_some((space, page))
+    }
+
+    /// The areas of a space, or none where it isn't alive.
+    pub fn areas(&self, space: SpaceId) -> Option<&AreaMap>
+        ensures { option_map (λ areas. areas.now) result ≡ option_map prots_of (finmap.get self.now.spaces space) }
+    {
+        self.areas.get(&space)
+    }
+}
+
+/// Whether an access from an offset of its page on has no bytes, over 64, or crosses the page's end.
+fn is_bad_access(offset: usize, bytes: usize) -> bool
+    requires { offset < 4096 }
+    ensures { (address : ℕ) → offset ≡ address % 4096 → result ≡ is_bad_access address bytes }
+{
+    bytes == 0 || bytes > ACCESS_LIMIT || offset + bytes > PAGE_SIZE
+}
+
+/// Whether permissions allow an access.
+fn allows(need: Need, prot: Prot) -> bool
+    ensures { result ≡ allows need prot }
+{
+    match need {
+        Need::Read => prot.read,
+        Need::Write => prot.write,
+    }
+}

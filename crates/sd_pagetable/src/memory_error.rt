@@ -1,0 +1,65 @@
+use crate::denied::Denied;
+use crate::refusal::Refusal;
+use sd_areas::{AreaError, Errno};
+use std::alloc::AllocError;
+use thiserror::Error;
+
+/// Why a call that takes memory changed nothing.
+#[derive(Clone, Copy, Debug, PartialEq, Eq, Hash, Error)]
+pub enum MemoryError {
+    /// A rule forbids it.
+    #[error("{0}")]
+    Denied(Denied),
+    /// A growth was refused.
+    #[error("out-of-memory")]
+    OutOfMemory,
+}
+
+impl From<AllocError> for MemoryError {
+    ghost use Rattle.std.specs.Prelude.{◌≡◌};
+    ghost use Rattle.sd_pagetable.specs.declared.memory_error.MemoryError.TheVariants.{OutOfMemory};
+
+    ghost from_gives = { λ _ e. e ≡ OutOfMemory };
+
+    fn from(_error: AllocError) -> MemoryError {
+        MemoryError::OutOfMemory
+    }
+}
+
+impl From<Denied> for MemoryError {
+    ghost use Rattle.std.specs.Prelude.{◌≡◌};
+    ghost use Rattle.sd_pagetable.specs.declared.memory_error.MemoryError.TheVariants.{Denied as DeniedError};
+
+    ghost from_gives = { λ denied e. e ≡ DeniedError denied };
+
+    fn from(denied: Denied) -> MemoryError {
+        MemoryError::Denied(denied)
+    }
+}
+
+impl From<Refusal> for MemoryError {
+    ghost use Rattle.std.specs.Prelude.{◌≡◌};
+    ghost use Rattle.sd_pagetable.specs.declared.denied.Denied.TheVariants.{Refused};
+    ghost use Rattle.sd_pagetable.specs.declared.memory_error.MemoryError.TheVariants.{Denied as DeniedError};
+
+    ghost from_gives = { λ refusal e. e ≡ DeniedError (Refused refusal) };
+
+    fn from(refusal: Refusal) -> MemoryError {
+        MemoryError::Denied(Denied::Refused(refusal))
+    }
+}
+
+impl From<AreaError> for MemoryError {
+    ghost use Rattle.std.specs.Prelude.{◌≡◌};
+    ghost use Rattle.sd_pagetable.specs.AreaErrors.{error_of};
+
+    ghost from_gives = { λ area e. e ≡ error_of area };
+
+    fn from(error: AreaError) -> MemoryError {
+        match error {
+            AreaError::Refused(Errno::Einval) => Refusal::Einval.into(),
+            AreaError::Refused(Errno::Enomem) => Refusal::Enomem.into(),
+            AreaError::OutOfMemory => MemoryError::OutOfMemory,
+        }
+    }
+}

@@ -1,0 +1,146 @@
+ghost use Rattle.std.specs.Prelude.{◌≡◌, true, false, IsSome, OnOk, OnErr};
+ghost use Rattle.std.specs.FinMap as finmap;
+ghost use Rattle.sd_pagetable.specs.Nested.{inside, value_at, is_alive, put_at, remove_at};
+ghost use Rattle.sd_pagetable.specs.Firsts.{IsFirstFrom};
+
+use crate::entry::Entry;
+use crate::page_table::PageTable;
+use sd_areas::{PageNo, SpaceId};
+use std::alloc::{AllocError, Global};
+use std::collections::BTreeMap;
+use std::marker::Model;
+use std::ops::Bound;
+
+/// The page tables of the living spaces.
+#[derive(Drop)]
+pub(crate) struct Tables {
+    alloc: Global,
+    spaces: BTreeMap<SpaceId, PageTable>,
+}
+
+impl Model for Tables {
+    ghost use Rattle.std.specs.FinMap as finmap;
+    ghost use Rattle.std.specs.Coded.{coded_ℕ};
+    ghost use Rattle.sd_pagetable.specs.Nested.{Nested};
+    ghost use Rattle.sd_pagetable.specs.View.{entry_code};
+    ghost use Rattle.sd_pagetable.specs.declared.entry.Entry.{Entry};
+
+    ghost Value = { Nested Entry };
+
+    ghost coded = { finmap.code coded_ℕ (finmap.code coded_ℕ entry_code) };
+
+    ghost view = { λ t. finmap.from_entries t.spaces.entries };
+}
+
+impl Tables {
+    /// No space.
+    pub(crate) fn new(alloc: Global) -> Self
+        ensures { result ≡ finmap.empty }
+    {
+        Tables {
+            alloc,
+            spaces: BTreeMap::new(alloc),
+        }
+    }
+
+    /// Whether a space is alive.
+    pub(crate) fn is_alive(&self, space: SpaceId) -> bool
+        ensures { result ≡ is_alive self.now space }
+    {
+        self.spaces.contains_key(&space)
+    }
+
+    /// How many spaces are alive.
+    pub(crate) fn len(&self) -> usize
+        ensures { result ≡ finmap.len self.now }
+    {
+        self.spaces.len()
+    }
+
+    /// The entry of a page, if it is mapped.
+    pub(crate) fn get(&self, space: SpaceId, page: PageNo) -> Option<Entry>
+        ensures { result ≡ value_at self.now space page }
+    {
+        self.spaces.get(&space)?.get(page)
+    }
+
+    /// How many pages a space has.
+    pub(crate) fn pages_in(&self, space: SpaceId) -> usize
+        ensures { result ≡ finmap.len (inside self.now space) }
+    {
+        match self.spaces.get(&space) {
+            Some(table) => table.len(),
+            None => 0,
+        }
+    }
+
+    /// The first page of a space from a bound on.
+    pub(crate) fn first_from(&self, space: SpaceId, start: Bound<PageNo>) -> Option<PageNo>
+        ensures { IsFirstFrom (inside self.now space) start result }
+    {
+        self.spaces.get(&space)?.first_from(start)
+    }
+
+    /// Adds a space without pages.
+    ///
+    /// # Errors
+    ///
+    /// Out of memory where there is no room for it: nothing changes.
+    pub(crate) fn add_space(&mut self, space: SpaceId) -> Result<(), AllocError>
+        ensures ok { OnOk result (self.new ≡ finmap.insert self.old space finmap.empty) }
+        ensures err { OnErr result (self.new ≡ self.old) }
+    {
+        self.spaces.insert(space, PageTable::new(self.alloc))?;
+        Ok(())
+    }
+
+    /// Takes a space away.
+    pub(crate) fn remove_space(&mut self, space: SpaceId)
+        ensures { self.new ≡ finmap.remove self.old space }
+    {
+        self.spaces.remove(&space);
+    }
+
+    /// Puts the entry of a page.
+    ///
+    /// # Errors
+    ///
+    /// Out of memory where the table can't grow: nothing changes.
+    pub(crate) fn insert(
+        &mut self,
+        space: SpaceId,
+        page: PageNo,
+        entry: Entry,
+    ) -> Result<(), AllocError>
+        requires { is_alive self.old space ≡ true }
+        ensures ok { OnOk result (self.new ≡ put_at self.old space page entry) }
+        ensures err { OnErr result (self.new ≡ self.old) }
+    {
+        let Some(table) = self.spaces.get_mut(&space) else {
+            return Ok(());
+        };
+        table.insert(page, entry)
+    }
+
+    /// Replaces the entry of a mapped page. It takes no memory.
+    pub(crate) fn replace(&mut self, space: SpaceId, page: PageNo, entry: Entry)
+        requires { IsSome (value_at self.old space page) }
+        ensures { self.new ≡ put_at self.old space page entry }
+    {
+        let Some(table) = self.spaces.get_mut(&space) else {
+            return;
+        };
+        table.replace(page, entry);
+    }
+
+    /// Takes the entry of a page out.
+    pub(crate) fn remove(&mut self, space: SpaceId, page: PageNo)
+        requires { is_alive self.old space ≡ true }
+        ensures { self.new ≡ remove_at self.old space page }
+    {
+        let Some(table) = self.spaces.get_mut(&space) else {
+            return;
+        };
+        table.remove(page);
+    }
+}
