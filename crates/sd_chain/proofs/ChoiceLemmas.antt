@@ -1,0 +1,110 @@
+-- Choosing among the images that came so far.
+use Rattle.std.proofs.Common.{◌≡◌, ◌≢◌, ◌⊎◌, ◌<◌, ◌≤◌, ℕ, List, [], ◌∷◌, ◌++◌, map, Option, Some, None, All, Contains, refl, sym, ◌∙◌, ap, subst, arith, inl, inr, Bor}
+use Rattle.std.proofs.lemmas.Bool.{cases_lt}
+use Rattle.std.proofs.lemmas.List.{append-nil, map-append}
+use Rattle.std.proofs.lemmas.List.Elements.{Contains-push, Contains-push_cases, Contains-append_left, All-push, All-contains, filter_map-append}
+use Rattle.std.specs.Map.Iter.{deref_pair}
+use Rattle.sd_chain.specs.Catalog.{Opened, Places, images, IsRestored, IsNotAfter, IsNewestAmong, IsNamedAmong, IsNewestChoice, IsNamedChoice}
+
+not_after_step : (a b c : Opened) → IsNotAfter a b → IsNotAfter b c → IsNotAfter a c
+not_after_step a b c (inl x) (inl y) = inl (omega arith)
+not_after_step a b c (inl x) (inr y) = inl (omega (arith, y.0))
+not_after_step a b c (inr x) (inl y) = inl (omega (arith, x.0))
+not_after_step a b c (inr x) (inr y) = inr (x.0 ∙ y.0, omega (arith, x.1, y.1))
+
+order_cases : (a b : Opened) → IsNotAfter a b ⊎ IsNotAfter b a
+order_cases a b = elim (cases_lt a.header.checkpoint b.header.checkpoint) [
+  | inl l ↦ inl (inl l)
+  | inr g ↦ elim (cases_lt b.header.checkpoint a.header.checkpoint) [
+    | inl h ↦ inr (inl h)
+    | inr k ↦ elim (cases_lt a.header.serial b.header.serial) [
+      | inl m ↦ inl (inr (omega arith, omega arith))
+      | inr n ↦ inr (inr (omega arith, omega arith))
+    ]
+  ]
+]
+
+pub not_after : (a b : Opened) → (IsNotAfter a b → ⊥) → IsNotAfter b a
+not_after a b never = elim (order_cases a b) [ inl x ↦ absurd (never x) | inr y ↦ y ]
+
+-- ---- the newest
+
+pub newest_kept : (all : List Opened) (one best : Opened) → IsNewestAmong all best → (IsRestored one → IsNotAfter one best) → IsNewestAmong (all ++ one ∷ []) best
+newest_kept all one best newest less = record {
+  member = Contains-append_left all (one ∷ []) best newest.member;
+  restored = newest.restored;
+  greatest = λ other among restored. elim (Contains-push_cases all one other among) [
+    | inl c ↦ newest.greatest other c restored
+    | inr e ↦ subst (λ (f : Opened). IsNotAfter f best) e (less (subst IsRestored (sym e) restored))
+  ];
+}
+
+pub newest_first : (all : List Opened) (one : Opened) → All (λ i. IsRestored i → ⊥) all → IsRestored one → IsNewestAmong (all ++ one ∷ []) one
+newest_first all one none restored = record {
+  member = Contains-push all one;
+  restored = restored;
+  greatest = λ other among is. elim (Contains-push_cases all one other among) [
+    | inl c ↦ absurd (All-contains (λ (i : Opened). IsRestored i → ⊥) all other none c is)
+    | inr e ↦ subst (λ (f : Opened). IsNotAfter f one) e (inr (refl, omega arith))
+  ];
+}
+
+pub newest_next : (all : List Opened) (one best : Opened) → IsNewestAmong all best → IsRestored one → IsNotAfter best one → IsNewestAmong (all ++ one ∷ []) one
+newest_next all one best newest restored less = record {
+  member = Contains-push all one;
+  restored = restored;
+  greatest = λ other among is. elim (Contains-push_cases all one other among) [
+    | inl c ↦ not_after_step other best one (newest.greatest other c is) less
+    | inr e ↦ subst (λ (f : Opened). IsNotAfter f one) e (inr (refl, omega arith))
+  ];
+}
+
+pub choice_kept : (all : List Opened) (one : Opened) (chosen : Option (Bor Opened)) → IsNewestChoice all chosen → (IsRestored one → ⊥) → IsNewestChoice (all ++ one ∷ []) chosen
+choice_kept all one None none never = All-push (λ i. IsRestored i → ⊥) all one none never
+choice_kept all one (Some best) newest never = newest_kept all one best.now newest (λ restored. absurd (never restored))
+
+-- ---- the one that a number names
+
+pub named_kept : (number : ℕ) (all : List Opened) (one best : Opened) → IsNamedAmong all number best
+    → (one.header.stands_for ≡ number → one.header.serial ≤ best.header.serial) → IsNamedAmong (all ++ one ∷ []) number best
+named_kept number all one best named less = record {
+  member = Contains-append_left all (one ∷ []) best named.member;
+  stands = named.stands;
+  greatest = λ other among is. elim (Contains-push_cases all one other among) [
+    | inl c ↦ named.greatest other c is
+    | inr e ↦ subst (λ (f : Opened). f.header.serial ≤ best.header.serial) e (less (subst (λ (f : Opened). f.header.stands_for ≡ number) (sym e) is))
+  ];
+}
+
+pub named_first : (number : ℕ) (all : List Opened) (one : Opened) → All (λ i. i.header.stands_for ≢ number) all → one.header.stands_for ≡ number → IsNamedAmong (all ++ one ∷ []) number one
+named_first number all one none stands = record {
+  member = Contains-push all one;
+  stands = stands;
+  greatest = λ other among is. elim (Contains-push_cases all one other among) [
+    | inl c ↦ absurd (All-contains (λ (i : Opened). i.header.stands_for ≢ number) all other none c is)
+    | inr e ↦ subst (λ (f : Opened). f.header.serial ≤ one.header.serial) e (omega arith)
+  ];
+}
+
+pub named_next : (number : ℕ) (all : List Opened) (one best : Opened) → IsNamedAmong all number best → one.header.stands_for ≡ number
+    → best.header.serial ≤ one.header.serial → IsNamedAmong (all ++ one ∷ []) number one
+named_next number all one best named stands less = record {
+  member = Contains-push all one;
+  stands = stands;
+  greatest = λ other among is. elim (Contains-push_cases all one other among) [
+    | inl c ↦ let h = named.greatest other c is in omega (arith, h, less)
+    | inr e ↦ subst (λ (f : Opened). f.header.serial ≤ one.header.serial) e (omega arith)
+  ];
+}
+
+pub named_choice_kept : (number : ℕ) (all : List Opened) (one : Opened) (chosen : Option (Bor Opened)) → IsNamedChoice number all chosen → one.header.stands_for ≢ number → IsNamedChoice number (all ++ one ∷ []) chosen
+named_choice_kept number all one None none never = All-push (λ i. i.header.stands_for ≢ number) all one none never
+named_choice_kept number all one (Some best) named never = named_kept number all one best.now named (λ is. absurd (never is))
+
+-- ---- images, one place more
+
+pub images_more : (before : Places) (serial : ℕ) (i : Opened) → images (before ++ (serial, Some i) ∷ []) ≡ images before ++ i ∷ []
+images_more before serial i = filter_map-append (λ (place : ℕ × Option Opened). place.1) before ((serial, Some i) ∷ [])
+
+pub images_held : (before : Places) (serial : ℕ) → images (before ++ (serial, None) ∷ []) ≡ images before
+images_held before serial = filter_map-append (λ (place : ℕ × Option Opened). place.1) before ((serial, None) ∷ []) ∙ append-nil (images before)

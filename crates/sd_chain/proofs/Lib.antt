@@ -1,0 +1,4 @@
+pub mod Places
+pub mod ChoiceLemmas
+pub mod Members
+pub mod Walks

@@ -1,0 +1,131 @@
+-- The images of a catalog are those of its places, and rise by serial.
+use Rattle.std.proofs.Common.{◌≡◌, ◌⊎◌, ◌<◌, ◌≤◌, ◌+◌, ℕ, zero, suc, Bool, true, false, nat_eq, List, [], ◌∷◌, map, length, slice_index_or, Option, Some, None, Contains, refl, sym, ◌∙◌, ap, subst, arith, inl, inr}
+use Rattle.std.specs.List.{AllByRecursion, IsDistinct}
+use Rattle.std.specs.List.Sorted.{IsNonDecreasingBy}
+use Rattle.std.specs.Map.{lookup, keys_of}
+use Rattle.std.proofs.lemmas.Bool.{eq-eqb, cases_lt, false≢true}
+use Rattle.std.proofs.lemmas.Cmp.{nat_eq_equiv}
+use Rattle.std.proofs.lemmas.List.Elements.{Contains-get_or, recursion_from_All}
+use Rattle.std.proofs.lemmas.List.Sorted.{IsNonDecreasingBy-from_sort}
+use Rattle.std.proofs.lemmas.Map.Views.{lookup-from_Contains}
+use Rattle.sd_chain.specs.Catalog.{Opened, Places, AreInOrder, place_of, images, IsRising, Names}
+use Rattle.sd_chain.proofs.Places.{by_keys}
+
+contains_front : {X : Type 0} (x : X) (xs : List X) → Contains (x ∷ xs) x
+contains_front x xs = (0, omega arith, refl)
+
+contains_later : {X : Type 0} (x y : X) (xs : List X) → Contains xs y → Contains (x ∷ xs) y
+contains_later x y xs c = (suc c.0, omega arith, c.2)
+
+contains_cons_cases : {X : Type 0} (x y : X) (xs : List X) → Contains (x ∷ xs) y → (y ≡ x) ⊎ Contains xs y
+contains_cons_cases x y xs c = at_place c.0 c.1 c.2
+  where
+    at_place : (k : ℕ) → k < length (x ∷ xs) → slice_index_or (x ∷ xs) k y ≡ y → (y ≡ x) ⊎ Contains xs y
+    at_place zero within is = inl (sym is)
+    at_place (suc k) within is = inr (k, omega arith, is)
+
+-- ---- an image stands at a place
+
+entry_step : (k : ℕ) (o : Option Opened) (es : Places) (i : Opened) → (Contains (images es) i → (n : ℕ) × Contains es (n, Some i))
+    → Contains (images ((k, o) ∷ es)) i → (n : ℕ) × Contains ((k, o) ∷ es) (n, Some i)
+entry_step k None es i rest c = let r = rest c in (r.0, contains_later (k, None) (r.0, Some i) es r.1)
+entry_step k (Some j) es i rest c = elim (contains_cons_cases j i (images es) c) [
+  | inl e ↦ (k, subst (λ (x : Opened). Contains ((k, Some j) ∷ es) (k, Some x)) (sym e) (contains_front (k, Some j) es))
+  | inr d ↦ let r = rest d in (r.0, contains_later (k, Some j) (r.0, Some i) es r.1)
+]
+
+entry_of : (es : Places) (i : Opened) → Contains (images es) i → (n : ℕ) × Contains es (n, Some i)
+entry_of [] i c = absurd (omega (arith, c.1))
+entry_of (e ∷ es) i c = entry_step e.0 e.1 es i (entry_of es i) c
+
+pub open_place : (es : Places) (i : Opened) → AreInOrder es → Contains (images es) i → place_of es i.header.serial ≡ Some (Some i)
+open_place es i order c =
+    let entry = entry_of es i c in
+    let found = lookup-from_Contains nat_eq_equiv entry.0 (Some i) es order.distinct entry.1 in
+    subst (λ n. place_of es n ≡ Some (Some i)) (sym (order.own entry.0 i found)) found
+
+open_step : (k : ℕ) (o : Option Opened) (es : Places) (n : ℕ) (i : Opened) → (Contains es (n, Some i) → Contains (images es) i)
+    → Contains ((k, o) ∷ es) (n, Some i) → Contains (images ((k, o) ∷ es)) i
+open_step k None es n i rest c = elim (contains_cons_cases (k, None) (n, Some i) es c) [
+  | inl e ↦ absurd (let no : Some i ≡ None = ap (λ p. p.1) e in cc)
+  | inr d ↦ rest d
+]
+open_step k (Some j) es n i rest c = elim (contains_cons_cases (k, Some j) (n, Some i) es c) [
+  | inl e ↦ let some : Some i ≡ Some j = ap (λ p. p.1) e in let is : i ≡ j = cc in subst (λ (x : Opened). Contains (j ∷ images es) x) (sym is) (contains_front j (images es))
+  | inr d ↦ contains_later j i (images es) (rest d)
+]
+
+pub contains_open : (es : Places) (n : ℕ) (i : Opened) → Contains es (n, Some i) → Contains (images es) i
+contains_open [] n i c = absurd (omega (arith, c.1))
+contains_open (e ∷ es) n i c = open_step e.0 e.1 es n i (contains_open es n i) c
+
+-- ---- one image a serial
+
+pub same_serial : (es : Places) (a b : Opened) → AreInOrder es → Contains (images es) a → Contains (images es) b → a.header.serial ≡ b.header.serial → a ≡ b
+same_serial es a b order ca cb e =
+    let pa = open_place es a order ca in
+    let pb = subst (λ n. place_of es n ≡ Some (Some b)) (sym e) (open_place es b order cb) in
+    let both : Some (Some a) ≡ Some (Some b) = sym pa ∙ pb in
+    cc
+
+pub named_once : (es : Places) (number : ℕ) (a b : Opened) → AreInOrder es → Names es number a → Names es number b → a ≡ b
+named_once es number a b order na nb =
+    let ab = na.greatest b nb.member nb.stands in
+    let ba = nb.greatest a na.member na.stands in
+    same_serial es a b order na.member nb.member (omega (arith, ab, ba))
+
+-- ---- they rise
+
+abbrev Rise : Places → Type 0
+Rise [] = Unit {0}
+Rise (e ∷ es) = AllByRecursion (λ (f : ℕ × Option Opened). e.0 < f.0) es × Rise es
+
+abbrev IsOwned : ℕ × Option Opened → Type 0
+IsOwned e = (i : Opened) → e.1 ≡ Some i → i.header.serial ≡ e.0
+
+apart : (a b : ℕ) → a ≤ b → nat_eq a b ≡ false → a < b
+apart a b le ne = elim (cases_lt a b) [
+  | inl l ↦ l
+  | inr g ↦ absurd (let e : a ≡ b = omega arith in false≢true (sym ne ∙ eq-eqb a b e))
+]
+
+all_apart : (a : ℕ) (fs : Places) → ((j : ℕ) (d : ℕ × Option Opened) → j < length fs → a ≤ (slice_index_or fs j d).0)
+    → AllByRecursion (λ k. nat_eq a k ≡ false) (keys_of fs) → AllByRecursion (λ (f : ℕ × Option Opened). a < f.0) fs
+all_apart a [] above ne = tt
+all_apart a (f ∷ fs) above ne = (apart a f.0 (above 0 f (omega arith)) ne.0, all_apart a fs (λ j d l. above (suc j) d (omega arith)) ne.1)
+
+places_rise : (es : Places) → IsNonDecreasingBy (λ (e : ℕ × Option Opened). e.0) es → IsDistinct nat_eq (keys_of es) → Rise es
+unfolding IsDistinct
+places_rise [] sorted distinct = tt
+places_rise (e ∷ es) sorted distinct = (
+  all_apart e.0 es (λ j d l. sorted 0 (suc j) d (omega arith) (omega arith)) distinct.0,
+  places_rise es (λ i j d le l. sorted (suc i) (suc j) d (omega arith) (omega arith)) distinct.1,
+)
+
+above_step : (a k : ℕ) (o : Option Opened) (es : Places) → a < k → IsOwned (k, o) → AllByRecursion (λ (j : Opened). a < j.header.serial) (images es)
+    → AllByRecursion (λ (j : Opened). a < j.header.serial) (images ((k, o) ∷ es))
+above_step a k None es l own rest = rest
+above_step a k (Some i) es l own rest = (let e = own i refl in omega (arith, e, l), rest)
+
+images_above : (a : ℕ) (es : Places) → AllByRecursion (λ (f : ℕ × Option Opened). a < f.0) es → AllByRecursion IsOwned es → AllByRecursion (λ (j : Opened). a < j.header.serial) (images es)
+images_above a [] above own = tt
+images_above a (e ∷ es) above own = above_step a e.0 e.1 es above.0 own.0 (images_above a es above.1 own.1)
+
+rising_step : (k : ℕ) (o : Option Opened) (es : Places) → AllByRecursion (λ (f : ℕ × Option Opened). k < f.0) es → IsOwned (k, o) → AllByRecursion IsOwned es
+    → IsRising (images es) → IsRising (images ((k, o) ∷ es))
+rising_step k None es above own owns rest = rest
+rising_step k (Some i) es above own owns rest =
+    (subst (λ a. AllByRecursion (λ (j : Opened). a < j.header.serial) (images es)) (sym (own i refl)) (images_above k es above owns), rest)
+
+images_rise : (es : Places) → Rise es → AllByRecursion IsOwned es → IsRising (images es)
+images_rise [] rise own = tt
+images_rise (e ∷ es) rise own = rising_step e.0 e.1 es rise.0 own.0 own.1 (images_rise es rise.1 own.1)
+
+owned : (es : Places) → AreInOrder es → (e : ℕ × Option Opened) → Contains es e → IsOwned e
+owned es order e c = λ i is.
+    order.own e.0 i (lookup-from_Contains nat_eq_equiv e.0 (Some i) es order.distinct (subst (λ (o : Option Opened). Contains es (e.0, o)) is c))
+
+pub rising : (es : Places) → AreInOrder es → IsRising (images es)
+rising es order =
+    images_rise es (places_rise es (IsNonDecreasingBy-from_sort (λ (e : ℕ × Option Opened). e.0) es (by_keys es order.sorted)) order.distinct)
+    (recursion_from_All IsOwned es (λ k d l. owned es order (slice_index_or es k d) (Contains-get_or es k d l)))

@@ -1,0 +1,98 @@
+-- The walk from an image to its parent, as far as it has come.
+use Rattle.std.proofs.Common.{◌≡◌, ◌⊎◌, ◌<◌, ℕ, nat_eq, List, [], ◌∷◌, ◌++◌, Option, Some, None, MatchOption, Contains, refl, sym, ◌∙◌, ap, subst, inl, inr, Bor, arith}
+use Rattle.std.specs.Prelude.{◌↔◌, IfSome, IsNone}
+use Rattle.std.proofs.lemmas.Bool.{eqb-true}
+use Rattle.std.proofs.lemmas.List.Elements.{Contains-push, Contains-push_cases, Contains-append_left, All-contains}
+use Rattle.std.proofs.lemmas.Map.Views.{Contains-from_lookup}
+use Rattle.sd_chain.specs.Catalog.{Opened, Places, AreInOrder, place_of, images, Names}
+use Rattle.sd_chain.specs.Reaches.{Reaches, ReachesSerial, ParentsFall}
+use Rattle.sd_chain.proofs.Members.{open_place, contains_open, same_serial, named_once}
+
+-- the next image of the walk, if there is one, reaches this
+abbrev pub NextReaches : Places → Option (Bor Opened) → Opened → Type 0
+NextReaches places next j = MatchOption next ⊥ (λ i. Reaches places j i.now)
+
+pub record IsWalk (places : Places) (serial : ℕ) (list : List ℕ) (next : Option (Bor Opened)) : Type 0 where
+  pub said : (n : ℕ) → Contains list n → ReachesSerial places serial n
+  pub member : IfSome next (λ i. Contains (images places) i.now)
+  pub ahead : (j : Opened) → NextReaches places next j → ReachesSerial places serial j.header.serial
+  pub left : (n : ℕ) → ReachesSerial places serial n → Contains list n ⊎ ((j : Opened) × NextReaches places next j × (j.header.serial ≡ n))
+
+-- what a look-up by serial gives
+abbrev pub IsImageOf : Places → ℕ → Option (Bor Opened) → Type 0
+IsImageOf places serial found = MatchOption found
+    ((i : Opened) → place_of places serial ≡ Some (Some i) → ⊥)
+    (λ i. (place_of places serial ≡ Some (Some i.now)) × (i.now.header.serial ≡ serial))
+
+pub member_of : (places : Places) (serial : ℕ) (i : Opened) → place_of places serial ≡ Some (Some i) → Contains (images places) i
+member_of places serial i e = contains_open places serial i (Contains-from_lookup eqb-true serial (Some i) places e)
+
+pub walk_begins : (places : Places) (serial : ℕ) (next : Option (Bor Opened)) → AreInOrder places → IsImageOf places serial next → IsWalk places serial [] next
+walk_begins places serial None order none = record {
+  said = λ n c. absurd (empty n c);
+  member = tt;
+  ahead = λ j never. absurd never;
+  left = λ n r. absurd (none r.0 (subst (λ k. place_of places k ≡ Some (Some r.0)) r.3 (open_place places r.0 order r.2)));
+}
+  where
+    empty : (n : ℕ) → Contains [] n → ⊥
+    empty n c = omega (arith, c.1)
+walk_begins places serial (Some i) order found = record {
+  said = λ n c. absurd (empty n c);
+  member = member_of places serial i.now found.0;
+  ahead = λ j r. (i.now, j, member_of places serial i.now found.0, found.1, r, refl);
+  left = λ n r.
+      let is : r.0 ≡ i.now = same_serial places r.0 i.now order r.2 (member_of places serial i.now found.0) (r.3 ∙ sym found.1) in
+      inr (r.1, subst (Reaches places r.1) is r.4, r.5);
+}
+  where
+    empty : (n : ℕ) → Contains [] n → ⊥
+    empty n c = omega (arith, c.1)
+
+-- what follows an image
+pub record IsNext (places : Places) (i : Opened) (next : Option (Bor Opened)) : Type 0 where
+  pub named : IfSome next (λ p. Names places i.header.parent p.now)
+  pub all : i.header.parent < i.header.stands_for → IsNone next → (p : Opened) → Names places i.header.parent p → ⊥
+
+ahead_more : (places : Places) (serial : ℕ) (i : Opened) (next : Option (Bor Opened)) → IfSome next (λ p. Names places i.header.parent p.now)
+    → ((j : Opened) → Reaches places j i → ReachesSerial places serial j.header.serial) → (j : Opened) → NextReaches places next j → ReachesSerial places serial j.header.serial
+ahead_more places serial i None named was j never = absurd never
+ahead_more places serial i (Some p) named was j r = was j (Reaches.beyond i p.now named r)
+
+member_more : (places : Places) (i : Opened) (next : Option (Bor Opened)) → IfSome next (λ p. Names places i.header.parent p.now) → IfSome next (λ p. Contains (images places) p.now)
+member_more places i None named = tt
+member_more places i (Some p) named = named.member
+
+beyond_next : (places : Places) (i p j : Opened) (next : Option (Bor Opened)) → AreInOrder places → i.header.parent < i.header.stands_for → IsNext places i next
+    → Names places i.header.parent p → Reaches places j p → NextReaches places next j
+beyond_next places i p j None order falls is named r = absurd (is.all falls refl p named)
+beyond_next places i p j (Some q) order falls is named r = subst (Reaches places j) (named_once places i.header.parent p q.now order named is.named) r
+
+reached_more : (places : Places) (i j : Opened) (next : Option (Bor Opened)) → AreInOrder places → i.header.parent < i.header.stands_for → IsNext places i next
+    → Reaches places j i → (i ≡ j) ⊎ NextReaches places next j
+reached_more places i j next order falls is r = by i r falls is
+  where
+    by : (k : Opened) → Reaches places j k → k.header.parent < k.header.stands_for → IsNext places k next → (k ≡ j) ⊎ NextReaches places next j
+    by _ Reaches.itself falls is = inl refl
+    by _ (Reaches.beyond k p named rest) falls is = inr (beyond_next places k p j next order falls is named rest)
+
+pub walk_goes_on : (places : Places) (serial : ℕ) (list : List ℕ) (i : Bor Opened) (next : Option (Bor Opened)) → AreInOrder places → ParentsFall places
+    → IsWalk places serial list (Some i) → IsNext places i.now next → IsWalk places serial (list ++ i.now.header.serial ∷ []) next
+walk_goes_on places serial list i next order fall walk is = record {
+  said = λ n c. elim (Contains-push_cases list i.now.header.serial n c) [
+    | inl d ↦ walk.said n d
+    | inr e ↦ subst (ReachesSerial places serial) e (walk.ahead i.now Reaches.itself)
+  ];
+  member = member_more places i.now next is.named;
+  ahead = ahead_more places serial i.now next is.named walk.ahead;
+  left = λ n r. elim (walk.left n r) [
+    | inl c ↦ inl (Contains-append_left list (i.now.header.serial ∷ []) n c)
+    | inr x ↦ elim (reached_more places i.now x.0 next order (All-contains (λ (k : Opened). k.header.parent < k.header.stands_for) (images places) i.now fall walk.member) is x.1) [
+      | inl e ↦ inl (subst (Contains (list ++ i.now.header.serial ∷ [])) (ap (λ (k : Opened). k.header.serial) e ∙ x.2) (Contains-push list i.now.header.serial))
+      | inr y ↦ inr (x.0, y, x.2)
+    ]
+  ];
+}
+
+pub walk_ends : (places : Places) (serial : ℕ) (list : List ℕ) → IsWalk places serial list None → (n : ℕ) → Contains list n ↔ ReachesSerial places serial n
+walk_ends places serial list walk n = (walk.said n, λ r. elim (walk.left n r) [ inl c ↦ c | inr x ↦ absurd x.1 ])

@@ -1,0 +1,14 @@
+use Rattle.std.proofs.Common.{sym, subst, List, Option, None, Some, ◌++◌, ◌∷◌, []}
+use Rattle.sd_chain.specs.Catalog.{Opened, images, IsNewestChoice, IsNamedChoice}
+use Rattle.sd_chain.proofs.ChoiceLemmas.{images_more, images_held}
+use Rattle.sd_chain.proofs.choice.named_at.Goals as goal
+
+pub returns-in-Some : goal.returns-in-Some
+returns-in-Some c = λ before serial was.
+    subst (λ (p : Option Opened). IsNamedChoice c.args.number (images (before ++ (serial, p) ∷ [])) c.named_with.result) (sym c.in-Some.is)
+    (subst (λ (all : List Opened). IsNamedChoice c.args.number all c.named_with.result) (sym (images_more before serial c.in-Some.one)) (c.named_with.ensures (images before) was))
+
+pub returns-in-None : goal.returns-in-None
+returns-in-None c = λ before serial was.
+    subst (λ (p : Option Opened). IsNamedChoice c.args.number (images (before ++ (serial, p) ∷ [])) c.args.named) (sym c.in-None.is)
+    (subst (λ (all : List Opened). IsNamedChoice c.args.number all c.args.named) (sym (images_held before serial)) was)

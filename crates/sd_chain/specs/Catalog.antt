@@ -1,0 +1,88 @@
+-- The catalog as it is seen: the places of serials, rising, each held or with an open image.
+use Rattle.std.specs.Prelude.{◌≡◌, ◌≢◌, ◌⊎◌, ℕ, ◌+◌, ◌*◌, ◌<◌, ◌≤◌, ◌^◌, ◌==◌, if◌then◌else◌, Bool, true, not, List, [], ◌∷◌, Option, Some, None, IsSorted, All, nat_eq, Contains, MatchOption, map}
+use Rattle.std.specs.Borrow.{Bor}
+use Rattle.std.specs.List.{filter_map, AllByRecursion, IsDistinct}
+use Rattle.std.specs.Map.{lookup, keys_of}
+use Rattle.std.specs.Ordering.{nat_cmp}
+use Rattle.sd_image.specs.declared.header.Header.{Header}
+use Rattle.sd_image.specs.declared.header.Kind.TheVariants.{PreDump}
+use Rattle.sd_image.specs.Table.{Listed, IsTable}
+
+-- an open image: its slot, and what its header and table say
+pub record Opened : Type 0 where
+  pub slot : ℕ
+  pub header : Header
+  pub spaces : List Listed
+
+-- places by serial; one without an image is held
+abbrev pub Places : Type 0
+Places = List (ℕ × Option Opened)
+
+-- rising by serial, each image at its own
+pub record AreInOrder (places : Places) : Type 0 where
+  pub distinct : IsDistinct nat_eq (keys_of places)
+  pub sorted : IsSorted nat_cmp (keys_of places)
+  pub own : (serial : ℕ) (i : Opened) → lookup (nat_eq serial) places ≡ Some (Some i) → i.header.serial ≡ serial
+
+-- the place of a serial, if there is one
+abbrev pub place_of : Places → ℕ → Option (Option Opened)
+place_of places serial = lookup (nat_eq serial) places
+
+-- the open images, rising by serial
+abbrev pub images : Places → List Opened
+images = filter_map (λ (place : ℕ × Option Opened). place.1)
+
+-- each before those with a greater serial
+abbrev pub IsRising : List Opened → Type 0
+IsRising [] = Unit {0}
+IsRising (i ∷ all) = AllByRecursion (λ (j : Opened). i.header.serial < j.header.serial) all × IsRising all
+
+abbrev pub IsHeld : Places → ℕ → Type 0
+IsHeld places serial = place_of places serial ≡ Some None
+
+-- one serial's place changes to this, and every other stays
+abbrev pub Changes : Places → Places → ℕ → Option (Option Opened) → Type 0
+Changes old new serial place = (other : ℕ) → place_of new other ≡ (if serial == other then place else place_of old other)
+
+-- a place is held, or its image is in another slot
+abbrev pub is_elsewhere : ℕ → Option Opened → Bool
+is_elsewhere slot None = true
+is_elsewhere slot (Some i) = not (i.slot == slot)
+
+-- what removing a slot leaves of a place
+abbrev pub without_slot : ℕ → Option (Option Opened) → Option (Option Opened)
+without_slot slot None = None
+without_slot slot (Some place) = if is_elsewhere slot place then Some place else None
+
+-- the image that a number names: of those that stand for it, the one with the greatest serial
+pub record IsNamedAmong (all : List Opened) (number : ℕ) (i : Opened) : Type 0 where
+  pub member : Contains all i
+  pub stands : i.header.stands_for ≡ number
+  pub greatest : (j : Opened) → Contains all j → j.header.stands_for ≡ number → j.header.serial ≤ i.header.serial
+
+abbrev pub Names : Places → ℕ → Opened → Type 0
+Names places = IsNamedAmong (images places)
+
+-- dumps and merged images are restored; a pre-dump alone never is
+abbrev pub IsRestored : Opened → Type 0
+IsRestored i = i.header.kind ≢ PreDump
+
+-- the order of the pairs (checkpoint, serial)
+abbrev pub IsNotAfter : Opened → Opened → Type 0
+IsNotAfter i j = (i.header.checkpoint < j.header.checkpoint) ⊎ ((i.header.checkpoint ≡ j.header.checkpoint) × (i.header.serial ≤ j.header.serial))
+
+-- the image with the greatest pair of those that are restored
+pub record IsNewestAmong (all : List Opened) (i : Opened) : Type 0 where
+  pub member : Contains all i
+  pub restored : IsRestored i
+  pub greatest : (j : Opened) → Contains all j → IsRestored j → IsNotAfter j i
+
+abbrev pub IsTip : Places → Opened → Type 0
+IsTip places = IsNewestAmong (images places)
+
+-- what was chosen of these, or there was none to choose
+abbrev pub IsNewestChoice : List Opened → Option (Bor Opened) → Type 0
+IsNewestChoice all chosen = MatchOption chosen (All (λ i. IsRestored i → ⊥) all) (λ i. IsNewestAmong all i.now)
+
+abbrev pub IsNamedChoice : ℕ → List Opened → Option (Bor Opened) → Type 0
+IsNamedChoice number all chosen = MatchOption chosen (All (λ i. i.header.stands_for ≢ number) all) (λ i. IsNamedAmong all number i.now)

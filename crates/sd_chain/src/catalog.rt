@@ -1,0 +1,232 @@
+//! The catalog of a store's open images.
+ghost use Rattle.std.specs.Prelude.{◌≡◌, ◌≢◌, ◌==◌, ◌<◌, ◌↔◌, ℕ, not, [], Option, None, Some, IsTrue, IsSome, IfOk, OnOk, OnErr, IsErrOf, IsOk, IsNone, IfSome, MatchOption, All, Contains, map};
+ghost use Rattle.sd_chain.specs.declared.error.CatalogError.TheVariants.{DoubleSerial};
+ghost use Rattle.sd_chain.specs.Reaches.{ReachesSerial, ParentsFall};
+ghost use Rattle.sd_chain.specs.Catalog.{Opened, AreInOrder, place_of, images, IsHeld, Changes, is_elsewhere, without_slot, Names, IsTip, IsRestored, IsRising};
+
+use crate::choice::{Places, images_of, named_of, newest_of};
+use crate::error::CatalogError;
+use crate::found::Found;
+use crate::image::OpenImage;
+use crate::placed::PlacedTable;
+use crate::way::Way;
+use indexmap::IndexMap;
+use sd_areas::{PageNo, SpaceId};
+use sd_image::Header;
+use std::alloc::{AllocError, Global};
+use std::marker::Model;
+
+/// The open images of a store, in order of serial, and the places that are held for serials to come.
+#[derive(Debug, Drop)]
+pub struct Catalog {
+    alloc: Global,
+    places: Places,
+}
+
+impl Model for Catalog {
+    ghost use Rattle.sd_chain.specs.Catalog.{Places, AreInOrder};
+
+    ghost Value = { Places };
+
+    ghost view = { λ c. c.places.entries };
+
+    ghost invariant = { λ c. AreInOrder c.places.entries };
+}
+
+/// Whether a place is held, or its image is in another slot.
+fn stays(place: &Option<OpenImage>, slot: usize) -> bool
+    ensures { result ≡ is_elsewhere slot place.now }
+{
+    match place {
+        Some(image) => image.slot() != slot,
+        None => true,
+    }
+}
+
+impl Catalog {
+    /// A catalog without images.
+    pub fn new(alloc: Global) -> Self
+        ensures { result ≡ [] }
+    {
+        Catalog {
+            alloc,
+            places: IndexMap::new(alloc),
+        }
+    }
+
+    /// Makes a place for a serial, that no answer shows.
+    ///
+    /// # Errors
+    ///
+    /// The serial is there or held. Out of memory where the place finds no room. An error changes nothing.
+    pub fn hold(&mut self, serial: u64) -> Result<(), CatalogError>
+        ensures held { OnOk result (Changes self.old self.new serial (Some None)) }
+        ensures double { IsErrOf result DoubleSerial ↔ IsSome (place_of self.old serial) }
+        ensures err { OnErr result (self.new ≡ self.old) }
+    {
+        if self.places.contains_key(&serial) {
+            return Err(CatalogError::DoubleSerial);
+        }
+        self.places.insert_sorted(serial, None)?;
+        Ok(())
+    }
+
+    /// Takes a held place away. It changes nothing where none is held, and takes no memory.
+    pub fn release(&mut self, serial: u64)
+        ensures released { IsHeld self.old serial → Changes self.old self.new serial None }
+        ensures nothing { (IsHeld self.old serial → ⊥) → self.new ≡ self.old }
+    {
+        if self.is_held(serial) {
+            self.places.retain(
+                |other: &u64, place: &mut Option<OpenImage>| -> bool
+                    ensures { (result ≡ not (other.now == serial)) × (place.new ≡ place.old) }
+                { *other != serial },
+            );
+        }
+    }
+
+    /// Adds the image of a slot. At a held serial it takes no memory.
+    ///
+    /// # Errors
+    ///
+    /// An image with that serial is there. Out of memory where the serial isn't held and its place finds no room. An
+    /// error changes nothing.
+    pub fn add(
+        &mut self,
+        slot: usize,
+        header: Header,
+        table: PlacedTable,
+    ) -> Result<(), CatalogError>
+        ensures added { OnOk result (Changes self.old self.new header.serial
+            (Some (Some (record { slot = slot; header = header; spaces = table })))) }
+        ensures double { IsErrOf result DoubleSerial
+            ↔ ((i : Opened) × (place_of self.old header.serial ≡ Some (Some i))) }
+        ensures at_held { IsHeld self.old header.serial → IsOk result }
+        ensures err { OnErr result (self.new ≡ self.old) }
+    {
+        let serial = header.serial;
+        if self.image(serial).is_some() {
+            return Err(CatalogError::DoubleSerial);
+        }
+        let image = OpenImage::new(slot, header, table);
+        self.places.insert_sorted(serial, Some(image))?;
+        Ok(())
+    }
+
+    /// Removes the image of a slot. It changes nothing where there is none, and takes no memory.
+    pub fn remove(&mut self, slot: usize)
+        ensures { (serial : ℕ) → place_of self.new serial ≡ without_slot slot (place_of self.old serial) }
+    {
+        self.places.retain(
+            |_serial: &u64, place: &mut Option<OpenImage>| -> bool
+                ensures { (result ≡ is_elsewhere slot place.old) × (place.new ≡ place.old) }
+            { stays(place, slot) },
+        );
+    }
+
+    /// The open image with a serial.
+    pub fn image(&self, serial: u64) -> Option<&OpenImage>
+        ensures { MatchOption result
+            ((i : Opened) → place_of self.now serial ≡ Some (Some i) → ⊥)
+            (λ i. (place_of self.now serial ≡ Some (Some i.now)) × (i.now.header.serial ≡ serial)) }
+    {
+        self.places.get(&serial)?.as_ref()
+    }
+
+    /// Whether a place is held for a serial.
+    pub fn is_held(&self, serial: u64) -> bool
+        ensures { IsTrue result ↔ IsHeld self.now serial }
+    {
+        match self.places.get(&serial) {
+            Some(place) => place.is_none(),
+            None => false,
+        }
+    }
+
+    /// The image that a number names: of those that stand for it, the one with the greatest serial.
+    /// It makes one pass over the images.
+    pub fn find(&self, stands_for: u64) -> Option<&OpenImage>
+        ensures { MatchOption result
+            (All (λ i. i.header.stands_for ≢ stands_for) (images self.now))
+            (λ i. Names self.now stands_for i.now) }
+    {
+        named_of(&self.places, stands_for)
+    }
+
+    /// The newest dump or merged image: that with the greatest checkpoint, and of these the greatest serial. None
+    /// where there are only pre-dumps. It makes one pass over the images.
+    pub fn tip(&self) -> Option<&OpenImage>
+        ensures { MatchOption result
+            (All (λ i. IsRestored i → ⊥) (images self.now))
+            (λ i. IsTip self.now i.now) }
+    {
+        newest_of(&self.places)
+    }
+
+    /// The images, rising by serial.
+    ///
+    /// # Errors
+    ///
+    /// Out of memory where the list finds no room.
+    pub fn list(&self) -> Result<Vec<&OpenImage>, AllocError>
+        ensures images { IfOk result (λ list. map (λ i. i.now) list.items ≡ images self.now) }
+        ensures rising { IsRising (images self.now) }
+    {
+        images_of(self.alloc, &self.places)
+    }
+
+    /// The image that an image's parent number names, if it stands for a lower number.
+    fn parent(&self, image: &OpenImage) -> Option<&OpenImage>
+        ensures falls { IfSome result (λ p. p.now.header.stands_for < image.now.header.stands_for) }
+        ensures named { IfSome result (λ p. Names self.now image.now.header.parent p.now) }
+        ensures all { image.now.header.parent < image.now.header.stands_for → IsNone result
+            → (p : Opened) → Names self.now image.now.header.parent p → ⊥ }
+    {
+        let parent = self.find(image.header().parent)?;
+        if parent.header().stands_for < image.header().stands_for {
+            Some(parent)
+        } else {
+            None
+        }
+    }
+
+    /// Where the chain of an image has a page, or none where no image of it has it.
+    ///
+    /// It goes from an image to its parent at most as often as there are images, and the time in each grows with the
+    /// logarithm of its runs.
+    pub fn resolve(&self, serial: u64, space: SpaceId, page: PageNo) -> Option<Found> {
+        let mut image = self.image(serial)?;
+        loop {
+            match image.way(space, page)? {
+                Way::Data { place } => {
+                    let offset = place.saturating_mul(4096).saturating_add(4096);
+                    return Some(Found::Data {
+                        slot: image.slot(),
+                        offset,
+                    });
+                }
+                Way::Zero => return Some(Found::Zero),
+                Way::Parent => image = self.parent(image)?,
+            }
+        }
+    }
+
+    /// The serials of the images that an image reaches: its own, that of the image that its parent number names, also
+    /// where it has no page there, and what that one reaches. None where no image has the serial.
+    ///
+    /// # Errors
+    ///
+    /// Out of memory where the list finds no room.
+    pub fn reachable(&self, serial: u64) -> Result<Vec<u64>, AllocError>
+        ensures { ParentsFall self.now → IfOk result (λ list. (reached : ℕ)
+            → Contains list.items reached ↔ ReachesSerial self.now serial reached) }
+    {
+        let mut reached = Vec::new(self.alloc);
+        let mut next = self.image(serial);
+        while let Some(image) = next {
+            reached.push(image.header().serial)?;
+            next = self.parent(image);
+        }
+        Ok(reached)
+    }
+}

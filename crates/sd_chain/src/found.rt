@@ -1,0 +1,8 @@
+/// Where a page's bytes are.
+#[derive(Clone, Copy, Debug, PartialEq, Eq, Hash)]
+pub enum Found {
+    /// Nowhere: they are zeros.
+    Zero,
+    /// In the file of a slot, from this byte on.
+    Data { slot: usize, offset: u64 },
+}

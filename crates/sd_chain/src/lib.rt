@@ -1,0 +1,20 @@
+//! The catalog of a store's open images, and where a chain of them has a page.
+#![tactic(auto)]
+
+mod catalog;
+mod choice;
+mod error;
+mod found;
+mod image;
+mod placed;
+mod way;
+
+pub use catalog::Catalog;
+pub use error::CatalogError;
+pub use found::Found;
+pub use image::OpenImage;
+pub use placed::PlacedTable;
+pub use way::Way;
+
+#[cfg(test)]
+mod tests;
