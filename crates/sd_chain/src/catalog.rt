@@ -192,8 +192,8 @@ impl Catalog {
 
     /// Where the chain of an image has a page, or none where no image of it has it.
     ///
-    /// It goes from an image to its parent at most as often as there are images, and the time in each grows with the
-    /// logarithm of its runs.
+    /// It goes from an image to its parent at most as often as there are images. At each it looks for the page in a
+    /// time that grows with the logarithm of the runs, and for the parent among the images.
     pub fn resolve(&self, serial: u64, space: SpaceId, page: PageNo) -> Option<Found> {
         let mut image = self.image(serial)?;
         loop {

@@ -8,7 +8,6 @@ pub mod Tracking
 pub mod Frames
 pub mod Slots
 pub mod View
-pub mod Loaded
 pub mod Law
 pub mod Owning
 pub mod Kept
