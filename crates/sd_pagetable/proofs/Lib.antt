@@ -21,3 +21,4 @@ pub mod InheritLemmas
 pub mod PlainRanges
 pub mod RangeDue
 pub mod ForkCalls
+pub mod ClearLemmas

@@ -1,5 +1,5 @@
-//! The tracking law.
-ghost use Rattle.sd_pagetable.specs.Law.{TrackingLaw};
+//! Laws of memories, each the contract of a function that does nothing.
+ghost use Rattle.sd_pagetable.specs.Law.{TrackingLaw, ClearLaw};
 
 /// After every list of calls and clears a mapped page is soft-dirty exactly where something since its last clear
 /// touched it, or it was never cleared; it is writable exactly where a fault or store was accepted at it and nothing
@@ -7,4 +7,9 @@ ghost use Rattle.sd_pagetable.specs.Law.{TrackingLaw};
 /// After the kernel document `soft-dirty`.
 pub fn tracking_law()
     ensures { TrackingLaw }
+{}
+
+/// What a clear does to each page.
+pub fn clear_law()
+    ensures { ClearLaw }
 {}

@@ -404,6 +404,14 @@ impl Memory {
         (above < number).then_some((space, page))
     }
 
+    /// What holds of every memory: a writable page is soft-dirty, may be written and is alone in its class, and the limits
+    /// hold. It does nothing.
+    pub fn sound(&self)
+        ensures { IsSound self.now }
+    {
+        let _few = self.mappings.mapped();
+    }
+
     /// The areas of a space, or none where it isn't alive.
     pub fn areas(&self, space: SpaceId) -> Option<&AreaMap>
         ensures { option_map (λ areas. areas.now) result ≡ option_map prots_of (finmap.get self.now.spaces space) }

@@ -1,0 +1,31 @@
+-- What a clear does to each page.
+use Rattle.std.proofs.Common.{◌≡◌, ℕ, Bool, true, false, ◌&&◌, nat_eq, cond, Option, Some, None, refl, sym, ◌∙◌, ap, subst, arith}
+use Rattle.std.specs.Option.{option_map}
+use Rattle.std.proofs.lemmas.Bool.{cond-false, cond-true}
+use Rattle.std.proofs.lemmas.Bool.Decides.{nat_tests}
+use Rattle.sd_pagetable.specs.Nested.{is_alive, value_at, put_at}
+use Rattle.sd_pagetable.specs.Page.{Page, cleared_page}
+use Rattle.sd_pagetable.specs.Contents.{Contents, page_at, put_page}
+use Rattle.sd_pagetable.specs.Tracking.{Step, Cleared, is_page}
+use Rattle.sd_pagetable.specs.Law.{IsClearedAt, ClearLaw}
+use Rattle.sd_pagetable.proofs.NestedLemmas.{value_at-put, alive-put_same, alive_at}
+
+same_pair : (s p : ℕ) → (nat_eq s s && nat_eq p p) ≡ true
+same_pair s p = grind (arith, nat_tests)
+
+turned : (s p q r : ℕ) → is_page s p q r ≡ false → (nat_eq q s && nat_eq r p) ≡ false
+turned s p q r apart = grind (arith, nat_tests)
+
+cleared_here : (old new : Contents) (space number : ℕ) (page : Page) → page_at old space number ≡ Some page → new ≡ put_page old space number (cleared_page page)
+    → IsClearedAt space number old new
+cleared_here old new space number page was is = record {
+  pool = ap (λ (m : Contents). m.pool) is;
+  alive = λ other. ap (λ (m : Contents). is_alive m.spaces other) is ∙ alive-put_same old.spaces space number (cleared_page page) other (alive_at old.spaces space number page was);
+  here = ap (λ (m : Contents). page_at m space number) is ∙ value_at-put old.spaces space number (cleared_page page) space number
+      ∙ cond-true _ _ _ (same_pair space number) ∙ sym (ap (option_map cleared_page) was);
+  others = λ other p apart. ap (λ (m : Contents). page_at m other p) is ∙ value_at-put old.spaces space number (cleared_page page) other p
+      ∙ cond-false _ _ _ (turned space number other p apart);
+}
+
+pub clear_changes_one_page : ClearLaw
+clear_changes_one_page old new space number step = cleared_here old new space number step.0 step.1 step.2

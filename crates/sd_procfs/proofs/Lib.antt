@@ -1,0 +1,3 @@
+pub mod ClearSteps
+pub mod WordLemmas
+pub mod AreaLemmas

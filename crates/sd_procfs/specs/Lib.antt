@@ -1,0 +1,3 @@
+pub mod Clears
+pub mod Words
+pub mod Listing

@@ -1,0 +1,113 @@
+use super::{ClearError, NoSuchSpace, clear_refs, listing, pagemap};
+use sd_areas::{PageNo, Prot, SpaceId};
+use sd_pagetable::{Memory, Tried};
+use std::test::Fail;
+
+const READ_WRITE: Prot = Prot {
+    read: true,
+    write: true,
+    execute: false,
+};
+
+/// A memory with one page stored to, and a fresh one two pages behind it.
+fn two_pages(rt: &HostRuntime) -> Result<Memory, Fail> {
+    let mut memory = Memory::new(rt.alloc(), 16)?;
+    let space = SpaceId::new(1);
+    memory.mmap(space, 0x10000, 4096, READ_WRITE)?;
+    memory.mmap(space, 0x12000, 4096, READ_WRITE)?;
+    memory.store_now(space, 0x10000, &[0x61])?;
+    Ok(memory)
+}
+
+/// The words of a stored page, of a hole and of a fresh page.
+#[test]
+fn exact_bits(rt: HostRuntime) -> Result<(), Fail> {
+    let memory = two_pages(&rt)?;
+    let space = SpaceId::new(1);
+    let first = PageNo::new(16).ok_or("no page")?;
+    let mut words = [7; 24];
+    assert_eq!(rt; pagemap(&memory, space, first, 3, &mut words), Ok(()));
+    assert_eq!(rt; &words[..8], [0, 0, 0, 0, 0, 0, 0x80, 0x81].as_slice());
+    assert_eq!(rt; &words[8..16], [0, 0, 0, 0, 0, 0, 0, 0].as_slice());
+    assert_eq!(rt; &words[16..], [0, 0, 0, 0, 0, 0, 0x80, 0].as_slice());
+    let last = PageNo::new((1 << 35) - 1).ok_or("no page")?;
+    assert_eq!(rt; pagemap(&memory, space, last, 2, &mut words[..16]), Ok(()));
+    assert_eq!(rt; &words[..16], [0; 16].as_slice());
+    let dead = SpaceId::new(2);
+    assert_eq!(rt;
+        pagemap(&memory, dead, first, 1, &mut words[..8]),
+        Err(NoSuchSpace)
+    );
+    Ok(())
+}
+
+/// A clear takes both bits of each page, past holes, and the next store needs a fault.
+#[test]
+fn clears_past_holes(rt: HostRuntime) -> Result<(), Fail> {
+    let mut memory = two_pages(&rt)?;
+    let space = SpaceId::new(1);
+    assert_eq!(rt; memory.try_store(space, 0x10000, &[0x62]), Ok(Tried::Done));
+    assert_eq!(rt; clear_refs(&mut memory, space, b"4\n"), Ok(()));
+    let first = PageNo::new(16).ok_or("no page")?;
+    let mut words = [7; 24];
+    assert_eq!(rt; pagemap(&memory, space, first, 3, &mut words), Ok(()));
+    assert_eq!(rt; &words[..8], [0, 0, 0, 0, 0, 0, 0, 0x81].as_slice());
+    assert_eq!(rt; &words[8..], [0; 16].as_slice());
+    assert_eq!(rt;
+        memory.try_store(space, 0x10000, &[0x63]),
+        Ok(Tried::NeedsFault)
+    );
+    Ok(())
+}
+
+/// A space that isn't alive comes before a text that isn't taken, and neither changes anything.
+#[test]
+fn refused_clears(rt: HostRuntime) -> Result<(), Fail> {
+    let mut memory = two_pages(&rt)?;
+    let space = SpaceId::new(1);
+    assert_eq!(rt;
+        clear_refs(&mut memory, SpaceId::new(2), b"5"),
+        Err(ClearError::NoSuchSpace)
+    );
+    for text in [&b""[..], b"1", b"5", b"44", b"4 ", b"4\n\n", b" 4"] {
+        assert_eq!(rt;
+            clear_refs(&mut memory, space, text),
+            Err(ClearError::UnsupportedValue)
+        );
+    }
+    let page = PageNo::new(16).ok_or("no page")?;
+    assert_eq!(rt; memory.word(space, page), 0x8180_0000_0000_0000);
+    assert_eq!(rt; clear_refs(&mut memory, space, b"4"), Ok(()));
+    assert_eq!(rt; memory.word(space, page), 0x8100_0000_0000_0000);
+    Ok(())
+}
+
+/// One line for each area.
+#[test]
+fn areas_as_lines(rt: HostRuntime) -> Result<(), Fail> {
+    let mut memory = Memory::new(rt.alloc(), 16)?;
+    let space = SpaceId::new(1);
+    memory.mmap(space, 0x10000, 4096, READ_WRITE)?;
+    let areas = memory.areas(space).ok_or("no space")?;
+    assert_eq!(rt;
+        listing(rt.alloc(), areas)?.as_str(),
+        "area 0x10000 0x11000 rw-\n"
+    );
+    memory.mmap(space, 0, 1, READ_WRITE)?;
+    memory.mprotect(
+        space,
+        0x10000,
+        1,
+        Prot {
+            read: true,
+            write: false,
+            execute: true,
+        },
+    )?;
+    let areas = memory.areas(space).ok_or("no space")?;
+    assert_eq!(rt;
+        listing(rt.alloc(), areas)?.as_str(),
+        "area 0x0 0x1000 rw-\narea 0x10000 0x11000 r-x\n"
+    );
+    Ok(())
+}
