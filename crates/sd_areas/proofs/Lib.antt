@@ -11,3 +11,4 @@ pub mod Holes
 pub mod PageLaws
 pub mod Memory
 pub mod PageRuns
+pub mod CountLemmas

@@ -1,5 +1,5 @@
 -- What holds of address spaces, in words that name no fold and no loop.
-use Rattle.std.specs.Prelude.{◌≡◌, ◌↔◌, ℕ, ◌<◌, if◌then◌else◌, List, length, Some, None, Ok, Err, IsSome, IsTrue}
+use Rattle.std.specs.Prelude.{◌≡◌, ◌↔◌, ℕ, ◌<◌, if◌then◌else◌, List, length, sum_by, Some, None, Ok, Err, IsSome, IsTrue}
 use Rattle.std.specs.FinMap as finmap
 use Rattle.std.specs.Option.{option_map}
 use Rattle.std.specs.Ordering.{nat_cmp}
@@ -22,6 +22,10 @@ AreasLaw = (pages : PageMap) → AreInSpace pages → AreAreasOf pages (areas_of
 -- and no other list is
 abbrev pub OneListLaw : Type 0
 OneListLaw = (pages : PageMap) (one other : List Area) → AreAreasOf pages one → AreAreasOf pages other → one ≡ other
+
+-- the areas have as many pages as are mapped
+abbrev pub CountLaw : Type 0
+CountLaw = (pages : PageMap) (areas : List Area) → AreAreasOf pages areas → sum_by (λ (area : Area). area.count) areas ≡ finmap.len pages
 
 -- a space with more areas than it may have
 abbrev pub IsCrowded : PageMap → Type 0

@@ -1,5 +1,5 @@
 //! Laws of address spaces, each the contract of a function that does nothing.
-ghost use Rattle.sd_areas.specs.Laws.{AreasLaw, OneListLaw, LimitLaw, MappedLaw, UnmappedLaw, ProtectedLaw, MemoryLaw};
+ghost use Rattle.sd_areas.specs.Laws.{AreasLaw, OneListLaw, CountLaw, LimitLaw, MappedLaw, UnmappedLaw, ProtectedLaw, MemoryLaw};
 
 /// The list of areas that the contracts name is the one of maximal runs.
 pub fn areas_law()
@@ -9,6 +9,11 @@ pub fn areas_law()
 /// A space has one list of areas.
 pub fn one_list_law()
     ensures { OneListLaw }
+{}
+
+/// The areas of a space have as many pages as it has.
+pub fn count_law()
+    ensures { CountLaw }
 {}
 
 /// A space is past the limit where its maximal runs are over 1,024.

@@ -22,3 +22,5 @@ pub mod PlainRanges
 pub mod RangeDue
 pub mod ForkCalls
 pub mod ClearLemmas
+pub mod CountLemmas
+pub mod PlainLaws

@@ -23,7 +23,7 @@ mod tests;
 mod tried;
 
 pub use denied::Denied;
-pub use law::{clear_law, tracking_law};
+pub use law::{clear_law, count_law, plain_law, tracking_law};
 pub use memory::{Memory, SECTOR_SIZE};
 pub use memory_error::MemoryError;
 pub use need::Need;

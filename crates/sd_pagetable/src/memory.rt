@@ -345,6 +345,7 @@ impl Memory {
     ) -> bool
         requires { sector < 8 }
         ensures mapped { result ≡ is_some (page_at self.now space page) }
+        ensures whole { IfSome (page_at self.now space page) (λ (found : Page). length found.bytes ≡ 4096) }
         ensures bytes { IfSome (page_at self.now space page) (λ (found : Page).
             bytes.new ≡ slice_range found.bytes (512 * sector) (512 * sector + 512)) }
         ensures none { result ≡ false → bytes.new ≡ bytes.old }
