@@ -21,3 +21,5 @@ pub mod InheritLemmas
 pub mod PlainRanges
 pub mod RangeDue
 pub mod ForkCalls
+pub mod FilledLemmas
+pub mod LoadedLemmas

@@ -222,7 +222,7 @@ written old new m space t u v e is = tree_put old new space t is ∙ ap (λ n. f
 
 -- ---- how many entries
 module _ {X : Type 0} where
-  keys_below : (k : ℕ) (es : List (ℕ × X)) → AllByRecursion (λ y. nat_cmp k y ≡ Less) (map (λ (e : ℕ × X). e.0) es) → below_all nat_cmp k es ≡ true
+  pub keys_below : (k : ℕ) (es : List (ℕ × X)) → AllByRecursion (λ y. nat_cmp k y ≡ Less) (map (λ (e : ℕ × X). e.0) es) → below_all nat_cmp k es ≡ true
   keys_below k [] h = refl
   keys_below k (e ∷ es) h = ap (λ o. is_lt o && below_all nat_cmp k es) h.0 ∙ keys_below k es h.1
 

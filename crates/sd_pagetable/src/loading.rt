@@ -1,5 +1,5 @@
 //! A memory that begins with a snapshot's pages.
-ghost use Rattle.std.specs.Prelude.{◌≡◌, ◌⊎◌, ◌+◌, ◌≤◌, ℕ, ◌==◌, true, false, nat_lt, Some, None, Ok, Err, IfOk, IfErr, OnOk};
+ghost use Rattle.std.specs.Prelude.{◌≡◌, ◌⊎◌, ◌+◌, ◌≤◌, ℕ, ◌==◌, true, false, nat_lt, IsTrue, Some, None, Ok, Err, IfOk, IfErr, OnOk};
 ghost use Rattle.std.specs.Ordering.{nat_cmp};
 ghost use Rattle.std.specs.BTreeMap.{get};
 ghost use Rattle.std.specs.List.{list_any};
@@ -13,6 +13,7 @@ ghost use Rattle.sd_pagetable.specs.declared.memory_error.MemoryError.TheVariant
 ghost use Rattle.sd_pagetable.specs.declared.refusal.Refusal.TheVariants.{Enomem};
 ghost use Rattle.sd_pagetable.specs.Nested.{inside, is_alive, total};
 ghost use Rattle.sd_pagetable.specs.Contents.{page_count, plain_of};
+ghost use Rattle.sd_pagetable.specs.Page.{zeros};
 ghost use Rattle.sd_pagetable.specs.Due.{Answers, prots_in};
 ghost use Rattle.sd_pagetable.specs.Loaded.{is_zero_page, frames_for, nonzero_pages, is_over_in_space, snapshot_due, IsBegun, IsLoaded};
 
@@ -21,7 +22,7 @@ use crate::mappings::{MAPPED_LIMIT, Mappings};
 use crate::memory_error::MemoryError;
 use crate::range_calls::Areas;
 use crate::refusal::Refusal;
-use sd_areas::{AreaMap, PageNo, Snapshot, SnapshotPage, SpaceId};
+use sd_areas::{AreaMap, PAGE_SIZE, PageNo, Snapshot, SnapshotPage, SpaceId};
 use std::alloc::{AllocError, Global};
 use std::collections::BTreeMap;
 
@@ -31,11 +32,19 @@ const SPACE_LIMIT: u64 = 16;
 /// The pages of a snapshot's space.
 type Pages = BTreeMap<PageNo, SnapshotPage>;
 
-/// Whether a page has zeros alone.
-pub(crate) fn is_zero(bytes: &[u8]) -> bool
+/// Whether bytes are zeros alone.
+fn are_zeros(bytes: &[u8]) -> bool
     ensures { result ≡ is_zero_page bytes.now }
 {
     bytes.iter().all(|byte| *byte == 0)
+}
+
+/// Whether a page has zeros alone.
+pub(crate) fn is_zero(page: &[u8; PAGE_SIZE]) -> bool
+    ensures value { result ≡ is_zero_page page.now }
+    ensures zeros { IsTrue result → page.now ≡ zeros }
+{
+    are_zeros(page)
 }
 
 /// How many pages of a space aren't all zeros.
@@ -44,7 +53,7 @@ fn nonzero_in(pages: &Pages) -> usize
 {
     let mut count = 0;
     for (_, page) in pages {
-        if !is_zero(&page.bytes[..]) {
+        if !is_zero(&page.bytes) {
             count += 1;
         }
     }

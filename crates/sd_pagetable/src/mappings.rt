@@ -239,7 +239,7 @@ impl Mappings {
     {
         let SnapshotPage { prot, bytes } = found;
         self.add(space, page, prot)?;
-        if is_zero(&bytes[..]) {
+        if is_zero(&bytes) {
             return Ok(());
         }
         self.put_bytes(space, page, bytes)
