@@ -56,7 +56,7 @@ module _ {X Y : Type 0} (f : X → Y) where
         ∙ apart q x (ap (λ b. cond b (Some e.1) (find nat_cmp q es)) (same_test q e.0 ∙ there) ∙ h)
   ]
 
-  get-filled : (t : Table Y) (es : List (ℕ × X)) → Rises es → (q : ℕ) → finmap.get (filled t es) q ≡ option_or (option_map f (find nat_cmp q es)) (finmap.get t q)
+  pub get-filled : (t : Table Y) (es : List (ℕ × X)) → Rises es → (q : ℕ) → finmap.get (filled t es) q ≡ option_or (option_map f (find nat_cmp q es)) (finmap.get t q)
   get-filled t [] rises q = refl
   get-filled t (e ∷ es) rises q = get-filled (finmap.insert t e.0 (f e.1)) es (rest_rises e es rises) q
       ∙ ap (option_or (option_map f (find nat_cmp q es))) (get_put t e.0 (f e.1) q) ∙ at_key

@@ -23,3 +23,5 @@ pub mod RangeDue
 pub mod ForkCalls
 pub mod FilledLemmas
 pub mod LoadedLemmas
+pub mod SnapshotLemmas
+pub mod LoadingLemmas

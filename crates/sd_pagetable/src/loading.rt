@@ -81,10 +81,11 @@ fn is_crowded(snapshot: &Snapshot) -> bool
 {
     let mut left = MAPPED_LIMIT as usize;
     for (_, pages) in &snapshot.spaces {
-        if pages.len() > left {
+        let count = pages.len();
+        if count > left {
             return true;
         }
-        left -= pages.len();
+        left -= count;
     }
     false
 }
@@ -158,7 +159,7 @@ fn load_space(mappings: &mut Mappings, space: SpaceId, pages: Pages) -> Result<(
     requires few { page_count mappings.old.spaces + finmap.len (space_of pages.entries) ≤ 65536 }
     requires room { nonzero_pages (plain_of mappings.old) + total frames_for (space_of pages.entries) ≤ mappings.old.pool }
     ensures begun { OnOk result (IsBegun mappings.new) }
-    ensures pool { mappings.new.pool ≡ mappings.old.pool }
+    ensures pool { OnOk result (mappings.new.pool ≡ mappings.old.pool) }
     ensures memory { OnOk result (plain_of mappings.new ≡ finmap.insert (plain_of mappings.old) space (space_of pages.entries)) }
 {
     for (page, found) in pages {
