@@ -48,3 +48,7 @@ pages_of_areas areas m = record { maximal = m; same = λ page. sym (get-pages_of
 
 pub same_pages : (m n : PageMap) → ((page : ℕ) → finmap.get m page ≡ finmap.get n page) → m ≡ n
 same_pages m n is = same_map nat_cmp_total nat_cmp-IsAntisymmetric m n is
+
+-- the areas of a space's pages give that space
+pub pages_again : (pages : PageMap) (areas : List Area) → AreAreasOf pages areas → pages_of areas ≡ pages
+pages_again pages areas h = same_pages _ _ (λ page. get-pages_of areas page ∙ h.same page)

@@ -1,4 +1,4 @@
-ghost use Rattle.std.specs.Prelude.{◌≡◌, ◌==◌, ◌%◌, ◌≤◌, IsTrue, IsFalse, length, None, Ok, Err, IfErr, OnOk, OnErr};
+ghost use Rattle.std.specs.Prelude.{◌≡◌, ◌==◌, ◌%◌, ◌≤◌, IsTrue, IsFalse, length, None, Ok, Err, IfOk, IfErr, OnOk, OnErr};
 ghost use Rattle.std.specs.FinMap as finmap;
 ghost use Rattle.sd_areas.specs.Pages.{is_invalid, is_outside};
 
@@ -8,7 +8,10 @@ use crate::page_no::PageNo;
 use crate::page_range::{PageRange, is_page_start, is_range};
 use crate::prot::Prot;
 use crate::runs::{find_prot, meets_hole, with_area, without_pages};
+use crate::snapshot::areas_in;
+use crate::snapshot_page::SnapshotPage;
 use std::alloc::Global;
+use std::collections::BTreeMap;
 use std::marker::Model;
 
 /// How many areas a space can have.
@@ -43,6 +46,7 @@ impl Model for AreaMap {
 impl AreaMap {
     ghost use Rattle.sd_areas.specs.Areas.{AreAreasOf, AreMaximal, areas_of, pages_of};
     ghost use Rattle.sd_areas.specs.Calls.{mapped, unmapped, protected, within_areas, Answers};
+    ghost use Rattle.sd_areas.specs.Memory.{prots_of};
     ghost use Rattle.sd_areas.specs.declared.errno.AreaError.TheVariants.{Refused};
     ghost use Rattle.sd_areas.specs.declared.errno.Errno.TheVariants.{Einval, Enomem};
 
@@ -54,6 +58,25 @@ impl AreaMap {
             alloc,
             areas: Vec::new(alloc),
         }
+    }
+
+    /// The space that has these pages, in one pass over them.
+    ///
+    /// # Errors
+    ///
+    /// ENOMEM where the space would have over 1,024 areas.
+    /// Out of memory where the list of areas can't grow.
+    pub fn from_pages(
+        alloc: Global,
+        pages: &BTreeMap<PageNo, SnapshotPage>,
+    ) -> Result<Self, AreaError>
+        ensures ok { IfOk result (λ map. within_areas (prots_of pages.now.entries) ≡ Ok map) }
+        ensures refused { IfErr result (Answers (within_areas (prots_of pages.now.entries))) }
+    {
+        let areas = areas_in(alloc, pages)?;
+        let mut map = AreaMap::new(alloc);
+        map.replace(areas)?;
+        Ok(map)
     }
 
     /// The maximal runs of pages with equal permissions, in the order of their addresses.

@@ -24,3 +24,7 @@ pub mod ForkCalls
 pub mod ClearLemmas
 pub mod CountLemmas
 pub mod PlainLaws
+pub mod FilledLemmas
+pub mod LoadedLemmas
+pub mod SnapshotLemmas
+pub mod LoadingLemmas

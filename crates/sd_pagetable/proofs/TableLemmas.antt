@@ -81,7 +81,7 @@ module _ {X Y : Type 0} (f : ℕ → X → Y) where
   below_changed k [] = refl
   below_changed k (e ∷ es) = ap (λ b. is_lt (nat_cmp k e.0) && b) (below_changed k es)
 
-  sorted_changed : (es : List (ℕ × X)) → is_sorted nat_cmp (map (λ (e : ℕ × X). (e.0, f e.0 e.1)) es) ≡ is_sorted nat_cmp es
+  pub sorted_changed : (es : List (ℕ × X)) → is_sorted nat_cmp (map (λ (e : ℕ × X). (e.0, f e.0 e.1)) es) ≡ is_sorted nat_cmp es
   sorted_changed [] = refl
   sorted_changed (e ∷ es) = ap (λ b. b && is_sorted nat_cmp (map (λ (e : ℕ × X). (e.0, f e.0 e.1)) es)) (below_changed e.0 es) ∙ ap (λ b. below_all nat_cmp e.0 es && b) (sorted_changed es)
 
@@ -222,11 +222,11 @@ written old new m space t u v e is = tree_put old new space t is ∙ ap (λ n. f
 
 -- ---- how many entries
 module _ {X : Type 0} where
-  keys_below : (k : ℕ) (es : List (ℕ × X)) → AllByRecursion (λ y. nat_cmp k y ≡ Less) (map (λ (e : ℕ × X). e.0) es) → below_all nat_cmp k es ≡ true
+  pub keys_below : (k : ℕ) (es : List (ℕ × X)) → AllByRecursion (λ y. nat_cmp k y ≡ Less) (map (λ (e : ℕ × X). e.0) es) → below_all nat_cmp k es ≡ true
   keys_below k [] h = refl
   keys_below k (e ∷ es) h = ap (λ o. is_lt o && below_all nat_cmp k es) h.0 ∙ keys_below k es h.1
 
-  keys_sorted : (es : List (ℕ × X)) → IsStrictlySortedBy nat_cmp (map (λ (e : ℕ × X). e.0) es) → is_sorted nat_cmp es ≡ true
+  pub keys_sorted : (es : List (ℕ × X)) → IsStrictlySortedBy nat_cmp (map (λ (e : ℕ × X). e.0) es) → is_sorted nat_cmp es ≡ true
   unfolding IsStrictlySortedBy
   keys_sorted [] h = refl
   keys_sorted (e ∷ es) h = ap (λ b. b && is_sorted nat_cmp es) (keys_below e.0 es h.0) ∙ keys_sorted es h.1

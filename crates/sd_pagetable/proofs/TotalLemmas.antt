@@ -38,7 +38,7 @@ module _ {X : Type 0} (w : X → ℕ) where
   weigh-cons e es = sum_by-cons (λ (e : ℕ × X). w e.1) e es
 
   -- nothing is found below all keys
-  none_below : (k b : ℕ) (es : List (ℕ × X)) → k ≤ b → below_all nat_cmp b es ≡ true → find nat_cmp k es ≡ None
+  pub none_below : (k b : ℕ) (es : List (ℕ × X)) → k ≤ b → below_all nat_cmp b es ≡ true → find nat_cmp k es ≡ None
   none_below k b [] l h = refl
   none_below k b (e ∷ es) l h =
       let p = and_parts _ _ h in

@@ -16,3 +16,4 @@ pub mod AreaErrors
 pub mod Order
 pub mod Ranges
 pub mod RangeCalls
+pub mod Loaded

@@ -37,6 +37,18 @@ impl Entry {
         }
     }
 
+    /// The entry with a frame, and all else as before.
+    pub(crate) fn with_frame(self, frame: usize) -> Self
+        ensures { result ≡ record self { frame = Some frame } }
+    {
+        Entry {
+            prot: self.prot,
+            frame: Some(frame),
+            writable: self.writable,
+            soft_dirty: self.soft_dirty,
+        }
+    }
+
     /// The entry after a fault: writable and soft-dirty, with a frame of its own.
     pub(crate) fn opened(self, frame: usize) -> Self
         ensures { result ≡ record { prot = self.prot; frame = Some frame; writable = true; soft_dirty = true } }

@@ -22,16 +22,16 @@ use std::alloc::AllocError;
 /// The greatest number that a space can have.
 const SPACE_LIMIT: u64 = 16;
 
-/// Puts a child's areas beside the others.
+/// Puts a space's areas beside the others.
 ///
 /// # Errors
 ///
 /// Out of memory where the list can't grow: nothing changes.
-fn add_areas(areas: &mut Areas, child: SpaceId, own: AreaMap) -> Result<(), AllocError>
-    ensures ok { OnOk result ((q : ℕ) → get nat_cmp areas.new q ≡ (if q == child then Some own else get nat_cmp areas.old q)) }
+pub(crate) fn add_areas(areas: &mut Areas, space: SpaceId, own: AreaMap) -> Result<(), AllocError>
+    ensures ok { OnOk result ((q : ℕ) → get nat_cmp areas.new q ≡ (if q == space then Some own else get nat_cmp areas.old q)) }
     ensures err { OnErr result ((q : ℕ) → get nat_cmp areas.new q ≡ get nat_cmp areas.old q) }
 {
-    areas.insert(child, own)?;
+    areas.insert(space, own)?;
     Ok(())
 }
 

@@ -7,6 +7,9 @@ mod fork_calls;
 mod frame;
 mod frames;
 mod law;
+mod loading;
+#[cfg(test)]
+mod loading_tests;
 mod mappings;
 mod memory;
 mod memory_error;

@@ -5,7 +5,7 @@ ghost use Rattle.std.specs.Option.{option_map, option_map_or};
 ghost use Rattle.std.specs.FinMap as finmap;
 ghost use Rattle.sd_pagetable.specs.Nested.{inside, is_alive};
 ghost use Rattle.sd_pagetable.specs.Page.{Page, fresh_page, shared_page, inherited_page, stored_page};
-ghost use Rattle.sd_pagetable.specs.Contents.{page_at, put_page, remove_page, is_alone, page_count, word_at, IsSound};
+ghost use Rattle.sd_pagetable.specs.Contents.{page_at, put_page, remove_page, is_alone, is_full, page_count, word_at, IsSound};
 ghost use Rattle.sd_pagetable.specs.Access.{stored_at};
 ghost use Rattle.sd_pagetable.specs.Firsts.{IsFirstFrom};
 ghost use Rattle.std.specs.Prelude.{◌⊎◌, IfErr};
@@ -18,13 +18,17 @@ ghost use Rattle.sd_pagetable.specs.declared.memory_error.MemoryError.TheVariant
 ghost use Rattle.sd_pagetable.specs.Due.{Answers, frame_due};
 ghost use Rattle.sd_pagetable.specs.Tracking.{Opens};
 ghost use Rattle.sd_pagetable.specs.View.{entry_of};
+ghost use Rattle.sd_areas.specs.Memory.{page_of_snapshot};
+ghost use Rattle.sd_pagetable.specs.Loaded.{is_zero_page, Loads, GivesFrame};
 
 use crate::entry::Entry;
+use crate::frame::Frame;
 use crate::frames::Frames;
+use crate::loading::is_zero;
 use crate::memory_error::MemoryError;
 use crate::refusal::Refusal;
 use crate::tables::Tables;
-use sd_areas::{PAGE_SIZE, PageNo, Prot, SpaceId};
+use sd_areas::{PAGE_SIZE, PageNo, Prot, SnapshotPage, SpaceId};
 use std::alloc::{AllocError, Global};
 use std::marker::Model;
 use std::ops::Bound;
@@ -212,6 +216,56 @@ impl Mappings {
         let _number = page.number();
         self.tables.insert(space, page, Entry::fresh(prot))?;
         self.mapped += 1;
+        Ok(())
+    }
+
+    /// Maps a page of a snapshot that isn't mapped: without a frame where it is all zeros, else
+    /// alone in one, which its bytes become.
+    ///
+    /// # Errors
+    ///
+    /// Out of memory where the table or the list of frames can't grow.
+    pub(crate) fn load(
+        &mut self,
+        space: SpaceId,
+        page: PageNo,
+        found: SnapshotPage,
+    ) -> Result<(), AllocError>
+        requires alive { is_alive self.old.spaces space ≡ true }
+        requires hole { page_at self.old space page ≡ None }
+        requires few { page_count self.old.spaces < 65536 }
+        requires room { is_zero_page found.bytes.value ≡ false → is_full self.old ≡ false }
+        ensures { OnOk result (Loads self.old space page (page_of_snapshot found) self.new) }
+    {
+        let SnapshotPage { prot, bytes } = found;
+        self.add(space, page, prot)?;
+        if is_zero(&bytes) {
+            return Ok(());
+        }
+        self.put_bytes(space, page, bytes)
+    }
+
+    /// Gives a page without a frame one of its own, with these bytes.
+    ///
+    /// # Errors
+    ///
+    /// Out of memory where the list of frames can't grow: nothing changes.
+    fn put_bytes(
+        &mut self,
+        space: SpaceId,
+        page: PageNo,
+        bytes: Box<[u8; PAGE_SIZE]>,
+    ) -> Result<(), AllocError>
+        requires there { IsSome (page_at self.old space page) }
+        requires fresh { IfSome (page_at self.old space page) (λ (before : Page). (before.class ≡ None) × (before.writable ≡ false)) }
+        requires room { is_full self.old ≡ false }
+        ensures { OnOk result (IfSome (page_at self.old space page) (λ (before : Page). GivesFrame self.old space page before bytes.value self.new)) }
+    {
+        let Some(entry) = self.tables.get(space, page) else {
+            return Ok(());
+        };
+        let frame = self.frames.place(Frame::new(bytes))?;
+        self.tables.replace(space, page, entry.with_frame(frame));
         Ok(())
     }
 

@@ -8,8 +8,8 @@ use crate::need::Need;
 use crate::refusal::Refusal;
 use crate::segv::Segv;
 use crate::tried::Tried;
-use crate::{fork_calls, range_calls};
-use sd_areas::{AreaMap, PAGE_SIZE, PageNo, Prot, SpaceId};
+use crate::{fork_calls, loading, range_calls};
+use sd_areas::{AreaMap, PAGE_SIZE, PageNo, Prot, Snapshot, SpaceId};
 use std::alloc::{AllocError, Global};
 use std::collections::BTreeMap;
 use std::marker::Model;
@@ -67,6 +67,7 @@ impl Memory {
     ghost use Rattle.sd_pagetable.specs.Tracking.{Step, IsBeginning, Mapped, Unmapped, Protected, Forked, Exited, Faulted, Tried as TriedEvent, Stored, Cleared};
     ghost use Rattle.sd_pagetable.specs.Order.{IsNextPage, IsFirstPage, IsFirstIn};
     ghost use Rattle.sd_pagetable.specs.Kept.{prots_of};
+    ghost use Rattle.sd_pagetable.specs.Loaded.{snapshot_due, IsLoaded};
     ghost use Rattle.sd_pagetable.specs.declared.need.Need.TheVariants.{Read, Write};
     ghost use Rattle.sd_pagetable.specs.declared.tried.Tried.TheVariants.{Done, NeedsFault};
 
@@ -85,6 +86,31 @@ impl Memory {
         mappings.add_space(space)?;
         let mut areas = BTreeMap::new(alloc);
         areas.insert(space, AreaMap::new(alloc))?;
+        Ok(Memory { mappings, areas })
+    }
+
+    /// The spaces and pages of a snapshot, over a pool of so many frames, 1 to 65,536. Each page is
+    /// soft-dirty, and none is writable. A page that isn't all zeros is alone in a frame, which its
+    /// bytes become; a page of zeros has none.
+    ///
+    /// # Errors
+    ///
+    /// In this order: no-frame where more pages than the pool has frames aren't all zeros; ENOMEM
+    /// where a space has a number outside 1 to 16 or over 1,024 areas, or over 65,536 pages are
+    /// mapped. Out of memory where a growth was refused.
+    pub fn from_snapshot(
+        alloc: Global,
+        frames: usize,
+        snapshot: Snapshot,
+    ) -> Result<Self, MemoryError>
+        requires least { 1 ≤ frames }
+        requires greatest { frames ≤ 65536 }
+        ensures due { Answers (snapshot_due frames (memory_of snapshot)) result }
+        ensures loaded { IfOk result (IsLoaded frames (memory_of snapshot)) }
+    {
+        let areas = loading::areas_of(alloc, frames, &snapshot)?;
+        let mut mappings = Mappings::new(alloc, frames);
+        loading::load(&mut mappings, snapshot)?;
         Ok(Memory { mappings, areas })
     }
 

@@ -1,0 +1,5 @@
+use Rattle.sd_pagetable.proofs.SnapshotLemmas.{IsFilling}
+use Rattle.sd_pagetable.proofs.loading.load_space.Given as goal
+
+abbrev pub invariant-loop-page : goal.invariant-loop-page
+invariant-loop-page l = IsFilling l.initial.mappings l.mappings l.space l.fn.pages.entries l.page-iterator
