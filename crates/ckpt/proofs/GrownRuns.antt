@@ -104,7 +104,7 @@ ends_at run page kind goes_on =
     eqb-true (run.first + run.count) page (both (nat_eq (run_kind_number run.kind) (run_kind_number kind)) (nat_eq (run.first + run.count) page) goes_on).1
 
 -- the page behind some others
-pub filter-snoc : (p : ℕ → Bool) (pages : List ℕ) (page : ℕ) → filter p (pages ++ page ∷ []) ≡ filter p pages ++ cond (p page) (page ∷ []) []
+pub filter-snoc : {X : Type 0} (p : X → Bool) (pages : List X) (page : X) → filter p (pages ++ page ∷ []) ≡ filter p pages ++ cond (p page) (page ∷ []) []
 filter-snoc p pages page = filter-append p pages (page ∷ [])
 
 -- the last run with a page more

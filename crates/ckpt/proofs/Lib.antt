@@ -1,11 +1,9 @@
 pub mod SlotLemmas
 pub mod GrownRuns
 pub mod AreaLemmas
-pub mod PlainLemmas
 pub mod ImageLemmas
 pub mod TextLemmas
 pub mod RawLemmas
-pub mod CallLemmas
 pub mod TakeLemmas
 pub mod FileLemmas
 pub mod TipLemmas
@@ -22,3 +20,7 @@ pub mod Lines
 pub mod Parsing
 pub mod EndingLemmas
 pub mod GoodLemmas
+pub mod PageBytes
+pub mod DumpLemmas
+pub mod SpaceDumps
+pub mod ClearLemmas

@@ -4,7 +4,7 @@ use Rattle.std.proofs.lemmas.Bool.Decides.{nat_tests}
 use Rattle.sd_disk.specs.Contents.{file_at}
 use Rattle.sd_image.specs.Image.{is_open}
 use Rattle.ckpt.specs.Slots.{raw_slots, raw_from}
-use Rattle.ckpt.proofs.PlainLemmas.{cases_bool}
+use Rattle.ckpt.proofs.ImageLemmas.{cases_bool}
 
 record Short (from : ℕ) (contents : List (List ℕ)) (slot : ℕ) : Type 0 where
   place : ℕ

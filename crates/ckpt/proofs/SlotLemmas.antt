@@ -90,22 +90,22 @@ pub gate_written : (file : List ℕ) (old gate : ℕ) → written (old ∷ file)
 gate_written file old gate = refl
 
 -- the first places of a list, one by one
-pub taken : (f : ℕ → List ℕ) (pages : List ℕ) (i page : ℕ) → i < length pages → page ≡ get_or pages i page
+pub taken : {X : Type 0} (f : X → List ℕ) (pages : List X) (i : ℕ) (page : X) → i < length pages → page ≡ get_or pages i page
     → map f (take i pages) ++ f page ∷ [] ≡ map f (take (i + 1) pages)
 taken f pages i page within is =
     ap (λ p. map f (take i pages) ++ f p ∷ []) is
     ∙ sym (ap (map f) (take_more pages i page within) ∙ map-append f (take i pages) (get_or pages i page ∷ []))
 
-whole_front : (f : ℕ → List ℕ) (pages : List ℕ) (i : ℕ) → AreWhole (map f pages) → AreWhole (map f (take i pages))
+whole_front : {X : Type 0} (f : X → List ℕ) (pages : List X) (i : ℕ) → AreWhole (map f pages) → AreWhole (map f (take i pages))
 whole_front f pages zero whole = tt
 whole_front f [] (suc i) whole = tt
 whole_front f (page ∷ pages) (suc i) whole = (whole.0, whole_front f pages i whole.1)
 
-length_front : (f : ℕ → List ℕ) (pages : List ℕ) (i : ℕ) → i ≤ length pages → length (map f (take i pages)) ≡ i
+length_front : {X : Type 0} (f : X → List ℕ) (pages : List X) (i : ℕ) → i ≤ length pages → length (map f (take i pages)) ≡ i
 length_front f pages i within = length-map (take i pages) f ∙ omega (arith, length-take i pages)
 
 -- one more data page, in the disk's contents
-pub page_added : (old mid new : List (List ℕ)) (slot i page : ℕ) (f : ℕ → List ℕ) (pages : List ℕ) → slot < length old → i < length pages
+pub page_added : {X : Type 0} (old mid new : List (List ℕ)) (slot i : ℕ) (page : X) (f : X → List ℕ) (pages : List X) → slot < length old → i < length pages
     → page ≡ get_or pages i page → AreWhole (map f pages)
     → mid ≡ slice_set old slot (closed_file (map f (take i pages)))
     → new ≡ slice_set mid slot (written (file_at mid slot) (4096 + 4096 * i) (f page))
@@ -143,7 +143,7 @@ body_closed old tabled headed opened slot pages header table within whole long w
     step old headed opened slot (λ file. written file 0 (165 ∷ [])) (0 ∷ header ++ concat pages ++ table) _ within with_header gate_is
     (gate_written (header ++ concat pages ++ table) 0 165)
 
-pub AreWhole-snoc : (f : ℕ → List ℕ) (pages : List ℕ) (page : ℕ) → AreWhole (map f pages) → length (f page) ≡ 4096 → AreWhole (map f (pages ++ page ∷ []))
+pub AreWhole-snoc : {X : Type 0} (f : X → List ℕ) (pages : List X) (page : X) → AreWhole (map f pages) → length (f page) ≡ 4096 → AreWhole (map f (pages ++ page ∷ []))
 AreWhole-snoc f [] page whole long = (long, tt)
 AreWhole-snoc f (first ∷ pages) page whole long = (whole.0, AreWhole-snoc f pages page whole.1 long)
 
@@ -156,3 +156,9 @@ image_written old formatted filled opened slot pages file within is_formatted is
     is_filled ∙ ap (λ c. slice_set c slot (closed_file pages)) is_formatted ∙ set-set old slot (0 ∷ []) (closed_file pages) in
     let body : file_at filled slot ≡ closed_file pages = ap (λ c. file_at c slot) now_filled ∙ file_at_set old slot (closed_file pages) within in
     opens body ∙ ap (λ c. slice_set c slot file) now_filled ∙ set-set old slot (closed_file pages) file
+
+-- each page is whole
+pub whole_at : {X : Type 0} (f : X → List ℕ) (pages : List X) (i : ℕ) (page : X) → i < length pages → page ≡ get_or pages i page → AreWhole (map f pages) → length (f page) ≡ 4096
+whole_at f [] i page within is whole = absurd (omega arith)
+whole_at f (first ∷ pages) zero page within is whole = ap (λ p. length (f p)) is ∙ whole.0
+whole_at f (first ∷ pages) (suc i) page within is whole = whole_at f pages i page (omega (arith, within)) is whole.1

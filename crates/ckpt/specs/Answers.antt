@@ -1,67 +1,118 @@
--- What a line of a script does to the memory, by its answer.
-use Rattle.std.specs.Prelude.{◌≡◌, ℕ, ◌+◌, ◌%◌, ◌<◌, ◌^◌, true, false, List, replicate, slice_range, Result, Ok, Err}
-use Rattle.std.specs.FinMap as finmap
-use Rattle.sd_areas.specs.declared.prot.Prot.{Prot}
-use Rattle.sd_areas.specs.declared.errno.AreaError.{AreaError}
-use Rattle.sd_areas.specs.declared.errno.AreaError.TheVariants as area
-use Rattle.sd_areas.specs.declared.errno.Errno.TheVariants.{Einval, Enomem}
-use Rattle.sd_areas.specs.Calls.{mapped}
-use Rattle.sd_areas.specs.Pages.{page_of, pages_for, is_within}
-use Rattle.ckpt.specs.declared.denied.Denied.{Denied}
-use Rattle.ckpt.specs.declared.denied.Denied.TheVariants as denied
+-- What a line of a script is answered, and what it does to the memory.
+use Rattle.std.specs.Prelude.{◌≡◌, ◌⊎◌, ℕ, ◌+◌, ◌%◌, ◌^◌, ◌||◌, nat_lt, List, length, map, slice_range, if◌then◌else◌, Option, Some, None, IfSome, Result, Ok, Err}
+use Rattle.std.specs.List.{range_with_len}
+use Rattle.sd_areas.specs.Pages.{page_of, pages_for}
+use Rattle.sd_areas.specs.PlainMemory.{PlainMemory}
+use Rattle.sd_pagetable.specs.declared.denied.Denied.{Denied}
+use Rattle.sd_pagetable.specs.declared.denied.Denied.TheVariants.{Refused, Segv}
+use Rattle.sd_pagetable.specs.declared.memory_error.MemoryError.{MemoryError}
+use Rattle.sd_pagetable.specs.declared.memory_error.MemoryError.TheVariants as error
+use Rattle.sd_pagetable.specs.declared.need.Need.TheVariants.{Read, Write}
+use Rattle.sd_pagetable.specs.declared.refusal.Refusal as memory
+use Rattle.sd_pagetable.specs.declared.refusal.Refusal.TheVariants as due
+use Rattle.sd_pagetable.specs.declared.tried.Tried.{Tried}
+use Rattle.sd_pagetable.specs.declared.tried.Tried.TheVariants as tried
+use Rattle.sd_pagetable.specs.Page.{Page}
+use Rattle.sd_pagetable.specs.Contents.{Contents, page_at, plain_of, word_at}
+use Rattle.sd_pagetable.specs.Due.{in_space, access_due, fault_due, store_due, tried as tried_at, mmap_due, munmap_due, mprotect_due, fork_due, exit_due}
+use Rattle.sd_pagetable.specs.Effects.{after_mmap, after_munmap, after_mprotect, after_fork, after_exit, after_store, IsLeastFree}
+use Rattle.sd_pagetable.specs.Tracking.{Step, Mapped, Unmapped, Protected, Forked, Exited, Faulted, Tried as TriedEvent, Stored}
+use Rattle.ckpt.specs.declared.command.Command.{Command}
+use Rattle.ckpt.specs.declared.command.Command.TheVariants as command
 use Rattle.ckpt.specs.declared.line.Line.{Line}
 use Rattle.ckpt.specs.declared.line.Line.TheVariants as line
-use Rattle.ckpt.specs.declared.need.Need.TheVariants.{Read, Write}
-use Rattle.ckpt.specs.declared.plain.Plain.{Plain}
+use Rattle.ckpt.specs.declared.refusal.Refusal.{Refusal}
 use Rattle.ckpt.specs.declared.refusal.Refusal.TheVariants as refusal
 use Rattle.ckpt.specs.declared.reply.Reply.{Reply}
 use Rattle.ckpt.specs.declared.reply.Reply.TheVariants as reply
-use Rattle.ckpt.specs.Access.{stored_at, Allows}
-use Rattle.ckpt.specs.Plain.{bytes_at}
 
--- nothing that can be read changed
-pub record IsSame (old new : Plain) : Type 0 where
-  pub areas : new.areas ≡ old.areas
-  pub bytes : (page : ℕ) → bytes_at new page ≡ bytes_at old page
+-- a refusal of the memory, as an answer
+abbrev pub refusal_of : memory.Refusal → Refusal
+refusal_of due.Einval = refusal.Einval
+refusal_of due.Enomem = refusal.Enomem
+refusal_of due.NoSuchSpace = refusal.NoSuchSpace
+refusal_of due.TooManySpaces = refusal.TooManySpaces
+refusal_of due.NoFrame = refusal.NoFrame
+refusal_of due.LastSpace = refusal.LastSpace
 
--- the whole pages of a range are mapped with these permissions and zeros, and the others are as before
-pub record Maps (address bytes : ℕ) (prot : Prot) (old new : Plain) : Type 0 where
-  pub areas : mapped old.areas address bytes prot ≡ Ok new.areas
-  pub zeros : (page : ℕ) → page < 2 ^ 35 → is_within (page_of address) (pages_for bytes) page ≡ true → bytes_at new page ≡ replicate 4096 0
-  pub others : (page : ℕ) → is_within (page_of address) (pages_for bytes) page ≡ false → bytes_at new page ≡ bytes_at old page
+abbrev pub reply_of : Denied → Reply
+reply_of (Refused why) = reply.Refused (refusal_of why)
+reply_of (Segv why) = reply.Segv why
 
--- a page that can be written has these bytes from an address on, and nothing else changed
-pub record Stores (address : ℕ) (bytes : List ℕ) (old new : Plain) : Type 0 where
-  pub allowed : Allows Write (finmap.get old.areas (page_of address))
-  pub areas : new.areas ≡ old.areas
-  pub here : bytes_at new (page_of address) ≡ stored_at (bytes_at old (page_of address)) (address % 4096) bytes
-  pub others : (page : ℕ) → (page ≡ page_of address → ⊥) → bytes_at new page ≡ bytes_at old page
+abbrev pub reply_to : MemoryError → Reply
+reply_to (error.Denied denied) = reply_of denied
+reply_to error.OutOfMemory = reply.Refused refusal.OutOfMemory
 
--- a page that can be read has these bytes from an address on
-pub record Loads (address count : ℕ) (plain : Plain) (read : List ℕ) : Type 0 where
-  pub allowed : Allows Read (finmap.get plain.areas (page_of address))
-  pub bytes : read ≡ slice_range (bytes_at plain (page_of address)) (address % 4096) (address % 4096 + count)
+-- what a command is denied, if anything
+abbrev pub denial : Command → Contents → Option Denied
+denial (command.Mmap space address bytes prot) memory = mmap_due (plain_of memory) space address bytes prot
+denial (command.Munmap space address bytes) memory = munmap_due (plain_of memory) space address bytes
+denial (command.Mprotect space address bytes prot) memory = mprotect_due (plain_of memory) space address bytes prot
+denial (command.Fork space) memory = fork_due (plain_of memory) space
+denial (command.Exit space) memory = exit_due (plain_of memory) space
+denial (command.Load space address count) memory = access_due (plain_of memory) space address count Read
+denial (command.TryStore space address bytes) memory = access_due (plain_of memory) space address (length bytes.items) Write
+denial (command.Fault space address) memory = fault_due memory space address
+denial (command.Store space address bytes) memory = store_due memory space address (length bytes.items)
 
--- what a line did when it was answered; whatever else it was answered, it did nothing
-abbrev pub Does : Line → Reply → Plain → Plain → Type 0
-Does (line.Mmap space address bytes prot) reply.Done old new = (space ≡ 1) × Maps address bytes prot old new
-Does (line.Store space address bytes) reply.Done old new = (space ≡ 1) × Stores address bytes.items old new
-Does (line.Load space address count) (reply.Bytes bytes) old new = (space ≡ 1) × Loads address count old bytes.items × IsSame old new
-Does line reply old new = IsSame old new
+-- the answer of a command that answers nothing more
+abbrev pub done_by : Result (Unit {0}) MemoryError → Result Reply MemoryError
+done_by (Ok _) = Ok reply.Done
+done_by (Err error) = Err error
 
--- a refusal of the space's areas, as an answer
-abbrev pub denied_by : AreaError → Denied
-denied_by (area.Refused Einval) = denied.Refused refusal.Einval
-denied_by (area.Refused Enomem) = denied.Refused refusal.Enomem
-denied_by area.OutOfMemory = denied.Refused refusal.OutOfMemory
+-- the answer of a try of a store
+abbrev pub tried_by : Tried → Reply
+tried_by tried.Done = reply.Done
+tried_by tried.NeedsFault = reply.NeedsFault
 
--- a command's answer
-abbrev pub reply_to : Result Reply Denied → Reply
-reply_to (Ok reply) = reply
-reply_to (Err (denied.Refused refusal)) = reply.Refused refusal
-reply_to (Err (denied.Segv segv)) = reply.Segv segv
+-- so many bytes from an address on
+abbrev pub IsBytes : Contents → ℕ → ℕ → ℕ → Reply → Type 0
+IsBytes memory space address count (reply.Bytes bytes) =
+    IfSome (page_at memory space (page_of address)) (λ (page : Page). bytes.items ≡ slice_range page.bytes (address % 4096) (address % 4096 + count))
+IsBytes memory space address count _ = ⊥
 
--- an answer has bytes with this fact
-abbrev pub IfBytes : Reply → (List ℕ → Type 0) → Type 0
-IfBytes (reply.Bytes bytes) fact = fact bytes.items
-IfBytes reply fact = ⊥
+-- what an accepted command does, by its answer; no other answer accepts it
+abbrev pub Does : Command → Reply → Contents → Contents → Type 0
+Does (command.Mmap space address bytes prot) reply.Done old new = Step old (Mapped space (page_of address) (pages_for bytes) prot) new
+Does (command.Munmap space address bytes) reply.Done old new = Step old (Unmapped space (page_of address) (pages_for bytes)) new
+Does (command.Mprotect space address bytes prot) reply.Done old new = Step old (Protected space (page_of address) (pages_for bytes) prot) new
+Does (command.Fork space) (reply.Child child) old new = IsLeastFree (plain_of old) child × Step old (Forked space child) new
+Does (command.Exit space) reply.Done old new = Step old (Exited space) new
+Does (command.Load space address count) (reply.Bytes bytes) old new = (new ≡ old) × IsBytes old space address count (reply.Bytes bytes)
+Does (command.TryStore space address bytes) reply.Done old new = Step old (TriedEvent space (page_of address) (address % 4096) bytes.items) new
+Does (command.TryStore space address bytes) reply.NeedsFault old new = (new ≡ old) × (tried_at old space address (length bytes.items) ≡ Ok tried.NeedsFault)
+Does (command.Fault space address) reply.Done old new = Step old (Faulted space (page_of address)) new
+Does (command.Store space address bytes) reply.Done old new = Step old (Stored space (page_of address) (address % 4096) bytes.items) new
+Does _ _ old new = ⊥
+
+-- what a command makes of a plain memory, by its answer
+abbrev pub effect : Command → Reply → PlainMemory → PlainMemory
+effect (command.Mmap space address bytes prot) reply.Done memory = after_mmap memory space address bytes prot
+effect (command.Munmap space address bytes) reply.Done memory = after_munmap memory space address bytes
+effect (command.Mprotect space address bytes prot) reply.Done memory = after_mprotect memory space address bytes prot
+effect (command.Fork space) (reply.Child child) memory = after_fork memory space child
+effect (command.Exit space) reply.Done memory = after_exit memory space
+effect (command.TryStore space address bytes) reply.Done memory = after_store memory space address bytes.items
+effect (command.Store space address bytes) reply.Done memory = after_store memory space address bytes.items
+effect _ _ memory = memory
+
+-- words of a space that is alive, at most 512, of pages that can be mapped
+abbrev pub words_due : PlainMemory → ℕ → ℕ → ℕ → Option Denied
+words_due memory space address count = in_space memory space (if nat_lt 512 count || nat_lt (2 ^ 35) (page_of address + count) then Some (Refused due.Einval) else None)
+
+-- the words of so many pages
+abbrev pub IsWords : Contents → ℕ → ℕ → ℕ → Reply → Type 0
+IsWords memory space address count (reply.Words words) = words.items ≡ map (word_at memory space) (range_with_len (page_of address) count)
+IsWords memory space address count _ = ⊥
+
+-- A request is denied as it is due, or memory is wanting, and nothing changes; or it is accepted and does this.
+abbrev pub Answered : Option Denied → Reply → Contents → Contents → Type 0 → Type 0
+Answered due reply old new does =
+    ((denied : Denied) × (due ≡ Some denied) × (reply ≡ reply_of denied) × (new ≡ old))
+    ⊎ (((reply ≡ reply.Refused refusal.OutOfMemory) × (new ≡ old)) ⊎ ((due ≡ None) × does))
+
+-- what a line is answered, and what it does; what a checkpoint leaves are the spaces, areas and bytes
+abbrev pub IsAnswer : Line → Reply → Contents → Contents → Type 0
+IsAnswer (line.Command command) reply old new = Answered (denial command old) reply old new (Does command reply old new × (plain_of new ≡ effect command reply (plain_of old)))
+IsAnswer (line.Words space address count) reply old new = (new ≡ old) × Answered (words_due (plain_of old) space address count) reply old old (IsWords old space address count reply)
+IsAnswer line.Checkpoint reply old new = plain_of new ≡ plain_of old

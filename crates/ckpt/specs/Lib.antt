@@ -1,12 +1,10 @@
-pub mod Mapped
-pub mod Plain
+pub mod Pages
 pub mod Runs
 pub mod SlotFile
 pub mod Dump
-pub mod DumpImage
 pub mod Slots
 pub mod ImageText
-pub mod Access
+pub mod Cleared
 pub mod Found
 pub mod Reading
 pub mod Answers

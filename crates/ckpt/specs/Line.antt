@@ -7,23 +7,38 @@ use Rattle.std.specs.Global.{Vec}
 use Rattle.std.specs.Result.{result_ok}
 use Rattle.hex.specs.Hex.{decode_of}
 use Rattle.sd_areas.specs.declared.prot.Prot.{Prot}
+use Rattle.ckpt.specs.declared.command.Command.TheVariants.{Mmap, Munmap, Mprotect, Fork, Exit, Load, TryStore, Fault, Store}
 use Rattle.ckpt.specs.declared.line.Line.{Line}
-use Rattle.ckpt.specs.declared.line.Line.TheVariants.{Mmap, Store, Load, Checkpoint}
+use Rattle.ckpt.specs.declared.line.Line.TheVariants.{Command, Words, Checkpoint}
 use Rattle.ckpt.specs.declared.line_error.LineError.{LineError}
 use Rattle.ckpt.specs.declared.line_error.LineError.TheVariants.{Unfit, OutOfMemory}
 
 -- what one line asks for: the space, the address and what more it takes
 pub data Request : Type 0 where
   mmap : (space address bytes : ℕ) → (prot : Prot) → Request
-  store : (space address : ℕ) → (bytes : List ℕ) → Request
+  munmap : (space address bytes : ℕ) → Request
+  mprotect : (space address bytes : ℕ) → (prot : Prot) → Request
+  fork : (space : ℕ) → Request
+  exit : (space : ℕ) → Request
   load : (space address count : ℕ) → Request
+  try_store : (space address : ℕ) → (bytes : List ℕ) → Request
+  fault : (space address : ℕ) → Request
+  store : (space address : ℕ) → (bytes : List ℕ) → Request
+  words : (space address count : ℕ) → Request
   checkpoint : Request
 
 -- the request that a `Line` stands for
 abbrev pub request_of : Line → Request
-request_of (Mmap space address bytes prot) = mmap space address bytes prot
-request_of (Store space address bytes) = store space address bytes.items
-request_of (Load space address count) = load space address count
+request_of (Command (Mmap space address bytes prot)) = mmap space address bytes prot
+request_of (Command (Munmap space address bytes)) = munmap space address bytes
+request_of (Command (Mprotect space address bytes prot)) = mprotect space address bytes prot
+request_of (Command (Fork space)) = fork space
+request_of (Command (Exit space)) = exit space
+request_of (Command (Load space address count)) = load space address count
+request_of (Command (TryStore space address bytes)) = try_store space address bytes.items
+request_of (Command (Fault space address)) = fault space address
+request_of (Command (Store space address bytes)) = store space address bytes.items
+request_of (Words space address count) = words space address count
 request_of Checkpoint = checkpoint
 
 -- the second step, if the first gave a value
@@ -85,14 +100,38 @@ mmap_of (space ∷ address ∷ bytes ∷ prot ∷ []) = do
   Some (mmap s a b p)
 mmap_of _ = None
 
--- `store SPACE ADDRESS HEX`, behind the word
-abbrev pub store_of : List (List ℕ) → Option Request
-store_of (space ∷ address ∷ bytes ∷ []) = do
+-- `munmap SPACE ADDRESS BYTES`, behind the word
+abbrev pub munmap_of : List (List ℕ) → Option Request
+munmap_of (space ∷ address ∷ bytes ∷ []) = do
   s ← number_of space
   a ← number_of address
-  b ← hex_of bytes
-  Some (store s a b)
-store_of _ = None
+  b ← number_of bytes
+  Some (munmap s a b)
+munmap_of _ = None
+
+-- `mprotect SPACE ADDRESS BYTES PROT`, behind the word
+abbrev pub mprotect_of : List (List ℕ) → Option Request
+mprotect_of (space ∷ address ∷ bytes ∷ prot ∷ []) = do
+  s ← number_of space
+  a ← number_of address
+  b ← number_of bytes
+  p ← prot_of prot
+  Some (mprotect s a b p)
+mprotect_of _ = None
+
+-- `fork SPACE`, behind the word
+abbrev pub fork_of : List (List ℕ) → Option Request
+fork_of (space ∷ []) = do
+  s ← number_of space
+  Some (fork s)
+fork_of _ = None
+
+-- `exit SPACE`, behind the word
+abbrev pub exit_of : List (List ℕ) → Option Request
+exit_of (space ∷ []) = do
+  s ← number_of space
+  Some (exit s)
+exit_of _ = None
 
 -- `load SPACE ADDRESS COUNT`, behind the word
 abbrev pub load_of : List (List ℕ) → Option Request
@@ -102,6 +141,46 @@ load_of (space ∷ address ∷ count ∷ []) = do
   n ← number_of count
   Some (load s a n)
 load_of _ = None
+
+-- `try SPACE ADDRESS HEX`, behind the word
+abbrev pub try_of : List (List ℕ) → Option Request
+try_of (space ∷ address ∷ bytes ∷ []) = do
+  s ← number_of space
+  a ← number_of address
+  b ← hex_of bytes
+  Some (try_store s a b)
+try_of _ = None
+
+-- `fault SPACE ADDRESS`, behind the word
+abbrev pub fault_of : List (List ℕ) → Option Request
+fault_of (space ∷ address ∷ []) = do
+  s ← number_of space
+  a ← number_of address
+  Some (fault s a)
+fault_of _ = None
+
+-- `store SPACE ADDRESS HEX`, behind the word
+abbrev pub store_of : List (List ℕ) → Option Request
+store_of (space ∷ address ∷ bytes ∷ []) = do
+  s ← number_of space
+  a ← number_of address
+  b ← hex_of bytes
+  Some (store s a b)
+store_of _ = None
+
+-- a number that isn't 0
+abbrev pub at_least_one : ℕ → Option ℕ
+at_least_one n = if nat_lt 0 n then Some n else None
+
+-- `words SPACE ADDRESS COUNT`, behind the word: of one page at least
+abbrev pub words_of : List (List ℕ) → Option Request
+words_of (space ∷ address ∷ count ∷ []) = do
+  s ← number_of space
+  a ← number_of address
+  c ← number_of count
+  n ← at_least_one c
+  Some (words s a n)
+words_of _ = None
 
 -- `checkpoint 0`, behind the word: other numbers of rounds aren't built yet
 abbrev pub checkpoint_of : List (List ℕ) → Option Request
@@ -114,8 +193,15 @@ checkpoint_of _ = None
 abbrev pub asked_by_word : List ℕ → List (List ℕ) → Option Request
 asked_by_word word arguments =
     if bytes_eq word (codes "mmap") then mmap_of arguments
-    else if bytes_eq word (codes "store") then store_of arguments
+    else if bytes_eq word (codes "munmap") then munmap_of arguments
+    else if bytes_eq word (codes "mprotect") then mprotect_of arguments
+    else if bytes_eq word (codes "fork") then fork_of arguments
+    else if bytes_eq word (codes "exit") then exit_of arguments
     else if bytes_eq word (codes "load") then load_of arguments
+    else if bytes_eq word (codes "try") then try_of arguments
+    else if bytes_eq word (codes "fault") then fault_of arguments
+    else if bytes_eq word (codes "store") then store_of arguments
+    else if bytes_eq word (codes "words") then words_of arguments
     else if bytes_eq word (codes "checkpoint") then checkpoint_of arguments
     else None
 

@@ -2,8 +2,9 @@
 
 ghost use Rattle.std.specs.Prelude.{◌≡◌, ◌≤◌, map};
 ghost use Rattle.std.specs.Option.{option_map};
-ghost use Rattle.ckpt.specs.Line.{Gives, GivesBytes, asked_by, asked_by_word, checkpoint_of, hex_of, load_of, mmap_of, number_of, numeral_of, prot_of, request_of, store_of};
+ghost use Rattle.ckpt.specs.Line.{Gives, GivesBytes, asked_by, asked_by_word, at_least_one, checkpoint_of, exit_of, fault_of, fork_of, hex_of, load_of, mmap_of, mprotect_of, munmap_of, number_of, numeral_of, prot_of, request_of, store_of, try_of, words_of};
 
+use crate::command::Command;
 use crate::line_error::LineError;
 use sd_areas::{Prot, SpaceId};
 use std::alloc::Global;
@@ -11,18 +12,9 @@ use std::alloc::Global;
 /// What a line asks for.
 #[derive(Debug, Drop)]
 pub enum Line {
-    Mmap {
-        space: SpaceId,
-        address: u64,
-        bytes: u64,
-        prot: Prot,
-    },
-    Store {
-        space: SpaceId,
-        address: u64,
-        bytes: Vec<u8>,
-    },
-    Load {
+    Command(Command),
+    /// The words of so many pages, from the page of an address on.
+    Words {
         space: SpaceId,
         address: u64,
         count: u64,
@@ -47,8 +39,15 @@ fn request(alloc: Global, word: &str, arguments: &[&str]) -> Result<Line, LineEr
 {
     match word {
         "mmap" => mmap(arguments).ok_or(LineError::Unfit),
-        "store" => store(alloc, arguments),
+        "munmap" => munmap(arguments).ok_or(LineError::Unfit),
+        "mprotect" => mprotect(arguments).ok_or(LineError::Unfit),
+        "fork" => fork(arguments).ok_or(LineError::Unfit),
+        "exit" => exit(arguments).ok_or(LineError::Unfit),
         "load" => load(arguments).ok_or(LineError::Unfit),
+        "try" => try_store(alloc, arguments),
+        "fault" => fault(arguments).ok_or(LineError::Unfit),
+        "store" => store(alloc, arguments),
+        "words" => words(arguments).ok_or(LineError::Unfit),
         "checkpoint" => checkpoint(arguments).ok_or(LineError::Unfit),
         _ => Err(LineError::Unfit),
     }
@@ -60,25 +59,59 @@ fn mmap(arguments: &[&str]) -> Option<Line>
     let [space, address, bytes, prot] = arguments else {
         return None;
     };
-    Some(Line::Mmap {
+    Some(Line::Command(Command::Mmap {
         space: SpaceId::new(number(space)?),
         address: number(address)?,
         bytes: number(bytes)?,
         prot: permissions(prot)?,
-    })
+    }))
 }
 
-fn store(alloc: Global, arguments: &[&str]) -> Result<Line, LineError>
-    ensures { Gives result (store_of (map (λ field. field.now) arguments.now)) }
+fn munmap(arguments: &[&str]) -> Option<Line>
+    ensures { option_map request_of result ≡ munmap_of (map (λ field. field.now) arguments.now) }
 {
     let [space, address, bytes] = arguments else {
-        return Err(LineError::Unfit);
+        return None;
     };
-    Ok(Line::Store {
-        space: SpaceId::new(number(space).ok_or(LineError::Unfit)?),
-        address: number(address).ok_or(LineError::Unfit)?,
-        bytes: hex_bytes(alloc, bytes)?,
-    })
+    Some(Line::Command(Command::Munmap {
+        space: SpaceId::new(number(space)?),
+        address: number(address)?,
+        bytes: number(bytes)?,
+    }))
+}
+
+fn mprotect(arguments: &[&str]) -> Option<Line>
+    ensures { option_map request_of result ≡ mprotect_of (map (λ field. field.now) arguments.now) }
+{
+    let [space, address, bytes, prot] = arguments else {
+        return None;
+    };
+    Some(Line::Command(Command::Mprotect {
+        space: SpaceId::new(number(space)?),
+        address: number(address)?,
+        bytes: number(bytes)?,
+        prot: permissions(prot)?,
+    }))
+}
+
+fn fork(arguments: &[&str]) -> Option<Line>
+    ensures { option_map request_of result ≡ fork_of (map (λ field. field.now) arguments.now) }
+{
+    let [space] = arguments else {
+        return None;
+    };
+    let space = SpaceId::new(number(space)?);
+    Some(Line::Command(Command::Fork { space }))
+}
+
+fn exit(arguments: &[&str]) -> Option<Line>
+    ensures { option_map request_of result ≡ exit_of (map (λ field. field.now) arguments.now) }
+{
+    let [space] = arguments else {
+        return None;
+    };
+    let space = SpaceId::new(number(space)?);
+    Some(Line::Command(Command::Exit { space }))
 }
 
 fn load(arguments: &[&str]) -> Option<Line>
@@ -87,11 +120,69 @@ fn load(arguments: &[&str]) -> Option<Line>
     let [space, address, count] = arguments else {
         return None;
     };
-    Some(Line::Load {
+    Some(Line::Command(Command::Load {
         space: SpaceId::new(number(space)?),
         address: number(address)?,
         count: number(count)?,
+    }))
+}
+
+fn try_store(alloc: Global, arguments: &[&str]) -> Result<Line, LineError>
+    ensures { Gives result (try_of (map (λ field. field.now) arguments.now)) }
+{
+    let [space, address, bytes] = arguments else {
+        return Err(LineError::Unfit);
+    };
+    Ok(Line::Command(Command::TryStore {
+        space: SpaceId::new(number(space).ok_or(LineError::Unfit)?),
+        address: number(address).ok_or(LineError::Unfit)?,
+        bytes: hex_bytes(alloc, bytes)?,
+    }))
+}
+
+fn fault(arguments: &[&str]) -> Option<Line>
+    ensures { option_map request_of result ≡ fault_of (map (λ field. field.now) arguments.now) }
+{
+    let [space, address] = arguments else {
+        return None;
+    };
+    Some(Line::Command(Command::Fault {
+        space: SpaceId::new(number(space)?),
+        address: number(address)?,
+    }))
+}
+
+fn store(alloc: Global, arguments: &[&str]) -> Result<Line, LineError>
+    ensures { Gives result (store_of (map (λ field. field.now) arguments.now)) }
+{
+    let [space, address, bytes] = arguments else {
+        return Err(LineError::Unfit);
+    };
+    Ok(Line::Command(Command::Store {
+        space: SpaceId::new(number(space).ok_or(LineError::Unfit)?),
+        address: number(address).ok_or(LineError::Unfit)?,
+        bytes: hex_bytes(alloc, bytes)?,
+    }))
+}
+
+/// Words of no page at all don't fit.
+fn words(arguments: &[&str]) -> Option<Line>
+    ensures { option_map request_of result ≡ words_of (map (λ field. field.now) arguments.now) }
+{
+    let [space, address, count] = arguments else {
+        return None;
+    };
+    Some(Line::Words {
+        space: SpaceId::new(number(space)?),
+        address: number(address)?,
+        count: at_least_one(number(count)?)?,
     })
+}
+
+fn at_least_one(number: u64) -> Option<u64>
+    ensures { result ≡ at_least_one number }
+{
+    (number > 0).then_some(number)
 }
 
 /// Rounds before the freeze aren't built yet.

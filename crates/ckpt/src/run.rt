@@ -1,15 +1,16 @@
 //! Running a script over a store.
-ghost use Rattle.std.specs.Prelude.{◌≡◌, ◌≢◌, ◌+◌, ◌≤◌, Err, IsSome, IfOk, OnOk};
+ghost use Rattle.std.specs.Prelude.{◌≡◌, ◌≢◌, ◌+◌, ◌≤◌, Err, IsSome, IfOk, OnOk, OnErr};
 ghost use Rattle.ckpt.specs.declared.fault.Fault.TheVariants as fault;
 ghost use Rattle.ckpt.specs.declared.stop.Stop.TheVariants as stop;
 ghost use Rattle.sd_image.specs.Laws.{IsReady};
+ghost use Rattle.sd_areas.specs.Memory.{memory_of};
+ghost use Rattle.sd_pagetable.specs.Contents.{plain_of};
 ghost use Rattle.ckpt.specs.Ending.{EndsRefused, IsReadable};
 ghost use Rattle.ckpt.specs.Script.{first_unfit_line};
 
 use crate::ending;
 use crate::fault::Fault;
 use crate::line::Line;
-use crate::plain::Plain;
 use crate::read_memory::read_memory;
 use crate::reply::Reply;
 use crate::scan::scan;
@@ -18,9 +19,14 @@ use crate::script_error::ScriptError;
 use crate::session::Session;
 use crate::stop::Stop;
 use crate::tip::{greatest_number, tip};
+use sd_areas::Snapshot;
 use sd_disk::Disk;
+use sd_pagetable::Memory;
 use std::alloc::Global;
 use std::io::Write;
+
+/// How many frames the memory has.
+const FRAMES: usize = 65_536;
 
 /// Parses a whole script and then runs it over a disk, printing one line for each request.
 /// Answers the disk and the exit status.
@@ -107,10 +113,19 @@ fn open<D: Disk>(alloc: Global, disk: &mut D) -> Result<(Session, Option<u64>), 
     let found = scan(alloc, disk)?;
     let greatest = greatest_number(&found);
     let Some(newest) = tip(&found) else {
-        return Ok((Session::new(Plain::new(alloc), greatest), None));
+        let memory = Memory::new(alloc, FRAMES)?;
+        return Ok((Session::new(memory, greatest), None));
     };
     let snapshot = read_memory(alloc, disk, newest)?;
     let checkpoint = snapshot.checkpoint;
-    let plain = Plain::from_snapshot(alloc, snapshot, newest.slot)?;
-    Ok((Session::new(plain, greatest), Some(checkpoint)))
+    let memory = load(alloc, snapshot)?;
+    Ok((Session::new(memory, greatest), Some(checkpoint)))
+}
+
+/// The memory of a snapshot. That of an image is within the limits of a memory, so only memory can be wanting.
+fn load(alloc: Global, snapshot: Snapshot) -> Result<Memory, Fault>
+    ensures memory { IfOk result (λ memory. plain_of memory ≡ memory_of snapshot) }
+    ensures error { OnErr result (result ≡ Err Fault.OutOfMemory) }
+{
+    Memory::from_snapshot(alloc, FRAMES, snapshot).map_err(|_| Fault::OutOfMemory)
 }

@@ -5,41 +5,51 @@ ghost use Rattle.sd_disk.specs.Contents.{file_at};
 ghost use Rattle.sd_image.specs.Shows.{Shows};
 ghost use Rattle.sd_image.specs.Laws.{IsReady};
 ghost use Rattle.ckpt.specs.ImageText.{file_of};
-ghost use Rattle.ckpt.specs.Plain.{bytes_at, memory_of};
+ghost use Rattle.sd_pagetable.specs.Contents.{plain_of};
+ghost use Rattle.ckpt.specs.Cleared.{IsCleared};
+ghost use Rattle.ckpt.specs.Pages.{bytes_at};
 ghost use Rattle.ckpt.specs.Slots.{raw_slots};
 ghost use Rattle.ckpt.specs.SlotFile.{AreWhole, closed_file};
 
+use crate::clear_all::clear_all;
 use crate::free_slot::free_slot;
 use crate::image_text::{ImageText, image_text};
-use crate::plain::Plain;
 use crate::save_error::SaveError;
 use crate::slot_writer::{close_body, format, write_pages};
+use sd_areas::PAGE_SIZE;
 use sd_disk::{DeviceError, Disk};
 use sd_image::{newest_is_shown, ready_again};
+use sd_pagetable::Memory;
 use std::alloc::Global;
 
 /// Saves a memory as the dump of the checkpoint with this number, which has to be above every checkpoint and serial of
 /// the store. It goes into the lowest slot that is shorter than a header, and one more such slot has to be there.
+/// Each page is tested and cleared before its first sector is read.
 ///
 /// # Errors
 ///
-/// `NoSlot` where fewer than two slots are free and `OutOfMemory`: nothing was written. `Device` where the disk failed:
-/// the slot may hold anything behind a closed gate.
+/// `NoSlot` where fewer than two slots are free: nothing changes. `OutOfMemory`: nothing was written, and pages may have
+/// been cleared. `Device` where the disk failed: also, the slot may hold anything behind a closed gate.
 pub fn save<D: Disk>(
     alloc: Global,
     disk: &mut D,
-    plain: &Plain,
+    memory: &mut Memory,
     number: u64,
 ) -> Result<(), SaveError>
     requires { 0 < number }
 
     // What is saved is what the store then shows.
     ensures shown { D.is_honest disk.new → IsReady (D.contents disk.old) number
-        → OnOk result (Shows (D.contents disk.new) (Some (number, memory_of plain.now))) }
+        → OnOk result (Shows (D.contents disk.new) (Some (number, plain_of memory.new))) }
 
     // And the store is ready for the number above.
     ensures ready { D.is_honest disk.new → IsReady (D.contents disk.old) number
         → OnOk result (IsReady (D.contents disk.new) (number + 1)) }
+
+    // Each page is cleared, and the spaces, areas and bytes stay.
+    ensures cleared { OnOk result (IsCleared memory.old memory.new) }
+    ensures memory { plain_of memory.new ≡ plain_of memory.old }
+    ensures kept { IsErrOf result SaveError.NoSlot → memory.new ≡ memory.old }
 
     // It is written into the lowest of the free slots, and nowhere else.
     ensures place { D.is_honest disk.new → OnOk result ((slot next : ℕ) (others : List ℕ) → raw_slots (D.contents disk.old) ≡ slot ∷ next ∷ others
@@ -50,8 +60,10 @@ pub fn save<D: Disk>(
     ensures honest { D.is_honest disk.new → D.is_honest disk.old }
 {
     let slot = free_slot(disk)?;
-    let text = image_text(alloc, plain, number)?;
-    write_image(disk, slot, plain, &text)?;
+    clear_all(memory);
+    let text = image_text(alloc, memory, number)?;
+    let mut copy = Box::new(alloc, [0; PAGE_SIZE])?;
+    write_image(disk, slot, memory, &text, &mut copy)?;
     newest_is_shown();
     ready_again();
     Ok(())
@@ -61,20 +73,21 @@ pub fn save<D: Disk>(
 fn write_image<D: Disk>(
     disk: &mut D,
     slot: usize,
-    plain: &Plain,
+    memory: &Memory,
     text: &ImageText,
+    copy: &mut [u8; PAGE_SIZE],
 ) -> Result<(), DeviceError>
     requires slot { slot < length (D.contents disk.old) }
     requires header { length text.now.header ≡ 4095 }
     requires few { length text.now.stored.items ≤ 65536 }
-    requires whole { AreWhole (map (bytes_at plain.now) text.now.stored.items) }
+    requires whole { AreWhole (map (bytes_at (plain_of memory.now)) text.now.stored.items) }
     requires table { 0 < length text.now.table.items }
-    ensures written { OnOk result (D.contents disk.new ≡ slice_set (D.contents disk.old) slot (file_of plain.now text.now)) }
+    ensures written { OnOk result (D.contents disk.new ≡ slice_set (D.contents disk.old) slot (file_of (plain_of memory.now) text.now)) }
     ensures honest { D.is_honest disk.new → D.is_honest disk.old }
     ensures cause { HasCause (D.failed disk.old) (D.failed disk.new) result }
 {
     format(disk, slot)?;
-    write_pages(disk, slot, plain, &text.stored)?;
+    write_pages(disk, slot, memory, &text.stored, copy)?;
     close_body(disk, slot, text.stored.len(), &text.header, &text.table)?;
     Ok(())
 }

@@ -1,5 +1,5 @@
 use sd_disk::DeviceError;
-use std::alloc::AllocError;
+use std::alloc::{AllocError, AllocFailed};
 
 /// Why a memory wasn't saved.
 #[derive(Clone, Copy, Debug, PartialEq, Eq)]
@@ -29,6 +29,17 @@ impl From<AllocError> for SaveError {
     ghost from_gives = { λ _ error. error ≡ OutOfMemory };
 
     fn from(_error: AllocError) -> SaveError {
+        SaveError::OutOfMemory
+    }
+}
+
+impl<T: Drop> From<AllocFailed<T>> for SaveError {
+    ghost use Rattle.std.specs.Prelude.{◌≡◌};
+    ghost use Rattle.ckpt.specs.declared.save_error.SaveError.TheVariants.{OutOfMemory};
+
+    ghost from_gives = { λ _ error. error ≡ OutOfMemory };
+
+    fn from(_error: AllocFailed<T>) -> SaveError {
         SaveError::OutOfMemory
     }
 }

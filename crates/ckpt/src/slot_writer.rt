@@ -3,12 +3,14 @@ ghost use Rattle.std.specs.Prelude.{◌≡◌, ◌<◌, ◌≤◌, ◌++◌, ◌
 ghost use Rattle.std.specs.List.{concat};
 ghost use Rattle.sd_disk.specs.Contents.{file_at};
 ghost use Rattle.sd_disk.specs.Failures.{HasCause};
-ghost use Rattle.ckpt.specs.Plain.{bytes_at};
+ghost use Rattle.sd_pagetable.specs.Contents.{plain_of};
+ghost use Rattle.ckpt.specs.Pages.{bytes_at};
 ghost use Rattle.ckpt.specs.SlotFile.{AreWhole, closed_file};
 
-use crate::plain::Plain;
-use sd_areas::{PAGE_SIZE, PageNo};
+use crate::page_copy::copy_page;
+use sd_areas::{PAGE_SIZE, PageNo, SpaceId};
 use sd_disk::{DeviceError, Disk};
+use sd_pagetable::Memory;
 
 /// The gate byte of an open slot.
 pub const GATE: u8 = 0xA5;
@@ -28,24 +30,26 @@ pub fn format<D: Disk>(disk: &mut D, slot: usize) -> Result<(), DeviceError>
     disk.cut(slot, 1)
 }
 
-/// Writes the data pages behind the room for a header, one call each.
+/// Writes the data pages behind the room for a header, one call each, by way of a copy.
 pub fn write_pages<D: Disk>(
     disk: &mut D,
     slot: usize,
-    plain: &Plain,
-    pages: &[PageNo],
+    memory: &Memory,
+    pages: &[(SpaceId, PageNo)],
+    copy: &mut [u8; PAGE_SIZE],
 ) -> Result<(), DeviceError>
     requires slot { slot < length (D.contents disk.old) }
     requires bare { file_at (D.contents disk.old) slot ≡ closed_file [] }
     requires few { length pages.now ≤ 65536 }
-    requires whole { AreWhole (map (bytes_at plain.now) pages.now) }
+    requires whole { AreWhole (map (bytes_at (plain_of memory.now)) pages.now) }
     ensures written { OnOk result (D.contents disk.new
-        ≡ slice_set (D.contents disk.old) slot (closed_file (map (bytes_at plain.now) pages.now))) }
+        ≡ slice_set (D.contents disk.old) slot (closed_file (map (bytes_at (plain_of memory.now)) pages.now))) }
     ensures honest { D.is_honest disk.new → D.is_honest disk.old }
     ensures cause { HasCause (D.failed disk.old) (D.failed disk.new) result }
 {
     for (count, page) in pages.iter().enumerate() {
-        disk.write_at(slot, HEADER_SIZE + PAGE_SIZE * count, plain.bytes(*page))?;
+        copy_page(memory, page.0, page.1, copy);
+        disk.write_at(slot, HEADER_SIZE + PAGE_SIZE * count, copy)?;
     }
     Ok(())
 }

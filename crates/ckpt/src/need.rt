@@ -1,6 +1,0 @@
-/// What an access needs of its page.
-#[derive(Clone, Copy, Debug, PartialEq, Eq)]
-pub enum Need {
-    Read,
-    Write,
-}

@@ -1,0 +1,62 @@
+//! The words of pages, as a line of a script asks for them.
+ghost use Rattle.std.specs.Prelude.{◌≡◌, ◌+◌, ◌-◌, ◌≤◌, ◌^◌, ℕ, map, IfOk};
+ghost use Rattle.std.specs.List.{range_with_len};
+ghost use Rattle.sd_areas.specs.Pages.{page_of};
+ghost use Rattle.sd_pagetable.specs.Contents.{plain_of, word_at};
+ghost use Rattle.sd_pagetable.specs.Due.{Answers};
+ghost use Rattle.ckpt.specs.Answers.{Answered, IsWords, words_due};
+
+use crate::reply::Reply;
+use sd_areas::{PAGE_LIMIT, PageNo, SpaceId};
+use sd_pagetable::{Denied, Memory, MemoryError, Refusal};
+use std::alloc::{AllocError, Global};
+
+/// How many words a line can ask for.
+const WORD_LIMIT: u64 = 512;
+
+/// Answers with the words of so many pages, from the page of an address on.
+pub fn answer(alloc: Global, memory: &Memory, space: SpaceId, address: u64, count: u64) -> Reply
+    ensures { Answered (words_due (plain_of memory.now) space address count) result memory.now memory.now
+        (IsWords memory.now space address count result) }
+{
+    words(alloc, memory, space, address, count).unwrap_or_else(Reply::from)
+}
+
+fn words(
+    alloc: Global,
+    memory: &Memory,
+    space: SpaceId,
+    address: u64,
+    count: u64,
+) -> Result<Reply, MemoryError>
+    ensures due { Answers (words_due (plain_of memory.now) space address count) result }
+    ensures words { IfOk result (λ reply. IsWords memory.now space address count reply) }
+{
+    if memory.areas(space).is_none() {
+        return Err(Refusal::NoSuchSpace.into());
+    }
+    let first = address / 4096;
+    if count > WORD_LIMIT || first + count > PAGE_LIMIT {
+        return Err(Refusal::Einval.into());
+    }
+    Ok(Reply::Words(words_from(alloc, memory, space, first, first + count)?))
+}
+
+/// The words of the pages from a first up to another.
+fn words_from(
+    alloc: Global,
+    memory: &Memory,
+    space: SpaceId,
+    first: u64,
+    end: u64,
+) -> Result<Vec<u64>, AllocError>
+    requires ordered { first ≤ end }
+    requires within { end ≤ 2 ^ 35 }
+    ensures { IfOk result (λ words. words.items ≡ map (word_at memory.now space) (range_with_len first (end - first))) }
+{
+    let mut words = Vec::new(alloc);
+    for number in first..end {
+        words.push(memory.word(space, PageNo::new(number).unwrap()))?;
+    }
+    Ok(words)
+}
