@@ -1,7 +1,7 @@
 -- Lemmas on the fields of a line.
 use Rattle.std.proofs.Common.{◌≡◌, ◌≢◌, ◌≤◌, ℕ, List, [], ◌∷◌, map, length, take, drop, get_or, ◌-◌, Bor, None, refl, arith, ap, sym, suc}
 use Rattle.std.proofs.lemmas.List.{take_all}
-use Rattle.ckpt.specs.Line.{mmap_of, store_of, load_of, checkpoint_of, asked_by_word, asked_by_fields}
+use Rattle.ckpt.specs.Line.{mmap_of, munmap_of, mprotect_of, fork_of, exit_of, try_of, fault_of, words_of, store_of, load_of, checkpoint_of, asked_by_word, asked_by_fields}
 
 -- the texts of fields
 abbrev pub texts : List (Bor (List ℕ)) → List (List ℕ)
@@ -15,6 +15,51 @@ mmap_of-other (a ∷ b ∷ []) h = refl
 mmap_of-other (a ∷ b ∷ d ∷ []) h = refl
 mmap_of-other (a ∷ b ∷ d ∷ e ∷ []) h = absurd (h refl)
 mmap_of-other (a ∷ b ∷ d ∷ e ∷ f ∷ more) h = refl
+
+pub munmap_of-other : (xs : List (Bor (List ℕ))) → length xs ≢ 3 → munmap_of (texts xs) ≡ None
+munmap_of-other [] h = refl
+munmap_of-other (a ∷ []) h = refl
+munmap_of-other (a ∷ b ∷ []) h = refl
+munmap_of-other (a ∷ b ∷ d ∷ []) h = absurd (h refl)
+munmap_of-other (a ∷ b ∷ d ∷ e ∷ more) h = refl
+
+pub mprotect_of-other : (xs : List (Bor (List ℕ))) → length xs ≢ 4 → mprotect_of (texts xs) ≡ None
+mprotect_of-other [] h = refl
+mprotect_of-other (a ∷ []) h = refl
+mprotect_of-other (a ∷ b ∷ []) h = refl
+mprotect_of-other (a ∷ b ∷ d ∷ []) h = refl
+mprotect_of-other (a ∷ b ∷ d ∷ e ∷ []) h = absurd (h refl)
+mprotect_of-other (a ∷ b ∷ d ∷ e ∷ f ∷ more) h = refl
+
+pub fork_of-other : (xs : List (Bor (List ℕ))) → length xs ≢ 1 → fork_of (texts xs) ≡ None
+fork_of-other [] h = refl
+fork_of-other (a ∷ []) h = absurd (h refl)
+fork_of-other (a ∷ b ∷ more) h = refl
+
+pub exit_of-other : (xs : List (Bor (List ℕ))) → length xs ≢ 1 → exit_of (texts xs) ≡ None
+exit_of-other [] h = refl
+exit_of-other (a ∷ []) h = absurd (h refl)
+exit_of-other (a ∷ b ∷ more) h = refl
+
+pub try_of-other : (xs : List (Bor (List ℕ))) → length xs ≢ 3 → try_of (texts xs) ≡ None
+try_of-other [] h = refl
+try_of-other (a ∷ []) h = refl
+try_of-other (a ∷ b ∷ []) h = refl
+try_of-other (a ∷ b ∷ d ∷ []) h = absurd (h refl)
+try_of-other (a ∷ b ∷ d ∷ e ∷ more) h = refl
+
+pub fault_of-other : (xs : List (Bor (List ℕ))) → length xs ≢ 2 → fault_of (texts xs) ≡ None
+fault_of-other [] h = refl
+fault_of-other (a ∷ []) h = refl
+fault_of-other (a ∷ b ∷ []) h = absurd (h refl)
+fault_of-other (a ∷ b ∷ d ∷ more) h = refl
+
+pub words_of-other : (xs : List (Bor (List ℕ))) → length xs ≢ 3 → words_of (texts xs) ≡ None
+words_of-other [] h = refl
+words_of-other (a ∷ []) h = refl
+words_of-other (a ∷ b ∷ []) h = refl
+words_of-other (a ∷ b ∷ d ∷ []) h = absurd (h refl)
+words_of-other (a ∷ b ∷ d ∷ e ∷ more) h = refl
 
 pub store_of-other : (xs : List (Bor (List ℕ))) → length xs ≢ 3 → store_of (texts xs) ≡ None
 store_of-other [] h = refl

@@ -107,9 +107,9 @@ IsWords memory space address count _ = ⊥
 
 -- A request is denied as it is due, or memory is wanting, and nothing changes; or it is accepted and does this.
 abbrev pub Answered : Option Denied → Reply → Contents → Contents → Type 0 → Type 0
-Answered due reply old new does =
-    ((denied : Denied) × (due ≡ Some denied) × (reply ≡ reply_of denied) × (new ≡ old))
-    ⊎ (((reply ≡ reply.Refused refusal.OutOfMemory) × (new ≡ old)) ⊎ ((due ≡ None) × does))
+Answered due answer old new does =
+    ((denied : Denied) × (due ≡ Some denied) × (answer ≡ reply_of denied) × (new ≡ old))
+    ⊎ (((answer ≡ reply.Refused refusal.OutOfMemory) × (new ≡ old)) ⊎ ((due ≡ None) × does))
 
 -- what a line is answered, and what it does; what a checkpoint leaves are the spaces, areas and bytes
 abbrev pub IsAnswer : Line → Reply → Contents → Contents → Type 0

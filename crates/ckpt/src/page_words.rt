@@ -1,14 +1,14 @@
 //! The words of pages, as a line of a script asks for them.
-ghost use Rattle.std.specs.Prelude.{◌≡◌, ◌+◌, ◌-◌, ◌≤◌, ◌^◌, ℕ, map, IfOk};
+ghost use Rattle.std.specs.Prelude.{◌≡◌, ◌+◌, ◌-◌, ◌≤◌, ◌^◌, ◌||◌, nat_lt, map, IfOk};
 ghost use Rattle.std.specs.List.{range_with_len};
-ghost use Rattle.sd_areas.specs.Pages.{page_of};
+ghost use Rattle.sd_pagetable.specs.Nested.{is_alive};
 ghost use Rattle.sd_pagetable.specs.Contents.{plain_of, word_at};
 ghost use Rattle.sd_pagetable.specs.Due.{Answers};
 ghost use Rattle.ckpt.specs.Answers.{Answered, IsWords, words_due};
 
 use crate::reply::Reply;
 use sd_areas::{PAGE_LIMIT, PageNo, SpaceId};
-use sd_pagetable::{Denied, Memory, MemoryError, Refusal};
+use sd_pagetable::{Memory, MemoryError, Refusal, plain_law};
 use std::alloc::{AllocError, Global};
 
 /// How many words a line can ask for.
@@ -32,14 +32,30 @@ fn words(
     ensures due { Answers (words_due (plain_of memory.now) space address count) result }
     ensures words { IfOk result (λ reply. IsWords memory.now space address count reply) }
 {
-    if memory.areas(space).is_none() {
+    if !is_alive(memory, space) {
         return Err(Refusal::NoSuchSpace.into());
     }
     let first = address / 4096;
-    if count > WORD_LIMIT || first + count > PAGE_LIMIT {
+    if are_too_many(first, count) {
         return Err(Refusal::Einval.into());
     }
     Ok(Reply::Words(words_from(alloc, memory, space, first, first + count)?))
+}
+
+/// Whether a space is alive.
+fn is_alive(memory: &Memory, space: SpaceId) -> bool
+    ensures { result ≡ is_alive (plain_of memory.now) space }
+{
+    plain_law();
+    memory.areas(space).is_some()
+}
+
+/// Whether so many pages from a first on are over 512, or reach past the last.
+fn are_too_many(first: u64, count: u64) -> bool
+    requires { first ≤ 2 ^ 52 }
+    ensures { result ≡ (nat_lt 512 count || nat_lt (2 ^ 35) (first + count)) }
+{
+    count > WORD_LIMIT || first + count > PAGE_LIMIT
 }
 
 /// The words of the pages from a first up to another.
