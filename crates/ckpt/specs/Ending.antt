@@ -1,5 +1,5 @@
 -- How a program ends.
-use Rattle.std.specs.Prelude.{◌≡◌, ◌⊎◌, ℕ, List, Some, Result, Ok, Err}
+use Rattle.std.specs.Prelude.{◌≡◌, ◌⊎◌, ℕ, List, Option, Some, None, Result, Ok, Err}
 use Rattle.sd_areas.specs.PlainMemory.{PlainMemory}
 use Rattle.sd_image.specs.Image.{Image}
 use Rattle.sd_image.specs.Shows.{IsStore, Shows}
@@ -37,3 +37,8 @@ ShowsMemory contents = (moment : ℕ × PlainMemory) × Shows contents (Some mom
 pub record IsReadable (contents : List (List ℕ)) : Type 0 where
   pub images : List Image
   pub store : IsStore contents images
+
+-- a run begins with the checkpoint and the memory that the store shows, or with none where it shows that nothing was saved
+abbrev pub Begins : List (List ℕ) → Option ℕ → PlainMemory → Type 0
+Begins contents None memory = Shows contents None
+Begins contents (Some checkpoint) memory = Shows contents (Some (checkpoint, memory))

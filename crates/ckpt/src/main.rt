@@ -32,6 +32,8 @@ mod reply;
 mod restore;
 #[cfg(test)]
 mod restore_tests;
+#[cfg(test)]
+mod row_tests;
 mod run;
 mod runs;
 mod save;

@@ -5,7 +5,7 @@ ghost use Rattle.ckpt.specs.declared.stop.Stop.TheVariants as stop;
 ghost use Rattle.sd_image.specs.Laws.{IsReady};
 ghost use Rattle.sd_areas.specs.Memory.{memory_of};
 ghost use Rattle.sd_pagetable.specs.Contents.{plain_of};
-ghost use Rattle.ckpt.specs.Ending.{EndsRefused, IsReadable};
+ghost use Rattle.ckpt.specs.Ending.{Begins, EndsRefused, IsReadable};
 ghost use Rattle.ckpt.specs.Script.{first_unfit_line};
 
 use crate::ending;
@@ -105,6 +105,7 @@ fn answer_lines<D: Disk, W: Write>(
 
 /// A session that goes on from what a store has, and the store's checkpoint, if it has one.
 fn open<D: Disk>(alloc: Global, disk: &mut D) -> Result<(Session, Option<u64>), Fault>
+    ensures begins { D.is_honest disk.new → IfOk result (λ opened. Begins (D.contents disk.old) opened.1 (plain_of opened.0.memory)) }
     ensures ready { D.is_honest disk.new → IfOk result (λ opened. IsReady (D.contents disk.new) (opened.0.greatest + 1)) }
     ensures empty { result ≢ Err Fault.EmptyChain }
     ensures same { D.contents disk.new ≡ D.contents disk.old }

@@ -17,24 +17,50 @@ fn unfit_line(rt: &HostRuntime, script: &[u8]) -> Result<Option<usize>, Fail> {
     }
 }
 
+/// Lines, and the requests that they ask for.
+const LINES: [(&str, &str); 11] = [
+    (
+        "# a page\n\nmmap 1 0x10000 4096 rx\n",
+        "[Command(Mmap { space: SpaceId { number: 1 }, address: 65536, bytes: 4096, prot: Prot { read: true, write: false, execute: true } })]",
+    ),
+    (
+        "munmap 2 4096 0x1000",
+        "[Command(Munmap { space: SpaceId { number: 2 }, address: 4096, bytes: 4096 })]",
+    ),
+    (
+        "mprotect 1 0 1 none",
+        "[Command(Mprotect { space: SpaceId { number: 1 }, address: 0, bytes: 1, prot: Prot { read: false, write: false, execute: false } })]",
+    ),
+    ("fork 1", "[Command(Fork { space: SpaceId { number: 1 } })]"),
+    ("exit 16", "[Command(Exit { space: SpaceId { number: 16 } })]"),
+    (
+        "load 18446744073709551615 007 0x0010\n",
+        "[Command(Load { space: SpaceId { number: 18446744073709551615 }, address: 7, count: 16 })]",
+    ),
+    (
+        "try 1 2 00",
+        "[Command(TryStore { space: SpaceId { number: 1 }, address: 2, bytes: [0] })]",
+    ),
+    (
+        "fault 1 0xf",
+        "[Command(Fault { space: SpaceId { number: 1 }, address: 15 })]",
+    ),
+    (
+        "store 0 0xfF 0aFf\n",
+        "[Command(Store { space: SpaceId { number: 0 }, address: 255, bytes: [10, 255] })]",
+    ),
+    (
+        "words 1 0x10000 600",
+        "[Words { space: SpaceId { number: 1 }, address: 65536, count: 600 }]",
+    ),
+    ("checkpoint 0", "[Checkpoint]"),
+];
+
 #[test]
 fn each_kind_of_line_is_read(rt: HostRuntime) -> Result<(), Fail> {
-    let mmap = "# a page\n\nmmap 1 0x10000 4096 rx\n";
-    let store = "store 0 0xfF 0aFf\n";
-    let load = "load 18446744073709551615 007 0x0010\n";
-    assert_eq!(rt;
-        requests(&rt, mmap)?.as_str(),
-        "[Mmap { space: SpaceId { number: 1 }, address: 65536, bytes: 4096, prot: Prot { read: true, write: false, execute: true } }]"
-    );
-    assert_eq!(rt;
-        requests(&rt, store)?.as_str(),
-        "[Store { space: SpaceId { number: 0 }, address: 255, bytes: [10, 255] }]"
-    );
-    assert_eq!(rt;
-        requests(&rt, load)?.as_str(),
-        "[Load { space: SpaceId { number: 18446744073709551615 }, address: 7, count: 16 }]"
-    );
-    assert_eq!(rt; requests(&rt, "checkpoint 0")?.as_str(), "[Checkpoint]");
+    for (line, wanted) in LINES {
+        assert_eq!(rt; requests(&rt, line)?.as_str(), wanted);
+    }
     assert_eq!(rt; requests(&rt, "")?.as_str(), "[]");
     Ok(())
 }
@@ -62,6 +88,16 @@ fn a_line_that_does_not_fit_is_blamed(rt: HostRuntime) -> Result<(), Fail> {
         ("mmap 1 2 3 ", 1),
         ("checkpoint 1", 1),
         ("unmap 1 2 3", 1),
+        ("munmap 1 2", 1),
+        ("mprotect 1 2 3", 1),
+        ("fork", 1),
+        ("fork 1 2", 1),
+        ("exit 1 2", 1),
+        ("fault 1", 1),
+        ("try 1 2 3", 1),
+        ("words 1 2 0", 1),
+        ("words 1 2", 1),
+        ("begin 1", 1),
         ("Load 1 2 3", 1),
         ("checkpoint 0\n \ncheckpoint 1", 2),
         (" # no comment", 1),

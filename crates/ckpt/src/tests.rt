@@ -231,7 +231,7 @@ const FAULTS: [(&str, &str); 8] = [
     ("checkpoint 0\nload 1 0x10000\n", "script line 2\n"),
     ("checkpoint 0\ncheckpoint 1\n", "script line 2\n"),
     ("mmap 1 0x10000 4096 wr\n", "script line 1\n"),
-    ("fork 1\n", "script line 1\n"),
+    ("begin 1\n", "script line 1\n"),
     (" \n", "script line 1\n"),
 ];
 
