@@ -124,11 +124,11 @@ module _ (m : Contents) (s p : ℕ) (page : plain.Page) (begun : IsBegun m) (hol
               is_alone_in (put_page m s p x) y a.0 a.1 (same_members m s p x hole refl a.0 ∙ a.2))
         ];
         used =
-          let a = same_classes m s p x hole refl in
-          let b = added_nonzero m s p x hole in
-          let c : frames_for page ≡ 0 = ap (λ b. cond {A = ℕ} b 0 1) blank in
-          let d = begun.used in
-          omega (arith, a, b, c, d);
+            let a = same_classes m s p x hole refl in
+            let b = added_nonzero m s p x hole in
+            let c : frames_for page ≡ 0 = ap (λ b. cond {A = ℕ} b 0 1) blank in
+            let d = begun.used in
+            omega (arith, a, b, c, d);
       }
 
   begun_some : (j : ℕ) → is_zero_page page.bytes ≡ false → members m j ≡ 0 → j < m.pool → IsBegun (put_page m s p (loaded_page page (Some j)))
@@ -153,11 +153,11 @@ module _ (m : Contents) (s p : ℕ) (page : plain.Page) (begun : IsBegun m) (hol
               is_alone_in (put_page m s p x) y a.0 a.1 (omega (arith, b, c, one)))
         ];
         used =
-          let a = more_classes m s p x j hole refl free within in
-          let b = added_nonzero m s p x hole in
-          let c : frames_for page ≡ 1 = ap (λ b. cond {A = ℕ} b 0 1) some in
-          let d = begun.used in
-          omega (arith, a, b, c, d);
+            let a = more_classes m s p x j hole refl free within in
+            let b = added_nonzero m s p x hole in
+            let c : frames_for page ≡ 1 = ap (λ b. cond {A = ℕ} b 0 1) some in
+            let d = begun.used in
+            omega (arith, a, b, c, d);
       }
 
   begun_by : (class : Option ℕ) → IsClassFor m page class → IsBegun (put_page m s p (loaded_page page class))

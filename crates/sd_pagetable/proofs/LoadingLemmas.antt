@@ -45,7 +45,6 @@ use Rattle.sd_pagetable.specs.Kept.{HasAreas, prots_of}
 use Rattle.sd_pagetable.proofs.ForkCalls.{len_total}
 use Rattle.sd_pagetable.proofs.FilledLemmas.{Rises, IsApart, rest_rises, apart_empty, apart_head, apart_next, filled, filled_all, find_seen, weigh, total_seen, total-filled, head_within, get-filled}
 use Rattle.sd_pagetable.proofs.LoadedLemmas.{begun_next}
-
 use Rattle.sd_pagetable.proofs.SnapshotLemmas.{Pages, space_in, seen_space, memory_entries, memory_filled, inserted_twice}
 
 none_left : (a b : Bool) → (a || b) ≡ false → a ≡ false
@@ -107,9 +106,9 @@ nothing_begun m bare = record {
   zeros = λ q r x h z. absurd (hole q r x h);
   alone = λ q r x h z. absurd (hole q r x h);
   used =
-    let a : length (classes m) ≡ 0 = none_kept (λ k. nat_lt 0 (members m k)) 0 m.pool (λ k. le-ltb 0 _ (let e = ap (total_within (share_of k)) bare ∙ total_within-empty (share_of k) in omega (arith, e))) in
-    let b : nonzero_pages (plain_of m) ≡ 0 = ap (λ (t : Nested Page). nonzero_pages (map_values (map_values plain_page) t)) bare ∙ ap nonzero_pages (map_values-empty (map_values plain_page)) ∙ total_within-empty frames_for in
-    omega (arith, a, b);
+      let a : length (classes m) ≡ 0 = none_kept (λ k. nat_lt 0 (members m k)) 0 m.pool (λ k. le-ltb 0 _ (let e = ap (total_within (share_of k)) bare ∙ total_within-empty (share_of k) in omega (arith, e))) in
+      let b : nonzero_pages (plain_of m) ≡ 0 = ap (λ (t : Nested Page). nonzero_pages (map_values (map_values plain_page) t)) bare ∙ ap nonzero_pages (map_values-empty (map_values plain_page)) ∙ total_within-empty frames_for in
+      omega (arith, a, b);
 }
   where
     hole : (q r : ℕ) (x : Page) → page_at m q r ≡ Some x → ⊥

@@ -430,7 +430,17 @@ impl Memory {
         (above < number).then_some((space, page))
     }
 
-    /// The areas of a space, or none where it isn't alive.
+    /// What holds of every memory, whatever was called on it: a page that can be stored to without
+    /// a fault is soft-dirty, may be written, and is alone in its frame; each frame is one of the
+    /// pool; the spaces are within 1 to 16, their pages below 2^35, and at most 65,536 in all.
+    /// It does nothing: a caller learns it.
+    pub fn sound(&self)
+        ensures { IsSound self.now }
+    {
+        let _mapped = self.mappings.mapped();
+    }
+
+    /// The areas of a space, at most 1,024, or none where it isn't alive.
     pub fn areas(&self, space: SpaceId) -> Option<&AreaMap>
         ensures { option_map (λ areas. areas.now) result ≡ option_map prots_of (finmap.get self.now.spaces space) }
     {
