@@ -7,6 +7,8 @@ mod fork_calls;
 mod frame;
 mod frames;
 #[cfg(test)]
+mod growth_tests;
+#[cfg(test)]
 mod kernel_line;
 #[cfg(test)]
 mod kernel_scripts;
