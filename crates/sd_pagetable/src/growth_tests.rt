@@ -1,7 +1,7 @@
 //! Calls that are refused a growth, and made again.
 use super::{Memory, MemoryError};
-use sd_areas::{PAGE_SIZE, PageNo, Prot, Snapshot, SpaceId};
-use std::alloc::Global;
+use sd_areas::{PAGE_SIZE, PageNo, Prot, Snapshot, SnapshotPage, SpaceId};
+use std::alloc::{AllocError, Global};
 use std::test::Fail;
 
 const READ: Prot = Prot {
@@ -107,21 +107,18 @@ fn refused_growth_changes_nothing(rt: HostRuntime) -> Result<(), Fail> {
 }
 
 /// A snapshot of two spaces, with a page of zeros and two others.
-fn snapshot(alloc: Global) -> Result<Snapshot, Fail> {
+fn snapshot(alloc: Global) -> Result<Snapshot, AllocError> {
     let mut snapshot = Snapshot::new(alloc, 7);
+    snapshot.add_space(alloc, SpaceId::new(1))?;
+    snapshot.add_space(alloc, SpaceId::new(3))?;
     for (space, number, byte) in [(1, 16, 0), (1, 17, 0x61), (3, 16, 0x62)] {
-        let page = PageNo::new(number).ok_or("no page")?;
         let mut bytes = Box::new(alloc, [0; PAGE_SIZE])?;
         bytes[0] = byte;
-        let found = sd_areas::SnapshotPage {
-            prot: READ_WRITE,
-            bytes,
-        };
-        if !snapshot.spaces.contains_key(&SpaceId::new(space)) {
-            snapshot.add_space(alloc, SpaceId::new(space))?;
-        }
-        if let Some(pages) = snapshot.spaces.get_mut(&SpaceId::new(space)) {
-            pages.insert(page, found)?;
+        let prot = READ_WRITE;
+        if let Some(page) = PageNo::new(number)
+            && let Some(pages) = snapshot.spaces.get_mut(&SpaceId::new(space))
+        {
+            pages.insert(page, SnapshotPage { prot, bytes })?;
         }
     }
     Ok(snapshot)
