@@ -2,7 +2,7 @@ ghost use Rattle.sd_pagetable.specs.Access.{allows, is_bad_access};
 ghost use Rattle.std.specs.Prelude.{◌≡◌, ◌%◌, ◌+◌, ◌*◌, ◌<◌, ◌≤◌, ℕ, true, false, None, Some, Ok, length, slice_range, is_some, IsSome, OnOk, OnErr, IfOk, IfSome, IfErr};
 
 use crate::denied::Denied;
-use crate::mappings::Mappings;
+use crate::mappings::{Mappings, SPACE_LIMIT};
 use crate::memory_error::MemoryError;
 use crate::need::Need;
 use crate::refusal::Refusal;
@@ -23,9 +23,6 @@ const ACCESS_LIMIT: usize = 64;
 
 /// How many bytes a page has.
 const PAGE_BYTES: u64 = PAGE_SIZE as u64;
-
-/// How many spaces can be alive.
-const SPACE_LIMIT: u64 = 16;
 
 /// Where an access begins.
 #[derive(Clone, Copy)]
