@@ -1,9 +1,11 @@
 ghost use Rattle.std.specs.Prelude.{◌≡◌, IfOk};
 
 use super::{
-    Area, AreaError, AreaMap, Errno, PAGE_SIZE, PageNo, Prot, Snapshot, SpaceId, areas_in,
+    Area, AreaError, AreaMap, Errno, PAGE_SIZE, PageNo, Prot, Snapshot, SnapshotPage, SpaceId,
+    areas_in,
 };
 use std::alloc::{AllocError, Global};
+use std::collections::BTreeMap;
 use std::process::Abort;
 use std::test::Fail;
 
@@ -446,6 +448,23 @@ fn keeps_a_snapshot(rt: HostRuntime) -> Result<(), Fail> {
         areas.as_slice(),
         [area(&rt, 4, 2, READ), area(&rt, 6, 1, READ_WRITE)].as_slice()
     );
+    Ok(())
+}
+
+/// A space of single pages with a hole between any two, which a page then fills.
+#[test]
+fn begins_with_pages(rt: HostRuntime) -> Result<(), Fail> {
+    let mut pages = BTreeMap::new(rt.alloc());
+    for number in 0..1025u64 {
+        let bytes = Box::new(rt.alloc(), [0; PAGE_SIZE])?;
+        pages.insert(page(&rt, 2 * number), SnapshotPage { prot: READ, bytes })?;
+    }
+    assert_eq!(rt; AreaMap::from_pages(rt.alloc(), &pages).err(), Some(ENOMEM));
+    let bytes = Box::new(rt.alloc(), [0; PAGE_SIZE])?;
+    pages.insert(page(&rt, 7), SnapshotPage { prot: READ, bytes })?;
+    let map = AreaMap::from_pages(rt.alloc(), &pages)?;
+    assert_eq!(rt; map.areas().len(), 1024);
+    assert_eq!(rt; map.areas()[3], area(&rt, 6, 3, READ));
     Ok(())
 }
 

@@ -1,5 +1,5 @@
 -- What `fork` and `exit` make of the spaces.
-use Rattle.std.proofs.Common.{◌≡◌, ◌≢◌, ◌⊎◌, ℕ, ◌+◌, ◌-◌, ◌<◌, ◌≤◌, zero, suc, Bool, true, false, not, cond, nat_eq, nat_lt, nat_le, ◌&&◌, ◌||◌, is_some, IsSome, List, [], ◌∷◌, map, length, Option, Some, None, unwrap_or, refl, sym, ◌∙◌, ap, subst, inl, inr, arith}
+use Rattle.std.proofs.Common.{◌≡◌, ℕ, ◌+◌, ◌<◌, ◌≤◌, zero, suc, Bool, true, false, cond, nat_eq, nat_lt, nat_le, ◌||◌, is_some, IsSome, List, [], ◌∷◌, map, length, Option, Some, None, unwrap_or, refl, sym, ◌∙◌, ap, subst, inl, inr, arith}
 use Rattle.std.specs.Prelude.{sum_by}
 use Rattle.std.proofs.lemmas.Bool.Decides.{nat_tests}
 use Rattle.std.proofs.lemmas.List.Sums.{sum_by-cons}
@@ -11,7 +11,7 @@ use Rattle.std.specs.FinMap.{get-empty, len-entries}
 use Rattle.sd_areas.specs.Areas.{PageMap}
 use Rattle.sd_areas.specs.PlainMemory as plain
 use Rattle.sd_areas.specs.Pages.{is_within}
-use Rattle.sd_pagetable.specs.Nested.{Table, Nested, map_values, inside, is_alive, total}
+use Rattle.sd_pagetable.specs.Nested.{Table, map_values, inside, is_alive, total}
 use Rattle.sd_pagetable.specs.Page.{Page, plain_page, shared_page, inherited_page}
 use Rattle.sd_pagetable.specs.Contents.{Contents, plain_of, page_count, IsSound}
 use Rattle.sd_pagetable.specs.Effects.{after_exit, after_fork, IsLeastFree}
@@ -23,10 +23,9 @@ use Rattle.sd_pagetable.proofs.MemoryLemmas.{plain_alive}
 use Rattle.sd_pagetable.specs.Ranges.{bare_page}
 use Rattle.sd_pagetable.specs.Tracking.{with_space, forked}
 use Rattle.sd_pagetable.proofs.TableLemmas.{same_table, get_put, get_removed, get-map_values, entries-map_values}
-use Rattle.sd_pagetable.proofs.NestedLemmas.{same_nested, alive-insert}
+use Rattle.sd_pagetable.proofs.NestedLemmas.{alive-insert}
 use Rattle.sd_pagetable.proofs.TotalLemmas.{total-empty, total-insert, total-remove, total_within-insert, total_within-remove_space}
-use Rattle.sd_pagetable.proofs.RangeLemmas.{cases_bool, same_self, not_same, same_of, inside_with, inside_other, with_twice, with_itself}
-use Rattle.sd_pagetable.proofs.RangeSteps.{alive_with}
+use Rattle.sd_pagetable.proofs.RangeLemmas.{cases_bool, same_of, inside_with, inside_other, with_twice}
 use Rattle.sd_pagetable.proofs.PlainRanges.{composed, map_removed, same_many, plain_many, plain_inside, plain_with, areas_with}
 use Rattle.sd_pagetable.proofs.ForkLemmas.{with_swap}
 

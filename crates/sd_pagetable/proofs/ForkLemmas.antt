@@ -1,5 +1,5 @@
 -- The pages of a child, copied and shared one after the other.
-use Rattle.std.proofs.Common.{◌≡◌, ◌⊎◌, ℕ, ◌+◌, ◌<◌, ◌≤◌, Bool, true, false, not, cond, nat_eq, nat_le, nat_lt, ◌&&◌, ◌||◌, is_some, IsSome, List, [], ◌∷◌, map, length, Option, Some, None, refl, sym, ◌∙◌, ap, subst, inl, inr, arith}
+use Rattle.std.proofs.Common.{◌≡◌, ℕ, ◌+◌, ◌<◌, ◌≤◌, Bool, true, false, not, cond, nat_eq, nat_lt, ◌||◌, is_some, IsSome, List, [], ◌∷◌, map, length, Option, Some, None, refl, sym, ◌∙◌, ap, subst, arith}
 use Rattle.std.specs.Prelude.{IfSome, sum_by}
 use Rattle.std.proofs.lemmas.Bool.Decides.{nat_tests}
 use Rattle.std.proofs.lemmas.List.Sums.{sum_by-cons}
@@ -10,7 +10,7 @@ use Rattle.std.specs.declared.ops.Bound.{Bound}
 use Rattle.std.specs.declared.ops.Bound.TheVariants.{Included, Excluded, Unbounded}
 use Rattle.std.specs.FinMap as finmap
 use Rattle.std.specs.FinMap.{get-empty, get-retain_keys, len-entries, nat_cmp-IsAntisymmetric}
-use Rattle.sd_pagetable.specs.Nested.{Table, Nested, map_entries, map_values, inside, value_at, is_alive, total}
+use Rattle.sd_pagetable.specs.Nested.{Table, map_entries, map_values, inside, value_at, is_alive, total}
 use Rattle.sd_pagetable.specs.Page.{Page, shared_page, inherited_page}
 use Rattle.sd_pagetable.specs.Contents.{Contents, page_at, put_page, page_count}
 use Rattle.sd_pagetable.specs.Firsts.{is_from, IsFirstFrom}
@@ -19,7 +19,7 @@ use Rattle.sd_pagetable.specs.Tracking.{with_space}
 use Rattle.sd_pagetable.proofs.TableLemmas.{same_table, get_put, get-map_entries, entries-map_entries, get-map_values}
 use Rattle.sd_pagetable.proofs.NestedLemmas.{same_nested, alive-insert, value_at-insert}
 use Rattle.sd_pagetable.proofs.TotalLemmas.{total-insert}
-use Rattle.sd_pagetable.proofs.RangeLemmas.{cases_bool, same_self, not_same, same_of, inside_with, inside_other, with_twice, with_itself, put_in, at_table}
+use Rattle.sd_pagetable.proofs.RangeLemmas.{same_of, inside_with, inside_other, with_itself, put_in, at_table}
 use Rattle.sd_pagetable.proofs.RangeCounts.{one_more}
 
 -- ---- the pages from a bound on

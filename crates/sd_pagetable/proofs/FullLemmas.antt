@@ -1,19 +1,18 @@
 -- When the classes are as many as the frames.
-use Rattle.std.proofs.Common.{◌≡◌, ◌≢◌, ◌⊎◌, ℕ, zero, suc, ◌+◌, ◌<◌, ◌≤◌, Bool, true, false, not, cond, nat_eq, nat_lt, ◌&&◌, List, [], ◌∷◌, length, Option, Some, None, IsSome, refl, sym, ◌∙◌, ap, subst, inl, inr, arith, filter}
-use Rattle.std.proofs.lemmas.Bool.{cases_Bool, cases_eq, eq-eqb, ne_eqb, lt-ltb, le-ltb, cond-true, cond-false, not_from_true, not_from_false, and_from, and_left, and_right}
+use Rattle.std.proofs.Common.{◌≡◌, ◌⊎◌, ℕ, zero, suc, ◌+◌, ◌<◌, ◌≤◌, Bool, true, false, not, cond, nat_eq, nat_lt, ◌&&◌, ◌∷◌, length, Option, Some, None, refl, sym, ◌∙◌, ap, subst, inl, inr, arith, filter}
+use Rattle.std.proofs.lemmas.Bool.{cases_eq, eq-eqb, ne_eqb, lt-ltb, le-ltb, cond-true, cond-false, not_from_true, not_from_false, and_from, and_left, and_right}
 use Rattle.std.specs.List.{range_with_len}
-use Rattle.std.specs.Option.{option_map, option_map_or}
+use Rattle.std.specs.Option.{option_map_or}
 use Rattle.sd_pagetable.specs.declared.entry.Entry.{Entry}
-use Rattle.sd_pagetable.specs.declared.denied.Denied.{Denied}
 use Rattle.sd_pagetable.specs.declared.denied.Denied.TheVariants.{Refused}
 use Rattle.sd_pagetable.specs.declared.refusal.Refusal.TheVariants.{NoFrame}
 use Rattle.sd_pagetable.specs.Nested.{Nested, value_at, put_at}
-use Rattle.sd_pagetable.specs.Page.{Page, opened_page}
-use Rattle.sd_pagetable.specs.Contents.{Contents, page_at, put_page, members, classes, is_full, is_alone}
+use Rattle.sd_pagetable.specs.Page.{opened_page}
+use Rattle.sd_pagetable.specs.Contents.{Contents, page_at, put_page, members, is_full, is_alone}
 use Rattle.sd_pagetable.specs.Frames.{Pool, Cell, cell_at, count_at, IsExhausted, HasFree}
 use Rattle.sd_pagetable.specs.View.{page_of_entry, frame_bytes, contents_of, IsKept}
-use Rattle.sd_pagetable.specs.Owning.{is_own, TakesFrame, OwnsFrame}
-use Rattle.sd_pagetable.specs.Tracking.{IsOwnClass, Opens}
+use Rattle.sd_pagetable.specs.Owning.{is_own, OwnsFrame}
+use Rattle.sd_pagetable.specs.Tracking.{Opens}
 use Rattle.sd_pagetable.specs.Due.{frame_due}
 use Rattle.sd_pagetable.proofs.NestedLemmas.{alive_at}
 use Rattle.sd_pagetable.proofs.TableLemmas.{some_of}

@@ -1,19 +1,19 @@
 -- What is kept where a child's page takes the frame of the parent's.
-use Rattle.std.proofs.Common.{◌≡◌, ◌≢◌, ◌⊎◌, ℕ, ◌+◌, ◌-◌, ◌<◌, ◌≤◌, ◌^◌, Bool, true, false, cond, nat_eq, ◌&&◌, ◌||◌, is_some, List, length, Option, Some, None, unwrap_or, IsSome, refl, sym, ◌∙◌, ap, subst, inl, inr, arith, sum_by}
-use Rattle.std.proofs.lemmas.Bool.{cases_Bool, cases_eq, eqb-true, eqb-false, eq-eqb}
+use Rattle.std.proofs.Common.{◌≡◌, ℕ, ◌+◌, ◌<◌, ◌≤◌, Bool, true, false, cond, nat_eq, List, Option, Some, None, refl, sym, ◌∙◌, ap, inl, inr, arith}
+use Rattle.std.proofs.lemmas.Bool.{cases_Bool, cases_eq}
 use Rattle.std.proofs.lemmas.Bool.Decides.{nat_tests}
 use Rattle.std.proofs.lemmas.List.Sums.{sum_by-le-sum_by}
-use Rattle.std.specs.Option.{option_map, option_map_or}
+use Rattle.std.specs.Option.{option_map_or}
 use Rattle.std.specs.FinMap as finmap
 use Rattle.sd_pagetable.specs.declared.entry.Entry.{Entry}
-use Rattle.sd_pagetable.specs.Nested.{Table, Nested, value_at, is_alive, put_at, remove_at, total, total_within}
-use Rattle.sd_pagetable.specs.Page.{Page, zeros}
-use Rattle.sd_pagetable.specs.Contents.{Contents, page_at, put_page, members, share_of, is_alone, page_count, IsOpen, IsSound}
-use Rattle.sd_pagetable.specs.Frames.{Pool, Cell, cell_at, count_at, bytes_at}
+use Rattle.sd_pagetable.specs.Nested.{Table, Nested, value_at, put_at, total, total_within}
+use Rattle.sd_pagetable.specs.Page.{Page}
+use Rattle.sd_pagetable.specs.Contents.{Contents, page_at, put_page, members, share_of, page_count}
+use Rattle.sd_pagetable.specs.Frames.{Pool, Cell, cell_at, count_at}
 use Rattle.sd_pagetable.specs.View.{page_of_entry, frame_bytes, contents_of, IsKept}
 use Rattle.sd_pagetable.specs.Owning.{SharesFrame}
 use Rattle.sd_pagetable.proofs.NestedLemmas.{alive_at}
-use Rattle.sd_pagetable.proofs.ViewLemmas.{view_put, SameOthers, is_at, entry_there, page_entry, alone_apart, one_share}
+use Rattle.sd_pagetable.proofs.ViewLemmas.{view_put, SameOthers, is_at, entry_there, alone_apart, one_share}
 use Rattle.sd_pagetable.proofs.KeptLemmas.{kept_put, other_class, never, one_page}
 
 at_most_one : (k : ℕ) (o : Option ℕ) → option_map_or (λ j. cond {A = ℕ} (nat_eq j k) 1 0) o 0 ≤ 1

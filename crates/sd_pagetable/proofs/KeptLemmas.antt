@@ -1,19 +1,17 @@
 -- What a change of one entry keeps.
-use Rattle.std.proofs.Common.{◌≡◌, ◌≢◌, ◌⊎◌, ℕ, ◌+◌, ◌-◌, ◌<◌, ◌≤◌, ◌^◌, Bool, true, false, cond, nat_eq, ◌&&◌, ◌||◌, is_some, List, length, Option, Some, None, unwrap_or, IsSome, refl, sym, ◌∙◌, ap, subst, inl, inr, arith}
+use Rattle.std.proofs.Common.{◌≡◌, ℕ, ◌+◌, ◌<◌, ◌≤◌, ◌^◌, Bool, true, false, cond, nat_eq, List, Option, Some, None, IsSome, refl, sym, ◌∙◌, ap, subst, inl, inr, arith}
 use Rattle.std.proofs.lemmas.Bool.Decides.{nat_tests}
-use Rattle.std.proofs.lemmas.Bool.{cases_Bool, cases_eq, cond-true, cond-false, eqb-true, eq-eqb, ne_eqb, and_from}
-use Rattle.std.specs.Option.{option_map, option_map_or}
-use Rattle.std.specs.Ordering.{nat_cmp}
-use Rattle.std.specs.FinMap as finmap
+use Rattle.std.proofs.lemmas.Bool.{cases_Bool, cases_eq, cond-false, ne_eqb}
+use Rattle.std.specs.Option.{option_map_or}
 use Rattle.sd_pagetable.specs.declared.entry.Entry.{Entry}
-use Rattle.sd_pagetable.specs.Nested.{Table, Nested, map_values, inside, value_at, is_alive, put_at, remove_at, total, total_within}
+use Rattle.sd_pagetable.specs.Nested.{Nested, value_at, is_alive, put_at, total}
 use Rattle.sd_pagetable.specs.Page.{Page, zeros}
-use Rattle.sd_pagetable.specs.Contents.{Contents, page_at, put_page, remove_page, members, share_of, is_alone, page_count, IsOpen, IsSound}
-use Rattle.sd_pagetable.specs.Frames.{Pool, Cell, cell_at, count_at, bytes_at, SetsCell}
-use Rattle.sd_pagetable.specs.View.{page_of_entry, entry_of, frame_bytes, contents_of, IsKept}
-use Rattle.sd_pagetable.proofs.NestedLemmas.{same_nested, value_at-put, value_at-remove, alive-put, alive-remove, alive-put_same, alive-remove_same, value_at-map, alive-map, alive_at, inside-map}
-use Rattle.sd_pagetable.proofs.TotalLemmas.{total_within-put, total_within-remove, total_within_ge}
-use Rattle.sd_pagetable.proofs.ViewLemmas.{view_put, view_remove, same_pool, SameOthers, is_at, entry_there, page_entry, alone_apart, alone_in, is_alone_in, sound_put, one_share}
+use Rattle.sd_pagetable.specs.Contents.{Contents, page_at, put_page, members, share_of, page_count, IsOpen, IsSound}
+use Rattle.sd_pagetable.specs.Frames.{Pool, Cell, cell_at, count_at, SetsCell}
+use Rattle.sd_pagetable.specs.View.{page_of_entry, frame_bytes, contents_of, IsKept}
+use Rattle.sd_pagetable.proofs.NestedLemmas.{same_nested, value_at-put, alive-put_same, alive-map, alive_at}
+use Rattle.sd_pagetable.proofs.TotalLemmas.{total_within-put, total_within_ge}
+use Rattle.sd_pagetable.proofs.ViewLemmas.{view_put, same_pool, SameOthers, is_at, entry_there, alone_apart, alone_in, is_alone_in, sound_put, one_share}
 
 -- no other open page is in the page's class
 abbrev pub IsApart : Contents → ℕ → ℕ → Page → Type 0

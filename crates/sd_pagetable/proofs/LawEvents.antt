@@ -7,10 +7,10 @@ use Rattle.std.specs.FinMap as finmap
 use Rattle.std.specs.FinMap.{get-empty}
 use Rattle.sd_areas.specs.declared.prot.Prot.{Prot}
 use Rattle.sd_areas.specs.Pages.{is_within}
-use Rattle.sd_pagetable.specs.Nested.{Table, Nested, map_values, inside, value_at, is_alive, set_within, remove_within, change_within}
-use Rattle.sd_pagetable.specs.Page.{Page, fresh_page, cleared_page, protected_page, shared_page, inherited_page, opened_page, stored_page}
+use Rattle.sd_pagetable.specs.Nested.{Table, Nested, map_values, inside, value_at}
+use Rattle.sd_pagetable.specs.Page.{Page, fresh_page, protected_page, shared_page, inherited_page, opened_page}
 use Rattle.sd_pagetable.specs.Contents.{Contents, page_at, put_page}
-use Rattle.sd_pagetable.specs.Tracking.{Event, Mapped, Unmapped, Protected, Forked, Exited, Faulted, Tried, Stored, Cleared, Passed, Step, Opens, with_space, forked, touches, clears, opens, closes}
+use Rattle.sd_pagetable.specs.Tracking.{Event, Mapped, Unmapped, Protected, Forked, Exited, Faulted, Tried, Stored, Cleared, Passed, Step, with_space, touches, clears, opens, closes}
 use Rattle.sd_pagetable.proofs.TableLemmas.{get_removed, get-map_values, get-set_within, get-remove_within, get-change_within}
 use Rattle.sd_pagetable.proofs.NestedLemmas.{tests, value_at-insert, value_at-put}
 

@@ -1,10 +1,10 @@
 -- The tracking law over whole histories.
-use Rattle.std.proofs.Common.{◌≡◌, ◌⊎◌, ℕ, ◌%◌, Bool, true, false, not, cond, nat_eq, ◌&&◌, ◌||◌, List, [], ◌∷◌, Option, Some, None, Ok, Err, refl, sym, ◌∙◌, ap, subst, inl, inr}
-use Rattle.std.specs.Option.{option_map, option_map_or}
+use Rattle.std.proofs.Common.{◌≡◌, ℕ, Bool, true, false, cond, ◌||◌, List, [], ◌∷◌, Option, Some, None, Ok, refl, sym, ◌∙◌, ap, inl, inr}
+use Rattle.std.specs.Option.{option_map_or}
 use Rattle.sd_areas.specs.Pages.{page_of}
 use Rattle.sd_pagetable.specs.Page.{Page, plain_page}
 use Rattle.sd_pagetable.specs.Contents.{Contents, page_at, plain_of}
-use Rattle.sd_pagetable.specs.Tracking.{Event, Step, Run, Tracks, IsBeginning, BitsLaw, TryLaw, touches, clears, opens, closes, is_dirty, is_open}
+use Rattle.sd_pagetable.specs.Tracking.{Event, Step, Tracks, BitsLaw, TryLaw, touches, clears, opens, closes, is_dirty, is_open}
 use Rattle.std.specs.Prelude.{Result}
 use Rattle.sd_areas.specs.PlainMemory as plain
 use Rattle.sd_pagetable.specs.declared.denied.Denied.{Denied}
@@ -13,8 +13,7 @@ use Rattle.sd_pagetable.specs.declared.refusal.Refusal.TheVariants.{Einval, NoSu
 use Rattle.sd_pagetable.specs.declared.need.Need.TheVariants.{Write}
 use Rattle.sd_pagetable.specs.declared.tried.Tried.{Tried}
 use Rattle.sd_pagetable.specs.declared.tried.Tried.TheVariants.{Done, NeedsFault}
-use Rattle.sd_pagetable.specs.Nested.{value_at, is_alive}
-use Rattle.sd_pagetable.specs.Access.{is_bad_access}
+use Rattle.sd_pagetable.specs.Nested.{value_at}
 use Rattle.sd_pagetable.specs.Due.{access_due, answer, page_due, tried, tried_reply}
 use Rattle.sd_pagetable.proofs.LawEvents.{Comes, comes, changed}
 use Rattle.sd_pagetable.proofs.NestedLemmas.{value_at-map}

@@ -1,5 +1,5 @@
 -- One event more in a history: whether a page is then dirty, and whether it is open.
-use Rattle.std.proofs.Common.{◌≡◌, ℕ, ◌+◌, suc, Bool, true, false, not, cond, nat_eq, ◌&&◌, ◌||◌, List, [], ◌∷◌, take, refl, sym, ◌∙◌, ap, arith}
+use Rattle.std.proofs.Common.{◌≡◌, ℕ, ◌+◌, suc, Bool, true, false, not, cond, ◌||◌, List, [], ◌∷◌, take, refl, sym, ◌∙◌, ap, arith}
 use Rattle.std.specs.List.{list_any, prefix_len}
 use Rattle.sd_pagetable.specs.Tracking.{Event, Mapped, Unmapped, Protected, Forked, Exited, Faulted, Tried, Stored, Cleared, Passed, touches, clears, opens, closes, since, is_dirty, is_open}
 

@@ -1,15 +1,15 @@
 -- What one more page of a snapshot keeps.
-use Rattle.std.proofs.Common.{◌≡◌, ◌≢◌, ◌⊎◌, ℕ, zero, suc, ◌+◌, ◌<◌, ◌≤◌, ◌^◌, Bool, true, false, not, cond, nat_eq, nat_lt, ◌&&◌, List, [], ◌∷◌, length, replicate, Option, Some, None, IsSome, refl, sym, ◌∙◌, ap, subst, inl, inr, arith, filter}
-use Rattle.std.proofs.lemmas.Bool.{cases_Bool, cases_eq, eqb-true, eq-eqb, ne_eqb, lt-ltb, le-ltb, and_parts}
-use Rattle.std.specs.List.{range_with_len, list_all}
+use Rattle.std.proofs.Common.{◌≡◌, ◌≢◌, ◌⊎◌, ℕ, zero, suc, ◌+◌, ◌<◌, ◌≤◌, Bool, true, false, cond, nat_eq, nat_lt, List, [], ◌∷◌, length, replicate, Option, Some, None, refl, sym, ◌∙◌, ap, subst, inl, inr, arith, filter}
+use Rattle.std.proofs.lemmas.Bool.{cases_Bool, cases_eq, eqb-true, eq-eqb, lt-ltb, le-ltb, and_parts}
+use Rattle.std.specs.List.{range_with_len}
 use Rattle.std.specs.Option.{option_map, option_map_or}
 use Rattle.sd_areas.specs.PlainMemory as plain
 use Rattle.sd_pagetable.specs.declared.entry.Entry.{Entry}
-use Rattle.sd_pagetable.specs.Nested.{Nested, value_at, put_at, is_alive, total_within}
+use Rattle.sd_pagetable.specs.Nested.{Nested, value_at, put_at}
 use Rattle.sd_pagetable.specs.Page.{Page, zeros, fresh_page, plain_page}
-use Rattle.sd_pagetable.specs.Contents.{Contents, page_at, put_page, plain_of, members, share_of, classes, is_full, is_alone}
-use Rattle.sd_pagetable.specs.Frames.{Pool, Cell, cell_at, count_at, bytes_at, SetsCell, HasFree}
-use Rattle.sd_pagetable.specs.View.{page_of_entry, frame_bytes, contents_of, IsKept}
+use Rattle.sd_pagetable.specs.Contents.{Contents, page_at, put_page, plain_of, members, share_of, classes, is_full}
+use Rattle.sd_pagetable.specs.Frames.{Pool, Cell, cell_at, count_at, SetsCell, HasFree}
+use Rattle.sd_pagetable.specs.View.{page_of_entry, contents_of, IsKept}
 use Rattle.sd_pagetable.specs.Loaded.{is_zero_page, frames_for, nonzero_pages, loaded_page, IsClassFor, Loads, GivesFrame, IsBegun}
 use Rattle.sd_pagetable.proofs.NestedLemmas.{alive_at, value_at-put}
 use Rattle.sd_pagetable.proofs.TotalLemmas.{total_within-put}
@@ -124,11 +124,11 @@ module _ (m : Contents) (s p : ℕ) (page : plain.Page) (begun : IsBegun m) (hol
               is_alone_in (put_page m s p x) y a.0 a.1 (same_members m s p x hole refl a.0 ∙ a.2))
         ];
         used =
-          let a = same_classes m s p x hole refl in
-          let b = added_nonzero m s p x hole in
-          let c : frames_for page ≡ 0 = ap (λ b. cond {A = ℕ} b 0 1) blank in
-          let d = begun.used in
-          omega (arith, a, b, c, d);
+            let a = same_classes m s p x hole refl in
+            let b = added_nonzero m s p x hole in
+            let c : frames_for page ≡ 0 = ap (λ b. cond {A = ℕ} b 0 1) blank in
+            let d = begun.used in
+            omega (arith, a, b, c, d);
       }
 
   begun_some : (j : ℕ) → is_zero_page page.bytes ≡ false → members m j ≡ 0 → j < m.pool → IsBegun (put_page m s p (loaded_page page (Some j)))
@@ -153,11 +153,11 @@ module _ (m : Contents) (s p : ℕ) (page : plain.Page) (begun : IsBegun m) (hol
               is_alone_in (put_page m s p x) y a.0 a.1 (omega (arith, b, c, one)))
         ];
         used =
-          let a = more_classes m s p x j hole refl free within in
-          let b = added_nonzero m s p x hole in
-          let c : frames_for page ≡ 1 = ap (λ b. cond {A = ℕ} b 0 1) some in
-          let d = begun.used in
-          omega (arith, a, b, c, d);
+            let a = more_classes m s p x j hole refl free within in
+            let b = added_nonzero m s p x hole in
+            let c : frames_for page ≡ 1 = ap (λ b. cond {A = ℕ} b 0 1) some in
+            let d = begun.used in
+            omega (arith, a, b, c, d);
       }
 
   begun_by : (class : Option ℕ) → IsClassFor m page class → IsBegun (put_page m s p (loaded_page page class))

@@ -1,51 +1,37 @@
 -- A memory that is being loaded, and the areas beside it.
-use Rattle.std.proofs.Common.{◌≡◌, ◌⊎◌, ℕ, ◌+◌, ◌-◌, ◌<◌, ◌≤◌, Bool, true, false, cond, nat_eq, nat_lt, ◌||◌, is_some, List, [], ◌∷◌, map, length, Option, Some, None, unwrap_or, refl, sym, ◌∙◌, ap, subst, inl, inr, arith, T, zero, suc, filter}
-use Rattle.std.specs.Prelude.{Result, Ok, Err}
-use Rattle.std.proofs.lemmas.Bool.{cases_Bool, cond-true, cond-false, eq-eqb, ne_eqb, lt-ltb, le-ltb, ltb-true, ltb-false}
+use Rattle.std.proofs.Common.{◌≡◌, ℕ, ◌+◌, ◌≤◌, Bool, true, false, cond, nat_eq, nat_lt, ◌||◌, is_some, List, [], ◌∷◌, map, length, Option, Some, None, unwrap_or, refl, sym, ◌∙◌, ap, subst, inl, inr, arith, zero, suc, filter}
+use Rattle.std.proofs.lemmas.Bool.{cases_Bool, cond-true, eq-eqb, le-ltb, ltb-false}
 use Rattle.std.specs.List.{list_any, range_with_len}
-use Rattle.std.specs.Option.{option_map, option_map_or, option_or}
+use Rattle.std.specs.Option.{option_map, option_or}
 use Rattle.std.specs.Ordering.{nat_cmp, eq_by_cmp}
 use Rattle.std.specs.Cmp.{nat_cmp_total}
 use Rattle.std.specs.BTreeMap.{BTreeMap, get}
 use Rattle.std.specs.FinMap as finmap
-use Rattle.std.specs.FinMap.{find, is_sorted, get-empty, get-entries, get-from_entries, get-from_sorted, entries-from_sorted}
-use Rattle.sd_areas.specs.declared.prot.Prot.{Prot}
-use Rattle.sd_areas.specs.declared.errno.AreaError.{AreaError}
-use Rattle.sd_areas.specs.declared.errno.AreaError.TheVariants.{Refused as AreaRefused, OutOfMemory as AreaOutOfMemory}
-use Rattle.sd_areas.specs.declared.errno.Errno.TheVariants.{Einval as AreaEinval, Enomem as AreaEnomem}
+use Rattle.std.specs.FinMap.{find, get-empty, get-entries, get-from_entries}
 use Rattle.sd_areas.specs.declared.snapshot.Snapshot.{Snapshot}
-use Rattle.sd_areas.specs.declared.snapshot_page.SnapshotPage.{SnapshotPage}
-use Rattle.sd_areas.specs.Areas.{PageMap, areas_of}
-use Rattle.sd_areas.specs.Calls as area_calls
-use Rattle.sd_areas.specs.Calls.{within_areas}
-use Rattle.sd_areas.specs.Memory.{page_of_snapshot, space_of, memory_of}
-use Rattle.sd_areas.specs.Memory as areas_memory
+use Rattle.sd_areas.specs.Areas.{PageMap}
+use Rattle.sd_areas.specs.Memory.{memory_of}
 use Rattle.sd_areas.specs.PlainMemory as plain
 use Rattle.sd_areas.specs.PlainMemory.{PlainMemory}
 use Rattle.sd_pagetable.specs.declared.denied.Denied.{Denied}
 use Rattle.sd_pagetable.specs.declared.denied.Denied.TheVariants.{Refused}
 use Rattle.sd_pagetable.specs.declared.refusal.Refusal.TheVariants.{NoFrame, Enomem}
-use Rattle.sd_pagetable.specs.declared.memory_error.MemoryError.{MemoryError}
-use Rattle.sd_pagetable.specs.declared.memory_error.MemoryError.TheVariants.{Denied as DeniedError, OutOfMemory}
-use Rattle.sd_pagetable.specs.Nested.{Table, Nested, map_values, inside, value_at, is_alive, put_at, total, total_within}
+use Rattle.sd_pagetable.specs.Nested.{Table, Nested, map_values, inside, value_at, is_alive, total, total_within}
 use Rattle.sd_pagetable.specs.Page.{Page, plain_page}
-use Rattle.sd_pagetable.specs.Contents.{Contents, page_at, put_page, plain_of, members, share_of, classes, is_full, is_alone, page_count}
-use Rattle.sd_pagetable.specs.AreaErrors.{error_of}
+use Rattle.sd_pagetable.specs.Contents.{Contents, page_at, plain_of, members, share_of, classes, page_count}
 use Rattle.sd_pagetable.specs.Due.{prots_in}
-use Rattle.sd_pagetable.specs.Loaded.{is_zero_page, frames_for, nonzero_pages, is_over_in_space, is_over_limits, snapshot_due, loaded_page, Loads, IsBegun, IsLoaded}
-use Rattle.sd_pagetable.proofs.NestedLemmas.{tests, inside-insert, alive-insert, alive-put_same}
-use Rattle.sd_pagetable.proofs.TableLemmas.{same_table, same_test, same_again, get_put, get_tree, get-map_values, map_values-empty, map_values-insert, keys_sorted, sorted_changed, tied}
-use Rattle.sd_pagetable.proofs.TotalLemmas.{total-empty, total_within-insert, total_within-empty}
+use Rattle.sd_pagetable.specs.Loaded.{frames_for, nonzero_pages, is_over_in_space, is_over_limits, snapshot_due, IsBegun, IsLoaded}
+use Rattle.sd_pagetable.proofs.NestedLemmas.{inside-insert, alive-insert}
+use Rattle.sd_pagetable.proofs.TableLemmas.{same_table, same_test, get_put, get_tree, get-map_values, map_values-empty, map_values-insert, tied}
+use Rattle.sd_pagetable.proofs.TotalLemmas.{total_within-empty}
 use Rattle.sd_pagetable.proofs.SpaceLemmas.{added_at, added_total}
 use Rattle.sd_pagetable.proofs.ViewLemmas.{alone_in, is_alone_in}
 use Rattle.sd_pagetable.proofs.KeptLemmas.{never}
-use Rattle.sd_pagetable.proofs.MemoryLemmas.{plain_put, plain_at, plain_alive}
-use Rattle.sd_pagetable.proofs.PlainRanges.{plain_many, plain_inside, composed}
+use Rattle.sd_pagetable.proofs.MemoryLemmas.{plain_alive}
+use Rattle.sd_pagetable.proofs.PlainRanges.{plain_many, composed}
 use Rattle.sd_pagetable.specs.Kept.{HasAreas, prots_of}
 use Rattle.sd_pagetable.proofs.ForkCalls.{len_total}
-use Rattle.sd_pagetable.proofs.FilledLemmas.{Rises, IsApart, rest_rises, apart_empty, apart_head, apart_next, filled, filled_all, find_seen, weigh, total_seen, total-filled, head_within, get-filled}
-use Rattle.sd_pagetable.proofs.LoadedLemmas.{begun_next}
-
+use Rattle.sd_pagetable.proofs.FilledLemmas.{Rises, IsApart, rest_rises, apart_empty, apart_head, apart_next, filled, filled_all, find_seen, head_within, get-filled}
 use Rattle.sd_pagetable.proofs.SnapshotLemmas.{Pages, space_in, seen_space, memory_entries, memory_filled, inserted_twice}
 
 none_left : (a b : Bool) → (a || b) ≡ false → a ≡ false
@@ -107,9 +93,9 @@ nothing_begun m bare = record {
   zeros = λ q r x h z. absurd (hole q r x h);
   alone = λ q r x h z. absurd (hole q r x h);
   used =
-    let a : length (classes m) ≡ 0 = none_kept (λ k. nat_lt 0 (members m k)) 0 m.pool (λ k. le-ltb 0 _ (let e = ap (total_within (share_of k)) bare ∙ total_within-empty (share_of k) in omega (arith, e))) in
-    let b : nonzero_pages (plain_of m) ≡ 0 = ap (λ (t : Nested Page). nonzero_pages (map_values (map_values plain_page) t)) bare ∙ ap nonzero_pages (map_values-empty (map_values plain_page)) ∙ total_within-empty frames_for in
-    omega (arith, a, b);
+      let a : length (classes m) ≡ 0 = none_kept (λ k. nat_lt 0 (members m k)) 0 m.pool (λ k. le-ltb 0 _ (let e = ap (total_within (share_of k)) bare ∙ total_within-empty (share_of k) in omega (arith, e))) in
+      let b : nonzero_pages (plain_of m) ≡ 0 = ap (λ (t : Nested Page). nonzero_pages (map_values (map_values plain_page) t)) bare ∙ ap nonzero_pages (map_values-empty (map_values plain_page)) ∙ total_within-empty frames_for in
+      omega (arith, a, b);
 }
   where
     hole : (q r : ℕ) (x : Page) → page_at m q r ≡ Some x → ⊥

@@ -1,5 +1,5 @@
 -- Tables of tables: what each space has at a page after a change.
-use Rattle.std.proofs.Common.{◌≡◌, ◌⊎◌, ℕ, Bool, true, false, cond, nat_eq, ◌&&◌, ◌||◌, is_some, Option, Some, None, unwrap_or, IsSome, refl, sym, ◌∙◌, ap, subst, inl, inr, arith}
+use Rattle.std.proofs.Common.{◌≡◌, ◌⊎◌, ℕ, Bool, true, false, cond, nat_eq, ◌&&◌, ◌||◌, is_some, Option, Some, None, unwrap_or, refl, sym, ◌∙◌, ap, inl, inr, arith}
 use Rattle.std.proofs.lemmas.Bool.Decides.{nat_tests}
 use Rattle.std.specs.Option.{option_map}
 use Rattle.std.specs.Ordering.{nat_cmp}

@@ -1,18 +1,17 @@
 -- What a fault keeps.
-use Rattle.std.proofs.Common.{◌≡◌, ◌≢◌, ◌⊎◌, ℕ, ◌+◌, ◌-◌, ◌<◌, ◌≤◌, ◌^◌, Bool, true, false, cond, nat_eq, ◌&&◌, ◌||◌, is_some, List, length, Option, Some, None, unwrap_or, IsSome, refl, sym, ◌∙◌, ap, subst, inl, inr, arith}
-use Rattle.std.proofs.lemmas.Bool.{cases_Bool, cases_eq, eqb-true, eqb-false, eq-eqb}
-use Rattle.std.specs.Option.{option_map, option_map_or}
+use Rattle.std.proofs.Common.{◌≡◌, ℕ, ◌+◌, ◌<◌, ◌≤◌, Bool, true, false, cond, nat_eq, List, Option, Some, None, refl, sym, ◌∙◌, ap, subst, inl, inr, arith}
+use Rattle.std.proofs.lemmas.Bool.{cases_eq, eqb-true, eqb-false, eq-eqb}
+use Rattle.std.specs.Option.{option_map_or}
 use Rattle.sd_pagetable.specs.declared.entry.Entry.{Entry}
-use Rattle.sd_pagetable.specs.Nested.{Nested, value_at, is_alive, put_at, total_within}
-use Rattle.sd_pagetable.specs.Page.{Page, zeros, opened_page}
-use Rattle.sd_pagetable.specs.Contents.{Contents, page_at, put_page, members, share_of, is_alone, page_count, IsOpen, IsSound}
-use Rattle.sd_pagetable.specs.Frames.{Pool, Cell, cell_at, count_at, bytes_at, SetsCell}
+use Rattle.sd_pagetable.specs.Nested.{Nested, value_at, put_at}
+use Rattle.sd_pagetable.specs.Page.{zeros, opened_page}
+use Rattle.sd_pagetable.specs.Contents.{Contents, put_page, members, share_of}
+use Rattle.sd_pagetable.specs.Frames.{Pool, Cell, cell_at, count_at}
 use Rattle.sd_pagetable.specs.View.{page_of_entry, frame_bytes, contents_of, IsKept}
-use Rattle.sd_pagetable.specs.Owning.{is_own, TakesFrame, OwnsFrame}
-use Rattle.sd_pagetable.specs.Tracking.{IsOwnClass}
+use Rattle.sd_pagetable.specs.Owning.{is_own, TakesFrame}
 use Rattle.sd_pagetable.proofs.NestedLemmas.{alive_at}
 use Rattle.sd_pagetable.proofs.TotalLemmas.{total_within-put, total_within_ge}
-use Rattle.sd_pagetable.proofs.ViewLemmas.{view_put, same_pool, SameOthers, is_at, entry_there, is_alone_in, one_share}
+use Rattle.sd_pagetable.proofs.ViewLemmas.{view_put, same_pool, SameOthers, entry_there, is_alone_in, one_share}
 use Rattle.sd_pagetable.proofs.KeptLemmas.{kept_put, apart_same, apart_new, frame_counted, share_class, other_class}
 
 opened_entry : Entry → ℕ → Entry

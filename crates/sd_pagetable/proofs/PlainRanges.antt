@@ -1,6 +1,6 @@
 -- What the calls over ranges make of the plain memory, and of the areas.
-use Rattle.std.proofs.Common.{◌≡◌, ◌⊎◌, ℕ, ◌+◌, ◌-◌, ◌<◌, ◌≤◌, zero, suc, Bool, true, false, not, cond, nat_eq, nat_lt, ◌&&◌, ◌||◌, is_some, IsSome, List, [], ◌∷◌, map, length, Option, Some, None, Ok, unwrap_or, refl, sym, ◌∙◌, ap, subst, inl, inr, arith}
-use Rattle.std.specs.Prelude.{count_by, sum_by, if◌then◌else◌}
+use Rattle.std.proofs.Common.{◌≡◌, ℕ, ◌+◌, ◌-◌, ◌≤◌, zero, suc, Bool, true, false, not, cond, nat_eq, is_some, IsSome, List, [], ◌∷◌, map, Option, Some, None, refl, sym, ◌∙◌, ap, subst, arith}
+use Rattle.std.specs.Prelude.{count_by, sum_by}
 use Rattle.std.proofs.lemmas.Bool.Decides.{nat_tests}
 use Rattle.std.proofs.lemmas.List.Sums.{sum_by-cons}
 use Rattle.std.specs.Option.{option_map, option_map_or}
@@ -11,7 +11,7 @@ use Rattle.sd_areas.specs.declared.prot.Prot.{Prot}
 use Rattle.sd_areas.specs.Areas.{PageMap}
 use Rattle.sd_areas.specs.Pages.{is_within, page_of, pages_for, pages_from}
 use Rattle.sd_areas.specs.PlainMemory as plain
-use Rattle.sd_pagetable.specs.Nested.{Table, Nested, map_entries, map_values, inside, is_alive, value_at, set_within, remove_within, change_within, total, total_within}
+use Rattle.sd_pagetable.specs.Nested.{Table, map_values, inside, set_within, remove_within, change_within, total, total_within}
 use Rattle.sd_pagetable.specs.Page.{Page, plain_page, fresh_page, protected_page, zeros}
 use Rattle.sd_pagetable.specs.Contents.{Contents, plain_of, page_at, page_count}
 use Rattle.sd_pagetable.specs.Due.{prots_in}
@@ -19,9 +19,9 @@ use Rattle.sd_pagetable.specs.Effects.{after_mmap, after_munmap, after_mprotect}
 use Rattle.sd_pagetable.specs.Kept.{HasAreas, prots_of}
 use Rattle.sd_pagetable.specs.Tracking.{with_space}
 use Rattle.sd_pagetable.proofs.TableLemmas.{same_table, get_put, get_removed, get-map_values, get-set_within, get-remove_within, get-change_within, entries-map_values}
-use Rattle.sd_pagetable.proofs.NestedLemmas.{inside-map, inside-insert, alive-insert}
+use Rattle.sd_pagetable.proofs.NestedLemmas.{inside-map}
 use Rattle.sd_pagetable.proofs.TotalLemmas.{total-insert, total-remove, total_within-insert, total_within-remove_space}
-use Rattle.sd_pagetable.proofs.RangeLemmas.{set_more, set_none, set_outside, same_of}
+use Rattle.sd_pagetable.proofs.RangeLemmas.{set_more, set_none, set_outside}
 use Rattle.sd_pagetable.proofs.RangeCounts.{counted_more, none_counted}
 
 -- ---- values seen another way

@@ -1,17 +1,15 @@
 -- A space whose pages change one after the other.
-use Rattle.std.proofs.Common.{◌≡◌, ◌≢◌, ◌⊎◌, ℕ, ◌+◌, ◌-◌, ◌<◌, ◌≤◌, zero, suc, Bool, true, false, not, cond, nat_eq, ◌&&◌, ◌||◌, is_some, IsSome, List, [], ◌∷◌, Option, Some, None, refl, sym, ◌∙◌, ap, subst, inl, inr, arith}
+use Rattle.std.proofs.Common.{◌≡◌, ◌⊎◌, ℕ, ◌+◌, ◌-◌, ◌≤◌, Bool, true, false, cond, nat_eq, ◌||◌, IsSome, Option, Some, None, refl, sym, ◌∙◌, ap, subst, inl, inr, arith}
 use Rattle.std.proofs.lemmas.Bool.Decides.{nat_tests}
 use Rattle.std.specs.Option.{option_map, option_or}
-use Rattle.std.specs.Ordering.{nat_cmp}
 use Rattle.std.specs.FinMap as finmap
-use Rattle.sd_areas.specs.declared.prot.Prot.{Prot}
 use Rattle.sd_areas.specs.Pages.{is_within}
-use Rattle.sd_pagetable.specs.Nested.{Table, Nested, inside, value_at, is_alive, put_at, remove_at, set_within, remove_within, change_within, fill_within}
+use Rattle.sd_pagetable.specs.Nested.{Table, Nested, inside, value_at, is_alive, put_at, remove_at, set_within, change_within, fill_within}
 use Rattle.sd_pagetable.specs.Page.{Page}
 use Rattle.sd_pagetable.specs.Contents.{Contents, page_at, put_page, remove_page}
 use Rattle.sd_pagetable.specs.Tracking.{with_space}
-use Rattle.sd_pagetable.proofs.TableLemmas.{same_table, get_put, get_removed, get-set_within, get-remove_within, get-change_within, get-fill_within}
-use Rattle.sd_pagetable.proofs.NestedLemmas.{same_nested, inside-insert, alive-insert, value_at-insert, value_at-put, value_at-remove, alive-put, alive-remove}
+use Rattle.sd_pagetable.proofs.TableLemmas.{same_table, get_put, get-set_within, get-change_within, get-fill_within}
+use Rattle.sd_pagetable.proofs.NestedLemmas.{same_nested, inside-insert, alive-insert, value_at-insert}
 
 pub same_self : (a : ℕ) → nat_eq a a ≡ true
 same_self a = grind (arith, nat_tests)

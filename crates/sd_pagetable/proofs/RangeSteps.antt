@@ -1,5 +1,5 @@
 -- One page of a run more.
-use Rattle.std.proofs.Common.{◌≡◌, ◌⊎◌, ℕ, ◌+◌, ◌-◌, ◌<◌, ◌≤◌, Bool, true, false, not, cond, nat_eq, nat_le, ◌&&◌, ◌||◌, is_some, IsSome, List, Option, Some, None, refl, sym, ◌∙◌, ap, subst, inl, inr, arith}
+use Rattle.std.proofs.Common.{◌≡◌, ◌⊎◌, ℕ, ◌+◌, ◌-◌, ◌<◌, ◌≤◌, Bool, true, false, not, cond, nat_eq, nat_le, ◌&&◌, ◌||◌, is_some, IsSome, Option, Some, None, refl, sym, ◌∙◌, ap, subst, inl, inr, arith}
 use Rattle.std.specs.Prelude.{count_by, IfSome}
 use Rattle.std.proofs.lemmas.Bool.Decides.{nat_tests}
 use Rattle.std.specs.Option.{option_map}
@@ -7,7 +7,7 @@ use Rattle.std.specs.Ordering.{nat_cmp}
 use Rattle.std.specs.FinMap as finmap
 use Rattle.std.specs.FinMap.{get-empty}
 use Rattle.sd_areas.specs.Pages.{pages_from, is_within}
-use Rattle.sd_pagetable.specs.Nested.{Table, Nested, inside, value_at, is_alive, fill_within, change_within, remove_within}
+use Rattle.sd_pagetable.specs.Nested.{Table, inside, is_alive, fill_within, change_within, remove_within}
 use Rattle.sd_pagetable.specs.Page.{Page}
 use Rattle.sd_pagetable.specs.Contents.{Contents, page_at, put_page, remove_page, page_count}
 use Rattle.sd_pagetable.specs.Ranges.{IsCleared}

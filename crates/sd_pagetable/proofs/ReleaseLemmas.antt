@@ -1,16 +1,16 @@
 -- What is kept where an entry gives its frame up.
-use Rattle.std.proofs.Common.{◌≡◌, ◌≢◌, ◌⊎◌, ℕ, ◌+◌, ◌-◌, ◌<◌, ◌≤◌, ◌^◌, Bool, true, false, cond, nat_eq, ◌&&◌, ◌||◌, is_some, List, length, Option, Some, None, unwrap_or, IsSome, refl, sym, ◌∙◌, ap, subst, inl, inr, arith}
-use Rattle.std.proofs.lemmas.Bool.{cases_Bool, cases_eq, eqb-true, eqb-false, eq-eqb}
-use Rattle.std.specs.Option.{option_map, option_map_or}
+use Rattle.std.proofs.Common.{◌≡◌, ℕ, ◌+◌, ◌-◌, ◌<◌, ◌≤◌, false, cond, nat_eq, List, Option, Some, None, refl, sym, ◌∙◌, ap, subst, inl, inr, arith}
+use Rattle.std.proofs.lemmas.Bool.{cases_Bool, cases_eq}
+use Rattle.std.specs.Option.{option_map_or}
 use Rattle.sd_pagetable.specs.declared.entry.Entry.{Entry}
-use Rattle.sd_pagetable.specs.Nested.{Nested, value_at, is_alive, put_at, remove_at, total_within}
+use Rattle.sd_pagetable.specs.Nested.{Nested, value_at, put_at, remove_at}
 use Rattle.sd_pagetable.specs.Page.{Page, zeros}
-use Rattle.sd_pagetable.specs.Contents.{Contents, page_at, put_page, remove_page, members, share_of, is_alone, page_count, IsOpen, IsSound}
+use Rattle.sd_pagetable.specs.Contents.{Contents, page_at, put_page, remove_page, members, share_of, page_count, IsSound}
 use Rattle.sd_pagetable.specs.Frames.{Pool, Cell, cell_at, count_at, bytes_at}
 use Rattle.sd_pagetable.specs.View.{page_of_entry, frame_bytes, contents_of, IsKept}
 use Rattle.sd_pagetable.specs.Owning.{ReleasesFrame}
-use Rattle.sd_pagetable.proofs.NestedLemmas.{alive_at, alive-map, alive-remove_same, value_at-remove}
-use Rattle.sd_pagetable.proofs.TotalLemmas.{total_within-put, total_within-remove, total_within_ge}
+use Rattle.sd_pagetable.proofs.NestedLemmas.{alive_at, alive-remove_same, value_at-remove}
+use Rattle.sd_pagetable.proofs.TotalLemmas.{total_within-remove}
 use Rattle.sd_pagetable.proofs.ViewLemmas.{view_put, view_remove, SameOthers, is_at, entry_there, alone_in, is_alone_in, alone_apart, one_share}
 use Rattle.sd_pagetable.proofs.KeptLemmas.{kept_put, apart_none, other_class, never, one_page}
 

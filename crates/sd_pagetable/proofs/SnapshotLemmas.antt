@@ -1,15 +1,13 @@
 -- Snapshots as plain memory, space by space and page by page.
-use Rattle.std.proofs.Common.{◌≡◌, ◌⊎◌, ℕ, ◌+◌, ◌-◌, ◌<◌, ◌≤◌, Bool, true, false, cond, nat_eq, nat_lt, ◌||◌, is_some, List, [], ◌∷◌, map, length, Option, Some, None, unwrap_or, refl, sym, ◌∙◌, ap, subst, inl, inr, arith, T, zero, suc, filter}
+use Rattle.std.proofs.Common.{◌≡◌, ◌⊎◌, ℕ, ◌+◌, ◌-◌, ◌<◌, ◌≤◌, Bool, true, false, cond, nat_eq, nat_lt, is_some, List, [], ◌∷◌, map, length, Option, Some, None, unwrap_or, refl, sym, ◌∙◌, ap, subst, inl, inr, arith, T}
 use Rattle.std.specs.Prelude.{Result, Ok, Err}
-use Rattle.std.proofs.lemmas.Bool.{cases_Bool, cond-true, cond-false, eq-eqb, ne_eqb, lt-ltb, le-ltb, ltb-true, ltb-false}
-use Rattle.std.specs.List.{list_any, range_with_len}
-use Rattle.std.specs.Option.{option_map, option_map_or, option_or}
-use Rattle.std.specs.Ordering.{nat_cmp, eq_by_cmp}
+use Rattle.std.proofs.lemmas.Bool.{cond-true, eq-eqb, ne_eqb, lt-ltb, le-ltb}
+use Rattle.std.specs.Option.{option_map}
+use Rattle.std.specs.Ordering.{nat_cmp}
 use Rattle.std.specs.Cmp.{nat_cmp_total}
-use Rattle.std.specs.BTreeMap.{BTreeMap, get}
+use Rattle.std.specs.BTreeMap.{BTreeMap}
 use Rattle.std.specs.FinMap as finmap
-use Rattle.std.specs.FinMap.{find, is_sorted, get-empty, get-entries, get-from_entries, get-from_sorted, entries-from_sorted}
-use Rattle.sd_areas.specs.declared.prot.Prot.{Prot}
+use Rattle.std.specs.FinMap.{find, is_sorted, get-from_entries, get-from_sorted, entries-from_sorted}
 use Rattle.sd_areas.specs.declared.errno.AreaError.{AreaError}
 use Rattle.sd_areas.specs.declared.errno.AreaError.TheVariants.{Refused as AreaRefused, OutOfMemory as AreaOutOfMemory}
 use Rattle.sd_areas.specs.declared.errno.Errno.TheVariants.{Einval as AreaEinval, Enomem as AreaEnomem}
@@ -22,27 +20,22 @@ use Rattle.sd_areas.specs.Memory.{page_of_snapshot, space_of, memory_of}
 use Rattle.sd_areas.specs.Memory as areas_memory
 use Rattle.sd_areas.specs.PlainMemory as plain
 use Rattle.sd_areas.specs.PlainMemory.{PlainMemory}
-use Rattle.sd_pagetable.specs.declared.denied.Denied.{Denied}
 use Rattle.sd_pagetable.specs.declared.denied.Denied.TheVariants.{Refused}
-use Rattle.sd_pagetable.specs.declared.refusal.Refusal.TheVariants.{NoFrame, Enomem}
-use Rattle.sd_pagetable.specs.declared.memory_error.MemoryError.{MemoryError}
+use Rattle.sd_pagetable.specs.declared.refusal.Refusal.TheVariants.{Enomem}
 use Rattle.sd_pagetable.specs.declared.memory_error.MemoryError.TheVariants.{Denied as DeniedError, OutOfMemory}
 use Rattle.sd_pagetable.specs.Nested.{Table, Nested, map_values, inside, value_at, is_alive, put_at, total, total_within}
 use Rattle.sd_pagetable.specs.Page.{Page, plain_page}
-use Rattle.sd_pagetable.specs.Contents.{Contents, page_at, put_page, plain_of, members, share_of, classes, is_full, is_alone, page_count}
+use Rattle.sd_pagetable.specs.Contents.{Contents, page_at, plain_of, is_full, page_count}
 use Rattle.sd_pagetable.specs.AreaErrors.{error_of}
 use Rattle.sd_pagetable.specs.Due.{prots_in}
-use Rattle.sd_pagetable.specs.Loaded.{is_zero_page, frames_for, nonzero_pages, is_over_in_space, is_over_limits, snapshot_due, loaded_page, Loads, IsBegun, IsLoaded}
-use Rattle.sd_pagetable.proofs.NestedLemmas.{tests, inside-insert, alive-insert, alive-put_same}
-use Rattle.sd_pagetable.proofs.TableLemmas.{same_table, same_test, same_again, get_put, get_tree, get-map_values, map_values-empty, map_values-insert, keys_sorted, sorted_changed, tied}
-use Rattle.sd_pagetable.proofs.TotalLemmas.{total-empty, total_within-insert, total_within-empty}
-use Rattle.sd_pagetable.proofs.SpaceLemmas.{added_at, added_total}
-use Rattle.sd_pagetable.proofs.ViewLemmas.{alone_in, is_alone_in}
-use Rattle.sd_pagetable.proofs.KeptLemmas.{never}
+use Rattle.sd_pagetable.specs.Loaded.{is_zero_page, frames_for, nonzero_pages, loaded_page, Loads, IsBegun}
+use Rattle.sd_pagetable.proofs.NestedLemmas.{inside-insert, alive-put_same}
+use Rattle.sd_pagetable.proofs.TableLemmas.{same_table, same_again, get_put, get-map_values, map_values-empty, keys_sorted, sorted_changed}
+use Rattle.sd_pagetable.proofs.TotalLemmas.{total-empty, total_within-insert}
 use Rattle.sd_pagetable.proofs.MemoryLemmas.{plain_put, plain_at, plain_alive}
 use Rattle.sd_pagetable.proofs.PlainRanges.{plain_many, plain_inside}
 use Rattle.sd_pagetable.proofs.ForkCalls.{len_total}
-use Rattle.sd_pagetable.proofs.FilledLemmas.{Rises, IsApart, rest_rises, apart_empty, apart_head, apart_next, filled, filled_all, find_seen, weigh, total_seen, total-filled, head_within, get-filled}
+use Rattle.sd_pagetable.proofs.FilledLemmas.{Rises, IsApart, rest_rises, apart_empty, apart_head, apart_next, filled, filled_all, find_seen, weigh, total_seen, head_within}
 use Rattle.sd_pagetable.proofs.LoadedLemmas.{begun_next}
 
 abbrev pub Pages : Type 0

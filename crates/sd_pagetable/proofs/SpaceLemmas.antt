@@ -1,19 +1,18 @@
 -- Spaces without pages, added and taken away.
-use Rattle.std.proofs.Common.{◌≡◌, ◌⊎◌, ℕ, ◌+◌, ◌<◌, ◌≤◌, ◌^◌, Bool, true, false, cond, nat_eq, ◌||◌, is_some, List, [], Option, Some, None, unwrap_or, refl, sym, ◌∙◌, ap, subst, inl, inr, arith}
+use Rattle.std.proofs.Common.{◌≡◌, ℕ, ◌<◌, ◌≤◌, Bool, true, false, cond, nat_eq, is_some, List, [], Option, Some, None, unwrap_or, refl, sym, ◌∙◌, ap, subst, inl, inr, arith}
 use Rattle.std.proofs.lemmas.Bool.{cases_Bool, or_cases}
-use Rattle.std.proofs.lemmas.Bool.Decides.{nat_tests}
-use Rattle.std.specs.Option.{option_map, option_map_or}
+use Rattle.std.specs.Option.{option_map_or}
 use Rattle.std.specs.Ordering.{nat_cmp}
 use Rattle.std.specs.FinMap as finmap
 use Rattle.std.specs.FinMap.{get-empty}
 use Rattle.sd_pagetable.specs.declared.entry.Entry.{Entry}
 use Rattle.sd_pagetable.specs.Nested.{Table, Nested, map_values, inside, value_at, is_alive, total, total_within}
 use Rattle.sd_pagetable.specs.Page.{Page}
-use Rattle.sd_pagetable.specs.Contents.{Contents, page_at, members, share_of, is_alone, page_count, IsOpen, IsSound}
-use Rattle.sd_pagetable.specs.Frames.{Pool, Cell, cell_at, count_at}
+use Rattle.sd_pagetable.specs.Contents.{Contents, page_at, members, share_of, page_count, IsSound}
+use Rattle.sd_pagetable.specs.Frames.{Pool, Cell, cell_at}
 use Rattle.sd_pagetable.specs.View.{page_of_entry, contents_of, IsKept}
 use Rattle.sd_pagetable.proofs.TableLemmas.{none_of, map_values-insert, map_values-empty, map_values-remove, get_removed}
-use Rattle.sd_pagetable.proofs.NestedLemmas.{value_at-insert, alive-insert, alive-map, tests}
+use Rattle.sd_pagetable.proofs.NestedLemmas.{value_at-insert, alive-insert, tests}
 use Rattle.sd_pagetable.proofs.TotalLemmas.{total-empty, total_within-insert, total_within-remove_space, total_within-empty}
 use Rattle.sd_pagetable.proofs.ViewLemmas.{same_contents, alone_in, is_alone_in}
 

@@ -1,17 +1,17 @@
 -- What the values of tables weigh together, after a change.
-use Rattle.std.proofs.Common.{◌≡◌, ◌⊎◌, ℕ, ◌+◌, ◌<◌, ◌≤◌, Bool, true, false, not, cond, nat_eq, ◌&&◌, is_some, List, [], ◌∷◌, map, length, Option, Some, None, unwrap_or, IsSome, refl, sym, ◌∙◌, ap, subst, inl, inr, arith, T, sum_by}
+use Rattle.std.proofs.Common.{◌≡◌, ℕ, ◌+◌, ◌<◌, ◌≤◌, Bool, true, false, cond, nat_eq, List, [], ◌∷◌, length, Option, Some, None, unwrap_or, refl, sym, ◌∙◌, ap, inl, inr, arith, T, sum_by}
 use Rattle.std.proofs.lemmas.Bool.Decides.{nat_tests}
 use Rattle.std.proofs.lemmas.Bool.{cases_Bool, cases_order, and_parts}
 use Rattle.std.proofs.lemmas.List.Sums.{sum_by-cons}
 use Rattle.std.specs.Option.{option_map_or}
-use Rattle.std.specs.Ordering.{nat_cmp, eq_by_cmp, is_eq, is_lt}
+use Rattle.std.specs.Ordering.{nat_cmp, is_eq, is_lt}
 use Rattle.std.specs.declared.cmp.Ordering.TheVariants.{Less, Equal, Greater}
 use Rattle.std.specs.Cmp.{nat_cmp_total}
 use Rattle.std.specs.FinMap as finmap
-use Rattle.std.specs.FinMap.{find, put, is_sorted, entries_sorted, entries-insert, get-entries, get-empty, empty_of_len, len-entries, len-empty}
+use Rattle.std.specs.FinMap.{find, put, is_sorted, entries_sorted, entries-insert, get-entries, len-entries, len-empty}
 use Rattle.std.specs.FinMap.Entries.{below_all, by_order}
-use Rattle.sd_pagetable.specs.Nested.{Table, Nested, map_values, inside, value_at, is_alive, put_at, remove_at, total, total_within}
-use Rattle.sd_pagetable.proofs.TableLemmas.{same_table, get_put, get_removed, entries-map_values}
+use Rattle.sd_pagetable.specs.Nested.{Table, Nested, inside, value_at, put_at, remove_at, total, total_within}
+use Rattle.sd_pagetable.proofs.TableLemmas.{same_table, get_put, get_removed}
 
 of_T : (b : Bool) → T b → b ≡ true
 of_T true h = refl

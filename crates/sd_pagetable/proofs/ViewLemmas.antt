@@ -1,18 +1,16 @@
 -- Frames and entries as the contents of a memory, after a change of one entry.
-use Rattle.std.proofs.Common.{◌≡◌, ◌≢◌, ◌⊎◌, ℕ, ◌+◌, ◌-◌, ◌<◌, ◌≤◌, ◌^◌, Bool, true, false, cond, nat_eq, ◌&&◌, ◌||◌, is_some, List, length, Option, Some, None, unwrap_or, IsSome, refl, sym, ◌∙◌, ap, subst, inl, inr, arith}
+use Rattle.std.proofs.Common.{◌≡◌, ◌⊎◌, ℕ, ◌<◌, ◌≤◌, ◌^◌, Bool, true, false, cond, nat_eq, ◌&&◌, ◌||◌, Option, Some, None, refl, sym, ◌∙◌, ap, subst, inl, inr, arith}
 use Rattle.std.proofs.lemmas.Bool.Decides.{nat_tests}
-use Rattle.std.proofs.lemmas.Bool.{cases_Bool, cases_eq, cond-true, cond-false, eqb-true, eq-eqb, and_from}
+use Rattle.std.proofs.lemmas.Bool.{cases_Bool, eqb-true, eq-eqb}
 use Rattle.std.specs.Option.{option_map, option_map_or}
-use Rattle.std.specs.Ordering.{nat_cmp}
-use Rattle.std.specs.FinMap as finmap
 use Rattle.sd_pagetable.specs.declared.entry.Entry.{Entry}
-use Rattle.sd_pagetable.specs.Nested.{Table, Nested, map_values, inside, value_at, is_alive, put_at, remove_at, total, total_within}
-use Rattle.sd_pagetable.specs.Page.{Page, zeros}
+use Rattle.sd_pagetable.specs.Nested.{Nested, map_values, value_at, is_alive, put_at, remove_at}
+use Rattle.sd_pagetable.specs.Page.{Page}
 use Rattle.sd_pagetable.specs.Contents.{Contents, page_at, put_page, remove_page, members, share_of, is_alone, page_count, IsOpen, IsSound}
-use Rattle.sd_pagetable.specs.Frames.{Pool, Cell, cell_at, count_at, bytes_at, SetsCell}
-use Rattle.sd_pagetable.specs.View.{page_of_entry, entry_of, frame_bytes, contents_of, IsKept}
-use Rattle.sd_pagetable.proofs.TableLemmas.{turned_in, turned_out, map_values-insert, map_values-remove, map_values-empty}
-use Rattle.sd_pagetable.proofs.NestedLemmas.{same_nested, value_at-put, value_at-remove, alive-put, alive-remove, alive-put_same, alive-remove_same, value_at-map, alive-map, alive_at, inside-map}
+use Rattle.sd_pagetable.specs.Frames.{Pool}
+use Rattle.sd_pagetable.specs.View.{page_of_entry, contents_of}
+use Rattle.sd_pagetable.proofs.TableLemmas.{turned_in, turned_out}
+use Rattle.sd_pagetable.proofs.NestedLemmas.{same_nested, value_at-put, value_at-remove, alive-put, alive-remove, alive-put_same, value_at-map, alive-map}
 use Rattle.sd_pagetable.proofs.TotalLemmas.{total_within-put, total_within-remove, total_within_ge}
 
 pub same_contents : (m n : Contents) → m.pool ≡ n.pool → m.spaces ≡ n.spaces → m ≡ n

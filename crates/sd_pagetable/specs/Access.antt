@@ -1,5 +1,5 @@
 -- Loads and stores.
-use Rattle.std.specs.Prelude.{◌≡◌, ℕ, ◌+◌, ◌%◌, Bool, true, ◌||◌, ◌==◌, nat_lt, List, ◌++◌, length, take, drop}
+use Rattle.std.specs.Prelude.{ℕ, ◌+◌, ◌%◌, Bool, ◌||◌, ◌==◌, nat_lt, List, ◌++◌, length, take, drop}
 use Rattle.sd_areas.specs.declared.prot.Prot.{Prot}
 use Rattle.sd_pagetable.specs.declared.need.Need.{Need}
 use Rattle.sd_pagetable.specs.declared.need.Need.TheVariants.{Read, Write}

@@ -1,6 +1,5 @@
 -- Which refusal is due, in the order of the cases: none where the call is accepted. Legal replies of calls on memory.
-use Rattle.std.specs.Prelude.{◌≡◌, ℕ, ◌+◌, ◌<◌, Bool, true, false, not, ◌&&◌, ◌||◌, ◌==◌, nat_lt, nat_le, if◌then◌else◌, Option, Some, None, Result, Ok, Err, length, map, is_some}
-use Rattle.std.specs.List.{list_all, list_any}
+use Rattle.std.specs.Prelude.{◌≡◌, ℕ, ◌+◌, Bool, true, false, not, ◌&&◌, ◌==◌, nat_lt, nat_le, if◌then◌else◌, Option, Some, None, Result, Ok, Err}
 use Rattle.std.specs.Option.{option_map_or}
 use Rattle.std.specs.FinMap as finmap
 use Rattle.sd_areas.specs.declared.prot.Prot.{Prot}
@@ -8,10 +7,10 @@ use Rattle.sd_areas.specs.declared.errno.Errno.{Errno}
 use Rattle.sd_areas.specs.declared.errno.Errno.TheVariants.{Einval as AreaEinval, Enomem as AreaEnomem}
 use Rattle.sd_areas.specs.Pages.{page_of}
 use Rattle.sd_areas.specs.PlainMemory.{Page, Space, PlainMemory}
-use Rattle.sd_areas.specs.Areas.{PageMap, areas_of}
+use Rattle.sd_areas.specs.Areas.{PageMap}
 use Rattle.sd_areas.specs.Calls.{mapped, unmapped, protected}
 use Rattle.sd_pagetable.specs.declared.need.Need.{Need}
-use Rattle.sd_pagetable.specs.declared.need.Need.TheVariants.{Read, Write}
+use Rattle.sd_pagetable.specs.declared.need.Need.TheVariants.{Write}
 use Rattle.sd_pagetable.specs.declared.refusal.Refusal.TheVariants.{Einval, Enomem, NoSuchSpace, TooManySpaces, NoFrame, LastSpace}
 use Rattle.sd_pagetable.specs.declared.segv.Segv.TheVariants.{Maperr, Accerr}
 use Rattle.sd_pagetable.specs.declared.denied.Denied.{Denied}
@@ -20,7 +19,7 @@ use Rattle.sd_pagetable.specs.declared.memory_error.MemoryError.{MemoryError}
 use Rattle.sd_pagetable.specs.declared.memory_error.MemoryError.TheVariants.{Denied as DeniedError, OutOfMemory}
 use Rattle.sd_pagetable.specs.declared.tried.Tried.{Tried}
 use Rattle.sd_pagetable.specs.declared.tried.Tried.TheVariants.{Done, NeedsFault}
-use Rattle.sd_pagetable.specs.Nested.{Nested, Table, map_values, inside, value_at, is_alive, total_within}
+use Rattle.sd_pagetable.specs.Nested.{Nested, map_values, inside, value_at, is_alive}
 use Rattle.sd_pagetable.specs.Page as full
 use Rattle.sd_pagetable.specs.Contents.{Contents, page_at, plain_of, is_alone, is_full, page_count}
 use Rattle.sd_pagetable.specs.Access.{is_bad_access, allows}

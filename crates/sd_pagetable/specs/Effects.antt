@@ -1,11 +1,11 @@
 -- What each call makes of a plain memory, where it is accepted: the effect of a command. All else changes nothing.
-use Rattle.std.specs.Prelude.{◌≡◌, ℕ, ◌%◌, ◌≤◌, ◌<◌, Bool, true, false, List, unwrap_or}
+use Rattle.std.specs.Prelude.{◌≡◌, ℕ, ◌%◌, ◌≤◌, ◌<◌, true, false, List}
 use Rattle.std.specs.Option.{option_map_or}
 use Rattle.std.specs.FinMap as finmap
 use Rattle.sd_areas.specs.declared.prot.Prot.{Prot}
 use Rattle.sd_areas.specs.Pages.{page_of, pages_for}
 use Rattle.sd_areas.specs.PlainMemory.{Page, PlainMemory}
-use Rattle.sd_pagetable.specs.Nested.{Nested, inside, value_at, is_alive, put_at, set_within, remove_within, change_within}
+use Rattle.sd_pagetable.specs.Nested.{inside, value_at, is_alive, put_at, set_within, remove_within, change_within}
 use Rattle.sd_pagetable.specs.Page.{zeros}
 use Rattle.sd_pagetable.specs.Access.{stored_at}
 

@@ -1,11 +1,11 @@
 -- The areas that are kept beside the pages.
-use Rattle.std.specs.Prelude.{◌≡◌, ℕ, List, Option, Some, None}
+use Rattle.std.specs.Prelude.{◌≡◌, ℕ}
 use Rattle.std.specs.Ordering.{nat_cmp}
 use Rattle.std.specs.Option.{option_map}
 use Rattle.std.specs.BTreeMap.{BTreeMap, get}
 use Rattle.std.specs.FinMap as finmap
 use Rattle.sd_areas.specs.Areas.{PageMap}
-use Rattle.sd_pagetable.specs.Nested.{Table, Nested, map_values}
+use Rattle.sd_pagetable.specs.Nested.{Table, map_values}
 use Rattle.sd_pagetable.specs.Page.{Page}
 use Rattle.sd_pagetable.specs.Contents.{Contents}
 

@@ -1,5 +1,5 @@
 -- Maps of maps: what each space has at each page.
-use Rattle.std.specs.Prelude.{◌≡◌, ℕ, ◌+◌, Bool, not, List, ◌++◌, map, Option, Some, None, unwrap_or, sum_by, if◌then◌else◌, is_some}
+use Rattle.std.specs.Prelude.{ℕ, Bool, not, ◌++◌, map, Option, unwrap_or, sum_by, if◌then◌else◌}
 use Rattle.std.specs.Ordering.{nat_cmp}
 use Rattle.std.specs.FinMap as finmap
 use Rattle.sd_areas.specs.Pages.{pages_from, is_within}

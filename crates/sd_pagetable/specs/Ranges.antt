@@ -1,5 +1,5 @@
 -- Runs of pages, and the pages of a child that is being made.
-use Rattle.std.specs.Prelude.{◌≡◌, ℕ, Bool, cond, Option, None}
+use Rattle.std.specs.Prelude.{◌≡◌, ℕ, Bool, cond, None}
 use Rattle.sd_pagetable.specs.Nested.{inside}
 use Rattle.sd_pagetable.specs.Page.{Page, fresh_page}
 use Rattle.sd_pagetable.specs.Contents.{Contents, page_at}

@@ -11,16 +11,13 @@ ghost use Rattle.sd_pagetable.specs.Kept.{HasAreas};
 ghost use Rattle.sd_pagetable.specs.Tracking.{Step, Exited, Forked, forked};
 
 use crate::denied::Denied;
-use crate::mappings::{MAPPED_LIMIT, Mappings};
+use crate::mappings::{MAPPED_LIMIT, Mappings, SPACE_LIMIT};
 use crate::memory_error::MemoryError;
 use crate::range_calls::{Areas, copy_in};
 use crate::ranges::{copy_pages, share_pages, unmap_all};
 use crate::refusal::Refusal;
 use sd_areas::{AreaMap, SpaceId};
 use std::alloc::AllocError;
-
-/// The greatest number that a space can have.
-const SPACE_LIMIT: u64 = 16;
 
 /// Puts a space's areas beside the others.
 ///

@@ -6,6 +6,14 @@ mod entry;
 mod fork_calls;
 mod frame;
 mod frames;
+#[cfg(test)]
+mod growth_tests;
+#[cfg(test)]
+mod kernel_line;
+#[cfg(test)]
+mod kernel_scripts;
+#[cfg(test)]
+mod kernel_tests;
 mod law;
 mod loading;
 #[cfg(test)]

@@ -18,16 +18,13 @@ ghost use Rattle.sd_pagetable.specs.Due.{Answers, prots_in};
 ghost use Rattle.sd_pagetable.specs.Loaded.{is_zero_page, frames_for, nonzero_pages, is_over_in_space, snapshot_due, IsBegun, IsLoaded};
 
 use crate::fork_calls::add_areas;
-use crate::mappings::{MAPPED_LIMIT, Mappings};
+use crate::mappings::{MAPPED_LIMIT, Mappings, SPACE_LIMIT};
 use crate::memory_error::MemoryError;
 use crate::range_calls::Areas;
 use crate::refusal::Refusal;
 use sd_areas::{AreaMap, PAGE_SIZE, PageNo, Snapshot, SnapshotPage, SpaceId};
 use std::alloc::{AllocError, Global};
 use std::collections::BTreeMap;
-
-/// The greatest number that a space can have.
-const SPACE_LIMIT: u64 = 16;
 
 /// The pages of a snapshot's space.
 type Pages = BTreeMap<PageNo, SnapshotPage>;

@@ -39,6 +39,9 @@ const PAGE_BYTES: u64 = PAGE_SIZE as u64;
 /// How many pages can be mapped in all spaces.
 pub(crate) const MAPPED_LIMIT: u64 = 65_536;
 
+/// The greatest number that a space can have.
+pub(crate) const SPACE_LIMIT: u64 = 16;
+
 /// Bit 63 of a word: the page has a frame.
 const PRESENT: u64 = 1 << 63;
 

@@ -2,7 +2,7 @@ ghost use Rattle.sd_pagetable.specs.Access.{allows, is_bad_access};
 ghost use Rattle.std.specs.Prelude.{◌≡◌, ◌%◌, ◌+◌, ◌*◌, ◌<◌, ◌≤◌, ℕ, true, false, None, Some, Ok, length, slice_range, is_some, IsSome, OnOk, OnErr, IfOk, IfSome, IfErr};
 
 use crate::denied::Denied;
-use crate::mappings::Mappings;
+use crate::mappings::{Mappings, SPACE_LIMIT};
 use crate::memory_error::MemoryError;
 use crate::need::Need;
 use crate::refusal::Refusal;
@@ -23,9 +23,6 @@ const ACCESS_LIMIT: usize = 64;
 
 /// How many bytes a page has.
 const PAGE_BYTES: u64 = PAGE_SIZE as u64;
-
-/// How many spaces can be alive.
-const SPACE_LIMIT: u64 = 16;
 
 /// Where an access begins.
 #[derive(Clone, Copy)]
@@ -431,15 +428,17 @@ impl Memory {
         (above < number).then_some((space, page))
     }
 
-    /// What holds of every memory: a writable page is soft-dirty, may be written and is alone in its class, and the limits
-    /// hold. It does nothing.
+    /// What holds of every memory, whatever was called on it: a page that can be stored to without
+    /// a fault is soft-dirty, may be written, and is alone in its frame; each frame is one of the
+    /// pool; the spaces are within 1 to 16, their pages below 2^35, and at most 65,536 in all.
+    /// It does nothing: a caller learns it.
     pub fn sound(&self)
         ensures { IsSound self.now }
     {
-        let _few = self.mappings.mapped();
+        let _mapped = self.mappings.mapped();
     }
 
-    /// The areas of a space, or none where it isn't alive.
+    /// The areas of a space, at most 1,024, or none where it isn't alive.
     pub fn areas(&self, space: SpaceId) -> Option<&AreaMap>
         ensures { option_map (λ areas. areas.now) result ≡ option_map prots_of (finmap.get self.now.spaces space) }
     {

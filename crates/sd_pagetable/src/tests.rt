@@ -8,6 +8,16 @@ const READ_WRITE: Prot = Prot {
     execute: false,
 };
 
+const READ: Prot = Prot {
+    read: true,
+    write: false,
+    execute: false,
+};
+
+const EINVAL: MemoryError = MemoryError::Denied(Denied::Refused(Refusal::Einval));
+
+const ENOMEM: MemoryError = MemoryError::Denied(Denied::Refused(Refusal::Enomem));
+
 const NO_FRAME: MemoryError = MemoryError::Denied(Denied::Refused(Refusal::NoFrame));
 
 /// A pool of one frame: a second page gets it once the first is unmapped.
@@ -43,7 +53,10 @@ fn exact_bits(rt: HostRuntime) -> Result<(), Fail> {
     let page = PageNo::new(16).ok_or("no page")?;
     assert_eq!(rt; memory.word(space, page), 0);
     memory.mmap(space, 0x10000, 4096, READ_WRITE)?;
+    memory.sound();
     assert_eq!(rt; memory.word(space, page), FRESH);
+    let next = PageNo::new(17).ok_or("no page")?;
+    assert_eq!(rt; memory.word(space, next), 0);
     assert_eq!(rt;
         memory.try_store(space, 0x10000, &[0x61]),
         Ok(Tried::NeedsFault)
@@ -101,6 +114,78 @@ fn copy_on_write(rt: HostRuntime) -> Result<(), Fail> {
         memory.load(parent, 0x20000, &mut byte),
         Err(Denied::Segv(Segv::Maperr))
     );
+    Ok(())
+}
+
+/// Each refusal, of a call that is otherwise accepted.
+#[test]
+fn refusals(rt: HostRuntime) -> Result<(), Fail> {
+    let mut memory = Memory::new(rt.alloc(), 16)?;
+    let space = SpaceId::new(1);
+    for (address, bytes) in [(0x10000, 0), (0x10001, 4096)] {
+        assert_eq!(rt; memory.mmap(space, address, bytes, READ_WRITE), Err(EINVAL));
+    }
+    assert_eq!(rt; memory.mmap(space, 0x10000, 4096, READ), Ok(()));
+    assert_eq!(rt;
+        memory.mprotect(space, 0x10000, 8192, READ_WRITE),
+        Err(ENOMEM)
+    );
+    assert_eq!(rt; memory.munmap(space, 0x20000, 4096), Ok(()));
+    assert_eq!(rt;
+        memory.store_now(space, 0x10000, &[0x61]),
+        Err(MemoryError::Denied(Denied::Segv(Segv::Accerr)))
+    );
+    assert_eq!(rt;
+        memory.store_now(space, 0x20000, &[0x61]),
+        Err(MemoryError::Denied(Denied::Segv(Segv::Maperr)))
+    );
+    let mut bytes = [9; 2];
+    assert_eq!(rt; memory.load(space, 0x10000, &mut bytes), Ok(()));
+    assert_eq!(rt; bytes, [0, 0]);
+    assert_eq!(rt;
+        memory.load(SpaceId::new(9), 0x10000, &mut bytes),
+        Err(Denied::Refused(Refusal::NoSuchSpace))
+    );
+    Ok(())
+}
+
+/// The only space stays, 16 can be alive, and a child takes the least number.
+#[test]
+fn spaces(rt: HostRuntime) -> Result<(), Fail> {
+    let mut memory = Memory::new(rt.alloc(), 16)?;
+    let first = SpaceId::new(1);
+    assert_eq!(rt;
+        memory.exit(first),
+        Err(Denied::Refused(Refusal::LastSpace))
+    );
+    for number in 2..=16 {
+        assert_eq!(rt; memory.fork(first), Ok(SpaceId::new(number)));
+    }
+    assert_eq!(rt;
+        memory.fork(first),
+        Err(MemoryError::Denied(Denied::Refused(Refusal::TooManySpaces)))
+    );
+    assert_eq!(rt; memory.exit(SpaceId::new(3)), Ok(()));
+    assert_eq!(rt; memory.fork(first), Ok(SpaceId::new(3)));
+    Ok(())
+}
+
+/// The last page, and the last store within a page.
+#[test]
+fn boundaries(rt: HostRuntime) -> Result<(), Fail> {
+    let mut memory = Memory::new(rt.alloc(), 16)?;
+    let space = SpaceId::new(1);
+    assert_eq!(rt;
+        memory.mmap(space, 0x7FFF_FFFF_F000, 4096, READ_WRITE),
+        Ok(())
+    );
+    assert_eq!(rt;
+        memory.mmap(space, 0x7FFF_FFFF_F000, 8192, READ_WRITE),
+        Err(ENOMEM)
+    );
+    assert_eq!(rt; memory.mmap(space, 0x10000, 4096, READ_WRITE), Ok(()));
+    assert_eq!(rt; memory.store_now(space, 0x10FC0, &[1; 64]), Ok(()));
+    assert_eq!(rt; memory.store_now(space, 0x10FC1, &[1; 64]), Err(EINVAL));
     Ok(())
 }
 

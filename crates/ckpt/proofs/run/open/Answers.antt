@@ -26,7 +26,7 @@ returns-clause-begins g c = λ honest.
     (c.in_ok-found.ensures.found (c.in_ok-snapshot.ensures.honest honest))
     (subst (λ (found : List Found). IsNewest found newest) c.deref-2.ensures.value c.in-Some.ensures)
     c.in_ok-snapshot.ensures.checkpoint whole in
-    subst (λ memory. Shows contents (Some (c.in_ok-snapshot.snapshot.checkpoint, memory))) (sym (ap plain_of c.new-2.ensures.memory ∙ c.in_ok-memory.ensures.memory)) shown
+    subst (λ memory. Shows contents (Some (c.in_ok-snapshot.snapshot.checkpoint, memory))) (sym (ap plain_of c.new-2.ensures.memory ∙ c.in_ok-memory-2.ensures.memory)) shown
 
 pub returns-in_default-clause-ready : goal.returns-in_default-clause-ready
 returns-in_default-clause-ready g c = λ honest.

@@ -1,4 +1,4 @@
-use Rattle.std.proofs.Common.{◌≡◌, ◌+◌, ◌≤◌, true, sym, ap, subst, ◌∙◌, arith}
+use Rattle.std.proofs.Common.{◌≡◌, ap, ◌∙◌, arith}
 use Rattle.std.specs.FinMap as finmap
 use Rattle.sd_pagetable.specs.Nested.{inside, is_alive}
 use Rattle.sd_pagetable.specs.Contents.{Contents, page_count}

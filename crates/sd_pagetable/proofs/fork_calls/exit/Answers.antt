@@ -1,4 +1,4 @@
-use Rattle.std.proofs.Common.{◌≡◌, true, false, None, Some, Err, Ok, sym, ap, subst, ◌∙◌}
+use Rattle.std.proofs.Common.{true, false, sym, ap, subst, ◌∙◌}
 use Rattle.sd_pagetable.specs.Contents.{plain_of}
 use Rattle.sd_pagetable.specs.Due.{answer}
 use Rattle.sd_pagetable.specs.Kept.{HasAreas}

@@ -1,4 +1,4 @@
-use Rattle.std.proofs.Common.{rules, ◌≡◌, ◌+◌, ◌<◌, ◌≤◌, ◌^◌, true, false, None, Some, Fits, w64, refl, sym, ap, subst, ◌∙◌, arith}
+use Rattle.std.proofs.Common.{rules, ◌≡◌, ◌+◌, ◌<◌, ◌≤◌, ◌^◌, true, false, Some, refl, sym, ap, subst, ◌∙◌, arith}
 use Rattle.std.specs.FinMap as finmap
 use Rattle.sd_pagetable.specs.declared.denied.Denied.TheVariants.{Refused}
 use Rattle.sd_pagetable.specs.declared.refusal.Refusal.TheVariants.{NoSuchSpace, TooManySpaces, Enomem}

@@ -1,6 +1,5 @@
-use Rattle.std.proofs.Common.{◌≡◌, ◌≤◌, ◌<◌, ◌+◌, ℕ, true, false, sym, ap, subst, ◌∙◌, arith}
+use Rattle.std.proofs.Common.{◌≡◌, true, false, sym, ap, ◌∙◌, arith}
 use Rattle.sd_pagetable.specs.Nested.{is_alive}
-use Rattle.sd_pagetable.proofs.MemoryLemmas.{plain_alive}
 use Rattle.sd_pagetable.proofs.ForkCalls.{has_sixteen, is_free, one_alive_more}
 use Rattle.sd_pagetable.proofs.fork_calls.free_number.Goals as goal
 

@@ -1,5 +1,5 @@
 use Rattle.sd_pagetable.specs.Loaded.{frames_for}
-use Rattle.sd_pagetable.proofs.SnapshotLemmas.{tally_past, tally_next, tally_all}
+use Rattle.sd_pagetable.proofs.SnapshotLemmas.{tally_past, tally_all}
 use Rattle.sd_pagetable.proofs.loading.is_short.Goals as goal
 
 pub returns-then-needed-left : goal.returns-then-needed-left

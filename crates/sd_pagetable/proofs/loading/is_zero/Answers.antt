@@ -1,5 +1,4 @@
-use Rattle.std.proofs.Common.{◌≡◌, sym, ◌∙◌, rules}
-use Rattle.sd_pagetable.specs.Loaded.{is_zero_page}
+use Rattle.std.proofs.Common.{sym, ◌∙◌}
 use Rattle.sd_pagetable.proofs.LoadedLemmas.{zero_bytes}
 use Rattle.sd_pagetable.proofs.loading.is_zero.Goals as goal
 

@@ -1,4 +1,4 @@
-use Rattle.std.proofs.Common.{◌≡◌, ◌∙◌, sym, ap, arith}
+use Rattle.std.proofs.Common.{ap, arith}
 use Rattle.sd_areas.specs.Memory.{page_of_snapshot}
 use Rattle.sd_pagetable.specs.Loaded.{frames_for}
 use Rattle.sd_pagetable.proofs.FilledLemmas.{weigh}

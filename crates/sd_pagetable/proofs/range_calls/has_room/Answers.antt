@@ -1,6 +1,4 @@
-use Rattle.std.proofs.Common.{rules, ◌≡◌, ◌+◌, ◌-◌, ◌<◌, ◌≤◌, ℕ, Bool, true, false, not, is_some, sym, ap, ◌∙◌, arith}
-use Rattle.std.specs.Prelude.{nat_le}
-use Rattle.std.proofs.lemmas.Bool.Decides.{nat_tests}
+use Rattle.std.proofs.Common.{◌+◌, ◌-◌, arith}
 use Rattle.sd_areas.specs.Pages.{pages_from}
 use Rattle.sd_pagetable.proofs.PlainRanges.{run_is_mapped, mapped_count}
 use Rattle.sd_pagetable.proofs.RangeDue.{holes_seen, is_at_most, is_above}

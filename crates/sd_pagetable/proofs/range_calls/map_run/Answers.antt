@@ -1,4 +1,4 @@
-use Rattle.std.proofs.Common.{rules, ◌≡◌, ◌≤◌, ◌-◌, sym, ap, subst, ◌∙◌, arith}
+use Rattle.std.proofs.Common.{◌≡◌, ◌-◌, ap, subst, ◌∙◌, arith}
 use Rattle.sd_pagetable.specs.Nested.{inside, is_alive, fill_within}
 use Rattle.sd_pagetable.specs.Page.{fresh_page}
 use Rattle.sd_pagetable.specs.Contents.{Contents}

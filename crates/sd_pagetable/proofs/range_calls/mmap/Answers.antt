@@ -1,18 +1,14 @@
-use Rattle.std.proofs.Common.{rules, ◌≡◌, ◌⊎◌, ◌<◌, ◌≤◌, true, false, Some, None, Err, ◌+◌, ◌-◌, ◌/◌, inl, inr, sym, ap, subst, ◌∙◌, arith}
+use Rattle.std.proofs.Common.{rules, ◌≡◌, ◌<◌, ◌≤◌, false, Err, ◌+◌, ◌-◌, ◌/◌, sym, ap, subst, ◌∙◌, arith}
 use Rattle.sd_areas.specs.Pages.{page_of, pages_for}
-use Rattle.sd_areas.specs.Calls.{mapped}
-use Rattle.sd_pagetable.specs.declared.denied.Denied.TheVariants.{Refused}
-use Rattle.sd_pagetable.specs.declared.refusal.Refusal.TheVariants.{Enomem}
-use Rattle.sd_pagetable.specs.declared.memory_error.MemoryError.TheVariants.{Denied as DeniedError, OutOfMemory}
 use Rattle.sd_pagetable.specs.Nested.{inside, set_within}
 use Rattle.sd_pagetable.specs.Page.{fresh_page}
 use Rattle.sd_pagetable.specs.Contents.{Contents, page_count, plain_of}
-use Rattle.sd_pagetable.specs.Due.{mmap_due, area_due, in_space, or_else}
+use Rattle.sd_pagetable.specs.Due.{mmap_due}
 use Rattle.sd_pagetable.specs.Kept.{HasAreas, prots_of}
 use Rattle.sd_pagetable.specs.RangeCalls.{Refuses}
 use Rattle.sd_pagetable.specs.Tracking.{with_space}
 use Rattle.sd_pagetable.proofs.PlainRanges.{areas_with, plain_mapped}
-use Rattle.sd_pagetable.proofs.RangeDue.{mmap_seen, mapped_due, mapped_within, own_mapped, many_pages, few_pages, refuses_first, refuses_many}
+use Rattle.sd_pagetable.proofs.RangeDue.{mmap_seen, mapped_due, mapped_within, own_mapped, few_pages, refuses_first, refuses_many}
 use Rattle.sd_pagetable.proofs.range_calls.mmap.Goals as goal
 
 pub returns-in_err-own-clause-due : goal.returns-in_err-own-clause-due

@@ -1,6 +1,5 @@
-use Rattle.std.proofs.Common.{rules, ◌≡◌, ◌+◌, ◌<◌, ◌≤◌, ◌^◌, ◌/◌, Option, Some, Ok, sym, ap, subst, ◌∙◌, arith}
+use Rattle.std.proofs.Common.{rules, ◌≡◌, sym, ap, subst, ◌∙◌, arith}
 use Rattle.sd_areas.specs.Pages.{page_of, pages_for}
-use Rattle.sd_areas.specs.Calls.{unmapped}
 use Rattle.sd_pagetable.specs.Nested.{inside, remove_within}
 use Rattle.sd_pagetable.specs.Contents.{plain_of}
 use Rattle.sd_pagetable.specs.Due.{munmap_due}

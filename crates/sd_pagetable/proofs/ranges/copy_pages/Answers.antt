@@ -1,7 +1,6 @@
 use Rattle.std.proofs.Common.{◌≡◌, Some, None, sym, ap, ◌∙◌}
 use Rattle.sd_pagetable.specs.Nested.{inside, is_alive}
 use Rattle.sd_pagetable.specs.Contents.{Contents}
-use Rattle.sd_pagetable.specs.Firsts.{IsFirstFrom}
 use Rattle.sd_pagetable.specs.Tracking.{with_space}
 use Rattle.sd_pagetable.proofs.RangeLemmas.{inside_with}
 use Rattle.sd_pagetable.proofs.RangeSteps.{alive_with}

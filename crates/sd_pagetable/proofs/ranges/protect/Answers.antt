@@ -1,4 +1,4 @@
-use Rattle.std.proofs.Common.{rules, ◌≡◌, arith}
+use Rattle.std.proofs.Common.{rules, ◌≡◌}
 use Rattle.sd_pagetable.specs.Page.{protected_page}
 use Rattle.sd_pagetable.proofs.RangeSteps.{none_changed, changed_more}
 use Rattle.sd_pagetable.proofs.ranges.protect.Goals as goal

@@ -1,4 +1,4 @@
-use Rattle.std.proofs.Common.{rules, ◌≡◌, IsSome, sym, subst, arith}
+use Rattle.std.proofs.Common.{rules, ◌≡◌, IsSome, sym, subst}
 use Rattle.sd_pagetable.specs.Contents.{page_at}
 use Rattle.sd_pagetable.specs.Page.{fresh_page}
 use Rattle.sd_pagetable.proofs.RangeLemmas.{none_renewed, renewed, still_there}

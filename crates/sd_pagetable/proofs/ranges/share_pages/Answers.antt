@@ -1,8 +1,7 @@
-use Rattle.std.proofs.Common.{◌≡◌, Some, None, refl, sym, ap, subst, ◌∙◌, is_some}
-use Rattle.std.specs.Prelude.{IsSome, IfSome}
+use Rattle.std.proofs.Common.{◌≡◌, Some, None, refl, sym, ap, subst, is_some}
+use Rattle.std.specs.Prelude.{IfSome}
 use Rattle.sd_pagetable.specs.Nested.{inside}
 use Rattle.sd_pagetable.specs.Page.{Page}
-use Rattle.sd_pagetable.specs.Ranges.{bare_page}
 use Rattle.sd_pagetable.proofs.ForkLemmas.{shares_none, shares_next, shares_all, first_shared, less_remains, child_page, page_of_first}
 use Rattle.sd_pagetable.proofs.ranges.share_pages.Goals as goal
 

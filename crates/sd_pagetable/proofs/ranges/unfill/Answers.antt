@@ -1,4 +1,4 @@
-use Rattle.std.proofs.Common.{rules, ◌≡◌, not, is_some, arith}
+use Rattle.std.proofs.Common.{rules, ◌≡◌, not, is_some}
 use Rattle.std.specs.FinMap as finmap
 use Rattle.sd_pagetable.proofs.RangeSteps.{none_unfilled, unfilled_step, cleared_alive}
 use Rattle.sd_pagetable.proofs.ranges.unfill.Goals as goal

@@ -1,11 +1,8 @@
-use Rattle.std.proofs.Common.{◌≡◌, ◌<◌, ◌≤◌, ℕ, Bool, true, false, is_some, ◌+◌, ◌-◌, cond, nat_eq, length, List, Option, Some, None, IsSome, set, refl, sym, ap, subst, ◌∙◌, arith, length-set}
-use Rattle.std.proofs.lemmas.Bool.{eqb-true, eqb-false, eq-eqb, ne_eqb, cond-true, cond-false}
-use Rattle.sd_pagetable.specs.Access.{stored_at}
-use Rattle.sd_pagetable.specs.Frames.{Cell, Pool, cell_at, count_at, bytes_at, SetsCell, IsExhausted, HasFree}
-use Rattle.sd_pagetable.specs.declared.slot.Slot.{Slot}
-use Rattle.sd_pagetable.specs.declared.slot.Slot.TheVariants.{Used, Free}
-use Rattle.sd_pagetable.specs.Slots.{cell_of, cells_of, IsFreeList}
-use Rattle.sd_pagetable.proofs.FrameLemmas.{frames_of, frame_of, within_slots, changes_frame, changes_free, frees_frame, some_counted, used_at, freed, taken, pushed, first_free, got_within, free_none, room_left, has_room, has_first, all_used, sets_cell, past_none}
+use Rattle.std.proofs.Common.{◌≡◌, ℕ, Bool, true, false, is_some, Option, Some, None, refl, subst, ◌∙◌, arith}
+use Rattle.std.proofs.lemmas.Bool.{eqb-true, eqb-false}
+use Rattle.sd_pagetable.specs.Frames.{IsExhausted, HasFree}
+use Rattle.sd_pagetable.specs.Slots.{IsFreeList}
+use Rattle.sd_pagetable.proofs.FrameLemmas.{has_room, has_first, all_used}
 use Rattle.sd_pagetable.proofs.frames.Frames.is_exhausted.Goals as goal
 
 none_is : (o : Option ℕ) (b : Bool) → is_some o ≡ b → b ≡ false → o ≡ None

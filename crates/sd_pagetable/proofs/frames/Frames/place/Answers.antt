@@ -1,12 +1,10 @@
-use Rattle.std.proofs.Common.{◌≡◌, ◌<◌, ◌≤◌, ℕ, ◌+◌, ◌-◌, cond, nat_eq, length, List, Option, Some, None, IsSome, set, refl, sym, ap, subst, ◌∙◌, arith, length-set, length-append}
+use Rattle.std.proofs.Common.{◌≡◌, ◌<◌, ℕ, List, Option, Some, None, set, sym, ap, subst, ◌∙◌, arith, length-set, length-append}
 use Rattle.std.specs.List.{slice_get}
-use Rattle.std.proofs.lemmas.Bool.{eqb-true, eqb-false, eq-eqb, ne_eqb, cond-true, cond-false}
-use Rattle.sd_pagetable.specs.Access.{stored_at}
-use Rattle.sd_pagetable.specs.Frames.{Cell, Pool, cell_at, count_at, bytes_at, SetsCell, IsExhausted, HasFree}
+use Rattle.sd_pagetable.specs.Frames.{Pool, cell_at, SetsCell, HasFree}
 use Rattle.sd_pagetable.specs.declared.slot.Slot.{Slot}
 use Rattle.sd_pagetable.specs.declared.slot.Slot.TheVariants.{Used, Free}
-use Rattle.sd_pagetable.specs.Slots.{cell_of, cells_of, IsFreeList}
-use Rattle.sd_pagetable.proofs.FrameLemmas.{frames_of, frame_of, within_slots, changes_frame, changes_free, frees_frame, some_counted, used_at, freed, taken, pushed, first_free, got_within, free_none, room_left, has_room, has_first, all_used, sets_cell, past_none}
+use Rattle.sd_pagetable.specs.Slots.{IsFreeList}
+use Rattle.sd_pagetable.proofs.FrameLemmas.{frames_of, taken, pushed, first_free, got_within, free_none, room_left, sets_cell, past_none}
 use Rattle.sd_pagetable.proofs.frames.Frames.place.Goals as goal
 
 list_at : (slots : List Slot) (o : Option ℕ) (k : ℕ) → o ≡ Some k → IsFreeList slots o → IsFreeList slots (Some k)

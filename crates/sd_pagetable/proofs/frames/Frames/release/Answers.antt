@@ -1,11 +1,8 @@
-use Rattle.std.proofs.Common.{◌≡◌, ◌<◌, ◌≤◌, ℕ, ◌+◌, ◌-◌, cond, nat_eq, Bool, true, false, length, List, Option, Some, None, IsSome, set, refl, sym, ap, subst, ◌∙◌, arith, length-set}
-use Rattle.std.proofs.lemmas.Bool.{eqb-true, eqb-false, eq-eqb, ne_eqb, cond-true, cond-false}
-use Rattle.sd_pagetable.specs.Access.{stored_at}
-use Rattle.sd_pagetable.specs.Frames.{Cell, Pool, cell_at, count_at, bytes_at, SetsCell, IsExhausted, HasFree}
-use Rattle.sd_pagetable.specs.declared.slot.Slot.{Slot}
-use Rattle.sd_pagetable.specs.declared.slot.Slot.TheVariants.{Used, Free}
-use Rattle.sd_pagetable.specs.Slots.{cell_of, cells_of, IsFreeList}
-use Rattle.sd_pagetable.proofs.FrameLemmas.{frames_of, frame_of, within_slots, changes_frame, changes_free, frees_frame, some_counted, used_at, freed, taken, pushed, first_free, got_within, free_none, room_left, has_room, has_first, all_used, sets_cell, past_none}
+use Rattle.std.proofs.Common.{◌≡◌, ◌-◌, nat_eq, true, false, Option, set, sym, subst, ◌∙◌, length-set}
+use Rattle.std.proofs.lemmas.Bool.{eq-eqb, ne_eqb, cond-true, cond-false}
+use Rattle.sd_pagetable.specs.Frames.{Cell, count_at, SetsCell}
+use Rattle.sd_pagetable.specs.declared.slot.Slot.TheVariants.{Free}
+use Rattle.sd_pagetable.proofs.FrameLemmas.{frames_of, within_slots, changes_frame, changes_free, frees_frame, some_counted, used_at, freed}
 use Rattle.sd_pagetable.proofs.frames.Frames.release.Goals as goal
 
 pub invariant_of-self : goal.invariant_of-self

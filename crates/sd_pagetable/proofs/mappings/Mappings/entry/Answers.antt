@@ -4,7 +4,7 @@ use Rattle.sd_pagetable.specs.declared.entry.Entry.{Entry}
 use Rattle.sd_pagetable.specs.Contents.{page_at, IsSound}
 use Rattle.sd_pagetable.specs.Nested.{value_at}
 use Rattle.sd_pagetable.specs.Frames.{Pool}
-use Rattle.sd_pagetable.specs.View.{page_of_entry, entry_of, contents_of}
+use Rattle.sd_pagetable.specs.View.{page_of_entry, entry_of}
 use Rattle.sd_pagetable.proofs.ViewLemmas.{page_at-view}
 use Rattle.sd_pagetable.proofs.mappings.Mappings.entry.Goals as goal
 

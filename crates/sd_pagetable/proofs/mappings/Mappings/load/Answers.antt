@@ -1,4 +1,4 @@
-use Rattle.std.proofs.Common.{◌≡◌, ℕ, ap, ◌∙◌, sym, subst, Option, Some, None, true, false, refl, IsSome}
+use Rattle.std.proofs.Common.{◌≡◌, ℕ, ap, ◌∙◌, sym, Some, None, false, refl}
 use Rattle.std.specs.Prelude.{Result, OnOk}
 use Rattle.std.specs.Option.{IfSome}
 use Rattle.sd_areas.specs.PlainMemory as plain

@@ -1,4 +1,4 @@
-use Rattle.std.proofs.Common.{◌≡◌, ℕ, ◌<◌, ap, ◌∙◌, sym, subst, Option, Some, None, true, false, List}
+use Rattle.std.proofs.Common.{◌≡◌, ℕ, ◌<◌, ap, ◌∙◌, sym, subst, Some, None, false, List}
 use Rattle.std.specs.Option.{IfSome}
 use Rattle.sd_pagetable.specs.declared.entry.Entry.{Entry}
 use Rattle.sd_pagetable.specs.Nested.{Nested, value_at, put_at}
@@ -36,8 +36,7 @@ module _ (old new : Pool) (tables again : Nested Entry) (n s p : ℕ) (e f : Ent
 
   gives_again : GivesFrame m s p (page_of_entry old e) bytes (contents_of new again)
   gives_again =
-      let b = bare old tables m s p e v h fresh in
-      (
+      let b = bare old tables m s p e v h fresh in (
         own,
         ap (λ (z : Contents). members z own) (sym v) ∙ given_members old new tables n s p e own bytes kept h b.0 b.1 free within sets_bytes,
         subst (λ (z : Contents). own < z.pool) v within,

@@ -1,7 +1,6 @@
-use Rattle.std.proofs.Common.{◌≡◌, ◌<◌, ◌≤◌, ℕ, Option, Some, None, IsSome, true, false, refl, arith}
-use Rattle.sd_pagetable.specs.Nested.{Nested, value_at}
-use Rattle.sd_pagetable.specs.Page.{Page}
-use Rattle.sd_pagetable.specs.Order.{IsFirstPage, IsNextPage, is_above}
+use Rattle.std.proofs.Common.{◌<◌, ℕ, Option, Some, None, IsSome, refl, arith}
+use Rattle.sd_pagetable.specs.Nested.{value_at}
+use Rattle.sd_pagetable.specs.Order.{IsFirstPage, IsNextPage}
 use Rattle.sd_pagetable.specs.Contents.{Contents, IsSound}
 use Rattle.sd_pagetable.proofs.NestedLemmas.{alive_at}
 use Rattle.sd_pagetable.proofs.TableLemmas.{some_of}

@@ -1,21 +1,12 @@
-use Rattle.std.proofs.Common.{◌≡◌, ℕ, ◌+◌, ◌%◌, ap, ◌∙◌, sym, subst, IsSome, refl, is_some, Option, Some, None, Bool, true, false, not, List, cond}
-use Rattle.std.proofs.lemmas.Bool.{not-true, not-false, cond-true, cond-false}
-use Rattle.std.specs.Option.{option_map, option_map_or, IfSome}
-use Rattle.std.specs.FinMap as finmap
+use Rattle.std.proofs.Common.{◌≡◌, ap, ◌∙◌, sym, true, false}
+use Rattle.std.proofs.lemmas.Bool.{cond-true, cond-false}
 use Rattle.sd_areas.specs.Pages.{page_of}
-use Rattle.sd_pagetable.specs.Nested.{Table, Nested, inside, value_at, is_alive, put_at}
-use Rattle.sd_pagetable.specs.Page.{Page, cleared_page, stored_page, plain_page}
-use Rattle.sd_pagetable.specs.Contents.{Contents, page_at, put_page, plain_of}
-use Rattle.sd_pagetable.specs.Access.{stored_at, is_bad_access, allows}
-use Rattle.sd_pagetable.specs.Effects.{after_store}
-use Rattle.sd_pagetable.specs.Due.{page_due, access_due}
-use Rattle.sd_pagetable.specs.Kept.{prots_of, HasAreas}
+use Rattle.sd_pagetable.specs.Nested.{value_at}
+use Rattle.sd_pagetable.specs.Contents.{Contents, page_at, plain_of}
+use Rattle.sd_pagetable.specs.Access.{allows}
+use Rattle.sd_pagetable.specs.Due.{page_due}
 use Rattle.sd_pagetable.specs.declared.entry.Entry.{Entry}
-use Rattle.sd_pagetable.specs.View.{entry_of}
-use Rattle.sd_pagetable.specs.declared.denied.Denied.{Denied}
-use Rattle.sd_pagetable.specs.declared.denied.Denied.TheVariants.{Segv as Stopped, Refused}
-use Rattle.sd_pagetable.specs.declared.segv.Segv.TheVariants.{Maperr, Accerr}
-use Rattle.sd_pagetable.proofs.MemoryLemmas.{plain_alive, plain_at, plain_put, plain_same, plain_stored, areas_put, page_of_seen, no_page_seen, due_none, due_some, permitted_page, access_dead, access_bad, access_at, access_within}
+use Rattle.sd_pagetable.proofs.MemoryLemmas.{page_of_seen, due_none, due_some}
 use Rattle.sd_pagetable.proofs.memory.Memory.permitted.Goals as goal
 
 pub returns-in_default-clause-refused : goal.returns-in_default-clause-refused

@@ -1,10 +1,9 @@
-use Rattle.std.proofs.Common.{◌≡◌, ℕ, List, ◌≤◌, ap, ◌∙◌, sym, subst, IsSome, refl, is_some, Option, Some, None, Bool, true, false, inl, inr}
+use Rattle.std.proofs.Common.{ℕ, ap, ◌∙◌, sym, subst, IsSome, refl, inl, inr}
 use Rattle.std.specs.FinMap as finmap
 use Rattle.std.specs.Ordering.{nat_cmp}
 use Rattle.std.proofs.lemmas.Bool.{cases_Bool}
-use Rattle.sd_pagetable.specs.Nested.{Table}
 use Rattle.sd_pagetable.specs.declared.entry.Entry.{Entry}
-use Rattle.sd_pagetable.specs.Firsts.{IsFirstFrom, is_from}
+use Rattle.sd_pagetable.specs.Firsts.{is_from}
 use Rattle.sd_pagetable.proofs.TableLemmas.{get_tree, not_none, from_start, is_from_start, le_by}
 use Rattle.std.specs.Prelude.{IfSome, slice_get}
 use Rattle.std.specs.declared.ops.Bound.TheVariants.{Unbounded}

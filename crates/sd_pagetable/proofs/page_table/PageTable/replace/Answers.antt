@@ -1,4 +1,4 @@
-use Rattle.std.proofs.Common.{ap, ◌∙◌, sym, subst, IsSome}
+use Rattle.std.proofs.Common.{ap, ◌∙◌, sym}
 use Rattle.std.specs.FinMap as finmap
 use Rattle.sd_pagetable.proofs.TableLemmas.{tree_put, get_tree, must_ok, not_none}
 use Rattle.sd_pagetable.proofs.page_table.PageTable.replace.Goals as goal

@@ -1,9 +1,7 @@
-use Rattle.std.proofs.Common.{◌≡◌, ap, ◌∙◌, sym, subst, IsSome, refl, is_some, Option, Some, None, unwrap_or, true, false}
-use Rattle.std.specs.FinMap as finmap
-use Rattle.std.specs.Ordering.{nat_cmp}
-use Rattle.sd_pagetable.specs.Nested.{Table, Nested, inside, value_at, is_alive, put_at, remove_at}
+use Rattle.std.proofs.Common.{sym, subst}
+use Rattle.sd_pagetable.specs.Nested.{Table}
 use Rattle.sd_pagetable.specs.declared.entry.Entry.{Entry}
-use Rattle.sd_pagetable.proofs.TableLemmas.{get_tree, tree_put, tree_removed, must_ok, not_none, some_of, none_of, found_table, no_table, inside_is, none_inside, written, same_again}
+use Rattle.sd_pagetable.proofs.TableLemmas.{not_none, found_table, no_table, inside_is, none_inside}
 use Rattle.sd_pagetable.specs.Firsts.{IsFirstFrom}
 use Rattle.sd_pagetable.proofs.tables.Tables.first_from.Goals as goal
 

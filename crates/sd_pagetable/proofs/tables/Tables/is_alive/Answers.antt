@@ -1,10 +1,6 @@
-use Rattle.std.proofs.Common.{◌≡◌, ap, ◌∙◌, sym, subst, IsSome, refl, is_some, Option, Some, None, unwrap_or, true, false}
-use Rattle.std.specs.FinMap as finmap
-use Rattle.std.specs.FinMap.{get-empty}
-use Rattle.std.specs.Ordering.{nat_cmp}
-use Rattle.sd_pagetable.specs.Nested.{Table, Nested, inside, value_at, is_alive, put_at, remove_at}
-use Rattle.sd_pagetable.specs.declared.entry.Entry.{Entry}
-use Rattle.sd_pagetable.proofs.TableLemmas.{get_tree, tree_put, tree_removed, must_ok, not_none, some_of, none_of}
+use Rattle.std.proofs.Common.{ap, ◌∙◌, sym, is_some}
+use Rattle.sd_pagetable.specs.Nested.{is_alive}
+use Rattle.sd_pagetable.proofs.TableLemmas.{get_tree}
 use Rattle.sd_pagetable.proofs.tables.Tables.is_alive.Goals as goal
 
 pub returns : goal.returns

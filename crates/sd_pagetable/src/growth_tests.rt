@@ -1,0 +1,148 @@
+//! Calls that are refused a growth, and made again.
+use super::{Memory, MemoryError};
+use sd_areas::{PAGE_SIZE, PageNo, Prot, Snapshot, SnapshotPage, SpaceId};
+use std::alloc::{AllocError, Global};
+use std::test::Fail;
+
+const READ: Prot = Prot {
+    read: true,
+    write: false,
+    execute: false,
+};
+
+const READ_WRITE: Prot = Prot {
+    read: true,
+    write: true,
+    execute: false,
+};
+
+/// A call that may grow a memory: the space first, and then the address and the bytes.
+#[derive(Clone, Copy, Debug)]
+enum Step {
+    Mmap(u64, u64, u64),
+    Munmap(u64, u64, u64),
+    Mprotect(u64, u64, u64),
+    Fork(u64),
+    Fault(u64, u64),
+    Store(u64, u64),
+}
+
+fn made(memory: &mut Memory, step: Step) -> Result<(), MemoryError> {
+    match step {
+        Step::Mmap(space, address, bytes) => {
+            memory.mmap(SpaceId::new(space), address, bytes, READ_WRITE)
+        }
+        Step::Munmap(space, address, bytes) => memory.munmap(SpaceId::new(space), address, bytes),
+        Step::Mprotect(space, address, bytes) => {
+            memory.mprotect(SpaceId::new(space), address, bytes, READ)
+        }
+        Step::Fork(space) => memory.fork(SpaceId::new(space)).map(|_| ()),
+        Step::Fault(space, address) => memory.fault(SpaceId::new(space), address),
+        Step::Store(space, address) => memory.store_now(SpaceId::new(space), address, &[0x61]),
+    }
+}
+
+/// A number that stands for the areas of all spaces, and for each page's number, word and first byte.
+fn digest(memory: &Memory) -> u64 {
+    let mut digest = 0u64;
+    for number in 1..=16 {
+        let areas = match memory.areas(SpaceId::new(number)) {
+            Some(own) => own.areas().len() as u64,
+            None => 99,
+        };
+        digest = digest.wrapping_mul(31).wrapping_add(areas);
+    }
+    let mut after = None;
+    for _ in 0..64u64 {
+        let Some((space, page)) = memory.next_page(after) else {
+            return digest;
+        };
+        let mut sector = [0; 512];
+        let _ = memory.read_sector(space, page, 0, &mut sector);
+        let word = memory.word(space, page);
+        for number in [space.number(), page.number(), word, u64::from(sector[0])] {
+            digest = digest.wrapping_mul(31).wrapping_add(number);
+        }
+        after = Some((space, page));
+    }
+    digest
+}
+
+fn begun(alloc: Global) -> Result<Memory, MemoryError> {
+    Ok(Memory::new(alloc, 64)?)
+}
+
+/// Where memory is refused, that is the answer and nothing has changed: the same call, made once
+/// more, is done.
+#[test]
+fn refused_growth_changes_nothing(rt: HostRuntime) -> Result<(), Fail> {
+    let mut memory = match begun(rt.alloc()) {
+        Ok(memory) => memory,
+        Err(_) => begun(rt.alloc())?,
+    };
+    for step in [
+        Step::Mmap(1, 0x10000, 0x8000),
+        Step::Store(1, 0x10000),
+        Step::Fault(1, 0x11000),
+        Step::Mprotect(1, 0x12000, 0x1000),
+        Step::Munmap(1, 0x13000, 0x1000),
+        Step::Mmap(1, 0x10000, 0x10000),
+        Step::Store(1, 0x14000),
+        Step::Fork(1),
+        Step::Store(2, 0x14000),
+        Step::Mmap(2, 0x40000, 0x8000),
+        Step::Fork(2),
+        Step::Fault(3, 0x14000),
+    ] {
+        let before = digest(&memory);
+        let mut given = made(&mut memory, step);
+        if given == Err(MemoryError::OutOfMemory) {
+            assert_eq!(rt; digest(&memory), before, "unchanged by {step:?}");
+            given = made(&mut memory, step);
+        }
+        assert_eq!(rt; given, Ok(()), "{step:?}");
+        assert!(rt; digest(&memory) != before, "after {step:?}");
+    }
+    Ok(())
+}
+
+/// A snapshot of two spaces, with a page of zeros and two others.
+fn snapshot(alloc: Global) -> Result<Snapshot, AllocError> {
+    let mut snapshot = Snapshot::new(alloc, 7);
+    snapshot.add_space(alloc, SpaceId::new(1))?;
+    snapshot.add_space(alloc, SpaceId::new(3))?;
+    for (space, number, byte) in [(1, 16, 0), (1, 17, 0x61), (3, 16, 0x62)] {
+        let mut bytes = Box::new(alloc, [0; PAGE_SIZE])?;
+        bytes[0] = byte;
+        let prot = READ_WRITE;
+        if let Some(page) = PageNo::new(number)
+            && let Some(pages) = snapshot.spaces.get_mut(&SpaceId::new(space))
+        {
+            pages.insert(page, SnapshotPage { prot, bytes })?;
+        }
+    }
+    Ok(snapshot)
+}
+
+/// A snapshot whose loading is refused memory loads once more, from a copy.
+#[test]
+fn refused_loading_is_answered_so(rt: HostRuntime) -> Result<(), Fail> {
+    let first = match snapshot(rt.alloc()) {
+        Ok(snapshot) => snapshot,
+        Err(_) => snapshot(rt.alloc())?,
+    };
+    let again = match snapshot(rt.alloc()) {
+        Ok(snapshot) => snapshot,
+        Err(_) => snapshot(rt.alloc())?,
+    };
+    let memory = match Memory::from_snapshot(rt.alloc(), 2, first) {
+        Ok(memory) => memory,
+        Err(error) => {
+            assert_eq!(rt; error, MemoryError::OutOfMemory);
+            Memory::from_snapshot(rt.alloc(), 2, again)?
+        }
+    };
+    let page = PageNo::new(17).ok_or("no page")?;
+    assert_eq!(rt; memory.word(SpaceId::new(1), page), 0x8180_0000_0000_0000);
+    Ok(())
+}
