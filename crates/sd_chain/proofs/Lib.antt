@@ -2,3 +2,4 @@ pub mod Places
 pub mod ChoiceLemmas
 pub mod Members
 pub mod Walks
+pub mod Runs

@@ -1,3 +1,4 @@
 pub mod Placed
 pub mod Catalog
 pub mod Reaches
+pub mod Ways
