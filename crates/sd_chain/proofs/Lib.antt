@@ -3,3 +3,5 @@ pub mod ChoiceLemmas
 pub mod Members
 pub mod Walks
 pub mod Runs
+pub mod TablePages
+pub mod Ways

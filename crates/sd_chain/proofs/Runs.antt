@@ -121,3 +121,11 @@ place_is runs at run b page r is has got =
 pub none_is : (b : Bool) (at : ℕ) (r : Option ℕ) → r ≡ then_some b at → IsNone r → b ≡ false
 none_is false at r is none = refl
 none_is true at r is none = absurd (false≢true (sym (subst IsNone is none)))
+
+-- the run at a place has a page
+abbrev pub HasWithin : List Run → ℕ → ℕ → Type 0
+HasWithin runs at page = (run : Run) → slice_get runs at ≡ Some run → IsTrue (is_within run.first run.count page)
+
+-- no run has a page
+abbrev pub HasNone : List Run → ℕ → Type 0
+HasNone runs page = (parent : ℕ) → AreRuns parent None runs → All (λ run. IsTrue (is_within run.first run.count page) → ⊥) runs

@@ -129,9 +129,12 @@ impl PlacedTable {
         let run = runs[at];
         Some(match run.kind {
             RunKind::Data => {
+                let rows = self.places.as_slice();
+                let row = rows[index].as_slice();
                 let within = page.number() - run.first.number();
-                let place = self.places[index][at].saturating_add(within);
-                Way::Data { place }
+                Way::Data {
+                    place: row[at].saturating_add(within),
+                }
             }
             RunKind::Parent => Way::Parent,
             RunKind::Zero => Way::Zero,
