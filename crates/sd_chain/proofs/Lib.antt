@@ -5,3 +5,4 @@ pub mod Walks
 pub mod Runs
 pub mod TablePages
 pub mod Ways
+pub mod Lies

@@ -7,7 +7,7 @@ use Rattle.sd_chain.specs.declared.found.Found.{Found}
 use Rattle.sd_chain.specs.declared.found.Found.TheVariants as found
 use Rattle.sd_chain.specs.declared.way.Way.{Way}
 use Rattle.sd_chain.specs.declared.way.Way.TheVariants as way
-use Rattle.sd_chain.specs.Catalog.{Opened, Places, Names, images}
+use Rattle.sd_chain.specs.Catalog.{Opened, Places, Names, images, place_of}
 
 -- a table has a page of a space in this way: at a place among those with data, in the parent, or as zeros
 abbrev pub HasPage : List Listed → ℕ × ℕ → Way → Type 0
@@ -24,7 +24,7 @@ pub data LiesAt (places : Places) (page : ℕ × ℕ) (there : Found) : Opened �
 
 -- the chain of the image of a serial has a page there
 abbrev pub LiesBySerial : Places → ℕ → ℕ × ℕ → Found → Type 0
-LiesBySerial places serial page there = (i : Opened) × Contains (images places) i × (i.header.serial ≡ serial) × LiesAt places page there i
+LiesBySerial places serial page there = (i : Opened) × (place_of places serial ≡ Some (Some i)) × LiesAt places page there i
 
 -- the tables are such as image text has, and each image's parent number is below the number that it stands for
 pub record AreImages (places : Places) : Type 0 where

@@ -1,7 +1,9 @@
 //! The catalog of a store's open images.
 ghost use Rattle.std.specs.Prelude.{◌≡◌, ◌≢◌, ◌==◌, ◌<◌, ◌↔◌, ℕ, not, [], Option, None, Some, IsTrue, IsSome, IfOk, OnOk, OnErr, IsErrOf, IsOk, IsNone, IfSome, MatchOption, All, Contains, map};
 ghost use Rattle.sd_chain.specs.declared.error.CatalogError.TheVariants.{DoubleSerial};
+ghost use Rattle.sd_chain.specs.declared.found.Found.{Found};
 ghost use Rattle.sd_chain.specs.Reaches.{ReachesSerial, ParentsFall};
+ghost use Rattle.sd_chain.specs.Ways.{AreImages, LiesBySerial};
 ghost use Rattle.sd_chain.specs.Catalog.{Opened, AreInOrder, place_of, images, IsHeld, Changes, is_elsewhere, without_slot, Names, IsTip, IsRestored, IsRising};
 
 use crate::choice::{Places, images_of, named_of, newest_of};
@@ -12,7 +14,7 @@ use crate::placed::PlacedTable;
 use crate::way::Way;
 use indexmap::IndexMap;
 use sd_areas::{PageNo, SpaceId};
-use sd_image::Header;
+use sd_image::{Header, few_pages};
 use std::alloc::{AllocError, Global};
 use std::marker::Model;
 
@@ -146,9 +148,10 @@ impl Catalog {
     /// The image that a number names: of those that stand for it, the one with the greatest serial.
     /// It makes one pass over the images.
     pub fn find(&self, stands_for: u64) -> Option<&OpenImage>
-        ensures { MatchOption result
+        ensures found { MatchOption result
             (All (λ i. i.header.stands_for ≢ stands_for) (images self.now))
             (λ i. Names self.now stands_for i.now) }
+        ensures one { (i j : Opened) → Names self.now stands_for i → Names self.now stands_for j → i ≡ j }
     {
         named_of(&self.places, stands_for)
     }
@@ -181,6 +184,8 @@ impl Catalog {
         ensures named { IfSome result (λ p. Names self.now image.now.header.parent p.now) }
         ensures all { image.now.header.parent < image.now.header.stands_for → IsNone result
             → (p : Opened) → Names self.now image.now.header.parent p → ⊥ }
+        ensures one { (p q : Opened) → Names self.now image.now.header.parent p
+            → Names self.now image.now.header.parent q → p ≡ q }
     {
         let parent = self.find(image.header().parent)?;
         if parent.header().stands_for < image.header().stands_for {
@@ -194,7 +199,11 @@ impl Catalog {
     ///
     /// It goes from an image to its parent at most as often as there are images. At each it looks for the page in a
     /// time that grows with the logarithm of the runs, and for the parent among the images.
-    pub fn resolve(&self, serial: u64, space: SpaceId, page: PageNo) -> Option<Found> {
+    pub fn resolve(&self, serial: u64, space: SpaceId, page: PageNo) -> Option<Found>
+        ensures exact { AreImages self.now
+            → (there : Found) → (result ≡ Some there) ↔ LiesBySerial self.now serial (space, page) there }
+    {
+        few_pages();
         let mut image = self.image(serial)?;
         loop {
             match image.way(space, page)? {
