@@ -1,5 +1,5 @@
 -- What the layers above use of images and of what contents show, each a law that a function with an empty body carries.
-use Rattle.std.specs.Prelude.{◌≡◌, ℕ, ◌+◌, ◌<◌, ◌≤◌, ◌^◌, true, false, if◌then◌else◌, List, [], ◌∷◌, length, All, Contains, slice_get, slice_index_or, slice_set, Option, Some, None}
+use Rattle.std.specs.Prelude.{◌≡◌, ℕ, ◌+◌, ◌*◌, ◌<◌, ◌≤◌, ◌^◌, true, false, if◌then◌else◌, List, [], ◌∷◌, length, All, Contains, slice_get, slice_index_or, slice_range, slice_set, Option, Some, None}
 use Rattle.std.specs.FinMap as finmap
 use Rattle.sd_areas.specs.declared.prot.Prot.{Prot}
 use Rattle.sd_areas.specs.Pages.{is_within}
@@ -67,6 +67,12 @@ OneKind = (h : Header) (spaces : List Listed) (kind other : RunKind) (page : ℕ
 -- A table has no more pages in one way than 16 spaces of 2^35 pages have.
 abbrev pub FewPages : Type 0
 FewPages = (h : Header) (spaces : List Listed) (kind : RunKind) → IsTable h spaces → length (pages_of kind spaces) ≤ 2 ^ 39
+
+-- A data page stands in its image's file behind the header and the data pages before it.
+abbrev pub PageInFile : Type 0
+PageInFile = (file : List ℕ) (i : Image) (page : ℕ × ℕ) (place : ℕ) → IsImage file i → slice_get (pages_of Data i.spaces) place ≡ Some page
+    → (4096 + 4096 * place + 4096 ≤ length file)
+        × (slice_get i.pages place ≡ Some (slice_range file (4096 + 4096 * place) (4096 + 4096 * place + 4096)))
 
 -- a dump of one page, the first image of its store
 abbrev pub first_image : ℕ → ℕ → ℕ → Prot → List ℕ → Image
