@@ -6,3 +6,4 @@ pub mod Runs
 pub mod TablePages
 pub mod Ways
 pub mod Lies
+pub mod Stores

@@ -1,5 +1,5 @@
 -- The run of a space that has a page, found by its place.
-use Rattle.std.proofs.Common.{◌≡◌, ℕ, zero, suc, ◌+◌, ◌-◌, ◌<◌, ◌≤◌, ◌^◌, true, false, not, ◌&&◌, eqb, ltb, leb, List, [], ◌∷◌, length, get_or, slice_index_or, Option, Some, None, refl, sym, ◌∙◌, ap, subst, inl, inr, arith, Bool}
+use Rattle.std.proofs.Common.{◌≡◌, ℕ, zero, suc, ◌+◌, ◌-◌, ◌<◌, ◌≤◌, ◌^◌, true, false, not, ◌&&◌, eqb, ltb, leb, List, [], ◌∷◌, length, get_or, Option, Some, None, refl, sym, ◌∙◌, ap, subst, inl, inr, arith, Bool}
 use Rattle.std.specs.List.{slice_get}
 use Rattle.std.specs.Prelude.{All, IfSome, IsNone, IsTrue}
 use Rattle.std.specs.Bool.{then_some}

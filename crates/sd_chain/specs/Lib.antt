@@ -2,3 +2,4 @@ pub mod Placed
 pub mod Catalog
 pub mod Reaches
 pub mod Ways
+pub mod Store

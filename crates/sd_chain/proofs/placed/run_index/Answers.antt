@@ -1,8 +1,7 @@
 use Rattle.std.proofs.Common.{rules, ◌-◌, ◌∙◌, refl, sym, arith}
 use Rattle.std.proofs.lemmas.List.Sorted.{IsPartitionPoint-from_clause}
 use Rattle.std.proofs.lemmas.Option.{slice_get_read}
-use Rattle.sd_image.specs.Table.{AreRuns}
-use Rattle.sd_chain.proofs.Runs.{IsPoint, begins_by, none_begins, none_has, none_is, parted, place_is}
+use Rattle.sd_chain.proofs.Runs.{begins_by, none_begins, none_has, none_is, parted, place_is}
 use Rattle.sd_chain.proofs.placed.run_index.Goals as goal
 
 pub returns-then-after-eq0-clause-none : goal.returns-then-after-eq0-clause-none

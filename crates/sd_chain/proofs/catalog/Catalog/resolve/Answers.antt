@@ -1,72 +1,38 @@
-use Rattle.std.proofs.Common.{◌≡◌, ◌∙◌, ◌+◌, ◌-◌, ◌*◌, ◌^◌, min, Some, None, Option, ap, sym, subst, refl}
-use Rattle.std.proofs.lemmas.List.Elements.{All-contains}
-use Rattle.sd_image.specs.Table.{IsTable}
-use Rattle.sd_chain.specs.declared.found.Found.TheVariants as found
-use Rattle.sd_chain.specs.declared.way.Way.{Way}
-use Rattle.sd_chain.specs.declared.way.Way.TheVariants as way
-use Rattle.sd_chain.specs.Catalog.{Opened, images}
-use Rattle.sd_chain.proofs.Ways.{IsExact}
-use Rattle.sd_chain.proofs.Lies.{IsResolved, ends_with_data, ends_with_zero, ends_without, ends_without_parent, none_begins, search_begins, search_goes_on}
+use Rattle.std.proofs.Common.{rules, ◌≡◌, Some, subst}
+use Rattle.sd_chain.specs.Catalog.{AreInOrder, place_of}
+use Rattle.sd_chain.proofs.Lies.{none_resolved, some_resolved}
+use Rattle.sd_chain.proofs.Walks.{member_of}
+use Rattle.sd_chain.proofs.Stores.{held_by, inside_by, are_images}
 use Rattle.sd_chain.proofs.catalog.Catalog.resolve.Goals as goal
 
-pub returns-in_err-image : goal.returns-in_err-image
-returns-in_err-image c = record { exact = λ good. none_begins c.args.self.now c.args.serial (c.args.space, c.args.page) c.from_residual.result c.from_residual.ensures c.in_err-image.ensures }
+pub returns-in_err-place-clause-held : goal.returns-in_err-place-clause-held
+returns-in_err-place-clause-held c = λ contents all catalog slots.
+    held_by c.page_in_file.ensures contents all c.args.self.now c.args.serial (c.args.space, c.args.page) c.from_residual.result
+    (record { one = c.one_image.ensures; order = subst AreInOrder c.self.view_is c.self.invariant; catalog = catalog; slots = slots })
+    (none_resolved c.args.self.now c.args.serial (c.args.space, c.args.page) c.from_residual.result c.from_residual.ensures (λ i there. search rules))
 
-pub loop-place-init : goal.loop-place-init
-loop-place-init c = λ good. search_begins c.args.self.now c.args.serial (c.args.space, c.args.page) c.in_ok-image.image.now c.in_ok-image.ensures.0
+pub returns-in_err-as_ref-clause-held : goal.returns-in_err-as_ref-clause-held
+returns-in_err-as_ref-clause-held c = λ contents all catalog slots.
+    held_by c.page_in_file.ensures contents all c.args.self.now c.args.serial (c.args.space, c.args.page) c.from_residual-in_err-as_ref.result
+    (record { one = c.one_image.ensures; order = subst AreInOrder c.self.view_is c.self.invariant; catalog = catalog; slots = slots })
+    (none_resolved c.args.self.now c.args.serial (c.args.space, c.args.page) c.from_residual-in_err-as_ref.result c.from_residual-in_err-as_ref.ensures (λ i there. search rules))
 
-pub returns-in_err-place : goal.returns-in_err-place
-returns-in_err-place c = record {
-  exact = λ good.
-      let sought = c.loop-place.invariant good in
-      let table = All-contains (λ (i : Opened). IsTable i.header i.spaces) (images c.args.self.now) c.loop-place.image.now good.tables sought.member in
-      let exact : IsExact c.loop-place.image.now.spaces (c.args.space, c.args.page) None = subst (IsExact c.loop-place.image.now.spaces (c.args.space, c.args.page)) c.in_err-place.was (c.way.ensures table) in
-      ends_without c.args.self.now c.args.serial (c.args.space, c.args.page) c.loop-place.image.now c.from_residual-in_err-place.result c.from_residual-in_err-place.ensures sought exact;
-}
+pub returns-clause-exact : goal.returns-clause-exact
+returns-clause-exact c = λ good.
+    let there : place_of c.args.self.now c.args.serial ≡ Some (Some c.in_ok-as_ref.field-0.now) = search rules in
+    some_resolved c.args.self.now c.args.serial (c.args.space, c.args.page) c.in_ok-as_ref.field-0.now c.follow.result there (c.follow.ensures good (member_of c.args.self.now c.args.serial c.in_ok-as_ref.field-0.now there))
 
-pub returns-in-Data : goal.returns-in-Data
-returns-in-Data c = record {
-  exact = λ good.
-      let sought = c.loop-place.invariant good in
-      let table = All-contains (λ (i : Opened). IsTable i.header i.spaces) (images c.args.self.now) c.loop-place.image.now good.tables sought.member in
-      let is : c.way.result ≡ Some (way.Data c.in-Data.place) = c.in_ok-place.was ∙ ap Some c.in-Data.is in
-      let exact : IsExact c.loop-place.image.now.spaces (c.args.space, c.args.page) (Some (way.Data c.in-Data.place)) =
-      subst (IsExact c.loop-place.image.now.spaces (c.args.space, c.args.page)) is (c.way.ensures table) in
-      let offset : c.saturating_add-offset.result ≡ min (min (c.in-Data.place * 4096) (2 ^ 64 - 1) + 4096) (2 ^ 64 - 1) =
-      c.saturating_add-offset.ensures ∙ ap (λ n. min (n + 4096) (2 ^ 64 - 1)) c.saturating_mul.ensures in
-      let slot : c.slot.result ≡ c.loop-place.image.now.slot = c.slot.ensures in
-      subst (λ n. IsResolved c.args.self.now c.args.serial (c.args.space, c.args.page) (Some (found.Data n c.saturating_add-offset.result))) (sym slot)
-      (ends_with_data c.few_pages.ensures c.args.self.now c.args.serial (c.args.space, c.args.page) c.loop-place.image.now c.in-Data.place c.saturating_add-offset.result table sought exact offset);
-}
+pub returns-clause-held : goal.returns-clause-held
+returns-clause-held c = λ contents all catalog slots.
+    let there : place_of c.args.self.now c.args.serial ≡ Some (Some c.in_ok-as_ref.field-0.now) = search rules in
+    let good = are_images contents c.args.self.now (subst AreInOrder c.self.view_is c.self.invariant) catalog in
+    held_by c.page_in_file.ensures contents all c.args.self.now c.args.serial (c.args.space, c.args.page) c.follow.result
+    (record { one = c.one_image.ensures; order = subst AreInOrder c.self.view_is c.self.invariant; catalog = catalog; slots = slots })
+    (some_resolved c.args.self.now c.args.serial (c.args.space, c.args.page) c.in_ok-as_ref.field-0.now c.follow.result there (c.follow.ensures good (member_of c.args.self.now c.args.serial c.in_ok-as_ref.field-0.now there)))
 
-pub returns-in-Zero : goal.returns-in-Zero
-returns-in-Zero c = record {
-  exact = λ good.
-      let sought = c.loop-place.invariant good in
-      let table = All-contains (λ (i : Opened). IsTable i.header i.spaces) (images c.args.self.now) c.loop-place.image.now good.tables sought.member in
-      let is : c.way.result ≡ Some (way.Zero) = c.in_ok-place.was ∙ ap Some c.in-Zero.is in
-      let exact : IsExact c.loop-place.image.now.spaces (c.args.space, c.args.page) (Some (way.Zero)) =
-      subst (IsExact c.loop-place.image.now.spaces (c.args.space, c.args.page)) is (c.way.ensures table) in
-      ends_with_zero c.args.self.now c.args.serial (c.args.space, c.args.page) c.loop-place.image.now sought exact;
-}
-
-pub returns-in_err-image-in-Parent : goal.returns-in_err-image-in-Parent
-returns-in_err-image-in-Parent c = record {
-  exact = λ good.
-      let sought = c.loop-place.invariant good in
-      let table = All-contains (λ (i : Opened). IsTable i.header i.spaces) (images c.args.self.now) c.loop-place.image.now good.tables sought.member in
-      let is : c.way.result ≡ Some (way.Parent) = c.in_ok-place.was ∙ ap Some c.in-Parent.is in
-      let exact : IsExact c.loop-place.image.now.spaces (c.args.space, c.args.page) (Some (way.Parent)) =
-      subst (IsExact c.loop-place.image.now.spaces (c.args.space, c.args.page)) is (c.way.ensures table) in
-      ends_without_parent c.args.self.now c.args.serial (c.args.space, c.args.page) c.loop-place.image.now c.from_residual-in_err-image-in-Parent.result c.from_residual-in_err-image-in-Parent.ensures good sought exact
-      (λ falls. c.in_err-image-in-Parent.ensures.all falls refl);
-}
-
-pub loop-place-preserved : goal.loop-place-preserved
-loop-place-preserved c = λ good.
-    let sought = c.loop-place.invariant good in
-    let table = All-contains (λ (i : Opened). IsTable i.header i.spaces) (images c.args.self.now) c.loop-place.image.now good.tables sought.member in
-    let is : c.way.result ≡ Some (way.Parent) = c.in_ok-place.was ∙ ap Some c.in-Parent.is in
-    let exact : IsExact c.loop-place.image.now.spaces (c.args.space, c.args.page) (Some (way.Parent)) =
-    subst (IsExact c.loop-place.image.now.spaces (c.args.space, c.args.page)) is (c.way.ensures table) in
-    search_goes_on c.args.self.now c.args.serial (c.args.space, c.args.page) c.loop-place.image.now c.in_ok-image-in-Parent.image.now c.in_ok-image-in-Parent.ensures.one sought exact c.in_ok-image-in-Parent.ensures.named
+pub returns-clause-inside : goal.returns-clause-inside
+returns-clause-inside c = λ contents catalog.
+    let there : place_of c.args.self.now c.args.serial ≡ Some (Some c.in_ok-as_ref.field-0.now) = search rules in
+    let good = are_images contents c.args.self.now (subst AreInOrder c.self.view_is c.self.invariant) catalog in
+    inside_by c.page_in_file.ensures contents c.args.self.now c.args.serial (c.args.space, c.args.page) c.follow.result (subst AreInOrder c.self.view_is c.self.invariant) catalog
+    (some_resolved c.args.self.now c.args.serial (c.args.space, c.args.page) c.in_ok-as_ref.field-0.now c.follow.result there (c.follow.ensures good (member_of c.args.self.now c.args.serial c.in_ok-as_ref.field-0.now there)))

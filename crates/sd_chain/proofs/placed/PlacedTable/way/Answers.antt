@@ -1,10 +1,10 @@
-use Rattle.std.proofs.Common.{ℕ, List, Vec, Global, map, length, get_or, min, ◌+◌, ◌-◌, ◌^◌, Some, None, refl, sym, subst, ap, ◌≡◌, ◌==◌, ◌<◌, ◌∙◌, arith}
+use Rattle.std.proofs.Common.{ℕ, List, Vec, Global, length, get_or, min, ◌+◌, ◌-◌, ◌^◌, Some, None, refl, sym, subst, ap, ◌≡◌, ◌==◌, ◌<◌, ◌∙◌, arith}
 use Rattle.std.specs.List.{position, slice_get}
 use Rattle.std.proofs.lemmas.Option.{slice_get-get_or}
 use Rattle.sd_image.specs.declared.run.Run.{Run}
-use Rattle.sd_image.specs.declared.run.RunKind.TheVariants.{Data, Parent, Zero}
+use Rattle.sd_image.specs.declared.run.RunKind.TheVariants.{Parent, Zero}
 use Rattle.sd_image.specs.declared.table.SpaceTable.{SpaceTable}
-use Rattle.sd_image.specs.Table.{Listed, listed, AreRuns, IsTable}
+use Rattle.sd_image.specs.Table.{Listed, IsTable}
 use Rattle.sd_chain.specs.declared.way.Way.TheVariants as way
 use Rattle.sd_chain.specs.Ways.{HasPage}
 use Rattle.sd_chain.proofs.Runs.{HasNone, HasWithin, within_low}
