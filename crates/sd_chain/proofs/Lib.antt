@@ -7,3 +7,4 @@ pub mod TablePages
 pub mod Ways
 pub mod Lies
 pub mod Stores
+pub mod Growth

@@ -38,12 +38,12 @@ contains_at [] place x e = absurd (none-some x e)
 contains_at (y ∷ xs) zero x e = (0, omega arith, same_Some y x e)
 contains_at (y ∷ xs) (suc place) x e = let rest = contains_at xs place x e in (suc rest.0, omega (arith, rest.1), rest.2)
 
-get_left : {X : Type 0} (xs ys : List X) (i : ℕ) (x : X) → slice_get xs i ≡ Some x → slice_get (xs ++ ys) i ≡ Some x
+pub get_left : {X : Type 0} (xs ys : List X) (i : ℕ) (x : X) → slice_get xs i ≡ Some x → slice_get (xs ++ ys) i ≡ Some x
 get_left [] ys i x e = absurd (none-some x e)
 get_left (y ∷ xs) ys zero x e = e
 get_left (y ∷ xs) ys (suc i) x e = get_left xs ys i x e
 
-get_right : {X : Type 0} (xs ys : List X) (n i : ℕ) → n ≡ length xs + i → slice_get (xs ++ ys) n ≡ slice_get ys i
+pub get_right : {X : Type 0} (xs ys : List X) (n i : ℕ) → n ≡ length xs + i → slice_get (xs ++ ys) n ≡ slice_get ys i
 get_right [] ys n i e = let is : n ≡ i = omega (arith, e) in ap (slice_get ys) is
 get_right (x ∷ xs) ys zero i e = absurd (omega (arith, e))
 get_right (x ∷ xs) ys (suc n) i e = get_right xs ys n i (omega (arith, e))

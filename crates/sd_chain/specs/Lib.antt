@@ -3,3 +3,4 @@ pub mod Catalog
 pub mod Reaches
 pub mod Ways
 pub mod Store
+pub mod Laws

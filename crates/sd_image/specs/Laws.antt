@@ -1,5 +1,5 @@
 -- What the layers above use of images and of what contents show, each a law that a function with an empty body carries.
-use Rattle.std.specs.Prelude.{◌≡◌, ℕ, ◌+◌, ◌*◌, ◌<◌, ◌≤◌, ◌^◌, true, false, if◌then◌else◌, List, [], ◌∷◌, length, All, Contains, slice_get, slice_index_or, slice_range, slice_set, Option, Some, None}
+use Rattle.std.specs.Prelude.{◌≡◌, ℕ, ◌+◌, ◌*◌, ◌<◌, ◌≤◌, ◌^◌, true, false, if◌then◌else◌, List, [], ◌∷◌, length, drop, take, All, Contains, slice_get, slice_index_or, slice_range, slice_set, Option, Some, None}
 use Rattle.std.specs.FinMap as finmap
 use Rattle.sd_areas.specs.declared.prot.Prot.{Prot}
 use Rattle.sd_areas.specs.Pages.{is_within}
@@ -9,7 +9,8 @@ use Rattle.sd_image.specs.declared.header.Kind.TheVariants.{Dump}
 use Rattle.sd_image.specs.declared.run.Run.{Run}
 use Rattle.sd_image.specs.declared.run.RunKind.{RunKind}
 use Rattle.sd_image.specs.declared.run.RunKind.TheVariants.{Data}
-use Rattle.sd_image.specs.Table.{AreRuns, IsTable, Listed}
+use Rattle.sd_image.specs.Header.{IsHeader, header_text}
+use Rattle.sd_image.specs.Table.{AreRuns, IsTable, Listed, table_text}
 use Rattle.sd_image.specs.Image.{Image, IsImage, OpenImages, gate, image_text, is_open}
 use Rattle.sd_image.specs.Shows.{Holds, IsMemory, IsNamed, IsRestorable, IsStore, IsTip, Shows, pages_of}
 
@@ -68,11 +69,18 @@ OneKind = (h : Header) (spaces : List Listed) (kind other : RunKind) (page : ℕ
 abbrev pub FewPages : Type 0
 FewPages = (h : Header) (spaces : List Listed) (kind : RunKind) → IsTable h spaces → length (pages_of kind spaces) ≤ 2 ^ 39
 
+-- An open file whose header and table are image text is an image with them.
+abbrev pub FileIsImage : Type 0
+FileIsImage = (file : List ℕ) (h : Header) (spaces : List Listed) → is_open file ≡ true
+    → drop 1 (take 4096 file) ≡ header_text h → IsHeader h (length file)
+    → drop (4096 + 4096 * h.pages) file ≡ table_text spaces → IsTable h spaces
+    → (i : Image) × IsImage file i × (i.header ≡ h) × (i.spaces ≡ spaces)
+
 -- A data page stands in its image's file behind the header and the data pages before it.
 abbrev pub PageInFile : Type 0
 PageInFile = (file : List ℕ) (i : Image) (page : ℕ × ℕ) (place : ℕ) → IsImage file i → slice_get (pages_of Data i.spaces) place ≡ Some page
     → (4096 + 4096 * place + 4096 ≤ length file)
-        × (slice_get i.pages place ≡ Some (slice_range file (4096 + 4096 * place) (4096 + 4096 * place + 4096)))
+    × (slice_get i.pages place ≡ Some (slice_range file (4096 + 4096 * place) (4096 + 4096 * place + 4096)))
 
 -- a dump of one page, the first image of its store
 abbrev pub first_image : ℕ → ℕ → ℕ → Prot → List ℕ → Image
