@@ -1,11 +1,11 @@
 -- The catalog of a store's first slots, and of one slot more.
-use Rattle.std.proofs.Common.{◌≡◌, ◌⊎◌, ℕ, zero, suc, Bool, true, false, nat_eq, cond, List, [], ◌∷◌, ◌++◌, length, Option, Some, None, refl, sym, ◌∙◌, ap, subst, inl, inr, arith}
+use Rattle.std.proofs.Common.{◌≡◌, ◌⊎◌, ℕ, zero, suc, Bool, true, false, nat_eq, cond, List, [], ◌∷◌, ◌++◌, length, Some, refl, sym, ◌∙◌, ap, subst, inl, inr, arith}
 use Rattle.std.specs.List.{slice_get}
-use Rattle.std.proofs.lemmas.Bool.{eq-eqb, eqb-true, false≢true, ne_eqb}
+use Rattle.std.proofs.lemmas.Bool.{eq-eqb, false≢true, ne_eqb}
 use Rattle.std.proofs.lemmas.Option.{none-some, same_Some}
-use Rattle.sd_image.specs.Image.{Image, IsImage, is_open}
-use Rattle.sd_chain.specs.Catalog.{Opened, Places, place_of}
-use Rattle.sd_chain.specs.Store.{IsOpenedAs, IsCatalogOf}
+use Rattle.sd_image.specs.Image.{Image, is_open}
+use Rattle.sd_chain.specs.Catalog.{Opened, place_of}
+use Rattle.sd_chain.specs.Store.{IsOpenedAs}
 use Rattle.sd_chain.specs.Laws.{ClosedSlotAddsNothing, EmptyCatalog, OpenSlotAddsItsImage}
 use Rattle.sd_chain.proofs.TablePages.{get_left, get_right}
 

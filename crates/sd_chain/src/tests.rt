@@ -364,7 +364,7 @@ fn hold_again(catalog: &mut Catalog, serial: u64) -> Result<(), Fail> {
 /// memory is refused.
 fn add_again(catalog: &mut Catalog, alloc: Global, serial: u64) -> Result<(), Fail> {
     let (held, tip) = (catalog.is_held(serial), tip_of(catalog));
-    let header = dump(serial, serial, serial - 1);
+    let header = dump(serial, serial, serial.saturating_sub(1));
     let mut answer = catalog.add(serial as usize, header, table_of(alloc, &[])?);
     if answer == Err(CatalogError::OutOfMemory) {
         must(
