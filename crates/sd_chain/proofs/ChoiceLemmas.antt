@@ -1,9 +1,8 @@
 -- Choosing among the images that came so far.
-use Rattle.std.proofs.Common.{◌≡◌, ◌≢◌, ◌⊎◌, ◌<◌, ◌≤◌, ℕ, List, [], ◌∷◌, ◌++◌, map, Option, Some, None, All, Contains, refl, sym, ◌∙◌, ap, subst, arith, inl, inr, Bor}
+use Rattle.std.proofs.Common.{◌≡◌, ◌≢◌, ◌⊎◌, ◌≤◌, ℕ, List, [], ◌∷◌, ◌++◌, Option, Some, None, All, refl, sym, ◌∙◌, subst, arith, inl, inr, Bor}
 use Rattle.std.proofs.lemmas.Bool.{cases_lt}
-use Rattle.std.proofs.lemmas.List.{append-nil, map-append}
+use Rattle.std.proofs.lemmas.List.{append-nil}
 use Rattle.std.proofs.lemmas.List.Elements.{Contains-push, Contains-push_cases, Contains-append_left, All-push, All-contains, filter_map-append}
-use Rattle.std.specs.Map.Iter.{deref_pair}
 use Rattle.sd_chain.specs.Catalog.{Opened, Places, images, IsRestored, IsNotAfter, IsNewestAmong, IsNamedAmong, IsNewestChoice, IsNamedChoice}
 
 not_after_step : (a b c : Opened) → IsNotAfter a b → IsNotAfter b c → IsNotAfter a c

@@ -1,12 +1,12 @@
 -- The catalog as it is seen: the places of serials, rising, each held or with an open image.
-use Rattle.std.specs.Prelude.{◌≡◌, ◌≢◌, ◌⊎◌, ℕ, ◌+◌, ◌*◌, ◌<◌, ◌≤◌, ◌^◌, ◌==◌, if◌then◌else◌, Bool, true, not, List, [], ◌∷◌, Option, Some, None, IsSorted, All, nat_eq, Contains, MatchOption, map}
+use Rattle.std.specs.Prelude.{◌≡◌, ◌≢◌, ◌⊎◌, ℕ, ◌<◌, ◌≤◌, ◌==◌, if◌then◌else◌, Bool, true, not, List, [], ◌∷◌, Option, Some, None, IsSorted, All, nat_eq, Contains, MatchOption}
 use Rattle.std.specs.Borrow.{Bor}
 use Rattle.std.specs.List.{filter_map, AllByRecursion, IsDistinct}
 use Rattle.std.specs.Map.{lookup, keys_of}
 use Rattle.std.specs.Ordering.{nat_cmp}
 use Rattle.sd_image.specs.declared.header.Header.{Header}
 use Rattle.sd_image.specs.declared.header.Kind.TheVariants.{PreDump}
-use Rattle.sd_image.specs.Table.{Listed, IsTable}
+use Rattle.sd_image.specs.Table.{Listed}
 
 -- an open image: its slot, and what its header and table say
 pub record Opened : Type 0 where

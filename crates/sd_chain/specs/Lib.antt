@@ -1,3 +1,6 @@
 pub mod Placed
 pub mod Catalog
 pub mod Reaches
+pub mod Ways
+pub mod Store
+pub mod Laws

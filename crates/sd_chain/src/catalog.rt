@@ -1,7 +1,11 @@
 //! The catalog of a store's open images.
-ghost use Rattle.std.specs.Prelude.{◌≡◌, ◌≢◌, ◌==◌, ◌<◌, ◌↔◌, ℕ, not, [], Option, None, Some, IsTrue, IsSome, IfOk, OnOk, OnErr, IsErrOf, IsOk, IsNone, IfSome, MatchOption, All, Contains, map};
+ghost use Rattle.std.specs.Prelude.{◌≡◌, ◌≢◌, ◌==◌, ◌<◌, ◌↔◌, ℕ, not, List, [], Option, None, Some, IsTrue, IsSome, IfOk, OnOk, OnErr, IsErrOf, IsOk, IsNone, IfSome, MatchOption, All, Contains, map};
+ghost use Rattle.sd_image.specs.Image.{Image, OpenImages};
 ghost use Rattle.sd_chain.specs.declared.error.CatalogError.TheVariants.{DoubleSerial};
+ghost use Rattle.sd_chain.specs.declared.found.Found.{Found};
 ghost use Rattle.sd_chain.specs.Reaches.{ReachesSerial, ParentsFall};
+ghost use Rattle.sd_chain.specs.Store.{IsCatalogOf, IsInFile, FindsHeld, FindsNamed, FindsTip};
+ghost use Rattle.sd_chain.specs.Ways.{AreImages, LiesAt, LiesBySerial};
 ghost use Rattle.sd_chain.specs.Catalog.{Opened, AreInOrder, place_of, images, IsHeld, Changes, is_elsewhere, without_slot, Names, IsTip, IsRestored, IsRising};
 
 use crate::choice::{Places, images_of, named_of, newest_of};
@@ -12,7 +16,7 @@ use crate::placed::PlacedTable;
 use crate::way::Way;
 use indexmap::IndexMap;
 use sd_areas::{PageNo, SpaceId};
-use sd_image::Header;
+use sd_image::{Header, few_pages, one_image, page_in_file};
 use std::alloc::{AllocError, Global};
 use std::marker::Model;
 
@@ -146,20 +150,26 @@ impl Catalog {
     /// The image that a number names: of those that stand for it, the one with the greatest serial.
     /// It makes one pass over the images.
     pub fn find(&self, stands_for: u64) -> Option<&OpenImage>
-        ensures { MatchOption result
+        ensures found { MatchOption result
             (All (λ i. i.header.stands_for ≢ stands_for) (images self.now))
             (λ i. Names self.now stands_for i.now) }
+        ensures one { (i j : Opened) → Names self.now stands_for i → Names self.now stands_for j → i ≡ j }
+        ensures named { (contents : List (List ℕ)) (images : List Image) → IsCatalogOf contents self.now
+            → OpenImages contents images → FindsNamed contents images stands_for result }
     {
+        one_image();
         named_of(&self.places, stands_for)
     }
 
     /// The newest dump or merged image: that with the greatest checkpoint, and of these the greatest serial. None
     /// where there are only pre-dumps. It makes one pass over the images.
     pub fn tip(&self) -> Option<&OpenImage>
-        ensures { MatchOption result
+        ensures newest { MatchOption result
             (All (λ i. IsRestored i → ⊥) (images self.now))
             (λ i. IsTip self.now i.now) }
+        ensures store { (contents : List (List ℕ)) → IsCatalogOf contents self.now → FindsTip contents result }
     {
+        one_image();
         newest_of(&self.places)
     }
 
@@ -181,6 +191,8 @@ impl Catalog {
         ensures named { IfSome result (λ p. Names self.now image.now.header.parent p.now) }
         ensures all { image.now.header.parent < image.now.header.stands_for → IsNone result
             → (p : Opened) → Names self.now image.now.header.parent p → ⊥ }
+        ensures one { (p q : Opened) → Names self.now image.now.header.parent p
+            → Names self.now image.now.header.parent q → p ≡ q }
     {
         let parent = self.find(image.header().parent)?;
         if parent.header().stands_for < image.header().stands_for {
@@ -190,12 +202,13 @@ impl Catalog {
         }
     }
 
-    /// Where the chain of an image has a page, or none where no image of it has it.
-    ///
-    /// It goes from an image to its parent at most as often as there are images. At each it looks for the page in a
-    /// time that grows with the logarithm of the runs, and for the parent among the images.
-    pub fn resolve(&self, serial: u64, space: SpaceId, page: PageNo) -> Option<Found> {
-        let mut image = self.image(serial)?;
+    /// Where the chain of an image has a page.
+    fn follow(&self, image: &OpenImage, space: SpaceId, page: PageNo) -> Option<Found>
+        ensures { AreImages self.now → Contains (images self.now) image.now
+            → (there : Found) → (result ≡ Some there) ↔ LiesAt self.now (space, page) there image.now }
+    {
+        few_pages();
+        let mut image = image;
         loop {
             match image.way(space, page)? {
                 Way::Data { place } => {
@@ -209,6 +222,23 @@ impl Catalog {
                 Way::Parent => image = self.parent(image)?,
             }
         }
+    }
+
+    /// Where the chain of an image has a page, or none where no image of it has it.
+    ///
+    /// It goes from an image to its parent at most as often as there are images. At each it looks for the page in a
+    /// time that grows with the logarithm of the runs, and for the parent among the images.
+    pub fn resolve(&self, serial: u64, space: SpaceId, page: PageNo) -> Option<Found>
+        ensures exact { AreImages self.now
+            → (there : Found) → (result ≡ Some there) ↔ LiesBySerial self.now serial (space, page) there }
+        ensures held { (contents : List (List ℕ)) (images : List Image) → IsCatalogOf contents self.now
+            → OpenImages contents images → FindsHeld contents images serial (space, page) result }
+        ensures inside { (contents : List (List ℕ)) → IsCatalogOf contents self.now → IfSome result (IsInFile contents) }
+    {
+        one_image();
+        page_in_file();
+        let place = self.places.get(&serial)?;
+        self.follow(place.as_ref()?, space, page)
     }
 
     /// The serials of the images that an image reaches: its own, that of the image that its parent number names, also

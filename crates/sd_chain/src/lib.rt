@@ -6,6 +6,7 @@ mod choice;
 mod error;
 mod found;
 mod image;
+mod laws;
 mod placed;
 mod way;
 
@@ -13,6 +14,7 @@ pub use catalog::Catalog;
 pub use error::CatalogError;
 pub use found::Found;
 pub use image::OpenImage;
+pub use laws::{closed_slot, empty_catalog, open_slot};
 pub use placed::PlacedTable;
 pub use way::Way;
 

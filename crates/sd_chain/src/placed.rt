@@ -1,9 +1,16 @@
 //! A table, with the places of its data pages.
-ghost use Rattle.std.specs.Prelude.{◌≡◌, ◌++◌, List, [], ◌∷◌, IfOk, map, None};
-ghost use Rattle.sd_image.specs.Table.{listed};
+ghost use Rattle.std.specs.Prelude.{◌≡◌, ◌==◌, ◌≤◌, ◌<◌, ◌+◌, ◌↔◌, ℕ, IfOk, IfSome, MatchOption, All, Some, None, IsTrue, IsNone, length, slice_get, map, position};
+ghost use Rattle.sd_areas.specs.Pages.{is_within};
+ghost use Rattle.sd_image.specs.declared.header.Header.{Header};
+ghost use Rattle.sd_image.specs.declared.run.Run.{Run};
+ghost use Rattle.sd_image.specs.Table.{listed, AreRuns, IsTable};
+ghost use Rattle.sd_chain.specs.declared.way.Way.{Way};
 ghost use Rattle.sd_chain.specs.Placed.{after_run, after_runs, places_of, all_places_of};
+ghost use Rattle.sd_chain.specs.Ways.{HasPage};
 
-use sd_image::{Run, RunKind, Table};
+use crate::way::Way;
+use sd_areas::{PageNo, SpaceId};
+use sd_image::{Run, RunKind, SpaceTable, Table, few_pages, one_kind, one_place};
 use std::alloc::{AllocError, Global};
 use std::marker::Model;
 
@@ -51,6 +58,37 @@ fn places_before(alloc: Global, runs: &[Run], before: u64) -> Result<(Vec<u64>, 
     Ok((row, next))
 }
 
+/// Where the table has a space.
+fn space_index(spaces: &[SpaceTable], space: SpaceId) -> Option<usize>
+    ensures { result ≡ position (λ (s : _). s.space == space) spaces.now }
+{
+    spaces
+        .iter()
+        .position(|s| s.space.number() == space.number())
+}
+
+/// Whether a run has a page.
+fn has_page(run: &Run, page: PageNo) -> bool
+    ensures { result ≡ is_within run.now.first run.now.count page }
+{
+    run.first.number() <= page.number() && page.number() - run.first.number() < run.count
+}
+
+/// Which of a space's runs has a page. The time grows with the logarithm of the runs.
+fn run_index(runs: &[Run], page: PageNo) -> Option<usize>
+    ensures place { IfSome result (λ at. at < length runs.now) }
+    ensures run { IfSome result (λ at. (run : Run) → slice_get runs.now at ≡ Some run → IsTrue (is_within run.first run.count page)) }
+    ensures none { (parent : ℕ) → AreRuns parent None runs.now → IsNone result
+        → All (λ run. IsTrue (is_within run.first run.count page) → ⊥) runs.now }
+{
+    let after = runs.partition_point(|run| run.first.number() <= page.number());
+    if after == 0 {
+        return None;
+    }
+    let at = after - 1;
+    has_page(&runs[at], page).then_some(at)
+}
+
 impl PlacedTable {
     /// Counts the data pages before each run, in one pass over the runs.
     ///
@@ -75,5 +113,31 @@ impl PlacedTable {
         ensures { map listed result.now.spaces.items ≡ self.now }
     {
         &self.table
+    }
+
+    /// How the table has a page of a space, or none where it doesn't list it.
+    /// The time grows with the logarithm of the space's runs.
+    pub(crate) fn way(&self, space: SpaceId, page: PageNo) -> Option<Way>
+        ensures { (h : Header) → IsTable h self.now → (way : Way) → (result ≡ Some way) ↔ HasPage self.now (space, page) way }
+    {
+        few_pages();
+        one_kind();
+        one_place();
+        let index = space_index(&self.table.spaces, space)?;
+        let runs = &self.table.spaces[index].runs;
+        let at = run_index(runs, page)?;
+        let run = runs[at];
+        Some(match run.kind {
+            RunKind::Data => {
+                let rows = self.places.as_slice();
+                let row = rows[index].as_slice();
+                let within = page.number() - run.first.number();
+                Way::Data {
+                    place: row[at].saturating_add(within),
+                }
+            }
+            RunKind::Parent => Way::Parent,
+            RunKind::Zero => Way::Zero,
+        })
     }
 }

@@ -1,6 +1,7 @@
 use super::*;
 use sd_areas::{Area, PageNo, Prot, SpaceId};
 use sd_image::{Header, Kind, Run, RunKind, SpaceTable, Table};
+use std::alloc::{AllocError, Global};
 use std::test::*;
 
 const SPACE: u64 = 1;
@@ -38,35 +39,45 @@ fn pre_dump(serial: u64, checkpoint: u64, parent: u64) -> Header {
     }
 }
 
-/// A table of one space, with runs of these first pages, counts and kinds.
-fn table(rt: &HostRuntime, list: &[(u64, u64, RunKind)]) -> Result<PlacedTable, Fail> {
-    let mut areas = Vec::new(rt.alloc());
-    let mut runs = Vec::new(rt.alloc());
-    for (first, count, kind) in list {
-        let first = page(*first)?;
+/// A table of one space with these runs, and an area at each; of no space where there are none.
+fn table_of(alloc: Global, list: &[Run]) -> Result<PlacedTable, AllocError> {
+    let mut areas = Vec::new(alloc);
+    let mut runs = Vec::new(alloc);
+    for run in list {
         let prot = Prot {
             read: true,
             write: true,
             execute: false,
         };
         areas.push(Area {
-            first,
-            count: *count,
+            first: run.first,
+            count: run.count,
             prot,
         })?;
+        runs.push(*run)?;
+    }
+    let mut spaces = Vec::new(alloc);
+    if !runs.is_empty() {
+        spaces.push(SpaceTable {
+            space: SpaceId::new(SPACE),
+            areas,
+            runs,
+        })?;
+    }
+    PlacedTable::new(alloc, Table { spaces })
+}
+
+/// The same, with runs of these first pages, counts and kinds.
+fn table(rt: &HostRuntime, list: &[(u64, u64, RunKind)]) -> Result<PlacedTable, Fail> {
+    let mut runs = Vec::new(rt.alloc());
+    for (first, count, kind) in list {
         runs.push(Run {
-            first,
+            first: page(*first)?,
             count: *count,
             kind: *kind,
         })?;
     }
-    let mut spaces = Vec::new(rt.alloc());
-    spaces.push(SpaceTable {
-        space: SpaceId::new(SPACE),
-        areas,
-        runs,
-    })?;
-    Ok(PlacedTable::new(rt.alloc(), Table { spaces })?)
+    Ok(table_of(rt.alloc(), &runs)?)
 }
 
 fn add(
@@ -276,5 +287,131 @@ fn images_are_in_order(rt: HostRuntime) -> Result<(), Fail> {
     }
     assert_eq!(rt; serials.as_slice(), [1, 2, 5, 9].as_slice());
     assert_eq!(rt; tip_of(&catalog), Some(1));
+    Ok(())
+}
+
+#[test]
+fn an_image_says_its_ways(rt: HostRuntime) -> Result<(), Fail> {
+    let runs = [
+        (2, 3, RunKind::Data),
+        (5, 2, RunKind::Zero),
+        (8, 1, RunKind::Parent),
+        (9, 2, RunKind::Data),
+    ];
+    let placed = table(&rt, &runs)?;
+    assert_eq!(rt; placed.table().spaces.len(), 1);
+    let image = OpenImage::new(6, dump(4, 4, 3), placed);
+    assert_eq!(rt; image.slot(), 6);
+    assert_eq!(rt; *image.header(), dump(4, 4, 3));
+    assert_eq!(rt; image.table().spaces.len(), 1);
+    let ways = [
+        (1, None),
+        (2, Some(Way::Data { place: 0 })),
+        (4, Some(Way::Data { place: 2 })),
+        (5, Some(Way::Zero)),
+        (7, None),
+        (8, Some(Way::Parent)),
+        (10, Some(Way::Data { place: 4 })),
+        (11, None),
+    ];
+    for (number, way) in ways {
+        assert_eq!(rt; image.way(SpaceId::new(SPACE), page(number)?), way);
+    }
+    assert_eq!(rt; image.way(SpaceId::new(3), page(2)?), None);
+    Ok(())
+}
+
+/// Two images stand for one number and both are in the middle of a chain: the walk goes through the greater serial.
+#[test]
+fn a_chain_goes_through_the_greater_serial(rt: HostRuntime) -> Result<(), Fail> {
+    let mut catalog = two_dumps(&rt)?;
+    let in_parent: &[(u64, u64, RunKind)] = &[(0x10, 1, RunKind::Parent)];
+    add(&rt, &mut catalog, 5, dump(5, 5, 2), in_parent)?;
+    let in_a = Some(Found::Data {
+        slot: 0,
+        offset: 4096,
+    });
+    assert_eq!(rt; resolved(&catalog, 5, 0x10)?, in_a);
+    let zeros: &[(u64, u64, RunKind)] = &[(0x10, 1, RunKind::Zero)];
+    add(&rt, &mut catalog, 4, merged(4, 2, 2), zeros)?;
+    assert_eq!(rt; resolved(&catalog, 5, 0x10)?, Some(Found::Zero));
+    assert_eq!(rt; resolved(&catalog, 2, 0x10)?, in_a);
+    assert_eq!(rt; catalog.reachable(5)?.as_slice(), [5, 4].as_slice());
+    Ok(())
+}
+
+/// Whether a serial is neither there nor held, and the newest image is this.
+fn is_without(catalog: &Catalog, serial: u64, tip: Option<u64>) -> bool {
+    catalog.image(serial).is_none() && !catalog.is_held(serial) && tip_of(catalog) == tip
+}
+
+fn must(holds: bool, what: &'static str) -> Result<(), Fail> {
+    if holds { Ok(()) } else { Err(what.into()) }
+}
+
+/// Holds a place; where memory is refused nothing has changed, and it is held then.
+fn hold_again(catalog: &mut Catalog, serial: u64) -> Result<(), Fail> {
+    let tip = tip_of(catalog);
+    let mut answer = catalog.hold(serial);
+    if answer == Err(CatalogError::OutOfMemory) {
+        must(is_without(catalog, serial, tip), "unchanged by hold")?;
+        answer = catalog.hold(serial);
+    }
+    must(answer == Ok(()) && catalog.is_held(serial), "held")
+}
+
+/// Adds a dump without pages; where memory is refused nothing has changed, and it is added then. At a held serial no
+/// memory is refused.
+fn add_again(catalog: &mut Catalog, alloc: Global, serial: u64) -> Result<(), Fail> {
+    let (held, tip) = (catalog.is_held(serial), tip_of(catalog));
+    let header = dump(serial, serial, serial.saturating_sub(1));
+    let mut answer = catalog.add(serial as usize, header, table_of(alloc, &[])?);
+    if answer == Err(CatalogError::OutOfMemory) {
+        must(
+            !held && is_without(catalog, serial, tip),
+            "unchanged by add",
+        )?;
+        answer = catalog.add(serial as usize, header, table_of(alloc, &[])?);
+    }
+    must(answer == Ok(()) && tip_of(catalog) == Some(serial), "added")
+}
+
+#[test]
+fn refused_memory_changes_nothing(rt: HostRuntime) -> Result<(), Fail> {
+    let mut catalog = Catalog::new(rt.alloc());
+    for serial in 1..13 {
+        if serial % 2 == 1 {
+            hold_again(&mut catalog, serial)?;
+        }
+        add_again(&mut catalog, rt.alloc(), serial)?;
+    }
+    let listed = match catalog.list() {
+        Ok(list) => list.len(),
+        Err(_) => catalog.list()?.len(),
+    };
+    assert_eq!(rt; listed, 12);
+    let reached = match catalog.reachable(12) {
+        Ok(list) => list.len(),
+        Err(_) => catalog.reachable(12)?.len(),
+    };
+    assert_eq!(rt; reached, 12);
+    Ok(())
+}
+
+/// Where memory for the counts is refused, they are made with the next table.
+#[test]
+fn refused_memory_makes_no_table(rt: HostRuntime) -> Result<(), Fail> {
+    let runs = [Run {
+        first: page(0x10)?,
+        count: 1,
+        kind: RunKind::Data,
+    }];
+    let placed = match table_of(rt.alloc(), &runs) {
+        Ok(placed) => placed,
+        Err(_) => table_of(rt.alloc(), &runs)?,
+    };
+    let image = OpenImage::new(0, dump(1, 1, 0), placed);
+    let way = image.way(SpaceId::new(SPACE), page(0x10)?);
+    assert_eq!(rt; way, Some(Way::Data { place: 0 }));
     Ok(())
 }

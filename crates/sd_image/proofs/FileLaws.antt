@@ -12,6 +12,7 @@ use Rattle.sd_image.specs.Header.{header_text, IsHeader}
 use Rattle.sd_image.specs.Table.{Listed, table_text, IsTable}
 use Rattle.sd_image.specs.Image.{Image, IsImage, OpenImages, image_text, is_open}
 use Rattle.sd_image.specs.Reading.{◌>>=◌, header_in, table_in, file_in}
+use Rattle.sd_image.specs.Laws.{FileIsImage}
 use Rattle.sd_image.specs.ReasonLaws.{GoodFileHasNoReason, GoodHeaderHasNoReason, GoodStoreHasNoReason, GoodTableHasNoReason, IsFaultyFor, IsReadAs, OneReason}
 use Rattle.sd_image.proofs.Steps.{IsBytes, IsBytes-take, IsBytes-drop, bind_ok}
 use Rattle.sd_image.proofs.HeaderRules.{header_again, header_length, header_takes}
@@ -113,7 +114,7 @@ first_of_front (x ∷ file) = refl
 image_read : (file : List ℕ) (h : Header) (spaces : List Listed) → slice_index file 0 ≡ 165
     → drop 1 (take 4096 file) ≡ header_text h → IsHeader h (length file)
     → drop (4096 + 4096 * h.pages) file ≡ table_text spaces → IsTable h spaces
-    → (i : Image) × IsImage file i
+    → (i : Image) × IsImage file i × (i.header ≡ h) × (i.spaces ≡ spaces)
 image_read file h spaces gate header is_header table is_table =
     let body : List ℕ = drop 4096 file in
     let long : 4096 ≤ length file = omega (arith, is_header.fills) in
@@ -131,6 +132,8 @@ image_read file h spaces gate header is_header table is_table =
     ∙ ap (λ (xs : List ℕ). 165 ∷ xs) (sym (append_assoc (header_text h) (concat stored.pages) (table_text spaces))) in (
       record { header = h; pages = stored.pages; spaces = spaces },
       record { spelled = spelled; header = is_header; table = is_table; stored = stored.many; whole = stored.whole },
+      refl,
+      refl,
     )
 
 gate_of_open : (file : List ℕ) → is_open file ≡ true → (4096 ≤ length file) × (slice_index file 0 ≡ 165)
@@ -146,7 +149,12 @@ file_takes file x fits opens e =
     let b = bind_ok (table_in a.0 (drop (4096 + 4096 * a.0.pages) file)) (λ spaces. Ok (a.0, spaces)) x a.2 in
     let header = header_takes front (length file) a.0 (length-take-le 4096 file gate.0) (IsBytes-take 4096 file fits) a.1 in
     let table = table_takes a.0 (drop (4096 + 4096 * a.0.pages) file) b.0 (IsBytes-drop (4096 + 4096 * a.0.pages) file fits) b.1 in
-    image_read file a.0 b.0 gate.1 header.0 header.1 table.0 table.1
+    let read = image_read file a.0 b.0 gate.1 header.0 header.1 table.0 table.1 in
+    (read.0, read.1)
+
+pub file_is_image_lem : FileIsImage
+file_is_image_lem file h spaces opens header is_header table is_table =
+    image_read file h spaces (gate_of_open file opens).1 header is_header table is_table
 
 are_bytes : (file : List ℕ) → All (λ byte. byte < 256) file → IsBytes file
 are_bytes file all i =

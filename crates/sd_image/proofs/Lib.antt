@@ -16,6 +16,7 @@ pub mod ReadyLemmas
 pub mod OneImage
 pub mod OneRuns
 pub mod PagePlaces
+pub mod PageBytes
 pub mod OneMemory
 pub mod FirstImage
 pub mod FileLaws

@@ -1,5 +1,5 @@
 -- A page has one place in an image: the pages of each kind rise, and no page has two kinds.
-use Rattle.std.proofs.Common.{◌≡◌, ◌<◌, ◌≤◌, ◌+◌, ◌*◌, ◌^◌, ℕ, zero, suc, Bool, true, false, eqb, cond, List, [], ◌∷◌, ◌++◌, map, Contains, Option, Some, None, refl, sym, ◌∙◌, ap, subst, inl, inr, arith}
+use Rattle.std.proofs.Common.{◌≡◌, ◌<◌, ◌≤◌, ◌+◌, ◌*◌, ◌^◌, ℕ, zero, suc, Bool, true, false, eqb, cond, List, [], ◌∷◌, ◌++◌, map, length, Contains, Option, Some, None, refl, sym, ◌∙◌, ap, subst, inl, inr, arith}
 use Rattle.std.specs.List.{flat_map, slice_get}
 use Rattle.std.proofs.lemmas.Bool.{eqb-true}
 use Rattle.std.proofs.lemmas.List.Elements.{Contains-append_cases}
@@ -35,6 +35,10 @@ rises_append low middle high (x ∷ xs) ys a b = (a.0, rises_append (suc (key x)
 rises_within : (low high : ℕ) (xs : List (ℕ × ℕ)) → Rises low xs high → low ≤ high
 rises_within low high [] h = h
 rises_within low high (x ∷ xs) h = let rest = rises_within (suc (key x)) high xs h.1 in omega (arith, h.0, rest)
+
+rises_length : (low high : ℕ) (xs : List (ℕ × ℕ)) → Rises low xs high → low + length xs ≤ high
+rises_length low high [] h = omega arith
+rises_length low high (x ∷ xs) h = let rest = rises_length (suc (key x)) high xs h.1 in omega (arith, h.0, rest)
 
 -- where an element of them stands
 element_low : (low high : ℕ) (xs : List (ℕ × ℕ)) (x : ℕ × ℕ) → Rises low xs high → Contains xs x → low ≤ key x
@@ -132,6 +136,12 @@ place_once kind h spaces p q x good a b = place_in (key (1, 0)) (key (17, 0)) (p
 
 pub among_data : (spaces : List Listed) (place : ℕ) (x : ℕ × ℕ) → slice_get (pages_of Data spaces) place ≡ Some x → Contains (pages_of Data spaces) x
 among_data spaces place x e = at_place (pages_of Data spaces) place x e
+
+-- there are no more of a kind than there are pages
+pub few_of_kind : (kind : RunKind) (h : Header) (spaces : List Listed) → AreSpaces h 0 spaces → length (pages_of kind spaces) ≤ 2 ^ 39
+few_of_kind kind h spaces good =
+    let room = rises_length (key (1, 0)) (key (17, 0)) (pages_of kind spaces) (spaces_rise kind h 0 spaces (omega arith) good) in
+    omega (arith, room)
 
 -- ---- a page has one kind
 

@@ -1,16 +1,18 @@
 -- What the layers above use of images and of what contents show, each a law that a function with an empty body carries.
-use Rattle.std.specs.Prelude.{◌≡◌, ℕ, ◌+◌, ◌<◌, ◌≤◌, ◌^◌, true, false, if◌then◌else◌, List, [], ◌∷◌, length, All, Contains, slice_index_or, slice_set, Option, Some, None}
+use Rattle.std.specs.Prelude.{◌≡◌, ℕ, ◌+◌, ◌*◌, ◌<◌, ◌≤◌, ◌^◌, true, false, if◌then◌else◌, List, [], ◌∷◌, length, drop, take, All, Contains, slice_get, slice_index_or, slice_range, slice_set, Option, Some, None}
 use Rattle.std.specs.FinMap as finmap
 use Rattle.sd_areas.specs.declared.prot.Prot.{Prot}
 use Rattle.sd_areas.specs.Pages.{is_within}
 use Rattle.sd_areas.specs.PlainMemory.{PlainMemory}
+use Rattle.sd_image.specs.declared.header.Header.{Header}
 use Rattle.sd_image.specs.declared.header.Kind.TheVariants.{Dump}
 use Rattle.sd_image.specs.declared.run.Run.{Run}
 use Rattle.sd_image.specs.declared.run.RunKind.{RunKind}
 use Rattle.sd_image.specs.declared.run.RunKind.TheVariants.{Data}
-use Rattle.sd_image.specs.Table.{AreRuns}
+use Rattle.sd_image.specs.Header.{IsHeader, header_text}
+use Rattle.sd_image.specs.Table.{AreRuns, IsTable, Listed, table_text}
 use Rattle.sd_image.specs.Image.{Image, IsImage, OpenImages, gate, image_text, is_open}
-use Rattle.sd_image.specs.Shows.{Holds, IsMemory, IsNamed, IsRestorable, IsStore, IsTip, Shows}
+use Rattle.sd_image.specs.Shows.{Holds, IsMemory, IsNamed, IsRestorable, IsStore, IsTip, Shows, pages_of}
 
 -- A file has at most one image.
 abbrev pub OneImage : Type 0
@@ -52,6 +54,33 @@ HeldOnce = (contents : List (List ℕ)) (images : List Image) (space page : ℕ)
 -- Contents show at most one thing.
 abbrev pub ShownOnce : Type 0
 ShownOnce = (contents : List (List ℕ)) (one other : Option (ℕ × PlainMemory)) → Shows contents one → Shows contents other → one ≡ other
+
+-- In a table a page has at most one place among the pages that the image has in one way.
+abbrev pub OnePlace : Type 0
+OnePlace = (h : Header) (spaces : List Listed) (kind : RunKind) (page : ℕ × ℕ) (place other : ℕ) → IsTable h spaces
+    → slice_get (pages_of kind spaces) place ≡ Some page → slice_get (pages_of kind spaces) other ≡ Some page → place ≡ other
+
+-- A table has a page in at most one way.
+abbrev pub OneKind : Type 0
+OneKind = (h : Header) (spaces : List Listed) (kind other : RunKind) (page : ℕ × ℕ) → IsTable h spaces
+    → Contains (pages_of kind spaces) page → Contains (pages_of other spaces) page → kind ≡ other
+
+-- A table has no more pages in one way than 16 spaces of 2^35 pages have.
+abbrev pub FewPages : Type 0
+FewPages = (h : Header) (spaces : List Listed) (kind : RunKind) → IsTable h spaces → length (pages_of kind spaces) ≤ 2 ^ 39
+
+-- An open file whose header and table are image text is an image with them.
+abbrev pub FileIsImage : Type 0
+FileIsImage = (file : List ℕ) (h : Header) (spaces : List Listed) → is_open file ≡ true
+    → drop 1 (take 4096 file) ≡ header_text h → IsHeader h (length file)
+    → drop (4096 + 4096 * h.pages) file ≡ table_text spaces → IsTable h spaces
+    → (i : Image) × IsImage file i × (i.header ≡ h) × (i.spaces ≡ spaces)
+
+-- A data page stands in its image's file behind the header and the data pages before it.
+abbrev pub PageInFile : Type 0
+PageInFile = (file : List ℕ) (i : Image) (page : ℕ × ℕ) (place : ℕ) → IsImage file i → slice_get (pages_of Data i.spaces) place ≡ Some page
+    → (4096 + 4096 * place + 4096 ≤ length file)
+    × (slice_get i.pages place ≡ Some (slice_range file (4096 + 4096 * place) (4096 + 4096 * place + 4096)))
 
 -- a dump of one page, the first image of its store
 abbrev pub first_image : ℕ → ℕ → ℕ → Prot → List ℕ → Image

@@ -1,5 +1,5 @@
 //! Laws about images and contents that the layers above use.
-ghost use Rattle.sd_image.specs.Laws.{FirstImageIsShown, HeldOnce, NamedOnce, NewestIsShown, OneImage, OneListOfRuns, OneSpelling, OneStore, ReadyAbove, ReadyAgain, ReadyStill, ShownOnce, TipOnce};
+ghost use Rattle.sd_image.specs.Laws.{FewPages, FileIsImage, FirstImageIsShown, HeldOnce, NamedOnce, NewestIsShown, OneImage, OneKind, OneListOfRuns, OnePlace, OneSpelling, OneStore, PageInFile, ReadyAbove, ReadyAgain, ReadyStill, ShownOnce, TipOnce};
 
 /// A whole image, written into a closed slot with numbers above all others, is what contents then show.
 pub fn newest_is_shown()
@@ -34,6 +34,31 @@ pub fn one_spelling()
 /// There is one list of runs that has each page in its way.
 pub fn one_list_of_runs()
     ensures { OneListOfRuns }
+{}
+
+/// In a table a page has at most one place among the pages that the image has in one way.
+pub fn one_place()
+    ensures { OnePlace }
+{}
+
+/// A table has a page in at most one way.
+pub fn one_kind()
+    ensures { OneKind }
+{}
+
+/// A table has no more pages in one way than all its spaces have.
+pub fn few_pages()
+    ensures { FewPages }
+{}
+
+/// An open file whose header and table are image text is an image with them.
+pub fn file_is_image()
+    ensures { FileIsImage }
+{}
+
+/// A data page stands in its image's file behind the header and the data pages before it.
+pub fn page_in_file()
+    ensures { PageInFile }
 {}
 
 /// Contents have at most one list of open images.

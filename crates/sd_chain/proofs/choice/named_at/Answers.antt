@@ -1,5 +1,5 @@
-use Rattle.std.proofs.Common.{sym, subst, List, Option, None, Some, ◌++◌, ◌∷◌, []}
-use Rattle.sd_chain.specs.Catalog.{Opened, images, IsNewestChoice, IsNamedChoice}
+use Rattle.std.proofs.Common.{sym, subst, List, Option, ◌++◌, ◌∷◌, []}
+use Rattle.sd_chain.specs.Catalog.{Opened, images, IsNamedChoice}
 use Rattle.sd_chain.proofs.ChoiceLemmas.{images_more, images_held}
 use Rattle.sd_chain.proofs.choice.named_at.Goals as goal
 

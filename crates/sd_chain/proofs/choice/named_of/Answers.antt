@@ -1,7 +1,7 @@
-use Rattle.std.proofs.Common.{sym, subst, map, List, Option}
+use Rattle.std.proofs.Common.{sym, subst, map}
 use Rattle.std.proofs.lemmas.List.{map-append}
 use Rattle.std.specs.Map.Iter.{deref_pair}
-use Rattle.sd_chain.specs.Catalog.{Opened, Places, images, IsNewestChoice, IsNamedChoice}
+use Rattle.sd_chain.specs.Catalog.{Places, images, IsNamedChoice}
 use Rattle.sd_chain.proofs.choice.named_of.Goals as goal
 
 pub loop-place-preserved : goal.loop-place-preserved

@@ -1,7 +1,7 @@
-use Rattle.std.proofs.Common.{◌≡◌, ◌∙◌, ◌++◌, ◌∷◌, [], refl, sym, subst, ap, arith}
+use Rattle.std.proofs.Common.{◌∙◌, ◌++◌, ◌∷◌, [], sym, subst, ap, arith}
 use Rattle.sd_image.specs.declared.header.Header.{Header}
 use Rattle.sd_chain.specs.Catalog.{IsNamedChoice}
-use Rattle.sd_chain.proofs.ChoiceLemmas.{named_choice_kept, named_first, named_next, named_kept}
+use Rattle.sd_chain.proofs.ChoiceLemmas.{named_choice_kept, named_next, named_kept}
 use Rattle.sd_chain.proofs.choice.named_with.Goals as goal
 
 pub returns-then-header-number : goal.returns-then-header-number

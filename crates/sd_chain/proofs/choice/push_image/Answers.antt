@@ -1,4 +1,4 @@
-use Rattle.std.proofs.Common.{◌≡◌, ◌∙◌, sym, ap, map, List, Option, None, Some, Bor, ◌++◌, ◌∷◌, []}
+use Rattle.std.proofs.Common.{◌∙◌, sym, ap, map, Option, Bor, ◌++◌, ◌∷◌, []}
 use Rattle.std.proofs.lemmas.List.{map-append}
 use Rattle.sd_chain.specs.Catalog.{Opened, images}
 use Rattle.sd_chain.proofs.ChoiceLemmas.{images_more, images_held}

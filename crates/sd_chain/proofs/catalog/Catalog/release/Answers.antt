@@ -1,7 +1,6 @@
-use Rattle.std.proofs.Common.{rules, sym, subst, ◌≡◌, ◌∙◌, ap, filter, List, not, nat_eq, None, true, false}
-use Rattle.std.proofs.lemmas.Bool.{false≢true}
+use Rattle.std.proofs.Common.{rules, sym, subst, filter, not, nat_eq, None}
 use Rattle.indexmap.proofs.CallerLemmas.{filter-RetainsPairs}
-use Rattle.sd_chain.specs.Catalog.{Places, AreInOrder, place_of, Changes, IsHeld}
+use Rattle.sd_chain.specs.Catalog.{Places, AreInOrder, Changes}
 use Rattle.sd_chain.proofs.Places.{order_without_key, without_key}
 use Rattle.sd_chain.proofs.catalog.Catalog.release.Goals as goal
 

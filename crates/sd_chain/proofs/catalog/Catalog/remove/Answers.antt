@@ -1,4 +1,4 @@
-use Rattle.std.proofs.Common.{rules, sym, subst, ◌≡◌, ◌∙◌, ap, filter, List}
+use Rattle.std.proofs.Common.{rules, sym, subst, ◌≡◌, ◌∙◌, ap}
 use Rattle.indexmap.proofs.CallerLemmas.{filter-RetainsPairs}
 use Rattle.sd_chain.specs.Catalog.{Places, AreInOrder, place_of, is_elsewhere, without_slot}
 use Rattle.sd_chain.proofs.Places.{order_without_slot, removed}

@@ -1,5 +1,4 @@
-use Rattle.std.proofs.Common.{◌≡◌, ◌++◌, drop, map, List, ℕ}
-use Rattle.std.specs.declared.vec.Vec.{Vec}
+use Rattle.std.proofs.Common.{◌≡◌, ◌++◌, drop, map}
 use Rattle.sd_chain.specs.Placed.{all_places_of}
 use Rattle.sd_chain.proofs.placed.PlacedTable.new.Given as goal
 

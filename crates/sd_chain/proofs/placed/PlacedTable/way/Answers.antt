@@ -1,0 +1,131 @@
+use Rattle.std.proofs.Common.{ℕ, List, Vec, Global, length, get_or, min, ◌+◌, ◌-◌, ◌^◌, Some, None, refl, sym, subst, ap, ◌≡◌, ◌==◌, ◌<◌, ◌∙◌, arith}
+use Rattle.std.specs.List.{position, slice_get}
+use Rattle.std.proofs.lemmas.Option.{slice_get-get_or}
+use Rattle.sd_image.specs.declared.run.Run.{Run}
+use Rattle.sd_image.specs.declared.run.RunKind.TheVariants.{Parent, Zero}
+use Rattle.sd_image.specs.declared.table.SpaceTable.{SpaceTable}
+use Rattle.sd_image.specs.Table.{Listed, IsTable}
+use Rattle.sd_chain.specs.declared.way.Way.TheVariants as way
+use Rattle.sd_chain.specs.Ways.{HasPage}
+use Rattle.sd_chain.proofs.Runs.{HasNone, HasWithin, within_low}
+use Rattle.sd_chain.proofs.Ways.{IsExact, exact_some, has_by_run, has_data, no_run, no_space, place_there, row_is, row_there, run_at, space_at}
+use Rattle.sd_chain.proofs.placed.PlacedTable.way.Goals as goal
+
+pub returns-in_err-index : goal.returns-in_err-index
+returns-in_err-index c = λ h table.
+    let items : List SpaceTable = c.self.inside.table.spaces.items in
+    let spaces_are : c.deref.result.now ≡ items = c.deref.ensures.value in
+    let none : position (λ (s : SpaceTable). s.space == c.args.space) items ≡ None =
+    ap (position (λ (s : SpaceTable). s.space == c.args.space)) (sym spaces_are) ∙ sym c.space_index.ensures ∙ c.in_err-index.was in
+    subst (λ (spaces : List Listed). IsExact spaces (c.args.space, c.args.page) c.from_residual.result) c.self.view_is
+    (no_space items c.args.space c.args.page c.from_residual.result c.from_residual.ensures none)
+
+pub returns-in_err-at : goal.returns-in_err-at
+returns-in_err-at c = λ h table.
+    let items : List SpaceTable = c.self.inside.table.spaces.items in
+    let spaces_are : c.deref.result.now ≡ items = c.deref.ensures.value in
+    let there : position (λ (s : SpaceTable). s.space == c.args.space) items ≡ Some c.in_ok-index.index =
+    ap (position (λ (s : SpaceTable). s.space == c.args.space)) (sym spaces_are) ∙ sym c.space_index.ensures ∙ c.in_ok-index.was in
+    let runs_are : c.deref-2.result.now ≡ c.index.result.now.runs.items = c.deref-2.ensures.value in
+    let none : HasNone c.index.result.now.runs.items c.args.page = subst (λ (runs : List Run). HasNone runs c.args.page) runs_are (λ parent good. c.in_err-at.ensures.none parent good refl) in
+    let found = space_at items c.in_ok-index.index c.args.space c.index.result.now there c.index.ensures in
+    subst (λ (spaces : List Listed). IsExact spaces (c.args.space, c.args.page) c.from_residual-in_err-at.result) c.self.view_is
+    (no_run h items c.in_ok-index.index c.index.result.now c.args.space c.args.page c.from_residual-in_err-at.result c.from_residual-in_err-at.ensures
+    (subst (IsTable h) (sym c.self.view_is) table) found.0 found.1 none)
+
+pub overflow_sub-within : goal.overflow_sub-within
+overflow_sub-within c =
+    let items : List SpaceTable = c.self.inside.table.spaces.items in
+    let spaces_are : c.deref.result.now ≡ items = c.deref.ensures.value in
+    let there : position (λ (s : SpaceTable). s.space == c.args.space) items ≡ Some c.in_ok-index.index =
+    ap (position (λ (s : SpaceTable). s.space == c.args.space)) (sym spaces_are) ∙ sym c.space_index.ensures ∙ c.in_ok-index.was in
+    let runs_are : c.deref-2.result.now ≡ c.index.result.now.runs.items = c.deref-2.ensures.value in
+    let low : c.in_ok-at.at < length c.index.result.now.runs.items = subst (λ (runs : List Run). c.in_ok-at.at < length runs) runs_are c.in_ok-at.ensures.place in
+    let within : HasWithin c.index.result.now.runs.items c.in_ok-at.at c.args.page = subst (λ (runs : List Run). HasWithin runs c.in_ok-at.at c.args.page) runs_are c.in_ok-at.ensures.run in
+    let found = run_at items c.in_ok-index.index c.in_ok-at.at c.index.result.now c.index-run.result.now c.args.space c.args.page there c.index.ensures low within c.index-run.ensures in
+    omega (arith, within_low c.index-run.result.now c.args.page found.within, c.number.ensures.value, c.number-in-Data.ensures.value)
+
+pub bounds-rows-index : goal.bounds-rows-index
+bounds-rows-index c =
+    let items : List SpaceTable = c.self.inside.table.spaces.items in
+    let spaces_are : c.deref.result.now ≡ items = c.deref.ensures.value in
+    let there : position (λ (s : SpaceTable). s.space == c.args.space) items ≡ Some c.in_ok-index.index =
+    ap (position (λ (s : SpaceTable). s.space == c.args.space)) (sym spaces_are) ∙ sym c.space_index.ensures ∙ c.in_ok-index.was in
+    let rows_are : c.as_slice-rows.result.now ≡ c.self.inside.places.items = c.as_slice-rows.ensures.value in
+    let found = space_at items c.in_ok-index.index c.args.space c.index.result.now there c.index.ensures in
+    subst (λ (rows : List (Vec ℕ Global)). c.in_ok-index.index < length rows) (sym rows_are)
+    (row_there (λ (row : Vec ℕ Global). row.items) c.self.inside.places.items items c.in_ok-index.index c.index.result.now c.self.invariant found.0)
+
+pub bounds-row-at : goal.bounds-row-at
+bounds-row-at c =
+    let items : List SpaceTable = c.self.inside.table.spaces.items in
+    let spaces_are : c.deref.result.now ≡ items = c.deref.ensures.value in
+    let there : position (λ (s : SpaceTable). s.space == c.args.space) items ≡ Some c.in_ok-index.index =
+    ap (position (λ (s : SpaceTable). s.space == c.args.space)) (sym spaces_are) ∙ sym c.space_index.ensures ∙ c.in_ok-index.was in
+    let runs_are : c.deref-2.result.now ≡ c.index.result.now.runs.items = c.deref-2.ensures.value in
+    let low : c.in_ok-at.at < length c.index.result.now.runs.items = subst (λ (runs : List Run). c.in_ok-at.at < length runs) runs_are c.in_ok-at.ensures.place in
+    let within : HasWithin c.index.result.now.runs.items c.in_ok-at.at c.args.page = subst (λ (runs : List Run). HasWithin runs c.in_ok-at.at c.args.page) runs_are c.in_ok-at.ensures.run in
+    let found = run_at items c.in_ok-index.index c.in_ok-at.at c.index.result.now c.index-run.result.now c.args.space c.args.page there c.index.ensures low within c.index-run.ensures in
+    let rows_are : c.as_slice-rows.result.now ≡ c.self.inside.places.items = c.as_slice-rows.ensures.value in
+    let rows = row_there (λ (row : Vec ℕ Global). row.items) c.self.inside.places.items items c.in_ok-index.index c.index.result.now c.self.invariant found.there in
+    let row_got : c.index-rows-index.result ≡ get_or c.self.inside.places.items c.in_ok-index.index c.index-rows-index.result =
+    subst (λ (rows : List (Vec ℕ Global)). c.index-rows-index.result ≡ get_or rows c.in_ok-index.index c.index-rows-index.result) rows_are c.index-rows-index.is in
+    let row = row_is (λ (row : Vec ℕ Global). row.items) c.self.inside.places.items items c.in_ok-index.index c.index-rows-index.result c.self.invariant rows row_got in
+    let low = place_there items c.in_ok-index.index c.in_ok-at.at c.index.result.now c.index-run.result.now c.index-rows-index.result.items c.args.space c.args.page found row in
+    let row_are : c.as_slice-row.result.now ≡ c.index-rows-index.result.items = c.as_slice-row.ensures.value in
+    subst (λ (row : List ℕ). c.in_ok-at.at < length row) (sym row_are) low
+
+pub returns-in-Data : goal.returns-in-Data
+returns-in-Data c = λ h table.
+    let items : List SpaceTable = c.self.inside.table.spaces.items in
+    let spaces_are : c.deref.result.now ≡ items = c.deref.ensures.value in
+    let there : position (λ (s : SpaceTable). s.space == c.args.space) items ≡ Some c.in_ok-index.index =
+    ap (position (λ (s : SpaceTable). s.space == c.args.space)) (sym spaces_are) ∙ sym c.space_index.ensures ∙ c.in_ok-index.was in
+    let runs_are : c.deref-2.result.now ≡ c.index.result.now.runs.items = c.deref-2.ensures.value in
+    let low : c.in_ok-at.at < length c.index.result.now.runs.items = subst (λ (runs : List Run). c.in_ok-at.at < length runs) runs_are c.in_ok-at.ensures.place in
+    let within : HasWithin c.index.result.now.runs.items c.in_ok-at.at c.args.page = subst (λ (runs : List Run). HasWithin runs c.in_ok-at.at c.args.page) runs_are c.in_ok-at.ensures.run in
+    let found = run_at items c.in_ok-index.index c.in_ok-at.at c.index.result.now c.index-run.result.now c.args.space c.args.page there c.index.ensures low within c.index-run.ensures in
+    let rows_are : c.as_slice-rows.result.now ≡ c.self.inside.places.items = c.as_slice-rows.ensures.value in
+    let rows = row_there (λ (row : Vec ℕ Global). row.items) c.self.inside.places.items items c.in_ok-index.index c.index.result.now c.self.invariant found.there in
+    let row_got : c.index-rows-index.result ≡ get_or c.self.inside.places.items c.in_ok-index.index c.index-rows-index.result =
+    subst (λ (rows : List (Vec ℕ Global)). c.index-rows-index.result ≡ get_or rows c.in_ok-index.index c.index-rows-index.result) rows_are c.index-rows-index.is in
+    let row = row_is (λ (row : Vec ℕ Global). row.items) c.self.inside.places.items items c.in_ok-index.index c.index-rows-index.result c.self.invariant rows row_got in
+    let low = place_there items c.in_ok-index.index c.in_ok-at.at c.index.result.now c.index-run.result.now c.index-rows-index.result.items c.args.space c.args.page found row in
+    let row_are : c.as_slice-row.result.now ≡ c.index-rows-index.result.items = c.as_slice-row.ensures.value in
+    let before = get_or c.as_slice-row.result.now c.in_ok-at.at 0 in
+    let counted : slice_get c.index-rows-index.result.items c.in_ok-at.at ≡ Some before =
+    subst (λ (row : List ℕ). slice_get row c.in_ok-at.at ≡ Some before) row_are (slice_get-get_or c.as_slice-row.result.now c.in_ok-at.at 0 (subst (λ (row : List ℕ). c.in_ok-at.at < length row) (sym row_are) low)) in
+    let sum : c.saturating_add.result ≡ min (before + (c.args.page - c.index-run.result.now.first)) (2 ^ 64 - 1) =
+    c.saturating_add.ensures ∙ ap (λ k. min (before + k) (2 ^ 64 - 1)) (omega (arith, c.number.ensures.value, c.number-in-Data.ensures.value)) in
+    let has = has_data c.few_pages.ensures h items c.in_ok-index.index c.in_ok-at.at c.index.result.now c.index-run.result.now c.index-rows-index.result.items before c.args.space c.args.page c.saturating_add.result
+    (subst (IsTable h) (sym c.self.view_is) table) found c.in-Data.is row counted sum in
+    exact_some c.one_kind.ensures c.one_place.ensures h c.args.self.now (c.args.space, c.args.page) (way.Data c.saturating_add.result) table
+    (subst (λ (spaces : List Listed). HasPage spaces (c.args.space, c.args.page) (way.Data c.saturating_add.result)) c.self.view_is has)
+
+pub returns-in-Parent : goal.returns-in-Parent
+returns-in-Parent c = λ h table.
+    let items : List SpaceTable = c.self.inside.table.spaces.items in
+    let spaces_are : c.deref.result.now ≡ items = c.deref.ensures.value in
+    let there : position (λ (s : SpaceTable). s.space == c.args.space) items ≡ Some c.in_ok-index.index =
+    ap (position (λ (s : SpaceTable). s.space == c.args.space)) (sym spaces_are) ∙ sym c.space_index.ensures ∙ c.in_ok-index.was in
+    let runs_are : c.deref-2.result.now ≡ c.index.result.now.runs.items = c.deref-2.ensures.value in
+    let low : c.in_ok-at.at < length c.index.result.now.runs.items = subst (λ (runs : List Run). c.in_ok-at.at < length runs) runs_are c.in_ok-at.ensures.place in
+    let within : HasWithin c.index.result.now.runs.items c.in_ok-at.at c.args.page = subst (λ (runs : List Run). HasWithin runs c.in_ok-at.at c.args.page) runs_are c.in_ok-at.ensures.run in
+    let found = run_at items c.in_ok-index.index c.in_ok-at.at c.index.result.now c.index-run.result.now c.args.space c.args.page there c.index.ensures low within c.index-run.ensures in
+    exact_some c.one_kind.ensures c.one_place.ensures h c.args.self.now (c.args.space, c.args.page) way.Parent table
+    (subst (λ (spaces : List Listed). HasPage spaces (c.args.space, c.args.page) way.Parent) c.self.view_is
+    (has_by_run Parent items c.in_ok-index.index c.in_ok-at.at c.index.result.now c.index-run.result.now c.args.space c.args.page found c.in-Parent.is))
+
+pub returns-in-Zero : goal.returns-in-Zero
+returns-in-Zero c = λ h table.
+    let items : List SpaceTable = c.self.inside.table.spaces.items in
+    let spaces_are : c.deref.result.now ≡ items = c.deref.ensures.value in
+    let there : position (λ (s : SpaceTable). s.space == c.args.space) items ≡ Some c.in_ok-index.index =
+    ap (position (λ (s : SpaceTable). s.space == c.args.space)) (sym spaces_are) ∙ sym c.space_index.ensures ∙ c.in_ok-index.was in
+    let runs_are : c.deref-2.result.now ≡ c.index.result.now.runs.items = c.deref-2.ensures.value in
+    let low : c.in_ok-at.at < length c.index.result.now.runs.items = subst (λ (runs : List Run). c.in_ok-at.at < length runs) runs_are c.in_ok-at.ensures.place in
+    let within : HasWithin c.index.result.now.runs.items c.in_ok-at.at c.args.page = subst (λ (runs : List Run). HasWithin runs c.in_ok-at.at c.args.page) runs_are c.in_ok-at.ensures.run in
+    let found = run_at items c.in_ok-index.index c.in_ok-at.at c.index.result.now c.index-run.result.now c.args.space c.args.page there c.index.ensures low within c.index-run.ensures in
+    exact_some c.one_kind.ensures c.one_place.ensures h c.args.self.now (c.args.space, c.args.page) way.Zero table
+    (subst (λ (spaces : List Listed). HasPage spaces (c.args.space, c.args.page) way.Zero) c.self.view_is
+    (has_by_run Zero items c.in_ok-index.index c.in_ok-at.at c.index.result.now c.index-run.result.now c.args.space c.args.page found c.in-Zero.is))

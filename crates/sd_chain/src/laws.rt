@@ -1,0 +1,18 @@
+//! Laws about the catalog of a store's slots that the layers above use.
+ghost use Rattle.sd_chain.specs.Laws.{ClosedSlotAddsNothing, EmptyCatalog, OpenSlotAddsItsImage};
+
+/// The catalog of no slots has no images.
+pub fn empty_catalog()
+    ensures { EmptyCatalog }
+{}
+
+/// A closed slot behind the others leaves the catalog as it is.
+pub fn closed_slot()
+    ensures { ClosedSlotAddsNothing }
+{}
+
+/// An open slot behind the others, with a serial that no other has, adds its image: so slots are taken in by
+/// [`crate::Catalog::add`], one after the other.
+pub fn open_slot()
+    ensures { OpenSlotAddsItsImage }
+{}
