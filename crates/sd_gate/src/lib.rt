@@ -1,0 +1,25 @@
+//! The device calls of the workers, one by one, and the gate that makes an image whole or closed after any crash.
+#![tactic(auto)]
+
+mod answer;
+mod call;
+mod device_call;
+mod note;
+mod order;
+mod outcome;
+mod phase;
+mod request;
+mod settled;
+mod slot_state;
+mod worker;
+
+pub use answer::Answer;
+pub use call::Call;
+pub use device_call::perform;
+pub use note::Note;
+pub use outcome::Outcome;
+pub use phase::Phase;
+pub use request::Request;
+pub use settled::Settled;
+pub use slot_state::SlotState;
+pub use worker::Worker;
