@@ -1,1 +1,3 @@
+mod CallLemmas
 mod FitLemmas
+mod PhaseLemmas
