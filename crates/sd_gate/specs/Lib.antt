@@ -1,4 +1,5 @@
 pub mod Calls
 pub mod Fits
 pub mod Phases
+pub mod Plans
 pub mod Requests

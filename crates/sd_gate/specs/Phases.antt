@@ -2,7 +2,7 @@
 use Rattle.std.specs.Prelude.{◌≡◌, ℕ, ◌-◌, Bool, true, false, if◌then◌else◌, List, []}
 use Rattle.sd_disk.specs.Contents.{written}
 use Rattle.sd_gate.specs.declared.call.Call.{Call}
-use Rattle.sd_gate.specs.declared.call.Call.TheVariants.{Len, Read, Write, Close, Open, Cut, Sync}
+use Rattle.sd_gate.specs.declared.call.Call.TheVariants.{Len, Read, Write, WriteHeader, Close, Open, Cut, Sync}
 use Rattle.sd_gate.specs.declared.phase.Phase.{Phase}
 use Rattle.sd_gate.specs.declared.phase.Phase.TheVariants.{Raw, RawClosing, Whole, Closing, Shut, ShutSynced, Bare, Writing, Ready, Opening, Doubt, DoubtSynced}
 
@@ -56,6 +56,7 @@ abbrev pub is_ready : Phase → Call → Bool
 is_ready phase Len = true
 is_ready phase (Read at) = true
 is_ready phase (Write at) = may_write phase
+is_ready phase WriteHeader = may_write phase
 is_ready phase Close = may_close phase
 is_ready phase Open = may_open phase
 is_ready phase Cut = may_write phase
@@ -126,6 +127,7 @@ abbrev pub after : Phase → Call → Bool → Phase
 after phase Len done = phase
 after phase (Read at) done = phase
 after phase (Write at) done = if done then filled phase else Shut
+after phase WriteHeader done = if done then filled phase else Shut
 after phase Close done = if done then closing phase else given_up (closing phase)
 after phase Open done = if done then Opening else Doubt
 after phase Cut done = if done then Bare else Shut
@@ -136,6 +138,7 @@ abbrev pub body_after : List ℕ → Call → List ℕ → List ℕ
 body_after body Len bytes = body
 body_after body (Read at) bytes = body
 body_after body (Write at) bytes = written body (at - 1) bytes
+body_after body WriteHeader bytes = written body 0 bytes
 body_after body Close bytes = body
 body_after body Open bytes = body
 body_after body Cut bytes = []

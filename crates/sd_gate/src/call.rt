@@ -7,6 +7,8 @@ pub enum Call {
     Read { at: usize },
     /// Writes the bytes at byte `at`, behind the gate.
     Write { at: usize },
+    /// Writes a header, the bytes from 1 to 4,095 of the file.
+    WriteHeader,
     /// Writes one byte 0 over the gate.
     Close,
     /// Writes the byte 0xA5 over the gate.

@@ -2,7 +2,7 @@
 ghost use Rattle.std.specs.Prelude.{◌≡◌, ◌≢◌, ◌<◌, ℕ, true, List, length, MatchResult};
 ghost use Rattle.sd_disk.specs.Contents.{file_at};
 ghost use Rattle.sd_disk.specs.Crash.{Follows, OnlyAt, Elapses};
-ghost use Rattle.sd_gate.specs.Calls.{call_of, bytes_of, is_done, contents_after, Makes, IsInside, IsBehindGate, IsAnswerTo, AreKept, Tells, HasCause};
+ghost use Rattle.sd_gate.specs.Calls.{call_of, bytes_of, is_done, contents_after, Makes, IsInside, IsSound, IsAnswerTo, AreKept, Tells, HasCause};
 ghost use Rattle.sd_gate.specs.Phases.{is_ready, after, body_after};
 ghost use Rattle.sd_gate.specs.Fits.{SlotFits};
 ghost use Rattle.sd_gate.specs.declared.call.Call.TheVariants.{Sync};
@@ -41,7 +41,7 @@ fn length_of(ended: Result<usize, DeviceError>) -> Answer
 /// Makes the call of an order, and no other.
 fn make<D: Disk>(disk: &mut D, slot: usize, order: Order) -> (Order, Answer)
     requires slot { slot < length (D.contents disk.old) }
-    requires behind { IsBehindGate (call_of order) (bytes_of order) }
+    requires sound { IsSound order }
     requires inside { D.is_honest disk.old → IsInside (call_of order) (bytes_of order) (file_at (D.contents disk.old) slot) }
     ensures call { call_of result.0 ≡ call_of order }
     ensures bytes { AreKept (call_of order) (bytes_of order) (bytes_of result.0) }

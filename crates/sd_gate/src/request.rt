@@ -1,6 +1,6 @@
 //! One device call that is asked for.
 ghost use Rattle.std.specs.Prelude.{◌≡◌};
-ghost use Rattle.sd_gate.specs.Calls.{call_of, bytes_of, IsBehindGate};
+ghost use Rattle.sd_gate.specs.Calls.{call_of};
 
 use crate::call::Call;
 use crate::note::Note;
@@ -20,7 +20,7 @@ pub struct Request {
 
 impl Model for Request {
     ghost use Rattle.sd_gate.specs.Requests.{Asked};
-    ghost use Rattle.sd_gate.specs.Calls.{call_of, bytes_of, IsBehindGate};
+    ghost use Rattle.sd_gate.specs.Calls.{call_of, bytes_of, IsSound};
 
     ghost Value = { Asked };
 
@@ -29,7 +29,7 @@ impl Model for Request {
       bytes = bytes_of r.order;
     } };
 
-    ghost invariant = { λ r. IsBehindGate (call_of r.order) (bytes_of r.order) };
+    ghost invariant = { λ r. IsSound r.order };
 }
 
 /// The call that an order is for.
@@ -40,7 +40,7 @@ pub(crate) fn call_of(order: &Order) -> Call
         Order::Len => Call::Len,
         Order::Read { at, .. } => Call::Read { at: *at },
         Order::Write { at, .. } => Call::Write { at: *at },
-        Order::WriteHeader { .. } => Call::Write { at: 1 },
+        Order::WriteHeader { .. } => Call::WriteHeader,
         Order::Close => Call::Close,
         Order::Open => Call::Open,
         Order::Cut => Call::Cut,

@@ -1,7 +1,7 @@
 use Rattle.std.proofs.Common.{◌≡◌, subst}
 use Rattle.sd_gate.specs.Calls.{is_done}
 use Rattle.sd_gate.specs.Requests.{Asked}
-use Rattle.sd_gate.proofs.CallLemmas.{IsMade, follows}
+use Rattle.sd_gate.proofs.CallLemmas.{IsMade, behind_gate, follows}
 use Rattle.sd_gate.proofs.device_call.perform.Goals as goal
 
 pub returns-clause-fits : goal.returns-clause-fits
@@ -16,7 +16,7 @@ returns-clause-fits g c = λ phase body ready fits.
     (subst (λ (r : Asked). IsMade r.note.slot r.note.call r.bytes done old new before now) c.request.view_is
     (record {
       there = rw (← c.request.view_is) at c.requires.slot;
-      behind = c.request.invariant;
+      behind = behind_gate c.request.inside.order c.request.invariant;
       now_read = g.met.D.Disk.as_read c.args.disk.now;
       whole = made.done;
       torn = made.torn;
