@@ -4,14 +4,15 @@
 mod answer;
 mod call;
 mod device_call;
+mod inspection;
 mod note;
 mod order;
 mod outcome;
 mod phase;
-mod plan;
 mod request;
 mod settled;
 mod slot_state;
+mod stage;
 mod steps;
 mod worker;
 
@@ -21,7 +22,6 @@ pub use device_call::perform;
 pub use note::Note;
 pub use outcome::Outcome;
 pub use phase::Phase;
-pub use plan::Plan;
 pub use request::Request;
 pub use settled::Settled;
 pub use slot_state::SlotState;

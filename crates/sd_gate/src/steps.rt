@@ -1,11 +1,12 @@
-ghost use Rattle.std.specs.Prelude.{◌≡◌, ◌↔◌, IsTrue, [], ◌∷◌, MatchOption};
+//! Plans whose calls are known from the start.
+ghost use Rattle.std.specs.Prelude.{◌≡◌, [], ◌∷◌, MatchOption};
 ghost use Rattle.sd_gate.specs.Calls.{call_of, bytes_of, IsSound};
-ghost use Rattle.sd_gate.specs.Plans.{calls_of, AreSound};
+ghost use Rattle.sd_gate.specs.Steps.{calls_of_steps, AreSound};
 
 use crate::order::Order;
 use sd_image::Header;
 
-/// The calls that a plan has still to ask for, by the next of them.
+/// The calls that are left, by the next of them.
 #[derive(Debug, Drop)]
 pub enum Steps {
     /// The gate is closed: a 0 over it, a sync, and the cut.
@@ -42,7 +43,7 @@ impl Steps {
     /// The next call, and what is left after it.
     pub fn split(self) -> Option<(Order, Steps)>
         requires { AreSound self }
-        ensures next { MatchOption result (calls_of self ≡ []) (λ s. calls_of self ≡ (call_of s.0, bytes_of s.0) ∷ calls_of s.1) }
+        ensures next { MatchOption result (calls_of_steps self ≡ []) (λ s. calls_of_steps self ≡ (call_of s.0, bytes_of s.0) ∷ calls_of_steps s.1) }
         ensures sound { MatchOption result (Unit {0}) (λ s. IsSound s.0 × AreSound s.1) }
     {
         match self {
@@ -61,12 +62,5 @@ impl Steps {
             Steps::SyncOpen => Some((Order::Sync, Steps::Done)),
             Steps::Done => None,
         }
-    }
-
-    /// Whether no call is left.
-    pub fn are_done(&self) -> bool
-        ensures { IsTrue result ↔ calls_of self.now ≡ [] }
-    {
-        matches!(self, Steps::Done)
     }
 }
