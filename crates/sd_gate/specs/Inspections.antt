@@ -1,5 +1,5 @@
 -- The calls of an inspection: what is found decides what follows.
-use Rattle.std.specs.Prelude.{ℕ, ◌==◌, ◌&&◌, nat_le, if◌then◌else◌, List, [], ◌∷◌, length, slice_index, Result, Ok, Err}
+use Rattle.std.specs.Prelude.{ℕ, ◌==◌, ◌&&◌, nat_le, if◌then◌else◌, List, [], ◌∷◌, length, slice_index, Result, Ok, Err, Option, Some, None}
 use Rattle.sd_image.specs.declared.header.Header.{Header}
 use Rattle.sd_image.specs.declared.reason.Reason.{Reason}
 use Rattle.sd_image.specs.Image.{gate}
@@ -69,3 +69,15 @@ table_read (Err reason) = ([], nothing)
 abbrev pub after_first : List ℕ → ℕ → Following
 after_first bytes len =
     if (length bytes == 4096) && (slice_index bytes 0 == gate) then table_read (header_in bytes len) else ([], nothing)
+
+-- what follows an outcome that was awaited
+abbrev pub following : Awaits → Answer → Option (List ℕ) → Following
+following nothing answer buffer = ([], nothing)
+following the_length answer buffer = after_length answer
+following (the_header len) answer None = ([], nothing)
+following (the_header len) answer (Some bytes) = after_first bytes len
+
+-- what is left after an outcome: the calls that are known, and what they lead to only behind them
+abbrev pub calls_then : Calls → Awaits → Answer → Option (List ℕ) → Following
+calls_then [] awaits answer buffer = following awaits answer buffer
+calls_then (call ∷ calls) awaits answer buffer = (call ∷ calls, awaits)

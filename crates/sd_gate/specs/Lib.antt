@@ -2,5 +2,6 @@ pub mod Calls
 pub mod Fits
 pub mod Inspections
 pub mod Phases
+pub mod Plans
 pub mod Steps
 pub mod Requests

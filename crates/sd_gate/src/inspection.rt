@@ -1,8 +1,9 @@
 //! The inspection of a slot, whose calls depend on what is found.
-ghost use Rattle.std.specs.Prelude.{◌≡◌, ◌∷◌, [], IfOk, IsErr, MatchOption};
+ghost use Rattle.std.specs.Prelude.{◌≡◌, ◌↔◌, ◌∷◌, [], IsTrue, IfOk, IsErr, MatchOption};
 ghost use Rattle.sd_image.specs.Words.{zeros};
 ghost use Rattle.sd_gate.specs.Calls.{call_of, bytes_of, IsSound};
-ghost use Rattle.sd_gate.specs.Inspections.{calls_of_stage, awaits_of, IsReadNext, after_length, after_first};
+ghost use Rattle.sd_gate.specs.Inspections.{calls_of_stage, awaits_of, IsReadNext, after_length, after_first, calls_then};
+ghost use Rattle.std.specs.Option.{option_map};
 
 use crate::answer::Answer;
 use crate::order::Order;
@@ -84,5 +85,31 @@ impl Inspection {
         };
         self.stage = next;
         Ok(Some(order))
+    }
+
+    /// Goes on after an outcome.
+    pub fn resume(&mut self, answer: Answer, buffer: &Option<Vec<u8>>)
+        ensures { (calls_of_stage self.new.stage, awaits_of self.new.stage) ≡ calls_then (calls_of_stage self.old.stage) (awaits_of self.old.stage) answer (option_map (λ b. b.items) buffer.now) }
+    {
+        match self.stage {
+            Stage::AwaitLen => self.stage = after_length(answer),
+            Stage::AwaitFirst { len } => {
+                self.stage = match buffer {
+                    Some(bytes) => after_first(bytes, len),
+                    None => Stage::Done,
+                };
+            }
+            Stage::Sync | Stage::Len | Stage::First { .. } | Stage::Table { .. } | Stage::Done => {}
+        }
+    }
+
+    /// Whether no call is left.
+    pub fn is_done(&self) -> bool
+        ensures { IsTrue result ↔ calls_of_stage self.now.stage ≡ [] }
+    {
+        matches!(
+            self.stage,
+            Stage::AwaitLen | Stage::AwaitFirst { .. } | Stage::Done
+        )
     }
 }

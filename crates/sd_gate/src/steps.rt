@@ -1,5 +1,5 @@
 //! Plans whose calls are known from the start.
-ghost use Rattle.std.specs.Prelude.{◌≡◌, [], ◌∷◌, MatchOption};
+ghost use Rattle.std.specs.Prelude.{◌≡◌, ◌↔◌, [], ◌∷◌, IsTrue, MatchOption};
 ghost use Rattle.sd_gate.specs.Calls.{call_of, bytes_of, IsSound};
 ghost use Rattle.sd_gate.specs.Steps.{calls_of_steps, AreSound};
 
@@ -62,5 +62,12 @@ impl Steps {
             Steps::SyncOpen => Some((Order::Sync, Steps::Done)),
             Steps::Done => None,
         }
+    }
+
+    /// Whether no call is left.
+    pub fn are_done(&self) -> bool
+        ensures { IsTrue result ↔ calls_of_steps self.now ≡ [] }
+    {
+        matches!(self, Steps::Done)
     }
 }
