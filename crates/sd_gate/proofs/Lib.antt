@@ -1,3 +1,4 @@
 mod CallLemmas
 mod FitLemmas
+mod LawLemmas
 mod PhaseLemmas
