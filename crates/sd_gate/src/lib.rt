@@ -33,3 +33,6 @@ pub use request::Request;
 pub use settled::Settled;
 pub use slot_state::SlotState;
 pub use worker::Worker;
+
+#[cfg(test)]
+mod tests;
