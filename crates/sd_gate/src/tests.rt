@@ -5,7 +5,7 @@ ghost use Rattle.sd_gate.specs.Calls.{IsInside};
 
 use crate::order::Order;
 use crate::{
-    Answer, Call, Plan, Request, Settled, SlotState, Worker, found_fits, given_up_fits,
+    Answer, Call, Found, Plan, Request, Settled, SlotState, Worker, found_fits, given_up_fits,
     image_whole_or_closed, perform, plans_lead,
 };
 use sd_disk::{Disk, Fused, MemDisk, Pick};
@@ -109,6 +109,13 @@ fn file<D: Disk>(rt: &(impl Abort + AllocGlobal), disk: &mut D) -> Result<Vec<u8
     Ok(bytes)
 }
 
+/// Writes over the front of the file.
+fn put<D: Disk>(rt: &impl Abort, disk: &mut D, bytes: &[u8]) -> Result<(), Fail> {
+    assert!(rt; 0 < disk.slots() && !bytes.is_empty());
+    disk.write_at(0, 0, bytes)?;
+    Ok(())
+}
+
 fn page(alloc: Global) -> Result<Vec<u8>, Fail>
     ensures { (v : _) → result ≡ Ok v → length v.items ≡ 4096 }
 {
@@ -139,8 +146,8 @@ fn plans_make_their_calls(rt: HostRuntime) -> Result<(), Fail> {
 
     let mut writing = Plan::write_page(0, 4096, page(alloc)?);
     calls_of(&rt, &mut disk, &mut writing, &[Call::Write { at: 4096 }])?;
-    let found = writing.into_found();
-    assert!(rt; found.len.is_none() && found.first.is_some() && found.second.is_none());
+    let Found { len, first, second } = writing.into_found();
+    assert!(rt; len.is_none() && first.is_some() && second.is_none());
 
     let mut closing = Plan::close_body(0, HEADER, table(alloc)?);
     let body = [
@@ -161,10 +168,9 @@ fn plans_make_their_calls(rt: HostRuntime) -> Result<(), Fail> {
     let buffer = vec![in alloc; 0; 4096]?;
     let mut reading = Plan::read_page(0, 4096, buffer);
     calls_of(&rt, &mut disk, &mut reading, &[Call::Read { at: 4096 }])?;
-    let Some(read) = reading.into_found().first else {
-        return Err(Fail::from("no buffer"));
-    };
-    assert!(rt; read.as_slice() == page(alloc)?.as_slice());
+    let Found { first, .. } = reading.into_found();
+    let want = page(alloc)?;
+    assert!(rt; first.is_some_and(|read| read.as_slice() == want.as_slice()));
     Ok(())
 }
 
@@ -208,18 +214,14 @@ fn inspections_read_what_is_there(rt: HostRuntime) -> Result<(), Fail> {
     ];
     let mut inspecting = Plan::inspect(alloc, 0);
     calls_of(&rt, &mut disk, &mut inspecting, &looks)?;
-    let found = inspecting.into_found();
-    assert!(rt; found.len == Some(FILE_LEN));
-    assert!(rt; found.first.is_some_and(|first| first[0..64] == FIRST[..]));
-    assert!(rt;
-        found
-            .second
-            .is_some_and(|table| table.as_slice() == TABLE.as_slice())
-    );
+    let Found { len, first, second } = inspecting.into_found();
+    assert!(rt; len == Some(FILE_LEN));
+    assert!(rt; first.is_some_and(|first| first.starts_with(&FIRST)));
+    assert!(rt; second.is_some_and(|table| table.as_slice() == TABLE.as_slice()));
 
-    disk.write_at(0, 0, &[0x3C])?;
+    put(&rt, &mut disk, &[0x3C])?;
     calls_of(&rt, &mut disk, &mut Plan::inspect(alloc, 0), &looks[0..3])?;
-    disk.write_at(0, 0, &[0xA5, 0])?;
+    put(&rt, &mut disk, &[0xA5, 0])?;
     calls_of(&rt, &mut disk, &mut Plan::inspect(alloc, 0), &looks[0..3])?;
 
     calls_of(&rt, &mut disk, &mut Plan::retire(0), &CLOSING)?;
