@@ -1,5 +1,5 @@
 -- A slot through any one call.
-use Rattle.std.proofs.Common.{◌≡◌, ℕ, ◌<◌, lit<, Bool, true, false, List, length, refl, subst}
+use Rattle.std.proofs.Common.{◌≡◌, ◌≢◌, ℕ, ◌<◌, lit<, Bool, true, false, List, length, refl, sym, ap, ◌∙◌, subst}
 use Rattle.std.proofs.lemmas.Bool.{false≢true}
 use Rattle.sd_disk.specs.Contents.{file_at}
 use Rattle.sd_disk.specs.Crash.{Follows, OnlyAt}
@@ -11,7 +11,7 @@ use Rattle.sd_gate.specs.Calls.{contents_after, Makes, IsBehindGate, IsSound, ca
 use Rattle.sd_gate.specs.declared.order.Order.{Order}
 use Rattle.sd_gate.specs.declared.order.Order.TheVariants.{Len as LenOrder, Read as ReadOrder, Write as WriteOrder, WriteHeader as HeaderOrder, Close as CloseOrder, Open as OpenOrder, Cut as CutOrder, Sync as SyncOrder}
 use Rattle.sd_gate.specs.Phases.{may_open, is_ready, after, body_after}
-use Rattle.sd_gate.specs.Fits.{SlotFits}
+use Rattle.sd_gate.specs.Fits.{Reads, Leaves, SlotFits}
 use Rattle.sd_gate.proofs.PhaseLemmas.{slot_given_up, slot_kept, slot_synced, slot_filled, slot_not_filled, slot_cut, slot_not_cut, slot_closing, slot_not_closing, slot_opening, slot_not_opening}
 
 -- what is known of a call that was made
@@ -67,3 +67,28 @@ module _ (slot : ℕ) (bytes : List ℕ) (old new : List (List ℕ)) (before now
   follows Cut false phase body made ready fits = slot_not_cut slot old before made.now_read new now made.there phase body _ ready made.torn made.crash fits
   follows Sync true phase body made ready fits = slot_synced slot old before made.now_read phase body new now made.torn (made.durable refl refl) fits
   follows Sync false phase body made ready fits = slot_kept slot old before made.now_read _ body new now made.torn made.crash (slot_given_up slot old before made.now_read phase body fits)
+
+-- a call changes one slot
+makes_elsewhere : (call : Call) (bytes : List ℕ) (slot : ℕ) (old new : List (List ℕ)) (other : ℕ) → other ≢ slot → Makes call bytes slot old new
+    → file_at new other ≡ file_at old other
+makes_elsewhere Len bytes slot old new other apart makes = ap (λ c. file_at c other) makes
+makes_elsewhere (Read at) bytes slot old new other apart makes = ap (λ c. file_at c other) makes
+makes_elsewhere (Write at) bytes slot old new other apart makes = makes.others other apart
+makes_elsewhere WriteHeader bytes slot old new other apart makes = makes.others other apart
+makes_elsewhere Close bytes slot old new other apart makes = makes.others other apart
+makes_elsewhere Open bytes slot old new other apart makes = makes.others other apart
+makes_elsewhere Cut bytes slot old new other apart makes = makes.others other apart
+makes_elsewhere Sync bytes slot old new other apart makes = ap (λ c. file_at c other) makes
+
+pub kept_elsewhere : (call : Call) (bytes : List ℕ) (slot : ℕ) (old new : List (List ℕ)) (before now : List (List ℕ) → Type 0)
+    → Makes call bytes slot old new → Follows (Makes call bytes slot) before now
+    → (other : ℕ) (phase : Phase) (body : List ℕ) → other ≢ slot → SlotFits phase body other old before → SlotFits phase body other new now
+kept_elsewhere call bytes slot old new before now torn crash other phase body apart fits =
+    let same : file_at new other ≡ file_at old other = makes_elsewhere call bytes slot old new other apart torn in
+    record {
+      reads = subst (Reads phase body) (sym same) fits.reads;
+      leaves = λ c may. let was = crash c may in
+          subst (Leaves phase body) (sym (makes_elsewhere call bytes slot was.0 c other apart was.2)) (fits.leaves was.0 was.1);
+      as_read = λ synced c may. let was = crash c may in
+          makes_elsewhere call bytes slot was.0 c other apart was.2 ∙ fits.as_read synced was.0 was.1 ∙ sym same;
+    }

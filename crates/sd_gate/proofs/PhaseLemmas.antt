@@ -1,5 +1,5 @@
 -- A slot through one call: from the phase that waits for it to the phase that follows.
-use Rattle.std.proofs.Common.{◌≡◌, ◌≢◌, ℕ, ◌-◌, ◌<◌, Bool, true, false, List, [], ◌∷◌, length, take, slice_set, refl, sym, ◌∙◌, ap, subst, arith}
+use Rattle.std.proofs.Common.{◌≡◌, ◌≢◌, ℕ, ◌-◌, ◌<◌, ◌≤◌, Bool, true, false, List, [], ◌∷◌, length, take, slice_set, refl, sym, ◌∙◌, ap, subst, arith}
 use Rattle.std.proofs.lemmas.Bool.{false≢true}
 use Rattle.std.proofs.lemmas.List.{get_or-set_same}
 use Rattle.sd_disk.specs.Contents.{file_at, written, Torn, AtSlot, Cut as CutTo}
@@ -228,6 +228,9 @@ module _ (slot : ℕ) (old : List (List ℕ)) (before : List (List ℕ) → Type
     leaves = λ c may. given_up_leaves phase body (file_at c slot) (fits.leaves c may);
     as_read = λ sync. fits.as_read (given_up_synced phase sync);
   }
+
+  pub cut_inside : (phase : Phase) (body : List ℕ) → may_write phase ≡ true → SlotFits phase body slot old before → 1 ≤ length (file_at old slot)
+  cut_inside phase body ready fits = let closed = leaves_closed phase body (file_at old slot) ready (may_read phase body fits) in omega (arith, closed.some)
 
   -- a call that changes nothing
   pub slot_kept : (phase : Phase) (body : List ℕ) (new : List (List ℕ)) (after_it : List (List ℕ) → Type 0) → new ≡ old

@@ -1,5 +1,5 @@
 -- What a phase says of its slot: what is read, and what a crash may leave.
-use Rattle.std.specs.Prelude.{◌≡◌, ◌≢◌, ℕ, ◌<◌, Bool, true, false, List, [], ◌∷◌, length, slice_index}
+use Rattle.std.specs.Prelude.{◌≡◌, ◌≢◌, ℕ, ◌<◌, Bool, true, false, List, [], ◌∷◌, length, slice_index, slice_get, Some}
 use Rattle.sd_disk.specs.Contents.{file_at}
 use Rattle.sd_disk.specs.Crash.{OnlyAt}
 use Rattle.sd_image.specs.Image.{gate}
@@ -76,3 +76,8 @@ pub record SlotFits (phase : Phase) (body : List ℕ) (slot : ℕ) (contents : L
   pub reads : Reads phase body (file_at contents slot)
   pub leaves : (c : List (List ℕ)) → may_leave c → Leaves phase body (file_at c slot)
   pub as_read : is_synced phase ≡ true → OnlyAt slot (file_at contents slot) may_leave
+
+-- each slot of a disk is in its phase, with its body
+pub record DiskFits (phases : List Phase) (bodies : List (List ℕ)) (contents : List (List ℕ)) (may_leave : List (List ℕ) → Type 0) : Type 0 where
+  pub count : length bodies ≡ length phases
+  pub each : (slot : ℕ) (phase : Phase) → slice_get phases slot ≡ Some phase → SlotFits phase (file_at bodies slot) slot contents may_leave

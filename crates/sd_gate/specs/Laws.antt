@@ -78,3 +78,29 @@ pub record PlansLead : Type 0 where
   pub filled_body : (body : List ℕ) (header : Header) (table : List ℕ) → Leads Writing body (body_calls header table) Whole
       (body_after (body_after body (Write (table_place header)) table) WriteHeader (header_text header))
   pub retire : (body : List ℕ) → Leads Whole body closing_calls Bare []
+
+-- each has the bytes of a page
+abbrev pub AreWhole : List (List ℕ) → Type 0
+AreWhole = AllByRecursion (λ page. length page ≡ 4096)
+
+-- the body with these data pages behind the room for a header, which is made with the first of them
+abbrev pub pages_body : List (List ℕ) → List ℕ
+pages_body [] = []
+pages_body (page ∷ pages) = zeros 4095 ++ concat (page ∷ pages)
+
+-- where the next data page goes
+abbrev pub page_place : List (List ℕ) → ℕ
+page_place pages = 4096 + 4096 * length pages
+
+-- data pages are written one behind the other, and the table and the header complete the body of the image
+pub record BodiesFill : Type 0 where
+  pub page : (pages : List (List ℕ)) (page : List ℕ) → AreWhole pages
+      → body_after (pages_body pages) (Write (page_place pages)) page ≡ pages_body (pages ++ page ∷ [])
+  pub image : (pages : List (List ℕ)) (header : Header) (table : List ℕ) → AreWhole pages → header.pages ≡ length pages
+      → body_after (body_after (pages_body pages) (Write (table_place header)) table) WriteHeader (header_text header)
+      ≡ header_text header ++ concat pages ++ table
+
+-- a slot that is ready for a cut has the byte that the cut leaves
+abbrev pub CutsFit : List (List ℕ) → (List (List ℕ) → Type 0) → Type 0
+CutsFit contents may_leave = (phase : Phase) (body : List ℕ) (slot : ℕ) → is_ready phase Cut ≡ true → SlotFits phase body slot contents may_leave
+    → 1 ≤ length (file_at contents slot)

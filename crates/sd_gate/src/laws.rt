@@ -1,5 +1,5 @@
 //! Laws of the phases, each the contract of a function that does nothing.
-ghost use Rattle.sd_gate.specs.Laws.{ImageWholeOrClosed, GivenUpFits, FoundFits, PlansLead};
+ghost use Rattle.sd_gate.specs.Laws.{ImageWholeOrClosed, GivenUpFits, FoundFits, PlansLead, BodiesFill, CutsFit};
 
 use sd_disk::Disk;
 
@@ -23,4 +23,15 @@ pub fn found_fits<D: Disk>(disk: &D)
 /// also the calls that retire an image; the calls that close a body leave the image.
 pub fn plans_lead()
     ensures { PlansLead }
+{}
+
+/// The bytes that the plans write: data pages one behind the other, and then the table and the header, make the body of
+/// the image that has them.
+pub fn bodies_fill()
+    ensures { BodiesFill }
+{}
+
+/// A slot that is ready for a cut has the byte that the cut leaves.
+pub fn cuts_fit<D: Disk>(disk: &D)
+    ensures { CutsFit (D.contents disk.now) (D.may_leave disk.now) }
 {}

@@ -24,7 +24,9 @@ pub use answer::Answer;
 pub use call::Call;
 pub use device_call::perform;
 pub use found::Found;
-pub use laws::{found_fits, given_up_fits, image_whole_or_closed, plans_lead};
+pub use laws::{
+    bodies_fill, cuts_fit, found_fits, given_up_fits, image_whole_or_closed, plans_lead,
+};
 pub use note::Note;
 pub use outcome::Outcome;
 pub use phase::Phase;

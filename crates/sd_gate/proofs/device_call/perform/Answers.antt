@@ -1,7 +1,12 @@
-use Rattle.std.proofs.Common.{◌≡◌, subst}
-use Rattle.sd_gate.specs.Calls.{is_done}
+use Rattle.std.proofs.Common.{◌≡◌, ◌≢◌, ℕ, true, List, inl, inr, subst}
+use Rattle.sd_disk.specs.Contents.{file_at}
+use Rattle.sd_gate.specs.declared.phase.Phase.{Phase}
+use Rattle.sd_gate.specs.Calls.{is_done, call_of, bytes_of}
+use Rattle.sd_gate.specs.Fits.{Leaves, SlotFits}
+use Rattle.sd_gate.specs.Phases.{is_ready, after, body_after}
 use Rattle.sd_gate.specs.Requests.{Asked}
-use Rattle.sd_gate.proofs.CallLemmas.{IsMade, behind_gate, follows}
+use Rattle.sd_gate.proofs.CallLemmas.{IsMade, behind_gate, follows, kept_elsewhere}
+use Rattle.sd_gate.proofs.SlotsLemmas.{each_slot, within_call}
 use Rattle.sd_gate.proofs.device_call.perform.Goals as goal
 
 pub returns-clause-fits : goal.returns-clause-fits
@@ -23,3 +28,26 @@ returns-clause-fits g c = λ phase body ready fits.
       crash = made.crash;
       durable = made.durable;
     })) ready fits
+
+pub returns-clause-elsewhere : goal.returns-clause-elsewhere
+returns-clause-elsewhere g c =
+    let old = g.D.Disk.contents c.args.disk.now in
+    let new = g.D.Disk.contents c.make-order.new.disk in
+    let before = g.D.Disk.may_leave c.args.disk.now in
+    let now = g.D.Disk.may_leave c.make-order.new.disk in
+    let made = c.make-order.ensures in
+    subst (λ (r : Asked). (other : ℕ) (phase : Phase) (body : List ℕ) → other ≢ r.note.slot → SlotFits phase body other old before → SlotFits phase body other new now) c.request.view_is
+    (kept_elsewhere (call_of c.request.inside.order) (bytes_of c.request.inside.order) c.request.inside.slot old new before now made.torn made.crash)
+
+pub returns-clause-every_slot : goal.returns-clause-every_slot
+returns-clause-every_slot g c = λ phases bodies phase is ready fits. each_slot phases bodies
+    (g.D.Disk.contents c.args.disk.now) (g.D.Disk.contents c.make-order.new.disk) (g.D.Disk.may_leave c.args.disk.now) (g.D.Disk.may_leave c.make-order.new.disk)
+    c.args.request.note.slot phase _ _ fits is
+    (λ here. returns-clause-fits g c phase (file_at bodies c.args.request.note.slot) ready here)
+    (returns-clause-elsewhere g c)
+
+pub returns-clause-any_moment : goal.returns-clause-any_moment
+returns-clause-any_moment g c = λ phase body ready fits. within_call g.D.Disk.moment g.D.Disk.left_since c.args.disk.now c.make-order.new.disk
+    _ _ (g.D.Disk.may_leave c.args.disk.now) (g.D.Disk.may_leave c.make-order.new.disk)
+    (λ left_c left. g.met.D.Disk.only_now c.args.disk.now left_c left) c.make-order.ensures.time fits.leaves
+    ((returns-clause-fits g c phase body ready fits).leaves)
