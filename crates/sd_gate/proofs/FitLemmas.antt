@@ -1,6 +1,6 @@
 -- A slot's file through the calls on it.
-use Rattle.std.proofs.Common.{◌≡◌, ◌≢◌, ℕ, zero, suc, ◌+◌, ◌-◌, ◌<◌, ◌≤◌, List, [], ◌∷◌, ◌++◌, length, take, drop, replicate, slice_index, refl, sym, ◌∙◌, ap, arith, sub-one}
-use Rattle.std.proofs.lemmas.Grind.{same_number_lists, common_steps}
+use Rattle.std.proofs.Common.{◌≡◌, ℕ, zero, suc, ◌+◌, ◌-◌, ◌<◌, List, [], ◌∷◌, length, take, slice_index, refl, sym, ◌∙◌, ap, arith, sub-one}
+use Rattle.std.proofs.lemmas.Grind.{same_number_lists}
 use Rattle.sd_disk.specs.Contents.{written, Torn, Cut}
 use Rattle.sd_image.specs.Image.{gate}
 use Rattle.sd_gate.specs.Fits.{IsClosed, IsBehind, IsBehindClosed, IsShort}

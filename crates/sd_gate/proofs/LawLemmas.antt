@@ -1,18 +1,17 @@
 -- The laws of the phases.
-use Rattle.std.proofs.Common.{◌≡◌, ◌≢◌, ◌⊎◌, ⊎_elim, inl, inr, ℕ, ◌<◌, ◌≤◌, Bool, true, false, cond, ◌==◌, ◌&&◌, nat_le, nat_lt, List, [], ◌∷◌, length, drop, slice_index, refl, sym, ◌∙◌, ap, subst, arith, rules}
-use Rattle.std.proofs.lemmas.Bool.{false≢true, cases_eq, cases_lt}
+use Rattle.std.proofs.Common.{◌≡◌, ◌≢◌, ⊎_elim, inl, inr, ℕ, ◌<◌, ◌≤◌, true, false, List, [], ◌∷◌, length, drop, slice_index, refl, sym, ◌∙◌, ap, subst, arith}
+use Rattle.std.proofs.lemmas.Bool.{cases_eq, cases_lt}
 use Rattle.std.proofs.lemmas.Bool.Decides.{nat_tests}
 use Rattle.sd_disk.specs.Contents.{file_at}
 use Rattle.sd_disk.specs.Crash.{OnlyAt}
 use Rattle.sd_image.specs.declared.header.Header.{Header}
 use Rattle.sd_image.specs.Header.{header_text}
 use Rattle.sd_image.specs.Image.{gate, is_open}
-use Rattle.sd_gate.specs.declared.call.Call.{Call}
-use Rattle.sd_gate.specs.declared.call.Call.TheVariants.{Len, Read, Write, WriteHeader, Close, Open, Cut, Sync}
+use Rattle.sd_gate.specs.declared.call.Call.TheVariants.{Write, WriteHeader, Close, Open, Cut, Sync}
 use Rattle.sd_gate.specs.declared.phase.Phase.{Phase}
 use Rattle.sd_gate.specs.declared.phase.Phase.TheVariants.{Raw, RawClosing, Whole, Closing, Shut, ShutSynced, Bare, Writing, Ready, Opening, Doubt, DoubtSynced}
 use Rattle.sd_gate.specs.declared.slot_state.SlotState.{SlotState}
-use Rattle.sd_gate.specs.Fits.{IsClosed, IsBehind, IsBehindClosed, IsShort, Leaves, Reads, SlotFits}
+use Rattle.sd_gate.specs.Fits.{IsClosed, IsBehind, IsShort, Leaves, Reads, SlotFits}
 use Rattle.sd_gate.specs.Laws.{IsClosedOrWhole, CrashLeaves, found_phase, Leads, no_call, one_call, MayFormat, raw, shut, bare, found_shut, whole, doubt, PlansLead}
 use Rattle.sd_gate.specs.Phases.{is_ready, after, body_after}
 use Rattle.sd_gate.specs.Steps.{format_calls, closing_calls, body_calls, table_place}

@@ -1,18 +1,15 @@
 -- A slot through one call: from the phase that waits for it to the phase that follows.
-use Rattle.std.proofs.Common.{◌≡◌, ◌≢◌, ℕ, ◌-◌, ◌<◌, ◌≤◌, Bool, true, false, List, [], ◌∷◌, length, take, slice_set, refl, sym, ◌∙◌, ap, subst, arith}
+use Rattle.std.proofs.Common.{◌≡◌, ℕ, ◌-◌, ◌<◌, ◌≤◌, true, List, [], ◌∷◌, length, take, slice_set, refl, sym, ◌∙◌, ap, subst, arith}
 use Rattle.std.proofs.lemmas.Bool.{false≢true}
 use Rattle.std.proofs.lemmas.List.{get_or-set_same}
 use Rattle.sd_disk.specs.Contents.{file_at, written, Torn, AtSlot, Cut as CutTo}
 use Rattle.sd_disk.specs.Crash.{Follows, OnlyAt}
 use Rattle.sd_image.specs.Image.{gate}
-use Rattle.sd_gate.specs.declared.call.Call.{Call}
-use Rattle.sd_gate.specs.declared.call.Call.TheVariants.{Len, Read, Write, Close, Open, Cut, Sync}
 use Rattle.sd_gate.specs.declared.phase.Phase.{Phase}
 use Rattle.sd_gate.specs.declared.phase.Phase.TheVariants.{Raw, RawClosing, Whole, Closing, Shut, ShutSynced, Bare, Writing, Ready, Opening, Doubt, DoubtSynced}
-use Rattle.sd_gate.specs.Calls.{contents_after, Makes, IsBehindGate}
-use Rattle.sd_gate.specs.Phases.{may_close, may_write, may_open, is_ready, given_up, synced, closing, filled, after, body_after}
-use Rattle.sd_gate.specs.Fits.{IsClosed, IsBehind, IsBehindClosed, IsShort, Reads, Leaves, is_synced, SlotFits}
-use Rattle.sd_gate.proofs.FitLemmas.{behind_is_closed, closed_is_behind, open_is_behind, torn_closed, cut_closed, torn_gate, torn_behind, torn_short, zeroed_closed, zeroed_behind, opened, filled_behind, cut_bare, written_closed}
+use Rattle.sd_gate.specs.Phases.{may_close, may_write, given_up, synced, closing, filled}
+use Rattle.sd_gate.specs.Fits.{IsClosed, IsBehindClosed, Reads, Leaves, is_synced, SlotFits}
+use Rattle.sd_gate.proofs.FitLemmas.{behind_is_closed, closed_is_behind, open_is_behind, torn_closed, cut_closed, torn_behind, torn_short, zeroed_closed, zeroed_behind, opened, filled_behind, cut_bare, written_closed}
 
 -- a slot that may be written behind its gate is closed
 leaves_closed : (phase : Phase) (body file : List ℕ) → may_write phase ≡ true → Leaves phase body file → IsClosed file

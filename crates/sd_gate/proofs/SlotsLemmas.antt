@@ -1,5 +1,5 @@
 -- A whole disk through one call, and a crash within it.
-use Rattle.std.proofs.Common.{◌≡◌, ◌≢◌, ◌⊎◌, ⊎_elim, inl, inr, ℕ, ◌<◌, ◌≤◌, List, [], length, slice_get, slice_set, get_or, Some, sym, ◌∙◌, ap, subst, arith}
+use Rattle.std.proofs.Common.{◌≡◌, ◌≢◌, ◌⊎◌, ⊎_elim, inl, inr, ℕ, ◌<◌, List, [], length, slice_get, slice_set, get_or, Some, sym, ◌∙◌, ap, subst, arith}
 use Rattle.std.proofs.lemmas.Bool.{cases_eq}
 use Rattle.std.proofs.lemmas.List.{get_or-set_same, get_or-set_other, length-set}
 use Rattle.std.proofs.lemmas.Option.{slice_get_within, get_or_from_slice_get, slice_get-get_or}
@@ -8,7 +8,7 @@ use Rattle.sd_disk.specs.Crash.{Within, Elapses, LeavesOnly}
 use Rattle.sd_disk.specs.Spans.{nothing_called, one_call}
 use Rattle.sd_gate.specs.declared.phase.Phase.{Phase}
 use Rattle.sd_gate.specs.declared.phase.Phase.TheVariants.{Raw}
-use Rattle.sd_gate.specs.Fits.{Leaves, SlotFits, DiskFits}
+use Rattle.sd_gate.specs.Fits.{SlotFits, DiskFits}
 
 module _ (phases : List Phase) (bodies old new : List (List ℕ)) (before now : List (List ℕ) → Type 0) (slot : ℕ) (phase next : Phase) (body : List ℕ) where
   pub each_slot : DiskFits phases bodies old before → slice_get phases slot ≡ Some phase

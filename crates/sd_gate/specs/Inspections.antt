@@ -7,7 +7,6 @@ use Rattle.sd_image.specs.Reading.{header_in}
 use Rattle.sd_image.specs.Words.{zeros}
 use Rattle.sd_gate.specs.declared.answer.Answer.{Answer}
 use Rattle.sd_gate.specs.declared.answer.Answer.TheVariants.{Done as DoneAnswer, Len as LenIs, Failed}
-use Rattle.sd_gate.specs.declared.call.Call.{Call}
 use Rattle.sd_gate.specs.declared.call.Call.TheVariants.{Len, Read, Write, WriteHeader, Close, Open, Cut, Sync}
 use Rattle.sd_gate.specs.declared.stage.Stage.{Stage}
 use Rattle.sd_gate.specs.declared.stage.Stage.TheVariants.{Sync as SyncStage, Len as LenStage, AwaitLen, First, AwaitFirst, Table, Done}

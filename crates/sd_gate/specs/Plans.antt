@@ -1,5 +1,5 @@
 -- A plan as it is seen, and what its calls do to it.
-use Rattle.std.specs.Prelude.{◌≡◌, ℕ, ◌<◌, Bool, true, false, if◌then◌else◌, List, [], ◌∷◌, length, Option, None, Some}
+use Rattle.std.specs.Prelude.{◌≡◌, ℕ, Bool, true, false, if◌then◌else◌, List, [], ◌∷◌, Option, None, Some}
 use Rattle.std.specs.Option.{option_map}
 use Rattle.sd_gate.specs.declared.answer.Answer.{Answer}
 use Rattle.sd_gate.specs.declared.answer.Answer.TheVariants.{Done as DoneAnswer, Len as LenIs, Failed as FailedAnswer}
@@ -8,7 +8,7 @@ use Rattle.sd_gate.specs.declared.job.Job.{Job}
 use Rattle.sd_gate.specs.declared.job.Job.TheVariants.{Steps as StepsJob, Inspection as InspectionJob}
 use Rattle.sd_gate.specs.declared.note.Note.{Note}
 use Rattle.sd_gate.specs.declared.settled.Settled.{Settled}
-use Rattle.sd_gate.specs.declared.settled.Settled.TheVariants.{More, Finished, Failed, Strange}
+use Rattle.sd_gate.specs.declared.settled.Settled.TheVariants.{More, Finished, Failed}
 use Rattle.sd_gate.specs.Calls.{is_done, buffer_back}
 use Rattle.sd_gate.specs.Requests.{Asked, Made}
 use Rattle.sd_gate.specs.Steps.{Calls, calls_of_steps, AreSound}

@@ -196,6 +196,7 @@ impl Plan {
     pub fn into_found(self) -> Found
         ensures { found_of result ≡ self.found }
     {
-        self.found
+        let Plan { found, .. } = self;
+        found
     }
 }

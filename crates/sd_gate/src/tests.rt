@@ -5,8 +5,8 @@ ghost use Rattle.sd_gate.specs.Calls.{IsInside};
 
 use crate::order::Order;
 use crate::{
-    Answer, Call, Found, Plan, Request, Settled, SlotState, Worker, found_fits, given_up_fits,
-    image_whole_or_closed, perform, plans_lead,
+    Answer, Call, Found, Plan, Request, Settled, SlotState, Worker, bodies_fill, cuts_fit,
+    found_fits, given_up_fits, image_whole_or_closed, perform, plans_lead,
 };
 use sd_disk::{Disk, Fused, MemDisk, Pick};
 use sd_image::{Header, Kind};
@@ -370,6 +370,8 @@ fn each_call_is_dropped_in_turn(rt: HostRuntime) -> Result<(), Fail> {
 fn laws_are_called(rt: HostRuntime) -> Result<(), Fail> {
     let disk = with_image(&rt)?;
     image_whole_or_closed();
+    bodies_fill();
+    cuts_fit(&disk);
     given_up_fits(&disk);
     found_fits(&disk);
     plans_lead();

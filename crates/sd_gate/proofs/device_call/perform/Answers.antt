@@ -1,9 +1,8 @@
-use Rattle.std.proofs.Common.{◌≡◌, ◌≢◌, ℕ, true, List, inl, inr, subst}
+use Rattle.std.proofs.Common.{◌≢◌, ℕ, List, subst}
 use Rattle.sd_disk.specs.Contents.{file_at}
 use Rattle.sd_gate.specs.declared.phase.Phase.{Phase}
 use Rattle.sd_gate.specs.Calls.{is_done, call_of, bytes_of}
-use Rattle.sd_gate.specs.Fits.{Leaves, SlotFits}
-use Rattle.sd_gate.specs.Phases.{is_ready, after, body_after}
+use Rattle.sd_gate.specs.Fits.{SlotFits}
 use Rattle.sd_gate.specs.Requests.{Asked}
 use Rattle.sd_gate.proofs.CallLemmas.{IsMade, behind_gate, follows, kept_elsewhere}
 use Rattle.sd_gate.proofs.SlotsLemmas.{each_slot, within_call}
