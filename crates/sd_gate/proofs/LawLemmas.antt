@@ -1,5 +1,5 @@
 -- The laws of the phases.
-use Rattle.std.proofs.Common.{◌≡◌, ◌≢◌, ⊎_elim, inl, inr, ℕ, ◌<◌, ◌≤◌, true, false, List, [], ◌∷◌, length, drop, slice_index, refl, sym, ◌∙◌, ap, subst, arith}
+use Rattle.std.proofs.Common.{◌≡◌, ◌≢◌, ⊎_elim, inl, inr, ℕ, ◌<◌, ◌≤◌, true, false, List, [], ◌∷◌, length, drop, slice_index, slice_range, ◌+◌, refl, sym, ◌∙◌, ap, subst, arith}
 use Rattle.std.proofs.lemmas.Bool.{cases_eq, cases_lt}
 use Rattle.std.proofs.lemmas.Bool.Decides.{nat_tests}
 use Rattle.sd_disk.specs.Contents.{file_at}
@@ -12,7 +12,7 @@ use Rattle.sd_gate.specs.declared.phase.Phase.{Phase}
 use Rattle.sd_gate.specs.declared.phase.Phase.TheVariants.{Raw, RawClosing, Whole, Closing, Shut, ShutSynced, Bare, Writing, Ready, Opening, Doubt, DoubtSynced}
 use Rattle.sd_gate.specs.declared.slot_state.SlotState.{SlotState}
 use Rattle.sd_gate.specs.Fits.{IsClosed, IsBehind, IsShort, Leaves, Reads, SlotFits}
-use Rattle.sd_gate.specs.Laws.{IsClosedOrWhole, CrashLeaves, found_phase, Leads, no_call, one_call, MayFormat, raw, shut, bare, found_shut, whole, doubt, PlansLead}
+use Rattle.sd_gate.specs.Laws.{IsClosedOrWhole, CrashLeaves, found_phase, phase_told, InspectionTells, Leads, no_call, one_call, MayFormat, raw, shut, bare, found_shut, whole, doubt, PlansLead}
 use Rattle.sd_gate.specs.Phases.{is_ready, after, body_after}
 use Rattle.sd_gate.specs.Steps.{format_calls, closing_calls, body_calls, table_place}
 use Rattle.sd_gate.proofs.FitLemmas.{behind_is_closed}
@@ -103,6 +103,19 @@ found_whole file long is = grind (arith, nat_tests)
 
 found_closed : (file : List ℕ) → 4096 ≤ length file → slice_index file 0 ≢ gate → found_phase file ≡ Shut
 found_closed file long other = grind (arith, nat_tests)
+
+first_same : (file first : List ℕ) → first ≡ slice_range file 0 (0 + 4096) → 4096 ≤ length file → slice_index first 0 ≡ slice_index file 0
+first_same [] first is long = absurd (omega (arith, long))
+first_same (x ∷ file) first is long = ap (λ xs. slice_index xs 0) is
+
+told_raw : (file first : List ℕ) → length file < 4096 → phase_told (length file) first ≡ found_phase file
+told_raw file first short = grind (arith, nat_tests)
+
+told_long : (file first : List ℕ) → 4096 ≤ length file → slice_index first 0 ≡ slice_index file 0 → phase_told (length file) first ≡ found_phase file
+told_long file first long same = rw same refl
+
+pub inspection_tells : InspectionTells
+inspection_tells file first is = ⊎_elim (λ short. told_raw file first short) (λ long. told_long file first long (first_same file first (is long) long)) (cases_lt (length file) 4096)
 
 spelled_open : (file : List ℕ) → 4096 ≤ length file → slice_index file 0 ≡ gate → file ≡ gate ∷ drop 1 file
 spelled_open [] long is = absurd (omega (arith, long))

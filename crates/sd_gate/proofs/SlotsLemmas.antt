@@ -8,7 +8,7 @@ use Rattle.sd_disk.specs.Crash.{Within, Elapses, LeavesOnly}
 use Rattle.sd_disk.specs.Spans.{nothing_called, one_call}
 use Rattle.sd_gate.specs.declared.phase.Phase.{Phase}
 use Rattle.sd_gate.specs.declared.phase.Phase.TheVariants.{Raw}
-use Rattle.sd_gate.specs.Fits.{SlotFits, DiskFits}
+use Rattle.sd_gate.specs.Fits.{SlotFits, DiskFits, DiskLeaves}
 
 module _ (phases : List Phase) (bodies old new : List (List ℕ)) (before now : List (List ℕ) → Type 0) (slot : ℕ) (phase next : Phase) (body : List ℕ) where
   pub each_slot : DiskFits phases bodies old before → slice_get phases slot ≡ Some phase
@@ -36,6 +36,11 @@ module _ (phases : List Phase) (bodies old new : List (List ℕ)) (before now : 
             (elsewhere number p (file_at bodies number) other (fits.each number p was)))
             (cases_eq number slot);
       }
+
+-- a crash leaves each slot as its phase says
+pub each_left : (phases : List Phase) (bodies contents : List (List ℕ)) (may_leave : List (List ℕ) → Type 0) → DiskFits phases bodies contents may_leave
+    → Within may_leave (DiskLeaves phases bodies)
+each_left phases bodies contents may_leave fits = λ c may. record { each = λ slot phase is. (fits.each slot phase is).leaves c may }
 
 module _ {D : Type 0} (moment : D → ℕ) (left_since : D → ℕ → List (List ℕ) → Type 0) where
   -- a crash at any moment of a call leaves what it may leave before or after

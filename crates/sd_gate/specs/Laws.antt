@@ -1,5 +1,5 @@
 -- What the phases promise the layers above.
-use Rattle.std.specs.Prelude.{◌≡◌, ◌⊎◌, ℕ, ◌==◌, ◌+◌, ◌*◌, ◌≤◌, nat_lt, true, false, if◌then◌else◌, List, [], ◌∷◌, ◌++◌, length, drop, slice_index}
+use Rattle.std.specs.Prelude.{◌≡◌, ◌⊎◌, ℕ, ◌==◌, ◌+◌, ◌*◌, ◌≤◌, nat_lt, true, false, if◌then◌else◌, List, [], ◌∷◌, ◌++◌, length, drop, slice_index, slice_range}
 use Rattle.std.specs.List.{concat, AllByRecursion}
 use Rattle.sd_disk.specs.Contents.{file_at}
 use Rattle.sd_disk.specs.Crash.{OnlyAt}
@@ -52,6 +52,14 @@ found_phase file = if nat_lt (length file) 4096 then Raw else (if slice_index fi
 abbrev pub FoundFits : List (List ℕ) → (List (List ℕ) → Type 0) → Type 0
 FoundFits contents may_leave = (slot : ℕ) → OnlyAt slot (file_at contents slot) may_leave
     → SlotFits (found_phase (file_at contents slot)) (drop 1 (file_at contents slot)) slot contents may_leave
+
+-- the phase that an inspection tells, by the length and the first bytes that came back
+abbrev pub phase_told : ℕ → List ℕ → Phase
+phase_told len first = if nat_lt len 4096 then Raw else (if slice_index first 0 == gate then Whole else Shut)
+
+-- it is the phase of the file that was inspected
+abbrev pub InspectionTells : Type 0
+InspectionTells = (file first : List ℕ) → (4096 ≤ length file → first ≡ slice_range file 0 (0 + 4096)) → phase_told (length file) first ≡ found_phase file
 
 -- a slot in the first phase takes these calls, one after the other, and is then in the last, with that body
 pub data Leads : Phase → List ℕ → Calls → Phase → List ℕ → Type 0 where

@@ -1,5 +1,5 @@
 //! Laws of the phases, each the contract of a function that does nothing.
-ghost use Rattle.sd_gate.specs.Laws.{ImageWholeOrClosed, GivenUpFits, FoundFits, PlansLead, BodiesFill, CutsFit};
+ghost use Rattle.sd_gate.specs.Laws.{ImageWholeOrClosed, GivenUpFits, FoundFits, InspectionTells, PlansLead, BodiesFill, CutsFit};
 
 use sd_disk::Disk;
 
@@ -17,6 +17,11 @@ pub fn given_up_fits<D: Disk>(disk: &D)
 /// A slot that was synced is in the phase that its file tells: shorter than a header, closed, or with an image.
 pub fn found_fits<D: Disk>(disk: &D)
     ensures { FoundFits (D.contents disk.now) (D.may_leave disk.now) }
+{}
+
+/// The length and the first bytes that an inspection brings back tell that phase.
+pub fn inspection_tells()
+    ensures { InspectionTells }
 {}
 
 /// The calls of each plan that writes find their slot ready, one after the other. A format leaves one closed byte,

@@ -25,7 +25,8 @@ pub use call::Call;
 pub use device_call::perform;
 pub use found::Found;
 pub use laws::{
-    bodies_fill, cuts_fit, found_fits, given_up_fits, image_whole_or_closed, plans_lead,
+    bodies_fill, cuts_fit, found_fits, given_up_fits, image_whole_or_closed, inspection_tells,
+    plans_lead,
 };
 pub use note::Note;
 pub use outcome::Outcome;

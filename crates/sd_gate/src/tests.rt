@@ -6,7 +6,7 @@ ghost use Rattle.sd_gate.specs.Calls.{IsInside};
 use crate::order::Order;
 use crate::{
     Answer, Call, Found, Plan, Request, Settled, SlotState, Worker, bodies_fill, cuts_fit,
-    found_fits, given_up_fits, image_whole_or_closed, perform, plans_lead,
+    found_fits, given_up_fits, image_whole_or_closed, inspection_tells, perform, plans_lead,
 };
 use sd_disk::{Disk, Fused, MemDisk, Pick};
 use sd_image::{Header, Kind};
@@ -374,6 +374,7 @@ fn laws_are_called(rt: HostRuntime) -> Result<(), Fail> {
     cuts_fit(&disk);
     given_up_fits(&disk);
     found_fits(&disk);
+    inspection_tells();
     plans_lead();
     Ok(())
 }

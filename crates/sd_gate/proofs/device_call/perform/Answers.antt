@@ -5,7 +5,7 @@ use Rattle.sd_gate.specs.Calls.{is_done, call_of, bytes_of}
 use Rattle.sd_gate.specs.Fits.{SlotFits}
 use Rattle.sd_gate.specs.Requests.{Asked}
 use Rattle.sd_gate.proofs.CallLemmas.{IsMade, behind_gate, follows, kept_elsewhere}
-use Rattle.sd_gate.proofs.SlotsLemmas.{each_slot, within_call}
+use Rattle.sd_gate.proofs.SlotsLemmas.{each_slot, each_left, within_call}
 use Rattle.sd_gate.proofs.device_call.perform.Goals as goal
 
 pub returns-clause-fits : goal.returns-clause-fits
@@ -50,3 +50,10 @@ returns-clause-any_moment g c = λ phase body ready fits. within_call g.D.Disk.m
     _ _ (g.D.Disk.may_leave c.args.disk.now) (g.D.Disk.may_leave c.make-order.new.disk)
     (λ left_c left. g.met.D.Disk.only_now c.args.disk.now left_c left) c.make-order.ensures.time fits.leaves
     ((returns-clause-fits g c phase body ready fits).leaves)
+
+pub returns-clause-every_moment : goal.returns-clause-every_moment
+returns-clause-every_moment g c = λ phases bodies phase is ready fits. within_call g.D.Disk.moment g.D.Disk.left_since c.args.disk.now c.make-order.new.disk
+    _ _ (g.D.Disk.may_leave c.args.disk.now) (g.D.Disk.may_leave c.make-order.new.disk)
+    (λ left_c left. g.met.D.Disk.only_now c.args.disk.now left_c left) c.make-order.ensures.time
+    (each_left phases bodies (g.D.Disk.contents c.args.disk.now) (g.D.Disk.may_leave c.args.disk.now) fits)
+    (each_left _ _ (g.D.Disk.contents c.make-order.new.disk) (g.D.Disk.may_leave c.make-order.new.disk) (returns-clause-every_slot g c phases bodies phase is ready fits))
