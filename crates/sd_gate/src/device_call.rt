@@ -1,9 +1,9 @@
 //! Making one device call.
-ghost use Rattle.std.specs.Prelude.{◌≡◌, ◌≢◌, ◌⊎◌, ◌<◌, ℕ, true, List, length, Some, slice_get, slice_set, MatchResult};
+ghost use Rattle.std.specs.Prelude.{◌≡◌, ◌≢◌, ◌⊎◌, ◌<◌, ℕ, true, List, length, MatchResult};
 ghost use Rattle.sd_disk.specs.Contents.{file_at};
 ghost use Rattle.sd_disk.specs.Crash.{Follows, OnlyAt, Elapses, LeavesOnly};
 ghost use Rattle.sd_gate.specs.Calls.{call_of, bytes_of, is_done, contents_after, Makes, IsInside, IsSound, IsAnswerTo, AreKept, Tells, HasCause};
-ghost use Rattle.sd_gate.specs.Phases.{is_ready, after, body_after};
+ghost use Rattle.sd_gate.specs.Phases.{is_ready, after, body_after, Waits, phases_after, bodies_after};
 ghost use Rattle.sd_gate.specs.Fits.{Leaves, SlotFits, DiskFits, DiskLeaves};
 ghost use Rattle.sd_gate.specs.declared.call.Call.TheVariants.{Sync};
 ghost use Rattle.sd_gate.specs.declared.phase.Phase.{Phase};
@@ -105,16 +105,13 @@ pub fn perform<D: Disk>(disk: &mut D, request: Request) -> Outcome
         → LeavesOnly D.moment D.left_since disk.old disk.new (λ c. Leaves phase body (file_at c request.note.slot)
         ⊎ Leaves (after phase request.note.call (is_done result.answer)) (body_after body request.note.call request.bytes) (file_at c request.note.slot)) }
     // The same of all slots together.
-    ensures every_slot { (phases : List Phase) (bodies : List (List ℕ)) (phase : Phase) → slice_get phases request.note.slot ≡ Some phase
-        → is_ready phase request.note.call ≡ true → DiskFits phases bodies (D.contents disk.old) (D.may_leave disk.old)
-        → DiskFits (slice_set phases request.note.slot (after phase request.note.call (is_done result.answer)))
-        (slice_set bodies request.note.slot (body_after (file_at bodies request.note.slot) request.note.call request.bytes))
-        (D.contents disk.new) (D.may_leave disk.new) }
-    ensures every_moment { (phases : List Phase) (bodies : List (List ℕ)) (phase : Phase) → slice_get phases request.note.slot ≡ Some phase
-        → is_ready phase request.note.call ≡ true → DiskFits phases bodies (D.contents disk.old) (D.may_leave disk.old)
+    ensures every_slot { (phases : List Phase) (bodies : List (List ℕ)) (phase : Phase) → Waits phases request.note phase
+        → DiskFits phases bodies (D.contents disk.old) (D.may_leave disk.old)
+        → DiskFits (phases_after phases request.note phase (is_done result.answer)) (bodies_after bodies request.note request.bytes) (D.contents disk.new) (D.may_leave disk.new) }
+    ensures every_moment { (phases : List Phase) (bodies : List (List ℕ)) (phase : Phase) → Waits phases request.note phase
+        → DiskFits phases bodies (D.contents disk.old) (D.may_leave disk.old)
         → LeavesOnly D.moment D.left_since disk.old disk.new (λ c. DiskLeaves phases bodies c
-        ⊎ DiskLeaves (slice_set phases request.note.slot (after phase request.note.call (is_done result.answer)))
-        (slice_set bodies request.note.slot (body_after (file_at bodies request.note.slot) request.note.call request.bytes)) c) }
+        ⊎ DiskLeaves (phases_after phases request.note phase (is_done result.answer)) (bodies_after bodies request.note request.bytes) c) }
 {
     let Request {
         worker,

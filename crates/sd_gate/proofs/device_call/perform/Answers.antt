@@ -39,10 +39,10 @@ returns-clause-elsewhere g c =
     (kept_elsewhere (call_of c.request.inside.order) (bytes_of c.request.inside.order) c.request.inside.slot old new before now made.torn made.crash)
 
 pub returns-clause-every_slot : goal.returns-clause-every_slot
-returns-clause-every_slot g c = λ phases bodies phase is ready fits. each_slot phases bodies
+returns-clause-every_slot g c = λ phases bodies phase waits fits. each_slot phases bodies
     (g.D.Disk.contents c.args.disk.now) (g.D.Disk.contents c.make-order.new.disk) (g.D.Disk.may_leave c.args.disk.now) (g.D.Disk.may_leave c.make-order.new.disk)
-    c.args.request.note.slot phase _ _ fits is
-    (λ here. returns-clause-fits g c phase (file_at bodies c.args.request.note.slot) ready here)
+    c.args.request.note.slot phase _ _ fits waits.is
+    (λ here. returns-clause-fits g c phase (file_at bodies c.args.request.note.slot) waits.ready here)
     (returns-clause-elsewhere g c)
 
 pub returns-clause-any_moment : goal.returns-clause-any_moment
@@ -52,8 +52,8 @@ returns-clause-any_moment g c = λ phase body ready fits. within_call g.D.Disk.m
     ((returns-clause-fits g c phase body ready fits).leaves)
 
 pub returns-clause-every_moment : goal.returns-clause-every_moment
-returns-clause-every_moment g c = λ phases bodies phase is ready fits. within_call g.D.Disk.moment g.D.Disk.left_since c.args.disk.now c.make-order.new.disk
+returns-clause-every_moment g c = λ phases bodies phase waits fits. within_call g.D.Disk.moment g.D.Disk.left_since c.args.disk.now c.make-order.new.disk
     _ _ (g.D.Disk.may_leave c.args.disk.now) (g.D.Disk.may_leave c.make-order.new.disk)
     (λ left_c left. g.met.D.Disk.only_now c.args.disk.now left_c left) c.make-order.ensures.time
     (each_left phases bodies (g.D.Disk.contents c.args.disk.now) (g.D.Disk.may_leave c.args.disk.now) fits)
-    (each_left _ _ (g.D.Disk.contents c.make-order.new.disk) (g.D.Disk.may_leave c.make-order.new.disk) (returns-clause-every_slot g c phases bodies phase is ready fits))
+    (each_left _ _ (g.D.Disk.contents c.make-order.new.disk) (g.D.Disk.may_leave c.make-order.new.disk) (returns-clause-every_slot g c phases bodies phase waits fits))
