@@ -1,0 +1,84 @@
+-- A slot's file through the calls on it.
+use Rattle.std.proofs.Common.{◌≡◌, ℕ, zero, suc, ◌+◌, ◌-◌, ◌<◌, List, [], ◌∷◌, length, take, slice_index, refl, sym, ◌∙◌, ap, arith, sub-one}
+use Rattle.std.proofs.lemmas.Grind.{same_number_lists}
+use Rattle.sd_disk.specs.Contents.{written, Torn, Cut}
+use Rattle.sd_image.specs.Image.{gate}
+use Rattle.sd_gate.specs.Fits.{IsClosed, IsBehind, IsBehindClosed, IsShort}
+
+pub behind_is_closed : (body file : List ℕ) → IsBehindClosed body file → IsClosed file
+behind_is_closed body [] behind = absurd (omega (arith, ap length behind.spelled))
+behind_is_closed body (x ∷ file) behind = record { some = omega arith; shut = λ is_gate. behind.shut (sym (ap (λ xs. slice_index xs 0) behind.spelled) ∙ is_gate) }
+
+pub closed_is_behind : (body file : List ℕ) → IsBehindClosed body file → IsBehind body file
+closed_is_behind body file behind = record { first = behind.first; spelled = behind.spelled }
+
+pub open_is_behind : (body file : List ℕ) → file ≡ gate ∷ body → IsBehind body file
+open_is_behind body file is = record { first = gate; spelled = is }
+
+-- a write behind the gate leaves it closed
+pub torn_closed : (at n : ℕ) (old new : List ℕ) → 0 < at → IsClosed old → Torn at n old new → IsClosed new
+torn_closed at n old new behind closed torn = record {
+  some = omega (arith, torn.no_shorter, closed.some);
+  shut = λ is_gate. closed.shut (sym (torn.below 0 closed.some behind) ∙ is_gate);
+}
+
+-- and so does a cut to one byte
+pub cut_closed : (old new : List ℕ) → IsClosed old → Cut 1 old new → IsClosed new
+cut_closed old new closed cut = record {
+  some = omega (arith, cut.no_shorter, closed.some);
+  shut = λ is_gate. closed.shut (sym (cut.below 0 closed.some (omega arith)) ∙ is_gate);
+}
+
+-- a write over the gate leaves the body
+pub torn_gate : (first : ℕ) (body new : List ℕ) → Torn 0 1 (first ∷ body) new → IsBehind body new
+torn_gate first body [] torn = absurd (omega (arith, torn.no_shorter))
+torn_gate first body (x ∷ rest) torn = record {
+  first = x;
+  spelled = ap (λ xs. x ∷ xs) (same_number_lists rest body (omega (arith, torn.no_shorter, torn.no_longer)) (λ i near.
+      torn.above (suc i) (omega (arith, torn.no_shorter, torn.no_longer)) (omega arith)));
+}
+
+pub torn_behind : (body old new : List ℕ) → IsBehind body old → Torn 0 1 old new → IsBehind body new
+torn_behind body old new behind torn = torn_gate behind.first body new (rw behind.spelled at torn)
+
+-- and a short file short
+pub torn_short : (old new : List ℕ) → IsShort old → Torn 0 1 old new → IsShort new
+torn_short old new short torn = omega (arith, torn.no_longer)
+
+-- a 0 at the front
+pub zeroed_closed : (file : List ℕ) → IsClosed (written file 0 (0 ∷ []))
+zeroed_closed file = record { some = omega arith; shut = λ is_gate. omega (arith, is_gate) }
+
+pub gate_written : (first byte : ℕ) (body : List ℕ) → written (first ∷ body) 0 (byte ∷ []) ≡ byte ∷ body
+gate_written first byte body = refl
+
+pub zeroed_behind : (body file : List ℕ) → IsBehind body file → IsBehindClosed body (written file 0 (0 ∷ []))
+zeroed_behind body file behind = record { first = 0; shut = λ is_gate. omega (arith, is_gate); spelled = rw behind.spelled (gate_written behind.first 0 body) }
+
+pub opened : (body file : List ℕ) → IsBehind body file → written file 0 (gate ∷ []) ≡ gate ∷ body
+opened body file behind = rw behind.spelled (gate_written behind.first gate body)
+
+-- bytes behind the gate are written into the body
+pub body_written : (first at : ℕ) (body bytes : List ℕ) → 0 < at → written (first ∷ body) at bytes ≡ first ∷ written body (at - 1) bytes
+body_written first zero body bytes behind = absurd (omega (arith, behind))
+body_written first (suc at) body bytes behind =
+    let pad : suc at - suc (length body) ≡ at - length body = omega arith in
+    let past : suc at + length bytes ≡ suc (at + length bytes) = omega arith in
+    rw (pad, past, sub-one) refl
+
+pub filled_behind : (at : ℕ) (body bytes file : List ℕ) → 0 < at → IsBehindClosed body file → IsBehindClosed (written body (at - 1) bytes) (written file at bytes)
+filled_behind at body bytes file behind closed = record {
+  first = closed.first;
+  shut = closed.shut;
+  spelled = ap (λ xs. written xs at bytes) closed.spelled ∙ body_written closed.first at body bytes behind;
+}
+
+-- the first byte alone
+pub cut_bare : (file : List ℕ) → IsClosed file → IsBehindClosed [] (take 1 file)
+cut_bare [] closed = absurd (omega (arith, closed.some))
+cut_bare (x ∷ file) closed = record { first = x; shut = closed.shut; spelled = refl }
+
+pub written_closed : (at : ℕ) (bytes file : List ℕ) → 0 < at → IsClosed file → IsClosed (written file at bytes)
+written_closed at bytes [] behind closed = absurd (omega (arith, closed.some))
+written_closed at bytes (x ∷ file) behind closed = behind_is_closed (written file (at - 1) bytes) (written (x ∷ file) at bytes)
+    (record { first = x; shut = closed.shut; spelled = body_written x at file bytes behind })

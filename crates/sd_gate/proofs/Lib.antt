@@ -1,0 +1,6 @@
+mod BodyLemmas
+mod CallLemmas
+mod FitLemmas
+mod LawLemmas
+mod PhaseLemmas
+mod SlotsLemmas

@@ -1,0 +1,338 @@
+-- A slot through one call: from the phase that waits for it to the phase that follows.
+use Rattle.std.proofs.Common.{◌≡◌, ℕ, ◌-◌, ◌<◌, ◌≤◌, true, List, [], ◌∷◌, length, take, slice_set, refl, sym, ◌∙◌, ap, subst, arith}
+use Rattle.std.proofs.lemmas.Bool.{false≢true}
+use Rattle.std.proofs.lemmas.List.{get_or-set_same}
+use Rattle.sd_disk.specs.Contents.{file_at, written, Torn, AtSlot, Cut as CutTo}
+use Rattle.sd_disk.specs.Crash.{Follows, OnlyAt}
+use Rattle.sd_image.specs.Image.{gate}
+use Rattle.sd_gate.specs.declared.phase.Phase.{Phase}
+use Rattle.sd_gate.specs.declared.phase.Phase.TheVariants.{Raw, RawClosing, Whole, Closing, Shut, ShutSynced, Bare, Writing, Ready, Opening, Doubt, DoubtSynced}
+use Rattle.sd_gate.specs.Phases.{may_close, may_write, given_up, synced, closing, filled}
+use Rattle.sd_gate.specs.Fits.{IsClosed, IsBehindClosed, Reads, Leaves, is_synced, SlotFits}
+use Rattle.sd_gate.proofs.FitLemmas.{behind_is_closed, closed_is_behind, open_is_behind, torn_closed, cut_closed, torn_behind, torn_short, zeroed_closed, zeroed_behind, opened, filled_behind, cut_bare, written_closed}
+
+-- a slot that may be written behind its gate is closed
+leaves_closed : (phase : Phase) (body file : List ℕ) → may_write phase ≡ true → Leaves phase body file → IsClosed file
+leaves_closed Raw body file ready is = absurd (false≢true ready)
+leaves_closed RawClosing body file ready is = absurd (false≢true ready)
+leaves_closed Whole body file ready is = absurd (false≢true ready)
+leaves_closed Closing body file ready is = absurd (false≢true ready)
+leaves_closed Shut body file ready is = is
+leaves_closed ShutSynced body file ready is = is
+leaves_closed Bare body file ready is = is
+leaves_closed Writing body file ready is = is
+leaves_closed Ready body file ready is = behind_is_closed body file is
+leaves_closed Opening body file ready is = absurd (false≢true ready)
+leaves_closed Doubt body file ready is = absurd (false≢true ready)
+leaves_closed DoubtSynced body file ready is = absurd (false≢true ready)
+
+-- what a phase reads and leaves after a write behind the gate
+filled_reads : (phase : Phase) (at : ℕ) (body bytes file : List ℕ) → may_write phase ≡ true → 0 < at → Reads phase body file
+    → Reads (filled phase) (written body (at - 1) bytes) (written file at bytes)
+filled_reads Raw at body bytes file ready behind is = absurd (false≢true ready)
+filled_reads RawClosing at body bytes file ready behind is = absurd (false≢true ready)
+filled_reads Whole at body bytes file ready behind is = absurd (false≢true ready)
+filled_reads Closing at body bytes file ready behind is = absurd (false≢true ready)
+filled_reads Shut at body bytes file ready behind is = written_closed at bytes file behind is
+filled_reads ShutSynced at body bytes file ready behind is = written_closed at bytes file behind is
+filled_reads Bare at body bytes file ready behind is = subst (λ b. IsBehindClosed (written b (at - 1) bytes) (written file at bytes)) (sym is.0) (filled_behind at [] bytes file behind is.1)
+filled_reads Writing at body bytes file ready behind is = filled_behind at body bytes file behind is
+filled_reads Ready at body bytes file ready behind is = filled_behind at body bytes file behind is
+filled_reads Opening at body bytes file ready behind is = absurd (false≢true ready)
+filled_reads Doubt at body bytes file ready behind is = absurd (false≢true ready)
+filled_reads DoubtSynced at body bytes file ready behind is = absurd (false≢true ready)
+
+filled_leaves : (phase : Phase) (body file : List ℕ) → may_write phase ≡ true → IsClosed file → Leaves (filled phase) body file
+filled_leaves Raw body file ready is = absurd (false≢true ready)
+filled_leaves RawClosing body file ready is = absurd (false≢true ready)
+filled_leaves Whole body file ready is = absurd (false≢true ready)
+filled_leaves Closing body file ready is = absurd (false≢true ready)
+filled_leaves Shut body file ready is = is
+filled_leaves ShutSynced body file ready is = is
+filled_leaves Bare body file ready is = is
+filled_leaves Writing body file ready is = is
+filled_leaves Ready body file ready is = is
+filled_leaves Opening body file ready is = absurd (false≢true ready)
+filled_leaves Doubt body file ready is = absurd (false≢true ready)
+filled_leaves DoubtSynced body file ready is = absurd (false≢true ready)
+
+filled_unsynced : (phase : Phase) → may_write phase ≡ true → is_synced (filled phase) ≡ true → ⊥
+filled_unsynced Raw ready sync = false≢true ready
+filled_unsynced RawClosing ready sync = false≢true ready
+filled_unsynced Whole ready sync = false≢true ready
+filled_unsynced Closing ready sync = false≢true ready
+filled_unsynced Shut ready sync = false≢true sync
+filled_unsynced ShutSynced ready sync = false≢true sync
+filled_unsynced Bare ready sync = false≢true sync
+filled_unsynced Writing ready sync = false≢true sync
+filled_unsynced Ready ready sync = false≢true sync
+filled_unsynced Opening ready sync = false≢true ready
+filled_unsynced Doubt ready sync = false≢true ready
+filled_unsynced DoubtSynced ready sync = false≢true ready
+
+-- after a 0 over the gate
+closing_reads : (phase : Phase) (body file : List ℕ) → may_close phase ≡ true → Leaves phase body file → Reads (closing phase) body (written file 0 (0 ∷ []))
+closing_reads Raw body file ready is = zeroed_closed file
+closing_reads RawClosing body file ready is = zeroed_closed file
+closing_reads Whole body file ready is = zeroed_behind body file (open_is_behind body file is)
+closing_reads Closing body file ready is = zeroed_behind body file is
+closing_reads Shut body file ready is = absurd (false≢true ready)
+closing_reads ShutSynced body file ready is = absurd (false≢true ready)
+closing_reads Bare body file ready is = absurd (false≢true ready)
+closing_reads Writing body file ready is = absurd (false≢true ready)
+closing_reads Ready body file ready is = absurd (false≢true ready)
+closing_reads Opening body file ready is = zeroed_behind body file is
+closing_reads Doubt body file ready is = zeroed_behind body file is
+closing_reads DoubtSynced body file ready is = zeroed_behind body file is
+
+closing_leaves : (phase : Phase) (body old new : List ℕ) → may_close phase ≡ true → Leaves phase body old → Torn 0 1 old new → Leaves (closing phase) body new
+closing_leaves Raw body old new ready is torn = torn_short old new is torn
+closing_leaves RawClosing body old new ready is torn = torn_short old new is torn
+closing_leaves Whole body old new ready is torn = torn_behind body old new (open_is_behind body old is) torn
+closing_leaves Closing body old new ready is torn = torn_behind body old new is torn
+closing_leaves Shut body old new ready is torn = absurd (false≢true ready)
+closing_leaves ShutSynced body old new ready is torn = absurd (false≢true ready)
+closing_leaves Bare body old new ready is torn = absurd (false≢true ready)
+closing_leaves Writing body old new ready is torn = absurd (false≢true ready)
+closing_leaves Ready body old new ready is torn = absurd (false≢true ready)
+closing_leaves Opening body old new ready is torn = torn_behind body old new is torn
+closing_leaves Doubt body old new ready is torn = torn_behind body old new is torn
+closing_leaves DoubtSynced body old new ready is torn = torn_behind body old new is torn
+
+closing_unsynced : (phase : Phase) → may_close phase ≡ true → is_synced (closing phase) ≡ true → ⊥
+closing_unsynced Raw ready sync = false≢true sync
+closing_unsynced RawClosing ready sync = false≢true sync
+closing_unsynced Whole ready sync = false≢true sync
+closing_unsynced Closing ready sync = false≢true sync
+closing_unsynced Shut ready sync = false≢true ready
+closing_unsynced ShutSynced ready sync = false≢true ready
+closing_unsynced Bare ready sync = false≢true ready
+closing_unsynced Writing ready sync = false≢true ready
+closing_unsynced Ready ready sync = false≢true ready
+closing_unsynced Opening ready sync = false≢true sync
+closing_unsynced Doubt ready sync = false≢true sync
+closing_unsynced DoubtSynced ready sync = false≢true sync
+
+-- a failed write over the gate
+failed_closing_leaves : (phase : Phase) (body file : List ℕ) → may_close phase ≡ true → Leaves (closing phase) body file → Leaves (given_up (closing phase)) body file × Reads (given_up (closing phase)) body file
+failed_closing_leaves Raw body file ready is = (is, is)
+failed_closing_leaves RawClosing body file ready is = (is, is)
+failed_closing_leaves Whole body file ready is = (is, is)
+failed_closing_leaves Closing body file ready is = (is, is)
+failed_closing_leaves Shut body file ready is = absurd (false≢true ready)
+failed_closing_leaves ShutSynced body file ready is = absurd (false≢true ready)
+failed_closing_leaves Bare body file ready is = absurd (false≢true ready)
+failed_closing_leaves Writing body file ready is = absurd (false≢true ready)
+failed_closing_leaves Ready body file ready is = absurd (false≢true ready)
+failed_closing_leaves Opening body file ready is = (is, is)
+failed_closing_leaves Doubt body file ready is = (is, is)
+failed_closing_leaves DoubtSynced body file ready is = (is, is)
+
+failed_closing_unsynced : (phase : Phase) → may_close phase ≡ true → is_synced (given_up (closing phase)) ≡ true → ⊥
+failed_closing_unsynced Raw ready sync = false≢true sync
+failed_closing_unsynced RawClosing ready sync = false≢true sync
+failed_closing_unsynced Whole ready sync = false≢true sync
+failed_closing_unsynced Closing ready sync = false≢true sync
+failed_closing_unsynced Shut ready sync = false≢true ready
+failed_closing_unsynced ShutSynced ready sync = false≢true ready
+failed_closing_unsynced Bare ready sync = false≢true ready
+failed_closing_unsynced Writing ready sync = false≢true ready
+failed_closing_unsynced Ready ready sync = false≢true ready
+failed_closing_unsynced Opening ready sync = false≢true sync
+failed_closing_unsynced Doubt ready sync = false≢true sync
+failed_closing_unsynced DoubtSynced ready sync = false≢true sync
+
+-- after a sync what is read is what a crash leaves
+synced_reads : (phase : Phase) (body file : List ℕ) → Reads phase body file → Reads (synced phase) body file
+synced_reads Raw body file is = is
+synced_reads RawClosing body file is = is
+synced_reads Whole body file is = is
+synced_reads Closing body file is = behind_is_closed body file is
+synced_reads Shut body file is = is
+synced_reads ShutSynced body file is = is
+synced_reads Bare body file is = behind_is_closed [] file is.1
+synced_reads Writing body file is = is
+synced_reads Ready body file is = is
+synced_reads Opening body file is = is
+synced_reads Doubt body file is = is
+synced_reads DoubtSynced body file is = is
+
+synced_leaves : (phase : Phase) (body file : List ℕ) → Reads (synced phase) body file → Leaves (synced phase) body file
+synced_leaves Raw body file is = is
+synced_leaves RawClosing body file is = is
+synced_leaves Whole body file is = is
+synced_leaves Closing body file is = is
+synced_leaves Shut body file is = is
+synced_leaves ShutSynced body file is = is
+synced_leaves Bare body file is = is
+synced_leaves Writing body file is = is
+synced_leaves Ready body file is = is
+synced_leaves Opening body file is = is
+synced_leaves Doubt body file is = is
+synced_leaves DoubtSynced body file is = is
+
+-- a job that is given up
+given_up_reads : (phase : Phase) (body file : List ℕ) → Reads phase body file → Leaves phase body file → Reads (given_up phase) body file
+given_up_reads Raw body file is may = is
+given_up_reads RawClosing body file is may = may
+given_up_reads Whole body file is may = is
+given_up_reads Closing body file is may = may
+given_up_reads Shut body file is may = is
+given_up_reads ShutSynced body file is may = is
+given_up_reads Bare body file is may = is
+given_up_reads Writing body file is may = may
+given_up_reads Ready body file is may = behind_is_closed body file may
+given_up_reads Opening body file is may = may
+given_up_reads Doubt body file is may = is
+given_up_reads DoubtSynced body file is may = is
+
+given_up_leaves : (phase : Phase) (body file : List ℕ) → Leaves phase body file → Leaves (given_up phase) body file
+given_up_leaves Raw body file may = may
+given_up_leaves RawClosing body file may = may
+given_up_leaves Whole body file may = may
+given_up_leaves Closing body file may = may
+given_up_leaves Shut body file may = may
+given_up_leaves ShutSynced body file may = may
+given_up_leaves Bare body file may = may
+given_up_leaves Writing body file may = may
+given_up_leaves Ready body file may = behind_is_closed body file may
+given_up_leaves Opening body file may = may
+given_up_leaves Doubt body file may = may
+given_up_leaves DoubtSynced body file may = may
+
+given_up_synced : (phase : Phase) → is_synced (given_up phase) ≡ true → is_synced phase ≡ true
+given_up_synced Raw sync = sync
+given_up_synced RawClosing sync = sync
+given_up_synced Whole sync = sync
+given_up_synced Closing sync = sync
+given_up_synced Shut sync = sync
+given_up_synced ShutSynced sync = refl
+given_up_synced Bare sync = sync
+given_up_synced Writing sync = sync
+given_up_synced Ready sync = refl
+given_up_synced Opening sync = sync
+given_up_synced Doubt sync = sync
+given_up_synced DoubtSynced sync = refl
+
+module _ (slot : ℕ) (old : List (List ℕ)) (before : List (List ℕ) → Type 0) (now_read : before old) where
+  -- what is read is one outcome of a crash
+  pub may_read : (phase : Phase) (body : List ℕ) → SlotFits phase body slot old before → Leaves phase body (file_at old slot)
+  may_read phase body fits = fits.leaves old now_read
+
+  pub slot_given_up : (phase : Phase) (body : List ℕ) → SlotFits phase body slot old before → SlotFits (given_up phase) body slot old before
+  slot_given_up phase body fits = record {
+    reads = given_up_reads phase body (file_at old slot) fits.reads (may_read phase body fits);
+    leaves = λ c may. given_up_leaves phase body (file_at c slot) (fits.leaves c may);
+    as_read = λ sync. fits.as_read (given_up_synced phase sync);
+  }
+
+  pub cut_inside : (phase : Phase) (body : List ℕ) → may_write phase ≡ true → SlotFits phase body slot old before → 1 ≤ length (file_at old slot)
+  cut_inside phase body ready fits = let closed = leaves_closed phase body (file_at old slot) ready (may_read phase body fits) in omega (arith, closed.some)
+
+  -- a call that changes nothing
+  pub slot_kept : (phase : Phase) (body : List ℕ) (new : List (List ℕ)) (after_it : List (List ℕ) → Type 0) → new ≡ old
+      → Follows (λ c d. d ≡ c) before after_it → SlotFits phase body slot old before → SlotFits phase body slot new after_it
+  slot_kept phase body new after_it same crash fits = record {
+    reads = subst (λ c. Reads phase body (file_at c slot)) (sym same) fits.reads;
+    leaves = λ c may. let was = crash c may in subst (λ d. Leaves phase body (file_at d slot)) (sym was.2) (fits.leaves was.0 was.1);
+    as_read = λ sync c may. let was = crash c may in ap (λ d. file_at d slot) was.2 ∙ fits.as_read sync was.0 was.1 ∙ ap (λ d. file_at d slot) (sym same);
+  }
+
+  pub slot_synced : (phase : Phase) (body : List ℕ) (new : List (List ℕ)) (after_it : List (List ℕ) → Type 0) → new ≡ old
+      → OnlyAt slot (file_at old slot) after_it → SlotFits phase body slot old before → SlotFits (synced phase) body slot new after_it
+  slot_synced phase body new after_it same durable fits =
+      let here : Reads (synced phase) body (file_at old slot) = synced_reads phase body (file_at old slot) fits.reads in
+      record {
+        reads = subst (λ c. Reads (synced phase) body (file_at c slot)) (sym same) here;
+        leaves = λ c may. subst (Leaves (synced phase) body) (sym (durable c may)) (synced_leaves phase body (file_at old slot) here);
+        as_read = λ sync c may. durable c may ∙ ap (λ d. file_at d slot) (sym same);
+      }
+
+  module _ (new : List (List ℕ)) (after_it : List (List ℕ) → Type 0) (there : slot < length old) where
+    here : (file : List ℕ) → new ≡ slice_set old slot file → file_at new slot ≡ file
+    here file is = ap (λ c. file_at c slot) is ∙ get_or-set_same old slot file [] there
+
+    pub slot_filled : (phase : Phase) (body bytes : List ℕ) (at : ℕ) → may_write phase ≡ true → 0 < at
+        → new ≡ slice_set old slot (written (file_at old slot) at bytes) → Follows (AtSlot slot (Torn at (length bytes))) before after_it
+        → SlotFits phase body slot old before → SlotFits (filled phase) (written body (at - 1) bytes) slot new after_it
+    slot_filled phase body bytes at ready behind is crash fits = record {
+      reads = subst (Reads (filled phase) (written body (at - 1) bytes)) (sym (here (written (file_at old slot) at bytes) is))
+          (filled_reads phase at body bytes (file_at old slot) ready behind fits.reads);
+      leaves = λ c may. let was = crash c may in
+          filled_leaves phase (written body (at - 1) bytes) (file_at c slot) ready
+          (torn_closed at (length bytes) (file_at was.0 slot) (file_at c slot) behind (leaves_closed phase body (file_at was.0 slot) ready (fits.leaves was.0 was.1)) was.2.here);
+      as_read = λ sync. absurd (filled_unsynced phase ready sync);
+    }
+
+    pub slot_not_filled : (phase : Phase) (body other : List ℕ) (at n : ℕ) → may_write phase ≡ true → 0 < at
+        → AtSlot slot (Torn at n) old new → Follows (AtSlot slot (Torn at n)) before after_it
+        → SlotFits phase body slot old before → SlotFits Shut other slot new after_it
+    slot_not_filled phase body other at n ready behind torn crash fits = record {
+      reads = torn_closed at n (file_at old slot) (file_at new slot) behind (leaves_closed phase body (file_at old slot) ready (may_read phase body fits)) torn.here;
+      leaves = λ c may. let was = crash c may in
+          torn_closed at n (file_at was.0 slot) (file_at c slot) behind (leaves_closed phase body (file_at was.0 slot) ready (fits.leaves was.0 was.1)) was.2.here;
+      as_read = λ sync. absurd (false≢true sync);
+    }
+
+    pub slot_cut : (phase : Phase) (body : List ℕ) → may_write phase ≡ true
+        → new ≡ slice_set old slot (take 1 (file_at old slot)) → Follows (AtSlot slot (CutTo 1)) before after_it
+        → SlotFits phase body slot old before → SlotFits Bare [] slot new after_it
+    slot_cut phase body ready is crash fits = record {
+      reads = (refl, subst (IsBehindClosed []) (sym (here (take 1 (file_at old slot)) is)) (cut_bare (file_at old slot) (leaves_closed phase body (file_at old slot) ready (may_read phase body fits))));
+      leaves = λ c may. let was = crash c may in
+          cut_closed (file_at was.0 slot) (file_at c slot) (leaves_closed phase body (file_at was.0 slot) ready (fits.leaves was.0 was.1)) was.2.here;
+      as_read = λ sync. absurd (false≢true sync);
+    }
+
+    pub slot_not_cut : (phase : Phase) (body other : List ℕ) → may_write phase ≡ true
+        → AtSlot slot (CutTo 1) old new → Follows (AtSlot slot (CutTo 1)) before after_it
+        → SlotFits phase body slot old before → SlotFits Shut other slot new after_it
+    slot_not_cut phase body other ready torn crash fits = record {
+      reads = cut_closed (file_at old slot) (file_at new slot) (leaves_closed phase body (file_at old slot) ready (may_read phase body fits)) torn.here;
+      leaves = λ c may. let was = crash c may in
+          cut_closed (file_at was.0 slot) (file_at c slot) (leaves_closed phase body (file_at was.0 slot) ready (fits.leaves was.0 was.1)) was.2.here;
+      as_read = λ sync. absurd (false≢true sync);
+    }
+
+    pub slot_closing : (phase : Phase) (body : List ℕ) → may_close phase ≡ true
+        → new ≡ slice_set old slot (written (file_at old slot) 0 (0 ∷ [])) → Follows (AtSlot slot (Torn 0 1)) before after_it
+        → SlotFits phase body slot old before → SlotFits (closing phase) body slot new after_it
+    slot_closing phase body ready is crash fits = record {
+      reads = subst (Reads (closing phase) body) (sym (here (written (file_at old slot) 0 (0 ∷ [])) is))
+          (closing_reads phase body (file_at old slot) ready (may_read phase body fits));
+      leaves = λ c may. let was = crash c may in
+          closing_leaves phase body (file_at was.0 slot) (file_at c slot) ready (fits.leaves was.0 was.1) was.2.here;
+      as_read = λ sync. absurd (closing_unsynced phase ready sync);
+    }
+
+    pub slot_not_closing : (phase : Phase) (body : List ℕ) → may_close phase ≡ true
+        → AtSlot slot (Torn 0 1) old new → Follows (AtSlot slot (Torn 0 1)) before after_it
+        → SlotFits phase body slot old before → SlotFits (given_up (closing phase)) body slot new after_it
+    slot_not_closing phase body ready torn crash fits = record {
+      reads = (failed_closing_leaves phase body (file_at new slot) ready
+          (closing_leaves phase body (file_at old slot) (file_at new slot) ready (may_read phase body fits) torn.here)).1;
+      leaves = λ c may. let was = crash c may in
+          (failed_closing_leaves phase body (file_at c slot) ready
+          (closing_leaves phase body (file_at was.0 slot) (file_at c slot) ready (fits.leaves was.0 was.1) was.2.here)).0;
+      as_read = λ sync. absurd (failed_closing_unsynced phase ready sync);
+    }
+
+    pub slot_opening : (body : List ℕ)
+        → new ≡ slice_set old slot (written (file_at old slot) 0 (gate ∷ [])) → Follows (AtSlot slot (Torn 0 1)) before after_it
+        → SlotFits Ready body slot old before → SlotFits Opening body slot new after_it
+    slot_opening body is crash fits = record {
+      reads = here (written (file_at old slot) 0 (gate ∷ [])) is ∙ opened body (file_at old slot) (closed_is_behind body (file_at old slot) fits.reads);
+      leaves = λ c may. let was = crash c may in
+          torn_behind body (file_at was.0 slot) (file_at c slot) (closed_is_behind body (file_at was.0 slot) (fits.leaves was.0 was.1)) was.2.here;
+      as_read = λ sync. absurd (false≢true sync);
+    }
+
+    pub slot_not_opening : (body : List ℕ)
+        → AtSlot slot (Torn 0 1) old new → Follows (AtSlot slot (Torn 0 1)) before after_it
+        → SlotFits Ready body slot old before → SlotFits Doubt body slot new after_it
+    slot_not_opening body torn crash fits = record {
+      reads = torn_behind body (file_at old slot) (file_at new slot) (closed_is_behind body (file_at old slot) fits.reads) torn.here;
+      leaves = λ c may. let was = crash c may in
+          torn_behind body (file_at was.0 slot) (file_at c slot) (closed_is_behind body (file_at was.0 slot) (fits.leaves was.0 was.1)) was.2.here;
+      as_read = λ sync. absurd (false≢true sync);
+    }

@@ -1,0 +1,114 @@
+-- What the phases promise the layers above.
+use Rattle.std.specs.Prelude.{◌≡◌, ◌⊎◌, ℕ, ◌==◌, ◌+◌, ◌*◌, ◌≤◌, nat_lt, true, false, if◌then◌else◌, List, [], ◌∷◌, ◌++◌, length, drop, slice_index, slice_range}
+use Rattle.std.specs.List.{concat, AllByRecursion}
+use Rattle.sd_disk.specs.Contents.{file_at}
+use Rattle.sd_disk.specs.Crash.{OnlyAt}
+use Rattle.sd_image.specs.declared.header.Header.{Header}
+use Rattle.sd_image.specs.Header.{header_text}
+use Rattle.sd_image.specs.Image.{gate, is_open}
+use Rattle.sd_image.specs.Words.{zeros}
+use Rattle.sd_gate.specs.declared.call.Call.{Call}
+use Rattle.sd_gate.specs.declared.call.Call.TheVariants.{Write, WriteHeader, Cut}
+use Rattle.sd_gate.specs.declared.phase.Phase.{Phase}
+use Rattle.sd_gate.specs.declared.phase.Phase.TheVariants.{Raw, RawClosing, Whole, Closing, Shut, ShutSynced, Bare, Writing, Ready, Opening, Doubt, DoubtSynced}
+use Rattle.sd_gate.specs.declared.slot_state.SlotState.{SlotState}
+use Rattle.sd_gate.specs.declared.slot_state.SlotState.TheVariants.{Raw as RawSlot, Closed, Open as OpenSlot}
+use Rattle.sd_gate.specs.Fits.{Leaves, SlotFits}
+use Rattle.sd_gate.specs.Phases.{is_ready, given_up, after, body_after}
+use Rattle.sd_gate.specs.Steps.{Calls, format_calls, closing_calls, body_calls, table_place}
+
+-- the slot holds no image, or this one
+abbrev pub IsClosedOrWhole : List ℕ → List ℕ → Type 0
+IsClosedOrWhole body file = (is_open file ≡ false) ⊎ (file ≡ gate ∷ body)
+
+-- what a crash leaves: no image before the gate is opened; none or the whole one while it is opened or closed; the image once it is synced
+abbrev pub CrashLeaves : Phase → List ℕ → List ℕ → Type 0
+CrashLeaves Raw body file = is_open file ≡ false
+CrashLeaves RawClosing body file = is_open file ≡ false
+CrashLeaves Whole body file = file ≡ gate ∷ body
+CrashLeaves Closing body file = IsClosedOrWhole body file
+CrashLeaves Shut body file = is_open file ≡ false
+CrashLeaves ShutSynced body file = is_open file ≡ false
+CrashLeaves Bare body file = is_open file ≡ false
+CrashLeaves Writing body file = is_open file ≡ false
+CrashLeaves Ready body file = is_open file ≡ false
+CrashLeaves Opening body file = IsClosedOrWhole body file
+CrashLeaves Doubt body file = IsClosedOrWhole body file
+CrashLeaves DoubtSynced body file = IsClosedOrWhole body file
+
+abbrev pub ImageWholeOrClosed : Type 0
+ImageWholeOrClosed = (phase : Phase) (body file : List ℕ) → Leaves phase body file → CrashLeaves phase body file
+
+-- giving up a slot's job changes no disk, and keeps the fit
+abbrev pub GivenUpFits : List (List ℕ) → (List (List ℕ) → Type 0) → Type 0
+GivenUpFits contents may_leave = (phase : Phase) (body : List ℕ) (slot : ℕ) → SlotFits phase body slot contents may_leave
+    → SlotFits (given_up phase) body slot contents may_leave
+
+-- the phase of a synced file, by its length and its first byte
+abbrev pub found_phase : List ℕ → Phase
+found_phase file = if nat_lt (length file) 4096 then Raw else (if slice_index file 0 == gate then Whole else Shut)
+
+-- a slot that was synced is in the phase that its file tells
+abbrev pub FoundFits : List (List ℕ) → (List (List ℕ) → Type 0) → Type 0
+FoundFits contents may_leave = (slot : ℕ) → OnlyAt slot (file_at contents slot) may_leave
+    → SlotFits (found_phase (file_at contents slot)) (drop 1 (file_at contents slot)) slot contents may_leave
+
+-- the phase that an inspection tells, by the length and the first bytes that came back
+abbrev pub phase_told : ℕ → List ℕ → Phase
+phase_told len first = if nat_lt len 4096 then Raw else (if slice_index first 0 == gate then Whole else Shut)
+
+-- it is the phase of the file that was inspected
+abbrev pub InspectionTells : Type 0
+InspectionTells = (file first : List ℕ) → (4096 ≤ length file → first ≡ slice_range file 0 (0 + 4096)) → phase_told (length file) first ≡ found_phase file
+
+-- a slot in the first phase takes these calls, one after the other, and is then in the last, with that body
+pub data Leads : Phase → List ℕ → Calls → Phase → List ℕ → Type 0 where
+  no_call : (phase : Phase) (body : List ℕ) → Leads phase body [] phase body
+  one_call : (phase last : Phase) (body final : List ℕ) (call : Call) (bytes : List ℕ) (calls : Calls) → is_ready phase call ≡ true
+      → Leads (after phase call true) (body_after body call bytes) calls last final → Leads phase body ((call, bytes) ∷ calls) last final
+
+-- the states in which a slot may be formatted, by its phase
+pub data MayFormat : SlotState → Phase → Type 0 where
+  raw : MayFormat RawSlot Raw
+  shut : MayFormat Closed Shut
+  bare : MayFormat Closed Bare
+  found_shut : MayFormat Closed ShutSynced
+  whole : MayFormat OpenSlot Whole
+  doubt : MayFormat OpenSlot Doubt
+
+-- each plan that writes takes its slot from one phase to the next
+pub record PlansLead : Type 0 where
+  pub format : (state : SlotState) (phase : Phase) (body : List ℕ) → MayFormat state phase → Leads phase body (format_calls state) Bare []
+  pub first_page : (place : ℕ) (page : List ℕ) → Leads Bare [] ((Write place, page) ∷ []) Writing (body_after [] (Write place) page)
+  pub next_page : (body : List ℕ) (place : ℕ) (page : List ℕ) → Leads Writing body ((Write place, page) ∷ []) Writing (body_after body (Write place) page)
+  pub empty_body : (header : Header) (table : List ℕ) → Leads Bare [] (body_calls header table) Whole
+      (body_after (body_after [] (Write (table_place header)) table) WriteHeader (header_text header))
+  pub filled_body : (body : List ℕ) (header : Header) (table : List ℕ) → Leads Writing body (body_calls header table) Whole
+      (body_after (body_after body (Write (table_place header)) table) WriteHeader (header_text header))
+  pub retire : (body : List ℕ) → Leads Whole body closing_calls Bare []
+
+-- each has the bytes of a page
+abbrev pub AreWhole : List (List ℕ) → Type 0
+AreWhole = AllByRecursion (λ page. length page ≡ 4096)
+
+-- the body with these data pages behind the room for a header, which is made with the first of them
+abbrev pub pages_body : List (List ℕ) → List ℕ
+pages_body [] = []
+pages_body (page ∷ pages) = zeros 4095 ++ concat (page ∷ pages)
+
+-- where the next data page goes
+abbrev pub page_place : List (List ℕ) → ℕ
+page_place pages = 4096 + 4096 * length pages
+
+-- data pages are written one behind the other, and the table and the header complete the body of the image
+pub record BodiesFill : Type 0 where
+  pub page : (pages : List (List ℕ)) (page : List ℕ) → AreWhole pages
+      → body_after (pages_body pages) (Write (page_place pages)) page ≡ pages_body (pages ++ page ∷ [])
+  pub image : (pages : List (List ℕ)) (header : Header) (table : List ℕ) → AreWhole pages → header.pages ≡ length pages
+      → body_after (body_after (pages_body pages) (Write (table_place header)) table) WriteHeader (header_text header)
+      ≡ header_text header ++ concat pages ++ table
+
+-- a slot that is ready for a cut has the byte that the cut leaves
+abbrev pub CutsFit : List (List ℕ) → (List (List ℕ) → Type 0) → Type 0
+CutsFit contents may_leave = (phase : Phase) (body : List ℕ) (slot : ℕ) → is_ready phase Cut ≡ true → SlotFits phase body slot contents may_leave
+    → 1 ≤ length (file_at contents slot)

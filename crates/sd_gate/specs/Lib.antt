@@ -1,0 +1,8 @@
+pub mod Calls
+pub mod Fits
+pub mod Inspections
+pub mod Laws
+pub mod Phases
+pub mod Plans
+pub mod Steps
+pub mod Requests

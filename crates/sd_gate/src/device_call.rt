@@ -1,0 +1,130 @@
+//! Making one device call.
+ghost use Rattle.std.specs.Prelude.{◌≡◌, ◌≢◌, ◌⊎◌, ◌<◌, ℕ, true, List, length, MatchResult};
+ghost use Rattle.sd_disk.specs.Contents.{file_at};
+ghost use Rattle.sd_disk.specs.Crash.{Follows, OnlyAt, Elapses, LeavesOnly};
+ghost use Rattle.sd_gate.specs.Calls.{call_of, bytes_of, is_done, contents_after, Makes, IsInside, IsSound, IsAnswerTo, AreKept, Tells, HasCause};
+ghost use Rattle.sd_gate.specs.Phases.{is_ready, after, body_after, Waits, phases_after, bodies_after};
+ghost use Rattle.sd_gate.specs.Fits.{Leaves, SlotFits, DiskFits, DiskLeaves};
+ghost use Rattle.sd_gate.specs.declared.call.Call.TheVariants.{Sync};
+ghost use Rattle.sd_gate.specs.declared.phase.Phase.{Phase};
+
+use crate::answer::Answer;
+use crate::order::Order;
+use crate::outcome::Outcome;
+use crate::request::Request;
+use sd_disk::{DeviceError, Disk};
+use sd_image::encode_header;
+
+/// The gate byte of an open slot.
+const GATE: u8 = 0xA5;
+
+/// How a call ended that tells nothing else.
+fn answer_of(ended: Result<(), DeviceError>) -> Answer
+    ensures { MatchResult ended (λ _. result ≡ Answer.Done) (λ _. result ≡ Answer.Failed) }
+{
+    match ended {
+        Ok(()) => Answer::Done,
+        Err(_) => Answer::Failed,
+    }
+}
+
+/// How the question for a length ended.
+fn length_of(ended: Result<usize, DeviceError>) -> Answer
+    ensures { MatchResult ended (λ n. result ≡ Answer.Len n) (λ _. result ≡ Answer.Failed) }
+{
+    match ended {
+        Ok(len) => Answer::Len(len),
+        Err(_) => Answer::Failed,
+    }
+}
+
+/// Makes the call of an order, and no other.
+fn make<D: Disk>(disk: &mut D, slot: usize, order: Order) -> (Order, Answer)
+    requires slot { slot < length (D.contents disk.old) }
+    requires sound { IsSound order }
+    requires inside { D.is_honest disk.old → IsInside (call_of order) (bytes_of order) (file_at (D.contents disk.old) slot) }
+    ensures call { call_of result.0 ≡ call_of order }
+    ensures bytes { AreKept (call_of order) (bytes_of order) (bytes_of result.0) }
+    ensures answer { is_done result.1 ≡ true → IsAnswerTo (call_of order) result.1 }
+    ensures tells { D.is_honest disk.new → is_done result.1 ≡ true → Tells (call_of order) (file_at (D.contents disk.old) slot) result.1 (bytes_of result.0) }
+    ensures done { is_done result.1 ≡ true → D.contents disk.new ≡ contents_after (call_of order) (bytes_of order) slot (D.contents disk.old) }
+    ensures torn { Makes (call_of order) (bytes_of order) slot (D.contents disk.old) (D.contents disk.new) }
+    ensures crash { Follows (Makes (call_of order) (bytes_of order) slot) (D.may_leave disk.old) (D.may_leave disk.new) }
+    ensures durable { call_of order ≡ Sync → is_done result.1 ≡ true → OnlyAt slot (file_at (D.contents disk.old) slot) (D.may_leave disk.new) }
+    ensures time { Elapses (D.moment disk.old) (D.moment disk.new) (D.left_since disk.old) (D.left_since disk.new) (D.may_leave disk.new) }
+    ensures honest { D.is_honest disk.new → D.is_honest disk.old }
+    ensures cause { HasCause (D.failed disk.old) (D.failed disk.new) result.1 }
+{
+    match order {
+        Order::Len => (Order::Len, length_of(disk.len(slot))),
+        Order::Read { at, mut buffer } => {
+            let answer = answer_of(disk.read(slot, at, &mut buffer));
+            (Order::Read { at, buffer }, answer)
+        }
+        Order::Write { at, buffer } => {
+            let answer = answer_of(disk.write_at(slot, at, &buffer));
+            (Order::Write { at, buffer }, answer)
+        }
+        Order::WriteHeader { header } => {
+            let answer = answer_of(disk.write_at(slot, 1, &encode_header(&header)));
+            (Order::WriteHeader { header }, answer)
+        }
+        Order::Close => (Order::Close, answer_of(disk.write_at(slot, 0, &[0]))),
+        Order::Open => (Order::Open, answer_of(disk.write_at(slot, 0, &[GATE]))),
+        Order::Cut => (Order::Cut, answer_of(disk.cut(slot, 1))),
+        Order::Sync => (Order::Sync, answer_of(disk.sync(slot))),
+    }
+}
+
+/// Makes the one device call of a request, and no other. It takes no memory, and gives the buffer back in the outcome.
+pub fn perform<D: Disk>(disk: &mut D, request: Request) -> Outcome
+    requires slot { request.note.slot < length (D.contents disk.old) }
+    requires inside { D.is_honest disk.old → IsInside request.note.call request.bytes (file_at (D.contents disk.old) request.note.slot) }
+    ensures note { result.note ≡ request.note }
+    ensures bytes { AreKept request.note.call request.bytes result.bytes }
+    ensures answer { is_done result.answer ≡ true → IsAnswerTo request.note.call result.answer }
+    ensures tells { D.is_honest disk.new → is_done result.answer ≡ true → Tells request.note.call (file_at (D.contents disk.old) request.note.slot) result.answer result.bytes }
+    ensures done { is_done result.answer ≡ true → D.contents disk.new ≡ contents_after request.note.call request.bytes request.note.slot (D.contents disk.old) }
+    ensures torn { Makes request.note.call request.bytes request.note.slot (D.contents disk.old) (D.contents disk.new) }
+    ensures crash { Follows (Makes request.note.call request.bytes request.note.slot) (D.may_leave disk.old) (D.may_leave disk.new) }
+    ensures durable { request.note.call ≡ Sync → is_done result.answer ≡ true → OnlyAt request.note.slot (file_at (D.contents disk.old) request.note.slot) (D.may_leave disk.new) }
+    ensures time { Elapses (D.moment disk.old) (D.moment disk.new) (D.left_since disk.old) (D.left_since disk.new) (D.may_leave disk.new) }
+    ensures honest { D.is_honest disk.new → D.is_honest disk.old }
+    ensures cause { HasCause (D.failed disk.old) (D.failed disk.new) result.answer }
+    // A slot that waits for the call is afterwards in the phase that follows.
+    ensures fits { (phase : Phase) (body : List ℕ) → is_ready phase request.note.call ≡ true
+        → SlotFits phase body request.note.slot (D.contents disk.old) (D.may_leave disk.old)
+        → SlotFits (after phase request.note.call (is_done result.answer)) (body_after body request.note.call request.bytes) request.note.slot (D.contents disk.new) (D.may_leave disk.new) }
+    // Every other slot is in the phase in which it was.
+    ensures elsewhere { (other : ℕ) (phase : Phase) (body : List ℕ) → other ≢ request.note.slot
+        → SlotFits phase body other (D.contents disk.old) (D.may_leave disk.old)
+        → SlotFits phase body other (D.contents disk.new) (D.may_leave disk.new) }
+    // A crash at any moment of the call leaves what one of the two phases leaves.
+    ensures any_moment { (phase : Phase) (body : List ℕ) → is_ready phase request.note.call ≡ true
+        → SlotFits phase body request.note.slot (D.contents disk.old) (D.may_leave disk.old)
+        → LeavesOnly D.moment D.left_since disk.old disk.new (λ c. Leaves phase body (file_at c request.note.slot)
+        ⊎ Leaves (after phase request.note.call (is_done result.answer)) (body_after body request.note.call request.bytes) (file_at c request.note.slot)) }
+    // The same of all slots together.
+    ensures every_slot { (phases : List Phase) (bodies : List (List ℕ)) (phase : Phase) → Waits phases request.note phase
+        → DiskFits phases bodies (D.contents disk.old) (D.may_leave disk.old)
+        → DiskFits (phases_after phases request.note phase (is_done result.answer)) (bodies_after bodies request.note request.bytes) (D.contents disk.new) (D.may_leave disk.new) }
+    ensures every_moment { (phases : List Phase) (bodies : List (List ℕ)) (phase : Phase) → Waits phases request.note phase
+        → DiskFits phases bodies (D.contents disk.old) (D.may_leave disk.old)
+        → LeavesOnly D.moment D.left_since disk.old disk.new (λ c. DiskLeaves phases bodies c
+        ⊎ DiskLeaves (phases_after phases request.note phase (is_done result.answer)) (bodies_after bodies request.note request.bytes) c) }
+{
+    let Request {
+        worker,
+        ticket,
+        slot,
+        order,
+    } = request;
+    let (order, answer) = make(disk, slot, order);
+    Outcome {
+        worker,
+        ticket,
+        slot,
+        order,
+        answer,
+    }
+}

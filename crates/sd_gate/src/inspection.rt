@@ -1,0 +1,115 @@
+//! The inspection of a slot, whose calls depend on what is found.
+ghost use Rattle.std.specs.Prelude.{◌≡◌, ◌↔◌, ◌∷◌, [], IsTrue, IfOk, IsErr, MatchOption};
+ghost use Rattle.sd_image.specs.Words.{zeros};
+ghost use Rattle.sd_gate.specs.Calls.{call_of, bytes_of, IsSound};
+ghost use Rattle.sd_gate.specs.Inspections.{calls_of_stage, awaits_of, IsReadNext, after_length, after_first, calls_then};
+ghost use Rattle.std.specs.Option.{option_map};
+
+use crate::answer::Answer;
+use crate::order::Order;
+use crate::stage::Stage;
+use sd_image::decode_header;
+use std::alloc::{AllocError, Global};
+
+/// The gate byte of an open slot.
+const GATE: u8 = 0xA5;
+
+/// Where the header ends. A shorter file is closed.
+const HEADER_SIZE: usize = 4096;
+
+const PAGE_SIZE: usize = 4096;
+
+/// A sync, the length, the header of a file that has one, and the table of an open image.
+#[derive(Debug, Drop)]
+pub struct Inspection {
+    pub alloc: Global,
+    pub stage: Stage,
+}
+
+/// A buffer of zeros.
+#[tactic(auto, unfolding(sd_image::specs::Words::zeros))]
+fn zeros(alloc: Global, len: usize) -> Result<Vec<u8>, AllocError>
+    ensures { IfOk result (λ buffer. buffer.items ≡ zeros len) }
+{
+    vec![in alloc; 0u8; len]
+}
+
+/// What follows the length.
+fn after_length(answer: Answer) -> Stage
+    ensures { (calls_of_stage result, awaits_of result) ≡ after_length answer }
+{
+    match answer {
+        Answer::Len(len) if len >= HEADER_SIZE => Stage::First { len },
+        _ => Stage::Done,
+    }
+}
+
+/// What follows the first bytes of a file of this length.
+fn after_first(bytes: &[u8], len: usize) -> Stage
+    ensures { (calls_of_stage result, awaits_of result) ≡ after_first bytes.now len }
+{
+    if bytes.len() != HEADER_SIZE || bytes[0] != GATE {
+        return Stage::Done;
+    }
+    match decode_header(bytes, len as u64) {
+        Ok(header) => Stage::Table {
+            at: HEADER_SIZE + PAGE_SIZE * header.pages as usize,
+            len: header.table_len as usize,
+        },
+        Err(_) => Stage::Done,
+    }
+}
+
+impl Inspection {
+    /// Takes the next call. Memory is wanted for its buffer.
+    pub fn take(&mut self) -> Result<Option<Order>, AllocError>
+        ensures next { IfOk result (λ taken. MatchOption taken
+            (calls_of_stage self.old.stage ≡ [])
+            (λ order. calls_of_stage self.old.stage ≡ (call_of order, bytes_of order) ∷ calls_of_stage self.new.stage)) }
+        ensures none { IfOk result (λ taken. MatchOption taken (self.new.stage ≡ self.old.stage) (λ order. IsSound order)) }
+        ensures awaits { awaits_of self.new.stage ≡ awaits_of self.old.stage }
+        ensures refused { IsErr result → (self.new.stage ≡ self.old.stage) × IsReadNext (calls_of_stage self.old.stage) }
+    {
+        let (order, next) = match self.stage {
+            Stage::Sync => (Order::Sync, Stage::Len),
+            Stage::Len => (Order::Len, Stage::AwaitLen),
+            Stage::First { len } => {
+                let buffer = zeros(self.alloc, HEADER_SIZE)?;
+                (Order::Read { at: 0, buffer }, Stage::AwaitFirst { len })
+            }
+            Stage::Table { at, len } => {
+                let buffer = zeros(self.alloc, len)?;
+                (Order::Read { at, buffer }, Stage::Done)
+            }
+            Stage::AwaitLen | Stage::AwaitFirst { .. } | Stage::Done => return Ok(None),
+        };
+        self.stage = next;
+        Ok(Some(order))
+    }
+
+    /// Goes on after an outcome.
+    pub fn resume(&mut self, answer: Answer, buffer: &Option<Vec<u8>>)
+        ensures { (calls_of_stage self.new.stage, awaits_of self.new.stage) ≡ calls_then (calls_of_stage self.old.stage) (awaits_of self.old.stage) answer (option_map (λ b. b.items) buffer.now) }
+    {
+        match self.stage {
+            Stage::AwaitLen => self.stage = after_length(answer),
+            Stage::AwaitFirst { len } => {
+                self.stage = match buffer {
+                    Some(bytes) => after_first(bytes, len),
+                    None => Stage::Done,
+                };
+            }
+            Stage::Sync | Stage::Len | Stage::First { .. } | Stage::Table { .. } | Stage::Done => {}
+        }
+    }
+
+    /// Whether no call is left.
+    pub fn is_done(&self) -> bool
+        ensures { IsTrue result ↔ calls_of_stage self.now.stage ≡ [] }
+    {
+        matches!(
+            self.stage,
+            Stage::AwaitLen | Stage::AwaitFirst { .. } | Stage::Done
+        )
+    }
+}

@@ -1,0 +1,64 @@
+//! What a plan has still to do.
+ghost use Rattle.std.specs.Prelude.{◌≡◌, ◌↔◌, ◌∷◌, [], IsTrue, IfOk, IsErr, MatchOption};
+ghost use Rattle.std.specs.Option.{option_map};
+ghost use Rattle.sd_gate.specs.Calls.{call_of, bytes_of, IsSound};
+ghost use Rattle.sd_gate.specs.Inspections.{IsReadNext, calls_then};
+ghost use Rattle.sd_gate.specs.Plans.{calls_of, awaited_by, IsSoundJob};
+
+use crate::answer::Answer;
+use crate::inspection::Inspection;
+use crate::order::Order;
+use crate::steps::Steps;
+use std::alloc::AllocError;
+use std::mem;
+
+#[derive(Debug, Drop)]
+pub enum Job {
+    Steps(Steps),
+    Inspection(Inspection),
+}
+
+impl Job {
+    /// Takes the next call.
+    pub fn take(&mut self) -> Result<Option<Order>, AllocError>
+        requires { IsSoundJob self.old }
+        ensures next { IfOk result (λ taken. MatchOption taken
+            (calls_of self.old ≡ [])
+            (λ order. calls_of self.old ≡ (call_of order, bytes_of order) ∷ calls_of self.new)) }
+        ensures none { IfOk result (λ taken. MatchOption taken (calls_of self.new ≡ []) (λ order. IsSound order)) }
+        ensures sound { IsSoundJob self.new }
+        ensures awaits { awaited_by self.new ≡ awaited_by self.old }
+        ensures refused { IsErr result → (calls_of self.new ≡ calls_of self.old) × IsReadNext (calls_of self.old) }
+    {
+        match self {
+            Job::Steps(steps) => {
+                let Some((order, left)) = mem::replace(steps, Steps::Done).split() else {
+                    return Ok(None);
+                };
+                *steps = left;
+                Ok(Some(order))
+            }
+            Job::Inspection(inspection) => inspection.take(),
+        }
+    }
+
+    /// Goes on after an outcome.
+    pub fn resume(&mut self, answer: Answer, buffer: &Option<Vec<u8>>)
+        ensures calls { (calls_of self.new, awaited_by self.new) ≡ calls_then (calls_of self.old) (awaited_by self.old) answer (option_map (λ b. b.items) buffer.now) }
+        ensures sound { IsSoundJob self.old → IsSoundJob self.new }
+    {
+        if let Job::Inspection(inspection) = self {
+            inspection.resume(answer, buffer);
+        }
+    }
+
+    /// Whether no call is left.
+    pub fn is_done(&self) -> bool
+        ensures { IsTrue result ↔ calls_of self.now ≡ [] }
+    {
+        match self {
+            Job::Steps(steps) => steps.are_done(),
+            Job::Inspection(inspection) => inspection.is_done(),
+        }
+    }
+}

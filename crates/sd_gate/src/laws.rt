@@ -1,0 +1,42 @@
+//! Laws of the phases, each the contract of a function that does nothing.
+ghost use Rattle.sd_gate.specs.Laws.{ImageWholeOrClosed, GivenUpFits, FoundFits, InspectionTells, PlansLead, BodiesFill, CutsFit};
+
+use sd_disk::Disk;
+
+/// What a crash leaves of a slot: no image before its gate is opened, none or the whole image while it is opened or
+/// closed, and the image once the open gate is synced.
+pub fn image_whole_or_closed()
+    ensures { ImageWholeOrClosed }
+{}
+
+/// A slot whose job is given up is in the phase that is left then.
+pub fn given_up_fits<D: Disk>(disk: &D)
+    ensures { GivenUpFits (D.contents disk.now) (D.may_leave disk.now) }
+{}
+
+/// A slot that was synced is in the phase that its file tells: shorter than a header, closed, or with an image.
+pub fn found_fits<D: Disk>(disk: &D)
+    ensures { FoundFits (D.contents disk.now) (D.may_leave disk.now) }
+{}
+
+/// The length and the first bytes that an inspection brings back tell that phase.
+pub fn inspection_tells()
+    ensures { InspectionTells }
+{}
+
+/// The calls of each plan that writes find their slot ready, one after the other. A format leaves one closed byte,
+/// also the calls that retire an image; the calls that close a body leave the image.
+pub fn plans_lead()
+    ensures { PlansLead }
+{}
+
+/// The bytes that the plans write: data pages one behind the other, and then the table and the header, make the body of
+/// the image that has them.
+pub fn bodies_fill()
+    ensures { BodiesFill }
+{}
+
+/// A slot that is ready for a cut has the byte that the cut leaves.
+pub fn cuts_fit<D: Disk>(disk: &D)
+    ensures { CutsFit (D.contents disk.now) (D.may_leave disk.now) }
+{}

@@ -1,0 +1,41 @@
+//! The device calls of the workers, one by one, and the gate that makes an image whole or closed after any crash.
+#![tactic(auto)]
+
+mod answer;
+mod call;
+mod device_call;
+mod found;
+mod inspection;
+mod job;
+mod laws;
+mod note;
+mod order;
+mod outcome;
+mod phase;
+mod plan;
+mod request;
+mod settled;
+mod slot_state;
+mod stage;
+mod steps;
+mod worker;
+
+pub use answer::Answer;
+pub use call::Call;
+pub use device_call::perform;
+pub use found::Found;
+pub use laws::{
+    bodies_fill, cuts_fit, found_fits, given_up_fits, image_whole_or_closed, inspection_tells,
+    plans_lead,
+};
+pub use note::Note;
+pub use outcome::Outcome;
+pub use phase::Phase;
+pub use plan::Plan;
+pub use request::Request;
+pub use settled::Settled;
+pub use slot_state::SlotState;
+pub use worker::Worker;
+
+#[cfg(test)]
+mod tests;

@@ -1,0 +1,12 @@
+use crate::call::Call;
+use crate::worker::Worker;
+
+/// What tells one request from every other.
+#[derive(Clone, Copy, Debug, PartialEq, Eq, Hash)]
+pub struct Note {
+    pub worker: Worker,
+    /// The number that the worker gave it.
+    pub ticket: u64,
+    pub slot: usize,
+    pub call: Call,
+}

@@ -1,0 +1,202 @@
+//! Plans of device calls.
+ghost use Rattle.std.specs.Prelude.{◌≡◌, ◌≢◌, ◌⊎◌, ◌↔◌, ◌<◌, ◌≤◌, [], ◌∷◌, true, None, Some, IsTrue, IsSome, IsErr, IfOk, MatchOption, length};
+ghost use Rattle.sd_gate.specs.declared.call.Call.TheVariants.{Read, Write};
+ghost use Rattle.sd_gate.specs.Calls.{is_done};
+ghost use Rattle.sd_gate.specs.Steps.{format_calls, closing_calls, body_calls, first_looks};
+ghost use Rattle.sd_gate.specs.Inspections.{nothing, the_length, IsReadNext};
+ghost use Rattle.sd_gate.specs.Plans.{calls_of, awaited_by, IsSoundJob, found_of, begun, Gives, calls_after, settled, plan_after};
+
+use crate::found::Found;
+use crate::inspection::Inspection;
+use crate::job::Job;
+use crate::note::Note;
+use crate::outcome::Outcome;
+use crate::request::Request;
+use crate::settled::Settled;
+use crate::slot_state::SlotState;
+use crate::stage::Stage;
+use crate::steps::Steps;
+use crate::worker::Worker;
+use sd_image::Header;
+use std::alloc::{AllocError, Global};
+use std::marker::Model;
+use std::mem;
+
+/// Where the data pages begin.
+const HEADER_SIZE: usize = 4096;
+
+const PAGE_SIZE: usize = 4096;
+
+/// Device calls on one slot, one after the other: each is asked for when the one before is done.
+#[derive(Debug, Drop)]
+pub struct Plan {
+    slot: usize,
+    job: Job,
+    out: Option<Note>,
+    found: Found,
+}
+
+impl Model for Plan {
+    ghost use Rattle.sd_gate.specs.Plans.{Planned, calls_of, awaited_by, found_of, IsSoundJob};
+
+    ghost Value = { Planned };
+
+    ghost view = { λ p. record {
+      slot = p.slot;
+      calls = calls_of p.job;
+      awaits = awaited_by p.job;
+      out = p.out;
+      found = found_of p.found;
+    } };
+
+    ghost invariant = { λ p. IsSoundJob p.job };
+}
+
+/// Whether this is the request that is out.
+fn is_out(out: &Option<Note>, note: Note) -> bool
+    ensures { IsTrue result ↔ out.now ≡ Some note }
+{
+    *out == Some(note)
+}
+
+/// What an outcome that is done is to a plan.
+fn settled(job: &Job) -> Settled
+    ensures { result ≡ settled true (calls_of job.now) }
+{
+    if job.is_done() {
+        Settled::Finished
+    } else {
+        Settled::More
+    }
+}
+
+impl Plan {
+    fn new(slot: usize, job: Job) -> Self
+        requires { IsSoundJob job }
+        ensures { result ≡ begun slot (calls_of job) (awaited_by job) }
+    {
+        Plan {
+            slot,
+            job,
+            out: None,
+            found: Found::new(),
+        }
+    }
+
+    /// Makes a slot one closed byte. Of a slot that isn't closed a 0 is written over the gate first, and synced.
+    pub fn format(slot: usize, state: SlotState) -> Self
+        ensures { result ≡ begun slot (format_calls state) nothing }
+    {
+        match state {
+            SlotState::Raw | SlotState::Open => Plan::new(slot, Job::Steps(Steps::Close)),
+            SlotState::Closed | SlotState::Writing => Plan::new(slot, Job::Steps(Steps::Cut)),
+        }
+    }
+
+    /// Writes a data page from byte `place` of the file on.
+    pub fn write_page(slot: usize, place: usize, buffer: Vec<u8>) -> Self
+        requires behind { 0 < place }
+        requires some { 0 < length buffer.items }
+        ensures { result ≡ begun slot ((Write place, buffer.items) ∷ []) nothing }
+    {
+        Plan::new(slot, Job::Steps(Steps::WritePage { at: place, buffer }))
+    }
+
+    /// Reads a data page from byte `place` of the file on.
+    pub fn read_page(slot: usize, place: usize, buffer: Vec<u8>) -> Self
+        ensures { result ≡ begun slot ((Read place, buffer.items) ∷ []) nothing }
+    {
+        Plan::new(slot, Job::Steps(Steps::ReadPage { at: place, buffer }))
+    }
+
+    /// Writes the table behind the data pages and the header before them, syncs them, and opens the gate.
+    /// The image is there once the last sync is done.
+    pub fn close_body(slot: usize, header: Header, table: Vec<u8>) -> Self
+        requires few { header.pages ≤ 65536 }
+        requires some { 0 < length table.items }
+        ensures { result ≡ begun slot (body_calls header table.items) nothing }
+    {
+        let at = HEADER_SIZE + PAGE_SIZE * header.pages as usize;
+        Plan::new(slot, Job::Steps(Steps::Table { at, table, header }))
+    }
+
+    /// Closes an image that nobody needs, and makes its slot one closed byte.
+    pub fn retire(slot: usize) -> Self
+        ensures { result ≡ begun slot closing_calls nothing }
+    {
+        Plan::new(slot, Job::Steps(Steps::Close))
+    }
+
+    /// Syncs a slot and looks at it: its length, the header of a file that has one, and the table of an open image.
+    pub fn inspect(alloc: Global, slot: usize) -> Self
+        ensures { result ≡ begun slot first_looks the_length }
+    {
+        Plan::new(
+            slot,
+            Job::Inspection(Inspection {
+                alloc,
+                stage: Stage::Sync,
+            }),
+        )
+    }
+
+    /// The request for the next call, with the ticket that the worker gives it. None where a request is out, and where
+    /// no call is left.
+    ///
+    /// # Errors
+    ///
+    /// `AllocError` where an inspection finds no memory for a buffer: nothing changed.
+    pub fn take(&mut self, worker: Worker, ticket: u64) -> Result<Option<Request>, AllocError>
+        ensures given { IfOk result (λ given. MatchOption given
+            ((self.new ≡ self.old) × (IsSome self.old.out ⊎ (self.old.calls ≡ [])))
+            (λ request. Gives self.old self.new request × (request.note.worker ≡ worker) × (request.note.ticket ≡ ticket))) }
+        ensures refused { IsErr result → (self.new ≡ self.old) × IsReadNext self.old.calls }
+    {
+        if self.out.is_some() {
+            return Ok(None);
+        }
+        let Some(order) = self.job.take()? else {
+            return Ok(None);
+        };
+        let request = Request {
+            worker,
+            ticket,
+            slot: self.slot,
+            order,
+        };
+        self.out = Some(request.note());
+        Ok(Some(request))
+    }
+
+    /// Takes the outcome of the request that is out. One of any other request is strange, and changes nothing.
+    /// After one that failed no call is left.
+    pub fn settle(&mut self, outcome: Outcome) -> Settled
+        ensures strange { self.old.out ≢ Some outcome.note → (self.new ≡ self.old) × (result ≡ Settled.Strange) }
+        ensures settled { self.old.out ≡ Some outcome.note → (self.new ≡ plan_after self.old outcome)
+            × (result ≡ settled (is_done outcome.answer) (calls_after self.old outcome).0) }
+    {
+        if !is_out(&self.out, outcome.note()) {
+            return Settled::Strange;
+        }
+        let Outcome { order, answer, .. } = outcome;
+        self.out = None;
+        let buffer = order.into_buffer();
+        let ended = if answer.is_done() {
+            self.job.resume(answer, &buffer);
+            settled(&self.job)
+        } else {
+            self.job = Job::Steps(Steps::Done);
+            Settled::Failed
+        };
+        self.found = mem::replace(&mut self.found, Found::new()).with(answer, buffer);
+        ended
+    }
+
+    /// What came back with the outcomes.
+    pub fn into_found(self) -> Found
+        ensures { found_of result ≡ self.found }
+    {
+        let Plan { found, .. } = self;
+        found
+    }
+}
