@@ -32,7 +32,10 @@ const LINES: [(&str, &str); 11] = [
         "[Command(Mprotect { space: SpaceId { number: 1 }, address: 0, bytes: 1, prot: Prot { read: false, write: false, execute: false } })]",
     ),
     ("fork 1", "[Command(Fork { space: SpaceId { number: 1 } })]"),
-    ("exit 16", "[Command(Exit { space: SpaceId { number: 16 } })]"),
+    (
+        "exit 16",
+        "[Command(Exit { space: SpaceId { number: 16 } })]",
+    ),
     (
         "load 18446744073709551615 007 0x0010\n",
         "[Command(Load { space: SpaceId { number: 18446744073709551615 }, address: 7, count: 16 })]",

@@ -41,9 +41,11 @@ run_entries first count prot = map (λ page. (page, prot)) (pages_from first cou
 run_from : (first count : ℕ) (prot : Prot) (rest : List Entry) → AreFrom (first + count) rest → AreFrom first (run_entries first count prot ++ rest)
 unfolding pages_from
 run_from first zero prot rest are = from_lower first (first + 0) rest (omega arith) are
-run_from first (suc count) prot rest are =
-    (omega arith, from_lower first (suc first) (run_entries (suc first) count prot ++ rest) (omega arith)
-        (run_from (suc first) count prot rest (from_lower (suc first + count) (first + suc count) rest (omega arith) are)))
+run_from first (suc count) prot rest are = (
+  omega arith,
+  from_lower first (suc first) (run_entries (suc first) count prot ++ rest) (omega arith)
+      (run_from (suc first) count prot rest (from_lower (suc first + count) (first + suc count) rest (omega arith) are)),
+)
 
 run_sorted : (first count : ℕ) (prot : Prot) (rest : List Entry) → AreFrom (first + count) rest → is_sorted nat_cmp rest ≡ true → is_sorted nat_cmp (run_entries first count prot ++ rest) ≡ true
 unfolding pages_from

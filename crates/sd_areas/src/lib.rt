@@ -19,7 +19,8 @@ pub use area::Area;
 pub use area_map::{AREA_LIMIT, AreaMap};
 pub use errno::{AreaError, Errno};
 pub use laws::{
-    areas_law, limit_law, mapped_law, memory_law, count_law, one_list_law, protected_law, unmapped_law,
+    areas_law, count_law, limit_law, mapped_law, memory_law, one_list_law, protected_law,
+    unmapped_law,
 };
 pub use page_no::{PAGE_LIMIT, PAGE_SIZE, PageNo};
 pub use prot::Prot;
