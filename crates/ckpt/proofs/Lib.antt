@@ -1,4 +1,5 @@
 pub mod SlotLemmas
+pub mod CrashLemmas
 pub mod GrownRuns
 pub mod AreaLemmas
 pub mod ImageLemmas

@@ -1,5 +1,5 @@
 -- The first of the free slots is shorter than a header.
-use Rattle.std.proofs.Common.{◌≡◌, ◌+◌, ℕ, suc, true, false, cond, nat_lt, List, [], ◌∷◌, length, sym, ◌∙◌, ap, inl, inr, arith}
+use Rattle.std.proofs.Common.{◌<◌, subst, ◌≡◌, ◌+◌, ℕ, suc, true, false, cond, nat_lt, List, [], ◌∷◌, length, sym, ◌∙◌, ap, inl, inr, arith}
 use Rattle.std.proofs.lemmas.Bool.Decides.{nat_tests}
 use Rattle.sd_disk.specs.Contents.{file_at}
 use Rattle.sd_image.specs.Image.{is_open}
@@ -32,3 +32,12 @@ first_is_closed contents slot others is =
   where
     short_is_closed : (file : List ℕ) → nat_lt (length file) 4096 ≡ true → is_open file ≡ false
     short_is_closed file short = grind (arith, nat_tests)
+
+pub first_is_free : (contents : List (List ℕ)) (slot : ℕ) (others : List ℕ) → raw_slots contents ≡ slot ∷ others → length (file_at contents slot) < 4096
+first_is_free contents slot others is =
+    let first = first_is_short 0 contents slot others is in
+    let here : slot ≡ first.place = omega (arith, first.is) in
+    subst (λ s. length (file_at contents s) < 4096) (sym here) (below (file_at contents first.place) first.short)
+  where
+    below : (file : List ℕ) → nat_lt (length file) 4096 ≡ true → length file < 4096
+    below file short = grind (arith, nat_tests)

@@ -1,3 +1,4 @@
+pub mod AfterCrash
 pub mod Pages
 pub mod Runs
 pub mod SlotFile

@@ -15,6 +15,8 @@ mod clear_all;
 mod command;
 mod command_line;
 mod commands;
+#[cfg(test)]
+mod crash_tests;
 mod dump;
 mod ending;
 mod fault;

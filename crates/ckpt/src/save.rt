@@ -1,11 +1,13 @@
 //! Saving a memory: one whole dump, into the lowest free slot.
 ghost use Rattle.std.specs.Prelude.{◌≡◌, ◌≢◌, ◌+◌, ◌<◌, ◌≤◌, ◌∷◌, ℕ, List, length, map, Some, OnOk, IsErr, IsErrOf, slice_set};
+ghost use Rattle.sd_disk.specs.Crash.{OnlyAt};
 ghost use Rattle.sd_disk.specs.Failures.{HasCause};
 ghost use Rattle.sd_disk.specs.Contents.{file_at};
 ghost use Rattle.sd_image.specs.Shows.{Shows};
 ghost use Rattle.sd_image.specs.Laws.{IsReady};
 ghost use Rattle.ckpt.specs.ImageText.{file_of};
 ghost use Rattle.sd_pagetable.specs.Contents.{plain_of};
+ghost use Rattle.ckpt.specs.AfterCrash.{FollowsAt, IsReadyAfterCrash, ShowsOnly};
 ghost use Rattle.ckpt.specs.Cleared.{IsCleared};
 ghost use Rattle.ckpt.specs.Pages.{bytes_at};
 ghost use Rattle.ckpt.specs.Slots.{raw_slots};
@@ -46,6 +48,14 @@ pub fn save<D: Disk>(
     ensures ready { D.is_honest disk.new → IsReady (D.contents disk.old) number
         → OnOk result (IsReady (D.contents disk.new) (number + 1)) }
 
+    // And every crash from then on, up to the next call, leaves contents that show it.
+    ensures durable { D.is_honest disk.new → IsReadyAfterCrash (D.contents disk.old) (D.may_leave disk.old) number
+        → OnOk result (ShowsOnly (Some (number, plain_of memory.new)) (D.may_leave disk.new)) }
+
+    // And what a crash leaves is ready for the number above.
+    ensures ready_after { D.is_honest disk.new → IsReadyAfterCrash (D.contents disk.old) (D.may_leave disk.old) number
+        → OnOk result (IsReadyAfterCrash (D.contents disk.new) (D.may_leave disk.new) (number + 1)) }
+
     // Each page is cleared, and the spaces, areas and bytes stay.
     ensures cleared { OnOk result (IsCleared memory.old memory.new) }
     ensures memory { plain_of memory.new ≡ plain_of memory.old }
@@ -83,6 +93,8 @@ fn write_image<D: Disk>(
     requires whole { AreWhole (map (bytes_at (plain_of memory.now)) text.now.stored.items) }
     requires table { 0 < length text.now.table.items }
     ensures written { OnOk result (D.contents disk.new ≡ slice_set (D.contents disk.old) slot (file_of (plain_of memory.now) text.now)) }
+    ensures durable { OnOk result (OnlyAt slot (file_at (D.contents disk.new) slot) (D.may_leave disk.new)) }
+    ensures crash { OnOk result (FollowsAt slot (D.may_leave disk.old) (D.may_leave disk.new)) }
     ensures honest { D.is_honest disk.new → D.is_honest disk.old }
     ensures cause { HasCause (D.failed disk.old) (D.failed disk.new) result }
 {

@@ -2,8 +2,10 @@
 ghost use Rattle.std.specs.Prelude.{◌≡◌, ◌<◌, ◌≤◌, ◌++◌, ◌∷◌, List, ℕ, [], length, map, OnOk, slice_set};
 ghost use Rattle.std.specs.List.{concat};
 ghost use Rattle.sd_disk.specs.Contents.{file_at};
+ghost use Rattle.sd_disk.specs.Crash.{OnlyAt};
 ghost use Rattle.sd_disk.specs.Failures.{HasCause};
 ghost use Rattle.sd_pagetable.specs.Contents.{plain_of};
+ghost use Rattle.ckpt.specs.AfterCrash.{FollowsAt};
 ghost use Rattle.ckpt.specs.Pages.{bytes_at};
 ghost use Rattle.ckpt.specs.SlotFile.{AreWhole, closed_file};
 
@@ -22,6 +24,7 @@ pub const HEADER_SIZE: usize = 4096;
 pub fn format<D: Disk>(disk: &mut D, slot: usize) -> Result<(), DeviceError>
     requires { slot < length (D.contents disk.old) }
     ensures formatted { OnOk result (D.contents disk.new ≡ slice_set (D.contents disk.old) slot (0 ∷ [])) }
+    ensures crash { OnOk result (FollowsAt slot (D.may_leave disk.old) (D.may_leave disk.new)) }
     ensures honest { D.is_honest disk.new → D.is_honest disk.old }
     ensures cause { HasCause (D.failed disk.old) (D.failed disk.new) result }
 {
@@ -44,6 +47,7 @@ pub fn write_pages<D: Disk>(
     requires whole { AreWhole (map (bytes_at (plain_of memory.now)) pages.now) }
     ensures written { OnOk result (D.contents disk.new
         ≡ slice_set (D.contents disk.old) slot (closed_file (map (bytes_at (plain_of memory.now)) pages.now))) }
+    ensures crash { OnOk result (FollowsAt slot (D.may_leave disk.old) (D.may_leave disk.new)) }
     ensures honest { D.is_honest disk.new → D.is_honest disk.old }
     ensures cause { HasCause (D.failed disk.old) (D.failed disk.new) result }
 {
@@ -71,6 +75,8 @@ pub fn close_body<D: Disk>(
         → file_at (D.contents disk.old) slot ≡ closed_file written
         → OnOk result (D.contents disk.new
         ≡ slice_set (D.contents disk.old) slot (GATE ∷ header.now ++ concat written ++ table.now)) }
+    ensures durable { OnOk result (OnlyAt slot (file_at (D.contents disk.new) slot) (D.may_leave disk.new)) }
+    ensures crash { OnOk result (FollowsAt slot (D.may_leave disk.old) (D.may_leave disk.new)) }
     ensures honest { D.is_honest disk.new → D.is_honest disk.old }
     ensures cause { HasCause (D.failed disk.old) (D.failed disk.new) result }
 {
