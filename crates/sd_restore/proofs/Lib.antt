@@ -1,0 +1,3 @@
+pub mod TakeLemmas
+pub mod FileLemmas
+pub mod ScanLemmas
