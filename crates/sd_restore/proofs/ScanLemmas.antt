@@ -192,3 +192,9 @@ catalog_of_all contents scanned is was =
     let scan : IsScan (take (length contents) contents) scanned.catalog =
     subst (λ double. MatchOption double (IsScan (take (length contents) contents) scanned.catalog) (IsFirstDouble contents)) is was.state in
     subst (λ files. IsCatalogOf files scanned.catalog) (taken_all contents (length contents) (omega arith)) scan.catalog
+
+pub store_of_all : (contents : List (List ℕ)) (scanned : Scanned) → scanned.double ≡ None → IsScanned contents (length contents) scanned → (images : List Image) × IsStore contents images
+store_of_all contents scanned is was =
+    let scan : IsScan (take (length contents) contents) scanned.catalog =
+    subst (λ double. MatchOption double (IsScan (take (length contents) contents) scanned.catalog) (IsFirstDouble contents)) is was.state in
+    (scan.images, subst (λ files. IsStore files scan.images) (taken_all contents (length contents) (omega arith)) scan.store)

@@ -1,7 +1,9 @@
 //! The open images of a store.
-ghost use Rattle.std.specs.Prelude.{◌≡◌, ◌≢◌, ◌+◌, ◌<◌, ◌≤◌, length, IfOk, IfErr, OnOk, IsErrOf};
+ghost use Rattle.std.specs.Prelude.{◌≡◌, ◌≢◌, ◌+◌, ◌<◌, ◌≤◌, List, length, IfOk, IfErr, OnOk, IsErrOf};
 ghost use Rattle.sd_disk.specs.Contents.{file_at};
 ghost use Rattle.sd_disk.specs.Crash.{Within};
+ghost use Rattle.sd_image.specs.Image.{Image};
+ghost use Rattle.sd_image.specs.Shows.{IsStore};
 ghost use Rattle.sd_chain.specs.Store.{IsCatalogOf};
 ghost use Rattle.sd_restore.specs.Faulty.{Names, IsFaulty, IsFirstFaulty, IsDamage};
 ghost use Rattle.sd_restore.specs.Scanned.{IsScanned};
@@ -11,7 +13,7 @@ use crate::scanned::Scanned;
 use crate::slot_reader::read_slot;
 use sd_chain::Catalog;
 use sd_disk::Disk;
-use sd_image::Reason;
+use sd_image::{Reason, good_store_has_no_reason, one_image};
 use std::alloc::Global;
 
 /// Reads the next slot, and takes in what is in it.
@@ -65,6 +67,10 @@ fn scan_slots<D: Disk>(alloc: Global, disk: &mut D) -> Result<Scanned, Fault>
 pub fn scan<D: Disk>(alloc: Global, disk: &mut D) -> Result<Catalog, Fault>
     ensures catalog { D.is_honest disk.new → IfOk result (IsCatalogOf (D.contents disk.old)) }
     ensures damaged { D.is_honest disk.new → IfErr result (Names (IsDamage (D.contents disk.old))) }
+    // Each open slot is then an image with a serial of its own.
+    ensures store { D.is_honest disk.new → IfOk result (λ _. (images : List Image) × IsStore (D.contents disk.old) images) }
+    // A store in which that is so is never called damaged.
+    ensures good { D.is_honest disk.new → (images : List Image) → IsStore (D.contents disk.old) images → IfErr result (Names (λ _ _. ⊥)) }
     // It only reads.
     ensures same { D.contents disk.new ≡ D.contents disk.old }
     ensures crash { Within (D.may_leave disk.new) (D.may_leave disk.old) }
@@ -73,6 +79,8 @@ pub fn scan<D: Disk>(alloc: Global, disk: &mut D) -> Result<Catalog, Fault>
     ensures device { IsErrOf result Fault.Device → D.failed disk.old < D.failed disk.new }
     ensures empty { result ≢ Err Fault.EmptyChain }
 {
+    good_store_has_no_reason();
+    one_image();
     let Scanned { catalog, double } = scan_slots(alloc, disk)?;
     match double {
         Some(slot) => Err(Fault::Damaged {
