@@ -1,0 +1,4 @@
+pub mod TakeLemmas
+pub mod FileLemmas
+pub mod ScanLemmas
+pub mod GoodLemmas

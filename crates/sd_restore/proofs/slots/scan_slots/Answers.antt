@@ -1,0 +1,26 @@
+use Rattle.std.proofs.Common.{rules, ◌∙◌, List, ℕ, arith}
+use Rattle.sd_restore.specs.Faulty.{Names, IsFirstFaulty}
+use Rattle.sd_restore.specs.Scanned.{IsScanned}
+use Rattle.sd_restore.proofs.ScanLemmas.{first_faulty}
+use Rattle.sd_restore.proofs.slots.scan_slots.Goals as goal
+
+pub loop-slot-preserved : goal.loop-slot-preserved
+loop-slot-preserved g c =
+    let was = c.loop-slot.invariant in
+    let now = c.in_ok-scan_slot.ensures in
+    record {
+      same = now.same ∙ was.same;
+      crash = λ left may. was.crash left (now.crash left may);
+      honest = λ honest. was.honest (now.honest honest);
+      later = omega (arith, was.later, now.later);
+      count = was.count;
+      scanned = λ honest. (rw was.same at (now.scanned honest)) (was.scanned (now.honest honest));
+    }
+
+pub returns-in_err-scan_slot-clause-faulty : goal.returns-in_err-scan_slot-clause-faulty
+returns-in_err-scan_slot-clause-faulty g c = λ honest.
+    let was = c.loop-slot.invariant in
+    let contents : List (List ℕ) = g.D.Disk.contents c.args.disk.now in
+    let first : Names (IsFirstFaulty contents) c.in_err-scan_slot.field-0.0 =
+    first_faulty contents c.loop-slot.slot c.in_err-scan_slot.field-0.0 (was.scanned (c.in_err-scan_slot.ensures.honest honest)).readable (rw was.same at (c.in_err-scan_slot.ensures.faulty honest)) in
+    search rules

@@ -1,0 +1,3 @@
+pub mod Faulty
+pub mod Scanned
+pub mod Reading

@@ -1,0 +1,92 @@
+//! The open images of a store.
+ghost use Rattle.std.specs.Prelude.{◌≡◌, ◌≢◌, ◌+◌, ◌<◌, ◌≤◌, List, length, IfOk, IfErr, OnOk, IsErrOf};
+ghost use Rattle.sd_disk.specs.Contents.{file_at};
+ghost use Rattle.sd_disk.specs.Crash.{Within};
+ghost use Rattle.sd_image.specs.Image.{Image};
+ghost use Rattle.sd_image.specs.Shows.{IsStore};
+ghost use Rattle.sd_chain.specs.Store.{IsCatalogOf};
+ghost use Rattle.sd_restore.specs.Faulty.{Names, IsFaulty, IsFirstFaulty, IsDamage};
+ghost use Rattle.sd_restore.specs.Scanned.{IsScanned};
+
+use crate::fault::Fault;
+use crate::scanned::Scanned;
+use crate::slot_reader::read_slot;
+use sd_chain::Catalog;
+use sd_disk::Disk;
+use sd_image::{Reason, good_store_has_no_reason, one_image};
+use std::alloc::Global;
+
+/// Reads the next slot, and takes in what is in it.
+fn scan_slot<D: Disk>(
+    alloc: Global,
+    disk: &mut D,
+    slot: usize,
+    scanned: &mut Scanned,
+) -> Result<(), Fault>
+    requires { slot < length (D.contents disk.old) }
+    ensures scanned { D.is_honest disk.new → OnOk result (IsScanned (D.contents disk.old) slot scanned.old → IsScanned (D.contents disk.old) (slot + 1) scanned.new) }
+    ensures faulty { D.is_honest disk.new → IfErr result (Names (λ s reason. (s ≡ slot) × IsFaulty (file_at (D.contents disk.old) slot) reason)) }
+    ensures same { D.contents disk.new ≡ D.contents disk.old }
+    ensures crash { Within (D.may_leave disk.new) (D.may_leave disk.old) }
+    ensures honest { D.is_honest disk.new → D.is_honest disk.old }
+    ensures later { D.failed disk.old ≤ D.failed disk.new }
+    ensures device { IsErrOf result Fault.Device → D.failed disk.old < D.failed disk.new }
+    ensures empty { result ≢ Err Fault.EmptyChain }
+{
+    match read_slot(alloc, disk, slot)? {
+        Some(decoded) => scanned.add(alloc, slot, decoded)?,
+        None => scanned.skip(slot),
+    }
+    Ok(())
+}
+
+/// Reads each slot, rising.
+fn scan_slots<D: Disk>(alloc: Global, disk: &mut D) -> Result<Scanned, Fault>
+    ensures scanned { D.is_honest disk.new → IfOk result (IsScanned (D.contents disk.old) (length (D.contents disk.old))) }
+    ensures faulty { D.is_honest disk.new → IfErr result (Names (IsFirstFaulty (D.contents disk.old))) }
+    ensures same { D.contents disk.new ≡ D.contents disk.old }
+    ensures crash { Within (D.may_leave disk.new) (D.may_leave disk.old) }
+    ensures honest { D.is_honest disk.new → D.is_honest disk.old }
+    ensures later { D.failed disk.old ≤ D.failed disk.new }
+    ensures device { IsErrOf result Fault.Device → D.failed disk.old < D.failed disk.new }
+    ensures empty { result ≢ Err Fault.EmptyChain }
+{
+    let mut scanned = Scanned::new(alloc);
+    for slot in 0..disk.slots() {
+        scan_slot(alloc, disk, slot, &mut scanned)?;
+    }
+    Ok(scanned)
+}
+
+/// The catalog of a store: exactly its open images. It only reads, the header and the table of each open slot once.
+///
+/// # Errors
+///
+/// `Damaged` names the first slot whose header or table is faulty, with its reason, or else the least slot whose
+/// serial stands in an earlier open one. `Device` and `OutOfMemory` end the scan at once.
+pub fn scan<D: Disk>(alloc: Global, disk: &mut D) -> Result<Catalog, Fault>
+    ensures catalog { D.is_honest disk.new → IfOk result (IsCatalogOf (D.contents disk.old)) }
+    ensures damaged { D.is_honest disk.new → IfErr result (Names (IsDamage (D.contents disk.old))) }
+    // Each open slot is then an image with a serial of its own.
+    ensures store { D.is_honest disk.new → IfOk result (λ _. (images : List Image) × IsStore (D.contents disk.old) images) }
+    // A store in which that is so is never called damaged.
+    ensures good { D.is_honest disk.new → (images : List Image) → IsStore (D.contents disk.old) images → IfErr result (Names (λ _ _. ⊥)) }
+    // It only reads.
+    ensures same { D.contents disk.new ≡ D.contents disk.old }
+    ensures crash { Within (D.may_leave disk.new) (D.may_leave disk.old) }
+    ensures honest { D.is_honest disk.new → D.is_honest disk.old }
+    ensures later { D.failed disk.old ≤ D.failed disk.new }
+    ensures device { IsErrOf result Fault.Device → D.failed disk.old < D.failed disk.new }
+    ensures empty { result ≢ Err Fault.EmptyChain }
+{
+    good_store_has_no_reason();
+    one_image();
+    let Scanned { catalog, double } = scan_slots(alloc, disk)?;
+    match double {
+        Some(slot) => Err(Fault::Damaged {
+            slot,
+            reason: Reason::DoubleSerial,
+        }),
+        None => Ok(catalog),
+    }
+}
