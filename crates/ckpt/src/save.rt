@@ -1,6 +1,6 @@
 //! Saving a memory: one whole dump, into the lowest free slot.
 ghost use Rattle.std.specs.Prelude.{◌≡◌, ◌≢◌, ◌+◌, ◌<◌, ◌≤◌, ◌∷◌, ℕ, List, length, map, Some, OnOk, IsErr, IsErrOf, slice_set};
-ghost use Rattle.sd_disk.specs.Crash.{OnlyAt};
+ghost use Rattle.sd_disk.specs.Crash.{OnlyAt, Within};
 ghost use Rattle.sd_disk.specs.Failures.{HasCause};
 ghost use Rattle.sd_disk.specs.Contents.{file_at};
 ghost use Rattle.sd_image.specs.Shows.{Shows};
@@ -66,6 +66,7 @@ pub fn save<D: Disk>(
         → D.contents disk.new ≡ slice_set (D.contents disk.old) slot (file_at (D.contents disk.new) slot)) }
     ensures no_slot { D.is_honest disk.new → IsErrOf result SaveError.NoSlot → length (raw_slots (D.contents disk.old)) < 2 }
     ensures refused { result ≢ Err SaveError.Device → IsErr result → D.contents disk.new ≡ D.contents disk.old }
+    ensures unharmed { result ≢ Err SaveError.Device → IsErr result → Within (D.may_leave disk.new) (D.may_leave disk.old) }
     ensures device { IsErrOf result SaveError.Device → D.failed disk.old < D.failed disk.new }
     ensures honest { D.is_honest disk.new → D.is_honest disk.old }
 {
