@@ -1,5 +1,5 @@
 -- The catalog and the serials of the first slots, one slot more.
-use Rattle.std.proofs.Common.{◌≡◌, ◌<◌, ◌≤◌, ◌+◌, ℕ, Bool, true, false, not, nat_eq, cond, ◌||◌, List, [], ◌∷◌, ◌++◌, map, take, length, MatchOption, Option, None, Some, refl, sym, ◌∙◌, ap, subst, inr, arith}
+use Rattle.std.proofs.Common.{◌≡◌, ◌<◌, ◌+◌, ℕ, Bool, true, false, not, nat_eq, cond, ◌||◌, List, [], ◌∷◌, ◌++◌, map, take, length, MatchOption, Option, None, Some, refl, sym, ◌∙◌, ap, subst, inr, arith}
 use Rattle.std.specs.Prelude.{is_some}
 use Rattle.std.specs.List.{list_any, IsDistinct}
 use Rattle.std.proofs.lemmas.Bool.Decides.{nat_tests}
@@ -9,7 +9,7 @@ use Rattle.std.proofs.lemmas.List.Folds.{list_any-append}
 use Rattle.std.proofs.lemmas.Map.Keys.{IsDistinct-push}
 use Rattle.sd_disk.specs.Contents.{file_at}
 use Rattle.sd_image.specs.declared.header.Header.{Header}
-use Rattle.sd_image.specs.Image.{Image, IsImage, OpenImages, is_open}
+use Rattle.sd_image.specs.Image.{Image, IsImage, is_open}
 use Rattle.sd_image.specs.Shows.{IsStore}
 use Rattle.sd_chain.specs.Catalog.{Opened, Places, place_of, Changes}
 use Rattle.sd_chain.specs.Store.{IsCatalogOf}
@@ -21,8 +21,6 @@ use Rattle.sd_restore.specs.declared.fault.Fault.TheVariants.{EmptyChain, Damage
 use Rattle.sd_restore.specs.Faulty.{Names, AreReadable, IsFaulty, IsFirstFaulty, IsFirstDouble, IsDamage}
 use Rattle.sd_restore.specs.declared.scanned.Scanned.{Scanned}
 use Rattle.sd_restore.specs.Scanned.{has_image, IsScan, IsScanned}
-use Rattle.sd_restore.specs.declared.decoded.Decoded.{Decoded}
-use Rattle.sd_restore.specs.Reading.{IsReading, IsDecodedAs}
 use Rattle.sd_restore.proofs.TakeLemmas.{taken_at, taken_all}
 use Rattle.sd_restore.proofs.FileLemmas.{open_more, closed_more}
 

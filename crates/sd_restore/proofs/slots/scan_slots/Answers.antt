@@ -1,6 +1,5 @@
 use Rattle.std.proofs.Common.{rules, ◌∙◌, List, ℕ, arith}
 use Rattle.sd_restore.specs.Faulty.{Names, IsFirstFaulty}
-use Rattle.sd_restore.specs.Scanned.{IsScanned}
 use Rattle.sd_restore.proofs.ScanLemmas.{first_faulty}
 use Rattle.sd_restore.proofs.slots.scan_slots.Goals as goal
 

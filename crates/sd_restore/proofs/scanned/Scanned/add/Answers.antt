@@ -1,4 +1,4 @@
-use Rattle.std.proofs.Common.{◌≡◌, true, false, not, Err, Some, None, refl, sym, ◌∙◌, ap, subst}
+use Rattle.std.proofs.Common.{Err, refl, sym, ◌∙◌, ap}
 use Rattle.sd_restore.proofs.ScanLemmas.{open_scanned, double_first, double_again}
 use Rattle.sd_restore.proofs.scanned.Scanned.add.Goals as goal
 
