@@ -9,7 +9,7 @@ use Rattle.sd_image.specs.Shows.{IsStore}
 use Rattle.ckpt.specs.declared.fault.Fault.{Fault}
 use Rattle.ckpt.specs.declared.fault.Fault.TheVariants.{EmptyChain, Damaged, Device, OutOfMemory}
 use Rattle.ckpt.specs.declared.found.Found.{Found}
-use Rattle.ckpt.specs.Found.{serials_of, images_of, IsNewest}
+use Rattle.ckpt.specs.Found.{serials_of, images_of, slots_of, open_slots, IsNewest}
 use Rattle.ckpt.specs.Faulty.{Names, IsFaulty, IsFirstFaulty, IsFirstDouble, NeedsParent, IsBrokenChain}
 use Rattle.ckpt.proofs.TakeLemmas.{left}
 
@@ -40,7 +40,7 @@ first_double all i one added there less is distinct old fresh has = record {
   double = sym has ∙ not_false there (sym old ∙ fresh);
 }
 
-pub broken_chain : (contents : List (List ℕ)) (all : List Found) (newest : Found) (fault : Fault) → IsStore contents (images_of contents all) → IsNewest all newest
+pub broken_chain : (contents : List (List ℕ)) (all : List Found) (newest : Found) (fault : Fault) → slots_of all ≡ open_slots contents → IsStore contents (images_of contents all) → IsNewest all newest
     → Names (NeedsParent newest) fault → Names (IsBrokenChain contents) fault
-broken_chain contents all newest fault store is = names_more _ _ fault (λ slot reason named.
-    record { why = named.why; all = all; store = store; newest = newest; is = is; names = sym named.names; parent = named.parent })
+broken_chain contents all newest fault slots store is = names_more _ _ fault (λ slot reason named.
+    record { why = named.why; all = all; slots = slots; store = store; newest = newest; is = is; names = sym named.names; parent = named.parent })

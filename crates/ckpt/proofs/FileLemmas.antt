@@ -1,5 +1,5 @@
 -- The file of an open slot is the image that was read from it.
-use Rattle.std.proofs.Common.{◌≡◌, ◌<◌, ◌≤◌, ◌+◌, ◌*◌, ℕ, zero, suc, Bool, true, false, nat_eq, ◌&&◌, List, [], ◌∷◌, ◌++◌, map, take, drop, length, Some, refl, sym, ◌∙◌, ap, subst, arith, inl, inr, append_assoc}
+use Rattle.std.proofs.Common.{◌≡◌, ◌<◌, ◌≤◌, ◌+◌, ◌*◌, ℕ, zero, suc, Bool, true, false, cond, nat_eq, ◌&&◌, List, [], ◌∷◌, ◌++◌, map, take, drop, length, Some, refl, sym, ◌∙◌, ap, subst, arith, inl, inr, append_assoc, append-nil}
 use Rattle.std.specs.Prelude.{slice_range, slice_index, nat_le, slice_get}
 use Rattle.std.specs.List.{concat, AllByRecursion}
 use Rattle.std.proofs.Math.Seq.{take-add}
@@ -10,7 +10,7 @@ use Rattle.sd_image.specs.Header.{header_text, IsHeader}
 use Rattle.sd_image.specs.Table.{table_text, IsTable}
 use Rattle.sd_image.specs.Image.{Image, IsImage, OpenImages, is_open}
 use Rattle.ckpt.specs.declared.found.Found.{Found}
-use Rattle.ckpt.specs.Found.{pages_cut, spaces_of, image_in, image_of, images_of, serials_of, IsReading, IsFound}
+use Rattle.ckpt.specs.Found.{pages_cut, spaces_of, image_in, image_of, images_of, serials_of, slots_of, open_from, open_slots, IsReading, IsFound}
 
 pub length-pages_cut : (n : ℕ) (bytes : List ℕ) → length (pages_cut n bytes) ≡ n
 unfolding pages_cut
@@ -129,3 +129,25 @@ slot_more contents files slot found old was at reading =
 pub serials_of_images : (contents : List (List ℕ)) (found : List Found) → map (λ (i : Image). i.header.serial) (images_of contents found) ≡ serials_of found
 serials_of_images contents [] = refl
 serials_of_images contents (one ∷ found) = ap (λ xs. one.header.serial ∷ xs) (serials_of_images contents found)
+
+open_snoc : (slot : ℕ) (files : List (List ℕ)) (file : List ℕ) (b : Bool) → is_open file ≡ b → open_from slot (files ++ file ∷ []) ≡ open_from slot files ++ cond b ((slot + length files) ∷ []) []
+open_snoc slot [] file b is = ap (λ b. cond b (slot ∷ []) []) is ∙ ap (λ n. cond b (n ∷ []) []) (let e : slot ≡ slot + 0 = omega arith in e)
+open_snoc slot (f ∷ files) file b is =
+    let rest = open_snoc (suc slot) files file b is ∙ ap (λ n. open_from (suc slot) files ++ cond b (n ∷ []) []) (let e : suc slot + length files ≡ slot + suc (length files) = omega arith in e) in
+    ap (λ xs. cond (is_open f) (slot ∷ xs) xs) rest ∙ out (is_open f)
+  where
+    out : (c : Bool) → cond c (slot ∷ (open_from (suc slot) files ++ cond b ((slot + suc (length files)) ∷ []) [])) (open_from (suc slot) files ++ cond b ((slot + suc (length files)) ∷ []) [])
+        ≡ cond c (slot ∷ open_from (suc slot) files) (open_from (suc slot) files) ++ cond b ((slot + suc (length files)) ∷ []) []
+    out true = refl
+    out false = refl
+
+-- a closed slot adds none
+pub closed_number : (files : List (List ℕ)) (file : List ℕ) (slots : List ℕ) → is_open file ≡ false → slots ≡ open_slots files → slots ≡ open_slots (files ++ file ∷ [])
+closed_number files file slots closed was = was ∙ sym (open_snoc 0 files file false closed ∙ append-nil (open_from 0 files))
+
+-- an open one adds its number
+pub open_number : (files : List (List ℕ)) (file : List ℕ) (all : List Found) (found : Found) (slot : ℕ) → is_open file ≡ true → found.slot ≡ slot → length files ≡ slot
+    → slots_of all ≡ open_slots files → slots_of (all ++ found ∷ []) ≡ open_slots (files ++ file ∷ [])
+open_number files file all found slot opened stands many was =
+    map-append (λ (one : Found). one.slot) all (found ∷ []) ∙ ap (λ xs. xs ++ found.slot ∷ []) was
+    ∙ ap (λ n. open_slots files ++ n ∷ []) (let e : found.slot ≡ 0 + length files = omega (arith, stands, many) in e) ∙ sym (open_snoc 0 files file true opened)

@@ -10,7 +10,7 @@ use Rattle.sd_image.specs.Reading.{file_in}
 use Rattle.ckpt.specs.declared.fault.Fault.{Fault}
 use Rattle.ckpt.specs.declared.fault.Fault.TheVariants.{EmptyChain, Damaged, Device, OutOfMemory}
 use Rattle.ckpt.specs.declared.found.Found.{Found}
-use Rattle.ckpt.specs.Found.{images_of, serials_of, IsNewest}
+use Rattle.ckpt.specs.Found.{images_of, serials_of, slots_of, open_slots, IsNewest}
 
 -- a fault that names a slot and a reason has them rightly
 abbrev pub Names : (ℕ → Reason → Type 0) → Fault → Type 0
@@ -44,6 +44,7 @@ pub record IsFirstDouble (all : List Found) (slot : ℕ) : Type 0 where
 pub record IsDoubleSerial (contents : List (List ℕ)) (slot : ℕ) (reason : Reason) : Type 0 where
   pub why : reason ≡ DoubleSerial
   pub all : List Found
+  pub slots : slots_of all ≡ open_slots contents
   pub images : OpenImages contents (images_of contents all)
   pub first : IsFirstDouble all slot
 
@@ -61,6 +62,7 @@ pub record NeedsParent (image : Found) (slot : ℕ) (reason : Reason) : Type 0 w
 pub record IsBrokenChain (contents : List (List ℕ)) (slot : ℕ) (reason : Reason) : Type 0 where
   pub why : reason ≡ Chain
   pub all : List Found
+  pub slots : slots_of all ≡ open_slots contents
   pub store : IsStore contents (images_of contents all)
   pub newest : Found
   pub is : IsNewest all newest

@@ -1,5 +1,5 @@
 -- Open slots that were decoded, and the images that their files are.
-use Rattle.std.specs.Prelude.{◌≡◌, ◌≢◌, ◌⊎◌, ℕ, zero, suc, ◌+◌, ◌*◌, ◌<◌, ◌≤◌, ◌^◌, true, false, List, [], ◌∷◌, map, take, drop, Option, MatchOption, Contains, All}
+use Rattle.std.specs.Prelude.{◌≡◌, ◌≢◌, ◌⊎◌, ℕ, zero, suc, ◌+◌, ◌*◌, ◌<◌, ◌≤◌, ◌^◌, true, false, if◌then◌else◌, List, [], ◌∷◌, map, take, drop, Option, MatchOption, Contains, All}
 use Rattle.std.specs.Borrow.{Bor}
 use Rattle.sd_disk.specs.Contents.{file_at}
 use Rattle.sd_image.specs.declared.header.Kind.TheVariants.{PreDump}
@@ -33,6 +33,18 @@ images_of contents = map (image_of contents)
 
 abbrev pub serials_of : List Found → List ℕ
 serials_of = map (λ (found : Found). found.header.serial)
+
+abbrev pub slots_of : List Found → List ℕ
+slots_of = map (λ (found : Found). found.slot)
+
+-- the slots from a number on that are open
+abbrev pub open_from : ℕ → List (List ℕ) → List ℕ
+open_from slot [] = []
+open_from slot (file ∷ files) = if is_open file then slot ∷ open_from (suc slot) files else open_from (suc slot) files
+
+-- the open slots, rising
+abbrev pub open_slots : List (List ℕ) → List ℕ
+open_slots contents = open_from 0 contents
 
 -- its numbers go together, also where a device lied about the bytes
 pub record IsDecoded (found : Found) : Type 0 where

@@ -4,7 +4,7 @@ ghost use Rattle.sd_disk.specs.Contents.{file_at};
 ghost use Rattle.sd_image.specs.Image.{Image, OpenImages};
 ghost use Rattle.sd_image.specs.Shows.{IsStore};
 ghost use Rattle.ckpt.specs.Faulty.{Names, IsFaulty, IsFirstFaulty, IsDamage};
-ghost use Rattle.ckpt.specs.Found.{IsDecoded, IsFound, images_of};
+ghost use Rattle.ckpt.specs.Found.{IsDecoded, IsFound, images_of, open_slots, slots_of};
 
 use crate::fault::Fault;
 use crate::found::Found;
@@ -25,6 +25,8 @@ fn add_slot<D: Disk>(
     ensures found { D.is_honest disk.new → OnOk result ((files : List (List ℕ))
         → OpenImages files (images_of (D.contents disk.old) all.old.items)
         → OpenImages (files ++ file_at (D.contents disk.old) slot ∷ []) (images_of (D.contents disk.old) all.new.items)) }
+    ensures numbers { D.is_honest disk.new → OnOk result ((files : List (List ℕ)) → length files ≡ slot → slots_of all.old.items ≡ open_slots files
+        → slots_of all.new.items ≡ open_slots (files ++ file_at (D.contents disk.old) slot ∷ [])) }
     ensures faulty { D.is_honest disk.new → IfErr result (Names (λ s reason. (s ≡ slot) × IsFaulty (file_at (D.contents disk.old) slot) reason)) }
     ensures images { D.is_honest disk.new → OnOk result (All (IsFound (D.contents disk.old)) all.old.items → All (IsFound (D.contents disk.old)) all.new.items) }
     ensures slots { OnOk result (All (λ one. one.slot < length (D.contents disk.old)) all.old.items → All (λ one. one.slot < length (D.contents disk.old)) all.new.items) }
@@ -45,6 +47,7 @@ fn add_slot<D: Disk>(
 /// Each open slot, rising, decoded.
 fn open_slots<D: Disk>(alloc: Global, disk: &mut D) -> Result<Vec<Found>, Fault>
     ensures found { D.is_honest disk.new → IfOk result (λ found. OpenImages (D.contents disk.old) (images_of (D.contents disk.old) found.items)) }
+    ensures numbers { D.is_honest disk.new → IfOk result (λ found. slots_of found.items ≡ open_slots (D.contents disk.old)) }
     ensures faulty { D.is_honest disk.new → IfErr result (Names (IsFirstFaulty (D.contents disk.old))) }
     ensures images { D.is_honest disk.new → IfOk result (λ found. All (IsFound (D.contents disk.old)) found.items) }
     ensures slots { IfOk result (λ found. All (λ one. one.slot < length (D.contents disk.old)) found.items) }
@@ -70,6 +73,7 @@ fn open_slots<D: Disk>(alloc: Global, disk: &mut D) -> Result<Vec<Found>, Fault>
 /// an earlier open one. `Device` and `OutOfMemory` end the scan at once.
 pub fn scan<D: Disk>(alloc: Global, disk: &mut D) -> Result<Vec<Found>, Fault>
     ensures found { D.is_honest disk.new → IfOk result (λ found. IsStore (D.contents disk.old) (images_of (D.contents disk.old) found.items)) }
+    ensures numbers { D.is_honest disk.new → IfOk result (λ found. slots_of found.items ≡ open_slots (D.contents disk.old)) }
     ensures damaged { D.is_honest disk.new → IfErr result (Names (IsDamage (D.contents disk.old))) }
     // A store in which every open slot is an image with a serial of its own is never called damaged.
     ensures good { D.is_honest disk.new → (images : List Image) → IsStore (D.contents disk.old) images → IfErr result (Names (λ _ _. ⊥)) }

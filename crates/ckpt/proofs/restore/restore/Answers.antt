@@ -37,7 +37,7 @@ returns-in_err-snapshot-clause-good g c = λ honest shown shows.
     let contents : List (List ℕ) = g.D.Disk.contents c.args.disk.now in
     let named : Names (IsBrokenChain contents) c.in_err-snapshot.field-0.0 =
     broken_chain contents c.in_ok-found.found.items c.in-Some.newest.now c.in_err-snapshot.field-0.0
-    (c.in_ok-found.ensures.found (c.in_err-snapshot.ensures.honest honest))
+    (c.in_ok-found.ensures.numbers (c.in_err-snapshot.ensures.honest honest)) (c.in_ok-found.ensures.found (c.in_err-snapshot.ensures.honest honest))
     (subst (λ (found : List Found). IsNewest found c.in-Some.newest.now) c.deref.ensures.value c.in-Some.ensures)
     c.in_err-snapshot.ensures.broken in
     search rules
@@ -48,7 +48,7 @@ returns-in_err-snapshot-clause-damaged g c = λ honest.
     let named : Names (λ slot reason. IsDamage contents slot reason ⊎ IsBrokenChain contents slot reason) c.in_err-snapshot.field-0.0 =
     names_more (IsBrokenChain contents) _ c.in_err-snapshot.field-0.0 (λ slot reason is. inr is)
     (broken_chain contents c.in_ok-found.found.items c.in-Some.newest.now c.in_err-snapshot.field-0.0
-    (c.in_ok-found.ensures.found (c.in_err-snapshot.ensures.honest honest))
+    (c.in_ok-found.ensures.numbers (c.in_err-snapshot.ensures.honest honest)) (c.in_ok-found.ensures.found (c.in_err-snapshot.ensures.honest honest))
     (subst (λ (found : List Found). IsNewest found c.in-Some.newest.now) c.deref.ensures.value c.in-Some.ensures)
     c.in_err-snapshot.ensures.broken) in
     search rules

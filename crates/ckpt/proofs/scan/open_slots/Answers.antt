@@ -1,6 +1,7 @@
-use Rattle.std.proofs.Common.{◌<◌, ◌∙◌, sym, subst, List, ℕ, [], arith}
+use Rattle.std.proofs.Common.{◌≡◌, ◌<◌, ◌∙◌, sym, subst, take, List, ℕ, [], arith}
 use Rattle.sd_image.specs.Image.{OpenImages}
-use Rattle.ckpt.specs.Found.{images_of}
+use Rattle.std.proofs.lemmas.List.{length-take-le}
+use Rattle.ckpt.specs.Found.{images_of, open_slots, slots_of}
 use Rattle.ckpt.proofs.TakeLemmas.{taken_at}
 use Rattle.std.proofs.Common.{rules}
 use Rattle.ckpt.specs.Faulty.{Names, IsFirstFaulty}
@@ -20,6 +21,9 @@ loop-slot-preserved g c =
       slots = (rw was.same at now.slots) was.slots;
       images = λ honest. (rw was.same at (now.images honest)) (was.images (now.honest honest));
       decoded = now.decoded was.decoded;
+      numbers = λ honest. subst (λ files. slots_of c.add_slot.new.all.items ≡ open_slots files)
+          (sym (taken_at contents c.loop-slot.slot [] (subst (λ n. c.loop-slot.slot < n) was.count c.loop-slot-test.true)))
+          ((rw was.same at (now.numbers honest)) (take c.loop-slot.slot contents) (length-take-le c.loop-slot.slot contents (omega (arith, was.count, c.loop-slot-test.true))) (was.numbers (now.honest honest)));
       found = λ honest. subst (λ files. OpenImages files (images_of contents c.add_slot.new.all.items))
           (sym (taken_at contents c.loop-slot.slot [] (subst (λ n. c.loop-slot.slot < n) was.count c.loop-slot-test.true)))
           ((rw was.same at (now.found honest)) _ (was.found (now.honest honest)));

@@ -27,5 +27,5 @@ returns-in_err-check_serials-clause-good g c = λ honest images store.
     let named : Names (λ slot reason. ⊥) c.in_err-check_serials.field-0.0 =
     names_more _ (λ slot reason. ⊥) c.in_err-check_serials.field-0.0
     (λ slot reason is. no_damage c.good_store_has_no_reason.ensures c.one_store.ensures contents images slot reason store
-    (inr (record { why = is.0; all = c.in_ok-found.found.items; images = c.in_ok-found.ensures.found honest; first = rw c.deref.ensures.value at is.1 }))) c.in_err-check_serials.ensures.double in
+    (inr (record { why = is.0; all = c.in_ok-found.found.items; slots = c.in_ok-found.ensures.numbers honest; images = c.in_ok-found.ensures.found honest; first = rw c.deref.ensures.value at is.1 }))) c.in_err-check_serials.ensures.double in
     search rules
