@@ -31,13 +31,15 @@ fn exact_bits(rt: HostRuntime) -> Result<(), Fail> {
     assert_eq!(rt; &words[8..16], [0, 0, 0, 0, 0, 0, 0, 0].as_slice());
     assert_eq!(rt; &words[16..], [0, 0, 0, 0, 0, 0, 0x80, 0].as_slice());
     let last = PageNo::new((1 << 35) - 1).ok_or("no page")?;
-    assert_eq!(rt; pagemap(&memory, space, last, 2, &mut words[..16]), Ok(()));
-    assert_eq!(rt; &words[..16], [0; 16].as_slice());
-    let dead = SpaceId::new(2);
+    let mut behind = [7; 16];
+    assert_eq!(rt; pagemap(&memory, space, last, 2, &mut behind), Ok(()));
+    assert_eq!(rt; behind, [0; 16]);
+    let mut none = [7; 8];
     assert_eq!(rt;
-        pagemap(&memory, dead, first, 1, &mut words[..8]),
+        pagemap(&memory, SpaceId::new(2), first, 1, &mut none),
         Err(NoSuchSpace)
     );
+    assert_eq!(rt; none, [7; 8]);
     Ok(())
 }
 
