@@ -1,0 +1,5 @@
+pub mod Members
+pub mod Choose
+pub mod Walks
+pub mod Memories
+pub mod Cuts
