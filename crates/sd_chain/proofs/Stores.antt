@@ -21,7 +21,7 @@ use Rattle.sd_chain.specs.Catalog.{Opened, Places, AreInOrder, place_of, images,
 use Rattle.sd_chain.specs.Catalog as catalog
 use Rattle.sd_chain.specs.Ways.{AreImages, HasPage, LiesAt, LiesBySerial}
 use Rattle.sd_chain.specs.Ways as ways
-use Rattle.sd_chain.specs.Store.{IsOpenedAs, IsCatalogOf, FindsNamed, FindsTip, FindsHeld, IsInFile, bytes_at, file_at}
+use Rattle.sd_chain.specs.Store.{IsOpenedAs, IsCatalogOf, HasTheImages, FindsNamed, FindsTip, FindsHeld, IsInFile, bytes_at, file_at}
 use Rattle.sd_chain.proofs.Members.{open_place, same_serial}
 use Rattle.sd_chain.proofs.Lies.{IsResolved}
 use Rattle.sd_chain.proofs.TablePages.{contains_cons_cases, contains_front, contains_later}
@@ -214,6 +214,15 @@ are_images contents places order catalog = record {
       let entry_is = as_image contents places (get_or (images places) k d) order catalog (Contains-get_or (images places) k d l) in
       let h : entry_is.0.header ≡ (get_or (images places) k d).header = entry_is.1.header in
       subst (λ (h : Header). h.parent < h.stands_for) h (falls entry_is.0.header entry_is.1.spelled.header.numbers);
+}
+
+pub has_the_images : (contents : List (List ℕ)) (all : List Image) (places : Places) → IsTied contents all places → HasTheImages contents places all
+has_the_images contents all places tied = record {
+  image = λ i c. image_of contents all places i tied c;
+  opened = λ image c. opened_of contents all places image tied c;
+  named = λ number i image entry_is names. named_of contents all places number i image tied entry_is names;
+  names = λ number i image c entry_is named. names_of contents all places number i image tied c entry_is named;
+  fall = (are_images contents places tied.order tied.catalog).fall;
 }
 
 -- ---- the answers about a catalog of contents

@@ -5,7 +5,8 @@ use Rattle.sd_image.specs.Image.{Image, IsImage, is_open}
 use Rattle.sd_image.specs.Shows.{Holds, IsNamed, IsRestorable, IsStore, IsTip}
 use Rattle.sd_chain.specs.declared.found.Found.{Found}
 use Rattle.sd_chain.specs.declared.found.Found.TheVariants as found
-use Rattle.sd_chain.specs.Catalog.{Opened, Places, place_of}
+use Rattle.sd_chain.specs.Catalog.{Opened, Places, Names, images, place_of}
+use Rattle.sd_chain.specs.Reaches.{ParentsFall}
 
 -- an open image of the catalog is the image of its slot's file
 pub record IsOpenedAs (contents : List (List ℕ)) (i : Opened) (image : Image) : Type 0 where
@@ -20,6 +21,14 @@ pub record IsCatalogOf (contents : List (List ℕ)) (places : Places) : Type 0 w
   pub sound : (serial : ℕ) (i : Opened) → place_of places serial ≡ Some (Some i) → (image : Image) × IsOpenedAs contents i image
   pub all : (slot : ℕ) (file : List ℕ) → slice_get contents slot ≡ Some file → is_open file ≡ true
       → (serial : ℕ) × (i : Opened) × (place_of places serial ≡ Some (Some i)) × (i.slot ≡ slot)
+
+-- The images of a catalog of contents are those of the contents, and a number names alike in both.
+pub record HasTheImages (contents : List (List ℕ)) (places : Places) (all : List Image) : Type 0 where
+  pub image : (i : Opened) → Contains (images places) i → (image : Image) × Contains all image × IsOpenedAs contents i image
+  pub opened : (image : Image) → Contains all image → (i : Opened) × Contains (images places) i × IsOpenedAs contents i image
+  pub named : (number : ℕ) (i : Opened) (image : Image) → IsOpenedAs contents i image → Names places number i → IsNamed all number image
+  pub names : (number : ℕ) (i : Opened) (image : Image) → Contains (images places) i → IsOpenedAs contents i image → IsNamed all number image → Names places number i
+  pub fall : ParentsFall places
 
 -- the file of a slot
 abbrev pub file_at : List (List ℕ) → ℕ → List ℕ

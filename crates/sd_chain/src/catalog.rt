@@ -4,7 +4,7 @@ ghost use Rattle.sd_image.specs.Image.{Image, OpenImages};
 ghost use Rattle.sd_chain.specs.declared.error.CatalogError.TheVariants.{DoubleSerial};
 ghost use Rattle.sd_chain.specs.declared.found.Found.{Found};
 ghost use Rattle.sd_chain.specs.Reaches.{ReachesSerial, ParentsFall};
-ghost use Rattle.sd_chain.specs.Store.{IsCatalogOf, IsInFile, FindsHeld, FindsNamed, FindsTip};
+ghost use Rattle.sd_chain.specs.Store.{IsCatalogOf, IsInFile, FindsHeld, FindsNamed, FindsTip, HasTheImages};
 ghost use Rattle.sd_chain.specs.Ways.{AreImages, LiesAt, LiesBySerial};
 ghost use Rattle.sd_chain.specs.Catalog.{Opened, AreInOrder, place_of, images, IsHeld, Changes, is_elsewhere, without_slot, Names, IsTip, IsRestored, IsRising};
 
@@ -183,6 +183,15 @@ impl Catalog {
         ensures rising { IsRising (images self.now) }
     {
         images_of(self.alloc, &self.places)
+    }
+
+    /// A law: the catalog of contents has the images of the contents, and a number names alike in both.
+    pub fn has_the_images(&self)
+        ensures { (contents : List (List ℕ)) (images : List Image) → IsCatalogOf contents self.now
+            → OpenImages contents images → HasTheImages contents self.now images }
+    {
+        one_image();
+        let _places = &self.places;
     }
 
     /// The image that an image's parent number names, if it stands for a lower number.

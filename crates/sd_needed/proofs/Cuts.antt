@@ -90,17 +90,20 @@ tip_on : (catalog images : List Image) (jobs : List ℕ) (tip : Image) → IsHar
 tip_on catalog images jobs tip h is =
     let there = h.followed.needed tip (inl is) in
     let j = some_tip images tip there is.restorable in
-    let after = j.1.greatest tip there is.restorable in
-    (j.0, j.1, elim (h.tips j.0 j.1.member) [
-      | inl among ↦ inl (tip_is catalog j.0 tip h.followed.differ is among j.1.restorable after)
-      | inr keeps ↦
-          let found = keeps j.1.restorable in
-          let same : found.0 ≡ tip = one_tip catalog found.0 tip h.followed.differ found.1 is in
-          elim found.2 [
-            | inl less ↦ absurd (not_below tip j.0 after (subst (λ (k : Image). j.0.header.checkpoint < k.header.checkpoint) same less))
-            | inr repeats ↦ inr (subst (λ (k : Image). Repeats catalog k j.0) same repeats)
-          ]
-    ])
+    let after = j.1.greatest tip there is.restorable in (
+      j.0,
+      j.1,
+      elim (h.tips j.0 j.1.member) [
+        | inl among ↦ inl (tip_is catalog j.0 tip h.followed.differ is among j.1.restorable after)
+        | inr keeps ↦
+            let found = keeps j.1.restorable in
+            let same : found.0 ≡ tip = one_tip catalog found.0 tip h.followed.differ found.1 is in
+            elim found.2 [
+              | inl less ↦ absurd (not_below tip j.0 after (subst (λ (k : Image). j.0.header.checkpoint < k.header.checkpoint) same less))
+              | inr repeats ↦ inr (subst (λ (k : Image). Repeats catalog k j.0) same repeats)
+            ]
+      ],
+    )
 
 none_on : (catalog images : List Image) (jobs : List ℕ) → IsHarmlessly catalog jobs images
     → ((i : Image) → Contains catalog i → IsRestorable i → ⊥) → (i : Image) → Contains images i → IsRestorable i → ⊥
@@ -135,9 +138,9 @@ cut_shows_the_same_lem catalog adding images jobs shown differ cut harmless was 
       followed = record {
         differ = differ;
         needed = cut.needed;
-        within = λ i c. elim (cut.within i c) [ | inl among ↦ inl among | inr added ↦ inr (harmless i added).number ];
+        within = λ i c. elim (cut.within i c) [ inl among ↦ inl among | inr added ↦ inr (harmless i added).number ];
       };
-      tips = λ i c. elim (cut.within i c) [ | inl among ↦ inl among | inr added ↦ inr (harmless i added).tip ];
+      tips = λ i c. elim (cut.within i c) [ inl among ↦ inl among | inr added ↦ inr (harmless i added).tip ];
     }) was
 
 -- ---- with a pending dump
@@ -223,11 +226,17 @@ pending_shows catalog adding images jobs pending (Some moment) u cut there was =
     let mine = pending_tip catalog adding images jobs pending u cut.within there in
     let first = followed catalog adding (pending ∷ catalog) jobs pending u (λ i n. contains_later pending i catalog (needed_in catalog jobs i n)) known in
     let second = followed catalog adding images jobs pending u cut.needed cut.within in
-    let same : was.0 ≡ pending = front_tip was.0 was.1 in
-    (pending, mine, ap (λ (k : Image). k.header.checkpoint) (sym same) ∙ was.2, memory_moves (pending ∷ catalog) images pending pending moment.1 refl
-      (record { bytes = λ space page bytes holds.
-          holds_on catalog images jobs space page bytes pending second u.is.parent (holds_back catalog (pending ∷ catalog) jobs space page bytes pending first u.is.parent holds) })
-      (subst (λ (k : Image). IsMemory (pending ∷ catalog) k moment.1) same was.3))
+    let same : was.0 ≡ pending = front_tip was.0 was.1 in (
+      pending,
+      mine,
+      ap (λ (k : Image). k.header.checkpoint) (sym same) ∙ was.2,
+      memory_moves (pending ∷ catalog) images pending pending moment.1 refl
+          (record {
+            bytes = λ space page bytes holds.
+                holds_on catalog images jobs space page bytes pending second u.is.parent (holds_back catalog (pending ∷ catalog) jobs space page bytes pending first u.is.parent holds);
+          })
+          (subst (λ (k : Image). IsMemory (pending ∷ catalog) k moment.1) same was.3),
+    )
   where
     known : AreKnown catalog adding jobs pending (pending ∷ catalog)
     known i c = elim (contains_cases pending i catalog c) [

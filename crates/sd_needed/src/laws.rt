@@ -1,6 +1,18 @@
 //! What a set of images shows, whatever a crash leaves of it. Each law is the contract of a function that does nothing.
 ghost use Rattle.sd_needed.specs.Cut.{CutShowsTheSame, CutShowsLastOrPending};
 ghost use Rattle.sd_needed.specs.Needed.{NeededIsReached};
+ghost use Rattle.sd_needed.specs.Reached.{CatalogFalls, CatalogReachesSo};
+
+use sd_chain::Catalog;
+
+/// What an image of a catalog reaches is what the image of the store's contents reaches. So [`Catalog::reachable`]
+/// finds exactly the serials of what is reached.
+pub fn catalog_reaches_so(catalog: &Catalog)
+    ensures falls { CatalogFalls catalog.now }
+    ensures reached { CatalogReachesSo catalog.now }
+{
+    catalog.has_the_images();
+}
 
 /// An image is needed exactly where the tip, or what a job's number names, reaches it.
 pub fn needed_is_reached()

@@ -3,4 +3,6 @@
 
 mod laws;
 
-pub use laws::{cut_shows_last_or_pending, cut_shows_the_same, needed_is_reached};
+pub use laws::{
+    catalog_reaches_so, cut_shows_last_or_pending, cut_shows_the_same, needed_is_reached,
+};
