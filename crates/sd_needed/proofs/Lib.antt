@@ -4,3 +4,4 @@ pub mod Walks
 pub mod Catalogs
 pub mod Memories
 pub mod Cuts
+pub mod Harmless

@@ -1,3 +1,4 @@
 pub mod Reached
 pub mod Needed
 pub mod Cut
+pub mod Harmless

@@ -1,5 +1,6 @@
 //! What a set of images shows, whatever a crash leaves of it. Each law is the contract of a function that does nothing.
 ghost use Rattle.sd_needed.specs.Cut.{CutShowsTheSame, CutShowsLastOrPending};
+ghost use Rattle.sd_needed.specs.Harmless.{DumpIsPending, PreDumpIsHarmless, TwinIsHarmless, UnusedIsUncalled};
 ghost use Rattle.sd_needed.specs.Needed.{NeededIsReached};
 ghost use Rattle.sd_needed.specs.Reached.{CatalogFalls, CatalogReachesSo};
 
@@ -27,4 +28,24 @@ pub fn cut_shows_the_same()
 /// With a pending dump among those being added they show that, or the pending checkpoint and its memory.
 pub fn cut_shows_last_or_pending()
     ensures { CutShowsLastOrPending }
+{}
+
+/// A number that no image and no job has isn't called for.
+pub fn unused_is_uncalled()
+    ensures { UnusedIsUncalled }
+{}
+
+/// A pre-dump that stands for an unused number is harmless.
+pub fn pre_dump_is_harmless()
+    ensures { PreDumpIsHarmless }
+{}
+
+/// An image that repeats the source of a merge is harmless.
+pub fn twin_is_harmless()
+    ensures { TwinIsHarmless }
+{}
+
+/// A dump that stands for an unused number and names a job's number is pending, where its checkpoint is above all others.
+pub fn dump_is_pending()
+    ensures { DumpIsPending }
 {}
