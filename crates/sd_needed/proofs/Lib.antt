@@ -5,3 +5,5 @@ pub mod Catalogs
 pub mod Memories
 pub mod Cuts
 pub mod Harmless
+pub mod Growth
+pub mod StepLemmas

@@ -2,3 +2,5 @@ pub mod Reached
 pub mod Needed
 pub mod Cut
 pub mod Harmless
+pub mod Store
+pub mod Steps

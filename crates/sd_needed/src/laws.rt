@@ -2,6 +2,7 @@
 ghost use Rattle.sd_needed.specs.Cut.{CutShowsTheSame, CutShowsLastOrPending};
 ghost use Rattle.sd_needed.specs.Harmless.{DumpIsPending, PreDumpIsHarmless, TwinIsHarmless, UnusedIsUncalled};
 ghost use Rattle.sd_needed.specs.Needed.{NeededIsReached};
+ghost use Rattle.sd_needed.specs.Steps.{StepsKeep};
 ghost use Rattle.sd_needed.specs.Reached.{CatalogFalls, CatalogReachesSo};
 
 use sd_chain::Catalog;
@@ -48,4 +49,9 @@ pub fn twin_is_harmless()
 /// A dump that stands for an unused number and names a job's number is pending, where its checkpoint is above all others.
 pub fn dump_is_pending()
     ensures { DumpIsPending }
+{}
+
+/// Each step keeps a store sound.
+pub fn steps_keep()
+    ensures { StepsKeep }
 {}
