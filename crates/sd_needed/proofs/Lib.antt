@@ -7,3 +7,4 @@ pub mod Cuts
 pub mod Harmless
 pub mod Growth
 pub mod StepLemmas
+pub mod Slots

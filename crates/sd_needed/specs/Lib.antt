@@ -4,3 +4,4 @@ pub mod Cut
 pub mod Harmless
 pub mod Store
 pub mod Steps
+pub mod Beliefs

@@ -1,4 +1,5 @@
 //! What a set of images shows, whatever a crash leaves of it. Each law is the contract of a function that does nothing.
+ghost use Rattle.sd_needed.specs.Beliefs.{ContentsShow, LeftImagesShow};
 ghost use Rattle.sd_needed.specs.Cut.{CutShowsTheSame, CutShowsLastOrPending};
 ghost use Rattle.sd_needed.specs.Harmless.{DumpIsPending, PreDumpIsHarmless, TwinIsHarmless, UnusedIsUncalled};
 ghost use Rattle.sd_needed.specs.Needed.{NeededIsReached};
@@ -54,4 +55,15 @@ pub fn dump_is_pending()
 /// Each step keeps a store sound.
 pub fn steps_keep()
     ensures { StepsKeep }
+{}
+
+/// Whatever a crash leaves of a sound store's slots shows what the store shows, or the pending checkpoint and its memory.
+pub fn left_images_show()
+    ensures { LeftImagesShow }
+{}
+
+/// The same of contents: where each slot's file is as believed, they show what the store shows, or the pending
+/// checkpoint and its memory.
+pub fn contents_show()
+    ensures { ContentsShow }
 {}

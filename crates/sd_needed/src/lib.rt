@@ -4,6 +4,7 @@
 mod laws;
 
 pub use laws::{
-    catalog_reaches_so, cut_shows_last_or_pending, cut_shows_the_same, dump_is_pending,
-    needed_is_reached, pre_dump_is_harmless, steps_keep, twin_is_harmless, unused_is_uncalled,
+    catalog_reaches_so, contents_show, cut_shows_last_or_pending, cut_shows_the_same,
+    dump_is_pending, left_images_show, needed_is_reached, pre_dump_is_harmless, steps_keep,
+    twin_is_harmless, unused_is_uncalled,
 };
