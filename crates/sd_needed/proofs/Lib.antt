@@ -8,3 +8,5 @@ pub mod Harmless
 pub mod Growth
 pub mod StepLemmas
 pub mod Slots
+pub mod OnePage
+pub mod Worked

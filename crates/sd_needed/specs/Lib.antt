@@ -5,3 +5,4 @@ pub mod Harmless
 pub mod Store
 pub mod Steps
 pub mod Beliefs
+pub mod Worked

@@ -1,0 +1,222 @@
+-- The worked stores show what they are said to show.
+use Rattle.std.proofs.Common.{◌≡◌, ◌≢◌, ◌⊎◌, ◌<◌, ◌≤◌, ℕ, nat_eq, true, false, List, [], ◌∷◌, Option, Some, None, Contains, refl, sym, ◌∙◌, ap, subst, inl, inr, arith}
+use Rattle.std.specs.Prelude.{◌↔◌}
+use Rattle.std.specs.List.{IsDistinct, slice_get}
+use Rattle.sd_areas.specs.Pages.{pages_from}
+use Rattle.sd_image.specs.declared.header.Kind.{Kind}
+use Rattle.sd_image.specs.declared.header.Kind.TheVariants.{PreDump, Dump, Merged}
+use Rattle.sd_image.specs.declared.run.RunKind.TheVariants.{Data, Parent, Zero}
+use Rattle.sd_image.specs.Image.{Image}
+use Rattle.sd_image.specs.Shows.{Holds, by_data, by_zero, by_parent, IsNamed, IsNotAfter, IsRestorable, IsTip, pages_of}
+use Rattle.sd_needed.specs.Reached.{Reaches, itself, beyond}
+use Rattle.sd_needed.specs.Needed.{IsCalled, by_job}
+use Rattle.sd_needed.specs.Cut.{HoldsAlike, ImagesShow, SerialsDiffer}
+use Rattle.sd_needed.specs.Store.{IsSound}
+use Rattle.sd_needed.specs.Steps.{Adds, begun, opened}
+use Rattle.sd_needed.specs.Worked.{ChainRows, WhyItGrows, found, memory_of, merged, one_page, unchanged, whole}
+use Rattle.sd_needed.proofs.Choose.{one_named}
+use Rattle.sd_needed.proofs.Members.{contains_cases, contains_front, contains_later, contains_none}
+use Rattle.sd_needed.proofs.OnePage.{page_memory}
+use Rattle.sd_needed.proofs.StepLemmas.{steps_keep_lem}
+
+-- ---- what holds of each image of a short list
+
+pub each_of_one : (P : Image → Type 0) (a : Image) → P a → (i : Image) → Contains (a ∷ []) i → P i
+each_of_one P a pa i c = elim (contains_cases a i [] c) [
+  | inl e ↦ subst P (sym e) pa
+  | inr d ↦ absurd (contains_none i d)
+]
+
+pub each_of_two : (P : Image → Type 0) (a b : Image) → P a → P b → (i : Image) → Contains (a ∷ b ∷ []) i → P i
+each_of_two P a b pa pb i c = elim (contains_cases a i (b ∷ []) c) [
+  | inl e ↦ subst P (sym e) pa
+  | inr d ↦ each_of_one P b pb i d
+]
+
+pub each_of_three : (P : Image → Type 0) (a b c : Image) → P a → P b → P c → (i : Image) → Contains (a ∷ b ∷ c ∷ []) i → P i
+each_of_three P a b c pa pb pc i d = elim (contains_cases a i (b ∷ c ∷ []) d) [
+  | inl e ↦ subst P (sym e) pa
+  | inr f ↦ each_of_two P b c pb pc i f
+]
+
+-- ---- pages
+
+pub holds_whole : (images : List Image) (kind : Kind) (serial stands_for parent checkpoint : ℕ) (bytes : List ℕ)
+    → Holds images 1 16 bytes (one_page kind serial stands_for parent checkpoint Data (bytes ∷ []))
+unfolding pages_from
+holds_whole images kind serial stands_for parent checkpoint bytes = by_data (one_page kind serial stands_for parent checkpoint Data (bytes ∷ [])) 0 refl refl
+
+pub holds_unchanged : (images : List Image) (serial parent checkpoint : ℕ) (bytes : List ℕ) (i : Image) → IsNamed images parent i → Holds images 1 16 bytes i
+    → Holds images 1 16 bytes (unchanged serial parent checkpoint)
+unfolding pages_from
+holds_unchanged images serial parent checkpoint bytes i named holds =
+    by_parent (unchanged serial parent checkpoint) i (0, omega arith, refl) named holds
+
+dump_restores : (i : Image) → i.header.kind ≡ Dump → IsRestorable i
+dump_restores i e f = let both : Dump ≡ PreDump = sym e ∙ f in absurd cc
+
+-- ---- the rows of the chain
+
+module _ (bytes other : List ℕ) where
+  abbrev a : Image
+  a = whole 1 1 bytes
+
+  abbrev b : Image
+  b = unchanged 2 1 2
+
+  abbrev m : Image
+  m = merged 3 1 1 other
+
+  first_row : ImagesShow (a ∷ []) (Some (1, memory_of bytes))
+  first_row = (
+    a,
+    record {
+      member = contains_front a [];
+      restorable = dump_restores a refl;
+      greatest = λ j c restorable. each_of_one (λ k. IsNotAfter k a) a (inr (refl, omega arith)) j c;
+    },
+    refl,
+    page_memory bytes Dump 1 1 0 1 Data (bytes ∷ []) (a ∷ []) (holds_whole (a ∷ []) Dump 1 1 0 1 bytes),
+  )
+
+  a_named : IsNamed (a ∷ b ∷ []) 1 a
+  a_named = record {
+    member = contains_front a (b ∷ []);
+    stands = refl;
+    greatest = λ j c. each_of_two (λ k. k.header.stands_for ≡ 1 → k.header.serial ≤ 1) a b (λ e. omega arith) (λ e. absurd (omega (arith, e))) j c;
+  }
+
+  second_row : ImagesShow (a ∷ b ∷ []) (Some (2, memory_of bytes))
+  second_row = (
+    b,
+    record {
+      member = contains_later a b (b ∷ []) (contains_front b []);
+      restorable = dump_restores b refl;
+      greatest = λ j c restorable. each_of_two (λ k. IsNotAfter k b) a b (inl (omega arith)) (inr (refl, omega arith)) j c;
+    },
+    refl,
+    page_memory bytes Dump 2 2 1 2 Parent [] (a ∷ b ∷ []) (holds_unchanged (a ∷ b ∷ []) 2 1 2 bytes a a_named (holds_whole (a ∷ b ∷ []) Dump 1 1 0 1 bytes)),
+  )
+
+  abbrev three : List Image
+  three = a ∷ b ∷ m ∷ []
+
+  m_named : IsNamed three 1 m
+  m_named = record {
+    member = contains_later a m (b ∷ m ∷ []) (contains_later b m (m ∷ []) (contains_front m []));
+    stands = refl;
+    greatest = λ j c. each_of_three (λ k. k.header.stands_for ≡ 1 → k.header.serial ≤ 3) a b m (λ e. omega arith) (λ e. omega arith) (λ e. omega arith) j c;
+  }
+
+  third_row : ImagesShow three (Some (2, memory_of other))
+  third_row = (
+    b,
+    record {
+      member = contains_later a b (b ∷ m ∷ []) (contains_front b (m ∷ []));
+      restorable = dump_restores b refl;
+      greatest = λ j c restorable. each_of_three (λ k. IsNotAfter k b) a b m (inl (omega arith)) (inr (refl, omega arith)) (inl (omega arith)) j c;
+    },
+    refl,
+    page_memory other Dump 2 2 1 2 Parent [] three (holds_unchanged three 2 1 2 other m m_named (holds_whole three Merged 3 1 0 1 other)),
+  )
+
+  serials_three : SerialsDiffer three
+  serials_three i j c d = each_of_three (λ k. k.header.serial ≡ j.header.serial → k ≡ j) a b m
+      (λ e. each_of_three (λ k. 1 ≡ k.header.serial → a ≡ k) a b m (λ f. refl) (λ f. absurd (omega (arith, f))) (λ f. absurd (omega (arith, f))) j d e)
+      (λ e. each_of_three (λ k. 2 ≡ k.header.serial → b ≡ k) a b m (λ f. absurd (omega (arith, f))) (λ f. refl) (λ f. absurd (omega (arith, f))) j d e)
+      (λ e. each_of_three (λ k. 3 ≡ k.header.serial → m ≡ k) a b m (λ f. absurd (omega (arith, f))) (λ f. absurd (omega (arith, f))) (λ f. refl) j d e)
+      i c
+
+  -- what is reached from an image that stands for another number stands for it, or is reached beyond it
+  from_m : (i start : Image) → start.header.parent ≡ 0 → Reaches three i start → i ≡ start
+  from_m i start none (itself) = refl
+  from_m i start none (beyond _ up named reaches) =
+      absurd (each_of_three (λ k. k.header.stands_for ≡ start.header.parent → ⊥) a b m (λ e. omega (arith, e, none)) (λ e. omega (arith, e, none)) (λ e. omega (arith, e, none)) up named.member named.stands)
+
+  from_b : (i start : Image) → start.header.parent ≡ 1 → Reaches three i start → (i ≡ start) ⊎ (i ≡ m)
+  from_b i start one (itself) = inl refl
+  from_b i start one (beyond _ up named reaches) =
+      let is : up ≡ m = one_named three 1 up m serials_three (subst (λ n. IsNamed three n up) one named) m_named in
+      inr (from_m i up (ap (λ (k : Image). k.header.parent) is) reaches ∙ is)
+
+  a_not_reached : Reaches three a b → ⊥
+  a_not_reached reaches = elim (from_b a b refl reaches) [
+    | inl e ↦ let same : 1 ≡ 2 = ap (λ (k : Image). k.header.serial) e in omega (arith, same)
+    | inr e ↦ let same : 1 ≡ 3 = ap (λ (k : Image). k.header.serial) e in omega (arith, same)
+  ]
+
+  pub chain_rows_lem : ChainRows bytes other
+  chain_rows_lem = record {
+    first = first_row;
+    second = second_row;
+    third = third_row;
+    reaches = beyond b m m_named itself;
+    no_more = a_not_reached;
+  }
+
+  -- ---- a store whose tip isn't named by its own number
+
+  abbrev t : Image
+  t = whole 5 2 bytes
+
+  abbrev n : Image
+  n = merged 6 5 1 other
+
+  abbrev d : Image
+  d = unchanged 7 5 3
+
+  found_differ : SerialsDiffer (found bytes other)
+  found_differ i j c e = each_of_two (λ k. k.header.serial ≡ j.header.serial → k ≡ j) t n
+      (λ f. each_of_two (λ k. 5 ≡ k.header.serial → t ≡ k) t n (λ g. refl) (λ g. absurd (omega (arith, g))) j e f)
+      (λ f. each_of_two (λ k. 6 ≡ k.header.serial → n ≡ k) t n (λ g. absurd (omega (arith, g))) (λ g. refl) j e f)
+      i c
+
+  found_tip : IsTip (found bytes other) t
+  found_tip = record {
+    member = contains_front t (n ∷ []);
+    restorable = dump_restores t refl;
+    greatest = λ j c restorable. each_of_two (λ k. IsNotAfter k t) t n (inr (refl, omega arith)) (inl (omega arith)) j c;
+  }
+
+  n_named : IsNamed (found bytes other) 5 n
+  n_named = record {
+    member = contains_later t n (n ∷ []) (contains_front n []);
+    stands = refl;
+    greatest = λ j c. each_of_two (λ k. k.header.stands_for ≡ 5 → k.header.serial ≤ 6) t n (λ e. omega arith) (λ e. omega arith) j c;
+  }
+
+  n_named_later : IsNamed (d ∷ found bytes other) 5 n
+  n_named_later = record {
+    member = contains_later d n (t ∷ n ∷ []) n_named.member;
+    stands = refl;
+    greatest = λ j c. each_of_three (λ k. k.header.stands_for ≡ 5 → k.header.serial ≤ 6) d t n (λ e. absurd (omega (arith, e))) (λ e. omega arith) (λ e. omega arith) j c;
+  }
+
+  changed : ImagesShow (d ∷ found bytes other) (Some (3, memory_of other))
+  changed = (
+    d,
+    record {
+      member = contains_front d (t ∷ n ∷ []);
+      restorable = dump_restores d refl;
+      greatest = λ j c restorable. each_of_three (λ k. IsNotAfter k d) d t n (inr (refl, omega arith)) (inl (omega arith)) (inl (omega arith)) j c;
+    },
+    refl,
+    page_memory other Dump 7 7 5 3 Parent [] (d ∷ found bytes other)
+        (holds_unchanged (d ∷ found bytes other) 7 5 3 other n n_named_later (holds_whole (d ∷ found bytes other) Merged 6 5 0 1 other)),
+  )
+
+  unsound : IsSound (begun (opened (found bytes other)) 5) → ⊥
+  unsound sound =
+      let named = (sound.tip t found_tip).named (by_job 5 (contains_front 5 [])) in
+      let less = named.greatest n n_named.member refl in
+      omega (arith, less)
+
+  pub why_it_grows_lem : WhyItGrows bytes other
+  why_it_grows_lem = record {
+    sound = steps_keep_lem.opens (found bytes other) found_differ (each_of_two (λ k. k.header.parent < k.header.stands_for) t n (omega arith) (omega arith));
+    tip = found_tip;
+    shows = (t, found_tip, refl, page_memory bytes Dump 5 5 0 2 Data (bytes ∷ []) (found bytes other) (holds_whole (found bytes other) Dump 5 5 0 2 bytes));
+    misnamed = n_named;
+    changed = changed;
+    unsound = unsound;
+  }
