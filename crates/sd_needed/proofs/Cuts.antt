@@ -214,7 +214,7 @@ followed catalog adding images jobs pending u needs known = record {
   ];
 }
 
-needed_in : (catalog : List Image) (jobs : List ℕ) (i : Image) → IsNeeded catalog jobs i → Contains catalog i
+pub needed_in : (catalog : List Image) (jobs : List ℕ) (i : Image) → IsNeeded catalog jobs i → Contains catalog i
 needed_in catalog jobs i (inl tip) = tip.member
 needed_in catalog jobs i (inr called) = called.2.member
 

@@ -10,3 +10,4 @@ pub mod StepLemmas
 pub mod Slots
 pub mod OnePage
 pub mod Worked
+pub mod Busy

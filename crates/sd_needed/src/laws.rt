@@ -5,6 +5,8 @@ ghost use Rattle.sd_needed.specs.Harmless.{DumpIsPending, PreDumpIsHarmless, Twi
 ghost use Rattle.sd_needed.specs.Needed.{NeededIsReached};
 ghost use Rattle.sd_needed.specs.Steps.{StepsKeep};
 ghost use Rattle.sd_needed.specs.Reached.{CatalogFalls, CatalogReachesSo};
+ghost use Rattle.std.specs.Prelude.{ℕ, List};
+ghost use Rattle.sd_needed.specs.Worked.{ChainRows, MergeBesideRound, WhyItGrows};
 
 use sd_chain::Catalog;
 
@@ -66,4 +68,13 @@ pub fn left_images_show()
 /// checkpoint and its memory.
 pub fn contents_show()
     ensures { ContentsShow }
+{}
+
+/// Worked stores of one page: a dump, a second one that names it, and a merged image in the first one's place; a merge
+/// beside a round, with the gates of both images being opened; and a store whose tip isn't named by its own number, where
+/// an incremental checkpoint would show other bytes.
+pub fn worked_stores()
+    ensures chain { (bytes other : List ℕ) → ChainRows bytes other }
+    ensures busy { (bytes : List ℕ) → MergeBesideRound bytes }
+    ensures grows { (bytes other : List ℕ) → WhyItGrows bytes other }
 {}

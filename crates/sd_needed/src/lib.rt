@@ -6,5 +6,5 @@ mod laws;
 pub use laws::{
     catalog_reaches_so, contents_show, cut_shows_last_or_pending, cut_shows_the_same,
     dump_is_pending, left_images_show, needed_is_reached, pre_dump_is_harmless, steps_keep,
-    twin_is_harmless, unused_is_uncalled,
+    twin_is_harmless, unused_is_uncalled, worked_stores,
 };

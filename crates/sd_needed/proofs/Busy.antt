@@ -1,0 +1,215 @@
+-- A merge beside a round.
+use Rattle.std.proofs.Common.{◌≡◌, ◌≢◌, ◌⊎◌, ◌<◌, ◌≤◌, ℕ, nat_eq, true, false, List, [], ◌∷◌, Option, Some, None, Contains, refl, sym, ◌∙◌, ap, subst, inl, inr, arith}
+use Rattle.std.specs.Prelude.{◌↔◌}
+use Rattle.std.specs.List.{IsDistinct, slice_get}
+use Rattle.std.proofs.lemmas.Option.{none-some}
+use Rattle.sd_areas.specs.Pages.{pages_from}
+use Rattle.sd_image.specs.declared.header.Kind.TheVariants.{PreDump, Dump, Merged}
+use Rattle.sd_image.specs.declared.run.RunKind.TheVariants.{Data, Parent, Zero}
+use Rattle.sd_image.specs.Table.{Listed}
+use Rattle.sd_image.specs.Image.{Image}
+use Rattle.sd_image.specs.Shows.{Holds, by_data, by_zero, by_parent, IsNamed, IsNotAfter, IsRestorable, IsTip, pages_of}
+use Rattle.sd_needed.specs.Needed.{IsNeeded}
+use Rattle.sd_needed.specs.Cut.{HoldsAlike, ImagesShow}
+use Rattle.sd_needed.specs.Store.{IsNextDump, IsSound, IsTwin, Store, jobs}
+use Rattle.sd_needed.specs.Steps.{Adds, begun, committed, merging, opened}
+use Rattle.sd_needed.specs.Beliefs.{AreSlotsOf, Belief, Closed, Kept, Closing, Opening, IsAdded, IsLeft}
+use Rattle.sd_needed.specs.Worked.{MergeBesideRound, busy, busy_slots, memory_of, merged, one_page, unchanged, whole}
+use Rattle.sd_needed.proofs.Cuts.{needed_in}
+use Rattle.sd_needed.proofs.Members.{contains_cases, contains_front, contains_later, contains_none}
+use Rattle.sd_needed.proofs.OnePage.{page_memory}
+use Rattle.sd_needed.proofs.Slots.{left_images_show_lem}
+use Rattle.sd_needed.proofs.StepLemmas.{steps_keep_lem}
+use Rattle.sd_needed.proofs.Worked.{each_of_one, each_of_two, holds_unchanged, holds_whole}
+
+-- images with the same table and pages hold the same, where no page is left to the parent
+same_bytes : (xs ys : List Image) (space page : ℕ) (bytes : List ℕ) (j i : Image) → i.spaces ≡ j.spaces → i.pages ≡ j.pages
+    → (Contains (pages_of Parent i.spaces) (space, page) → ⊥) → Holds xs space page bytes i → Holds ys space page bytes j
+same_bytes xs ys space page bytes j i spaces pages none (by_data _ place has is) =
+    by_data j place (subst (λ (ss : List Listed). slice_get (pages_of Data ss) place ≡ Some (space, page)) spaces has)
+    (subst (λ (ps : List (List ℕ)). slice_get ps place ≡ Some bytes) pages is)
+same_bytes xs ys space page bytes j i spaces pages none (by_zero _ has is) =
+    by_zero j (subst (λ (ss : List Listed). Contains (pages_of Zero ss) (space, page)) spaces has) is
+same_bytes xs ys space page bytes j i spaces pages none (by_parent _ parent has named holds) = absurd (none has)
+
+restores : (i : Image) → (i.header.kind ≡ Dump) ⊎ (i.header.kind ≡ Merged) → IsRestorable i
+restores i (inl e) f = let both : Dump ≡ PreDump = sym e ∙ f in absurd cc
+restores i (inr e) f = let both : Merged ≡ PreDump = sym e ∙ f in absurd cc
+
+module _ (bytes : List ℕ) where
+  abbrev a : Image
+  a = whole 1 1 bytes
+
+  abbrev m : Image
+  m = merged 2 1 1 bytes
+
+  abbrev d : Image
+  d = unchanged 3 1 2
+
+  -- the steps that lead there
+  abbrev started : Store
+  started = begun (opened []) 0
+
+  first_dump : IsNextDump started a
+  first_dump = record {
+    next = record {
+      serial = λ j c. absurd (contains_none j c);
+      number = record {
+        stands = λ j c. absurd (contains_none j c);
+        names = λ j c. absurd (contains_none j c);
+        asks = λ c. elim (contains_cases 0 1 [] c) [ inl e ↦ omega (arith, e) | inr none ↦ contains_none 1 none ];
+      };
+      apart = tt;
+      parent = contains_front 0 [];
+      falls = omega arith;
+    };
+    restorable = restores a (inl refl);
+    newest = λ j c. absurd (contains_none j c);
+    above = tt;
+  }
+
+  a_more : Adds [] a (a ∷ [])
+  a_more j = (λ c. contains_cases a j [] c, λ e. elim e [ inl same ↦ subst (Contains (a ∷ [])) (sym same) (contains_front a []) | inr none ↦ absurd (contains_none j none) ])
+
+  a_tip : IsTip (a ∷ []) a
+  a_tip = record {
+    member = contains_front a [];
+    restorable = restores a (inl refl);
+    greatest = λ j c restorable. each_of_one (λ k. IsNotAfter k a) a (inr (refl, omega arith)) j c;
+  }
+
+  empty_sound : IsSound (opened [])
+  empty_sound = steps_keep_lem.opens [] (λ i j c e. absurd (contains_none i c)) (λ i c. absurd (contains_none i c))
+
+  saved_sound : IsSound (committed started (a ∷ []))
+  saved_sound = steps_keep_lem.commits started a (a ∷ []) (steps_keep_lem.begins_whole (opened []) empty_sound) first_dump a_more
+
+  merging_sound : IsSound (merging (committed started (a ∷ [])) a)
+  merging_sound = steps_keep_lem.merges (committed started (a ∷ [])) a saved_sound a_tip
+
+  busy_sound : IsSound (busy bytes)
+  busy_sound = steps_keep_lem.begins (merging (committed started (a ∷ [])) a) a merging_sound refl a_tip
+
+  -- what is being opened
+  no_parent_page : (space page : ℕ) → Contains (pages_of Parent a.spaces) (space, page) → ⊥
+  no_parent_page space page c = contains_none (space, page) c
+
+  alike : HoldsAlike (a ∷ []) a m
+  alike others space page bytes' = (
+    λ h. same_bytes others (a ∷ []) space page bytes' a m refl refl (no_parent_page space page) h,
+    λ h. same_bytes (a ∷ []) others space page bytes' m a refl refl (no_parent_page space page) h,
+  )
+
+  twin : IsTwin (busy bytes) m
+  twin = record {
+    source = a;
+    running = refl;
+    repeats = record { checkpoint = refl; stands = refl; areas = refl; bytes = alike };
+    restorable = restores m (inr refl);
+    alone = refl;
+    falls = omega arith;
+    serial = each_of_one (λ k. k.header.serial ≢ 2) a (λ e. omega (arith, e));
+    above = each_of_one (λ k. k.header.stands_for ≡ 1 → k.header.serial < 2) a (λ e. omega arith);
+  }
+
+  second_dump : IsNextDump (busy bytes) d
+  second_dump = record {
+    next = record {
+      serial = each_of_one (λ k. k.header.serial ≢ 3) a (λ e. omega (arith, e));
+      number = record {
+        stands = each_of_one (λ k. k.header.stands_for ≢ 3) a (λ e. omega (arith, e));
+        names = each_of_one (λ k. k.header.parent ≢ 3) a (λ e. omega (arith, e));
+        asks = λ c. elim (contains_cases 1 3 (0 ∷ []) c) [
+          | inl e ↦ omega (arith, e)
+          | inr rest ↦ elim (contains_cases 0 3 [] rest) [ inl e ↦ omega (arith, e) | inr none ↦ contains_none 3 none ]
+        ];
+      };
+      apart = λ e. omega (arith, e);
+      parent = contains_front 1 [];
+      falls = omega arith;
+    };
+    restorable = restores d (inl refl);
+    newest = each_of_one (λ k. IsRestorable k → k.header.checkpoint < 2) a (λ e. omega arith);
+    above = omega arith;
+  }
+
+  -- the slots
+  abbrev later : List Belief
+  later = Opening m ∷ Opening d ∷ []
+
+  never_kept : (i : Image) → Contains later (Kept i) → ⊥
+  never_kept i c = elim (contains_cases (Opening m) (Kept i) (Opening d ∷ []) c) [
+    | inl e ↦ absurd cc
+    | inr rest ↦ elim (contains_cases (Opening d) (Kept i) [] rest) [ inl e ↦ absurd cc | inr none ↦ contains_none (Kept i) none ]
+  ]
+
+  never_closing : (i : Image) → Contains (busy_slots bytes) (Closing i) → ⊥
+  never_closing i c = elim (contains_cases (Kept a) (Closing i) later c) [
+    | inl e ↦ absurd cc
+    | inr more ↦ elim (contains_cases (Opening m) (Closing i) (Opening d ∷ []) more) [
+      | inl e ↦ absurd cc
+      | inr rest ↦ elim (contains_cases (Opening d) (Closing i) [] rest) [ inl e ↦ absurd cc | inr none ↦ contains_none (Closing i) none ]
+    ]
+  ]
+
+  is_kept : (i : Image) → Contains (a ∷ []) i → Contains (busy_slots bytes) (Kept i)
+  is_kept i c = each_of_one (λ k. Contains (busy_slots bytes) (Kept k)) a (contains_front (Kept a) later) i c
+
+  was_kept : (i : Image) → Contains (busy_slots bytes) (Kept i) → Contains (a ∷ []) i
+  was_kept i c = elim (contains_cases (Kept a) (Kept i) later c) [
+    | inl e ↦ let same : i ≡ a = cc in subst (Contains (a ∷ [])) (sym same) (contains_front a [])
+    | inr more ↦ absurd (never_kept i more)
+  ]
+
+  is_added : (i : Image) → Contains (busy_slots bytes) (Opening i) → IsAdded (busy bytes) (Some d) i
+  is_added i c = elim (contains_cases (Kept a) (Opening i) later c) [
+    | inl e ↦ absurd cc
+    | inr more ↦ elim (contains_cases (Opening m) (Opening i) (Opening d ∷ []) more) [
+      | inl e ↦ let same : i ≡ m = cc in inr (inl (subst (IsTwin (busy bytes)) (sym same) twin))
+      | inr rest ↦ elim (contains_cases (Opening d) (Opening i) [] rest) [
+        | inl e ↦ let same : i ≡ d = cc in inr (inr (ap Some (sym same)))
+        | inr none ↦ absurd (contains_none (Opening i) none)
+      ]
+    ]
+  ]
+
+  busy_are_slots : AreSlotsOf (busy bytes) (Some d) (busy_slots bytes)
+  unfolding IsDistinct
+  busy_are_slots = record {
+    catalog = λ i. (λ c. inl (is_kept i c), λ e. elim e [ inl kept ↦ was_kept i kept | inr closing ↦ absurd (never_closing i closing) ]);
+    needed = λ i n. is_kept i (needed_in (a ∷ []) (jobs (busy bytes)) i n);
+    opening = is_added;
+    dump = second_dump;
+    serials = ((refl, (refl, tt)), ((refl, tt), (tt, tt)));
+  }
+
+  -- what is shown
+  last : ImagesShow (a ∷ []) (Some (1, memory_of bytes))
+  last = (a, a_tip, refl, page_memory bytes Dump 1 1 0 1 Data (bytes ∷ []) (a ∷ []) (holds_whole (a ∷ []) Dump 1 1 0 1 bytes))
+
+  a_named : IsNamed (d ∷ a ∷ []) 1 a
+  a_named = record {
+    member = contains_later d a (a ∷ []) (contains_front a []);
+    stands = refl;
+    greatest = λ j c. each_of_two (λ k. k.header.stands_for ≡ 1 → k.header.serial ≤ 1) d a (λ e. absurd (omega (arith, e))) (λ e. omega arith) j c;
+  }
+
+  next : ImagesShow (d ∷ a ∷ []) (Some (2, memory_of bytes))
+  next = (
+    d,
+    record {
+      member = contains_front d (a ∷ []);
+      restorable = restores d (inl refl);
+      greatest = λ j c restorable. each_of_two (λ k. IsNotAfter k d) d a (inr (refl, omega arith)) (inl (omega arith)) j c;
+    },
+    refl,
+    page_memory bytes Dump 3 3 1 2 Parent [] (d ∷ a ∷ []) (holds_unchanged (d ∷ a ∷ []) 3 1 2 bytes a a_named (holds_whole (d ∷ a ∷ []) Dump 1 1 0 1 bytes)),
+  )
+
+  pub merge_beside_round_lem : MergeBesideRound bytes
+  merge_beside_round_lem = record {
+    sound = busy_sound;
+    slots = busy_are_slots;
+    shows = λ images left.
+        left_images_show_lem.pending (busy bytes) d (busy_slots bytes) images (Some (1, memory_of bytes)) (Some (2, memory_of bytes)) busy_sound busy_are_slots left last next;
+  }
