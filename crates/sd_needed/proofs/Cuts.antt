@@ -6,7 +6,7 @@ use Rattle.sd_image.specs.Image.{Image}
 use Rattle.sd_image.specs.Shows.{Holds, by_data, by_zero, by_parent, IsMemory, IsNamed, IsNotAfter, IsRestorable, IsTip}
 use Rattle.sd_needed.specs.Needed.{IsCalled, IsNeeded}
 use Rattle.sd_needed.specs.Needed as needed
-use Rattle.sd_needed.specs.Cut.{CutShowsTheSame, CutShowsLastOrPending, HoldsAlike, ImagesShow, IsCut, IsHarmless, IsPending, KeepsItsNumber, KeepsTheTip, Repeats, SerialsDiffer, areas_of}
+use Rattle.sd_needed.specs.Cut.{CutHoldsTheSame, CutShowsTheSame, CutShowsLastOrPending, HoldsAlike, ImagesShow, IsCut, IsHarmless, IsPending, KeepsItsNumber, KeepsTheTip, Repeats, SerialsDiffer, areas_of}
 use Rattle.sd_needed.proofs.Choose.{find_tip, not_after_self, one_named, one_tip, some_named, some_tip, tip_is}
 use Rattle.sd_needed.proofs.Members.{contains_cases, contains_front, contains_later}
 use Rattle.sd_needed.proofs.Memories.{HoldsAll, memory_moves}
@@ -71,6 +71,15 @@ holds_back catalog images jobs space page bytes i f called (by_parent _ parent h
           (holds_back catalog images jobs space page bytes parent f (subst (λ (k : Image). IsCalled catalog jobs k.header.parent) (sym same) next) holds)
       | inr alike ↦ (alike images space page bytes).0 holds
     ])
+
+pub cut_holds_the_same_lem : CutHoldsTheSame
+cut_holds_the_same_lem catalog adding images jobs i differ cut keeps called space page bytes =
+    let f : IsFollowed catalog jobs images = record {
+      differ = differ;
+      needed = cut.needed;
+      within = λ j c. elim (cut.within j c) [ inl among ↦ inl among | inr added ↦ inr (keeps j added) ];
+    } in
+    (λ holds. holds_on catalog images jobs space page bytes i f called holds, λ holds. holds_back catalog images jobs space page bytes i f called holds)
 
 -- ---- what is shown
 

@@ -11,3 +11,4 @@ pub mod Slots
 pub mod OnePage
 pub mod Worked
 pub mod Busy
+pub mod Opens

@@ -73,3 +73,11 @@ CutShowsLastOrPending = (catalog adding images : List Image) (jobs : List ℕ) (
     → ((added : Image) → Contains adding added → IsHarmless catalog jobs added)
     → IsPending catalog jobs pending
     → ImagesShow catalog last → ImagesShow (pending ∷ catalog) next → ImagesShow images last ⊎ ImagesShow images next
+
+-- An image whose parent number is called for holds in what is left what it holds in the catalog, and nothing else.
+abbrev pub CutHoldsTheSame : Type 0
+CutHoldsTheSame = (catalog adding images : List Image) (jobs : List ℕ) (i : Image)
+    → SerialsDiffer catalog → IsCut catalog adding jobs images
+    → ((added : Image) → Contains adding added → KeepsItsNumber catalog jobs added)
+    → IsCalled catalog jobs i.header.parent
+    → (space page : ℕ) (bytes : List ℕ) → Holds catalog space page bytes i ↔ Holds images space page bytes i

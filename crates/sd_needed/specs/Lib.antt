@@ -4,5 +4,6 @@ pub mod Cut
 pub mod Harmless
 pub mod Store
 pub mod Steps
+pub mod Opens
 pub mod Beliefs
 pub mod Worked

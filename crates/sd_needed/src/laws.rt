@@ -1,9 +1,10 @@
 //! What a set of images shows, whatever a crash leaves of it. Each law is the contract of a function that does nothing.
 ghost use Rattle.sd_needed.specs.Beliefs.{ContentsShow, LeftImagesShow};
-ghost use Rattle.sd_needed.specs.Cut.{CutShowsTheSame, CutShowsLastOrPending};
+ghost use Rattle.sd_needed.specs.Cut.{CutHoldsTheSame, CutShowsTheSame, CutShowsLastOrPending};
 ghost use Rattle.sd_needed.specs.Harmless.{DumpIsPending, PreDumpIsHarmless, TwinIsHarmless, UnusedIsUncalled};
 ghost use Rattle.sd_needed.specs.Needed.{NeededIsReached};
 ghost use Rattle.sd_needed.specs.Steps.{StepsKeep};
+ghost use Rattle.sd_needed.specs.Opens.{OpenedIsSound, OrderIsFree, StepsShow};
 ghost use Rattle.sd_needed.specs.Reached.{CatalogFalls, CatalogReachesSo};
 ghost use Rattle.std.specs.Prelude.{ℕ, List};
 ghost use Rattle.sd_needed.specs.Worked.{ChainRows, MergeBesideRound, WhyItGrows};
@@ -27,6 +28,11 @@ pub fn needed_is_reached()
 /// All needed images of a catalog, with any others of it and any harmless ones, show what the catalog shows.
 pub fn cut_shows_the_same()
     ensures { CutShowsTheSame }
+{}
+
+/// In what is left, an image whose parent number is called for holds what it holds in the catalog, and nothing else.
+pub fn cut_holds_the_same()
+    ensures { CutHoldsTheSame }
 {}
 
 /// With a pending dump among those being added they show that, or the pending checkpoint and its memory.
@@ -57,6 +63,21 @@ pub fn dump_is_pending()
 /// Each step keeps a store sound.
 pub fn steps_keep()
     ensures { StepsKeep }
+{}
+
+/// A store that is read without a fault is sound as it is opened.
+pub fn opened_is_sound()
+    ensures { OpenedIsSound }
+{}
+
+/// What is shown depends on which images there are, and not on their order.
+pub fn order_is_free()
+    ensures { OrderIsFree }
+{}
+
+/// Only a commit changes what a store shows.
+pub fn steps_show()
+    ensures { StepsShow }
 {}
 
 /// Whatever a crash leaves of a sound store's slots shows what the store shows, or the pending checkpoint and its memory.
