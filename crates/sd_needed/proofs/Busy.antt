@@ -53,15 +53,17 @@ module _ (bytes : List ℕ) where
   first_dump : IsNextDump started a
   first_dump = record {
     next = record {
-      serial = λ j c. absurd (contains_none j c);
-      number = record {
-        stands = λ j c. absurd (contains_none j c);
-        names = λ j c. absurd (contains_none j c);
-        asks = λ c. elim (contains_cases 0 1 [] c) [ inl e ↦ omega (arith, e) | inr none ↦ contains_none 1 none ];
+      fresh = record {
+        serial = λ j c. absurd (contains_none j c);
+        number = record {
+          stands = λ j c. absurd (contains_none j c);
+          names = λ j c. absurd (contains_none j c);
+          asks = λ c. elim (contains_cases 0 1 [] c) [ inl e ↦ omega (arith, e) | inr none ↦ contains_none 1 none ];
+        };
+        apart = tt;
+        falls = omega arith;
       };
-      apart = tt;
       parent = contains_front 0 [];
-      falls = omega arith;
     };
     restorable = restores a (inl refl);
     newest = λ j c. absurd (contains_none j c);
@@ -100,7 +102,7 @@ module _ (bytes : List ℕ) where
     λ h. same_bytes (a ∷ []) others space page bytes' m a refl refl (no_parent_page space page) h,
   )
 
-  twin : IsTwin (busy bytes) m
+  twin : IsTwin (busy bytes).catalog (busy bytes).source m
   twin = record {
     source = a;
     running = refl;
@@ -115,18 +117,20 @@ module _ (bytes : List ℕ) where
   second_dump : IsNextDump (busy bytes) d
   second_dump = record {
     next = record {
-      serial = each_of_one (λ k. k.header.serial ≢ 3) a (λ e. omega (arith, e));
-      number = record {
-        stands = each_of_one (λ k. k.header.stands_for ≢ 3) a (λ e. omega (arith, e));
-        names = each_of_one (λ k. k.header.parent ≢ 3) a (λ e. omega (arith, e));
-        asks = λ c. elim (contains_cases 1 3 (0 ∷ []) c) [
-          | inl e ↦ omega (arith, e)
-          | inr rest ↦ elim (contains_cases 0 3 [] rest) [ inl e ↦ omega (arith, e) | inr none ↦ contains_none 3 none ]
-        ];
+      fresh = record {
+        serial = each_of_one (λ k. k.header.serial ≢ 3) a (λ e. omega (arith, e));
+        number = record {
+          stands = each_of_one (λ k. k.header.stands_for ≢ 3) a (λ e. omega (arith, e));
+          names = each_of_one (λ k. k.header.parent ≢ 3) a (λ e. omega (arith, e));
+          asks = λ c. elim (contains_cases 1 3 (0 ∷ []) c) [
+            | inl e ↦ omega (arith, e)
+            | inr rest ↦ elim (contains_cases 0 3 [] rest) [ inl e ↦ omega (arith, e) | inr none ↦ contains_none 3 none ]
+          ];
+        };
+        apart = λ e. omega (arith, e);
+        falls = omega arith;
       };
-      apart = λ e. omega (arith, e);
       parent = contains_front 1 [];
-      falls = omega arith;
     };
     restorable = restores d (inl refl);
     newest = each_of_one (λ k. IsRestorable k → k.header.checkpoint < 2) a (λ e. omega arith);
@@ -165,7 +169,7 @@ module _ (bytes : List ℕ) where
   is_added i c = elim (contains_cases (Kept a) (Opening i) later c) [
     | inl e ↦ absurd cc
     | inr more ↦ elim (contains_cases (Opening m) (Opening i) (Opening d ∷ []) more) [
-      | inl e ↦ let same : i ≡ m = cc in inr (inl (subst (IsTwin (busy bytes)) (sym same) twin))
+      | inl e ↦ let same : i ≡ m = cc in inr (inl (subst (IsTwin (busy bytes).catalog (busy bytes).source) (sym same) twin))
       | inr rest ↦ elim (contains_cases (Opening d) (Opening i) [] rest) [
         | inl e ↦ let same : i ≡ d = cc in inr (inr (ap Some (sym same)))
         | inr none ↦ absurd (contains_none (Opening i) none)

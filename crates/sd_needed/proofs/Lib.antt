@@ -12,3 +12,4 @@ pub mod OnePage
 pub mod Worked
 pub mod Busy
 pub mod Opens
+pub mod Stays

@@ -119,7 +119,7 @@ more_shows catalog new asked i shown differ harmless adds was =
       | inr none ↦ absurd (contains_none j none)
     ]) was
 
-twin_harmless : (s : Store) (i : Image) → IsSound s → IsTwin s i → IsHarmless s.catalog (jobs s) i
+twin_harmless : (s : Store) (i : Image) → IsSound s → IsTwin s.catalog s.source i → IsHarmless s.catalog (jobs s) i
 twin_harmless s i sound twin =
     let merged : IsMerged s twin.source = subst (λ (o : Option Image). IfSome o (IsMerged s)) twin.running sound.merged in
     twin_is_harmless_lem s.catalog (jobs s) twin.source i merged.is twin.repeats
@@ -127,7 +127,7 @@ twin_harmless s i sound twin =
 pub steps_show_lem : StepsShow
 steps_show_lem = record {
   adds = λ s i new shown sound is more was.
-      more_shows s.catalog new (jobs s) i shown sound.serials (pre_dump_is_harmless_lem s.catalog (jobs s) i is.kind is.next.number) more was;
+      more_shows s.catalog new (jobs s) i shown sound.serials (pre_dump_is_harmless_lem s.catalog (jobs s) i is.kind is.next.fresh.number) more was;
   commits = λ s i new shown more was. order_is_free_lem (i ∷ s.catalog) new shown (λ j. (
     λ c. (more j).1 (contains_cases i j s.catalog c),
     λ c. elim ((more j).0 c) [

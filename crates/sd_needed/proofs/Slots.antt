@@ -110,7 +110,7 @@ sorted s dump (one ∷ images) known =
 
 is_pending : (s : Store) (dump : Image) → IsNextDump s dump → IsPending s.catalog (jobs s) dump
 is_pending s dump is =
-    dump_is_pending_lem s.catalog (jobs s) dump is.restorable is.next.number (Contains-append_left s.chain s.work dump.header.parent is.next.parent) is.newest
+    dump_is_pending_lem s.catalog (jobs s) dump is.restorable is.next.fresh.number (Contains-append_left s.chain s.work dump.header.parent is.next.parent) is.newest
 
 left_pending : (s : Store) (dump : Image) (beliefs : List Belief) (images : List Image) (last next : Option (ℕ × PlainMemory))
     → IsSound s → AreSlotsOf s (Some dump) beliefs → IsLeft beliefs images

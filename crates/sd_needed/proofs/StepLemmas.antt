@@ -188,7 +188,7 @@ module _ (s : Store) (sound : IsSound s) where
           | inl same ↦ inl (subst (λ (k : Image). Was s k.header.parent) (sym same) (of_chain s i.header.parent is.next.parent))
           | inr before ↦ elim was [
             | inl called ↦ inl (of_named s number j called before)
-            | inr number_is ↦ absurd (is.next.number.stands j before.member (before.stands ∙ number_is))
+            | inr number_is ↦ absurd (is.next.fresh.number.stands j before.member (before.stands ∙ number_is))
           ]
         ])
 
@@ -211,12 +211,12 @@ module _ (s : Store) (sound : IsSound s) where
 
     adds_keeps : IsSound (added s new i.header.stands_for)
     adds_keeps = record {
-      serials = serials_more s.catalog new i adds is.next.serial sound.serials;
-      fall = falls_more s.catalog new i adds is.next.falls sound.fall;
-      tip = λ t tip. let was = old_tip t tip in added_source t (is.next.number.stands t was.member) (sound.tip t was);
-      merged = added_merged s.source sound.merged is.next.apart;
+      serials = serials_more s.catalog new i adds is.next.fresh.serial sound.serials;
+      fall = falls_more s.catalog new i adds is.next.fresh.falls sound.fall;
+      tip = λ t tip. let was = old_tip t tip in added_source t (is.next.fresh.number.stands t was.member) (sound.tip t was);
+      merged = added_merged s.source sound.merged is.next.fresh.apart;
       own = λ grows t tip. let was = old_tip t tip in
-          more_named s.catalog new i t.header.stands_for t adds (λ e. absurd (is.next.number.stands t was.member (sym e))) (sound.own grows t was);
+          more_named s.catalog new i t.header.stands_for t adds (λ e. absurd (is.next.fresh.number.stands t was.member (sym e))) (sound.own grows t was);
     }
 
   -- ---- a dump is committed
@@ -237,13 +237,13 @@ module _ (s : Store) (sound : IsSound s) where
     dump_tip = new_tip s.catalog new i adds is.restorable (λ j c restorable. inl (is.newest j c restorable))
 
     dump_named : IsNamed new i.header.stands_for i
-    dump_named = new_named s.catalog new i adds (λ j c same. absurd (is.next.number.stands j c same))
+    dump_named = new_named s.catalog new i adds (λ j c same. absurd (is.next.fresh.number.stands j c same))
 
     dump_source : IsSource new (jobs (committed s new)) i
     dump_source = record { named = λ called. dump_named; tip = i; is_tip = dump_tip; or_below = inl refl }
 
     committed_serials : SerialsDiffer new
-    committed_serials = serials_more s.catalog new i adds is.next.serial sound.serials
+    committed_serials = serials_more s.catalog new i adds is.next.fresh.serial sound.serials
 
     is_dump : (t : Image) → IsTip new t → i ≡ t
     is_dump t tip = one_tip new i t committed_serials dump_tip tip
@@ -266,15 +266,15 @@ module _ (s : Store) (sound : IsSound s) where
     commits : IsSound (committed s new)
     commits = record {
       serials = committed_serials;
-      fall = falls_more s.catalog new i adds is.next.falls sound.fall;
+      fall = falls_more s.catalog new i adds is.next.fresh.falls sound.fall;
       tip = λ t tip. subst (IsSource new (jobs (committed s new))) (is_dump t tip) dump_source;
-      merged = committed_merged s.source sound.merged is.next.apart is.above;
+      merged = committed_merged s.source sound.merged is.next.fresh.apart is.above;
       own = λ grows t tip. subst (λ (k : Image). IsNamed new k.header.stands_for k) (is_dump t tip) dump_named;
     }
 
   -- ---- the merged image replaces its source
 
-  module _ (twin : Image) (new : List Image) (is : IsTwin s twin) (adds : Adds s.catalog twin new) where
+  module _ (twin : Image) (new : List Image) (is : IsTwin s.catalog s.source twin) (adds : Adds s.catalog twin new) where
     source_was : IsMerged s is.source
     source_was = subst (λ (o : Option Image). IfSome o (IsMerged s)) is.running sound.merged
 

@@ -25,7 +25,7 @@ image_in (Opening i) = Some i
 
 -- a pre-dump that nobody calls for, also one that was given up; the image of the running merge; or the pending dump
 abbrev pub IsAdded : Store → Option Image → Image → Type 0
-IsAdded s pending i = ((i.header.kind ≡ PreDump) × IsUnused s.catalog (jobs s) i.header.stands_for) ⊎ (IsTwin s i ⊎ (pending ≡ Some i))
+IsAdded s pending i = ((i.header.kind ≡ PreDump) × IsUnused s.catalog (jobs s) i.header.stands_for) ⊎ (IsTwin s.catalog s.source i ⊎ (pending ≡ Some i))
 
 -- The slots are those of a store: its catalog is what is kept or being closed, it keeps all that is needed, and what is being opened may be added.
 pub record AreSlotsOf (s : Store) (pending : Option Image) (beliefs : List Belief) : Type 0 where

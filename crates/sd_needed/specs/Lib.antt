@@ -5,5 +5,6 @@ pub mod Harmless
 pub mod Store
 pub mod Steps
 pub mod Opens
+pub mod Stays
 pub mod Beliefs
 pub mod Worked

@@ -23,6 +23,6 @@ pub record StepsShow : Type 0 where
   pub commits : (s : Store) (i : Image) (new : List Image) (shown : Option (ℕ × PlainMemory))
       → Adds s.catalog i new → ImagesShow (i ∷ s.catalog) shown → ImagesShow new shown
   pub replaces : (s : Store) (i : Image) (new : List Image) (shown : Option (ℕ × PlainMemory))
-      → IsSound s → IsTwin s i → Adds s.catalog i new → ImagesShow s.catalog shown → ImagesShow new shown
+      → IsSound s → IsTwin s.catalog s.source i → Adds s.catalog i new → ImagesShow s.catalog shown → ImagesShow new shown
   pub retires : (s : Store) (new : List Image) (shown : Option (ℕ × PlainMemory))
       → IsSound s → Retires s new → ImagesShow s.catalog shown → ImagesShow new shown

@@ -54,6 +54,6 @@ pub record StepsKeep : Type 0 where
   pub commits : (s : Store) (i : Image) (new : List Image) → IsSound s → IsNextDump s i → Adds s.catalog i new → IsSound (committed s new)
   pub cancels : (s : Store) → IsSound s → IsSound (cancelled s)
   pub merges : (s : Store) (tip : Image) → IsSound s → IsTip s.catalog tip → IsSound (merging s tip)
-  pub replaces : (s : Store) (i : Image) (new : List Image) → IsSound s → IsTwin s i → Adds s.catalog i new → IsSound (replaced s new)
+  pub replaces : (s : Store) (i : Image) (new : List Image) → IsSound s → IsTwin s.catalog s.source i → Adds s.catalog i new → IsSound (replaced s new)
   pub retires : (s : Store) (new : List Image) → IsSound s → Retires s new → IsSound (retired s new)
   pub opens : (images : List Image) → SerialsDiffer images → ((i : Image) → Contains images i → i.header.parent < i.header.stands_for) → IsSound (opened images)

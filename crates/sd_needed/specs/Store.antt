@@ -31,13 +31,17 @@ pub record IsSound (s : Store) : Type 0 where
   pub merged : IfSome s.source (IsMerged s)
   pub own : s.grows ≡ true → (tip : Image) → IsTip s.catalog tip → IsNamed s.catalog tip.header.stands_for tip
 
--- an image of the running checkpoint: its serial and its number are new, and its parent is the number that is next
-pub record IsNext (s : Store) (i : Image) : Type 0 where
+-- an image to come: its serial is new, and nobody has the number that it stands for
+pub record IsFresh (s : Store) (i : Image) : Type 0 where
   pub serial : (j : Image) → Contains s.catalog j → j.header.serial ≢ i.header.serial
   pub number : IsUnused s.catalog (jobs s) i.header.stands_for
   pub apart : IfSome s.source (λ source. source.header.stands_for ≢ i.header.stands_for)
-  pub parent : Contains s.chain i.header.parent
   pub falls : i.header.parent < i.header.stands_for
+
+-- an image of the running checkpoint: its parent is the number that is next
+pub record IsNext (s : Store) (i : Image) : Type 0 where
+  pub fresh : IsFresh s i
+  pub parent : Contains s.chain i.header.parent
 
 pub record IsNextPreDump (s : Store) (i : Image) : Type 0 where
   pub next : IsNext s i
@@ -51,12 +55,12 @@ pub record IsNextDump (s : Store) (i : Image) : Type 0 where
   pub above : IfSome s.source (λ source. source.header.checkpoint < i.header.checkpoint)
 
 -- the image that a merge makes of its source, with a serial above those of all images that stand for the same number
-pub record IsTwin (s : Store) (twin : Image) : Type 0 where
+pub record IsTwin (catalog : List Image) (merge : Option Image) (twin : Image) : Type 0 where
   pub source : Image
-  pub running : s.source ≡ Some source
-  pub repeats : Repeats s.catalog source twin
+  pub running : merge ≡ Some source
+  pub repeats : Repeats catalog source twin
   pub restorable : IsRestorable twin
   pub alone : twin.header.parent ≡ 0
   pub falls : 0 < twin.header.stands_for
-  pub serial : (j : Image) → Contains s.catalog j → j.header.serial ≢ twin.header.serial
-  pub above : (j : Image) → Contains s.catalog j → j.header.stands_for ≡ twin.header.stands_for → j.header.serial < twin.header.serial
+  pub serial : (j : Image) → Contains catalog j → j.header.serial ≢ twin.header.serial
+  pub above : (j : Image) → Contains catalog j → j.header.stands_for ≡ twin.header.stands_for → j.header.serial < twin.header.serial

@@ -3,6 +3,7 @@ ghost use Rattle.sd_needed.specs.Beliefs.{ContentsShow, LeftImagesShow};
 ghost use Rattle.sd_needed.specs.Cut.{CutHoldsTheSame, CutShowsTheSame, CutShowsLastOrPending};
 ghost use Rattle.sd_needed.specs.Harmless.{DumpIsPending, PreDumpIsHarmless, TwinIsHarmless, UnusedIsUncalled};
 ghost use Rattle.sd_needed.specs.Needed.{NeededIsReached};
+ghost use Rattle.sd_needed.specs.Stays.{DumpStays, FreshStays, TwinStays};
 ghost use Rattle.sd_needed.specs.Steps.{StepsKeep};
 ghost use Rattle.sd_needed.specs.Opens.{OpenedIsSound, OrderIsFree, StepsShow};
 ghost use Rattle.sd_needed.specs.Reached.{CatalogFalls, CatalogReachesSo};
@@ -78,6 +79,22 @@ pub fn order_is_free()
 /// Only a commit changes what a store shows.
 pub fn steps_show()
     ensures { StepsShow }
+{}
+
+/// What is new about an image to come stays new through the steps that others make meanwhile.
+pub fn fresh_stays()
+    ensures { FreshStays }
+{}
+
+/// A dump of the running checkpoint stays its next image while a merge begins, ends, and closes images.
+pub fn dump_stays()
+    ensures { DumpStays }
+{}
+
+/// A merged image goes on repeating its source while images of the running checkpoint enter the catalog, and others are
+/// closed.
+pub fn twin_stays()
+    ensures { TwinStays }
 {}
 
 /// Whatever a crash leaves of a sound store's slots shows what the store shows, or the pending checkpoint and its memory.
