@@ -6,5 +6,6 @@ pub mod Runs
 pub mod TablePages
 pub mod Ways
 pub mod Lies
+pub mod Traces
 pub mod Stores
 pub mod Growth

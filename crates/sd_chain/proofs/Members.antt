@@ -1,14 +1,15 @@
 -- The images of a catalog are those of its places, and rise by serial.
-use Rattle.std.proofs.Common.{◌≡◌, ◌⊎◌, ◌<◌, ◌≤◌, ℕ, zero, suc, false, nat_eq, List, [], ◌∷◌, length, slice_index_or, Option, Some, None, Contains, refl, sym, ◌∙◌, ap, subst, arith, inl, inr}
+use Rattle.std.proofs.Common.{◌≡◌, ◌⊎◌, ◌<◌, ◌≤◌, ℕ, zero, suc, false, nat_eq, List, [], ◌∷◌, length, slice_index_or, Option, Some, None, Bool, true, Bor, cond, Contains, refl, sym, ◌∙◌, ap, subst, arith, inl, inr}
 use Rattle.std.specs.List.{AllByRecursion, IsDistinct}
 use Rattle.std.specs.List.Sorted.{IsNonDecreasingBy}
 use Rattle.std.specs.Map.{keys_of}
-use Rattle.std.proofs.lemmas.Bool.{eq-eqb, cases_lt, false≢true}
+use Rattle.std.specs.Prelude.{IfSome}
+use Rattle.std.proofs.lemmas.Bool.{eqb-true, eq-eqb, cases_lt, false≢true}
 use Rattle.std.proofs.lemmas.Cmp.{nat_eq_equiv}
 use Rattle.std.proofs.lemmas.List.Elements.{Contains-get_or, recursion_from_All}
 use Rattle.std.proofs.lemmas.List.Sorted.{IsNonDecreasingBy-from_sort}
-use Rattle.std.proofs.lemmas.Map.Views.{lookup-from_Contains}
-use Rattle.sd_chain.specs.Catalog.{Opened, Places, AreInOrder, place_of, images, IsRising, Names}
+use Rattle.std.proofs.lemmas.Map.Views.{Contains-from_lookup, lookup-from_Contains}
+use Rattle.sd_chain.specs.Catalog.{Opened, Places, AreInOrder, Changes, IsNewestChoice, place_of, images, IsRising, Names}
 use Rattle.sd_chain.proofs.Places.{by_keys}
 
 contains_front : {X : Type 0} (x : X) (xs : List X) → Contains (x ∷ xs) x
@@ -129,3 +130,17 @@ pub rising : (es : Places) → AreInOrder es → IsRising (images es)
 rising es order =
     images_rise es (places_rise es (IsNonDecreasingBy-from_sort (λ (e : ℕ × Option Opened). e.0) es (by_keys es order.sorted)) order.distinct)
     (recursion_from_All IsOwned es (λ k d l. owned es order (slice_index_or es k d) (Contains-get_or es k d l)))
+
+-- the newest image stands at its serial
+pub own_place : (es : Places) (answer : Option (Bor Opened)) → AreInOrder es → IsNewestChoice (images es) answer → IfSome answer (λ i. place_of es i.now.header.serial ≡ Some (Some i.now))
+own_place es None order none = tt
+own_place es (Some i) order newest = open_place es i.now order newest.member
+
+-- where one place changes to an image, there are no others than those before and this one
+pub no_others : (old new : Places) (i : Opened) → AreInOrder old → AreInOrder new → Changes old new i.header.serial (Some (Some i))
+    → (j : Opened) → Contains (images new) j → Contains (images old) j ⊎ (j ≡ i)
+no_others old new i was is changes j c = at (nat_eq i.header.serial j.header.serial) (sym (changes j.header.serial) ∙ open_place new j is c)
+  where
+    at : (same : Bool) → cond same (Some (Some i)) (place_of old j.header.serial) ≡ Some (Some j) → Contains (images old) j ⊎ (j ≡ i)
+    at true e = inr (let both : Some (Some i) ≡ Some (Some j) = e in cc)
+    at false e = inl (contains_open old j.header.serial j (Contains-from_lookup eqb-true j.header.serial (Some j) old e))

@@ -1,11 +1,11 @@
 //! The catalog of a store's open images.
-ghost use Rattle.std.specs.Prelude.{◌≡◌, ◌≢◌, ◌==◌, ◌<◌, ◌↔◌, ℕ, not, List, [], Option, None, Some, IsTrue, IsSome, IfOk, OnOk, OnErr, IsErrOf, IsOk, IsNone, IfSome, MatchOption, All, Contains, map};
+ghost use Rattle.std.specs.Prelude.{◌≡◌, ◌≢◌, ◌⊎◌, ◌==◌, ◌<◌, ◌↔◌, ℕ, not, List, [], Option, None, Some, IsTrue, IsSome, IfOk, OnOk, OnErr, IsErrOf, IsOk, IsNone, IfSome, MatchOption, All, Contains, map};
 ghost use Rattle.sd_image.specs.Image.{Image, OpenImages};
 ghost use Rattle.sd_chain.specs.declared.error.CatalogError.TheVariants.{DoubleSerial};
 ghost use Rattle.sd_chain.specs.declared.found.Found.{Found};
 ghost use Rattle.sd_chain.specs.Reaches.{ReachesSerial, ParentsFall};
 ghost use Rattle.sd_chain.specs.Store.{IsCatalogOf, IsInFile, FindsHeld, FindsNamed, FindsTip, HasTheImages};
-ghost use Rattle.sd_chain.specs.Ways.{AreImages, LiesAt, LiesBySerial};
+ghost use Rattle.sd_chain.specs.Ways.{AreImages, LiesBySerial, BreaksBySerial, IsAbsent, IsTraceOf, found_in};
 ghost use Rattle.sd_chain.specs.Catalog.{Opened, AreInOrder, place_of, images, IsHeld, Changes, is_elsewhere, without_slot, Names, IsTip, IsRestored, IsRising};
 
 use crate::choice::{Places, images_of, named_of, newest_of};
@@ -13,6 +13,7 @@ use crate::error::CatalogError;
 use crate::found::Found;
 use crate::image::OpenImage;
 use crate::placed::PlacedTable;
+use crate::trace::Trace;
 use crate::way::Way;
 use indexmap::IndexMap;
 use sd_areas::{PageNo, SpaceId};
@@ -103,6 +104,8 @@ impl Catalog {
     ) -> Result<(), CatalogError>
         ensures added { OnOk result (Changes self.old self.new header.serial
             (Some (Some (record { slot = slot; header = header; spaces = table })))) }
+        ensures no_others { OnOk result ((i : Opened) → Contains (images self.new) i
+            → Contains (images self.old) i ⊎ (i ≡ record { slot = slot; header = header; spaces = table })) }
         ensures double { IsErrOf result DoubleSerial
             ↔ ((i : Opened) × (place_of self.old header.serial ≡ Some (Some i))) }
         ensures at_held { IsHeld self.old header.serial → IsOk result }
@@ -168,6 +171,9 @@ impl Catalog {
             (All (λ i. IsRestored i → ⊥) (images self.now))
             (λ i. IsTip self.now i.now) }
         ensures store { (contents : List (List ℕ)) → IsCatalogOf contents self.now → FindsTip contents result }
+        ensures own { IfSome result (λ i. place_of self.now i.now.header.serial ≡ Some (Some i.now)) }
+        // Whatever catalog it is, its places are in order.
+        ensures order { AreInOrder self.now }
     {
         one_image();
         newest_of(&self.places)
@@ -211,32 +217,67 @@ impl Catalog {
         }
     }
 
-    /// Where the chain of an image has a page.
-    fn follow(&self, image: &OpenImage, space: SpaceId, page: PageNo) -> Option<Found>
+    /// What following a page from an image comes to.
+    fn follow(&self, image: &OpenImage, space: SpaceId, page: PageNo) -> Trace
         ensures { AreImages self.now → Contains (images self.now) image.now
-            → (there : Found) → (result ≡ Some there) ↔ LiesAt self.now (space, page) there image.now }
+            → IsTraceOf self.now (space, page) image.now result }
     {
         few_pages();
         let mut image = image;
+        let mut unlisted = Trace::Absent;
         loop {
-            match image.way(space, page)? {
+            let Some(way) = image.way(space, page) else {
+                return unlisted;
+            };
+            match way {
                 Way::Data { place } => {
                     let offset = place.saturating_mul(4096).saturating_add(4096);
-                    return Some(Found::Data {
+                    return Trace::Found(Found::Data {
                         slot: image.slot(),
                         offset,
                     });
                 }
-                Way::Zero => return Some(Found::Zero),
-                Way::Parent => image = self.parent(image)?,
+                Way::Zero => return Trace::Found(Found::Zero),
+                Way::Parent => {}
             }
+            unlisted = Trace::Broken { slot: image.slot() };
+            let Some(parent) = self.parent(image) else {
+                return unlisted;
+            };
+            image = parent;
         }
     }
 
-    /// Where the chain of an image has a page, or none where no image of it has it.
+    /// Where the chain of an image has a page, or at which image it breaks.
     ///
     /// It goes from an image to its parent at most as often as there are images. At each it looks for the page in a
     /// time that grows with the logarithm of the runs, and for the parent among the images.
+    pub fn trace(&self, serial: u64, space: SpaceId, page: PageNo) -> Trace
+        ensures found { AreImages self.now → (there : Found)
+            → (result ≡ Trace.Found there) ↔ LiesBySerial self.now serial (space, page) there }
+        ensures broken { AreImages self.now → (slot : ℕ)
+            → (result ≡ Trace.Broken slot) ↔ BreaksBySerial self.now serial (space, page) slot }
+        ensures absent { AreImages self.now
+            → (result ≡ Trace.Absent) ↔ IsAbsent self.now serial (space, page) }
+        // The same of whole files.
+        ensures held { (contents : List (List ℕ)) (images : List Image) → IsCatalogOf contents self.now
+            → OpenImages contents images → FindsHeld contents images serial (space, page) (found_in result) }
+        ensures inside { (contents : List (List ℕ)) → IsCatalogOf contents self.now
+            → IfSome (found_in result) (IsInFile contents) }
+    {
+        one_image();
+        page_in_file();
+        let Some(place) = self.places.get(&serial) else {
+            return Trace::Absent;
+        };
+        match place {
+            Some(image) => self.follow(image, space, page),
+            None => Trace::Absent,
+        }
+    }
+
+    /// Where the chain of an image has a page, or none where no image of it has it. It takes as long as
+    /// [`Catalog::trace`].
     pub fn resolve(&self, serial: u64, space: SpaceId, page: PageNo) -> Option<Found>
         ensures exact { AreImages self.now
             → (there : Found) → (result ≡ Some there) ↔ LiesBySerial self.now serial (space, page) there }
@@ -244,10 +285,7 @@ impl Catalog {
             → OpenImages contents images → FindsHeld contents images serial (space, page) result }
         ensures inside { (contents : List (List ℕ)) → IsCatalogOf contents self.now → IfSome result (IsInFile contents) }
     {
-        one_image();
-        page_in_file();
-        let place = self.places.get(&serial)?;
-        self.follow(place.as_ref()?, space, page)
+        self.trace(serial, space, page).found()
     }
 
     /// The serials of the images that an image reaches: its own, that of the image that its parent number names, also

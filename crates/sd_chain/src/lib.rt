@@ -8,6 +8,7 @@ mod found;
 mod image;
 mod laws;
 mod placed;
+mod trace;
 mod way;
 
 pub use catalog::Catalog;
@@ -16,6 +17,7 @@ pub use found::Found;
 pub use image::OpenImage;
 pub use laws::{closed_slot, empty_catalog, open_slot};
 pub use placed::PlacedTable;
+pub use trace::Trace;
 pub use way::Way;
 
 #[cfg(test)]

@@ -168,6 +168,38 @@ fn a_merged_image_takes_the_number(rt: HostRuntime) -> Result<(), Fail> {
     Ok(())
 }
 
+fn traced(catalog: &Catalog, serial: u64, number: u64) -> Result<Trace, Fail> {
+    Ok(catalog.trace(serial, SpaceId::new(SPACE), page(number)?))
+}
+
+/// A third dump has two pages in the second, which has one of them in the first. The chain of the other breaks at the
+/// third. Without the first image the chain of the one breaks at the second.
+#[test]
+fn a_broken_chain_is_told_apart(rt: HostRuntime) -> Result<(), Fail> {
+    let mut catalog = two_dumps(&rt)?;
+    add(
+        &rt,
+        &mut catalog,
+        5,
+        dump(3, 3, 2),
+        &[(0x10, 2, RunKind::Parent)],
+    )?;
+    let in_a = Found::Data {
+        slot: 0,
+        offset: 4096,
+    };
+    assert_eq!(rt; traced(&catalog, 3, 0x10)?, Trace::Found(in_a));
+    assert_eq!(rt; traced(&catalog, 3, 0x11)?, Trace::Broken { slot: 5 });
+    assert_eq!(rt; traced(&catalog, 3, 0x12)?, Trace::Absent);
+    assert_eq!(rt; traced(&catalog, 4, 0x10)?, Trace::Absent);
+    catalog.remove(0);
+    assert_eq!(rt; traced(&catalog, 3, 0x10)?, Trace::Broken { slot: 1 });
+    assert_eq!(rt; traced(&catalog, 3, 0x11)?, Trace::Broken { slot: 5 });
+    catalog.remove(1);
+    assert_eq!(rt; traced(&catalog, 3, 0x10)?, Trace::Broken { slot: 5 });
+    Ok(())
+}
+
 #[test]
 fn a_missing_parent_has_nothing(rt: HostRuntime) -> Result<(), Fail> {
     let mut catalog = two_dumps(&rt)?;
