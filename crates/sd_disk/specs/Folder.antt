@@ -22,6 +22,10 @@ folder_files disk = files_after disk.journal.record.outside (folder_events disk)
 abbrev pub folder_may_leave : DirDisk → List (List ℕ) → Type 0
 folder_may_leave disk = MayLeave disk.journal.record.outside (folder_events disk)
 
+-- how many calls were made on it
+abbrev pub folder_called : DirDisk → ℕ
+folder_called disk = length (folder_events disk)
+
 -- the moment, by the number of calls
 abbrev pub folder_moment : DirDisk → ℕ
 folder_moment disk = length (folder_events disk)

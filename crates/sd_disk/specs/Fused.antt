@@ -1,23 +1,7 @@
 -- A disk of which one call fails.
-use Rattle.std.specs.Prelude.{◌≡◌, ℕ, ◌-◌, Bool, if◌then◌else◌, ◌==◌, Option, Some, None}
-use Rattle.sd_disk.specs.declared.fuse.Fuse.{Fuse}
-use Rattle.sd_disk.specs.declared.fuse.Fuse.TheVariants.{Passes, Blown}
+use Rattle.std.specs.Prelude.{◌≡◌, ℕ, Bool, if◌then◌else◌, Option}
+use Rattle.sd_disk.specs.Fuses.{burnt, calls_before}
 use Rattle.sd_disk.specs.declared.fused.Fused.{Fused}
-
--- how many calls pass before the one that fails; none once it has
-abbrev pub calls_before : Fuse → Option ℕ
-calls_before (Passes calls) = Some calls
-calls_before Blown = None
-
--- the same after a call
-abbrev pub burnt : Option ℕ → Option ℕ
-burnt (Some calls) = if calls == 0 then None else Some (calls - 1)
-burnt None = None
-
--- how many calls have failed by the fuse
-abbrev pub blown : Option ℕ → ℕ
-blown (Some calls) = 0
-blown None = 1
 
 abbrev pub fuse_of : {D : Type 0} → Fused D → Option ℕ
 fuse_of fused = calls_before fused.fuse
@@ -25,6 +9,10 @@ fuse_of fused = calls_before fused.fuse
 -- the call that fails isn't made
 abbrev pub is_dropping : {D : Type 0} → Fused D → Bool
 is_dropping fused = fused.drops
+
+-- how many calls were not made on the disk within
+abbrev pub missed : {D : Type 0} → Fused D → ℕ
+missed fused = if fused.misses then 1 else 0
 
 -- a call burns the fuse, and changes nothing else of it
 pub record Burns {D : Type 0} (old new : Fused D) : Type 0 where

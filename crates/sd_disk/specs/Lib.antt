@@ -3,6 +3,7 @@ pub mod Crash
 pub mod Events
 pub mod Failures
 pub mod Folder
+pub mod Fuses
 pub mod Fused
 pub mod Laws
 pub mod Memory

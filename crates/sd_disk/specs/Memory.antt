@@ -26,9 +26,13 @@ memory_failures disk = failures_in disk.budget.journal.record.events
 abbrev pub memory_reads : MemDisk → ℕ
 memory_reads disk = disk.reads
 
--- the calls on it, the last first
+-- the writes, cuts and syncs on it, the last first
 abbrev pub memory_events : MemDisk → List Event
 memory_events disk = disk.budget.journal.record.events
+
+-- how many calls were made on it: these, and the questions for a length and the reads
+abbrev pub memory_called : MemDisk → ℕ
+memory_called disk = length (memory_events disk) + length disk.asked.events
 
 -- what a crash now may leave
 abbrev pub memory_may_leave : MemDisk → List (List ℕ) → Type 0

@@ -30,6 +30,9 @@ pub trait Disk {
     /// How often the device has failed.
     ghost failed: { Self → ℕ };
 
+    /// How many calls were made: of `len`, `read`, `write_at`, `cut` and `sync`, also those that failed.
+    ghost calls: { Self → ℕ };
+
     ghost is_honest: { Self → Type 0 };
 
     /// The number of slots. It never changes.
@@ -48,6 +51,7 @@ pub trait Disk {
         ensures crash { Within (may_leave self.new) (may_leave self.old) }
         ensures time { Elapses (moment self.old) (moment self.new) (left_since self.old) (left_since self.new) (may_leave self.new) }
         ensures honest { is_honest self.new → is_honest self.old }
+        ensures counted { calls self.new ≡ calls self.old + 1 }
         ensures cause { HasCause (failed self.old) (failed self.new) result };
 
     /// Fills the buffer from a slot's file, from byte `at` on. On an error the buffer may hold anything.
@@ -60,6 +64,7 @@ pub trait Disk {
         ensures crash { Within (may_leave self.new) (may_leave self.old) }
         ensures time { Elapses (moment self.old) (moment self.new) (left_since self.old) (left_since self.new) (may_leave self.new) }
         ensures honest { is_honest self.new → is_honest self.old }
+        ensures counted { calls self.new ≡ calls self.old + 1 }
         ensures cause { HasCause (failed self.old) (failed self.new) result };
 
     /// Writes all bytes at `at`, also past the file's end: the gap then reads as zeros.
@@ -73,6 +78,7 @@ pub trait Disk {
         ensures crash { Follows (AtSlot slot (Torn at (length bytes.now))) (may_leave self.old) (may_leave self.new) }
         ensures time { Elapses (moment self.old) (moment self.new) (left_since self.old) (left_since self.new) (may_leave self.new) }
         ensures honest { is_honest self.new → is_honest self.old }
+        ensures counted { calls self.new ≡ calls self.old + 1 }
         ensures cause { HasCause (failed self.old) (failed self.new) result };
 
     /// Cuts a slot's file to `len` bytes. On an error it may have cut.
@@ -85,6 +91,7 @@ pub trait Disk {
         ensures crash { Follows (AtSlot slot (Cut len)) (may_leave self.old) (may_leave self.new) }
         ensures time { Elapses (moment self.old) (moment self.new) (left_since self.old) (left_since self.new) (may_leave self.new) }
         ensures honest { is_honest self.new → is_honest self.old }
+        ensures counted { calls self.new ≡ calls self.old + 1 }
         ensures cause { HasCause (failed self.old) (failed self.new) result };
 
     /// Waits until a slot's file is on the device as it reads.
@@ -95,6 +102,7 @@ pub trait Disk {
         ensures crash { Within (may_leave self.new) (may_leave self.old) }
         ensures time { Elapses (moment self.old) (moment self.new) (left_since self.old) (left_since self.new) (may_leave self.new) }
         ensures honest { is_honest self.new → is_honest self.old }
+        ensures counted { calls self.new ≡ calls self.old + 1 }
         ensures cause { HasCause (failed self.old) (failed self.new) result };
 
     /// The contents as read are one outcome of a crash now.

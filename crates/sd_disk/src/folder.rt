@@ -37,11 +37,11 @@ impl DirDisk {
 }
 
 impl Disk for DirDisk {
-    ghost use Rattle.std.specs.Prelude.{◌<◌, [], ◌∷◌, OnOk};
+    ghost use Rattle.std.specs.Prelude.{◌+◌, ◌<◌, [], ◌∷◌, OnOk};
     ghost use Rattle.sd_disk.specs.Failures.{HasCause};
     ghost use Rattle.sd_disk.specs.Contents.{file_at};
     ghost use Rattle.sd_disk.specs.Crash.{Within, OnlyAt, Elapses};
-    ghost use Rattle.sd_disk.specs.Folder.{folder_files, folder_events, folder_failures, IsFolderHonest, folder_may_leave, folder_moment, folder_left_since};
+    ghost use Rattle.sd_disk.specs.Folder.{folder_files, folder_events, folder_failures, folder_called, IsFolderHonest, folder_may_leave, folder_moment, folder_left_since};
     ghost use Rattle.sd_disk.specs.Moments.{counts_now, only_now};
 
     ghost contents = { folder_files };
@@ -53,6 +53,8 @@ impl Disk for DirDisk {
     ghost left_since = { folder_left_since };
 
     ghost failed = { folder_failures };
+
+    ghost calls = { folder_called };
 
     ghost is_honest = { IsFolderHonest };
 
@@ -138,6 +140,7 @@ impl Disk for DirDisk {
         ensures crash { Within (folder_may_leave self.new) (folder_may_leave self.old) }
         ensures time { Elapses (folder_moment self.old) (folder_moment self.new) (folder_left_since self.old) (folder_left_since self.new) (folder_may_leave self.new) }
         ensures honest { IsFolderHonest self.new → IsFolderHonest self.old }
+        ensures counted { folder_called self.new ≡ folder_called self.old + 1 }
         ensures cause { HasCause (folder_failures self.old) (folder_failures self.new) result }
     {
         match image::sync(self.folder.image(slot)) {

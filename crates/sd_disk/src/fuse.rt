@@ -9,7 +9,7 @@ pub enum Fuse {
 }
 
 impl Fuse {
-    ghost use Rattle.sd_disk.specs.Fused.{calls_before, burnt, blown};
+    ghost use Rattle.sd_disk.specs.Fuses.{calls_before, burnt, blown};
 
     /// Counts a call, and answers whether it is the one that fails.
     pub(crate) fn burn(&mut self) -> bool

@@ -1,6 +1,6 @@
 //! A disk of which one call fails.
-ghost use Rattle.std.specs.Prelude.{◌≡◌, ◌⊎◌, ◌+◌, ◌<◌, ◌≤◌, true, false, Some, length, take, IsTrue, IsErr, IfOk, OnOk, slice_range, slice_set};
-ghost use Rattle.sd_disk.specs.Fused.{fuse_of, is_dropping, blown, Burns};
+ghost use Rattle.std.specs.Prelude.{◌≡◌, ◌⊎◌, ◌+◌, ◌<◌, ◌≤◌, true, false, None, Some, length, take, IsTrue, IsErr, IfOk, OnOk, slice_range, slice_set};
+ghost use Rattle.sd_disk.specs.Fuses.{calls_before, blown};
 
 use crate::disk::Disk;
 use crate::error::DeviceError;
@@ -16,19 +16,25 @@ pub struct Fused<D> {
     disk: D,
     fuse: Fuse,
     drops: bool,
+    misses: bool,
+    ghost once: { misses ≡ true → calls_before fuse ≡ None },
 }
 
 impl<D: Disk> Fused<D> {
+    ghost use Rattle.sd_disk.specs.Fused.{fuse_of, is_dropping, missed};
+
     /// After `calls` calls one fails. A write or cut is made all the same.
     pub fn new(disk: D, calls: u64) -> Fused<D>
         ensures disk { result.disk ≡ disk }
         ensures fuse { fuse_of result ≡ Some calls }
         ensures kind { is_dropping result ≡ false }
+        ensures none { missed result ≡ 0 }
     {
         Fused {
             disk,
             fuse: Fuse::Passes(calls),
             drops: false,
+            misses: false,
         }
     }
 
@@ -37,11 +43,13 @@ impl<D: Disk> Fused<D> {
         ensures disk { result.disk ≡ disk }
         ensures fuse { fuse_of result ≡ Some calls }
         ensures kind { is_dropping result ≡ true }
+        ensures none { missed result ≡ 0 }
     {
         Fused {
             disk,
             fuse: Fuse::Passes(calls),
             drops: true,
+            misses: false,
         }
     }
 
@@ -54,6 +62,7 @@ impl<D: Disk> Fused<D> {
 }
 
 impl<D: Disk> Disk for Fused<D> {
+    ghost use Rattle.sd_disk.specs.Fused.{fuse_of, is_dropping, missed, Burns};
     ghost use Rattle.sd_disk.specs.Contents.{file_at, written, Torn, Cut, AtSlot};
     ghost use Rattle.sd_disk.specs.Crash.{Follows, Within, OnlyAt, Elapses};
     ghost use Rattle.sd_disk.specs.Failures.{HasCause};
@@ -67,6 +76,8 @@ impl<D: Disk> Disk for Fused<D> {
     ghost left_since = { λ fused. D.left_since fused.disk };
 
     ghost failed = { λ fused. D.failed fused.disk + blown (fuse_of fused) };
+
+    ghost calls = { λ fused. D.calls fused.disk + missed fused };
 
     ghost is_honest = { λ fused. D.is_honest fused.disk };
 
@@ -94,11 +105,13 @@ impl<D: Disk> Disk for Fused<D> {
         ensures time { Elapses (D.moment self.old.disk) (D.moment self.new.disk) (D.left_since self.old.disk) (D.left_since self.new.disk) (D.may_leave self.new.disk) }
         ensures honest { D.is_honest self.new.disk → D.is_honest self.old.disk }
         ensures cause { HasCause (D.failed self.old.disk + blown (fuse_of self.old)) (D.failed self.new.disk + blown (fuse_of self.new)) result }
+        ensures counted { D.calls self.new.disk + missed self.new ≡ D.calls self.old.disk + missed self.old + 1 }
         ensures burns { Burns self.old self.new }
         ensures fails { fuse_of self.old ≡ Some 0 → IsErr result }
         ensures unmade { fuse_of self.old ≡ Some 0 → self.new.disk ≡ self.old.disk }
     {
         if self.fuse.burn() {
+            self.misses = true;
             return Err(DeviceError);
         }
         self.disk.len(slot)
@@ -114,11 +127,13 @@ impl<D: Disk> Disk for Fused<D> {
         ensures time { Elapses (D.moment self.old.disk) (D.moment self.new.disk) (D.left_since self.old.disk) (D.left_since self.new.disk) (D.may_leave self.new.disk) }
         ensures honest { D.is_honest self.new.disk → D.is_honest self.old.disk }
         ensures cause { HasCause (D.failed self.old.disk + blown (fuse_of self.old)) (D.failed self.new.disk + blown (fuse_of self.new)) result }
+        ensures counted { D.calls self.new.disk + missed self.new ≡ D.calls self.old.disk + missed self.old + 1 }
         ensures burns { Burns self.old self.new }
         ensures fails { fuse_of self.old ≡ Some 0 → IsErr result }
         ensures unmade { fuse_of self.old ≡ Some 0 → self.new.disk ≡ self.old.disk }
     {
         if self.fuse.burn() {
+            self.misses = true;
             return Err(DeviceError);
         }
         self.disk.read(slot, at, buffer)
@@ -134,6 +149,7 @@ impl<D: Disk> Disk for Fused<D> {
         ensures time { Elapses (D.moment self.old.disk) (D.moment self.new.disk) (D.left_since self.old.disk) (D.left_since self.new.disk) (D.may_leave self.new.disk) }
         ensures honest { D.is_honest self.new.disk → D.is_honest self.old.disk }
         ensures cause { HasCause (D.failed self.old.disk + blown (fuse_of self.old)) (D.failed self.new.disk + blown (fuse_of self.new)) result }
+        ensures counted { D.calls self.new.disk + missed self.new ≡ D.calls self.old.disk + missed self.old + 1 }
         ensures burns { Burns self.old self.new }
         ensures fails { fuse_of self.old ≡ Some 0 → IsErr result }
         ensures dropped { fuse_of self.old ≡ Some 0 → IsTrue (is_dropping self.old) → self.new.disk ≡ self.old.disk }
@@ -141,6 +157,7 @@ impl<D: Disk> Disk for Fused<D> {
             → (D.contents self.new.disk ≡ slice_set (D.contents self.old.disk) slot (written (file_at (D.contents self.old.disk) slot) at bytes.now)) ⊎ (D.failed self.old.disk < D.failed self.new.disk) }
     {
         if self.fuse.burn() {
+            self.misses = self.drops;
             if !self.drops {
                 let _ = self.disk.write_at(slot, at, bytes);
             }
@@ -159,6 +176,7 @@ impl<D: Disk> Disk for Fused<D> {
         ensures time { Elapses (D.moment self.old.disk) (D.moment self.new.disk) (D.left_since self.old.disk) (D.left_since self.new.disk) (D.may_leave self.new.disk) }
         ensures honest { D.is_honest self.new.disk → D.is_honest self.old.disk }
         ensures cause { HasCause (D.failed self.old.disk + blown (fuse_of self.old)) (D.failed self.new.disk + blown (fuse_of self.new)) result }
+        ensures counted { D.calls self.new.disk + missed self.new ≡ D.calls self.old.disk + missed self.old + 1 }
         ensures burns { Burns self.old self.new }
         ensures fails { fuse_of self.old ≡ Some 0 → IsErr result }
         ensures dropped { fuse_of self.old ≡ Some 0 → IsTrue (is_dropping self.old) → self.new.disk ≡ self.old.disk }
@@ -166,6 +184,7 @@ impl<D: Disk> Disk for Fused<D> {
             → (D.contents self.new.disk ≡ slice_set (D.contents self.old.disk) slot (take len (file_at (D.contents self.old.disk) slot))) ⊎ (D.failed self.old.disk < D.failed self.new.disk) }
     {
         if self.fuse.burn() {
+            self.misses = self.drops;
             if !self.drops {
                 let _ = self.disk.cut(slot, len);
             }
@@ -182,11 +201,13 @@ impl<D: Disk> Disk for Fused<D> {
         ensures time { Elapses (D.moment self.old.disk) (D.moment self.new.disk) (D.left_since self.old.disk) (D.left_since self.new.disk) (D.may_leave self.new.disk) }
         ensures honest { D.is_honest self.new.disk → D.is_honest self.old.disk }
         ensures cause { HasCause (D.failed self.old.disk + blown (fuse_of self.old)) (D.failed self.new.disk + blown (fuse_of self.new)) result }
+        ensures counted { D.calls self.new.disk + missed self.new ≡ D.calls self.old.disk + missed self.old + 1 }
         ensures burns { Burns self.old self.new }
         ensures fails { fuse_of self.old ≡ Some 0 → IsErr result }
         ensures unmade { fuse_of self.old ≡ Some 0 → self.new.disk ≡ self.old.disk }
     {
         if self.fuse.burn() {
+            self.misses = true;
             return Err(DeviceError);
         }
         self.disk.sync(slot)

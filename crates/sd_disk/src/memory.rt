@@ -8,6 +8,7 @@ use crate::call::Call;
 use crate::disk::Disk;
 use crate::error::DeviceError;
 use crate::pick::Pick;
+use crate::record::Record;
 use crate::slot::Slot;
 use std::alloc::{AllocError, Global};
 
@@ -19,6 +20,7 @@ pub struct MemDisk {
     slots: Vec<Slot>,
     budget: Budget,
     reads: u64,
+    asked: Record,
     ghost replayed: { files_after budget.journal.record.outside budget.journal.record.events ≡ map held slots.items },
     ghost tracked: { AreTracked slots.items budget.journal.record.outside budget.journal.record.events },
 }
@@ -65,6 +67,7 @@ impl MemDisk {
             slots,
             budget,
             reads: 0,
+            asked: Record::new(),
         }
     }
 
@@ -102,7 +105,7 @@ impl Disk for MemDisk {
     ghost use Rattle.std.specs.Prelude.{◌↔◌, IsOk, OnErr, take, slice_range, slice_set};
     ghost use Rattle.sd_disk.specs.Contents.{file_at, written, Torn, Cut, AtSlot};
     ghost use Rattle.sd_disk.specs.Crash.{Follows, Reaches, Within, OnlyAt, Elapses};
-    ghost use Rattle.sd_disk.specs.Memory.{memory_files, memory_calls, memory_failures, memory_events, memory_may_leave, memory_moment, memory_left_since, HasRoom, UsesCall, Refuses, CountsRead};
+    ghost use Rattle.sd_disk.specs.Memory.{memory_files, memory_calls, memory_failures, memory_called, memory_rooms, memory_reads, memory_events, memory_may_leave, memory_moment, memory_left_since, HasRoom, UsesCall, Refuses, CountsRead};
     ghost use Rattle.sd_disk.specs.Moments.{counts_now, only_now};
     ghost use Rattle.sd_disk.specs.Outcomes.{read_as, count_as};
 
@@ -115,6 +118,8 @@ impl Disk for MemDisk {
     ghost left_since = { memory_left_since };
 
     ghost failed = { memory_failures };
+
+    ghost calls = { memory_called };
 
     ghost is_honest = { λ _. Unit {0} };
 
@@ -137,9 +142,15 @@ impl Disk for MemDisk {
     fn len(&mut self, slot: usize) -> Result<usize, DeviceError>
         requires { slot < length (memory_files self.old) }
         ensures length { result ≡ Ok (length (file_at (memory_files self.old) slot)) }
-        ensures same { self.new ≡ self.old }
+        ensures same { memory_files self.new ≡ memory_files self.old }
+        ensures quiet { self.new.budget ≡ self.old.budget }
+        ensures rooms { memory_rooms self.new ≡ memory_rooms self.old }
+        ensures reads { memory_reads self.new ≡ memory_reads self.old }
+        ensures counted { memory_called self.new ≡ memory_called self.old + 1 }
     {
-        Ok(self.slots[slot].len())
+        let len = self.slots[slot].len();
+        self.asked.note(&Call::Measured { slot, len }, &[]);
+        Ok(len)
     }
 
     fn read(&mut self, slot: usize, at: usize, buffer: &mut [u8]) -> Result<(), DeviceError>
@@ -149,9 +160,11 @@ impl Disk for MemDisk {
         ensures succeeds { IsOk result }
         ensures same { memory_files self.new ≡ memory_files self.old }
         ensures quiet { self.new.budget ≡ self.old.budget }
-        ensures counted { CountsRead self.old self.new }
+        ensures read { CountsRead self.old self.new }
+        ensures counted { memory_called self.new ≡ memory_called self.old + 1 }
     {
         self.reads = self.reads.saturating_add(1);
+        self.asked.note(&Call::Read { slot, at }, &[]);
         self.slots[slot].read(at, buffer);
         Ok(())
     }
@@ -165,6 +178,7 @@ impl Disk for MemDisk {
         ensures crash { Follows (AtSlot slot (Torn at (length bytes.now))) (memory_may_leave self.old) (memory_may_leave self.new) }
         ensures reached { OnOk result (Reaches (AtSlot slot (Torn at (length bytes.now))) (memory_may_leave self.old) (memory_may_leave self.new)) }
         ensures time { Elapses (memory_moment self.old) (memory_moment self.new) (memory_left_since self.old) (memory_left_since self.new) (memory_may_leave self.new) }
+        ensures counted { memory_called self.new ≡ memory_called self.old + 1 }
         ensures done { OnOk result (UsesCall self.old self.new) }
         ensures refused { OnErr result (Refuses self.old self.new) }
         ensures room { IsOk result ↔ HasRoom self.old slot at (length bytes.now) }
@@ -185,6 +199,7 @@ impl Disk for MemDisk {
         ensures crash { Follows (AtSlot slot (Cut len)) (memory_may_leave self.old) (memory_may_leave self.new) }
         ensures reached { OnOk result (Reaches (AtSlot slot (Cut len)) (memory_may_leave self.old) (memory_may_leave self.new)) }
         ensures time { Elapses (memory_moment self.old) (memory_moment self.new) (memory_left_since self.old) (memory_left_since self.new) (memory_may_leave self.new) }
+        ensures counted { memory_called self.new ≡ memory_called self.old + 1 }
         ensures done { OnOk result (UsesCall self.old self.new) }
         ensures refused { OnErr result (Refuses self.old self.new) }
         ensures room { IsOk result ↔ 0 < memory_calls self.old }
@@ -203,6 +218,7 @@ impl Disk for MemDisk {
         ensures reached { (c : List (List ℕ)) → memory_may_leave self.old c
             → file_at c slot ≡ file_at (memory_files self.old) slot → memory_may_leave self.new c }
         ensures time { Elapses (memory_moment self.old) (memory_moment self.new) (memory_left_since self.old) (memory_left_since self.new) (memory_may_leave self.new) }
+        ensures counted { memory_called self.new ≡ memory_called self.old + 1 }
         ensures done { OnOk result (UsesCall self.old self.new) }
         ensures refused { OnErr result (Refuses self.old self.new) }
         ensures room { IsOk result ↔ 0 < memory_calls self.old }
