@@ -1,20 +1,16 @@
 -- A merge beside a round.
-use Rattle.std.proofs.Common.{◌≡◌, ◌≢◌, ◌⊎◌, ◌<◌, ◌≤◌, ℕ, nat_eq, true, false, List, [], ◌∷◌, Option, Some, None, Contains, refl, sym, ◌∙◌, ap, subst, inl, inr, arith}
-use Rattle.std.specs.Prelude.{◌↔◌}
+use Rattle.std.proofs.Common.{◌≡◌, ◌≢◌, ◌⊎◌, ◌<◌, ◌≤◌, ℕ, List, [], ◌∷◌, Some, Contains, refl, sym, ◌∙◌, ap, subst, inl, inr, arith}
 use Rattle.std.specs.List.{IsDistinct, slice_get}
-use Rattle.std.proofs.lemmas.Option.{none-some}
-use Rattle.sd_areas.specs.Pages.{pages_from}
 use Rattle.sd_image.specs.declared.header.Kind.TheVariants.{PreDump, Dump, Merged}
 use Rattle.sd_image.specs.declared.run.RunKind.TheVariants.{Data, Parent, Zero}
 use Rattle.sd_image.specs.Table.{Listed}
 use Rattle.sd_image.specs.Image.{Image}
 use Rattle.sd_image.specs.Shows.{Holds, by_data, by_zero, by_parent, IsNamed, IsNotAfter, IsRestorable, IsTip, pages_of}
-use Rattle.sd_needed.specs.Needed.{IsNeeded}
 use Rattle.sd_needed.specs.Cut.{HoldsAlike, ImagesShow}
 use Rattle.sd_needed.specs.Store.{IsNextDump, IsSound, IsTwin, Store, jobs}
 use Rattle.sd_needed.specs.Steps.{Adds, begun, committed, merging, opened}
-use Rattle.sd_needed.specs.Beliefs.{AreSlotsOf, Belief, Closed, Kept, Closing, Opening, IsAdded, IsLeft}
-use Rattle.sd_needed.specs.Worked.{MergeBesideRound, busy, busy_slots, memory_of, merged, one_page, unchanged, whole}
+use Rattle.sd_needed.specs.Beliefs.{AreSlotsOf, Belief, Kept, Closing, Opening, IsAdded}
+use Rattle.sd_needed.specs.Worked.{MergeBesideRound, busy, busy_slots, memory_of, merged, unchanged, whole}
 use Rattle.sd_needed.proofs.Cuts.{needed_in}
 use Rattle.sd_needed.proofs.Members.{contains_cases, contains_front, contains_later, contains_none}
 use Rattle.sd_needed.proofs.OnePage.{page_memory}

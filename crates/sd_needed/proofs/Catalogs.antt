@@ -1,9 +1,9 @@
 -- What an image of a catalog reaches is what the image of the contents reaches.
-use Rattle.std.proofs.Common.{◌≡◌, ℕ, List, Contains, refl, sym, ◌∙◌, ap, subst}
+use Rattle.std.proofs.Common.{◌≡◌, ℕ, List, sym, ◌∙◌, ap, subst}
 use Rattle.sd_image.specs.declared.header.Header.{Header}
 use Rattle.sd_image.specs.Image.{Image}
 use Rattle.sd_image.specs.Shows.{IsNamed}
-use Rattle.sd_chain.specs.Catalog.{Opened, Places, Names, images}
+use Rattle.sd_chain.specs.Catalog.{Opened, Places, Names}
 use Rattle.sd_chain.specs.Reaches.{ReachesSerial}
 use Rattle.sd_chain.specs.Reaches as catalog
 use Rattle.sd_chain.specs.Store.{HasTheImages, IsOpenedAs}

@@ -1,15 +1,14 @@
 -- What a crash leaves of a catalog holds and shows what the catalog does.
-use Rattle.std.proofs.Common.{◌≡◌, ◌⊎◌, ℕ, ◌<◌, ◌≤◌, List, [], ◌∷◌, Contains, Option, Some, None, refl, sym, ◌∙◌, ap, subst, inl, inr, arith}
-use Rattle.std.specs.Prelude.{◌↔◌}
+use Rattle.std.proofs.Common.{◌≡◌, ◌⊎◌, ℕ, ◌<◌, List, [], ◌∷◌, Contains, Option, Some, None, refl, sym, ◌∙◌, ap, subst, inl, inr, arith}
 use Rattle.sd_areas.specs.PlainMemory.{PlainMemory}
 use Rattle.sd_image.specs.Image.{Image}
 use Rattle.sd_image.specs.Shows.{Holds, by_data, by_zero, by_parent, IsMemory, IsNamed, IsNotAfter, IsRestorable, IsTip}
 use Rattle.sd_needed.specs.Needed.{IsCalled, IsNeeded}
 use Rattle.sd_needed.specs.Needed as needed
-use Rattle.sd_needed.specs.Cut.{CutHoldsTheSame, CutShowsTheSame, CutShowsLastOrPending, HoldsAlike, ImagesShow, IsCut, IsHarmless, IsPending, KeepsItsNumber, KeepsTheTip, Repeats, SerialsDiffer, areas_of}
-use Rattle.sd_needed.proofs.Choose.{find_tip, not_after_self, one_named, one_tip, some_named, some_tip, tip_is}
+use Rattle.sd_needed.specs.Cut.{CutHoldsTheSame, CutShowsTheSame, CutShowsLastOrPending, HoldsAlike, ImagesShow, IsCut, IsHarmless, IsPending, KeepsItsNumber, KeepsTheTip, Repeats, SerialsDiffer}
+use Rattle.sd_needed.proofs.Choose.{not_after_self, one_named, one_tip, some_named, some_tip, tip_is}
 use Rattle.sd_needed.proofs.Members.{contains_cases, contains_front, contains_later}
-use Rattle.sd_needed.proofs.Memories.{HoldsAll, memory_moves}
+use Rattle.sd_needed.proofs.Memories.{memory_moves}
 
 -- all needed images, and others that keep what their numbers name
 pub record IsFollowed (catalog : List Image) (jobs : List ℕ) (images : List Image) : Type 0 where

@@ -1,10 +1,10 @@
 -- When an image that is being added is harmless.
-use Rattle.std.proofs.Common.{◌≡◌, ◌≢◌, ◌⊎◌, ℕ, ◌<◌, List, Contains, refl, sym, ◌∙◌, ap, subst, inl, inr, arith}
+use Rattle.std.proofs.Common.{sym, subst, inl, inr, arith}
 use Rattle.sd_image.specs.Image.{Image}
-use Rattle.sd_image.specs.Shows.{IsNamed, IsTip}
+use Rattle.sd_image.specs.Shows.{IsNamed}
 use Rattle.sd_needed.specs.Needed.{IsCalled, by_tip, by_job, by_parent}
 use Rattle.sd_needed.specs.Cut.{Repeats}
-use Rattle.sd_needed.specs.Harmless.{DumpIsPending, IsSource, IsUnused, PreDumpIsHarmless, TwinIsHarmless, UnusedIsUncalled}
+use Rattle.sd_needed.specs.Harmless.{DumpIsPending, PreDumpIsHarmless, TwinIsHarmless, UnusedIsUncalled}
 
 pub unused_is_uncalled_lem : UnusedIsUncalled
 unused_is_uncalled_lem catalog jobs number unused (by_tip _ tip is parent) = unused.names tip is.member parent

@@ -13,3 +13,4 @@ pub mod Worked
 pub mod Busy
 pub mod Opens
 pub mod Stays
+pub mod Gates

@@ -1,5 +1,5 @@
 -- Members of lists.
-use Rattle.std.proofs.Common.{◌≡◌, ◌⊎◌, ℕ, ◌<◌, zero, suc, List, [], ◌∷◌, length, map, slice_index_or, Contains, refl, sym, ◌∙◌, ap, subst, inl, inr, arith}
+use Rattle.std.proofs.Common.{◌≡◌, ◌⊎◌, ℕ, ◌<◌, zero, suc, List, [], ◌∷◌, length, map, slice_index_or, Contains, refl, sym, subst, inl, inr, arith}
 
 pub contains_front : {X : Type 0} (x : X) (xs : List X) → Contains (x ∷ xs) x
 contains_front x xs = (0, omega arith, refl)

@@ -1,5 +1,5 @@
 -- A store as it is found is sound, and steps leave what is shown.
-use Rattle.std.proofs.Common.{◌≡◌, ◌⊎◌, ℕ, ◌<◌, ◌≤◌, nat_eq, true, false, List, [], ◌∷◌, map, Contains, Option, Some, None, IfSome, refl, sym, ◌∙◌, ap, subst, inl, inr, arith}
+use Rattle.std.proofs.Common.{◌≡◌, ℕ, ◌<◌, nat_eq, false, List, [], ◌∷◌, map, Contains, Option, Some, None, IfSome, refl, sym, ◌∙◌, ap, subst, inl, inr, arith}
 use Rattle.std.specs.Prelude.{◌↔◌}
 use Rattle.std.specs.List.{AllByRecursion, IsDistinct}
 use Rattle.std.proofs.lemmas.Bool.{eq-eqb, false≢true}
@@ -8,16 +8,16 @@ use Rattle.sd_image.specs.declared.header.Header.{Header}
 use Rattle.sd_image.specs.declared.header.Kind.{Kind}
 use Rattle.sd_image.specs.declared.header.Kind.TheVariants.{PreDump, Dump, Merged}
 use Rattle.sd_image.specs.Header.{AreNumbers}
-use Rattle.sd_image.specs.Image.{Image, IsImage, OpenImages}
-use Rattle.sd_image.specs.Shows.{Holds, by_data, by_zero, by_parent, IsMemory, IsNamed, IsRestorable, IsStore, IsTip}
+use Rattle.sd_image.specs.Image.{Image, OpenImages}
+use Rattle.sd_image.specs.Shows.{Holds, by_data, by_zero, by_parent, IsNamed, IsTip}
 use Rattle.sd_needed.specs.Cut.{ImagesShow, IsHarmless, SerialsDiffer}
-use Rattle.sd_needed.specs.Store.{IsMerged, IsNextPreDump, IsSound, IsTwin, Store, jobs}
-use Rattle.sd_needed.specs.Steps.{Adds, Retires}
+use Rattle.sd_needed.specs.Store.{IsMerged, IsSound, IsTwin, Store, jobs}
+use Rattle.sd_needed.specs.Steps.{Adds}
 use Rattle.sd_needed.specs.Opens.{OpenedIsSound, OrderIsFree, StepsShow}
 use Rattle.sd_needed.proofs.Cuts.{cut_shows_the_same_lem, needed_in}
 use Rattle.sd_needed.proofs.Harmless.{pre_dump_is_harmless_lem, twin_is_harmless_lem}
 use Rattle.sd_needed.proofs.Members.{contains_cases, contains_front, contains_later, contains_none}
-use Rattle.sd_needed.proofs.Memories.{HoldsAll, memory_moves}
+use Rattle.sd_needed.proofs.Memories.{memory_moves}
 use Rattle.sd_needed.proofs.StepLemmas.{steps_keep_lem}
 
 -- ---- a store as it is found

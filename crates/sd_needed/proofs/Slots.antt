@@ -1,5 +1,5 @@
 -- What contents show whose slots are as believed.
-use Rattle.std.proofs.Common.{◌≡◌, ◌⊎◌, ℕ, zero, suc, ◌<◌, ◌≤◌, true, false, nat_eq, nat_le, List, [], ◌∷◌, length, map, filter_map, slice_index, Option, Some, None, Contains, IfSome, refl, sym, ◌∙◌, ap, subst, inl, inr, arith}
+use Rattle.std.proofs.Common.{◌≡◌, ◌⊎◌, ℕ, ◌≤◌, true, false, nat_eq, nat_le, List, [], ◌∷◌, length, map, filter_map, slice_index, Option, Some, None, Contains, IfSome, refl, sym, ◌∙◌, ap, subst, inl, inr, arith}
 use Rattle.std.specs.List.{AllByRecursion, AllZip, IsDistinct}
 use Rattle.std.proofs.lemmas.Bool.{and_from, eq-eqb, le-leb}
 use Rattle.std.proofs.lemmas.Option.{none-some, same_Some}
@@ -7,10 +7,8 @@ use Rattle.std.proofs.lemmas.List.Elements.{Contains-append_left}
 use Rattle.sd_areas.specs.PlainMemory.{PlainMemory}
 use Rattle.sd_image.specs.Image.{Image, IsImage, OpenImages, is_open}
 use Rattle.sd_image.specs.Shows.{Shows}
-use Rattle.sd_needed.specs.Needed.{IsNeeded}
-use Rattle.sd_needed.specs.Cut.{ImagesShow, IsHarmless, IsPending, KeepsItsNumber, KeepsTheTip}
-use Rattle.sd_needed.specs.Harmless.{IsUnused}
-use Rattle.sd_needed.specs.Store.{IsMerged, IsNextDump, IsSound, IsTwin, Store, jobs}
+use Rattle.sd_needed.specs.Cut.{ImagesShow, IsHarmless, IsPending}
+use Rattle.sd_needed.specs.Store.{IsMerged, IsNextDump, IsSound, Store, jobs}
 use Rattle.sd_needed.specs.Beliefs.{AreSlotsOf, Belief, Closed, Kept, Closing, Opening, ContentsShow, FitsBelief, IsAdded, IsLeft, LeftImagesShow, image_in}
 use Rattle.sd_needed.proofs.Cuts.{cut_shows_the_same_lem, cut_shows_last_or_pending_lem}
 use Rattle.sd_needed.proofs.Harmless.{dump_is_pending_lem, pre_dump_is_harmless_lem, twin_is_harmless_lem}

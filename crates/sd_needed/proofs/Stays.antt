@@ -1,11 +1,11 @@
 -- What is known of an image to come stays through the steps that others make meanwhile.
-use Rattle.std.proofs.Common.{◌≡◌, ◌≢◌, ◌⊎◌, ℕ, ◌<◌, ◌≤◌, List, [], ◌∷◌, ◌++◌, Option, Some, None, Contains, IfSome, refl, sym, ◌∙◌, ap, subst, inl, inr, arith}
+use Rattle.std.proofs.Common.{◌≡◌, ◌≢◌, ℕ, ◌<◌, List, [], ◌∷◌, ◌++◌, Option, Some, Contains, IfSome, sym, ◌∙◌, subst, inl, inr, arith}
 use Rattle.std.specs.Prelude.{◌↔◌}
 use Rattle.std.proofs.lemmas.List.Elements.{Contains-append_cases, Contains-append_left, Contains-append_right}
 use Rattle.sd_image.specs.Image.{Image}
 use Rattle.sd_image.specs.Shows.{Holds, IsRestorable, IsTip}
 use Rattle.sd_needed.specs.Needed.{IsCalled, by_job}
-use Rattle.sd_needed.specs.Cut.{HoldsAlike, KeepsItsNumber, Repeats}
+use Rattle.sd_needed.specs.Cut.{KeepsItsNumber, Repeats}
 use Rattle.sd_needed.specs.Store.{IsFresh, IsMerged, IsNext, IsNextDump, IsSound, IsTwin, Store, jobs}
 use Rattle.sd_needed.specs.Steps.{Adds, Retires, added, begun, cancelled, committed, merging, replaced, retired}
 use Rattle.sd_needed.specs.Stays.{AreApart, DumpStays, FreshStays, TwinStays}

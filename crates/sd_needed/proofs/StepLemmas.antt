@@ -1,14 +1,13 @@
 -- Each step keeps a store sound.
-use Rattle.std.proofs.Common.{◌≡◌, ◌≢◌, ◌⊎◌, ℕ, ◌<◌, ◌≤◌, true, false, List, [], ◌∷◌, ◌++◌, Option, Some, None, Contains, IfSome, refl, sym, ◌∙◌, ap, subst, inl, inr, arith}
+use Rattle.std.proofs.Common.{◌≡◌, ◌≢◌, ◌⊎◌, ℕ, ◌<◌, true, List, [], ◌∷◌, ◌++◌, Option, Some, None, Contains, IfSome, refl, sym, ◌∙◌, ap, subst, inl, inr, arith}
 use Rattle.std.proofs.lemmas.Bool.{false≢true}
 use Rattle.std.proofs.lemmas.List.Elements.{Contains-append_cases, Contains-append_left, Contains-append_right}
-use Rattle.sd_image.specs.declared.header.Kind.TheVariants.{PreDump}
 use Rattle.sd_image.specs.Image.{Image}
 use Rattle.sd_image.specs.Shows.{IsNamed, IsNotAfter, IsRestorable, IsTip}
 use Rattle.sd_needed.specs.Needed.{IsCalled, by_tip, by_job, by_parent}
 use Rattle.sd_needed.specs.Cut.{SerialsDiffer}
 use Rattle.sd_needed.specs.Harmless.{IsSource}
-use Rattle.sd_needed.specs.Store.{IsMerged, IsNext, IsNextDump, IsNextPreDump, IsSound, IsTwin, Store, jobs}
+use Rattle.sd_needed.specs.Store.{IsMerged, IsNextDump, IsNextPreDump, IsSound, IsTwin, Store, jobs}
 use Rattle.sd_needed.specs.Steps.{Adds, Retires, StepsKeep, added, begun, cancelled, committed, merging, opened, replaced, retired}
 use Rattle.sd_needed.proofs.Choose.{one_named, one_tip, some_named, some_tip, tip_is}
 use Rattle.sd_needed.proofs.Growth.{called_all, falls_more, fewer_named, fewer_tip, more_named, more_tip, new_named, new_tip, serials_more}

@@ -1,9 +1,9 @@
 -- Needed images are those that are reached.
-use Rattle.std.proofs.Common.{◌≡◌, ◌⊎◌, ℕ, List, Contains, refl, sym, ◌∙◌, ap, subst, inl, inr}
+use Rattle.std.proofs.Common.{ℕ, List, refl, sym, subst, inl, inr}
 use Rattle.sd_image.specs.Image.{Image}
-use Rattle.sd_image.specs.Shows.{IsNamed, IsTip}
+use Rattle.sd_image.specs.Shows.{IsNamed}
 use Rattle.sd_needed.specs.Reached.{Reaches, itself, beyond}
-use Rattle.sd_needed.specs.Needed.{IsCalled, by_tip, by_job, by_parent, IsCalledFor, IsNeeded, IsReached, NeededIsReached}
+use Rattle.sd_needed.specs.Needed.{IsCalled, by_tip, by_job, by_parent, IsNeeded, IsReached, NeededIsReached}
 
 -- what is reached reaches on
 on : (images : List Image) (j i parent : Image) → IsNamed images j.header.parent parent → Reaches images j i → Reaches images parent i

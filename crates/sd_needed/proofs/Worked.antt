@@ -1,18 +1,16 @@
 -- The worked stores show what they are said to show.
-use Rattle.std.proofs.Common.{◌≡◌, ◌≢◌, ◌⊎◌, ◌<◌, ◌≤◌, ℕ, nat_eq, true, false, List, [], ◌∷◌, Option, Some, None, Contains, refl, sym, ◌∙◌, ap, subst, inl, inr, arith}
-use Rattle.std.specs.Prelude.{◌↔◌}
-use Rattle.std.specs.List.{IsDistinct, slice_get}
+use Rattle.std.proofs.Common.{◌≡◌, ◌⊎◌, ◌<◌, ◌≤◌, ℕ, List, [], ◌∷◌, Some, Contains, refl, sym, ◌∙◌, ap, subst, inl, inr, arith}
 use Rattle.sd_areas.specs.Pages.{pages_from}
 use Rattle.sd_image.specs.declared.header.Kind.{Kind}
 use Rattle.sd_image.specs.declared.header.Kind.TheVariants.{PreDump, Dump, Merged}
-use Rattle.sd_image.specs.declared.run.RunKind.TheVariants.{Data, Parent, Zero}
+use Rattle.sd_image.specs.declared.run.RunKind.TheVariants.{Data, Parent}
 use Rattle.sd_image.specs.Image.{Image}
-use Rattle.sd_image.specs.Shows.{Holds, by_data, by_zero, by_parent, IsNamed, IsNotAfter, IsRestorable, IsTip, pages_of}
+use Rattle.sd_image.specs.Shows.{Holds, by_data, by_parent, IsNamed, IsNotAfter, IsRestorable, IsTip}
 use Rattle.sd_needed.specs.Reached.{Reaches, itself, beyond}
-use Rattle.sd_needed.specs.Needed.{IsCalled, by_job}
-use Rattle.sd_needed.specs.Cut.{HoldsAlike, ImagesShow, SerialsDiffer}
+use Rattle.sd_needed.specs.Needed.{by_job}
+use Rattle.sd_needed.specs.Cut.{ImagesShow, SerialsDiffer}
 use Rattle.sd_needed.specs.Store.{IsSound}
-use Rattle.sd_needed.specs.Steps.{Adds, begun, opened}
+use Rattle.sd_needed.specs.Steps.{begun, opened}
 use Rattle.sd_needed.specs.Worked.{ChainRows, WhyItGrows, found, memory_of, merged, one_page, unchanged, whole}
 use Rattle.sd_needed.proofs.Choose.{one_named}
 use Rattle.sd_needed.proofs.Members.{contains_cases, contains_front, contains_later, contains_none}

@@ -7,4 +7,5 @@ pub mod Steps
 pub mod Opens
 pub mod Stays
 pub mod Beliefs
+pub mod Gates
 pub mod Worked

@@ -1,5 +1,5 @@
 -- What is known of an image to come stays through the steps that others make meanwhile.
-use Rattle.std.specs.Prelude.{◌≢◌, ℕ, List}
+use Rattle.std.specs.Prelude.{◌≢◌, List}
 use Rattle.sd_image.specs.Image.{Image}
 use Rattle.sd_image.specs.Shows.{IsTip}
 use Rattle.sd_needed.specs.Store.{IsFresh, IsNext, IsNextDump, IsSound, IsTwin, Store}

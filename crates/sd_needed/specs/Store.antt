@@ -1,5 +1,5 @@
 -- A store in use: its open images and the numbers of its jobs, and what its steps keep.
-use Rattle.std.specs.Prelude.{◌≡◌, ◌≢◌, ℕ, ◌<◌, Bool, true, false, List, [], ◌∷◌, ◌++◌, Option, Some, None, Contains, IfSome}
+use Rattle.std.specs.Prelude.{◌≡◌, ◌≢◌, ℕ, ◌<◌, Bool, true, List, ◌++◌, Option, Some, Contains, IfSome}
 use Rattle.sd_image.specs.declared.header.Kind.TheVariants.{PreDump}
 use Rattle.sd_image.specs.Image.{Image}
 use Rattle.sd_image.specs.Shows.{IsNamed, IsRestorable, IsTip}

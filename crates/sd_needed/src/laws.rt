@@ -1,6 +1,7 @@
 //! What a set of images shows, whatever a crash leaves of it. Each law is the contract of a function that does nothing.
 ghost use Rattle.sd_needed.specs.Beliefs.{ContentsShow, LeftImagesShow};
 ghost use Rattle.sd_needed.specs.Cut.{CutHoldsTheSame, CutShowsTheSame, CutShowsLastOrPending};
+ghost use Rattle.sd_needed.specs.Gates.{LeftAsBelieved};
 ghost use Rattle.sd_needed.specs.Harmless.{DumpIsPending, PreDumpIsHarmless, TwinIsHarmless, UnusedIsUncalled};
 ghost use Rattle.sd_needed.specs.Needed.{NeededIsReached};
 ghost use Rattle.sd_needed.specs.Stays.{DumpStays, FreshStays, TwinStays};
@@ -11,6 +12,7 @@ ghost use Rattle.std.specs.Prelude.{ℕ, List};
 ghost use Rattle.sd_needed.specs.Worked.{ChainRows, MergeBesideRound, WhyItGrows};
 
 use sd_chain::Catalog;
+use sd_gate::image_whole_or_closed;
 
 /// What an image of a catalog reaches is what the image of the store's contents reaches. So [`Catalog::reachable`]
 /// finds exactly the serials of what is reached.
@@ -107,6 +109,14 @@ pub fn left_images_show()
 pub fn contents_show()
     ensures { ContentsShow }
 {}
+
+/// What a crash leaves of slots in their phases is as believed: no image before the gate is opened, none or the whole one
+/// while it is opened or closed, and the image once the open gate is synced.
+pub fn left_as_believed()
+    ensures { LeftAsBelieved }
+{
+    image_whole_or_closed();
+}
 
 /// Worked stores of one page: a dump, a second one that names it, and a merged image in the first one's place; a merge
 /// beside a round, with the gates of both images being opened; and a store whose tip isn't named by its own number, where
