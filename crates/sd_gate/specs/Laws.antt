@@ -1,5 +1,5 @@
 -- What the phases promise the layers above.
-use Rattle.std.specs.Prelude.{◌≡◌, ◌⊎◌, ℕ, ◌==◌, ◌+◌, ◌*◌, ◌≤◌, nat_lt, true, false, if◌then◌else◌, List, [], ◌∷◌, ◌++◌, length, drop, slice_index, slice_range}
+use Rattle.std.specs.Prelude.{◌≡◌, ◌⊎◌, ℕ, ◌==◌, ◌+◌, ◌≤◌, nat_lt, true, false, if◌then◌else◌, List, [], ◌∷◌, ◌++◌, length, drop, slice_index, slice_range}
 use Rattle.std.specs.List.{concat, AllByRecursion}
 use Rattle.sd_disk.specs.Contents.{file_at}
 use Rattle.sd_disk.specs.Crash.{OnlyAt}
@@ -15,7 +15,7 @@ use Rattle.sd_gate.specs.declared.slot_state.SlotState.{SlotState}
 use Rattle.sd_gate.specs.declared.slot_state.SlotState.TheVariants.{Raw as RawSlot, Closed, Open as OpenSlot}
 use Rattle.sd_gate.specs.Fits.{Leaves, SlotFits}
 use Rattle.sd_gate.specs.Phases.{is_ready, given_up, after, body_after}
-use Rattle.sd_gate.specs.Steps.{Calls, format_calls, closing_calls, body_calls, table_place}
+use Rattle.sd_gate.specs.Steps.{Calls, format_calls, closing_calls, body_calls, data_place, table_place}
 
 -- the slot holds no image, or this one
 abbrev pub IsClosedOrWhole : List ℕ → List ℕ → Type 0
@@ -98,7 +98,7 @@ pages_body (page ∷ pages) = zeros 4095 ++ concat (page ∷ pages)
 
 -- where the next data page goes
 abbrev pub page_place : List (List ℕ) → ℕ
-page_place pages = 4096 + 4096 * length pages
+page_place pages = data_place (length pages)
 
 -- data pages are written one behind the other, and the table and the header complete the body of the image
 pub record BodiesFill : Type 0 where

@@ -1,5 +1,5 @@
 -- The calls of each plan, in order.
-use Rattle.std.specs.Prelude.{ℕ, ◌+◌, ◌*◌, ◌<◌, List, [], ◌∷◌, length}
+use Rattle.std.specs.Prelude.{◌≡◌, ℕ, ◌+◌, ◌*◌, ◌<◌, ◌≤◌, List, [], ◌∷◌, length}
 use Rattle.sd_image.specs.declared.header.Header.{Header}
 use Rattle.sd_image.specs.Header.{header_text}
 use Rattle.sd_gate.specs.declared.call.Call.{Call}
@@ -28,9 +28,23 @@ format_calls Closed = cutting_calls
 format_calls OpenSlot = closing_calls
 format_calls Writing = cutting_calls
 
+-- where the data page with this number begins
+abbrev pub data_place : ℕ → ℕ
+data_place place = 4096 + 4096 * place
+
+-- the number and the bytes of a data page
+pub record IsPage (place : ℕ) (bytes : List ℕ) : Type 0 where
+  pub few : place < 65536
+  pub whole : length bytes ≡ 4096
+
 -- where the table goes: behind the data pages
 abbrev pub table_place : Header → ℕ
-table_place header = 4096 + 4096 * header.pages
+table_place header = data_place header.pages
+
+-- a header and a table that an image may have
+pub record IsBody (header : Header) (table : List ℕ) : Type 0 where
+  pub few : header.pages ≤ 65536
+  pub some : 0 < length table
 
 -- the body is on the device before the gate is opened, and the open gate before the plan ends
 abbrev pub body_calls : Header → List ℕ → Calls

@@ -1,8 +1,8 @@
 //! Plans of device calls.
-ghost use Rattle.std.specs.Prelude.{◌≡◌, ◌≢◌, ◌⊎◌, ◌↔◌, ◌<◌, ◌≤◌, [], ◌∷◌, true, None, Some, IsTrue, IsSome, IsErr, IfOk, MatchOption, length};
+ghost use Rattle.std.specs.Prelude.{◌≡◌, ◌≢◌, ◌⊎◌, ◌↔◌, ◌≤◌, [], ◌∷◌, true, None, Some, IsTrue, IsSome, IsErr, IfOk, MatchOption};
 ghost use Rattle.sd_gate.specs.declared.call.Call.TheVariants.{Read, Write};
 ghost use Rattle.sd_gate.specs.Calls.{is_done};
-ghost use Rattle.sd_gate.specs.Steps.{format_calls, closing_calls, body_calls, first_looks};
+ghost use Rattle.sd_gate.specs.Steps.{format_calls, closing_calls, body_calls, data_place, first_looks, IsPage, IsBody};
 ghost use Rattle.sd_gate.specs.Inspections.{nothing, the_length, IsReadNext};
 ghost use Rattle.sd_gate.specs.Plans.{calls_of, awaited_by, IsSoundJob, found_of, begun, Gives, calls_after, settled, plan_after};
 
@@ -11,6 +11,7 @@ use crate::inspection::Inspection;
 use crate::job::Job;
 use crate::note::Note;
 use crate::outcome::Outcome;
+use crate::refusal::Refusal;
 use crate::request::Request;
 use crate::settled::Settled;
 use crate::slot_state::SlotState;
@@ -18,7 +19,7 @@ use crate::stage::Stage;
 use crate::steps::Steps;
 use crate::worker::Worker;
 use sd_image::Header;
-use std::alloc::{AllocError, Global};
+use std::alloc::Global;
 use std::marker::Model;
 use std::mem;
 
@@ -26,6 +27,9 @@ use std::mem;
 const HEADER_SIZE: usize = 4096;
 
 const PAGE_SIZE: usize = 4096;
+
+/// How many data pages an image has at most.
+const PAGE_LIMIT: usize = 65_536;
 
 /// Device calls on one slot, one after the other: each is asked for when the one before is done.
 #[derive(Debug, Drop)]
@@ -57,6 +61,28 @@ fn is_out(out: &Option<Note>, note: Note) -> bool
     ensures { IsTrue result ↔ out.now ≡ Some note }
 {
     *out == Some(note)
+}
+
+/// Whether this is the place of a data page and a page's bytes.
+fn is_page(place: usize, buffer: &[u8]) -> bool
+    ensures { IsTrue result ↔ IsPage place buffer.now }
+{
+    place < PAGE_LIMIT && buffer.len() == PAGE_SIZE
+}
+
+/// Whether these close the body of an image.
+fn is_body(header: &Header, table: &[u8]) -> bool
+    ensures { IsTrue result ↔ IsBody header.now table.now }
+{
+    header.pages <= PAGE_LIMIT as u64 && !table.is_empty()
+}
+
+/// Where a data page begins.
+fn data_place(place: usize) -> usize
+    requires { place ≤ 65536 }
+    ensures { result ≡ data_place place }
+{
+    HEADER_SIZE + PAGE_SIZE * place
 }
 
 /// What an outcome that is done is to a plan.
@@ -93,30 +119,42 @@ impl Plan {
         }
     }
 
-    /// Writes a data page from byte `place` of the file on.
+    /// Writes the data page with this number: a slot's data pages are counted from 0, up to 65,535. A number beyond
+    /// these and a buffer of other than 4,096 bytes are no page: the plan has no call then.
     pub fn write_page(slot: usize, place: usize, buffer: Vec<u8>) -> Self
-        requires behind { 0 < place }
-        requires some { 0 < length buffer.items }
-        ensures { result ≡ begun slot ((Write place, buffer.items) ∷ []) nothing }
+        ensures page { IsPage place buffer.items → result ≡ begun slot ((Write (data_place place), buffer.items) ∷ []) nothing }
+        ensures other { (IsPage place buffer.items → ⊥) → result ≡ begun slot [] nothing }
     {
-        Plan::new(slot, Job::Steps(Steps::WritePage { at: place, buffer }))
+        if !is_page(place, &buffer) {
+            return Plan::new(slot, Job::Steps(Steps::Done));
+        }
+        let at = data_place(place);
+        Plan::new(slot, Job::Steps(Steps::WritePage { at, buffer }))
     }
 
-    /// Reads a data page from byte `place` of the file on.
+    /// Reads the data page with this number into the buffer. What is no page has no call, as in `write_page`.
     pub fn read_page(slot: usize, place: usize, buffer: Vec<u8>) -> Self
-        ensures { result ≡ begun slot ((Read place, buffer.items) ∷ []) nothing }
+        ensures page { IsPage place buffer.items → result ≡ begun slot ((Read (data_place place), buffer.items) ∷ []) nothing }
+        ensures other { (IsPage place buffer.items → ⊥) → result ≡ begun slot [] nothing }
     {
-        Plan::new(slot, Job::Steps(Steps::ReadPage { at: place, buffer }))
+        if !is_page(place, &buffer) {
+            return Plan::new(slot, Job::Steps(Steps::Done));
+        }
+        let at = data_place(place);
+        Plan::new(slot, Job::Steps(Steps::ReadPage { at, buffer }))
     }
 
     /// Writes the table behind the data pages and the header before them, syncs them, and opens the gate.
-    /// The image is there once the last sync is done.
+    /// The image is there once the last sync is done. A table without bytes and a header that counts more than 65,536
+    /// data pages are of no image: the plan has no call then.
     pub fn close_body(slot: usize, header: Header, table: Vec<u8>) -> Self
-        requires few { header.pages ≤ 65536 }
-        requires some { 0 < length table.items }
-        ensures { result ≡ begun slot (body_calls header table.items) nothing }
+        ensures body { IsBody header table.items → result ≡ begun slot (body_calls header table.items) nothing }
+        ensures other { (IsBody header table.items → ⊥) → result ≡ begun slot [] nothing }
     {
-        let at = HEADER_SIZE + PAGE_SIZE * header.pages as usize;
+        if !is_body(&header, &table) {
+            return Plan::new(slot, Job::Steps(Steps::Done));
+        }
+        let at = data_place(header.pages as usize);
         Plan::new(slot, Job::Steps(Steps::Table { at, table, header }))
     }
 
@@ -145,8 +183,8 @@ impl Plan {
     ///
     /// # Errors
     ///
-    /// `AllocError` where an inspection finds no memory for a buffer: nothing changed.
-    pub fn take(&mut self, worker: Worker, ticket: u64) -> Result<Option<Request>, AllocError>
+    /// `OutOfMemory` where an inspection finds no memory for a buffer: nothing changed.
+    pub fn take(&mut self, worker: Worker, ticket: u64) -> Result<Option<Request>, Refusal>
         ensures given { IfOk result (λ given. MatchOption given
             ((self.new ≡ self.old) × (IsSome self.old.out ⊎ (self.old.calls ≡ [])))
             (λ request. Gives self.old self.new request × (request.note.worker ≡ worker) × (request.note.ticket ≡ ticket))) }

@@ -5,7 +5,7 @@ ghost use Rattle.sd_gate.specs.Calls.{IsInside};
 
 use crate::order::Order;
 use crate::{
-    Answer, Call, Found, Plan, Request, Settled, SlotState, Worker, bodies_fill, cuts_fit,
+    Answer, Call, Found, Plan, Refusal, Request, Settled, SlotState, Worker, bodies_fill, cuts_fit,
     found_fits, given_up_fits, image_whole_or_closed, inspection_tells, perform, plans_lead,
 };
 use sd_disk::{Disk, Fused, MemDisk, Pick};
@@ -144,7 +144,7 @@ fn plans_make_their_calls(rt: HostRuntime) -> Result<(), Fail> {
     )?;
     assert!(rt; file(&rt, &mut disk)?.as_slice() == [0].as_slice());
 
-    let mut writing = Plan::write_page(0, 4096, page(alloc)?);
+    let mut writing = Plan::write_page(0, 0, page(alloc)?);
     calls_of(&rt, &mut disk, &mut writing, &[Call::Write { at: 4096 }])?;
     let Found { len, first, second } = writing.into_found();
     assert!(rt; len.is_none() && first.is_some() && second.is_none());
@@ -166,11 +166,45 @@ fn plans_make_their_calls(rt: HostRuntime) -> Result<(), Fail> {
     assert!(rt; image[8192..] == TABLE[..]);
 
     let buffer = vec![in alloc; 0; 4096]?;
-    let mut reading = Plan::read_page(0, 4096, buffer);
+    let mut reading = Plan::read_page(0, 0, buffer);
     calls_of(&rt, &mut disk, &mut reading, &[Call::Read { at: 4096 }])?;
     let Found { first, .. } = reading.into_found();
     let want = page(alloc)?;
     assert!(rt; first.is_some_and(|read| read.as_slice() == want.as_slice()));
+    Ok(())
+}
+
+#[test]
+fn what_is_no_part_of_an_image_has_no_call(rt: HostRuntime) -> Result<(), Fail> {
+    let alloc = rt.alloc();
+    let many = Header {
+        pages: u64::MAX,
+        ..HEADER
+    };
+    let mut plans = [
+        Plan::write_page(0, 65_536, page(alloc)?),
+        Plan::write_page(0, 0, Vec::new(alloc)),
+        Plan::write_page(0, 0, table(alloc)?),
+        Plan::read_page(0, usize::MAX, page(alloc)?),
+        Plan::read_page(0, 0, table(alloc)?),
+        Plan::close_body(0, HEADER, Vec::new(alloc)),
+        Plan::close_body(0, many, table(alloc)?),
+    ];
+    for plan in &mut plans {
+        assert!(rt; plan.take(Worker::Dumper, 1)?.is_none());
+    }
+    let mut last = Plan::write_page(0, 65_535, page(alloc)?);
+    let Some(request) = last.take(Worker::Dumper, 1)? else {
+        return Err(Fail::from("no request"));
+    };
+    assert_eq!(rt; request.note().call, Call::Write { at: 268_435_456 });
+    Ok(())
+}
+
+#[test]
+fn want_of_memory_has_a_name(rt: HostRuntime) -> Result<(), Fail> {
+    let text = format!(in rt.alloc(); "{}", Refusal::OutOfMemory)?;
+    assert_eq!(rt; text.as_str(), "out-of-memory");
     Ok(())
 }
 
@@ -193,7 +227,7 @@ fn write_image<D: Disk>(
     if formatted != Settled::Finished {
         return Ok(formatted);
     }
-    let mut writing = Plan::write_page(0, 4096, page(alloc)?);
+    let mut writing = Plan::write_page(0, 0, page(alloc)?);
     let written = run(rt, disk, &mut writing, &mut calls)?;
     if written != Settled::Finished {
         return Ok(written);

@@ -4,7 +4,7 @@ use Rattle.std.specs.Prelude.{slice_index, nat_le}
 use Rattle.std.proofs.lemmas.Bool.{and_from, eq-eqb, le-leb}
 use Rattle.std.proofs.lemmas.List.Elements.{All-contains, All-contains_itself}
 use Rattle.sd_image.specs.Image.{Image, IsImage, OpenImages, is_open}
-use Rattle.sd_image.specs.Laws.{AreBelow, ReadyAbove, ReadyAgain, ReadyStill}
+use Rattle.sd_image.specs.Laws.{AreBelow, ReadyAbove, ReadyAgain, ReadyStill, ShownStill}
 use Rattle.sd_image.proofs.ShowsLemmas.{Adds, among_added, distinct_added, images_of_opened, true_not_false}
 
 -- an image's file is open
@@ -55,6 +55,13 @@ ready_still_lem contents n slot file ready within closed shut = record {
   images = ready.images;
   store = record { slots = images_still contents ready.images slot file ready.store.slots within closed shut; serials = ready.store.serials };
   below = ready.below;
+}
+
+pub shown_still_lem : ShownStill
+shown_still_lem contents shown slot file shows within closed shut = record {
+  images = shows.images;
+  store = record { slots = images_still contents shows.images slot file shows.store.slots within closed shut; serials = shows.store.serials };
+  newest = shows.newest;
 }
 
 pub ready_above_lem : ReadyAbove

@@ -127,6 +127,12 @@ ReadyStill = (contents : List (List ℕ)) (n slot : ℕ) (file : List ℕ)
     → IsReady contents n → slot < length contents → is_open (slice_index_or contents slot []) ≡ false → is_open file ≡ false
     → IsReady (slice_set contents slot file) n
 
+-- What is written behind a closed gate leaves what contents show.
+abbrev pub ShownStill : Type 0
+ShownStill = (contents : List (List ℕ)) (shown : Option (ℕ × PlainMemory)) (slot : ℕ) (file : List ℕ)
+    → Shows contents shown → slot < length contents → is_open (slice_index_or contents slot []) ≡ false → is_open file ≡ false
+    → Shows (slice_set contents slot file) shown
+
 -- A store that is ready for a number is ready for each higher one.
 abbrev pub ReadyAbove : Type 0
 ReadyAbove = (contents : List (List ℕ)) (m n : ℕ) → m ≤ n → IsReady contents m → IsReady contents n

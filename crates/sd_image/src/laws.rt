@@ -1,5 +1,5 @@
 //! Laws about images and contents that the layers above use.
-ghost use Rattle.sd_image.specs.Laws.{FewPages, FileIsImage, FirstImageIsShown, HeldOnce, NamedOnce, NewestIsShown, OneImage, OneKind, OneListOfRuns, OnePlace, OneSpelling, OneStore, PageInFile, ReadyAbove, ReadyAgain, ReadyStill, ShownOnce, TipOnce};
+ghost use Rattle.sd_image.specs.Laws.{FewPages, FileIsImage, FirstImageIsShown, HeldOnce, NamedOnce, NewestIsShown, OneImage, OneKind, OneListOfRuns, OnePlace, OneSpelling, OneStore, PageInFile, ReadyAbove, ReadyAgain, ReadyStill, ShownOnce, ShownStill, TipOnce};
 
 /// A whole image, written into a closed slot with numbers above all others, is what contents then show.
 pub fn newest_is_shown()
@@ -14,6 +14,11 @@ pub fn ready_again()
 /// What is written behind a closed gate leaves a store as ready as it was.
 pub fn ready_still()
     ensures { ReadyStill }
+{}
+
+/// What is written behind a closed gate leaves what contents show.
+pub fn shown_still()
+    ensures { ShownStill }
 {}
 
 /// A store that is ready for a number is ready for each higher one.

@@ -21,7 +21,7 @@ pub use header_codec::{decode_header, encode_header};
 pub use laws::{
     few_pages, file_is_image, first_image_is_shown, held_once, named_once, newest_is_shown,
     one_image, one_kind, one_list_of_runs, one_place, one_spelling, one_store, page_in_file,
-    ready_above, ready_again, ready_still, shown_once, tip_once,
+    ready_above, ready_again, ready_still, shown_once, shown_still, tip_once,
 };
 pub use reason::Reason;
 pub use reason_laws::{
