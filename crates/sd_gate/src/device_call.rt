@@ -1,5 +1,5 @@
 //! Making one device call.
-ghost use Rattle.std.specs.Prelude.{◌≡◌, ◌≢◌, ◌⊎◌, ◌<◌, ℕ, true, List, length, MatchResult};
+ghost use Rattle.std.specs.Prelude.{◌≡◌, ◌≢◌, ◌⊎◌, ◌+◌, ◌<◌, ℕ, true, List, length, MatchResult};
 ghost use Rattle.sd_disk.specs.Contents.{file_at};
 ghost use Rattle.sd_disk.specs.Crash.{Follows, OnlyAt, Elapses, LeavesOnly};
 ghost use Rattle.sd_gate.specs.Calls.{call_of, bytes_of, is_done, contents_after, Makes, IsInside, IsSound, IsAnswerTo, AreKept, Tells, HasCause};
@@ -53,6 +53,7 @@ fn make<D: Disk>(disk: &mut D, slot: usize, order: Order) -> (Order, Answer)
     ensures durable { call_of order ≡ Sync → is_done result.1 ≡ true → OnlyAt slot (file_at (D.contents disk.old) slot) (D.may_leave disk.new) }
     ensures time { Elapses (D.moment disk.old) (D.moment disk.new) (D.left_since disk.old) (D.left_since disk.new) (D.may_leave disk.new) }
     ensures honest { D.is_honest disk.new → D.is_honest disk.old }
+    ensures one_call { D.calls disk.new ≡ D.calls disk.old + 1 }
     ensures cause { HasCause (D.failed disk.old) (D.failed disk.new) result.1 }
 {
     match order {
@@ -90,6 +91,8 @@ pub fn perform<D: Disk>(disk: &mut D, request: Request) -> Outcome
     ensures durable { request.note.call ≡ Sync → is_done result.answer ≡ true → OnlyAt request.note.slot (file_at (D.contents disk.old) request.note.slot) (D.may_leave disk.new) }
     ensures time { Elapses (D.moment disk.old) (D.moment disk.new) (D.left_since disk.old) (D.left_since disk.new) (D.may_leave disk.new) }
     ensures honest { D.is_honest disk.new → D.is_honest disk.old }
+    // It is one call, and no other is made.
+    ensures one_call { D.calls disk.new ≡ D.calls disk.old + 1 }
     ensures cause { HasCause (D.failed disk.old) (D.failed disk.new) result.answer }
     // A slot that waits for the call is afterwards in the phase that follows.
     ensures fits { (phase : Phase) (body : List ℕ) → is_ready phase request.note.call ≡ true
