@@ -1,5 +1,6 @@
 -- A merge beside a round.
-use Rattle.std.proofs.Common.{◌≡◌, ◌≢◌, ◌⊎◌, ◌<◌, ◌≤◌, ℕ, List, [], ◌∷◌, Some, Contains, refl, sym, ◌∙◌, ap, subst, inl, inr, arith}
+use Rattle.std.proofs.lemmas.Option.{same_Some, none-some}
+use Rattle.std.proofs.Common.{◌≡◌, ◌≢◌, ◌⊎◌, ◌<◌, ◌≤◌, ℕ, List, [], ◌∷◌, Some, Contains, refl, sym, ◌∙◌, ap, subst, inl, inr, arith, suc, zero, ◌+◌}
 use Rattle.std.specs.List.{IsDistinct, slice_get}
 use Rattle.sd_image.specs.declared.header.Kind.TheVariants.{PreDump, Dump, Merged}
 use Rattle.sd_image.specs.declared.run.RunKind.TheVariants.{Data, Parent, Zero}
@@ -9,7 +10,7 @@ use Rattle.sd_image.specs.Shows.{Holds, by_data, by_zero, by_parent, IsNamed, Is
 use Rattle.sd_needed.specs.Cut.{HoldsAlike, ImagesShow}
 use Rattle.sd_needed.specs.Store.{IsNextDump, IsSound, IsTwin, Store, jobs}
 use Rattle.sd_needed.specs.Steps.{Adds, begun, committed, merging, opened}
-use Rattle.sd_needed.specs.Beliefs.{AreSlotsOf, Belief, Kept, Closing, Opening, IsAdded}
+use Rattle.sd_needed.specs.Beliefs.{AreSlotsOf, Belief, Kept, Closing, Opening, IsAdded, image_at}
 use Rattle.sd_needed.specs.Worked.{MergeBesideRound, busy, busy_slots, memory_of, merged, unchanged, whole}
 use Rattle.sd_needed.proofs.Cuts.{needed_in}
 use Rattle.sd_needed.proofs.Members.{contains_cases, contains_front, contains_later, contains_none}
@@ -173,6 +174,19 @@ module _ (bytes : List ℕ) where
     ]
   ]
 
+  -- each slot's serial is one above its number
+  busy_serial : (x : ℕ) (i : Image) → image_at (busy_slots bytes) x ≡ Some i → i.header.serial ≡ x + 1
+  busy_serial zero i p = ap (λ (k : Image). k.header.serial) (sym (same_Some a i p))
+  busy_serial (suc zero) i p = ap (λ (k : Image). k.header.serial) (sym (same_Some m i p))
+  busy_serial (suc (suc zero)) i p = ap (λ (k : Image). k.header.serial) (sym (same_Some d i p))
+  busy_serial (suc (suc (suc x))) i p = absurd (none-some i p)
+
+  busy_apart : (x y : ℕ) (i j : Image) → image_at (busy_slots bytes) x ≡ Some i → image_at (busy_slots bytes) y ≡ Some j → i.header.serial ≡ j.header.serial → x ≡ y
+  busy_apart x y i j p q e =
+      let one = busy_serial x i p in
+      let other = busy_serial y j q in
+      omega (arith, one, other, e)
+
   busy_are_slots : AreSlotsOf (busy bytes) (Some d) (busy_slots bytes)
   unfolding IsDistinct
   busy_are_slots = record {
@@ -180,7 +194,7 @@ module _ (bytes : List ℕ) where
     needed = λ i n. is_kept i (needed_in (a ∷ []) (jobs (busy bytes)) i n);
     opening = is_added;
     dump = second_dump;
-    serials = ((refl, (refl, tt)), ((refl, tt), (tt, tt)));
+    serials = busy_apart;
   }
 
   -- what is shown
