@@ -1,32 +1,22 @@
 -- A merge beside a round.
-use Rattle.std.proofs.Common.{◌≡◌, ◌≢◌, ◌⊎◌, ◌<◌, ◌≤◌, ℕ, List, [], ◌∷◌, Some, Contains, refl, sym, ◌∙◌, ap, subst, inl, inr, arith}
-use Rattle.std.specs.List.{IsDistinct, slice_get}
+use Rattle.std.proofs.lemmas.Option.{same_Some, none-some}
+use Rattle.std.proofs.Common.{◌≡◌, ◌≢◌, ◌⊎◌, ◌<◌, ◌≤◌, ℕ, List, [], ◌∷◌, Some, Contains, refl, sym, ◌∙◌, ap, subst, inl, inr, arith, suc, zero, ◌+◌}
+use Rattle.std.specs.List.{IsDistinct}
 use Rattle.sd_image.specs.declared.header.Kind.TheVariants.{PreDump, Dump, Merged}
-use Rattle.sd_image.specs.declared.run.RunKind.TheVariants.{Data, Parent, Zero}
-use Rattle.sd_image.specs.Table.{Listed}
+use Rattle.sd_image.specs.declared.run.RunKind.TheVariants.{Data, Parent}
 use Rattle.sd_image.specs.Image.{Image}
-use Rattle.sd_image.specs.Shows.{Holds, by_data, by_zero, by_parent, IsNamed, IsNotAfter, IsRestorable, IsTip, pages_of}
-use Rattle.sd_needed.specs.Cut.{HoldsAlike, ImagesShow}
+use Rattle.sd_image.specs.Shows.{IsNamed, IsNotAfter, IsRestorable, IsTip}
+use Rattle.sd_needed.specs.Cut.{ImagesShow}
 use Rattle.sd_needed.specs.Store.{IsNextDump, IsSound, IsTwin, Store, jobs}
 use Rattle.sd_needed.specs.Steps.{Adds, begun, committed, merging, opened}
-use Rattle.sd_needed.specs.Beliefs.{AreSlotsOf, Belief, Kept, Closing, Opening, IsAdded}
+use Rattle.sd_needed.specs.Beliefs.{AreSlotsOf, Belief, Kept, Closing, Opening, IsAdded, image_at}
 use Rattle.sd_needed.specs.Worked.{MergeBesideRound, busy, busy_slots, memory_of, merged, unchanged, whole}
 use Rattle.sd_needed.proofs.Cuts.{needed_in}
 use Rattle.sd_needed.proofs.Members.{contains_cases, contains_front, contains_later, contains_none}
 use Rattle.sd_needed.proofs.OnePage.{page_memory}
 use Rattle.sd_needed.proofs.Slots.{left_images_show_lem}
 use Rattle.sd_needed.proofs.StepLemmas.{steps_keep_lem}
-use Rattle.sd_needed.proofs.Worked.{each_of_one, each_of_two, holds_unchanged, holds_whole}
-
--- images with the same table and pages hold the same, where no page is left to the parent
-same_bytes : (xs ys : List Image) (space page : ℕ) (bytes : List ℕ) (j i : Image) → i.spaces ≡ j.spaces → i.pages ≡ j.pages
-    → (Contains (pages_of Parent i.spaces) (space, page) → ⊥) → Holds xs space page bytes i → Holds ys space page bytes j
-same_bytes xs ys space page bytes j i spaces pages none (by_data _ place has is) =
-    by_data j place (subst (λ (ss : List Listed). slice_get (pages_of Data ss) place ≡ Some (space, page)) spaces has)
-    (subst (λ (ps : List (List ℕ)). slice_get ps place ≡ Some bytes) pages is)
-same_bytes xs ys space page bytes j i spaces pages none (by_zero _ has is) =
-    by_zero j (subst (λ (ss : List Listed). Contains (pages_of Zero ss) (space, page)) spaces has) is
-same_bytes xs ys space page bytes j i spaces pages none (by_parent _ parent has named holds) = absurd (none has)
+use Rattle.sd_needed.proofs.Worked.{alike_pages, each_of_one, each_of_two, holds_unchanged, holds_whole}
 
 restores : (i : Image) → (i.header.kind ≡ Dump) ⊎ (i.header.kind ≡ Merged) → IsRestorable i
 restores i (inl e) f = let both : Dump ≡ PreDump = sym e ∙ f in absurd cc
@@ -89,20 +79,11 @@ module _ (bytes : List ℕ) where
   busy_sound = steps_keep_lem.begins (merging (committed started (a ∷ [])) a) a merging_sound refl a_tip
 
   -- what is being opened
-  no_parent_page : (space page : ℕ) → Contains (pages_of Parent a.spaces) (space, page) → ⊥
-  no_parent_page space page c = contains_none (space, page) c
-
-  alike : HoldsAlike (a ∷ []) a m
-  alike others space page bytes' = (
-    λ h. same_bytes others (a ∷ []) space page bytes' a m refl refl (no_parent_page space page) h,
-    λ h. same_bytes (a ∷ []) others space page bytes' m a refl refl (no_parent_page space page) h,
-  )
-
   twin : IsTwin (busy bytes).catalog (busy bytes).source m
   twin = record {
     source = a;
     running = refl;
-    repeats = record { checkpoint = refl; stands = refl; areas = refl; bytes = alike };
+    repeats = record { checkpoint = refl; stands = refl; areas = refl; bytes = alike_pages (a ∷ []) Dump Merged 1 2 1 1 bytes };
     restorable = restores m (inr refl);
     alone = refl;
     falls = omega arith;
@@ -173,6 +154,19 @@ module _ (bytes : List ℕ) where
     ]
   ]
 
+  -- each slot's serial is one above its number
+  busy_serial : (x : ℕ) (i : Image) → image_at (busy_slots bytes) x ≡ Some i → i.header.serial ≡ x + 1
+  busy_serial zero i p = ap (λ (k : Image). k.header.serial) (sym (same_Some a i p))
+  busy_serial (suc zero) i p = ap (λ (k : Image). k.header.serial) (sym (same_Some m i p))
+  busy_serial (suc (suc zero)) i p = ap (λ (k : Image). k.header.serial) (sym (same_Some d i p))
+  busy_serial (suc (suc (suc x))) i p = absurd (none-some i p)
+
+  busy_apart : (x y : ℕ) (i j : Image) → image_at (busy_slots bytes) x ≡ Some i → image_at (busy_slots bytes) y ≡ Some j → i.header.serial ≡ j.header.serial → x ≡ y
+  busy_apart x y i j p q e =
+      let one = busy_serial x i p in
+      let other = busy_serial y j q in
+      omega (arith, one, other, e)
+
   busy_are_slots : AreSlotsOf (busy bytes) (Some d) (busy_slots bytes)
   unfolding IsDistinct
   busy_are_slots = record {
@@ -180,7 +174,7 @@ module _ (bytes : List ℕ) where
     needed = λ i n. is_kept i (needed_in (a ∷ []) (jobs (busy bytes)) i n);
     opening = is_added;
     dump = second_dump;
-    serials = ((refl, (refl, tt)), ((refl, tt), (tt, tt)));
+    serials = busy_apart;
   }
 
   -- what is shown

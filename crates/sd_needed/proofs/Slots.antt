@@ -1,7 +1,7 @@
 -- What contents show whose slots are as believed.
-use Rattle.std.proofs.Common.{◌≡◌, ◌⊎◌, ℕ, ◌≤◌, true, false, nat_eq, nat_le, List, [], ◌∷◌, length, map, filter_map, slice_index, Option, Some, None, Contains, IfSome, refl, sym, ◌∙◌, ap, subst, inl, inr, arith}
+use Rattle.std.proofs.Common.{◌≡◌, ◌⊎◌, ℕ, ◌≤◌, true, false, nat_eq, nat_le, List, [], ◌∷◌, length, map, filter_map, slice_index, Option, Some, None, Contains, IfSome, refl, sym, ◌∙◌, ap, subst, inl, inr, arith, suc}
 use Rattle.std.specs.List.{AllByRecursion, AllZip, IsDistinct}
-use Rattle.std.proofs.lemmas.Bool.{and_from, eq-eqb, le-leb}
+use Rattle.std.proofs.lemmas.Bool.{and_from, eq-eqb, le-leb, ne_eqb}
 use Rattle.std.proofs.lemmas.Option.{none-some, same_Some}
 use Rattle.std.proofs.lemmas.List.Elements.{Contains-append_left}
 use Rattle.sd_areas.specs.PlainMemory.{PlainMemory}
@@ -9,7 +9,7 @@ use Rattle.sd_image.specs.Image.{Image, IsImage, OpenImages, is_open}
 use Rattle.sd_image.specs.Shows.{Shows}
 use Rattle.sd_needed.specs.Cut.{ImagesShow, IsHarmless, IsPending}
 use Rattle.sd_needed.specs.Store.{IsMerged, IsNextDump, IsSound, Store, jobs}
-use Rattle.sd_needed.specs.Beliefs.{AreSlotsOf, Belief, Closed, Kept, Closing, Opening, ContentsShow, FitsBelief, IsAdded, IsLeft, LeftImagesShow, image_in}
+use Rattle.sd_needed.specs.Beliefs.{AreSlotsOf, Belief, Closed, Kept, Closing, Opening, ContentsShow, FitsBelief, IsAdded, IsLeft, LeftImagesShow, image_in, image_at}
 use Rattle.sd_needed.proofs.Cuts.{cut_shows_the_same_lem, cut_shows_last_or_pending_lem}
 use Rattle.sd_needed.proofs.Harmless.{dump_is_pending_lem, pre_dump_is_harmless_lem, twin_is_harmless_lem}
 use Rattle.sd_needed.proofs.Members.{contains_cases, contains_front, contains_later, contains_none}
@@ -243,6 +243,31 @@ left_of (Opening i ∷ beliefs) (file ∷ contents) fits =
       | inr is ↦ (i ∷ rest.0, is_there (Opening i) i beliefs contents file rest.0 (inr (inr refl)) is (λ k e. absurd cc) (λ serial all. all) (λ all. all) rest.1)
     ]
 
+-- no two slots have images with one serial
+abbrev AreApart : List Belief → Type 0
+AreApart beliefs = (a b : ℕ) (i j : Image) → image_at beliefs a ≡ Some i → image_at beliefs b ≡ Some j → i.header.serial ≡ j.header.serial → a ≡ b
+
+not_among : (serial : ℕ) (beliefs : List Belief) → ((slot : ℕ) (j : Image) → image_at beliefs slot ≡ Some j → serial ≡ j.header.serial → ⊥) → OthersThan serial (serials_in beliefs)
+not_among serial [] never = tt
+not_among serial (Closed ∷ beliefs) never = not_among serial beliefs (λ slot. never (suc slot))
+not_among serial (Kept i ∷ beliefs) never = (ne_eqb serial i.header.serial (never 0 i refl), not_among serial beliefs (λ slot. never (suc slot)))
+not_among serial (Closing i ∷ beliefs) never = (ne_eqb serial i.header.serial (never 0 i refl), not_among serial beliefs (λ slot. never (suc slot)))
+not_among serial (Opening i ∷ beliefs) never = (ne_eqb serial i.header.serial (never 0 i refl), not_among serial beliefs (λ slot. never (suc slot)))
+
+tail_apart : (b : Belief) (beliefs : List Belief) → AreApart (b ∷ beliefs) → AreApart beliefs
+tail_apart b beliefs apart x y i j p q e = let same = apart (suc x) (suc y) i j p q e in omega (arith, same)
+
+front_apart : (b : Belief) (one : Image) (beliefs : List Belief) → image_in b ≡ Some one → AreApart (b ∷ beliefs) → OthersThan one.header.serial (serials_in beliefs)
+front_apart b one beliefs has apart = not_among one.header.serial beliefs (λ slot j there e. let same = apart 0 (suc slot) one j has there e in absurd (omega (arith, same)))
+
+distinct_serials : (beliefs : List Belief) → AreApart beliefs → IsDistinct nat_eq (serials_in beliefs)
+unfolding IsDistinct
+distinct_serials [] apart = tt
+distinct_serials (Closed ∷ beliefs) apart = distinct_serials beliefs (tail_apart Closed beliefs apart)
+distinct_serials (Kept i ∷ beliefs) apart = (front_apart (Kept i) i beliefs refl apart, distinct_serials beliefs (tail_apart (Kept i) beliefs apart))
+distinct_serials (Closing i ∷ beliefs) apart = (front_apart (Closing i) i beliefs refl apart, distinct_serials beliefs (tail_apart (Closing i) beliefs apart))
+distinct_serials (Opening i ∷ beliefs) apart = (front_apart (Opening i) i beliefs refl apart, distinct_serials beliefs (tail_apart (Opening i) beliefs apart))
+
 shown_by : (beliefs : List Belief) (contents : List (List ℕ)) (images : List Image) (shown : Option (ℕ × PlainMemory)) → Left beliefs contents images
     → IsDistinct nat_eq (serials_in beliefs) → ImagesShow images shown → Shows contents shown
 shown_by beliefs contents images shown left distinct newest =
@@ -252,11 +277,11 @@ pub contents_show_lem : ContentsShow
 contents_show_lem = record {
   last = λ s beliefs contents shown sound slots fits was.
       let left = left_of beliefs contents fits in
-      shown_by beliefs contents left.0 shown left.1 slots.serials (left_last s beliefs left.0 shown sound slots left.1.left was);
+      shown_by beliefs contents left.0 shown left.1 (distinct_serials beliefs slots.serials) (left_last s beliefs left.0 shown sound slots left.1.left was);
   pending = λ s dump beliefs contents last next sound slots fits was follows.
       let left = left_of beliefs contents fits in
       elim (left_pending s dump beliefs left.0 last next sound slots left.1.left was follows) [
-        | inl is ↦ inl (shown_by beliefs contents left.0 last left.1 slots.serials is)
-        | inr is ↦ inr (shown_by beliefs contents left.0 next left.1 slots.serials is)
+        | inl is ↦ inl (shown_by beliefs contents left.0 last left.1 (distinct_serials beliefs slots.serials) is)
+        | inr is ↦ inr (shown_by beliefs contents left.0 next left.1 (distinct_serials beliefs slots.serials) is)
       ];
 }

@@ -1,16 +1,18 @@
 -- What is known of an image to come stays through the steps that others make meanwhile.
-use Rattle.std.proofs.Common.{◌≡◌, ◌≢◌, ℕ, ◌<◌, List, [], ◌∷◌, ◌++◌, Option, Some, Contains, IfSome, sym, ◌∙◌, subst, inl, inr, arith}
+use Rattle.std.proofs.Common.{refl, ◌≡◌, ◌≢◌, ℕ, ◌<◌, List, [], ◌∷◌, ◌++◌, Option, Some, Contains, IfSome, sym, ◌∙◌, subst, inl, inr, arith}
 use Rattle.std.specs.Prelude.{◌↔◌}
 use Rattle.std.proofs.lemmas.List.Elements.{Contains-append_cases, Contains-append_left, Contains-append_right}
 use Rattle.sd_image.specs.Image.{Image}
 use Rattle.sd_image.specs.Shows.{Holds, IsRestorable, IsTip}
-use Rattle.sd_needed.specs.Needed.{IsCalled, by_job}
+use Rattle.sd_needed.specs.Needed.{IsCalled, by_job, by_parent}
+use Rattle.sd_needed.specs.Reached.{itself, beyond}
 use Rattle.sd_needed.specs.Cut.{KeepsItsNumber, Repeats}
 use Rattle.sd_needed.specs.Store.{IsFresh, IsMerged, IsNext, IsNextDump, IsSound, IsTwin, Store, jobs}
 use Rattle.sd_needed.specs.Steps.{Adds, Retires, added, begun, cancelled, committed, merging, replaced, retired}
-use Rattle.sd_needed.specs.Stays.{AreApart, DumpStays, FreshStays, TwinStays}
+use Rattle.sd_needed.specs.Stays.{AreApart, DumpStays, FreshStays, SourceReachesNeeded, TwinStays}
 use Rattle.sd_needed.proofs.Cuts.{cut_holds_the_same_lem, needed_in}
 use Rattle.sd_needed.proofs.Harmless.{unused_is_uncalled_lem}
+use Rattle.sd_needed.proofs.Walks.{reaches_called}
 use Rattle.sd_needed.proofs.Members.{contains_cases, contains_front, contains_none}
 
 -- ---- what holds of each image of a catalog, and of one more
@@ -259,3 +261,9 @@ twin_retires s twin new sound is was = record {
 
 pub twin_stays_lem : TwinStays
 twin_stays_lem = record { adds = twin_adds; retires = twin_retires }
+
+pub source_reaches_needed_lem : SourceReachesNeeded
+source_reaches_needed_lem s source i sound running (itself) = inl refl
+source_reaches_needed_lem s source i sound running (beyond _ up names reaches) =
+    let asked = source_asked s source sound running in
+    inr (reaches_called s.catalog (jobs s) i up (inr (source.header.parent, asked, names)) (by_parent up.header.parent source.header.parent up asked names refl) reaches)

@@ -27,7 +27,7 @@ needed_reached images jobs i (inl tip) = inl (i, tip, itself)
 needed_reached images jobs i (inr named) = called_reached images jobs named.0 i named.1 named.2
 
 -- what an image reaches is called for, where its parent number is
-reaches_called : (images : List Image) (jobs : List ℕ) (i start : Image) → IsNeeded images jobs start → IsCalled images jobs start.header.parent
+pub reaches_called : (images : List Image) (jobs : List ℕ) (i start : Image) → IsNeeded images jobs start → IsCalled images jobs start.header.parent
     → Reaches images i start → IsNeeded images jobs i
 reaches_called images jobs i start needed called (itself) = needed
 reaches_called images jobs i start needed called (beyond _ up names reaches) =

@@ -1,14 +1,16 @@
 -- The worked stores show what they are said to show.
+use Rattle.std.specs.List.{slice_get}
 use Rattle.std.proofs.Common.{◌≡◌, ◌⊎◌, ◌<◌, ◌≤◌, ℕ, List, [], ◌∷◌, Some, Contains, refl, sym, ◌∙◌, ap, subst, inl, inr, arith}
 use Rattle.sd_areas.specs.Pages.{pages_from}
 use Rattle.sd_image.specs.declared.header.Kind.{Kind}
 use Rattle.sd_image.specs.declared.header.Kind.TheVariants.{PreDump, Dump, Merged}
-use Rattle.sd_image.specs.declared.run.RunKind.TheVariants.{Data, Parent}
+use Rattle.sd_image.specs.declared.run.RunKind.TheVariants.{Data, Parent, Zero}
+use Rattle.sd_image.specs.Table.{Listed}
 use Rattle.sd_image.specs.Image.{Image}
-use Rattle.sd_image.specs.Shows.{Holds, by_data, by_parent, IsNamed, IsNotAfter, IsRestorable, IsTip}
+use Rattle.sd_image.specs.Shows.{Holds, by_data, by_parent, IsNamed, IsNotAfter, IsRestorable, IsTip, by_zero, pages_of}
 use Rattle.sd_needed.specs.Reached.{Reaches, itself, beyond}
 use Rattle.sd_needed.specs.Needed.{by_job}
-use Rattle.sd_needed.specs.Cut.{ImagesShow, SerialsDiffer}
+use Rattle.sd_needed.specs.Cut.{ImagesShow, SerialsDiffer, HoldsAlike, Repeats}
 use Rattle.sd_needed.specs.Store.{IsSound}
 use Rattle.sd_needed.specs.Steps.{begun, opened}
 use Rattle.sd_needed.specs.Worked.{ChainRows, WhyItGrows, found, memory_of, merged, one_page, unchanged, whole}
@@ -49,6 +51,26 @@ pub holds_unchanged : (images : List Image) (serial parent checkpoint : ℕ) (by
 unfolding pages_from
 holds_unchanged images serial parent checkpoint bytes i named holds =
     by_parent (unchanged serial parent checkpoint) i (0, omega arith, refl) named holds
+
+-- images with the same table and pages hold the same, where no page is left to the parent
+same_bytes : (xs ys : List Image) (space page : ℕ) (bytes : List ℕ) (j i : Image) → i.spaces ≡ j.spaces → i.pages ≡ j.pages
+    → (Contains (pages_of Parent i.spaces) (space, page) → ⊥) → Holds xs space page bytes i → Holds ys space page bytes j
+same_bytes xs ys space page bytes j i spaces pages none (by_data _ place has is) =
+    by_data j place (subst (λ (ss : List Listed). slice_get (pages_of Data ss) place ≡ Some (space, page)) spaces has)
+    (subst (λ (ps : List (List ℕ)). slice_get ps place ≡ Some bytes) pages is)
+same_bytes xs ys space page bytes j i spaces pages none (by_zero _ has is) =
+    by_zero j (subst (λ (ss : List Listed). Contains (pages_of Zero ss) (space, page)) spaces has) is
+same_bytes xs ys space page bytes j i spaces pages none (by_parent _ parent has named holds) = absurd (none has)
+
+-- a merged image of a page that a dump has repeats it
+pub alike_pages : (images : List Image) (one other : Kind) (serial later stands_for checkpoint : ℕ) (bytes : List ℕ)
+    → HoldsAlike images (one_page one serial stands_for 0 checkpoint Data (bytes ∷ [])) (one_page other later stands_for 0 checkpoint Data (bytes ∷ []))
+alike_pages images one other serial later stands_for checkpoint bytes others space page held =
+    let i = one_page one serial stands_for 0 checkpoint Data (bytes ∷ []) in
+    let j = one_page other later stands_for 0 checkpoint Data (bytes ∷ []) in (
+      λ h. same_bytes others images space page held i j refl refl (λ c. contains_none (space, page) c) h,
+      λ h. same_bytes images others space page held j i refl refl (λ c. contains_none (space, page) c) h,
+    )
 
 dump_restores : (i : Image) → i.header.kind ≡ Dump → IsRestorable i
 dump_restores i e f = let both : Dump ≡ PreDump = sym e ∙ f in absurd cc
@@ -203,6 +225,40 @@ module _ (bytes other : List ℕ) where
         (holds_unchanged (d ∷ found bytes other) 7 5 3 other n n_named_later (holds_whole (d ∷ found bytes other) Merged 6 5 0 1 other)),
   )
 
+  abbrev w : Image
+  w = merged 8 5 2 bytes
+
+  abbrev four : List Image
+  four = d ∷ w ∷ t ∷ n ∷ []
+
+  each_of_four : (P : Image → Type 0) → P d → P w → P t → P n → (i : Image) → Contains four i → P i
+  each_of_four P pd pw pt pn i c = elim (contains_cases d i (w ∷ t ∷ n ∷ []) c) [
+    | inl e ↦ subst P (sym e) pd
+    | inr f ↦ each_of_three P w t n pw pt pn i f
+  ]
+
+  w_named : IsNamed four 5 w
+  w_named = record {
+    member = contains_later d w (w ∷ t ∷ n ∷ []) (contains_front w (t ∷ n ∷ []));
+    stands = refl;
+    greatest = λ j c. each_of_four (λ k. k.header.stands_for ≡ 5 → k.header.serial ≤ 8) (λ e. omega arith) (λ e. omega arith) (λ e. omega arith) (λ e. omega arith) j c;
+  }
+
+  otherwise : ImagesShow four (Some (3, memory_of bytes))
+  otherwise = (
+    d,
+    record {
+      member = contains_front d (w ∷ t ∷ n ∷ []);
+      restorable = dump_restores d refl;
+      greatest = λ j c restorable. each_of_four (λ k. IsNotAfter k d) (inr (refl, omega arith)) (inl (omega arith)) (inl (omega arith)) (inl (omega arith)) j c;
+    },
+    refl,
+    page_memory bytes Dump 7 7 5 3 Parent [] four (holds_unchanged four 7 5 3 bytes w w_named (holds_whole four Merged 8 5 0 2 bytes)),
+  )
+
+  twin : Repeats (found bytes other) t w
+  twin = record { checkpoint = refl; stands = refl; areas = refl; bytes = alike_pages (found bytes other) Dump Merged 5 8 5 2 bytes }
+
   unsound : IsSound (begun (opened (found bytes other)) 5) → ⊥
   unsound sound =
       let named = (sound.tip t found_tip).named (by_job 5 (contains_front 5 [])) in
@@ -216,5 +272,7 @@ module _ (bytes other : List ℕ) where
     shows = (t, found_tip, refl, page_memory bytes Dump 5 5 0 2 Data (bytes ∷ []) (found bytes other) (holds_whole (found bytes other) Dump 5 5 0 2 bytes));
     misnamed = n_named;
     changed = changed;
+    twin = twin;
+    otherwise = otherwise;
     unsound = unsound;
   }

@@ -1,6 +1,6 @@
 -- What is believed of each slot, and what contents that are so show.
-use Rattle.std.specs.Prelude.{◌≡◌, ◌↔◌, ◌⊎◌, ℕ, false, ◌==◌, List, ◌∷◌, map, filter_map, Option, Some, None, Contains, IfSome}
-use Rattle.std.specs.List.{AllZip, IsDistinct}
+use Rattle.std.specs.Prelude.{◌≡◌, ◌↔◌, ◌⊎◌, ℕ, false, List, ◌∷◌, Option, Some, None, Contains, IfSome, option_and_then, slice_get}
+use Rattle.std.specs.List.{AllZip}
 use Rattle.sd_areas.specs.PlainMemory.{PlainMemory}
 use Rattle.sd_image.specs.declared.header.Kind.TheVariants.{PreDump}
 use Rattle.sd_image.specs.Image.{Image, IsImage, is_open}
@@ -23,6 +23,9 @@ image_in (Kept i) = Some i
 image_in (Closing i) = Some i
 image_in (Opening i) = Some i
 
+abbrev pub image_at : List Belief → ℕ → Option Image
+image_at beliefs slot = option_and_then image_in (slice_get beliefs slot)
+
 -- a pre-dump that nobody calls for, also one that was given up; the image of the running merge; or the pending dump
 abbrev pub IsAdded : Store → Option Image → Image → Type 0
 IsAdded s pending i = ((i.header.kind ≡ PreDump) × IsUnused s.catalog (jobs s) i.header.stands_for) ⊎ (IsTwin s.catalog s.source i ⊎ (pending ≡ Some i))
@@ -33,7 +36,7 @@ pub record AreSlotsOf (s : Store) (pending : Option Image) (beliefs : List Belie
   pub needed : (i : Image) → IsNeeded s.catalog (jobs s) i → Contains beliefs (Kept i)
   pub opening : (i : Image) → Contains beliefs (Opening i) → IsAdded s pending i
   pub dump : IfSome pending (IsNextDump s)
-  pub serials : IsDistinct (λ a b. a == b) (map (λ (i : Image). i.header.serial) (filter_map image_in beliefs))
+  pub serials : (a b : ℕ) (i j : Image) → image_at beliefs a ≡ Some i → image_at beliefs b ≡ Some j → i.header.serial ≡ j.header.serial → a ≡ b
 
 -- what a crash may leave of these slots
 pub record IsLeft (beliefs : List Belief) (images : List Image) : Type 0 where

@@ -1,8 +1,10 @@
 -- What is known of an image to come stays through the steps that others make meanwhile.
-use Rattle.std.specs.Prelude.{◌≢◌, List}
+use Rattle.std.specs.Prelude.{◌≡◌, ◌≢◌, ◌⊎◌, List, Some}
 use Rattle.sd_image.specs.Image.{Image}
 use Rattle.sd_image.specs.Shows.{IsTip}
-use Rattle.sd_needed.specs.Store.{IsFresh, IsNext, IsNextDump, IsSound, IsTwin, Store}
+use Rattle.sd_needed.specs.Needed.{IsNeeded}
+use Rattle.sd_needed.specs.Reached.{Reaches}
+use Rattle.sd_needed.specs.Store.{IsFresh, IsNext, IsNextDump, IsSound, IsTwin, Store, jobs}
 use Rattle.sd_needed.specs.Steps.{Adds, Retires, added, begun, cancelled, committed, merging, replaced, retired}
 
 -- two images have neither one serial nor one number
@@ -35,3 +37,7 @@ pub record TwinStays : Type 0 where
       → IsTwin s.catalog s.source twin → IsTwin new s.source twin
   pub retires : (s : Store) (twin : Image) (new : List Image) → IsSound s → Retires s new
       → IsTwin s.catalog s.source twin → IsTwin new s.source twin
+
+-- What the source of a running merge reaches is needed, itself aside.
+abbrev pub SourceReachesNeeded : Type 0
+SourceReachesNeeded = (s : Store) (source i : Image) → IsSound s → s.source ≡ Some source → Reaches s.catalog i source → (i ≡ source) ⊎ IsNeeded s.catalog (jobs s) i

@@ -10,7 +10,7 @@ use Rattle.sd_image.specs.Image.{Image}
 use Rattle.sd_image.specs.Laws.{first_memory}
 use Rattle.sd_image.specs.Shows.{IsNamed, IsTip}
 use Rattle.sd_needed.specs.Reached.{Reaches}
-use Rattle.sd_needed.specs.Cut.{ImagesShow}
+use Rattle.sd_needed.specs.Cut.{ImagesShow, Repeats}
 use Rattle.sd_needed.specs.Store.{IsSound, Store}
 use Rattle.sd_needed.specs.Steps.{begun, opened}
 use Rattle.sd_needed.specs.Beliefs.{AreSlotsOf, Belief, Kept, Opening, IsLeft}
@@ -64,12 +64,14 @@ pub record MergeBesideRound (bytes : List ℕ) : Type 0 where
 abbrev pub found : List ℕ → List ℕ → List Image
 found bytes other = whole 5 2 bytes ∷ merged 6 5 1 other ∷ []
 
--- There an incremental checkpoint of a memory that didn't change would show other bytes: so it may begin only where a
--- checkpoint was acknowledged since the store was opened.
+-- There an incremental checkpoint of a memory that didn't change would show other bytes, and the tip's again once a merged
+-- image of the tip is there: so it may begin only where a checkpoint was acknowledged since the store was opened.
 pub record WhyItGrows (bytes other : List ℕ) : Type 0 where
   pub sound : IsSound (opened (found bytes other))
   pub tip : IsTip (found bytes other) (whole 5 2 bytes)
   pub shows : ImagesShow (found bytes other) (Some (2, memory_of bytes))
   pub misnamed : IsNamed (found bytes other) 5 (merged 6 5 1 other)
   pub changed : ImagesShow (unchanged 7 5 3 ∷ found bytes other) (Some (3, memory_of other))
+  pub twin : Repeats (found bytes other) (whole 5 2 bytes) (merged 8 5 2 bytes)
+  pub otherwise : ImagesShow (unchanged 7 5 3 ∷ merged 8 5 2 bytes ∷ found bytes other) (Some (3, memory_of bytes))
   pub unsound : IsSound (begun (opened (found bytes other)) 5) → ⊥

@@ -4,7 +4,7 @@ ghost use Rattle.sd_needed.specs.Cut.{CutHoldsTheSame, CutShowsTheSame, CutShows
 ghost use Rattle.sd_needed.specs.Gates.{LeftAsBelieved};
 ghost use Rattle.sd_needed.specs.Harmless.{DumpIsPending, PreDumpIsHarmless, TwinIsHarmless, UnusedIsUncalled};
 ghost use Rattle.sd_needed.specs.Needed.{NeededIsReached};
-ghost use Rattle.sd_needed.specs.Stays.{DumpStays, FreshStays, TwinStays};
+ghost use Rattle.sd_needed.specs.Stays.{DumpStays, FreshStays, SourceReachesNeeded, TwinStays};
 ghost use Rattle.sd_needed.specs.Steps.{StepsKeep};
 ghost use Rattle.sd_needed.specs.Opens.{OpenedIsSound, OrderIsFree, StepsShow};
 ghost use Rattle.sd_needed.specs.Reached.{CatalogFalls, CatalogReachesSo};
@@ -66,6 +66,11 @@ pub fn dump_is_pending()
 /// Each step keeps a store sound.
 pub fn steps_keep()
     ensures { StepsKeep }
+{}
+
+/// What the source of a running merge reaches is needed, itself aside.
+pub fn source_reaches_needed()
+    ensures { SourceReachesNeeded }
 {}
 
 /// A store that is read without a fault is sound as it is opened.
