@@ -2,3 +2,7 @@ pub mod TakeLemmas
 pub mod FileLemmas
 pub mod ScanLemmas
 pub mod GoodLemmas
+pub mod MappedLemmas
+pub mod PlacedLemmas
+pub mod MemoryLemmas
+pub mod ShowLemmas

@@ -1,6 +1,6 @@
 -- The catalog and the serials of the first slots, one slot more.
-use Rattle.std.proofs.Common.{◌≡◌, ◌<◌, ◌+◌, ℕ, Bool, true, false, not, nat_eq, cond, ◌||◌, List, [], ◌∷◌, ◌++◌, map, take, length, MatchOption, Option, None, Some, refl, sym, ◌∙◌, ap, subst, inr, arith}
-use Rattle.std.specs.Prelude.{is_some}
+use Rattle.std.proofs.Common.{◌≡◌, ◌<◌, ◌+◌, ℕ, Bool, true, false, not, nat_eq, cond, ◌||◌, List, [], ◌∷◌, ◌++◌, map, filter, take, length, MatchOption, All, Contains, Option, None, Some, refl, sym, ◌∙◌, ap, subst, inl, inr, arith, length-append}
+use Rattle.std.specs.Prelude.{is_some, ◌⊎◌, slice_index_or}
 use Rattle.std.specs.List.{list_any, IsDistinct}
 use Rattle.std.proofs.lemmas.Bool.Decides.{nat_tests}
 use Rattle.std.proofs.lemmas.Cmp.{nat_eq_equiv}
@@ -11,7 +11,12 @@ use Rattle.sd_disk.specs.Contents.{file_at}
 use Rattle.sd_image.specs.declared.header.Header.{Header}
 use Rattle.sd_image.specs.Image.{Image, IsImage, is_open}
 use Rattle.sd_image.specs.Shows.{IsStore}
-use Rattle.sd_chain.specs.Catalog.{Opened, Places, place_of, Changes}
+use Rattle.sd_image.specs.Header.{AreNumbers}
+use Rattle.sd_image.specs.declared.header.Kind.{Kind}
+use Rattle.sd_image.specs.declared.header.Kind.TheVariants.{PreDump, Dump, Merged}
+use Rattle.sd_image.specs.Table.{IsTable}
+use Rattle.std.proofs.lemmas.List.Elements.{All-contains, Contains-get_or, filter-append}
+use Rattle.sd_chain.specs.Catalog.{Opened, Places, place_of, Changes, images}
 use Rattle.sd_chain.specs.Store.{IsCatalogOf}
 use Rattle.sd_chain.specs.Laws.{EmptyCatalog, ClosedSlotAddsNothing, OpenSlotAddsItsImage}
 use Rattle.sd_image.specs.declared.reason.Reason.{Reason}
@@ -20,7 +25,7 @@ use Rattle.sd_restore.specs.declared.fault.Fault.{Fault}
 use Rattle.sd_restore.specs.declared.fault.Fault.TheVariants.{EmptyChain, Damaged, Device, OutOfMemory}
 use Rattle.sd_restore.specs.Faulty.{Names, AreReadable, IsFaulty, IsFirstFaulty, IsFirstDouble, IsDamage}
 use Rattle.sd_restore.specs.declared.scanned.Scanned.{Scanned}
-use Rattle.sd_restore.specs.Scanned.{has_image, IsScan, IsScanned}
+use Rattle.sd_restore.specs.Scanned.{has_image, AreRead, IsScan, IsScanned}
 use Rattle.sd_restore.proofs.TakeLemmas.{taken_at, taken_all}
 use Rattle.sd_restore.proofs.FileLemmas.{open_more, closed_more}
 
@@ -90,6 +95,60 @@ scan_open law files old new file i image was opens is header spaces slot none ch
 length_of_files : (contents : List (List ℕ)) (slot : ℕ) → slot < length contents → slot ≡ length (take slot contents)
 length_of_files contents slot less = sym (length-take-le slot contents (omega (arith, less)))
 
+-- How many slots are open, one slot more.
+
+count_file : (file : List ℕ) (b : Bool) → is_open file ≡ b → length (filter is_open (file ∷ [])) ≡ cond b 1 0
+count_file file b is = ap (λ b. length (cond b (file ∷ []) [])) is ∙ by b
+  where
+    by : (b : Bool) → length (cond b (file ∷ []) []) ≡ cond b 1 0
+    by true = refl
+    by false = refl
+
+count_more : (contents : List (List ℕ)) (slot : ℕ) (b : Bool) → slot < length contents → is_open (file_at contents slot) ≡ b
+    → length (filter is_open (take (slot + 1) contents)) ≡ length (filter is_open (take slot contents)) + cond b 1 0
+count_more contents slot b less is =
+    ap (λ files. length (filter is_open files)) (taken_at contents slot [] less)
+    ∙ ap length (filter-append is_open (take slot contents) (file_at contents slot ∷ []))
+    ∙ length-append (filter is_open (take slot contents)) (filter is_open (file_at contents slot ∷ []))
+    ∙ ap (λ n. length (filter is_open (take slot contents)) + n) (count_file (file_at contents slot) b is)
+
+count_open : (contents : List (List ℕ)) (slot : ℕ) → slot < length contents → is_open (file_at contents slot) ≡ true
+    → length (filter is_open (take (slot + 1) contents)) ≡ length (filter is_open (take slot contents)) + 1
+count_open contents slot less opens = count_more contents slot true less opens
+
+count_closed : (contents : List (List ℕ)) (slot : ℕ) → slot < length contents → is_open (file_at contents slot) ≡ false
+    → length (filter is_open (take (slot + 1) contents)) ≡ length (filter is_open (take slot contents))
+count_closed contents slot less closed = count_more contents slot false less closed ∙ omega arith
+
+-- What was read of any device, one image more.
+
+pub none_read : (count : ℕ) → AreRead count []
+none_read count = record { slots = λ k d less. absurd (omega (arith, less)); are = record { tables = λ k d less. absurd (omega (arith, less)); fall = λ k d less. absurd (omega (arith, less)) } }
+
+all_more : (P : Opened → Type 0) (old new : Places) (i : Opened) → ((j : Opened) → Contains (images new) j → Contains (images old) j ⊎ (j ≡ i)) → P i → All P (images old) → All P (images new)
+all_more P old new i others here all k d less = elim (others (slice_index_or (images new) k d) (Contains-get_or (images new) k d less)) [
+  | inl before ↦ All-contains P (images old) _ all before
+  | inr is ↦ subst P (sym is) here
+]
+
+pub one_more_read : (count : ℕ) (old new : Places) (i : Opened) → ((j : Opened) → Contains (images new) j → Contains (images old) j ⊎ (j ≡ i)) → i.slot < count
+    → IsTable i.header i.spaces → i.header.parent < i.header.stands_for → AreRead count old → AreRead count new
+one_more_read count old new i others within table falls was = record {
+  slots = all_more (λ (j : Opened). j.slot < count) old new i others within was.slots;
+  are = record {
+    tables = all_more (λ (j : Opened). IsTable j.header j.spaces) old new i others table was.are.tables;
+    fall = all_more (λ (j : Opened). j.header.parent < j.header.stands_for) old new i others falls was.are.fall;
+  };
+}
+
+pub parent_falls : (h : Header) → AreNumbers h.kind h.serial h.stands_for h.parent → h.parent < h.stands_for
+parent_falls h numbers = by h.kind numbers
+  where
+    by : (kind : Kind) → AreNumbers kind h.serial h.stands_for h.parent → h.parent < h.stands_for
+    by PreDump n = omega (arith, n.0, n.1)
+    by Dump n = omega (arith, n.0, n.1)
+    by Merged n = omega (arith, n.0, n.2)
+
 -- Each of these is said of the slots up to one, and of that slot's file.
 
 -- what a state says where there is no double serial, and where there is one
@@ -99,12 +158,13 @@ state_more : (contents : List (List ℕ)) (slot : ℕ) (old new : Places) (doubl
 state_more contents slot old new None more less state = subst (λ files. IsScan files new) (sym (taken_at contents slot [] less)) (more state)
 state_more contents slot old new (Some first) more less state = state
 
-pub none_scanned : EmptyCatalog → (contents : List (List ℕ)) → IsScanned contents 0 (record { catalog = []; double = None })
-none_scanned law contents = record { readable = record { images = []; are = refl }; state = scan_of_nothing law }
+pub none_scanned : EmptyCatalog → (contents : List (List ℕ)) → IsScanned contents 0 (record { catalog = []; images = 0; double = None })
+none_scanned law contents = record { readable = record { images = []; are = refl }; counted = refl; state = scan_of_nothing law }
 
 pub closed_scanned : ClosedSlotAddsNothing → (contents : List (List ℕ)) (slot : ℕ) (scanned : Scanned) → slot < length contents → is_open (file_at contents slot) ≡ false
     → IsScanned contents slot scanned → IsScanned contents (slot + 1) scanned
 closed_scanned law contents slot scanned less closed was = record {
+  counted = was.counted ∙ sym (count_closed contents slot less closed);
   readable = subst AreReadable (sym (taken_at contents slot [] less)) (readable_closed (take slot contents) (file_at contents slot) was.readable closed);
   state = state_more contents slot scanned.catalog scanned.catalog scanned.double
       (λ scan. scan_closed law (take slot contents) scanned.catalog (file_at contents slot) scan closed) less was.state;
@@ -114,8 +174,9 @@ pub open_scanned : OpenSlotAddsItsImage → (contents : List (List ℕ)) (slot :
     → is_open (file_at contents slot) ≡ true → IsImage (file_at contents slot) image → image.header ≡ i.header → image.spaces ≡ i.spaces → i.slot ≡ slot
     → ((other : Opened) → place_of scanned.catalog i.header.serial ≡ Some (Some other) → ⊥)
     → Changes scanned.catalog new i.header.serial (Some (Some i))
-    → IsScanned contents slot scanned → IsScanned contents (slot + 1) (record { catalog = new; double = scanned.double })
+    → IsScanned contents slot scanned → IsScanned contents (slot + 1) (record { catalog = new; images = scanned.images + 1; double = scanned.double })
 open_scanned law contents slot scanned new i image less opens is header spaces at none changes was = record {
+  counted = ap (λ n. n + 1) was.counted ∙ sym (count_open contents slot less opens);
   readable = subst AreReadable (sym (taken_at contents slot [] less)) (readable_open (take slot contents) (file_at contents slot) image was.readable opens is);
   state = state_more contents slot scanned.catalog new scanned.double
       (λ scan. scan_open law (take slot contents) scanned.catalog new (file_at contents slot) i image scan opens is header spaces (at ∙ length_of_files contents slot less) none changes) less was.state;
@@ -148,8 +209,9 @@ first_before contents slot old new (Some first) none is has state = state
 pub double_first : (contents : List (List ℕ)) (slot : ℕ) (scanned : Scanned) (new : Places) (i : Opened) (image : Image) {h : Header} (none : Bool) → none ≡ true → is_some scanned.double ≡ not none
     → slot < length contents → is_open (file_at contents slot) ≡ true → IsImage (file_at contents slot) image → image.header ≡ h
     → place_of scanned.catalog h.serial ≡ Some (Some i)
-    → IsScanned contents slot scanned → IsScanned contents (slot + 1) (record { catalog = new; double = Some slot })
+    → IsScanned contents slot scanned → IsScanned contents (slot + 1) (record { catalog = new; images = scanned.images + 1; double = Some slot })
 double_first contents slot scanned new i image none is_none has less opens is header there was = record {
+  counted = ap (λ n. n + 1) was.counted ∙ sym (count_open contents slot less opens);
   readable = subst AreReadable (sym (taken_at contents slot [] less)) (readable_open (take slot contents) (file_at contents slot) image was.readable opens is);
   state = first_here contents slot scanned.catalog scanned.double none is_none has
       (first_double contents slot scanned.catalog i image opens is (ap (λ h. place_of scanned.catalog h.serial) header ∙ there)) was.state;
@@ -157,8 +219,9 @@ double_first contents slot scanned new i image none is_none has less opens is he
 
 pub double_again : (contents : List (List ℕ)) (slot : ℕ) (scanned : Scanned) (new : Places) (image : Image) (none : Bool) → none ≡ false → is_some scanned.double ≡ not none
     → slot < length contents → is_open (file_at contents slot) ≡ true → IsImage (file_at contents slot) image
-    → IsScanned contents slot scanned → IsScanned contents (slot + 1) (record { catalog = new; double = scanned.double })
+    → IsScanned contents slot scanned → IsScanned contents (slot + 1) (record { catalog = new; images = scanned.images + 1; double = scanned.double })
 double_again contents slot scanned new image none is_none has less opens is was = record {
+  counted = ap (λ n. n + 1) was.counted ∙ sym (count_open contents slot less opens);
   readable = subst AreReadable (sym (taken_at contents slot [] less)) (readable_open (take slot contents) (file_at contents slot) image was.readable opens is);
   state = first_before contents slot scanned.catalog new scanned.double none is_none has was.state;
 }
@@ -196,3 +259,6 @@ store_of_all contents scanned is was =
     let scan : IsScan (take (length contents) contents) scanned.catalog =
     subst (λ double. MatchOption double (IsScan (take (length contents) contents) scanned.catalog) (IsFirstDouble contents)) is was.state in
     (scan.images, subst (λ files. IsStore files scan.images) (taken_all contents (length contents) (omega arith)) scan.store)
+
+pub count_of_all : (contents : List (List ℕ)) (scanned : Scanned) → IsScanned contents (length contents) scanned → scanned.images ≡ length (filter is_open contents)
+count_of_all contents scanned was = was.counted ∙ ap (λ files. length (filter is_open files)) (taken_all contents (length contents) (omega arith))

@@ -1,7 +1,10 @@
 -- The part of a list that a loop has passed, and what is left of it.
-use Rattle.std.proofs.Common.{◌≡◌, ◌<◌, ◌≤◌, ◌+◌, ℕ, zero, suc, List, [], ◌∷◌, ◌++◌, take, drop, length, slice_index_or, refl, sym, ◌∙◌, ap, arith, add-one}
+use Rattle.std.proofs.Common.{◌≡◌, ◌<◌, ◌≤◌, ◌+◌, ℕ, zero, suc, List, [], ◌∷◌, ◌++◌, take, drop, length, slice_index_or, refl, sym, ◌∙◌, ap, subst, arith, add-one, Contains, append-nil}
 use Rattle.std.proofs.Math.Seq.{take-suc}
-use Rattle.std.proofs.lemmas.List.{drop_more}
+use Rattle.std.specs.List.{flat_map}
+use Rattle.std.proofs.lemmas.Grind.{flat_map-append}
+use Rattle.std.proofs.lemmas.List.Elements.{Contains-append_left, Contains-append_right}
+use Rattle.std.proofs.lemmas.List.{drop_more, take-append-drop}
 
 -- one more was passed
 pub taken : {X : Type 0} (xs : List X) (i : ℕ) (x : X) → i < length xs → x ≡ slice_index_or xs i x → take (i + 1) xs ≡ take i xs ++ x ∷ []
@@ -21,3 +24,25 @@ left xs i x less is = drop_more xs i x less ∙ ap (λ y. y ∷ drop (i + 1) xs)
 -- the same, where another value stands for what is past the end
 pub taken_at : {X : Type 0} (xs : List X) (i : ℕ) (d : X) → i < length xs → take (i + 1) xs ≡ take i xs ++ slice_index_or xs i d ∷ []
 taken_at xs i d less = ap (λ k. take k xs) (add-one i) ∙ take-suc xs i d less
+
+-- the parts of those that were passed, and of the next
+module _ {X Y : Type 0} (f : X → List Y) (xs : List X) (i : ℕ) (x : X) (less : i < length xs) (is : x ≡ slice_index_or xs i x) where
+  pub taken_parts : flat_map f (take (i + 1) xs) ≡ flat_map f (take i xs) ++ f x
+  taken_parts = ap (flat_map f) (taken xs i x less is) ∙ flat_map-append f (take i xs) (x ∷ []) ∙ ap (λ ys. flat_map f (take i xs) ++ ys) (append-nil (f x))
+
+  pub split_parts : flat_map f xs ≡ (flat_map f (take i xs) ++ f x) ++ flat_map f (drop (i + 1) xs)
+  split_parts =
+      ap (flat_map f) (sym (take-append-drop (i + 1) xs)) ∙ flat_map-append f (take (i + 1) xs) (drop (i + 1) xs)
+      ∙ ap (λ ys. ys ++ flat_map f (drop (i + 1) xs)) taken_parts
+
+  pub among_parts : (y : Y) → Contains (f x) y → Contains (flat_map f xs) y
+  among_parts y c = within xs i less is
+    where
+      within : (xs : List X) (i : ℕ) → i < length xs → x ≡ slice_index_or xs i x → Contains (flat_map f xs) y
+      within [] i less is = absurd (omega arith)
+      within (z ∷ xs) zero less is = Contains-append_left (f z) (flat_map f xs) y (subst (λ (w : X). Contains (f w) y) is c)
+      within (z ∷ xs) (suc i) less is = Contains-append_right (f z) (flat_map f xs) y (within xs i (omega arith) is)
+
+-- the next one is an element
+pub contains_at : {X : Type 0} (xs : List X) (i : ℕ) (x : X) → i < length xs → x ≡ slice_index_or xs i x → Contains xs x
+contains_at xs i x less is = (i, less, sym is)

@@ -1,14 +1,19 @@
 -- Which slot is at fault, and why.
-use Rattle.std.specs.Prelude.{◌≡◌, ◌⊎◌, ◌==◌, ℕ, true, List, map, take, Err, IsTrue}
+use Rattle.std.specs.Prelude.{◌≡◌, ◌⊎◌, ◌==◌, ℕ, true, List, ◌∷◌, ◌++◌, map, take, All, Err, IsTrue}
 use Rattle.std.specs.List.{list_any}
 use Rattle.sd_disk.specs.Contents.{file_at}
 use Rattle.sd_image.specs.declared.reason.Reason.{Reason}
-use Rattle.sd_image.specs.declared.reason.Reason.TheVariants.{DoubleSerial}
+use Rattle.sd_image.specs.declared.reason.Reason.TheVariants.{Chain, DoubleSerial}
 use Rattle.sd_image.specs.Image.{Image, IsImage, OpenImages, is_open}
 use Rattle.sd_image.specs.Shows.{IsStore}
 use Rattle.sd_image.specs.Reading.{file_in}
+use Rattle.sd_chain.specs.declared.found.Found.{Found}
+use Rattle.sd_chain.specs.Catalog.{Opened, Places, AreInOrder, IsTip}
+use Rattle.sd_chain.specs.Store.{IsCatalogOf}
+use Rattle.sd_chain.specs.Ways.{LiesBySerial, BreaksBySerial}
 use Rattle.sd_restore.specs.declared.fault.Fault.{Fault}
 use Rattle.sd_restore.specs.declared.fault.Fault.TheVariants.{EmptyChain, Damaged, Device, OutOfMemory}
+use Rattle.sd_restore.specs.Mapped.{Mapped, mapped_pages}
 
 -- a fault that names a slot and a reason has them rightly
 abbrev pub Names : (ℕ → Reason → Type 0) → Fault → Type 0
@@ -50,3 +55,24 @@ pub record IsDoubleSerial (contents : List (List ℕ)) (slot : ℕ) (reason : Re
 -- what a damaged slot is reported for: a fault of its own, or else its serial
 abbrev pub IsDamage : List (List ℕ) → ℕ → Reason → Type 0
 IsDamage contents slot reason = IsFirstFaulty contents slot reason ⊎ IsDoubleSerial contents slot reason
+
+-- of these pages of the image of a serial, this is the first whose chain breaks: it breaks at the image of this slot
+pub record IsFirstBreak (places : Places) (serial : ℕ) (pages : List Mapped) (slot : ℕ) (reason : Reason) : Type 0 where
+  pub why : reason ≡ Chain
+  pub before : List Mapped
+  pub page : Mapped
+  pub after : List Mapped
+  pub are : pages ≡ before ++ page ∷ after
+  pub held : All (λ (m : Mapped). (there : Found) × LiesBySerial places serial (m.space, m.page) there) before
+  pub breaks : BreaksBySerial places serial (page.space, page.page) slot
+
+-- the slots are a store, and of the pages of its newest image the first whose chain breaks does so at the image of this slot
+pub record IsBrokenChain (contents : List (List ℕ)) (slot : ℕ) (reason : Reason) : Type 0 where
+  pub images : List Image
+  pub store : IsStore contents images
+  pub places : Places
+  pub order : AreInOrder places
+  pub catalog : IsCatalogOf contents places
+  pub tip : Opened
+  pub newest : IsTip places tip
+  pub first : IsFirstBreak places tip.header.serial (mapped_pages tip.spaces) slot reason

@@ -1,10 +1,11 @@
 -- What was found in the first slots.
-use Rattle.std.specs.Prelude.{◌≡◌, ◌==◌, ℕ, Bool, true, false, List, map, take, Option, None, Some, MatchOption}
+use Rattle.std.specs.Prelude.{◌≡◌, ◌==◌, ℕ, ◌<◌, Bool, true, false, List, map, filter, take, length, All, Option, None, Some, MatchOption}
 use Rattle.std.specs.List.{list_any}
-use Rattle.sd_image.specs.Image.{Image}
+use Rattle.sd_image.specs.Image.{Image, is_open}
 use Rattle.sd_image.specs.Shows.{IsStore}
-use Rattle.sd_chain.specs.Catalog.{Opened, Places, place_of}
+use Rattle.sd_chain.specs.Catalog.{Opened, Places, place_of, images}
 use Rattle.sd_chain.specs.Store.{IsCatalogOf}
+use Rattle.sd_chain.specs.Ways.{AreImages}
 use Rattle.sd_restore.specs.declared.scanned.Scanned.{Scanned}
 use Rattle.sd_restore.specs.Faulty.{AreReadable, IsFirstDouble}
 
@@ -21,7 +22,13 @@ pub record IsScan (files : List (List ℕ)) (places : Places) : Type 0 where
   pub store : IsStore files images
   pub serials : (serial : ℕ) → has_image (place_of places serial) ≡ list_any (λ other. serial == other) (map (λ (i : Image). i.header.serial) images)
 
+-- what was read, also of a device that lied: the images are in so many slots, their tables are tables, and their parents fall
+pub record AreRead (count : ℕ) (places : Places) : Type 0 where
+  pub slots : All (λ i. i.slot < count) (images places)
+  pub are : AreImages places
+
 -- the first slots are readable, and have a catalog, or a first double serial among them
 pub record IsScanned (contents : List (List ℕ)) (count : ℕ) (scanned : Scanned) : Type 0 where
   pub readable : AreReadable (take count contents)
+  pub counted : scanned.images ≡ length (filter is_open (take count contents))
   pub state : MatchOption scanned.double (IsScan (take count contents) scanned.catalog) (IsFirstDouble contents)

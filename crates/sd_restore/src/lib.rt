@@ -1,14 +1,23 @@
 //! Reading any store: its open images, and what is wrong with it.
 #![tactic(auto)]
 
+mod chain;
 mod decoded;
 mod fault;
+mod pages;
+mod placed_page;
+mod report;
+mod restoring;
 mod scanned;
 mod slot_reader;
 mod slots;
+mod verifying;
 
 pub use fault::Fault;
+pub use report::Report;
+pub use restoring::restore;
 pub use slots::scan;
+pub use verifying::verify;
 
 #[cfg(test)]
 mod tests;

@@ -1,5 +1,5 @@
 //! Reading one slot: its gate, its header and its table.
-ghost use Rattle.std.specs.Prelude.{◌≡◌, ◌≢◌, ◌+◌, ◌*◌, ◌<◌, ◌≤◌, ◌^◌, List, ℕ, length, map, drop, Some, IfOk, IfErr, IsErrOf, slice_range};
+ghost use Rattle.std.specs.Prelude.{◌≡◌, ◌≢◌, ◌+◌, ◌*◌, ◌<◌, ◌≤◌, ◌^◌, List, ℕ, length, map, drop, Some, IfOk, IfSome, IfErr, IsErrOf, slice_range};
 ghost use Rattle.sd_disk.specs.Contents.{file_at};
 ghost use Rattle.sd_disk.specs.Crash.{Within};
 ghost use Rattle.sd_disk.specs.Failures.{HasCause};
@@ -7,7 +7,7 @@ ghost use Rattle.sd_image.specs.Header.{header_text, IsHeader};
 ghost use Rattle.sd_image.specs.Table.{listed, table_text, IsTable};
 ghost use Rattle.sd_image.specs.Reading.{header_in, table_in};
 ghost use Rattle.sd_restore.specs.Faulty.{Names, IsFaulty};
-ghost use Rattle.sd_restore.specs.Reading.{IsReading};
+ghost use Rattle.sd_restore.specs.Reading.{IsReading, IsSound};
 
 use crate::decoded::Decoded;
 use crate::fault::Fault;
@@ -98,6 +98,7 @@ pub fn read_slot<D: Disk>(
 ) -> Result<Option<Decoded>, Fault>
     requires { slot < length (D.contents disk.old) }
     ensures reading { D.is_honest disk.new → IfOk result (IsReading (file_at (D.contents disk.old) slot)) }
+    ensures sound { IfOk result (λ opened. IfSome opened IsSound) }
     ensures faulty { D.is_honest disk.new → IfErr result (Names (λ s reason. (s ≡ slot) × IsFaulty (file_at (D.contents disk.old) slot) reason)) }
     ensures same { D.contents disk.new ≡ D.contents disk.old }
     ensures crash { Within (D.may_leave disk.new) (D.may_leave disk.old) }

@@ -1,12 +1,14 @@
 //! The open images of a store.
-ghost use Rattle.std.specs.Prelude.{◌≡◌, ◌≢◌, ◌+◌, ◌<◌, ◌≤◌, List, length, IfOk, IfErr, OnOk, IsErrOf};
+ghost use Rattle.std.specs.Prelude.{◌≡◌, ◌≢◌, ◌+◌, ◌-◌, ◌^◌, ◌<◌, ◌≤◌, List, length, filter, All, IfOk, IfErr, OnOk, IsErrOf};
 ghost use Rattle.sd_disk.specs.Contents.{file_at};
 ghost use Rattle.sd_disk.specs.Crash.{Within};
-ghost use Rattle.sd_image.specs.Image.{Image};
+ghost use Rattle.sd_image.specs.Image.{Image, is_open};
 ghost use Rattle.sd_image.specs.Shows.{IsStore};
+ghost use Rattle.sd_chain.specs.Catalog.{images};
 ghost use Rattle.sd_chain.specs.Store.{IsCatalogOf};
+ghost use Rattle.sd_chain.specs.Ways.{AreImages};
 ghost use Rattle.sd_restore.specs.Faulty.{Names, IsFaulty, IsFirstFaulty, IsDamage};
-ghost use Rattle.sd_restore.specs.Scanned.{IsScanned};
+ghost use Rattle.sd_restore.specs.Scanned.{AreRead, IsScanned};
 
 use crate::fault::Fault;
 use crate::scanned::Scanned;
@@ -23,8 +25,12 @@ fn scan_slot<D: Disk>(
     slot: usize,
     scanned: &mut Scanned,
 ) -> Result<(), Fault>
-    requires { slot < length (D.contents disk.old) }
+    requires slot { slot < length (D.contents disk.old) }
+    requires room { scanned.old.images ≤ slot }
+    requires fits { slot < 2 ^ 64 - 1 }
     ensures scanned { D.is_honest disk.new → OnOk result (IsScanned (D.contents disk.old) slot scanned.old → IsScanned (D.contents disk.old) (slot + 1) scanned.new) }
+    ensures read { AreRead (length (D.contents disk.old)) scanned.old.catalog → OnOk result (AreRead (length (D.contents disk.old)) scanned.new.catalog) }
+    ensures room { OnOk result (scanned.new.images ≤ slot + 1) }
     ensures faulty { D.is_honest disk.new → IfErr result (Names (λ s reason. (s ≡ slot) × IsFaulty (file_at (D.contents disk.old) slot) reason)) }
     ensures same { D.contents disk.new ≡ D.contents disk.old }
     ensures crash { Within (D.may_leave disk.new) (D.may_leave disk.old) }
@@ -43,6 +49,7 @@ fn scan_slot<D: Disk>(
 /// Reads each slot, rising.
 fn scan_slots<D: Disk>(alloc: Global, disk: &mut D) -> Result<Scanned, Fault>
     ensures scanned { D.is_honest disk.new → IfOk result (IsScanned (D.contents disk.old) (length (D.contents disk.old))) }
+    ensures read { IfOk result (λ scanned. AreRead (length (D.contents disk.old)) scanned.catalog) }
     ensures faulty { D.is_honest disk.new → IfErr result (Names (IsFirstFaulty (D.contents disk.old))) }
     ensures same { D.contents disk.new ≡ D.contents disk.old }
     ensures crash { Within (D.may_leave disk.new) (D.may_leave disk.old) }
@@ -58,6 +65,33 @@ fn scan_slots<D: Disk>(alloc: Global, disk: &mut D) -> Result<Scanned, Fault>
     Ok(scanned)
 }
 
+/// Reads each slot, rising, and looks for serials that stand twice.
+pub fn scan_store<D: Disk>(alloc: Global, disk: &mut D) -> Result<Scanned, Fault>
+    ensures catalog { D.is_honest disk.new → IfOk result (λ scanned. IsCatalogOf (D.contents disk.old) scanned.catalog) }
+    ensures counted { D.is_honest disk.new → IfOk result (λ scanned. scanned.images ≡ length (filter is_open (D.contents disk.old))) }
+    ensures read { IfOk result (λ scanned. AreRead (length (D.contents disk.old)) scanned.catalog) }
+    ensures damaged { D.is_honest disk.new → IfErr result (Names (IsDamage (D.contents disk.old))) }
+    ensures store { D.is_honest disk.new → IfOk result (λ _. (images : List Image) × IsStore (D.contents disk.old) images) }
+    ensures good { D.is_honest disk.new → (images : List Image) → IsStore (D.contents disk.old) images → IfErr result (Names (λ _ _. ⊥)) }
+    ensures same { D.contents disk.new ≡ D.contents disk.old }
+    ensures crash { Within (D.may_leave disk.new) (D.may_leave disk.old) }
+    ensures honest { D.is_honest disk.new → D.is_honest disk.old }
+    ensures later { D.failed disk.old ≤ D.failed disk.new }
+    ensures device { IsErrOf result Fault.Device → D.failed disk.old < D.failed disk.new }
+    ensures empty { result ≢ Err Fault.EmptyChain }
+{
+    good_store_has_no_reason();
+    one_image();
+    let scanned = scan_slots(alloc, disk)?;
+    match scanned.double {
+        Some(slot) => Err(Fault::Damaged {
+            slot,
+            reason: Reason::DoubleSerial,
+        }),
+        None => Ok(scanned),
+    }
+}
+
 /// The catalog of a store: exactly its open images. It only reads, the header and the table of each open slot once.
 ///
 /// # Errors
@@ -71,6 +105,9 @@ pub fn scan<D: Disk>(alloc: Global, disk: &mut D) -> Result<Catalog, Fault>
     ensures store { D.is_honest disk.new → IfOk result (λ _. (images : List Image) × IsStore (D.contents disk.old) images) }
     // A store in which that is so is never called damaged.
     ensures good { D.is_honest disk.new → (images : List Image) → IsStore (D.contents disk.old) images → IfErr result (Names (λ _ _. ⊥)) }
+    // Also of a device that lies: the images are in its slots, their tables are tables, and their parents fall.
+    ensures slots { IfOk result (λ catalog. All (λ i. i.slot < length (D.contents disk.old)) (images catalog)) }
+    ensures images { IfOk result (λ catalog. AreImages catalog) }
     // It only reads.
     ensures same { D.contents disk.new ≡ D.contents disk.old }
     ensures crash { Within (D.may_leave disk.new) (D.may_leave disk.old) }
@@ -79,14 +116,6 @@ pub fn scan<D: Disk>(alloc: Global, disk: &mut D) -> Result<Catalog, Fault>
     ensures device { IsErrOf result Fault.Device → D.failed disk.old < D.failed disk.new }
     ensures empty { result ≢ Err Fault.EmptyChain }
 {
-    good_store_has_no_reason();
-    one_image();
-    let Scanned { catalog, double } = scan_slots(alloc, disk)?;
-    match double {
-        Some(slot) => Err(Fault::Damaged {
-            slot,
-            reason: Reason::DoubleSerial,
-        }),
-        None => Ok(catalog),
-    }
+    let scanned = scan_store(alloc, disk)?;
+    Ok(scanned.catalog)
 }

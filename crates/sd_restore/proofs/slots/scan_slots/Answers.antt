@@ -1,7 +1,19 @@
-use Rattle.std.proofs.Common.{rules, ◌∙◌, List, ℕ, arith}
+use Rattle.std.proofs.Common.{rules, ◌∙◌, List, ℕ, length, refl, arith}
 use Rattle.sd_restore.specs.Faulty.{Names, IsFirstFaulty}
 use Rattle.sd_restore.proofs.ScanLemmas.{first_faulty}
 use Rattle.sd_restore.proofs.slots.scan_slots.Goals as goal
+
+pub loop-slot-init : goal.loop-slot-init
+loop-slot-init g c = record {
+  same = refl;
+  crash = λ left may. may;
+  honest = λ honest. honest;
+  later = omega arith;
+  count = c.slots-slot-end.ensures;
+  room = omega (arith, c.new-scanned.ensures.none);
+  read = c.new-scanned.ensures.read (length (g.D.Disk.contents c.args.disk.now));
+  scanned = λ honest. c.new-scanned.ensures.scanned (g.D.Disk.contents c.args.disk.now);
+}
 
 pub loop-slot-preserved : goal.loop-slot-preserved
 loop-slot-preserved g c =
@@ -13,6 +25,8 @@ loop-slot-preserved g c =
       honest = λ honest. was.honest (now.honest honest);
       later = omega (arith, was.later, now.later);
       count = was.count;
+      room = now.room;
+      read = (rw was.same at now.read) was.read;
       scanned = λ honest. (rw was.same at (now.scanned honest)) (was.scanned (now.honest honest));
     }
 

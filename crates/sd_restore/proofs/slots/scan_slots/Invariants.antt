@@ -1,6 +1,6 @@
 use Rattle.std.proofs.Common.{◌≡◌, ◌≤◌, length}
 use Rattle.sd_disk.specs.Crash.{Within}
-use Rattle.sd_restore.specs.Scanned.{IsScanned}
+use Rattle.sd_restore.specs.Scanned.{AreRead, IsScanned}
 use Rattle.sd_restore.proofs.slots.scan_slots.Given as goal
 
 -- the slots that came so far
@@ -11,5 +11,7 @@ invariant-loop-slot g l = record {
   honest : g.D.Disk.is_honest l.disk → g.D.Disk.is_honest l.fn.disk;
   later : g.D.Disk.failed l.fn.disk ≤ g.D.Disk.failed l.disk;
   count : l.slot-end ≡ length (g.D.Disk.contents l.fn.disk);
+  room : l.scanned.images ≤ l.slot;
+  read : AreRead (length (g.D.Disk.contents l.fn.disk)) l.scanned.catalog;
   scanned : g.D.Disk.is_honest l.disk → IsScanned (g.D.Disk.contents l.fn.disk) l.slot l.scanned;
 }

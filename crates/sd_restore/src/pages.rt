@@ -1,0 +1,78 @@
+//! Reading the pages of a memory.
+ghost use Rattle.std.specs.Prelude.{◌≡◌, ◌≢◌, ◌<◌, ◌≤◌, length, All, IsTrue, IfOk, IfErr, OnOk, IsErrOf};
+ghost use Rattle.std.specs.FinMap as finmap;
+ghost use Rattle.sd_areas.specs.Memory.{memory_of};
+ghost use Rattle.sd_disk.specs.Crash.{Within};
+ghost use Rattle.sd_chain.specs.Store.{IsInFile, bytes_at};
+ghost use Rattle.sd_restore.specs.Faulty.{Names};
+ghost use Rattle.sd_restore.specs.Placed.{IsInSlots, with_spaces, with_pages};
+
+use crate::fault::Fault;
+use crate::placed_page::PlacedPage;
+use sd_areas::{PAGE_SIZE, Snapshot};
+use sd_chain::{Found, OpenImage};
+use sd_disk::Disk;
+use std::alloc::{AllocError, Global};
+
+/// The living spaces of an image, without pages.
+pub fn living_spaces(alloc: Global, tip: &OpenImage) -> Result<Snapshot, AllocError>
+    ensures spaces { IfOk result (λ snapshot. memory_of snapshot ≡ with_spaces finmap.empty tip.now.spaces) }
+    ensures checkpoint { IfOk result (λ snapshot. snapshot.checkpoint ≡ tip.now.header.checkpoint) }
+{
+    let mut snapshot = Snapshot::new(alloc, tip.header().checkpoint);
+    for space in &tip.table().spaces {
+        snapshot.add_space(alloc, space.space)?;
+    }
+    Ok(snapshot)
+}
+
+/// Reads the bytes of a page that lies there.
+fn read_page<D: Disk>(
+    alloc: Global,
+    disk: &mut D,
+    there: Found,
+) -> Result<Box<[u8; PAGE_SIZE]>, Fault>
+    requires slot { IsInSlots (length (D.contents disk.old)) there }
+    requires inside { D.is_honest disk.old → IsInFile (D.contents disk.old) there }
+    ensures bytes { D.is_honest disk.new → IfOk result (λ bytes. bytes.value ≡ bytes_at (D.contents disk.old) there) }
+    ensures unnamed { IfErr result (Names (λ _ _. ⊥)) }
+    ensures same { D.contents disk.new ≡ D.contents disk.old }
+    ensures crash { Within (D.may_leave disk.new) (D.may_leave disk.old) }
+    ensures honest { D.is_honest disk.new → D.is_honest disk.old }
+    ensures later { D.failed disk.old ≤ D.failed disk.new }
+    ensures device { IsErrOf result Fault.Device → D.failed disk.old < D.failed disk.new }
+    ensures empty { result ≢ Err Fault.EmptyChain }
+{
+    let mut bytes = Box::new(alloc, [0; PAGE_SIZE])?;
+    if let Found::Data { slot, offset } = there {
+        disk.read(slot, offset as usize, bytes.as_mut_slice())?;
+    }
+    Ok(bytes)
+}
+
+/// Reads these pages into the memory of their spaces.
+pub fn read_pages<D: Disk>(
+    alloc: Global,
+    disk: &mut D,
+    pages: &[PlacedPage],
+    snapshot: &mut Snapshot,
+) -> Result<(), Fault>
+    requires alive { All (λ p. IsTrue (finmap.contains_key (memory_of snapshot.old) p.space)) pages.now }
+    requires slots { All (λ p. IsInSlots (length (D.contents disk.old)) p.there) pages.now }
+    requires inside { D.is_honest disk.old → All (λ p. IsInFile (D.contents disk.old) p.there) pages.now }
+    ensures memory { D.is_honest disk.new → OnOk result (memory_of snapshot.new ≡ with_pages (D.contents disk.old) (memory_of snapshot.old) pages.now) }
+    ensures checkpoint { snapshot.new.checkpoint ≡ snapshot.old.checkpoint }
+    ensures unnamed { IfErr result (Names (λ _ _. ⊥)) }
+    ensures same { D.contents disk.new ≡ D.contents disk.old }
+    ensures crash { Within (D.may_leave disk.new) (D.may_leave disk.old) }
+    ensures honest { D.is_honest disk.new → D.is_honest disk.old }
+    ensures later { D.failed disk.old ≤ D.failed disk.new }
+    ensures device { IsErrOf result Fault.Device → D.failed disk.old < D.failed disk.new }
+    ensures empty { result ≢ Err Fault.EmptyChain }
+{
+    for placed in pages {
+        let bytes = read_page(alloc, disk, placed.there)?;
+        snapshot.put_page(placed.space, placed.page, placed.prot, bytes)?;
+    }
+    Ok(())
+}

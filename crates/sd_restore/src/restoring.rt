@@ -1,0 +1,54 @@
+//! Reading a store back.
+ghost use Rattle.std.specs.Prelude.{◌≡◌, ◌≢◌, ◌⊎◌, ◌<◌, ◌≤◌, ℕ, Option, Some, None, IfOk, IfErr, IsErrOf};
+ghost use Rattle.sd_areas.specs.Memory.{memory_of};
+ghost use Rattle.sd_areas.specs.PlainMemory.{PlainMemory};
+ghost use Rattle.sd_disk.specs.Crash.{Within};
+ghost use Rattle.sd_image.specs.Shows.{Shows};
+ghost use Rattle.sd_restore.specs.Faulty.{Names, IsDamage, IsBrokenChain};
+
+use crate::chain::place_pages;
+use crate::fault::Fault;
+use crate::pages::{living_spaces, read_pages};
+use crate::slots::scan;
+use sd_areas::Snapshot;
+use sd_disk::Disk;
+use sd_image::{one_store, shown_once, tip_once};
+use std::alloc::Global;
+
+/// The memory that a store shows: that of its newest dump or merged image. It only reads: the header and the table of
+/// each open slot once, and each data page of the result once. Its time grows with the pages, and with the images that
+/// it passes for pages that lie in parents.
+///
+/// # Errors
+///
+/// `EmptyChain` where no dump and no merged image stands in an open slot. `Damaged` names the first slot whose header
+/// or table is faulty; or else the least slot whose serial stands in an earlier open one; or else, of the newest
+/// image's pages, rising by space and page, the first whose chain breaks, by the slot of the image that has the page in
+/// its parent. `Device` and `OutOfMemory` end it at once.
+pub fn restore<D: Disk>(alloc: Global, disk: &mut D) -> Result<Snapshot, Fault>
+    // What is restored is what the store shows.
+    ensures shown { D.is_honest disk.new → IfOk result (λ snapshot. Shows (D.contents disk.old) (Some (snapshot.checkpoint, memory_of snapshot))) }
+    ensures empty { D.is_honest disk.new → IsErrOf result Fault.EmptyChain → Shows (D.contents disk.old) None }
+    ensures damaged { D.is_honest disk.new → IfErr result (Names (λ slot reason. IsDamage (D.contents disk.old) slot reason ⊎ IsBrokenChain (D.contents disk.old) slot reason)) }
+    // A store that shows something is never called damaged, and one that shows a memory is never called empty.
+    ensures good { D.is_honest disk.new → (shown : Option (ℕ × PlainMemory)) → Shows (D.contents disk.old) shown → IfErr result (Names (λ _ _. ⊥)) }
+    ensures saved { D.is_honest disk.new → (moment : ℕ × PlainMemory) → Shows (D.contents disk.old) (Some moment) → result ≢ Err Fault.EmptyChain }
+    // It only reads.
+    ensures same { D.contents disk.new ≡ D.contents disk.old }
+    ensures crash { Within (D.may_leave disk.new) (D.may_leave disk.old) }
+    ensures honest { D.is_honest disk.new → D.is_honest disk.old }
+    ensures later { D.failed disk.old ≤ D.failed disk.new }
+    ensures device { IsErrOf result Fault.Device → D.failed disk.old < D.failed disk.new }
+{
+    one_store();
+    shown_once();
+    tip_once();
+    let catalog = scan(alloc, disk)?;
+    let Some(tip) = catalog.tip() else {
+        return Err(Fault::EmptyChain);
+    };
+    let pages = place_pages(alloc, &catalog, tip)?;
+    let mut snapshot = living_spaces(alloc, tip)?;
+    read_pages(alloc, disk, &pages, &mut snapshot)?;
+    Ok(snapshot)
+}

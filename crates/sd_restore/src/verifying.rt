@@ -1,0 +1,70 @@
+//! Telling whether a store is in order.
+ghost use Rattle.std.specs.Prelude.{◌≡◌, ◌≢◌, ◌⊎◌, ◌<◌, ◌≤◌, ℕ, List, Option, length, filter, IfOk, IfErr, IsErrOf};
+ghost use Rattle.std.specs.Option.{option_map};
+ghost use Rattle.sd_areas.specs.PlainMemory.{PlainMemory};
+ghost use Rattle.sd_disk.specs.Crash.{Within};
+ghost use Rattle.sd_image.specs.Image.{is_open};
+ghost use Rattle.sd_image.specs.Shows.{Shows};
+ghost use Rattle.sd_chain.specs.Store.{IsCatalogOf};
+ghost use Rattle.sd_chain.specs.Ways.{AreImages};
+ghost use Rattle.sd_restore.specs.Faulty.{Names, IsDamage, IsBrokenChain};
+
+use crate::chain::place_pages;
+use crate::fault::Fault;
+use crate::report::Report;
+use crate::scanned::Scanned;
+use crate::slots::scan_store;
+use sd_chain::Catalog;
+use sd_disk::Disk;
+use sd_image::{one_store, tip_once};
+use std::alloc::Global;
+
+/// The checkpoint of the newest dump or merged image, if there is one and the chain of each of its pages is whole.
+fn shown_checkpoint(alloc: Global, catalog: &Catalog) -> Result<Option<u64>, Fault>
+    requires { AreImages catalog.now }
+    ensures shown { (contents : List (List ℕ)) → IsCatalogOf contents catalog.now → IfOk result (λ checkpoint. (shown : Option (ℕ × PlainMemory)) × Shows contents shown
+        × (checkpoint ≡ option_map (λ moment. moment.0) shown)) }
+    ensures broken { (contents : List (List ℕ)) → IsCatalogOf contents catalog.now → IfErr result (Names (IsBrokenChain contents)) }
+    ensures good { (contents : List (List ℕ)) (shown : Option (ℕ × PlainMemory)) → IsCatalogOf contents catalog.now → Shows contents shown → IfErr result (Names (λ _ _. ⊥)) }
+    ensures empty { result ≢ Err Fault.EmptyChain }
+    ensures device { result ≢ Err Fault.Device }
+{
+    one_store();
+    tip_once();
+    let Some(tip) = catalog.tip() else {
+        return Ok(None);
+    };
+    place_pages(alloc, catalog, tip)?;
+    Ok(Some(tip.header().checkpoint))
+}
+
+/// Makes the checks of a restore, and reads no data page: the checkpoint that the store shows, and how many slots are
+/// open.
+///
+/// # Errors
+///
+/// `Damaged`, `Device` and `OutOfMemory` as [`crate::restore`] answers them. A store without a checkpoint is in order.
+pub fn verify<D: Disk>(alloc: Global, disk: &mut D) -> Result<Report, Fault>
+    // Such a store shows something, and the report has its checkpoint.
+    ensures shown { D.is_honest disk.new → IfOk result (λ report. (shown : Option (ℕ × PlainMemory)) × Shows (D.contents disk.old) shown
+        × (report.checkpoint ≡ option_map (λ moment. moment.0) shown)) }
+    ensures images { D.is_honest disk.new → IfOk result (λ report. report.images ≡ length (filter is_open (D.contents disk.old))) }
+    ensures damaged { D.is_honest disk.new → IfErr result (Names (λ slot reason. IsDamage (D.contents disk.old) slot reason ⊎ IsBrokenChain (D.contents disk.old) slot reason)) }
+    // A store that shows something is never called damaged.
+    ensures good { D.is_honest disk.new → (shown : Option (ℕ × PlainMemory)) → Shows (D.contents disk.old) shown → IfErr result (Names (λ _ _. ⊥)) }
+    ensures never_empty { result ≢ Err Fault.EmptyChain }
+    // It only reads.
+    ensures same { D.contents disk.new ≡ D.contents disk.old }
+    ensures crash { Within (D.may_leave disk.new) (D.may_leave disk.old) }
+    ensures honest { D.is_honest disk.new → D.is_honest disk.old }
+    ensures later { D.failed disk.old ≤ D.failed disk.new }
+    ensures device { IsErrOf result Fault.Device → D.failed disk.old < D.failed disk.new }
+{
+    let Scanned {
+        catalog,
+        images,
+        ..
+    } = scan_store(alloc, disk)?;
+    let checkpoint = shown_checkpoint(alloc, &catalog)?;
+    Ok(Report { checkpoint, images })
+}
