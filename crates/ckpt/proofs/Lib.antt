@@ -1,5 +1,7 @@
 pub mod SlotLemmas
 pub mod CrashLemmas
+pub mod PlanLemmas
+pub mod WriteLemmas
 pub mod GrownRuns
 pub mod AreaLemmas
 pub mod ImageLemmas

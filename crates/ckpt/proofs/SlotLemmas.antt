@@ -96,12 +96,12 @@ taken f pages i page within is =
     ap (λ p. map f (take i pages) ++ f p ∷ []) is
     ∙ sym (ap (map f) (take_more pages i page within) ∙ map-append f (take i pages) (get_or pages i page ∷ []))
 
-whole_front : {X : Type 0} (f : X → List ℕ) (pages : List X) (i : ℕ) → AreWhole (map f pages) → AreWhole (map f (take i pages))
+pub whole_front : {X : Type 0} (f : X → List ℕ) (pages : List X) (i : ℕ) → AreWhole (map f pages) → AreWhole (map f (take i pages))
 whole_front f pages zero whole = tt
 whole_front f [] (suc i) whole = tt
 whole_front f (page ∷ pages) (suc i) whole = (whole.0, whole_front f pages i whole.1)
 
-length_front : {X : Type 0} (f : X → List ℕ) (pages : List X) (i : ℕ) → i ≤ length pages → length (map f (take i pages)) ≡ i
+pub length_front : {X : Type 0} (f : X → List ℕ) (pages : List X) (i : ℕ) → i ≤ length pages → length (map f (take i pages)) ≡ i
 length_front f pages i within = length-map (take i pages) f ∙ omega (arith, length-take i pages)
 
 -- one more data page, in the disk's contents
@@ -147,18 +147,34 @@ pub AreWhole-snoc : {X : Type 0} (f : X → List ℕ) (pages : List X) (page : X
 AreWhole-snoc f [] page whole long = (long, tt)
 AreWhole-snoc f (first ∷ pages) page whole long = (whole.0, AreWhole-snoc f pages page whole.1 long)
 
--- formatted, filled and opened, in the disk's contents
-pub image_written : (old formatted filled opened : List (List ℕ)) (slot : ℕ) (pages : List (List ℕ)) (file : List ℕ) → slot < length old
-    → formatted ≡ slice_set old slot (0 ∷ []) → filled ≡ slice_set formatted slot (closed_file pages)
-    → (file_at filled slot ≡ closed_file pages → opened ≡ slice_set filled slot file) → opened ≡ slice_set old slot file
-image_written old formatted filled opened slot pages file within is_formatted is_filled opens =
-    let now_filled : filled ≡ slice_set old slot (closed_file pages) =
-    is_filled ∙ ap (λ c. slice_set c slot (closed_file pages)) is_formatted ∙ set-set old slot (0 ∷ []) (closed_file pages) in
-    let body : file_at filled slot ≡ closed_file pages = ap (λ c. file_at c slot) now_filled ∙ file_at_set old slot (closed_file pages) within in
-    opens body ∙ ap (λ c. slice_set c slot file) now_filled ∙ set-set old slot (closed_file pages) file
+-- formatted and filled, in the disk's contents
+contents_filled : (old formatted filled : List (List ℕ)) (slot : ℕ) (file : List ℕ)
+    → formatted ≡ slice_set old slot (0 ∷ []) → filled ≡ slice_set formatted slot file → filled ≡ slice_set old slot file
+contents_filled old formatted filled slot file is_formatted is_filled =
+    is_filled ∙ ap (λ c. slice_set c slot file) is_formatted ∙ set-set old slot (0 ∷ []) file
+
+pub body_filled : (old formatted filled : List (List ℕ)) (slot : ℕ) (file : List ℕ) → slot < length old
+    → formatted ≡ slice_set old slot (0 ∷ []) → filled ≡ slice_set formatted slot file → file_at filled slot ≡ file
+body_filled old formatted filled slot file within is_formatted is_filled =
+    ap (λ c. file_at c slot) (contents_filled old formatted filled slot file is_formatted is_filled) ∙ file_at_set old slot file within
+
+-- and opened
+pub image_written : (old formatted filled opened : List (List ℕ)) (slot : ℕ) (body file : List ℕ)
+    → formatted ≡ slice_set old slot (0 ∷ []) → filled ≡ slice_set formatted slot body → opened ≡ slice_set filled slot file → opened ≡ slice_set old slot file
+image_written old formatted filled opened slot body file is_formatted is_filled is_opened =
+    is_opened ∙ ap (λ c. slice_set c slot file) (contents_filled old formatted filled slot body is_formatted is_filled) ∙ set-set old slot body file
 
 -- each page is whole
 pub whole_at : {X : Type 0} (f : X → List ℕ) (pages : List X) (i : ℕ) (page : X) → i < length pages → page ≡ get_or pages i page → AreWhole (map f pages) → length (f page) ≡ 4096
 whole_at f [] i page within is whole = absurd (omega arith)
 whole_at f (first ∷ pages) zero page within is whole = ap (λ p. length (f p)) is ∙ whole.0
 whole_at f (first ∷ pages) (suc i) page within is whole = whole_at f pages i page (omega (arith, within)) is whole.1
+
+-- a buffer that was filled in whole
+pub buffer_is : (len : ℕ) (copy items : List ℕ) → length copy ≡ 4096 → length items ≡ 4096 → len ≡ length items
+    → take len (copy ++ drop (length copy) items) ≡ copy
+buffer_is len copy items full room is =
+    ap (λ xs. take len (copy ++ xs)) (drop_all (length copy) items (omega (arith, full, room)))
+    ∙ ap (take len) (append-nil copy)
+    ∙ ap (λ n. take n copy) (let e : len ≡ length copy = omega (arith, full, room, is) in e)
+    ∙ take-length copy

@@ -18,7 +18,7 @@ use Rattle.sd_image.specs.Header.{header_text}
 use Rattle.sd_image.specs.Table.{Listed, listed, table_text, IsTable, AreSpaces, data_count, mapped_count, is_data as has_data}
 use Rattle.sd_image.specs.Image.{IsImage, is_open}
 use Rattle.sd_image.specs.Shows.{page_in, IsMemory}
-use Rattle.sd_image.specs.Words.{number_bytes}
+use Rattle.sd_image.specs.Words.{number_bytes, zeros}
 use Rattle.ckpt.specs.declared.image_text.ImageText.{ImageText}
 use Rattle.ckpt.specs.Pages.{Place, bytes_at, is_data, IsWholePage}
 use Rattle.ckpt.specs.Runs.{pages_by}
@@ -132,8 +132,11 @@ are_spaces memory number pages table_len before (t ∷ tables) rise each = (
 pub record Fits (number : ℕ) (text : ImageText) : Type 0 where
   pub above : 0 < number
   pub word : number < 2 ^ 64
-  pub header : length text.header ≡ 4095
   pub table : length text.table.items < 2 ^ 64
+
+pub length_header : (header : Header) → length (header_text header) ≡ 4095
+unfolding header_text number_bytes zeros
+length_header header = refl
 
 few_fits : (n : ℕ) → n ≤ 65536 → n < 2 ^ 64
 few_fits n few = omega arith
@@ -159,9 +162,9 @@ module _ (memory : PlainMemory) (number : ℕ) (text : ImageText) (is : IsTextOf
       let pages : List (List ℕ) = map (bytes_at memory) text.stored.items in
       omega (
         arith,
-        fits.header,
-        length-append (text.header ++ concat pages) text.table.items,
-        length-append text.header (concat pages),
+        length_header text.header,
+        length-append (header_text text.header ++ concat pages) text.table.items,
+        length-append (header_text text.header) (concat pages),
         length_concat pages stored_is_whole,
         length-map text.stored.items (bytes_at memory),
       )
@@ -179,7 +182,7 @@ module _ (memory : PlainMemory) (number : ℕ) (text : ImageText) (is : IsTextOf
   text_is_image : IsImage (file_of memory text) (image_of (dump_header number (length text.stored.items) (length text.table.items)) memory tables text.stored.items)
   unfolding tables
   text_is_image = record {
-    spelled = ap (λ xs. 165 ∷ (xs ++ concat (map (bytes_at memory) text.stored.items) ++ text.table.items)) is.header
+    spelled = ap (λ (h : Header). 165 ∷ (header_text h ++ concat (map (bytes_at memory) text.stored.items) ++ text.table.items)) is.header
         ∙ ap (λ xs. 165 ∷ (header_text (dump_header number (length text.stored.items) (length text.table.items)) ++ concat (map (bytes_at memory) text.stored.items) ++ xs)) is.table;
     header = record {
       words = record { serial = fits.word; stands_for = fits.word; parent = lit< tt; checkpoint = fits.word; pages = few_fits (length text.stored.items) few_stored; table_len = fits.table };
@@ -214,7 +217,7 @@ module _ (memory : PlainMemory) (number : ℕ) (text : ImageText) (is : IsTextOf
     restorable = λ e. cc;
     stands = λ images. subst (λ stored. IsMemory images (image_of (dump_header number (length text.stored.items) (length text.table.items)) memory tables stored) memory) (sym is.stored)
         (is_memory images memory (dump_header number (length text.stored.items) (length text.table.items)) tables is.dump.stored.items is.of.all is.of.alive);
-    header = fits.header;
+    pages = ap (λ (h : Header). h.pages) is.header;
     few = few_stored;
     whole = stored_is_whole;
     table = subst (λ bytes. 0 < length bytes) (sym is.table) (table_is_long tables);

@@ -6,7 +6,7 @@ use Rattle.sd_image.specs.declared.header.Header.{Header}
 use Rattle.sd_image.specs.declared.header.Kind.TheVariants.{Dump}
 use Rattle.sd_image.specs.Header.{header_text}
 use Rattle.sd_image.specs.Table.{Listed, listed, table_text}
-use Rattle.sd_image.specs.Image.{Image, IsImage, is_open}
+use Rattle.sd_image.specs.Image.{Image, IsImage, gate, is_open}
 use Rattle.sd_image.specs.Shows.{IsRestorable}
 use Rattle.sd_image.specs.Laws.{IsWholeMemory}
 use Rattle.ckpt.specs.declared.dump.Dump as declared
@@ -24,12 +24,16 @@ pub record IsTextOf (memory : PlainMemory) (number : ℕ) (text : ImageText) : T
   pub dump : declared.Dump
   pub of : IsDumpOf memory dump
   pub stored : text.stored.items ≡ dump.stored.items
-  pub header : text.header ≡ header_text (dump_header number (length text.stored.items) (length text.table.items))
+  pub header : text.header ≡ dump_header number (length text.stored.items) (length text.table.items)
   pub table : text.table.items ≡ table_text (map listed dump.tables.items)
 
--- the file that it makes: an open gate, the header, the data pages and the table
+-- the body that it makes: the header, the data pages and the table
+abbrev pub body_of : PlainMemory → ImageText → List ℕ
+body_of memory text = header_text text.header ++ concat (map (bytes_at memory) text.stored.items) ++ text.table.items
+
+-- the file: the body behind an open gate
 abbrev pub file_of : PlainMemory → ImageText → List ℕ
-file_of memory text = 165 ∷ text.header ++ concat (map (bytes_at memory) text.stored.items) ++ text.table.items
+file_of memory text = gate ∷ body_of memory text
 
 -- the file is the image of a dump with this number, and the image stands for the memory
 pub record IsImageOf (memory : PlainMemory) (number : ℕ) (text : ImageText) : Type 0 where
@@ -40,7 +44,7 @@ pub record IsImageOf (memory : PlainMemory) (number : ℕ) (text : ImageText) : 
   pub checkpoint : image.header.checkpoint ≡ number
   pub restorable : IsRestorable image
   pub stands : IsWholeMemory image memory
-  pub header : length text.header ≡ 4095
+  pub pages : text.header.pages ≡ length text.stored.items
   pub few : length text.stored.items ≤ 65536
   pub whole : AreWhole (map (bytes_at memory) text.stored.items)
   pub table : 0 < length text.table.items

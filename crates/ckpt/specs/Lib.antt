@@ -1,4 +1,5 @@
 pub mod AfterCrash
+pub mod PlanRun
 pub mod Pages
 pub mod Runs
 pub mod SlotFile

@@ -1,7 +1,7 @@
 //! Which slot a dump goes into.
 ghost use Rattle.std.specs.Prelude.{◌≡◌, ◌<◌, ◌≤◌, ◌≢◌, List, ℕ, ◌∷◌, length, IfOk, IsErrOf, OnErr};
 ghost use Rattle.sd_disk.specs.Contents.{file_at};
-ghost use Rattle.sd_disk.specs.Crash.{Within};
+ghost use Rattle.sd_disk.specs.Crash.{LeavesOnly, Within};
 ghost use Rattle.ckpt.specs.Slots.{raw_slots};
 
 use crate::save_error::SaveError;
@@ -21,6 +21,7 @@ pub fn free_slot<D: Disk>(disk: &mut D) -> Result<usize, SaveError>
     ensures later { D.failed disk.old ≤ D.failed disk.new }
     ensures same { D.contents disk.new ≡ D.contents disk.old }
     ensures crash { Within (D.may_leave disk.new) (D.may_leave disk.old) }
+    ensures any_moment { LeavesOnly D.moment D.left_since disk.old disk.new (D.may_leave disk.old) }
     ensures honest { D.is_honest disk.new → D.is_honest disk.old }
 {
     let mut lowest = None;

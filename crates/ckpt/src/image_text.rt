@@ -12,7 +12,7 @@ use std::alloc::{AllocError, Global};
 /// What is written around the data pages of a whole dump, and which pages these are.
 #[derive(Drop)]
 pub struct ImageText {
-    pub header: [u8; 4095],
+    pub header: Header,
     pub stored: Vec<(SpaceId, PageNo)>,
     pub table: Vec<u8>,
 }
@@ -35,7 +35,7 @@ pub fn image_text(alloc: Global, memory: &Memory, number: u64) -> Result<ImageTe
         table_len: table.len() as u64,
     };
     Ok(ImageText {
-        header: sd_image::encode_header(&header),
+        header,
         stored: dump.stored,
         table,
     })

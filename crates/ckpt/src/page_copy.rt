@@ -34,8 +34,9 @@ pub fn is_zero_page(memory: &Memory, space: SpaceId, page: PageNo) -> bool
 }
 
 /// Copies a mapped page, one sector after the other.
-pub fn copy_page(memory: &Memory, space: SpaceId, page: PageNo, copy: &mut [u8; PAGE_SIZE])
-    requires { length (bytes_at (plain_of memory.now) (space, page)) ≡ 4096 }
+pub fn copy_page(memory: &Memory, space: SpaceId, page: PageNo, copy: &mut [u8])
+    requires room { length copy.old ≡ 4096 }
+    requires page { length (bytes_at (plain_of memory.now) (space, page)) ≡ 4096 }
     ensures { copy.new ≡ bytes_at (plain_of memory.now) (space, page) }
 {
     plain_law();

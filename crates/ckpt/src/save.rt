@@ -1,17 +1,20 @@
 //! Saving a memory: one whole dump, into the lowest free slot.
-ghost use Rattle.std.specs.Prelude.{◌≡◌, ◌≢◌, ◌+◌, ◌<◌, ◌≤◌, ◌∷◌, ℕ, List, length, map, Some, OnOk, IsErr, IsErrOf, slice_set};
-ghost use Rattle.sd_disk.specs.Crash.{OnlyAt, Within};
+ghost use Rattle.std.specs.Prelude.{◌≡◌, ◌≢◌, ◌⊎◌, ◌+◌, ◌<◌, ◌≤◌, [], ◌∷◌, ℕ, List, Option, length, map, Some, OnOk, IsErr, IsErrOf, slice_set};
+ghost use Rattle.sd_areas.specs.PlainMemory.{PlainMemory};
+ghost use Rattle.sd_disk.specs.Crash.{LeavesOnly, OnlyAt, Within};
 ghost use Rattle.sd_disk.specs.Failures.{HasCause};
 ghost use Rattle.sd_disk.specs.Contents.{file_at};
 ghost use Rattle.sd_image.specs.Shows.{Shows};
 ghost use Rattle.sd_image.specs.Laws.{IsReady};
-ghost use Rattle.ckpt.specs.ImageText.{file_of};
+ghost use Rattle.ckpt.specs.ImageText.{body_of, file_of};
+ghost use Rattle.sd_gate.specs.declared.phase.Phase.TheVariants.{Raw};
+ghost use Rattle.sd_gate.specs.Fits.{SlotFits};
 ghost use Rattle.sd_pagetable.specs.Contents.{plain_of};
-ghost use Rattle.ckpt.specs.AfterCrash.{FollowsAt, IsReadyAfterCrash, ShowsOnly};
+ghost use Rattle.ckpt.specs.AfterCrash.{FollowsAt, IsLeft, IsReadyAfterCrash, ShowsOnly};
 ghost use Rattle.ckpt.specs.Cleared.{IsCleared};
 ghost use Rattle.ckpt.specs.Pages.{bytes_at};
 ghost use Rattle.ckpt.specs.Slots.{raw_slots};
-ghost use Rattle.ckpt.specs.SlotFile.{AreWhole, closed_file};
+ghost use Rattle.ckpt.specs.SlotFile.{AreWhole};
 
 use crate::clear_all::clear_all;
 use crate::free_slot::free_slot;
@@ -20,7 +23,7 @@ use crate::save_error::SaveError;
 use crate::slot_writer::{close_body, format, write_pages};
 use sd_areas::PAGE_SIZE;
 use sd_disk::{DeviceError, Disk};
-use sd_image::{newest_is_shown, ready_again};
+use sd_image::{newest_is_shown, ready_again, shown_still};
 use sd_pagetable::Memory;
 use std::alloc::Global;
 
@@ -52,6 +55,11 @@ pub fn save<D: Disk>(
     ensures durable { D.is_honest disk.new → IsReadyAfterCrash (D.contents disk.old) (D.may_leave disk.old) number
         → OnOk result (ShowsOnly (Some (number, plain_of memory.new)) (D.may_leave disk.new)) }
 
+    // However it ends, at every moment of it a crash leaves what was shown before, or what is saved.
+    ensures any_moment { (shown : Option (ℕ × PlainMemory)) → D.is_honest disk.new → IsReadyAfterCrash (D.contents disk.old) (D.may_leave disk.old) number
+        → ShowsOnly shown (D.may_leave disk.old)
+        → LeavesOnly D.moment D.left_since disk.old disk.new (λ c. Shows c shown ⊎ Shows c (Some (number, plain_of memory.new))) }
+
     // And what a crash leaves is ready for the number above.
     ensures ready_after { D.is_honest disk.new → IsReadyAfterCrash (D.contents disk.old) (D.may_leave disk.old) number
         → OnOk result (IsReadyAfterCrash (D.contents disk.new) (D.may_leave disk.new) (number + 1)) }
@@ -70,13 +78,14 @@ pub fn save<D: Disk>(
     ensures device { IsErrOf result SaveError.Device → D.failed disk.old < D.failed disk.new }
     ensures honest { D.is_honest disk.new → D.is_honest disk.old }
 {
+    newest_is_shown();
+    ready_again();
+    shown_still();
     let slot = free_slot(disk)?;
     clear_all(memory);
     let text = image_text(alloc, memory, number)?;
-    let mut copy = Box::new(alloc, [0; PAGE_SIZE])?;
-    write_image(disk, slot, memory, &text, &mut copy)?;
-    newest_is_shown();
-    ready_again();
+    let buffer = vec![in alloc; 0; PAGE_SIZE]?;
+    write_image(disk, slot, memory, text, buffer)?;
     Ok(())
 }
 
@@ -85,22 +94,30 @@ fn write_image<D: Disk>(
     disk: &mut D,
     slot: usize,
     memory: &Memory,
-    text: &ImageText,
-    copy: &mut [u8; PAGE_SIZE],
+    text: ImageText,
+    buffer: Vec<u8>,
 ) -> Result<(), DeviceError>
     requires slot { slot < length (D.contents disk.old) }
-    requires header { length text.now.header ≡ 4095 }
-    requires few { length text.now.stored.items ≤ 65536 }
-    requires whole { AreWhole (map (bytes_at (plain_of memory.now)) text.now.stored.items) }
-    requires table { 0 < length text.now.table.items }
-    ensures written { OnOk result (D.contents disk.new ≡ slice_set (D.contents disk.old) slot (file_of (plain_of memory.now) text.now)) }
-    ensures durable { OnOk result (OnlyAt slot (file_at (D.contents disk.new) slot) (D.may_leave disk.new)) }
-    ensures crash { OnOk result (FollowsAt slot (D.may_leave disk.old) (D.may_leave disk.new)) }
+    requires pages { text.header.pages ≡ length text.stored.items }
+    requires few { length text.stored.items ≤ 65536 }
+    requires whole { AreWhole (map (bytes_at (plain_of memory.now)) text.stored.items) }
+    requires table { 0 < length text.table.items }
+    requires buffer { length buffer.items ≡ 4096 }
+    ensures written { OnOk result (D.contents disk.new ≡ slice_set (D.contents disk.old) slot (file_of (plain_of memory.now) text)) }
+    ensures crash { FollowsAt slot (D.may_leave disk.old) (D.may_leave disk.new) }
+    ensures durable { SlotFits Raw [] slot (D.contents disk.old) (D.may_leave disk.old)
+        → OnOk result (OnlyAt slot (file_of (plain_of memory.now) text) (D.may_leave disk.new)) }
+    ensures any_moment { SlotFits Raw [] slot (D.contents disk.old) (D.may_leave disk.old)
+        → LeavesOnly D.moment D.left_since disk.old disk.new (IsLeft slot (body_of (plain_of memory.now) text) (D.may_leave disk.old)) }
     ensures honest { D.is_honest disk.new → D.is_honest disk.old }
     ensures cause { HasCause (D.failed disk.old) (D.failed disk.new) result }
 {
+    let ImageText {
+        header,
+        stored,
+        table,
+    } = text;
     format(disk, slot)?;
-    write_pages(disk, slot, memory, &text.stored, copy)?;
-    close_body(disk, slot, text.stored.len(), &text.header, &text.table)?;
-    Ok(())
+    write_pages(disk, slot, memory, &stored, buffer)?;
+    close_body(disk, slot, header, table)
 }

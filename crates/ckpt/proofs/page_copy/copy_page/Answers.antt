@@ -5,13 +5,13 @@ use Rattle.ckpt.proofs.PageBytes.{Reads, bytes_of, bytes_in_plain, copied_more, 
 use Rattle.ckpt.proofs.page_copy.copy_page.Goals as goal
 
 pub loop-sector-init : goal.loop-sector-init
-loop-sector-init c = record { copied = refl; whole = c.told-copy }
+loop-sector-init c = record { copied = refl; whole = c.requires.room }
 
 pub loop-sector-preserved : goal.loop-sector-preserved
 loop-sector-preserved c =
     let read = c.read_sector.ensures in
     let found = page_at c.args.memory.now c.args.space c.args.page in
-    let long : length (bytes_of found) ≡ 4096 = ap length (sym (bytes_in_plain c.plain_law.ensures c.args.memory.now c.args.space c.args.page)) ∙ c.requires in
+    let long : length (bytes_of found) ≡ 4096 = ap length (sym (bytes_in_plain c.plain_law.ensures c.args.memory.now c.args.space c.args.page)) ∙ c.requires.page in
     let reads : Reads found c.loop-sector.sector c.read_sector.result c.loop-sector.bytes c.read_sector.new.bytes =
     record { mapped = read.mapped; whole = read.whole; bytes = read.bytes; none = read.none } in
     let less = c.loop-sector-test.true in
@@ -27,4 +27,4 @@ pub returns : goal.returns
 returns c =
     let found = page_at c.args.memory.now c.args.space c.args.page in
     let seen = bytes_in_plain c.plain_law.ensures c.args.memory.now c.args.space c.args.page in
-    copied_all found c.loop-sector.sector c.loop-sector.copy c.loop-sector-test.false c.loop-sector.invariant.whole (ap length (sym seen) ∙ c.requires) c.loop-sector.invariant.copied ∙ sym seen
+    copied_all found c.loop-sector.sector c.loop-sector.copy c.loop-sector-test.false c.loop-sector.invariant.whole (ap length (sym seen) ∙ c.requires.page) c.loop-sector.invariant.copied ∙ sym seen

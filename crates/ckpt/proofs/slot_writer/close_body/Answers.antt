@@ -1,29 +1,31 @@
-use Rattle.std.proofs.Common.{◌∙◌, sym, ap}
-use Rattle.sd_disk.specs.Contents.{file_at}
-use Rattle.ckpt.proofs.SlotLemmas.{body_closed}
-use Rattle.ckpt.proofs.CrashLemmas.{follows_itself, follows_change, follows_none}
+use Rattle.std.proofs.Common.{◌++◌, ◌∙◌}
+use Rattle.std.specs.List.{concat}
+use Rattle.sd_gate.specs.declared.phase.Phase.TheVariants.{Whole}
+use Rattle.sd_gate.specs.Laws.{pages_body}
+use Rattle.sd_image.specs.Header.{header_text}
+use Rattle.ckpt.specs.PlanRun.{pages_phase}
+use Rattle.ckpt.proofs.WriteLemmas.{body_done, close_takes}
 use Rattle.ckpt.proofs.slot_writer.close_body.Goals as goal
+
+pub returns-in_err-run_plan-clause-any_moment : goal.returns-in_err-run_plan-clause-any_moment
+returns-in_err-run_plan-clause-any_moment g c = λ pages whole count fits.
+    let image = header_text c.args.header ++ concat pages ++ c.args.table.items in
+    (rw (c.close_body.ensures.body c.requires.body) at c.run_plan.ensures.any_moment) image (pages_body pages) image (pages_phase pages) Whole
+    (close_takes c.image_whole_or_closed.ensures c.bodies_fill.ensures pages c.args.header c.args.table.items whole count) fits
 
 pub returns-clause-opened : goal.returns-clause-opened
 returns-clause-opened g c = λ pages whole count body.
-    let contents = g.D.Disk.contents in
-    c.in_ok-sync-2.ensures.same
-    ∙ body_closed (contents c.args.disk.now) (contents c.write_at.new.self) (contents c.write_at-2.new.self) (contents c.write_at-3.new.self)
-    c.args.slot pages c.args.header.now c.args.table.now c.requires.slot whole c.requires.header body
-    (rw (← count) at c.in_ok-write_at.ensures.written) c.in_ok-write_at-2.ensures.written
-    (rw c.in_ok-sync.ensures.same at c.in_ok-write_at-3.ensures.written)
+    (rw (c.close_body.ensures.body c.requires.body) at c.in_ok-run_plan.ensures.done)
+    ∙ body_done (g.D.Disk.contents c.args.disk.now) c.args.slot pages c.args.header c.args.table.items c.requires.slot whole count body
 
-pub returns-clause-crash : goal.returns-clause-crash
-returns-clause-crash g c =
-    let leaves = g.D.Disk.may_leave in
-    let slot = c.args.slot in
-    let old = leaves c.args.disk.now in
-    let with_table = follows_change slot old old (leaves c.write_at.new.self) _ (follows_itself slot old) c.in_ok-write_at.ensures.crash in
-    let with_header = follows_change slot old (leaves c.write_at.new.self) (leaves c.write_at-2.new.self) _ with_table c.in_ok-write_at-2.ensures.crash in
-    let with_body = follows_none slot old (leaves c.write_at-2.new.self) (leaves c.sync.new.self) with_header c.in_ok-sync.ensures.crash in
-    let opened = follows_change slot old (leaves c.sync.new.self) (leaves c.write_at-3.new.self) _ with_body c.in_ok-write_at-3.ensures.crash in
-    follows_none slot old (leaves c.write_at-3.new.self) (leaves c.sync-2.new.self) opened c.in_ok-sync-2.ensures.crash
+pub returns-clause-fits : goal.returns-clause-fits
+returns-clause-fits g c = λ pages whole count fits.
+    let image = header_text c.args.header ++ concat pages ++ c.args.table.items in
+    (rw (c.close_body.ensures.body c.requires.body) at c.in_ok-run_plan.ensures.fits) image (pages_body pages) image (pages_phase pages) Whole
+    (close_takes c.image_whole_or_closed.ensures c.bodies_fill.ensures pages c.args.header c.args.table.items whole count) fits
 
-pub returns-clause-durable : goal.returns-clause-durable
-returns-clause-durable g c = λ left has.
-    c.in_ok-sync-2.ensures.durable left has ∙ sym (ap (λ contents. file_at contents c.args.slot) c.in_ok-sync-2.ensures.same)
+pub returns-clause-any_moment : goal.returns-clause-any_moment
+returns-clause-any_moment g c = λ pages whole count fits.
+    let image = header_text c.args.header ++ concat pages ++ c.args.table.items in
+    (rw (c.close_body.ensures.body c.requires.body) at c.run_plan.ensures.any_moment) image (pages_body pages) image (pages_phase pages) Whole
+    (close_takes c.image_whole_or_closed.ensures c.bodies_fill.ensures pages c.args.header c.args.table.items whole count) fits
