@@ -1,3 +1,4 @@
+pub mod OutcomeLemmas
 pub mod TakeLemmas
 pub mod FileLemmas
 pub mod ScanLemmas

@@ -3,6 +3,7 @@
 
 mod chain;
 mod decoded;
+mod device;
 mod fault;
 mod pages;
 mod placed_page;

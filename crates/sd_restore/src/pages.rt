@@ -5,8 +5,10 @@ ghost use Rattle.sd_areas.specs.Memory.{memory_of};
 ghost use Rattle.sd_disk.specs.Crash.{Within};
 ghost use Rattle.sd_chain.specs.Store.{IsInFile, bytes_at};
 ghost use Rattle.sd_restore.specs.Faulty.{Names};
+ghost use Rattle.sd_restore.specs.Outcomes.{LeavesNoMore};
 ghost use Rattle.sd_restore.specs.Placed.{IsInSlots, with_spaces, with_pages};
 
+use crate::device::read_file;
 use crate::fault::Fault;
 use crate::placed_page::PlacedPage;
 use sd_areas::{PAGE_SIZE, Snapshot};
@@ -38,6 +40,8 @@ fn read_page<D: Disk>(
     ensures unnamed { IfErr result (Names (λ _ _. ⊥)) }
     ensures same { D.contents disk.new ≡ D.contents disk.old }
     ensures crash { Within (D.may_leave disk.new) (D.may_leave disk.old) }
+    ensures moment { D.moment disk.old ≤ D.moment disk.new }
+    ensures left { LeavesNoMore (D.moment disk.old) (D.left_since disk.old) (D.left_since disk.new) }
     ensures honest { D.is_honest disk.new → D.is_honest disk.old }
     ensures later { D.failed disk.old ≤ D.failed disk.new }
     ensures device { IsErrOf result Fault.Device → D.failed disk.old < D.failed disk.new }
@@ -45,7 +49,7 @@ fn read_page<D: Disk>(
 {
     let mut bytes = Box::new(alloc, [0; PAGE_SIZE])?;
     if let Found::Data { slot, offset } = there {
-        disk.read(slot, offset as usize, bytes.as_mut_slice())?;
+        read_file(disk, slot, offset as usize, bytes.as_mut_slice())?;
     }
     Ok(bytes)
 }
@@ -65,6 +69,8 @@ pub fn read_pages<D: Disk>(
     ensures unnamed { IfErr result (Names (λ _ _. ⊥)) }
     ensures same { D.contents disk.new ≡ D.contents disk.old }
     ensures crash { Within (D.may_leave disk.new) (D.may_leave disk.old) }
+    ensures moment { D.moment disk.old ≤ D.moment disk.new }
+    ensures left { LeavesNoMore (D.moment disk.old) (D.left_since disk.old) (D.left_since disk.new) }
     ensures honest { D.is_honest disk.new → D.is_honest disk.old }
     ensures later { D.failed disk.old ≤ D.failed disk.new }
     ensures device { IsErrOf result Fault.Device → D.failed disk.old < D.failed disk.new }

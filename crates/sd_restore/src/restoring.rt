@@ -5,6 +5,7 @@ ghost use Rattle.sd_areas.specs.PlainMemory.{PlainMemory};
 ghost use Rattle.sd_disk.specs.Crash.{Within};
 ghost use Rattle.sd_image.specs.Shows.{Shows};
 ghost use Rattle.sd_restore.specs.Faulty.{Names, IsDamage, IsBrokenChain};
+ghost use Rattle.sd_restore.specs.Outcomes.{LeavesNoMore};
 
 use crate::chain::place_pages;
 use crate::fault::Fault;
@@ -36,6 +37,9 @@ pub fn restore<D: Disk>(alloc: Global, disk: &mut D) -> Result<Snapshot, Fault>
     // It only reads.
     ensures same { D.contents disk.new ≡ D.contents disk.old }
     ensures crash { Within (D.may_leave disk.new) (D.may_leave disk.old) }
+    // A crash at any moment within it leaves nothing more than one before it.
+    ensures moment { D.moment disk.old ≤ D.moment disk.new }
+    ensures left { LeavesNoMore (D.moment disk.old) (D.left_since disk.old) (D.left_since disk.new) }
     ensures honest { D.is_honest disk.new → D.is_honest disk.old }
     ensures later { D.failed disk.old ≤ D.failed disk.new }
     ensures device { IsErrOf result Fault.Device → D.failed disk.old < D.failed disk.new }

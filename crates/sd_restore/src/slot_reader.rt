@@ -7,9 +7,11 @@ ghost use Rattle.sd_image.specs.Header.{header_text, IsHeader};
 ghost use Rattle.sd_image.specs.Table.{listed, table_text, IsTable};
 ghost use Rattle.sd_image.specs.Reading.{header_in, table_in};
 ghost use Rattle.sd_restore.specs.Faulty.{Names, IsFaulty};
+ghost use Rattle.sd_restore.specs.Outcomes.{LeavesNoMore};
 ghost use Rattle.sd_restore.specs.Reading.{IsReading, IsSound};
 
 use crate::decoded::Decoded;
+use crate::device::{file_len, read_file};
 use crate::fault::Fault;
 use sd_areas::PAGE_SIZE;
 use sd_disk::{DeviceError, Disk};
@@ -41,11 +43,13 @@ fn read_first<D: Disk>(disk: &mut D, slot: usize) -> Result<[u8; HEADER_SIZE], D
     ensures first { D.is_honest disk.new → IfOk result (λ bytes. bytes ≡ slice_range (file_at (D.contents disk.old) slot) 0 4096) }
     ensures same { D.contents disk.new ≡ D.contents disk.old }
     ensures crash { Within (D.may_leave disk.new) (D.may_leave disk.old) }
+    ensures moment { D.moment disk.old ≤ D.moment disk.new }
+    ensures left { LeavesNoMore (D.moment disk.old) (D.left_since disk.old) (D.left_since disk.new) }
     ensures honest { D.is_honest disk.new → D.is_honest disk.old }
     ensures cause { HasCause (D.failed disk.old) (D.failed disk.new) result }
 {
     let mut bytes = [0; HEADER_SIZE];
-    disk.read(slot, 0, &mut bytes)?;
+    read_file(disk, slot, 0, &mut bytes)?;
     Ok(bytes)
 }
 
@@ -76,13 +80,16 @@ fn read_table<D: Disk>(
     ensures table { IfOk result (λ table. IsTable header.now (map listed table.spaces.items)) }
     ensures same { D.contents disk.new ≡ D.contents disk.old }
     ensures crash { Within (D.may_leave disk.new) (D.may_leave disk.old) }
+    ensures moment { D.moment disk.old ≤ D.moment disk.new }
+    ensures left { LeavesNoMore (D.moment disk.old) (D.left_since disk.old) (D.left_since disk.new) }
     ensures honest { D.is_honest disk.new → D.is_honest disk.old }
     ensures later { D.failed disk.old ≤ D.failed disk.new }
     ensures device { IsErrOf result Fault.Device → D.failed disk.old < D.failed disk.new }
     ensures empty { result ≢ Err Fault.EmptyChain }
 {
     let mut bytes = vec![in alloc; 0u8; header.table_len as usize]?;
-    disk.read(
+    read_file(
+        disk,
         slot,
         HEADER_SIZE + PAGE_SIZE * header.pages as usize,
         &mut bytes,
@@ -102,13 +109,15 @@ pub fn read_slot<D: Disk>(
     ensures faulty { D.is_honest disk.new → IfErr result (Names (λ s reason. (s ≡ slot) × IsFaulty (file_at (D.contents disk.old) slot) reason)) }
     ensures same { D.contents disk.new ≡ D.contents disk.old }
     ensures crash { Within (D.may_leave disk.new) (D.may_leave disk.old) }
+    ensures moment { D.moment disk.old ≤ D.moment disk.new }
+    ensures left { LeavesNoMore (D.moment disk.old) (D.left_since disk.old) (D.left_since disk.new) }
     ensures honest { D.is_honest disk.new → D.is_honest disk.old }
     ensures later { D.failed disk.old ≤ D.failed disk.new }
     ensures device { IsErrOf result Fault.Device → D.failed disk.old < D.failed disk.new }
     ensures empty { result ≢ Err Fault.EmptyChain }
 {
     file_is_image();
-    let len = disk.len(slot)?;
+    let len = file_len(disk, slot)?;
     if len < HEADER_SIZE {
         return Ok(None);
     }

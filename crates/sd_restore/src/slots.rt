@@ -8,6 +8,7 @@ ghost use Rattle.sd_chain.specs.Catalog.{images};
 ghost use Rattle.sd_chain.specs.Store.{IsCatalogOf};
 ghost use Rattle.sd_chain.specs.Ways.{AreImages};
 ghost use Rattle.sd_restore.specs.Faulty.{Names, IsFaulty, IsFirstFaulty, IsDamage};
+ghost use Rattle.sd_restore.specs.Outcomes.{LeavesNoMore};
 ghost use Rattle.sd_restore.specs.Scanned.{AreRead, IsScanned};
 
 use crate::fault::Fault;
@@ -34,6 +35,8 @@ fn scan_slot<D: Disk>(
     ensures faulty { D.is_honest disk.new → IfErr result (Names (λ s reason. (s ≡ slot) × IsFaulty (file_at (D.contents disk.old) slot) reason)) }
     ensures same { D.contents disk.new ≡ D.contents disk.old }
     ensures crash { Within (D.may_leave disk.new) (D.may_leave disk.old) }
+    ensures moment { D.moment disk.old ≤ D.moment disk.new }
+    ensures left { LeavesNoMore (D.moment disk.old) (D.left_since disk.old) (D.left_since disk.new) }
     ensures honest { D.is_honest disk.new → D.is_honest disk.old }
     ensures later { D.failed disk.old ≤ D.failed disk.new }
     ensures device { IsErrOf result Fault.Device → D.failed disk.old < D.failed disk.new }
@@ -53,6 +56,8 @@ fn scan_slots<D: Disk>(alloc: Global, disk: &mut D) -> Result<Scanned, Fault>
     ensures faulty { D.is_honest disk.new → IfErr result (Names (IsFirstFaulty (D.contents disk.old))) }
     ensures same { D.contents disk.new ≡ D.contents disk.old }
     ensures crash { Within (D.may_leave disk.new) (D.may_leave disk.old) }
+    ensures moment { D.moment disk.old ≤ D.moment disk.new }
+    ensures left { LeavesNoMore (D.moment disk.old) (D.left_since disk.old) (D.left_since disk.new) }
     ensures honest { D.is_honest disk.new → D.is_honest disk.old }
     ensures later { D.failed disk.old ≤ D.failed disk.new }
     ensures device { IsErrOf result Fault.Device → D.failed disk.old < D.failed disk.new }
@@ -75,6 +80,8 @@ pub fn scan_store<D: Disk>(alloc: Global, disk: &mut D) -> Result<Scanned, Fault
     ensures good { D.is_honest disk.new → (images : List Image) → IsStore (D.contents disk.old) images → IfErr result (Names (λ _ _. ⊥)) }
     ensures same { D.contents disk.new ≡ D.contents disk.old }
     ensures crash { Within (D.may_leave disk.new) (D.may_leave disk.old) }
+    ensures moment { D.moment disk.old ≤ D.moment disk.new }
+    ensures left { LeavesNoMore (D.moment disk.old) (D.left_since disk.old) (D.left_since disk.new) }
     ensures honest { D.is_honest disk.new → D.is_honest disk.old }
     ensures later { D.failed disk.old ≤ D.failed disk.new }
     ensures device { IsErrOf result Fault.Device → D.failed disk.old < D.failed disk.new }
@@ -111,6 +118,9 @@ pub fn scan<D: Disk>(alloc: Global, disk: &mut D) -> Result<Catalog, Fault>
     // It only reads.
     ensures same { D.contents disk.new ≡ D.contents disk.old }
     ensures crash { Within (D.may_leave disk.new) (D.may_leave disk.old) }
+    // A crash at any moment within it leaves nothing more than one before it.
+    ensures moment { D.moment disk.old ≤ D.moment disk.new }
+    ensures left { LeavesNoMore (D.moment disk.old) (D.left_since disk.old) (D.left_since disk.new) }
     ensures honest { D.is_honest disk.new → D.is_honest disk.old }
     ensures later { D.failed disk.old ≤ D.failed disk.new }
     ensures device { IsErrOf result Fault.Device → D.failed disk.old < D.failed disk.new }

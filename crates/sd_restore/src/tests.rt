@@ -1,8 +1,11 @@
 //! Stores that are made with the encoders, and read.
 
 use crate::fault::Fault;
+use crate::report::Report;
+use crate::restoring::restore;
 use crate::slots::scan;
-use sd_areas::{Area, PAGE_SIZE, PageNo, Prot, SpaceId};
+use crate::verifying::verify;
+use sd_areas::{Area, PAGE_SIZE, PageNo, Prot, Snapshot, SpaceId};
 use sd_chain::Found;
 use sd_disk::{Disk, Fused, MemDisk};
 use sd_image::{
@@ -215,6 +218,160 @@ fn a_call_that_fails_ends_it(rt: HostRuntime) -> Result<(), Fail> {
     }
     let mut disk = Fused::new(store(&rt, &files)?, 8);
     assert!(rt; scan(alloc, &mut disk).is_ok());
+    Ok(())
+}
+
+/// What a restored memory has at page 0x10 of space 1: a page filled with this byte.
+fn has(rt: &impl Abort, snapshot: &Snapshot, byte: u8) -> Result<(), Fail> {
+    assert_eq!(rt; snapshot.spaces.len(), 1);
+    let pages = snapshot.spaces.get(&SpaceId::new(1)).ok_or("the space")?;
+    assert_eq!(rt; pages.len(), 1);
+    let page = PageNo::new(0x10).ok_or("a page")?;
+    let found = pages.get(&page).ok_or("the page")?;
+    assert_eq!(rt; found.prot, PROT);
+    assert!(rt; found.bytes.iter().all(|b| *b == byte));
+    Ok(())
+}
+
+/// A store shows this checkpoint, with a page filled with this byte, and has so many images.
+fn shows(
+    rt: &(impl Abort + AllocGlobal),
+    files: &[Vec<u8>],
+    checkpoint: u64,
+    byte: u8,
+) -> Result<(), Fail> {
+    let mut disk = store(rt, files)?;
+    let snapshot = restore(rt.alloc(), &mut disk).ok().ok_or("a memory")?;
+    assert_eq!(rt; snapshot.checkpoint, checkpoint);
+    has(rt, &snapshot, byte)?;
+    let report = verify(rt.alloc(), &mut disk).ok().ok_or("a report")?;
+    let images = files.len();
+    assert_eq!(rt;
+        report,
+        Report {
+            checkpoint: Some(checkpoint),
+            images
+        }
+    );
+    Ok(())
+}
+
+#[test]
+fn second_checkpoint_is_parent_run(rt: HostRuntime) -> Result<(), Fail> {
+    let alloc = rt.alloc();
+    let files = vec![in alloc; first(alloc)?]?;
+    shows(&rt, &files, 1, 7)?;
+    let files = vec![in alloc; first(alloc)?, second(alloc)?]?;
+    shows(&rt, &files, 2, 7)
+}
+
+/// Two images stand for the first checkpoint: the page is that of the greater serial.
+#[test]
+fn a_merged_image_is_read(rt: HostRuntime) -> Result<(), Fail> {
+    let alloc = rt.alloc();
+    let files = vec![in alloc; first(alloc)?, second(alloc)?, merged(alloc)?]?;
+    shows(&rt, &files, 2, 9)
+}
+
+/// Restoring and verifying have one fault.
+fn faults(rt: &(impl Abort + AllocGlobal), files: &[Vec<u8>], fault: Fault) -> Result<(), Fail> {
+    let mut disk = store(rt, files)?;
+    assert_eq!(rt;
+        restore(rt.alloc(), &mut disk).err().ok_or("a fault")?,
+        fault
+    );
+    assert_eq!(rt;
+        verify(rt.alloc(), &mut disk).err().ok_or("a fault")?,
+        fault
+    );
+    Ok(())
+}
+
+#[test]
+fn a_broken_chain_is_named(rt: HostRuntime) -> Result<(), Fail> {
+    let alloc = rt.alloc();
+    let reason = Reason::Chain;
+    let closed = vec![in alloc; 0u8]?;
+    let files = vec![in alloc; closed, second(alloc)?]?;
+    faults(&rt, &files, Fault::Damaged { slot: 1, reason })?;
+    // The third dump has the page in the second, and that one in an image that isn't there.
+    let third = file(alloc, header(Kind::Dump, 3, 3, 2, 3), None)?;
+    let files = vec![in alloc; third, second(alloc)?]?;
+    faults(&rt, &files, Fault::Damaged { slot: 1, reason })
+}
+
+#[test]
+fn a_double_serial_comes_before_a_broken_chain(rt: HostRuntime) -> Result<(), Fail> {
+    let alloc = rt.alloc();
+    let reason = Reason::DoubleSerial;
+    let files = vec![in alloc; first(alloc)?, second(alloc)?, first(alloc)?]?;
+    faults(&rt, &files, Fault::Damaged { slot: 2, reason })?;
+    let files = vec![in alloc; second(alloc)?, second(alloc)?]?;
+    faults(&rt, &files, Fault::Damaged { slot: 1, reason })
+}
+
+#[test]
+fn an_empty_store_is_in_order(rt: HostRuntime) -> Result<(), Fail> {
+    let alloc = rt.alloc();
+    let mut disk = MemDisk::new(alloc, 64, 20_000, 64)?;
+    assert_eq!(rt; restore(alloc, &mut disk).err(), Some(Fault::EmptyChain));
+    let report = verify(alloc, &mut disk).ok().ok_or("a report")?;
+    assert_eq!(rt;
+        report,
+        Report {
+            checkpoint: None,
+            images: 0
+        }
+    );
+    Ok(())
+}
+
+/// A file of one byte is closed, and one without its last byte is named.
+#[test]
+fn boundaries(rt: HostRuntime) -> Result<(), Fail> {
+    let alloc = rt.alloc();
+    let gate = vec![in alloc; 0xA5u8]?;
+    let mut disk = store(&rt, &[gate])?;
+    assert_eq!(rt; restore(alloc, &mut disk).err(), Some(Fault::EmptyChain));
+    let mut cut = first(alloc)?;
+    assert_eq!(rt; cut.len(), 8264);
+    assert_eq!(rt; cut.pop().is_some(), true);
+    let reason = Reason::Length;
+    faults(&rt, &[cut], Fault::Damaged { slot: 0, reason })
+}
+
+/// Two reads for each of three open slots, and for a restore one more for its page.
+#[test]
+fn each_page_is_read_once(rt: HostRuntime) -> Result<(), Fail> {
+    let alloc = rt.alloc();
+    let files = vec![in alloc; first(alloc)?, second(alloc)?, merged(alloc)?]?;
+    let mut disk = store(&rt, &files)?;
+    assert!(rt; restore(alloc, &mut disk).is_ok());
+    assert_eq!(rt; disk.reads(), 7);
+    let mut disk = store(&rt, &files)?;
+    assert!(rt; verify(alloc, &mut disk).is_ok());
+    assert_eq!(rt; disk.reads(), 6);
+    Ok(())
+}
+
+/// Two open slots of four are asked with four lengths and four reads, and a restore reads a page besides.
+#[test]
+fn a_call_that_fails_ends_a_restore(rt: HostRuntime) -> Result<(), Fail> {
+    let alloc = rt.alloc();
+    let files = vec![in alloc; first(alloc)?, second(alloc)?]?;
+    for passed in 0..9u64 {
+        let mut disk = Fused::new(store(&rt, &files)?, passed);
+        assert_eq!(rt; restore(alloc, &mut disk).err(), Some(Fault::Device));
+    }
+    let mut disk = Fused::new(store(&rt, &files)?, 9);
+    let snapshot = restore(alloc, &mut disk).ok().ok_or("a memory")?;
+    has(&rt, &snapshot, 7)?;
+    for passed in 0..8u64 {
+        let mut disk = Fused::new(store(&rt, &files)?, passed);
+        assert_eq!(rt; verify(alloc, &mut disk).err(), Some(Fault::Device));
+    }
+    let mut disk = Fused::new(store(&rt, &files)?, 8);
+    assert!(rt; verify(alloc, &mut disk).is_ok());
     Ok(())
 }
 

@@ -22,6 +22,8 @@ loop-placed-preserved g c =
     record {
       same = now.same ∙ was.same;
       crash = λ left may. was.crash left (now.crash left may);
+      moment = omega (arith, was.moment, now.moment);
+      left = λ t c from since. was.left t c from (now.left t c (omega (arith, from, was.moment)) since);
       honest = λ honest. was.honest (now.honest honest);
       later = omega (arith, was.later, now.later);
       checkpoint = c.in_ok-put_page.ensures.checkpoint ∙ was.checkpoint;

@@ -7,6 +7,8 @@ pub loop-slot-init : goal.loop-slot-init
 loop-slot-init g c = record {
   same = refl;
   crash = λ left may. may;
+  moment = omega arith;
+  left = λ t c from since. since;
   honest = λ honest. honest;
   later = omega arith;
   count = c.slots-slot-end.ensures;
@@ -22,6 +24,8 @@ loop-slot-preserved g c =
     record {
       same = now.same ∙ was.same;
       crash = λ left may. was.crash left (now.crash left may);
+      moment = omega (arith, was.moment, now.moment);
+      left = λ t c from since. was.left t c from (now.left t c (omega (arith, from, was.moment)) since);
       honest = λ honest. was.honest (now.honest honest);
       later = omega (arith, was.later, now.later);
       count = was.count;
