@@ -14,3 +14,5 @@ pub mod Busy
 pub mod Opens
 pub mod Stays
 pub mod Gates
+pub mod Needs
+pub mod SlotSteps

@@ -48,7 +48,7 @@ was_opening (Opening j ∷ beliefs) i c = elim (contains_cases j i (openings bel
 
 -- what is being opened, beside the pending dump, is harmless
 harmless_or_pending : (s : Store) (pending : Option Image) (i : Image) → IsSound s → IsAdded s pending i → IsHarmless s.catalog (jobs s) i ⊎ (pending ≡ Some i)
-harmless_or_pending s pending i sound (inl pre) = inl (pre_dump_is_harmless_lem s.catalog (jobs s) i pre.0 pre.1)
+harmless_or_pending s pending i sound (inl pre) = inl (pre_dump_is_harmless_lem s.catalog (jobs s) i pre.0 pre.1.number)
 harmless_or_pending s pending i sound (inr (inl twin)) =
     let merged : IsMerged s twin.source = subst (λ (o : Option Image). IfSome o (IsMerged s)) twin.running sound.merged in
     inl (twin_is_harmless_lem s.catalog (jobs s) twin.source i merged.is twin.repeats)
