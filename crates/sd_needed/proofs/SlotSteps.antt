@@ -5,12 +5,12 @@ use Rattle.std.proofs.lemmas.Bool.{cases_eq}
 use Rattle.std.proofs.lemmas.Option.{none-some, same_Some}
 use Rattle.sd_image.specs.Image.{Image}
 use Rattle.sd_needed.specs.Needed.{IsNeeded}
-use Rattle.sd_needed.specs.Store.{IsFresh, IsNextDump, IsSound, IsTwin, Store, jobs}
-use Rattle.sd_needed.specs.Steps.{Retires, begun, cancelled, merging, retired}
+use Rattle.sd_needed.specs.Store.{IsFresh, IsNextDump, IsSound, IsTwin, Store, jobs, IsNextPreDump}
+use Rattle.sd_needed.specs.Steps.{Retires, begun, cancelled, merging, retired, Adds, added, committed, replaced}
 use Rattle.sd_needed.specs.Beliefs.{AreSlotsOf, Belief, Closed, Kept, Closing, Opening, IsAdded, image_at, image_in}
-use Rattle.sd_needed.specs.SlotSteps.{Lacks, SlotsFollowCalls, SlotsFollowJobs, with_belief}
+use Rattle.sd_needed.specs.SlotSteps.{Lacks, SlotsFollowCalls, SlotsFollowImages, SlotsFollowJobs, with_belief}
 use Rattle.sd_needed.proofs.Members.{contains_cases, contains_front, contains_later, contains_none}
-use Rattle.sd_needed.proofs.Needs.{begun_needs, cancelled_needs, merging_needs, retired_needs, whole_needs}
+use Rattle.sd_needed.proofs.Needs.{begun_needs, cancelled_needs, merging_needs, retired_needs, whole_needs, added_needs, committed_needs, replaced_needs}
 use Rattle.sd_needed.proofs.Stays.{dump_stays_lem, fresh_stays_lem, twin_stays_lem}
 
 -- ---- one place of a list
@@ -309,3 +309,99 @@ slots_follow_jobs_lem = record {
       (λ j. same_added s (merging s tip) pending j (fresh_stays_lem.merges s tip j is) (λ twin. absurd (none-some twin.source (sym none ∙ twin.running))))
       (same_dump s (merging s tip) pending (λ j. dump_stays_lem.merges s tip j is) are.dump) are;
 }
+
+-- ---- images that enter
+
+module _ (s : Store) (pending : Option Image) (beliefs : List Belief) (slot : ℕ) (i : Image) (new : List Image) (are : AreSlotsOf s pending beliefs)
+    (there : slice_get beliefs slot ≡ Some (Opening i)) (more : Adds s.catalog i new) where
+  abbrev after : List Belief
+  after = with_belief beliefs slot (Kept i)
+
+  forth : (x : Belief) → Contains beliefs x → (x ≡ Opening i) ⊎ Contains after x
+  forth = move beliefs slot (Opening i) (Kept i) there
+
+  before : (x : Belief) → Contains after x → (x ≡ Kept i) ⊎ Elsewhere beliefs slot x
+  before = back beliefs slot (Opening i) (Kept i) there
+
+  -- an image that is being opened elsewhere has another serial
+  other_serial : (j : Image) → Elsewhere beliefs slot (Opening j) → i.header.serial ≢ j.header.serial
+  other_serial j e same = e.1 (are.serials e.0 slot j i (ap (option_and_then image_in) e.2) (ap (option_and_then image_in) there) (sym same))
+
+  not_elsewhere : (j : Image) → j ≡ i → Elsewhere beliefs slot (Opening j) → ⊥
+  not_elsewhere j same e = other_serial j e (ap (λ (k : Image). k.header.serial) (sym same))
+
+  enters : (t : Store) (next : Option Image) → t.catalog ≡ new → ((j : Image) → IsNeeded t.catalog (jobs t) j → (j ≡ i) ⊎ IsNeeded s.catalog (jobs s) j)
+      → ((j : Image) → Elsewhere beliefs slot (Opening j) → IsAdded s pending j → IsAdded t next j) → IfSome next (IsNextDump t) → AreSlotsOf t next after
+  enters t next same needs adding dump = record {
+    catalog = λ j. (
+      λ c. elim ((more j).0 (subst (λ xs. Contains xs j) same c)) [
+        | inl e ↦ inl (subst (λ (x : Image). Contains after (Kept x)) (sym e) (come beliefs slot (Opening i) (Kept i) there))
+        | inr old ↦ elim ((are.catalog j).0 old) [
+          | inl kept ↦ elim (forth (Kept j) kept) [ inl e ↦ absurd cc | inr now ↦ inl now ]
+          | inr closing ↦ elim (forth (Closing j) closing) [ inl e ↦ absurd cc | inr now ↦ inr now ]
+        ]
+      ],
+      λ c. subst (λ xs. Contains xs j) (sym same) ((more j).1 (elim c [
+        | inl kept ↦ elim (before (Kept j) kept) [
+          | inl e ↦ let it : j ≡ i = cc in inl it
+          | inr e ↦ inr ((are.catalog j).1 (inl (elsewhere_in beliefs slot (Kept j) e)))
+        ]
+        | inr closing ↦ elim (before (Closing j) closing) [
+          | inl e ↦ absurd cc
+          | inr e ↦ inr ((are.catalog j).1 (inr (elsewhere_in beliefs slot (Closing j) e)))
+        ]
+      ])),
+    );
+    needed = λ j n. elim (needs j n) [
+      | inl e ↦ subst (λ (x : Image). Contains after (Kept x)) (sym e) (come beliefs slot (Opening i) (Kept i) there)
+      | inr old ↦ elim (forth (Kept j) (are.needed j old)) [ inl e ↦ absurd cc | inr now ↦ now ]
+    ];
+    opening = λ j c. elim (before (Opening j) c) [
+      | inl e ↦ absurd cc
+      | inr e ↦ adding j e (are.opening j (elsewhere_in beliefs slot (Opening j) e))
+    ];
+    dump = dump;
+    serials = still_apart beliefs slot (Opening i) (Kept i) there are.serials (λ j e. inl e);
+  }
+
+adds_enters : (s : Store) (beliefs : List Belief) (slot : ℕ) (i : Image) (new : List Image) → IsSound s → AreSlotsOf s None beliefs
+    → slice_get beliefs slot ≡ Some (Opening i) → IsNextPreDump s i → Adds s.catalog i new
+    → AreSlotsOf (added s new i.header.stands_for) None (with_belief beliefs slot (Kept i))
+adds_enters s beliefs slot i new sound are there is more =
+    enters s None beliefs slot i new are there more (added s new i.header.stands_for) None refl (λ j. added_needs s sound i new j is more)
+    (λ j e. same_added s (added s new i.header.stands_for) None j
+    (fresh_stays_lem.adds s i j new is.next more (other_serial s None beliefs slot i new are there more j e))
+    (twin_stays_lem.adds s i j new sound is.next more (other_serial s None beliefs slot i new are there more j e)))
+    tt
+
+commits_enters : (s : Store) (beliefs : List Belief) (slot : ℕ) (i : Image) (new : List Image) → IsSound s → AreSlotsOf s (Some i) beliefs
+    → slice_get beliefs slot ≡ Some (Opening i) → Adds s.catalog i new
+    → AreSlotsOf (committed s new) None (with_belief beliefs slot (Kept i))
+commits_enters s beliefs slot i new sound are there more =
+    enters s (Some i) beliefs slot i new are there more (committed s new) None refl (λ j. committed_needs s sound i new j are.dump more) adding tt
+  where
+    adding : (j : Image) → Elsewhere beliefs slot (Opening j) → IsAdded s (Some i) j → IsAdded (committed s new) None j
+    adding j e (inl pre) = inl (pre.0, fresh_stays_lem.commits s i j new are.dump.next more (other_serial s (Some i) beliefs slot i new are there more j e) pre.1)
+    adding j e (inr (inl twin)) = inr (inl (twin_stays_lem.adds s i j new sound are.dump.next more (other_serial s (Some i) beliefs slot i new are there more j e) twin))
+    adding j e (inr (inr is)) = absurd (not_elsewhere s (Some i) beliefs slot i new are there more j (sym (same_Some i j is)) e)
+
+replaces_enters : (s : Store) (pending : Option Image) (beliefs : List Belief) (slot : ℕ) (i : Image) (new : List Image) → IsSound s → AreSlotsOf s pending beliefs
+    → slice_get beliefs slot ≡ Some (Opening i) → IsTwin s.catalog s.source i → Adds s.catalog i new
+    → ((j : Image) → Contains beliefs (Opening j) → IsTwin s.catalog s.source j → j ≡ i)
+    → IfSome pending (λ dump. i.header.serial ≢ dump.header.serial)
+    → AreSlotsOf (replaced s new) pending (with_belief beliefs slot (Kept i))
+replaces_enters s pending beliefs slot i new sound are there is more one apart =
+    enters s pending beliefs slot i new are there more (replaced s new) pending refl (λ j. replaced_needs s sound i new j is more) adding (dump pending are.dump apart)
+  where
+    adding : (j : Image) → Elsewhere beliefs slot (Opening j) → IsAdded s pending j → IsAdded (replaced s new) pending j
+    adding j e (inl pre) = inl (pre.0, fresh_stays_lem.replaces s i j new is more (other_serial s pending beliefs slot i new are there more j e) pre.1)
+    adding j e (inr (inl twin)) =
+        absurd (not_elsewhere s pending beliefs slot i new are there more j (one j (elsewhere_in beliefs slot (Opening j) e) twin) e)
+    adding j e (inr (inr it)) = inr (inr it)
+
+    dump : (o : Option Image) → IfSome o (IsNextDump s) → IfSome o (λ d. i.header.serial ≢ d.header.serial) → IfSome o (IsNextDump (replaced s new))
+    dump None was other = tt
+    dump (Some d) was other = dump_stays_lem.replaces s i d new sound is more other was
+
+pub slots_follow_images_lem : SlotsFollowImages
+slots_follow_images_lem = record { adds = adds_enters; commits = commits_enters; replaces = replaces_enters }

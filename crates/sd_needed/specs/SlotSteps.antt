@@ -1,10 +1,10 @@
 -- How the beliefs about slots follow the steps of a store and the calls that are made on slots.
-use Rattle.std.specs.Prelude.{◌≡◌, ◌≢◌, ◌↔◌, ℕ, true, List, Option, Some, None, Contains, slice_get, slice_set}
+use Rattle.std.specs.Prelude.{◌≡◌, ◌≢◌, ◌↔◌, ℕ, true, List, Option, Some, None, Contains, IfSome, slice_get, slice_set}
 use Rattle.sd_image.specs.Image.{Image}
 use Rattle.sd_image.specs.Shows.{IsTip}
 use Rattle.sd_needed.specs.Needed.{IsNeeded}
-use Rattle.sd_needed.specs.Store.{IsNextDump, IsSound, Store, jobs}
-use Rattle.sd_needed.specs.Steps.{begun, cancelled, merging, retired}
+use Rattle.sd_needed.specs.Store.{IsNextDump, IsNextPreDump, IsSound, IsTwin, Store, jobs}
+use Rattle.sd_needed.specs.Steps.{Adds, added, begun, cancelled, committed, merging, replaced, retired}
 use Rattle.sd_needed.specs.Beliefs.{AreSlotsOf, Belief, Closed, Kept, Closing, Opening, IsAdded, image_at}
 
 -- a list lacks one image
@@ -38,3 +38,17 @@ pub record SlotsFollowJobs : Type 0 where
   pub cancels : (s : Store) (beliefs : List Belief) → IsSound s → AreSlotsOf s None beliefs → AreSlotsOf (cancelled s) None beliefs
   pub merges : (s : Store) (tip : Image) (pending : Option Image) (beliefs : List Belief) → IsSound s → IsTip s.catalog tip → s.source ≡ None
       → AreSlotsOf s pending beliefs → AreSlotsOf (merging s tip) pending beliefs
+
+-- The image of a slot that is being opened enters the catalog: a pre-dump, the pending dump, or the image of the running merge.
+pub record SlotsFollowImages : Type 0 where
+  pub adds : (s : Store) (beliefs : List Belief) (slot : ℕ) (i : Image) (new : List Image) → IsSound s → AreSlotsOf s None beliefs
+      → slice_get beliefs slot ≡ Some (Opening i) → IsNextPreDump s i → Adds s.catalog i new
+      → AreSlotsOf (added s new i.header.stands_for) None (with_belief beliefs slot (Kept i))
+  pub commits : (s : Store) (beliefs : List Belief) (slot : ℕ) (i : Image) (new : List Image) → IsSound s → AreSlotsOf s (Some i) beliefs
+      → slice_get beliefs slot ≡ Some (Opening i) → Adds s.catalog i new
+      → AreSlotsOf (committed s new) None (with_belief beliefs slot (Kept i))
+  pub replaces : (s : Store) (pending : Option Image) (beliefs : List Belief) (slot : ℕ) (i : Image) (new : List Image) → IsSound s → AreSlotsOf s pending beliefs
+      → slice_get beliefs slot ≡ Some (Opening i) → IsTwin s.catalog s.source i → Adds s.catalog i new
+      → ((j : Image) → Contains beliefs (Opening j) → IsTwin s.catalog s.source j → j ≡ i)
+      → IfSome pending (λ dump. i.header.serial ≢ dump.header.serial)
+      → AreSlotsOf (replaced s new) pending (with_belief beliefs slot (Kept i))

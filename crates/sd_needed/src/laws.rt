@@ -4,7 +4,7 @@ ghost use Rattle.sd_needed.specs.Cut.{CutHoldsTheSame, CutShowsTheSame, CutShows
 ghost use Rattle.sd_needed.specs.Gates.{LeftAsBelieved};
 ghost use Rattle.sd_needed.specs.Harmless.{DumpIsPending, PreDumpIsHarmless, TwinIsHarmless, UnusedIsUncalled};
 ghost use Rattle.sd_needed.specs.Needed.{NeededIsReached};
-ghost use Rattle.sd_needed.specs.SlotSteps.{SlotsFollowCalls, SlotsFollowJobs};
+ghost use Rattle.sd_needed.specs.SlotSteps.{SlotsFollowCalls, SlotsFollowImages, SlotsFollowJobs};
 ghost use Rattle.sd_needed.specs.Stays.{DumpStays, FreshStays, SourceReachesNeeded, TwinStays};
 ghost use Rattle.sd_needed.specs.Steps.{StepsKeep};
 ghost use Rattle.sd_needed.specs.Opens.{OpenedIsSound, OrderIsFree, StepsShow};
@@ -109,6 +109,11 @@ pub fn twin_stays()
 /// its image leaves the catalog.
 pub fn slots_follow_calls()
     ensures { SlotsFollowCalls }
+{}
+
+/// They follow an image that enters the catalog: a pre-dump, the pending dump, or the image of the running merge.
+pub fn slots_follow_images()
+    ensures { SlotsFollowImages }
 {}
 
 /// A checkpoint or a merge that begins, and a checkpoint that is cancelled, leave the beliefs about slots.
