@@ -16,3 +16,4 @@ pub mod Stays
 pub mod Gates
 pub mod Needs
 pub mod SlotSteps
+pub mod Found

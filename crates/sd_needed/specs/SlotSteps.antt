@@ -1,10 +1,11 @@
 -- How the beliefs about slots follow the steps of a store and the calls that are made on slots.
-use Rattle.std.specs.Prelude.{◌≡◌, ◌≢◌, ◌↔◌, ℕ, true, List, Option, Some, None, Contains, IfSome, slice_get, slice_set}
-use Rattle.sd_image.specs.Image.{Image}
-use Rattle.sd_image.specs.Shows.{IsTip}
+use Rattle.std.specs.List.{AllZip}
+use Rattle.std.specs.Prelude.{◌≡◌, ◌≢◌, ◌↔◌, ℕ, true, List, Option, Some, None, Contains, IfSome, slice_get, slice_set, false}
+use Rattle.sd_image.specs.Image.{Image, IsImage, is_open}
+use Rattle.sd_image.specs.Shows.{IsTip, IsStore}
 use Rattle.sd_needed.specs.Needed.{IsNeeded}
 use Rattle.sd_needed.specs.Store.{IsNextDump, IsNextPreDump, IsSound, IsTwin, Store, jobs}
-use Rattle.sd_needed.specs.Steps.{Adds, added, begun, cancelled, committed, merging, replaced, retired}
+use Rattle.sd_needed.specs.Steps.{Adds, added, begun, cancelled, committed, merging, replaced, retired, opened}
 use Rattle.sd_needed.specs.Beliefs.{AreSlotsOf, Belief, Closed, Kept, Closing, Opening, IsAdded, image_at}
 
 -- a list lacks one image
@@ -52,3 +53,15 @@ pub record SlotsFollowImages : Type 0 where
       → ((j : Image) → Contains beliefs (Opening j) → IsTwin s.catalog s.source j → j ≡ i)
       → IfSome pending (λ dump. i.header.serial ≢ dump.header.serial)
       → AreSlotsOf (replaced s new) pending (with_belief beliefs slot (Kept i))
+
+-- a slot as it is found: closed, or with its image for sure
+abbrev pub IsFoundAs : Belief → List ℕ → Type 0
+IsFoundAs Closed file = is_open file ≡ false
+IsFoundAs (Kept i) file = IsImage file i
+IsFoundAs (Closing i) file = ⊥
+IsFoundAs (Opening i) file = ⊥
+
+-- The slots of a store that is read without a fault are those of the store as it is opened.
+abbrev pub SlotsAreFound : Type 0
+SlotsAreFound = (contents : List (List ℕ)) (images : List Image) → IsStore contents images
+    → (beliefs : List Belief) × AllZip IsFoundAs beliefs contents × AreSlotsOf (opened images) None beliefs

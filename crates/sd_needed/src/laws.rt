@@ -4,7 +4,7 @@ ghost use Rattle.sd_needed.specs.Cut.{CutHoldsTheSame, CutShowsTheSame, CutShows
 ghost use Rattle.sd_needed.specs.Gates.{LeftAsBelieved};
 ghost use Rattle.sd_needed.specs.Harmless.{DumpIsPending, PreDumpIsHarmless, TwinIsHarmless, UnusedIsUncalled};
 ghost use Rattle.sd_needed.specs.Needed.{NeededIsReached};
-ghost use Rattle.sd_needed.specs.SlotSteps.{SlotsFollowCalls, SlotsFollowImages, SlotsFollowJobs};
+ghost use Rattle.sd_needed.specs.SlotSteps.{SlotsAreFound, SlotsFollowCalls, SlotsFollowImages, SlotsFollowJobs};
 ghost use Rattle.sd_needed.specs.Stays.{DumpStays, FreshStays, SourceReachesNeeded, TwinStays};
 ghost use Rattle.sd_needed.specs.Steps.{StepsKeep};
 ghost use Rattle.sd_needed.specs.Opens.{OpenedIsSound, OrderIsFree, StepsShow};
@@ -103,6 +103,12 @@ pub fn dump_stays()
 /// closed.
 pub fn twin_stays()
     ensures { TwinStays }
+{}
+
+/// The slots of a store that is read without a fault are those of the store as it is opened: each is closed, or keeps its
+/// image.
+pub fn slots_are_found()
+    ensures { SlotsAreFound }
 {}
 
 /// How the beliefs about slots follow the calls on one slot: its gate begins to be opened or closed, or it is closed and
