@@ -9,6 +9,7 @@ pub mod Growth
 pub mod StepLemmas
 pub mod Slots
 pub mod OnePage
+pub mod Files
 pub mod Worked
 pub mod Busy
 pub mod Opens

@@ -133,7 +133,7 @@ left_images_show_lem = record { last = left_last; pending = left_pending }
 
 -- ---- contents
 
-image_opens : (file : List ℕ) (i : Image) → IsImage file i → is_open file ≡ true
+pub image_opens : (file : List ℕ) (i : Image) → IsImage file i → is_open file ≡ true
 image_opens file i image =
     let long : 4096 ≤ length file = omega (arith, image.header.fills) in
     and_from (nat_le 4096 (length file)) (nat_eq (slice_index file 0) 165) (le-leb 4096 (length file) long)
