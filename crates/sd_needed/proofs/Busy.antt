@@ -40,6 +40,7 @@ module _ (bytes : List ℕ) where
   first_dump = record {
     next = record {
       fresh = record {
+        itself = refl;
         serial = λ j c. absurd (contains_none j c);
         number = record {
           stands = λ j c. absurd (contains_none j c);
@@ -95,6 +96,7 @@ module _ (bytes : List ℕ) where
   second_dump = record {
     next = record {
       fresh = record {
+        itself = refl;
         serial = each_of_one (λ k. k.header.serial ≢ 3) a (λ e. omega (arith, e));
         number = record {
           stands = each_of_one (λ k. k.header.stands_for ≢ 3) a (λ e. omega (arith, e));

@@ -9,8 +9,12 @@ pub mod Growth
 pub mod StepLemmas
 pub mod Slots
 pub mod OnePage
+pub mod Files
 pub mod Worked
 pub mod Busy
 pub mod Opens
 pub mod Stays
 pub mod Gates
+pub mod Needs
+pub mod SlotSteps
+pub mod Found

@@ -41,7 +41,7 @@ parents_fall (file ∷ files) images (inr opens) i c = elim (contains_cases open
 serial_of : Image → ℕ
 serial_of i = i.header.serial
 
-other_serials : (serial : ℕ) (images : List Image) (i : Image) → AllByRecursion (λ n. nat_eq serial n ≡ false) (map (λ (k : Image). k.header.serial) images)
+pub other_serials : (serial : ℕ) (images : List Image) (i : Image) → AllByRecursion (λ n. nat_eq serial n ≡ false) (map (λ (k : Image). k.header.serial) images)
     → Contains images i → serial ≡ i.header.serial → ⊥
 other_serials serial [] i all c e = contains_none i c
 other_serials serial (one ∷ images) i all c e = elim (contains_cases one i images c) [

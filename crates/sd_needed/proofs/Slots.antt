@@ -48,7 +48,7 @@ was_opening (Opening j ∷ beliefs) i c = elim (contains_cases j i (openings bel
 
 -- what is being opened, beside the pending dump, is harmless
 harmless_or_pending : (s : Store) (pending : Option Image) (i : Image) → IsSound s → IsAdded s pending i → IsHarmless s.catalog (jobs s) i ⊎ (pending ≡ Some i)
-harmless_or_pending s pending i sound (inl pre) = inl (pre_dump_is_harmless_lem s.catalog (jobs s) i pre.0 pre.1)
+harmless_or_pending s pending i sound (inl pre) = inl (pre_dump_is_harmless_lem s.catalog (jobs s) i pre.0 pre.1.number)
 harmless_or_pending s pending i sound (inr (inl twin)) =
     let merged : IsMerged s twin.source = subst (λ (o : Option Image). IfSome o (IsMerged s)) twin.running sound.merged in
     inl (twin_is_harmless_lem s.catalog (jobs s) twin.source i merged.is twin.repeats)
@@ -133,7 +133,7 @@ left_images_show_lem = record { last = left_last; pending = left_pending }
 
 -- ---- contents
 
-image_opens : (file : List ℕ) (i : Image) → IsImage file i → is_open file ≡ true
+pub image_opens : (file : List ℕ) (i : Image) → IsImage file i → is_open file ≡ true
 image_opens file i image =
     let long : 4096 ≤ length file = omega (arith, image.header.fills) in
     and_from (nat_le 4096 (length file)) (nat_eq (slice_index file 0) 165) (le-leb 4096 (length file) long)

@@ -9,7 +9,7 @@ use Rattle.sd_needed.specs.Reached.{itself, beyond}
 use Rattle.sd_needed.specs.Cut.{KeepsItsNumber, Repeats}
 use Rattle.sd_needed.specs.Store.{IsFresh, IsMerged, IsNext, IsNextDump, IsSound, IsTwin, Store, jobs}
 use Rattle.sd_needed.specs.Steps.{Adds, Retires, added, begun, cancelled, committed, merging, replaced, retired}
-use Rattle.sd_needed.specs.Stays.{AreApart, DumpStays, FreshStays, SourceReachesNeeded, TwinStays}
+use Rattle.sd_needed.specs.Stays.{DumpStays, FreshStays, SourceReachesNeeded, TwinStays}
 use Rattle.sd_needed.proofs.Cuts.{cut_holds_the_same_lem, needed_in}
 use Rattle.sd_needed.proofs.Harmless.{unused_is_uncalled_lem}
 use Rattle.sd_needed.proofs.Walks.{reaches_called}
@@ -44,6 +44,7 @@ module _ (s : Store) (i : Image) (fresh : IsFresh s i) where
 
   begins : (tip : Image) → IsTip s.catalog tip → IsFresh (begun s tip.header.stands_for) i
   begins tip is = record {
+    itself = fresh.itself;
     serial = fresh.serial;
     number = record {
       stands = fresh.number.stands;
@@ -56,6 +57,7 @@ module _ (s : Store) (i : Image) (fresh : IsFresh s i) where
 
   begins_whole : IsFresh (begun s 0) i
   begins_whole = record {
+    itself = fresh.itself;
     serial = fresh.serial;
     number = record { stands = fresh.number.stands; names = fresh.number.names; asks = asks_chain s number 0 fresh.number.asks some };
     apart = fresh.apart;
@@ -64,6 +66,7 @@ module _ (s : Store) (i : Image) (fresh : IsFresh s i) where
 
   cancels : IsFresh (cancelled s) i
   cancels = record {
+    itself = fresh.itself;
     serial = fresh.serial;
     number = record { stands = fresh.number.stands; names = fresh.number.names; asks = asks_work s number fresh.number.asks };
     apart = fresh.apart;
@@ -72,6 +75,7 @@ module _ (s : Store) (i : Image) (fresh : IsFresh s i) where
 
   merges : (tip : Image) → IsTip s.catalog tip → IsFresh (merging s tip) i
   merges tip is = record {
+    itself = fresh.itself;
     serial = fresh.serial;
     number = record {
       stands = fresh.number.stands;
@@ -92,23 +96,28 @@ module _ (s : Store) (i : Image) (fresh : IsFresh s i) where
   other_parent : (one : Image) → IsNext s one → one.header.parent ≢ number
   other_parent one next e = fresh.number.asks (Contains-append_left s.chain s.work number (subst (Contains s.chain) e next.parent))
 
-  adds : (one : Image) (new : List Image) → IsNext s one → Adds s.catalog one new → AreApart one i → IsFresh (added s new one.header.stands_for) i
+  other_number : (one : Image) → IsNext s one → one.header.serial ≢ i.header.serial → one.header.stands_for ≢ number
+  other_number one next apart e = apart (sym next.fresh.itself ∙ e ∙ fresh.itself)
+
+  adds : (one : Image) (new : List Image) → IsNext s one → Adds s.catalog one new → one.header.serial ≢ i.header.serial → IsFresh (added s new one.header.stands_for) i
   adds one new next is apart = record {
-    serial = more (λ j. j.header.serial ≢ i.header.serial) s.catalog new one is apart.serial fresh.serial;
+    itself = fresh.itself;
+    serial = more (λ j. j.header.serial ≢ i.header.serial) s.catalog new one is apart fresh.serial;
     number = record {
-      stands = more (λ j. j.header.stands_for ≢ number) s.catalog new one is apart.number fresh.number.stands;
+      stands = more (λ j. j.header.stands_for ≢ number) s.catalog new one is (other_number one next apart) fresh.number.stands;
       names = more (λ j. j.header.parent ≢ number) s.catalog new one is (other_parent one next) fresh.number.names;
-      asks = asks_chain s number one.header.stands_for fresh.number.asks apart.number;
+      asks = asks_chain s number one.header.stands_for fresh.number.asks (other_number one next apart);
     };
     apart = fresh.apart;
     falls = fresh.falls;
   }
 
-  commits : (one : Image) (new : List Image) → IsNext s one → Adds s.catalog one new → AreApart one i → IsFresh (committed s new) i
+  commits : (one : Image) (new : List Image) → IsNext s one → Adds s.catalog one new → one.header.serial ≢ i.header.serial → IsFresh (committed s new) i
   commits one new next is apart = record {
-    serial = more (λ j. j.header.serial ≢ i.header.serial) s.catalog new one is apart.serial fresh.serial;
+    itself = fresh.itself;
+    serial = more (λ j. j.header.serial ≢ i.header.serial) s.catalog new one is apart fresh.serial;
     number = record {
-      stands = more (λ j. j.header.stands_for ≢ number) s.catalog new one is apart.number fresh.number.stands;
+      stands = more (λ j. j.header.stands_for ≢ number) s.catalog new one is (other_number one next apart) fresh.number.stands;
       names = more (λ j. j.header.parent ≢ number) s.catalog new one is (other_parent one next) fresh.number.names;
       asks = asks_work s number fresh.number.asks;
     };
@@ -121,6 +130,7 @@ module _ (s : Store) (i : Image) (fresh : IsFresh s i) where
       let apart : twin.source.header.stands_for ≢ number =
       subst (λ (o : Option Image). IfSome o (λ source. source.header.stands_for ≢ number)) twin.running fresh.apart in
       record {
+        itself = fresh.itself;
         serial = more (λ j. j.header.serial ≢ i.header.serial) s.catalog new one is serial fresh.serial;
         number = record {
           stands = more (λ j. j.header.stands_for ≢ number) s.catalog new one is (λ e. apart (sym twin.repeats.stands ∙ e)) fresh.number.stands;
@@ -136,6 +146,7 @@ module _ (s : Store) (i : Image) (fresh : IsFresh s i) where
 
   retires : (new : List Image) → Retires s new → IsFresh (retired s new) i
   retires new is = record {
+    itself = fresh.itself;
     serial = λ j c. fresh.serial j (is.within j c);
     number = record {
       stands = λ j c. fresh.number.stands j (is.within j c);

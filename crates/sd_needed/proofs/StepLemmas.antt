@@ -61,7 +61,7 @@ same_merged s t (Some source) was keeps = keeps source was
 
 module _ (s : Store) (sound : IsSound s) where
   -- the parent is the tip's own number
-  begun_called : (tip : Image) → s.grows ≡ true → IsTip s.catalog tip → (number : ℕ)
+  pub begun_called : (tip : Image) → s.grows ≡ true → IsTip s.catalog tip → (number : ℕ)
       → IsCalled s.catalog (jobs (begun s tip.header.stands_for)) number → WasOr s tip.header.stands_for number
   begun_called tip grows is = called_all s.catalog (jobs (begun s tip.header.stands_for)) (WasOr s tip.header.stands_for)
       (λ t is. inl (of_tip s t is)) (one_more s tip.header.stands_for)
@@ -101,10 +101,10 @@ module _ (s : Store) (sound : IsSound s) where
   }
 
   -- nothing stands for 0
-  nothing_at_0 : (i : Image) → Contains s.catalog i → i.header.stands_for ≡ 0 → ⊥
+  pub nothing_at_0 : (i : Image) → Contains s.catalog i → i.header.stands_for ≡ 0 → ⊥
   nothing_at_0 i c is = let falls = sound.fall i c in absurd (omega (arith, falls, is))
 
-  whole_called : (number : ℕ) → IsCalled s.catalog (jobs (begun s 0)) number → WasOr s 0 number
+  pub whole_called : (number : ℕ) → IsCalled s.catalog (jobs (begun s 0)) number → WasOr s 0 number
   whole_called = called_all s.catalog (jobs (begun s 0)) (WasOr s 0)
       (λ t is. inl (of_tip s t is)) (one_more s 0)
       (λ number i was named. elim was [
@@ -130,7 +130,7 @@ module _ (s : Store) (sound : IsSound s) where
 
   -- ---- a checkpoint is cancelled
 
-  cancelled_called : (number : ℕ) → IsCalled s.catalog (jobs (cancelled s)) number → Was s number
+  pub cancelled_called : (number : ℕ) → IsCalled s.catalog (jobs (cancelled s)) number → Was s number
   cancelled_called = called_all s.catalog (jobs (cancelled s)) (Was s) (of_tip s) (of_work s) (of_named s)
 
   cancels : IsSound (cancelled s)
@@ -146,7 +146,7 @@ module _ (s : Store) (sound : IsSound s) where
   -- ---- a merge begins
 
   module _ (top : Image) (is_top : IsTip s.catalog top) where
-    merging_called : (number : ℕ) → IsCalled s.catalog (jobs (merging s top)) number → Was s number
+    pub merging_called : (number : ℕ) → IsCalled s.catalog (jobs (merging s top)) number → Was s number
     merging_called = called_all s.catalog (jobs (merging s top)) (Was s) (of_tip s)
         (λ number c. elim (Contains-append_cases s.chain (top.header.parent ∷ []) number c) [
           | inl chain ↦ of_chain s number chain
@@ -174,13 +174,13 @@ module _ (s : Store) (sound : IsSound s) where
     never_tip : IsRestorable i → ⊥
     never_tip restorable = restorable is.kind
 
-    old_tip : (t : Image) → IsTip new t → IsTip s.catalog t
+    pub old_tip : (t : Image) → IsTip new t → IsTip s.catalog t
     old_tip t tip = elim (fewer_tip s.catalog new i t adds tip) [
       | inl same ↦ absurd (never_tip (subst IsRestorable same tip.restorable))
       | inr was ↦ was
     ]
 
-    added_called : (number : ℕ) → IsCalled new (jobs (added s new i.header.stands_for)) number → WasOr s i.header.stands_for number
+    pub added_called : (number : ℕ) → IsCalled new (jobs (added s new i.header.stands_for)) number → WasOr s i.header.stands_for number
     added_called = called_all new (jobs (added s new i.header.stands_for)) (WasOr s i.header.stands_for)
         (λ t tip. inl (of_tip s t (old_tip t tip))) (one_more s i.header.stands_for)
         (λ number j was named. elim (fewer_named s.catalog new i number j adds named) [
@@ -221,7 +221,7 @@ module _ (s : Store) (sound : IsSound s) where
   -- ---- a dump is committed
 
   module _ (i : Image) (new : List Image) (is : IsNextDump s i) (adds : Adds s.catalog i new) where
-    committed_called : (number : ℕ) → IsCalled new (jobs (committed s new)) number → Was s number
+    pub committed_called : (number : ℕ) → IsCalled new (jobs (committed s new)) number → Was s number
     committed_called = called_all new (jobs (committed s new)) (Was s)
         (λ t tip. elim (fewer_tip s.catalog new i t adds tip) [
           | inl same ↦ subst (λ (k : Image). Was s k.header.parent) (sym same) (of_chain s i.header.parent is.next.parent)
@@ -277,7 +277,7 @@ module _ (s : Store) (sound : IsSound s) where
     source_was : IsMerged s is.source
     source_was = subst (λ (o : Option Image). IfSome o (IsMerged s)) is.running sound.merged
 
-    replaced_called : (number : ℕ) → IsCalled new (jobs (replaced s new)) number → WasOr s 0 number
+    pub replaced_called : (number : ℕ) → IsCalled new (jobs (replaced s new)) number → WasOr s 0 number
     replaced_called = called_all new (jobs (replaced s new)) (WasOr s 0)
         (λ t tip. elim (fewer_tip s.catalog new twin t adds tip) [
           | inl same ↦ inr (ap (λ (k : Image). k.header.parent) same ∙ is.alone)
@@ -344,7 +344,7 @@ module _ (s : Store) (sound : IsSound s) where
   -- ---- images are retired
 
   module _ (new : List Image) (is : Retires s new) where
-    tip_back : (t : Image) → IsTip new t → IsTip s.catalog t
+    pub tip_back : (t : Image) → IsTip new t → IsTip s.catalog t
     tip_back t tip =
         let old = some_tip s.catalog t (is.within t tip.member) tip.restorable in
         let after = tip.greatest old.0 (is.needed old.0 (inl old.1)) old.1.restorable in
@@ -358,7 +358,7 @@ module _ (s : Store) (sound : IsSound s) where
       greatest = λ j c restorable. tip.greatest j (is.within j c) restorable;
     }
 
-    name_back : (number : ℕ) (j : Image) → Was s number → IsNamed new number j → IsNamed s.catalog number j
+    pub name_back : (number : ℕ) (j : Image) → Was s number → IsNamed new number j → IsNamed s.catalog number j
     name_back number j was named =
         let old = some_named s.catalog number j (is.within j named.member) named.stands in
         let low = named.greatest old.0 (is.needed old.0 (inr (number, was, old.1))) old.1.stands in
@@ -369,7 +369,7 @@ module _ (s : Store) (sound : IsSound s) where
     name_stays : (number : ℕ) (j : Image) → Contains new j → IsNamed s.catalog number j → IsNamed new number j
     name_stays number j c named = record { member = c; stands = named.stands; greatest = λ k d is_too. named.greatest k (is.within k d) is_too }
 
-    retired_called : (number : ℕ) → IsCalled new (jobs (retired s new)) number → Was s number
+    pub retired_called : (number : ℕ) → IsCalled new (jobs (retired s new)) number → Was s number
     retired_called = called_all new (jobs (retired s new)) (Was s) (λ t tip. of_tip s t (tip_back t tip)) (λ number c. by_job number c)
         (λ number j was named. of_named s number j was (name_back number j was named))
 

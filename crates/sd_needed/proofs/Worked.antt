@@ -1,19 +1,21 @@
 -- The worked stores show what they are said to show.
-use Rattle.std.specs.List.{slice_get}
-use Rattle.std.proofs.Common.{◌≡◌, ◌⊎◌, ◌<◌, ◌≤◌, ℕ, List, [], ◌∷◌, Some, Contains, refl, sym, ◌∙◌, ap, subst, inl, inr, arith}
+use Rattle.sd_needed.proofs.Slots.{image_opens}
+use Rattle.sd_needed.proofs.Files.{a_file, b_file, m_file}
+use Rattle.std.specs.List.{slice_get, IsDistinct}
+use Rattle.std.proofs.Common.{◌≡◌, ◌⊎◌, ◌<◌, ◌≤◌, ℕ, List, [], ◌∷◌, Some, Contains, refl, sym, ◌∙◌, ap, subst, inl, inr, arith, length}
 use Rattle.sd_areas.specs.Pages.{pages_from}
 use Rattle.sd_image.specs.declared.header.Kind.{Kind}
 use Rattle.sd_image.specs.declared.header.Kind.TheVariants.{PreDump, Dump, Merged}
 use Rattle.sd_image.specs.declared.run.RunKind.TheVariants.{Data, Parent, Zero}
 use Rattle.sd_image.specs.Table.{Listed}
-use Rattle.sd_image.specs.Image.{Image}
-use Rattle.sd_image.specs.Shows.{Holds, by_data, by_parent, IsNamed, IsNotAfter, IsRestorable, IsTip, by_zero, pages_of}
+use Rattle.sd_image.specs.Image.{Image, OpenImages}
+use Rattle.sd_image.specs.Shows.{Holds, by_data, by_parent, IsNamed, IsNotAfter, IsRestorable, IsTip, by_zero, pages_of, Shows}
 use Rattle.sd_needed.specs.Reached.{Reaches, itself, beyond}
 use Rattle.sd_needed.specs.Needed.{by_job}
 use Rattle.sd_needed.specs.Cut.{ImagesShow, SerialsDiffer, HoldsAlike, Repeats}
 use Rattle.sd_needed.specs.Store.{IsSound}
 use Rattle.sd_needed.specs.Steps.{begun, opened}
-use Rattle.sd_needed.specs.Worked.{ChainRows, WhyItGrows, found, memory_of, merged, one_page, unchanged, whole}
+use Rattle.sd_needed.specs.Worked.{ChainRows, WhyItGrows, found, memory_of, merged, one_page, unchanged, whole, file_of}
 use Rattle.sd_needed.proofs.Choose.{one_named}
 use Rattle.sd_needed.proofs.Members.{contains_cases, contains_front, contains_later, contains_none}
 use Rattle.sd_needed.proofs.OnePage.{page_memory}
@@ -165,6 +167,35 @@ module _ (bytes other : List ℕ) where
     | inr e ↦ let same : 1 ≡ 3 = ap (λ (k : Image). k.header.serial) e in omega (arith, same)
   ]
 
+  -- the files of the three
+  open_files : length bytes ≡ 4096 → length other ≡ 4096 → OpenImages (file_of a ∷ file_of b ∷ file_of m ∷ []) three
+  open_files long long_too =
+      let first = a_file bytes long in
+      let last = m_file other long_too in
+      inr (
+        a,
+        b ∷ m ∷ [],
+        refl,
+        image_opens (file_of a) a first,
+        first,
+        inr (
+          b,
+          m ∷ [],
+          refl,
+          image_opens (file_of b) b b_file,
+          b_file,
+          inr (m, [], refl, image_opens (file_of m) m last, last, refl),
+        ),
+      )
+
+  file_rows : length bytes ≡ 4096 → length other ≡ 4096 → Shows (file_of a ∷ file_of b ∷ file_of m ∷ []) (Some (2, memory_of other))
+  unfolding IsDistinct
+  file_rows long long_too = record {
+    images = three;
+    store = record { slots = open_files long long_too; serials = ((refl, (refl, tt)), ((refl, tt), (tt, tt))) };
+    newest = third_row;
+  }
+
   pub chain_rows_lem : ChainRows bytes other
   chain_rows_lem = record {
     first = first_row;
@@ -172,6 +203,7 @@ module _ (bytes other : List ℕ) where
     third = third_row;
     reaches = beyond b m m_named itself;
     no_more = a_not_reached;
+    files = file_rows;
   }
 
   -- ---- a store whose tip isn't named by its own number

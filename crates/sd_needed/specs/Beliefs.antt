@@ -7,8 +7,7 @@ use Rattle.sd_image.specs.Image.{Image, IsImage, is_open}
 use Rattle.sd_image.specs.Shows.{Shows}
 use Rattle.sd_needed.specs.Needed.{IsNeeded}
 use Rattle.sd_needed.specs.Cut.{ImagesShow}
-use Rattle.sd_needed.specs.Harmless.{IsUnused}
-use Rattle.sd_needed.specs.Store.{IsNextDump, IsSound, IsTwin, Store, jobs}
+use Rattle.sd_needed.specs.Store.{IsFresh, IsNextDump, IsSound, IsTwin, Store, jobs}
 
 -- a slot is closed, or keeps its image, or is being closed or opened: it is closed or has the image
 pub data Belief : Type 0 where
@@ -26,9 +25,9 @@ image_in (Opening i) = Some i
 abbrev pub image_at : List Belief → ℕ → Option Image
 image_at beliefs slot = option_and_then image_in (slice_get beliefs slot)
 
--- a pre-dump that nobody calls for, also one that was given up; the image of the running merge; or the pending dump
+-- a fresh pre-dump, also one that was given up; the image of the running merge; or the pending dump
 abbrev pub IsAdded : Store → Option Image → Image → Type 0
-IsAdded s pending i = ((i.header.kind ≡ PreDump) × IsUnused s.catalog (jobs s) i.header.stands_for) ⊎ (IsTwin s.catalog s.source i ⊎ (pending ≡ Some i))
+IsAdded s pending i = ((i.header.kind ≡ PreDump) × IsFresh s i) ⊎ (IsTwin s.catalog s.source i ⊎ (pending ≡ Some i))
 
 -- The slots are those of a store: its catalog is what is kept or being closed, it keeps all that is needed, and what is being opened may be added.
 pub record AreSlotsOf (s : Store) (pending : Option Image) (beliefs : List Belief) : Type 0 where

@@ -7,5 +7,6 @@ pub mod Steps
 pub mod Opens
 pub mod Stays
 pub mod Beliefs
+pub mod SlotSteps
 pub mod Gates
 pub mod Worked

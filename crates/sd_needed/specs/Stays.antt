@@ -7,17 +7,12 @@ use Rattle.sd_needed.specs.Reached.{Reaches}
 use Rattle.sd_needed.specs.Store.{IsFresh, IsNext, IsNextDump, IsSound, IsTwin, Store, jobs}
 use Rattle.sd_needed.specs.Steps.{Adds, Retires, added, begun, cancelled, committed, merging, replaced, retired}
 
--- two images have neither one serial nor one number
-pub record AreApart (i j : Image) : Type 0 where
-  pub serial : i.header.serial ≢ j.header.serial
-  pub number : i.header.stands_for ≢ j.header.stands_for
-
 -- Its serial and its number stay new.
 pub record FreshStays : Type 0 where
   pub begins : (s : Store) (tip i : Image) → IsTip s.catalog tip → IsFresh s i → IsFresh (begun s tip.header.stands_for) i
   pub begins_whole : (s : Store) (i : Image) → IsFresh s i → IsFresh (begun s 0) i
-  pub adds : (s : Store) (one i : Image) (new : List Image) → IsNext s one → Adds s.catalog one new → AreApart one i → IsFresh s i → IsFresh (added s new one.header.stands_for) i
-  pub commits : (s : Store) (one i : Image) (new : List Image) → IsNext s one → Adds s.catalog one new → AreApart one i → IsFresh s i → IsFresh (committed s new) i
+  pub adds : (s : Store) (one i : Image) (new : List Image) → IsNext s one → Adds s.catalog one new → one.header.serial ≢ i.header.serial → IsFresh s i → IsFresh (added s new one.header.stands_for) i
+  pub commits : (s : Store) (one i : Image) (new : List Image) → IsNext s one → Adds s.catalog one new → one.header.serial ≢ i.header.serial → IsFresh s i → IsFresh (committed s new) i
   pub cancels : (s : Store) (i : Image) → IsFresh s i → IsFresh (cancelled s) i
   pub merges : (s : Store) (tip i : Image) → IsTip s.catalog tip → IsFresh s i → IsFresh (merging s tip) i
   pub replaces : (s : Store) (one i : Image) (new : List Image) → IsTwin s.catalog s.source one → Adds s.catalog one new → one.header.serial ≢ i.header.serial

@@ -31,8 +31,9 @@ pub record IsSound (s : Store) : Type 0 where
   pub merged : IfSome s.source (IsMerged s)
   pub own : s.grows ≡ true → (tip : Image) → IsTip s.catalog tip → IsNamed s.catalog tip.header.stands_for tip
 
--- an image to come: its serial is new, and nobody has the number that it stands for
+-- an image to come: it stands for its own serial, which is new
 pub record IsFresh (s : Store) (i : Image) : Type 0 where
+  pub itself : i.header.stands_for ≡ i.header.serial
   pub serial : (j : Image) → Contains s.catalog j → j.header.serial ≢ i.header.serial
   pub number : IsUnused s.catalog (jobs s) i.header.stands_for
   pub apart : IfSome s.source (λ source. source.header.stands_for ≢ i.header.stands_for)

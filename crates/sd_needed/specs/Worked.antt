@@ -1,14 +1,14 @@
 -- Worked stores of one page, page 16 of space 1.
-use Rattle.std.specs.Prelude.{◌⊎◌, ℕ, true, false, List, [], ◌∷◌, length, Some}
+use Rattle.std.specs.Prelude.{◌⊎◌, ℕ, true, false, List, [], ◌∷◌, length, Some, ◌≡◌}
 use Rattle.sd_areas.specs.declared.prot.Prot.{Prot}
 use Rattle.sd_areas.specs.PlainMemory.{PlainMemory}
 use Rattle.sd_image.specs.declared.header.Kind.{Kind}
 use Rattle.sd_image.specs.declared.header.Kind.TheVariants.{Dump, Merged}
 use Rattle.sd_image.specs.declared.run.RunKind.{RunKind}
 use Rattle.sd_image.specs.declared.run.RunKind.TheVariants.{Data, Parent}
-use Rattle.sd_image.specs.Image.{Image}
+use Rattle.sd_image.specs.Image.{Image, gate, image_text}
 use Rattle.sd_image.specs.Laws.{first_memory}
-use Rattle.sd_image.specs.Shows.{IsNamed, IsTip}
+use Rattle.sd_image.specs.Shows.{IsNamed, IsTip, Shows}
 use Rattle.sd_needed.specs.Reached.{Reaches}
 use Rattle.sd_needed.specs.Cut.{ImagesShow, Repeats}
 use Rattle.sd_needed.specs.Store.{IsSound, Store}
@@ -38,6 +38,10 @@ unchanged serial parent checkpoint = one_page Dump serial serial parent checkpoi
 abbrev pub merged : ℕ → ℕ → ℕ → List ℕ → Image
 merged serial stands_for checkpoint bytes = one_page Merged serial stands_for 0 checkpoint Data (bytes ∷ [])
 
+-- the file of an image
+abbrev pub file_of : Image → List ℕ
+file_of i = gate ∷ image_text i
+
 -- A dump; a second one that names it; and a merged image that takes the first one's place, with other bytes so that it is seen.
 pub record ChainRows (bytes other : List ℕ) : Type 0 where
   pub first : ImagesShow (whole 1 1 bytes ∷ []) (Some (1, memory_of bytes))
@@ -45,6 +49,8 @@ pub record ChainRows (bytes other : List ℕ) : Type 0 where
   pub third : ImagesShow (whole 1 1 bytes ∷ unchanged 2 1 2 ∷ merged 3 1 1 other ∷ []) (Some (2, memory_of other))
   pub reaches : Reaches (whole 1 1 bytes ∷ unchanged 2 1 2 ∷ merged 3 1 1 other ∷ []) (merged 3 1 1 other) (unchanged 2 1 2)
   pub no_more : Reaches (whole 1 1 bytes ∷ unchanged 2 1 2 ∷ merged 3 1 1 other ∷ []) (whole 1 1 bytes) (unchanged 2 1 2) → ⊥
+  pub files : length bytes ≡ 4096 → length other ≡ 4096
+      → Shows (file_of (whole 1 1 bytes) ∷ file_of (unchanged 2 1 2) ∷ file_of (merged 3 1 1 other) ∷ []) (Some (2, memory_of other))
 
 -- a checkpoint beside a merge, the gates of both images being opened
 abbrev pub busy : List ℕ → Store

@@ -4,6 +4,7 @@ ghost use Rattle.sd_needed.specs.Cut.{CutHoldsTheSame, CutShowsTheSame, CutShows
 ghost use Rattle.sd_needed.specs.Gates.{LeftAsBelieved};
 ghost use Rattle.sd_needed.specs.Harmless.{DumpIsPending, PreDumpIsHarmless, TwinIsHarmless, UnusedIsUncalled};
 ghost use Rattle.sd_needed.specs.Needed.{NeededIsReached};
+ghost use Rattle.sd_needed.specs.SlotSteps.{SlotsAreFound, SlotsFollowCalls, SlotsFollowImages, SlotsFollowJobs};
 ghost use Rattle.sd_needed.specs.Stays.{DumpStays, FreshStays, SourceReachesNeeded, TwinStays};
 ghost use Rattle.sd_needed.specs.Steps.{StepsKeep};
 ghost use Rattle.sd_needed.specs.Opens.{OpenedIsSound, OrderIsFree, StepsShow};
@@ -102,6 +103,28 @@ pub fn dump_stays()
 /// closed.
 pub fn twin_stays()
     ensures { TwinStays }
+{}
+
+/// The slots of a store that is read without a fault are those of the store as it is opened: each is closed, or keeps its
+/// image.
+pub fn slots_are_found()
+    ensures { SlotsAreFound }
+{}
+
+/// How the beliefs about slots follow the calls on one slot: its gate begins to be opened or closed, or it is closed and
+/// its image leaves the catalog.
+pub fn slots_follow_calls()
+    ensures { SlotsFollowCalls }
+{}
+
+/// They follow an image that enters the catalog: a pre-dump, the pending dump, or the image of the running merge.
+pub fn slots_follow_images()
+    ensures { SlotsFollowImages }
+{}
+
+/// A checkpoint or a merge that begins, and a checkpoint that is cancelled, leave the beliefs about slots.
+pub fn slots_follow_jobs()
+    ensures { SlotsFollowJobs }
 {}
 
 /// Whatever a crash leaves of a sound store's slots shows what the store shows, or the pending checkpoint and its memory.
