@@ -1,16 +1,17 @@
 -- What a program's exit status says.
-use Rattle.std.proofs.Common.{◌≡◌, ◌+◌, ◌<◌, ◌≤◌, ℕ, List, All, Result, Ok, Err, OnOk, sym, ◌∙◌, inl, inr, arith}
-use Rattle.std.proofs.lemmas.List.Elements.{All-map}
+use Rattle.std.proofs.Common.{◌≡◌, ◌+◌, ◌<◌, ◌≤◌, ℕ, List, All, Result, Ok, Err, OnOk, ap, slice_index_or, sym, ◌∙◌, inl, inr, arith}
+use Rattle.std.proofs.lemmas.List.Elements.{All-contains, All-contains_itself}
+use Rattle.sd_image.specs.declared.header.Header.{Header}
 use Rattle.sd_image.specs.Image.{Image}
 use Rattle.sd_image.specs.Shows.{IsStore}
 use Rattle.sd_image.specs.Laws.{IsReady}
-use Rattle.ckpt.specs.declared.fault.Fault.{Fault}
-use Rattle.ckpt.specs.declared.fault.Fault.TheVariants.{EmptyChain, Damaged, Device, OutOfMemory}
-use Rattle.ckpt.specs.declared.found.Found.{Found}
+use Rattle.sd_chain.specs.Catalog.{Opened, Places, images}
+use Rattle.sd_chain.specs.Store.{HasTheImages}
+use Rattle.sd_restore.specs.declared.fault.Fault.{Fault}
+use Rattle.sd_restore.specs.declared.fault.Fault.TheVariants.{EmptyChain, Damaged, Device, OutOfMemory}
 use Rattle.ckpt.specs.declared.stop.Stop.{Stop}
 use Rattle.ckpt.specs.declared.stop.Stop.TheVariants as stop
 use Rattle.ckpt.specs.Ending.{Ends, status_of}
-use Rattle.ckpt.specs.Found.{image_of, images_of}
 
 pub on_ok : {A B : Type 0} {P : Type 0} (result : Result A B) → P → OnOk result P
 on_ok (Ok value) p = p
@@ -31,12 +32,16 @@ came_to_its_end (Err (stop.Fault fault)) status (inr e) done is = absurd (omega 
 came_to_its_end (Err (stop.Writer error)) status e done is = absurd (let f : status ≡ 1 = e in omega (arith, f, is))
 
 -- a store is ready for the number above all of its own
-pub ready_of : (contents : List (List ℕ)) (found : List Found) (greatest : ℕ) → IsStore contents (images_of contents found)
-    → All (λ (one : Found). one.header.serial ≤ greatest) found → All (λ (one : Found). one.header.checkpoint ≤ greatest) found
+pub ready_of : (contents : List (List ℕ)) (places : Places) (all : List Image) (greatest : ℕ) → HasTheImages contents places all → IsStore contents all
+    → All (λ (i : Opened). i.header.serial ≤ greatest) (images places) → All (λ (i : Opened). i.header.checkpoint ≤ greatest) (images places)
     → IsReady contents (greatest + 1)
-ready_of contents found greatest store serials checkpoints = record {
-  images = images_of contents found;
+ready_of contents places all greatest has store serials checkpoints = record {
+  images = all;
   store = store;
-  below = All-map (λ (i : Image). (i.header.serial < greatest + 1) × (i.header.checkpoint < greatest + 1)) (image_of contents) found
-      (λ k d within. let s = serials k d within in let c = checkpoints k d within in (omega (arith, s), omega (arith, c)));
+  below = λ k d within.
+      let image = slice_index_or all k d in
+      let found = has.opened image (All-contains_itself all k d within) in
+      let serial : found.0.header.serial ≤ greatest = All-contains (λ (i : Opened). i.header.serial ≤ greatest) (images places) found.0 serials found.1 in
+      let checkpoint : found.0.header.checkpoint ≤ greatest = All-contains (λ (i : Opened). i.header.checkpoint ≤ greatest) (images places) found.0 checkpoints found.1 in
+      (omega (arith, serial, ap (λ (h : Header). h.serial) found.2.header), omega (arith, checkpoint, ap (λ (h : Header). h.checkpoint) found.2.header));
 }

@@ -9,21 +9,14 @@ pub mod TextLemmas
 pub mod RawLemmas
 pub mod TakeLemmas
 pub mod FileLemmas
-pub mod TipLemmas
-pub mod SerialLemmas
-pub mod PageLemmas
-pub mod RunLemmas
-pub mod SpaceLemmas
-pub mod MemoryLemmas
-pub mod RestoreLemmas
-pub mod FaultLemmas
 pub mod Fields
 pub mod Numerals
 pub mod Lines
 pub mod Parsing
 pub mod EndingLemmas
-pub mod GoodLemmas
 pub mod PageBytes
 pub mod DumpLemmas
 pub mod SpaceDumps
 pub mod ClearLemmas
+mod ListingLemmas
+mod GreatestLemmas

@@ -23,5 +23,5 @@ pub line_written : (i : Opened) (slot : ℕ) (h : Header) (kind old mid new : Li
     → mid ≡ old ++ (codes "slot " ++ slot_text slot) → new ≡ mid ++ rest_of_line kind h → new ≡ old ++ image_line i
 line_written i slot h kind old mid new at is named begun ended =
     let whole : new ≡ old ++ image_line (record { slot = slot; header = h; spaces = i.spaces }) =
-        ended ∙ ap (λ text. text ++ rest_of_line kind h) begun ∙ ap (λ k. old ++ (codes "slot " ++ slot_text slot) ++ rest_of_line k h) named ∙ simp (append_assoc) in
+    ended ∙ ap (λ text. text ++ rest_of_line kind h) begun ∙ ap (λ k. old ++ (codes "slot " ++ slot_text slot) ++ rest_of_line k h) named ∙ simp (append_assoc) in
     whole ∙ ap (λ s. old ++ image_line (record { slot = s; header = h; spaces = i.spaces })) at ∙ ap (λ g. old ++ image_line (record { slot = i.slot; header = g; spaces = i.spaces })) is

@@ -1,5 +1,5 @@
 -- What a line of a script is answered, and what it does to the memory.
-use Rattle.std.specs.Prelude.{◌≡◌, ◌⊎◌, ℕ, ◌+◌, ◌%◌, ◌^◌, ◌||◌, nat_lt, List, length, map, slice_range, if◌then◌else◌, Option, Some, None, IfSome, Result, Ok, Err}
+use Rattle.std.specs.Prelude.{◌≡◌, ◌⊎◌, ℕ, Bool, true, false, ◌+◌, ◌%◌, ◌^◌, ◌||◌, nat_lt, List, length, map, slice_range, if◌then◌else◌, Option, Some, None, IfSome, Result, Ok, Err}
 use Rattle.std.specs.List.{range_with_len}
 use Rattle.sd_areas.specs.Pages.{page_of, pages_for}
 use Rattle.sd_areas.specs.PlainMemory.{PlainMemory}
@@ -17,6 +17,7 @@ use Rattle.sd_pagetable.specs.Contents.{Contents, page_at, plain_of, word_at}
 use Rattle.sd_pagetable.specs.Due.{in_space, access_due, fault_due, store_due, tried as tried_at, mmap_due, munmap_due, mprotect_due, fork_due, exit_due}
 use Rattle.sd_pagetable.specs.Effects.{after_mmap, after_munmap, after_mprotect, after_fork, after_exit, after_store, IsLeastFree}
 use Rattle.sd_pagetable.specs.Tracking.{Step, Mapped, Unmapped, Protected, Forked, Exited, Faulted, Tried as TriedEvent, Stored}
+use Rattle.ckpt.specs.Cleared.{IsCleared}
 use Rattle.ckpt.specs.declared.command.Command.{Command}
 use Rattle.ckpt.specs.declared.command.Command.TheVariants as command
 use Rattle.ckpt.specs.declared.line.Line.{Line}
@@ -105,14 +106,28 @@ abbrev pub IsWords : Contents → ℕ → ℕ → ℕ → Reply → Type 0
 IsWords memory space address count (reply.Words words) = words.items ≡ map (word_at memory space) (range_with_len (page_of address) count)
 IsWords memory space address count _ = ⊥
 
--- A request is denied as it is due, or memory is wanting, and nothing changes; or it is accepted and does this.
-abbrev pub Answered : Option Denied → Reply → Contents → Contents → Type 0 → Type 0
-Answered due answer old new does =
-    ((denied : Denied) × (due ≡ Some denied) × (answer ≡ reply_of denied) × (new ≡ old))
-    ⊎ (((answer ≡ reply.Refused refusal.OutOfMemory) × (new ≡ old)) ⊎ ((due ≡ None) × does))
+-- whether a command takes memory, and so may find none: an exit and a try of a store take none
+abbrev pub takes_memory : Command → Bool
+takes_memory (command.Exit space) = false
+takes_memory (command.TryStore space address bytes) = false
+takes_memory _ = true
 
--- what a line is answered, and what it does; what a checkpoint leaves are the spaces, areas and bytes
+-- A request is denied as it is due, or the memory that it takes is wanting, and nothing changes; or it is accepted and does this.
+abbrev pub Answered : Option Denied → Bool → Reply → Contents → Contents → Type 0 → Type 0
+Answered due takes answer old new does =
+    ((denied : Denied) × (due ≡ Some denied) × (answer ≡ reply_of denied) × (new ≡ old))
+    ⊎ (((takes ≡ true) × (answer ≡ reply.Refused refusal.OutOfMemory) × (new ≡ old)) ⊎ ((due ≡ None) × does))
+
+-- what a checkpoint does to the bits: an acknowledged one cleared each page, a refused one changed nothing, but where memory was wanting
+abbrev pub IsSaved : Reply → Contents → Contents → Type 0
+IsSaved (reply.Acked n) old new = IsCleared old new
+IsSaved (reply.Refused refusal.NoSlot) old new = new ≡ old
+IsSaved (reply.Refused refusal.NumbersUsed) old new = new ≡ old
+IsSaved (reply.Refused refusal.OutOfMemory) old new = Unit {0}
+IsSaved _ old new = ⊥
+
+-- what a line is answered, and what it does; a checkpoint leaves the spaces, areas and bytes
 abbrev pub IsAnswer : Line → Reply → Contents → Contents → Type 0
-IsAnswer (line.Command command) reply old new = Answered (denial command old) reply old new (Does command reply old new × (plain_of new ≡ effect command reply (plain_of old)))
-IsAnswer (line.Words space address count) reply old new = (new ≡ old) × Answered (words_due (plain_of old) space address count) reply old old (IsWords old space address count reply)
-IsAnswer line.Checkpoint reply old new = plain_of new ≡ plain_of old
+IsAnswer (line.Command command) reply old new = Answered (denial command old) (takes_memory command) reply old new (Does command reply old new × (plain_of new ≡ effect command reply (plain_of old)))
+IsAnswer (line.Words space address count) reply old new = (new ≡ old) × Answered (words_due (plain_of old) space address count) true reply old old (IsWords old space address count reply)
+IsAnswer line.Checkpoint reply old new = (plain_of new ≡ plain_of old) × IsSaved reply old new

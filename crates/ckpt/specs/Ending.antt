@@ -1,10 +1,11 @@
 -- How a program ends.
 use Rattle.std.specs.Prelude.{◌≡◌, ◌⊎◌, ℕ, List, Option, Some, None, Result, Ok, Err}
+use Rattle.std.specs.FinMap as finmap
 use Rattle.sd_areas.specs.PlainMemory.{PlainMemory}
 use Rattle.sd_image.specs.Image.{Image}
 use Rattle.sd_image.specs.Shows.{IsStore, Shows}
-use Rattle.ckpt.specs.declared.fault.Fault.{Fault}
-use Rattle.ckpt.specs.declared.fault.Fault.TheVariants.{EmptyChain, Damaged, Device, OutOfMemory}
+use Rattle.sd_restore.specs.declared.fault.Fault.{Fault}
+use Rattle.sd_restore.specs.declared.fault.Fault.TheVariants.{EmptyChain, Damaged, Device, OutOfMemory}
 use Rattle.ckpt.specs.declared.script_error.ScriptError.{ScriptError}
 use Rattle.ckpt.specs.declared.script_error.ScriptError.TheVariants as error
 use Rattle.ckpt.specs.declared.stop.Stop.{Stop}
@@ -38,7 +39,15 @@ pub record IsReadable (contents : List (List ℕ)) : Type 0 where
   pub images : List Image
   pub store : IsStore contents images
 
--- a run begins with the checkpoint and the memory that the store shows, or with none where it shows that nothing was saved
+-- contents show a checkpoint's memory, or that nothing was saved
+abbrev pub IsShowing : List (List ℕ) → Type 0
+IsShowing contents = (shown : Option (ℕ × PlainMemory)) × Shows contents shown
+
+-- space 1 alone, without a page
+abbrev pub bare_memory : PlainMemory
+bare_memory = finmap.insert finmap.empty 1 finmap.empty
+
+-- a run begins with the checkpoint and the memory that the store shows, or with space 1 alone where it shows that nothing was saved
 abbrev pub Begins : List (List ℕ) → Option ℕ → PlainMemory → Type 0
-Begins contents None memory = Shows contents None
+Begins contents None memory = Shows contents None × (memory ≡ bare_memory)
 Begins contents (Some checkpoint) memory = Shows contents (Some (checkpoint, memory))

@@ -7,10 +7,8 @@ pub mod Dump
 pub mod Slots
 pub mod ImageText
 pub mod Cleared
-pub mod Found
-pub mod Reading
 pub mod Answers
 pub mod Line
 pub mod Script
-pub mod Faulty
 pub mod Ending
+pub mod Listing

@@ -1,9 +1,9 @@
 //! Commands on the memory.
-ghost use Rattle.std.specs.Prelude.{◌≡◌, OnErr, IfOk};
+ghost use Rattle.std.specs.Prelude.{◌≡◌, true, Err, OnErr, IfOk};
 ghost use Rattle.sd_pagetable.specs.Contents.{plain_of};
 ghost use Rattle.sd_pagetable.specs.Due.{Answers, access_due};
 ghost use Rattle.sd_pagetable.specs.declared.need.Need.TheVariants.{Read};
-ghost use Rattle.ckpt.specs.Answers.{denial, done_by, effect, tried_by, Answered, Does, IsBytes};
+ghost use Rattle.ckpt.specs.Answers.{denial, done_by, effect, tried_by, takes_memory, Answered, Does, IsBytes};
 
 use crate::command::Command;
 use crate::reply::Reply;
@@ -16,7 +16,7 @@ const TOO_MANY: u64 = 65;
 
 /// Answers a command.
 pub fn answer(alloc: Global, memory: &mut Memory, command: &Command) -> Reply
-    ensures { Answered (denial command.now memory.old) result memory.old memory.new
+    ensures { Answered (denial command.now memory.old) (takes_memory command.now) result memory.old memory.new
         (Does command.now result memory.old memory.new × (plain_of memory.new ≡ effect command.now result (plain_of memory.old))) }
 {
     apply(alloc, memory, command).unwrap_or_else(Reply::from)
@@ -25,6 +25,7 @@ pub fn answer(alloc: Global, memory: &mut Memory, command: &Command) -> Reply
 /// Makes a command on the memory.
 fn apply(alloc: Global, memory: &mut Memory, command: &Command) -> Result<Reply, MemoryError>
     ensures due { Answers (denial command.now memory.old) result }
+    ensures wants { result ≡ Err MemoryError.OutOfMemory → takes_memory command.now ≡ true }
     ensures does { IfOk result (λ reply. Does command.now reply memory.old memory.new) }
     ensures effect { IfOk result (λ reply. plain_of memory.new ≡ effect command.now reply (plain_of memory.old)) }
     ensures err { OnErr result (memory.new ≡ memory.old) }

@@ -1,12 +1,11 @@
 //! Saves whose disk fails or loses power at each call.
 
-use crate::fault::Fault;
-use crate::restore::restore;
 use crate::save::save;
 use crate::save_error::SaveError;
 use sd_areas::{PageNo, Prot, SpaceId};
 use sd_disk::{Disk, Fused, MemDisk, Pick};
 use sd_pagetable::Memory;
+use sd_restore::{Fault, restore};
 use std::alloc::Global;
 use std::process::Abort;
 use std::test::Fail;

@@ -19,41 +19,36 @@ mod commands;
 mod crash_tests;
 mod dump;
 mod ending;
-mod fault;
-mod found;
 mod free_slot;
+mod greatest;
 mod image_text;
 mod line;
 mod line_error;
+mod list;
+mod listing;
 mod page_copy;
-mod page_reader;
 mod page_words;
-mod read_memory;
 mod refusal;
 mod reply;
-mod restore;
-#[cfg(test)]
-mod restore_tests;
 #[cfg(test)]
 mod row_tests;
 mod run;
 mod runs;
 mod save;
 mod save_error;
-mod scan;
 mod script;
 mod script_error;
 #[cfg(test)]
 mod script_tests;
-mod serials;
 mod session;
 mod show;
-mod slot_reader;
 mod slot_writer;
 mod stop;
 #[cfg(test)]
+mod store_tests;
+#[cfg(test)]
 mod tests;
-mod tip;
+mod verify;
 
 /// The exit status where the program can't begin.
 const REFUSED: u8 = 1;
@@ -93,15 +88,21 @@ fn run_program<W: Write>(
     }
 }
 
-/// `ckpt restore`
-fn restore_program<W: Write>(
+/// The programs that only read a store, by their names.
+fn read_program<W: Write>(
     rt: &(impl Files<File = File> + AllocGlobal),
+    name: &str,
     folder: &str,
     out: &mut W,
 ) -> u8 {
-    match open_store(rt, folder, false) {
-        Ok(mut disk) => show::restore_to(rt.alloc(), &mut disk, out),
-        Err(error) => refuse_store(error, out),
+    let mut disk = match open_store(rt, folder, false) {
+        Ok(disk) => disk,
+        Err(error) => return refuse_store(error, out),
+    };
+    match name {
+        "list" => list::list_to(rt.alloc(), &mut disk, out),
+        "verify" => verify::verify_to(rt.alloc(), &mut disk, out),
+        _ => show::restore_to(rt.alloc(), &mut disk, out),
     }
 }
 
@@ -122,7 +123,7 @@ fn run_matches<W: Write>(
             let script = words.get_str("SCRIPT").unwrap_or("");
             run_program(rt, folder, script, out)
         }
-        Some((_, words)) => restore_program(rt, words.get_str("DIR").unwrap_or(""), out),
+        Some((name, words)) => read_program(rt, name, words.get_str("DIR").unwrap_or(""), out),
         None => REFUSED,
     }
 }

@@ -1,5 +1,5 @@
 //! The words of pages, as a line of a script asks for them.
-ghost use Rattle.std.specs.Prelude.{◌≡◌, ◌+◌, ◌-◌, ◌≤◌, ◌^◌, ◌||◌, nat_lt, map, IfOk};
+ghost use Rattle.std.specs.Prelude.{◌≡◌, ◌+◌, ◌-◌, ◌≤◌, ◌^◌, ◌||◌, nat_lt, map, true, IfOk};
 ghost use Rattle.std.specs.List.{range_with_len};
 ghost use Rattle.sd_pagetable.specs.Nested.{is_alive};
 ghost use Rattle.sd_pagetable.specs.Contents.{plain_of, word_at};
@@ -16,7 +16,7 @@ const WORD_LIMIT: u64 = 512;
 
 /// Answers with the words of so many pages, from the page of an address on.
 pub fn answer(alloc: Global, memory: &Memory, space: SpaceId, address: u64, count: u64) -> Reply
-    ensures { Answered (words_due (plain_of memory.now) space address count) result memory.now memory.now
+    ensures { Answered (words_due (plain_of memory.now) space address count) true result memory.now memory.now
         (IsWords memory.now space address count result) }
 {
     words(alloc, memory, space, address, count).unwrap_or_else(Reply::from)

@@ -1,6 +1,6 @@
 //! Running a script over a store.
 ghost use Rattle.std.specs.Prelude.{◌≡◌, ◌≢◌, ◌+◌, ◌≤◌, Err, IsSome, IfOk, OnOk, OnErr};
-ghost use Rattle.ckpt.specs.declared.fault.Fault.TheVariants as fault;
+ghost use Rattle.sd_restore.specs.declared.fault.Fault.TheVariants as fault;
 ghost use Rattle.ckpt.specs.declared.stop.Stop.TheVariants as stop;
 ghost use Rattle.sd_image.specs.Laws.{IsReady};
 ghost use Rattle.sd_areas.specs.Memory.{memory_of};
@@ -9,19 +9,17 @@ ghost use Rattle.ckpt.specs.Ending.{Begins, EndsRefused, IsReadable};
 ghost use Rattle.ckpt.specs.Script.{first_unfit_line};
 
 use crate::ending;
-use crate::fault::Fault;
+use crate::greatest::greatest_number;
 use crate::line::Line;
-use crate::read_memory::read_memory;
 use crate::reply::Reply;
-use crate::scan::scan;
 use crate::script::Script;
 use crate::script_error::ScriptError;
 use crate::session::Session;
 use crate::stop::Stop;
-use crate::tip::{greatest_number, tip};
 use sd_areas::Snapshot;
 use sd_disk::Disk;
 use sd_pagetable::Memory;
+use sd_restore::{Fault, restore, scan};
 use std::alloc::Global;
 use std::io::Write;
 
@@ -103,6 +101,18 @@ fn answer_lines<D: Disk, W: Write>(
     Ok(())
 }
 
+/// The greatest checkpoint or serial of a store, or 0 where it has no image.
+fn last_number<D: Disk>(alloc: Global, disk: &mut D) -> Result<u64, Fault>
+    ensures ready { D.is_honest disk.new → IfOk result (λ greatest. IsReady (D.contents disk.old) (greatest + 1)) }
+    ensures empty { result ≢ Err Fault.EmptyChain }
+    ensures same { D.contents disk.new ≡ D.contents disk.old }
+    ensures honest { D.is_honest disk.new → D.is_honest disk.old }
+{
+    let catalog = scan(alloc, disk)?;
+    catalog.has_the_images();
+    Ok(greatest_number(&catalog)?)
+}
+
 /// A session that goes on from what a store has, and the store's checkpoint, if it has one.
 fn open<D: Disk>(alloc: Global, disk: &mut D) -> Result<(Session, Option<u64>), Fault>
     ensures begins { D.is_honest disk.new → IfOk result (λ opened. Begins (D.contents disk.old) opened.1 (plain_of opened.0.memory)) }
@@ -111,16 +121,19 @@ fn open<D: Disk>(alloc: Global, disk: &mut D) -> Result<(Session, Option<u64>), 
     ensures same { D.contents disk.new ≡ D.contents disk.old }
     ensures honest { D.is_honest disk.new → D.is_honest disk.old }
 {
-    let found = scan(alloc, disk)?;
-    let greatest = greatest_number(&found);
-    let Some(newest) = tip(&found) else {
-        let memory = Memory::new(alloc, FRAMES)?;
-        return Ok((Session::new(memory, greatest), None));
-    };
-    let snapshot = read_memory(alloc, disk, newest)?;
-    let checkpoint = snapshot.checkpoint;
-    let memory = load(alloc, snapshot)?;
-    Ok((Session::new(memory, greatest), Some(checkpoint)))
+    let greatest = last_number(alloc, disk)?;
+    match restore(alloc, disk) {
+        Ok(snapshot) => {
+            let checkpoint = snapshot.checkpoint;
+            let memory = load(alloc, snapshot)?;
+            Ok((Session::new(memory, greatest), Some(checkpoint)))
+        }
+        Err(Fault::EmptyChain) => {
+            let memory = Memory::new(alloc, FRAMES)?;
+            Ok((Session::new(memory, greatest), None))
+        }
+        Err(fault) => Err(fault),
+    }
 }
 
 /// The memory of a snapshot. That of an image is within the limits of a memory, so only memory can be wanting.

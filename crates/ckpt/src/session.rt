@@ -1,11 +1,11 @@
 //! The engine: it keeps a memory, and answers one request after the other.
-ghost use Rattle.std.specs.Prelude.{◌≡◌, ◌≢◌, ◌+◌, ◌<◌, ◌≤◌, ◌^◌, ◌↔◌, ℕ, List, Some, Ok, Err, IsErr, IfOk, OnOk, OnErr};
+ghost use Rattle.std.specs.Prelude.{◌≡◌, ◌≢◌, ◌+◌, ◌<◌, ◌≤◌, ◌^◌, ◌↔◌, ℕ, List, length, Some, Ok, Err, IsErr, IfOk, OnOk, OnErr};
 ghost use Rattle.sd_image.specs.Shows.{Shows};
 ghost use Rattle.sd_image.specs.Laws.{IsReady};
 ghost use Rattle.sd_pagetable.specs.Contents.{plain_of};
-ghost use Rattle.ckpt.specs.Answers.{IsAnswer};
+ghost use Rattle.ckpt.specs.Slots.{raw_slots};
+ghost use Rattle.ckpt.specs.Answers.{IsAnswer, IsSaved};
 
-use crate::fault::Fault;
 use crate::line::Line;
 use crate::refusal::Refusal;
 use crate::reply::Reply;
@@ -14,6 +14,7 @@ use crate::save_error::SaveError;
 use crate::{commands, page_words};
 use sd_disk::Disk;
 use sd_pagetable::Memory;
+use sd_restore::Fault;
 use std::alloc::Global;
 
 /// From this number on no checkpoint is numbered.
@@ -52,6 +53,11 @@ impl Session {
         ensures ready { D.is_honest disk.new → IsReady (D.contents disk.old) (self.old.greatest + 1)
             → OnOk result (IsReady (D.contents disk.new) (self.new.greatest + 1)) }
 
+        // It is refused where the numbers are used up, and where fewer than two slots are free.
+        ensures numbers_used { line.now ≡ Line.Checkpoint → (result ≡ Ok (Reply.Refused Refusal.NumbersUsed)) ↔ (2 ^ 63 ≤ self.old.greatest) }
+        ensures no_slot { D.is_honest disk.new → line.now ≡ Line.Checkpoint → result ≡ Ok (Reply.Refused Refusal.NoSlot)
+            → length (raw_slots (D.contents disk.old)) < 2 }
+
         // No other line touches the disk or the numbers.
         ensures quiet { line.now ≢ Line.Checkpoint → D.contents disk.new ≡ D.contents disk.old }
         ensures numbers { line.now ≢ Line.Checkpoint → self.new.greatest ≡ self.old.greatest }
@@ -79,6 +85,8 @@ impl Session {
         ensures ready { D.is_honest disk.new → IsReady (D.contents disk.old) (self.old.greatest + 1)
             → OnOk result (IsReady (D.contents disk.new) (self.new.greatest + 1)) }
         ensures memory { plain_of self.new.memory ≡ plain_of self.old.memory }
+        ensures saved { IfOk result (λ reply. IsSaved reply self.old.memory self.new.memory) }
+        ensures no_slot { D.is_honest disk.new → result ≡ Ok (Reply.Refused Refusal.NoSlot) → length (raw_slots (D.contents disk.old)) < 2 }
         ensures failed { OnErr result (result ≡ Err Fault.Device) }
         ensures device { IsErr result → D.failed disk.old < D.failed disk.new }
         ensures honest { D.is_honest disk.new → D.is_honest disk.old }

@@ -1,15 +1,15 @@
 //! Printing the memory that a store shows.
 ghost use Rattle.std.specs.Prelude.{◌≡◌, ◌≢◌, None, Err, OnOk, OnErr};
 ghost use Rattle.sd_image.specs.Shows.{Shows};
-ghost use Rattle.ckpt.specs.declared.fault.Fault.TheVariants as fault;
+ghost use Rattle.sd_restore.specs.declared.fault.Fault.TheVariants as fault;
 ghost use Rattle.ckpt.specs.declared.stop.Stop.TheVariants as stop;
 ghost use Rattle.ckpt.specs.Ending.{ShowsMemory};
 
 use crate::ending;
-use crate::restore::restore;
 use crate::stop::Stop;
 use sd_areas::{PAGE_SIZE, PageNo, Snapshot, SnapshotPage};
 use sd_disk::Disk;
+use sd_restore::restore;
 use std::alloc::Global;
 use std::collections::BTreeMap;
 use std::io;

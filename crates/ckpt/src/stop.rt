@@ -1,4 +1,4 @@
-use crate::fault::Fault;
+use sd_restore::Fault;
 use std::alloc::AllocError;
 use std::io;
 
@@ -24,7 +24,7 @@ impl From<Fault> for Stop {
 
 impl From<AllocError> for Stop {
     ghost use Rattle.std.specs.Prelude.{◌≡◌};
-    ghost use Rattle.ckpt.specs.declared.fault.Fault.TheVariants.{OutOfMemory};
+    ghost use Rattle.sd_restore.specs.declared.fault.Fault.TheVariants.{OutOfMemory};
     ghost use Rattle.ckpt.specs.declared.stop.Stop.TheVariants as stop;
 
     ghost from_gives = { λ _ stopped. stopped ≡ stop.Fault OutOfMemory };

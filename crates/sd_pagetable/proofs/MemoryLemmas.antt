@@ -227,3 +227,13 @@ areas_of_one old new m s map none e is spaces q =
     is q ∙ ap (λ (es : List (ℕ × PageMap)). cond (is_eq (nat_cmp s q)) (Some map) (lookup (is_at (nat_cmp q)) es)) none
     ∙ sym (ap (λ (n : Nested Page). option_map prots_of (finmap.get n q)) spaces ∙ ap (option_map prots_of) (get_put finmap.empty s finmap.empty q ∙ ap (cond (nat_eq q s) (Some finmap.empty)) (get-empty nat_cmp q))
     ∙ turned_in (nat_eq q s) prots_of finmap.empty None ∙ ap (λ (t : PageMap). cond (nat_eq q s) (Some t) None) (map_values-empty (λ (page : Page). page.prot) ∙ sym e) ∙ ap (λ b. cond b (Some map) None) (sym (turned_test s q)))
+
+-- the plain memory of space 1 alone, without a page
+pub plain_of_one : (c one : Contents) (space : ℕ) → one.spaces ≡ finmap.insert c.spaces space finmap.empty → c.spaces ≡ finmap.empty → space ≡ 1
+    → plain_of one ≡ finmap.insert finmap.empty 1 finmap.empty
+unfolding plain_of
+plain_of_one c one space more none is =
+    ap (map_values (map_values plain_page)) (more ∙ ap (λ (t : Nested Page). finmap.insert t space finmap.empty) none ∙ ap (λ s. finmap.insert finmap.empty s finmap.empty) is)
+    ∙ map_values-insert (map_values plain_page) finmap.empty 1 finmap.empty
+    ∙ ap (λ (t : plain.PlainMemory). finmap.insert t 1 (map_values plain_page finmap.empty)) (map_values-empty (map_values plain_page))
+    ∙ ap (finmap.insert finmap.empty 1) (map_values-empty plain_page)

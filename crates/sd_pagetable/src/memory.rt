@@ -76,7 +76,8 @@ impl Memory {
     pub fn new(alloc: Global, frames: usize) -> Result<Self, AllocError>
         requires least { 1 ≤ frames }
         requires greatest { frames ≤ 65536 }
-        ensures { IfOk result (λ memory. memory ≡ record { pool = frames; spaces = finmap.insert finmap.empty 1 finmap.empty }) }
+        ensures empty { IfOk result (λ memory. memory ≡ record { pool = frames; spaces = finmap.insert finmap.empty 1 finmap.empty }) }
+        ensures memory { IfOk result (λ memory. plain_of memory ≡ finmap.insert finmap.empty 1 finmap.empty) }
     {
         let space = SpaceId::new(1);
         let mut mappings = Mappings::new(alloc, frames);

@@ -10,5 +10,5 @@ loop-image-preserved c = record {
   greatest = subst (IsGreatest c.max-greatest.result) (sym (ap (map (λ i. i.now)) (taken _ _ _ c.loop-image-test.true c.image-item.is) ∙ map_push _ _ _))
       (greatest_with c.loop-image.greatest _ _ _ c.loop-image.invariant.greatest
       (c.max-greatest.ensures ∙ ap (λ n. max n c.header-header.result.now.checkpoint) c.max.ensures
-          ∙ ap (λ (h : Header). max (max c.loop-image.greatest h.serial) h.checkpoint) c.header-header.ensures));
+      ∙ ap (λ (h : Header). max (max c.loop-image.greatest h.serial) h.checkpoint) c.header-header.ensures));
 }

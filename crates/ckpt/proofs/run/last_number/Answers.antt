@@ -1,0 +1,12 @@
+use Rattle.std.proofs.Common.{◌+◌}
+use Rattle.sd_image.specs.Laws.{IsReady}
+use Rattle.ckpt.proofs.EndingLemmas.{ready_of}
+use Rattle.ckpt.proofs.run.last_number.Goals as goal
+
+pub returns-clause-ready : goal.returns-clause-ready
+returns-clause-ready g c = λ honest.
+    let contents = g.D.Disk.contents c.args.disk.now in
+    let store = c.in_ok-catalog.ensures.store honest in
+    ready_of contents c.in_ok-catalog.catalog store.0 c.in_ok-greatest_number.field-0
+    (c.has_the_images.ensures contents store.0 (c.in_ok-catalog.ensures.catalog honest) store.1.slots)
+    store.1 c.in_ok-greatest_number.ensures.serials c.in_ok-greatest_number.ensures.checkpoints
