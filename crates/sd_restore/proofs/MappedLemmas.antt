@@ -212,9 +212,6 @@ covers_pages Merged areas runs restored covers = covers
 
 -- ---- a mapped page is listed
 
-places_of : RunKind → ℕ → Run → List (ℕ × ℕ)
-places_of kind space r = cond (nat_eq (run_kind_number r.kind) (run_kind_number kind)) (map (λ page. (space, page)) (run_pages r)) []
-
 same_kind : (n : ℕ) → nat_eq n n ≡ true
 same_kind n = grind (arith, nat_tests)
 
