@@ -1,12 +1,12 @@
 -- Clearing space by space.
-use Rattle.std.proofs.Common.{◌≡◌, ◌⊎◌, ◌<◌, ◌≤◌, ◌+◌, ℕ, Bool, true, false, Option, Some, None, Result, Ok, Err, OnOk, OnErr, cond, not, List, [], ◌∷◌, is_some, unwrap_or, refl, sym, ◌∙◌, ap, subst, arith, inl, inr}
+use Rattle.std.proofs.Common.{◌≡◌, ◌+◌, ℕ, Bool, true, false, Option, Some, None, Result, Ok, Err, OnOk, OnErr, cond, not, List, [], ◌∷◌, is_some, unwrap_or, refl, sym, ◌∙◌, ap, subst, arith, inl, inr}
 use Rattle.std.specs.List.{AllByRecursion}
 use Rattle.std.specs.Option.{option_map}
 use Rattle.std.specs.Ordering.{nat_cmp}
 use Rattle.std.specs.FinMap as finmap
 use Rattle.std.specs.FinMap.{get-empty}
 use Rattle.std.proofs.lemmas.Bool.{cases_lt}
-use Rattle.sd_pagetable.specs.Nested.{Table, inside, is_alive}
+use Rattle.sd_pagetable.specs.Nested.{Table, is_alive}
 use Rattle.sd_pagetable.specs.Page.{Page, cleared_page}
 use Rattle.sd_pagetable.specs.Contents.{Contents, page_at, IsSound}
 use Rattle.sd_procfs.specs.declared.clear_error.ClearError.{ClearError}

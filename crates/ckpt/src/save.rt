@@ -55,14 +55,14 @@ pub fn save<D: Disk>(
     ensures durable { D.is_honest disk.new → IsReadyAfterCrash (D.contents disk.old) (D.may_leave disk.old) number
         → OnOk result (ShowsOnly (Some (number, plain_of memory.new)) (D.may_leave disk.new)) }
 
+    // And what a crash leaves is ready for the number above.
+    ensures ready_after { D.is_honest disk.new → IsReadyAfterCrash (D.contents disk.old) (D.may_leave disk.old) number
+        → OnOk result (IsReadyAfterCrash (D.contents disk.new) (D.may_leave disk.new) (number + 1)) }
+
     // However it ends, at every moment of it a crash leaves what was shown before, or what is saved.
     ensures any_moment { (shown : Option (ℕ × PlainMemory)) → D.is_honest disk.new → IsReadyAfterCrash (D.contents disk.old) (D.may_leave disk.old) number
         → ShowsOnly shown (D.may_leave disk.old)
         → LeavesOnly D.moment D.left_since disk.old disk.new (λ c. Shows c shown ⊎ Shows c (Some (number, plain_of memory.new))) }
-
-    // And what a crash leaves is ready for the number above.
-    ensures ready_after { D.is_honest disk.new → IsReadyAfterCrash (D.contents disk.old) (D.may_leave disk.old) number
-        → OnOk result (IsReadyAfterCrash (D.contents disk.new) (D.may_leave disk.new) (number + 1)) }
 
     // Each page is cleared, and the spaces, areas and bytes stay.
     ensures cleared { OnOk result (IsCleared memory.old memory.new) }
