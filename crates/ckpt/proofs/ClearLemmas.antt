@@ -1,17 +1,19 @@
 -- Clearing space by space.
-use Rattle.std.proofs.Common.{◌≡◌, ◌⊎◌, ◌<◌, ◌≤◌, ◌+◌, ℕ, Bool, true, false, Option, Some, None, Result, Ok, Err, OnOk, OnErr, cond, not, List, [], ◌∷◌, is_some, unwrap_or, refl, sym, ◌∙◌, ap, subst, arith, inl, inr}
+use Rattle.std.proofs.Common.{◌≡◌, ◌+◌, ℕ, Bool, true, false, Option, Some, None, Result, Ok, Err, OnOk, OnErr, cond, not, List, [], ◌∷◌, is_some, unwrap_or, refl, sym, ◌∙◌, ap, subst, arith, inl, inr}
+use Rattle.std.specs.List.{AllByRecursion}
 use Rattle.std.specs.Option.{option_map}
 use Rattle.std.specs.Ordering.{nat_cmp}
 use Rattle.std.specs.FinMap as finmap
 use Rattle.std.specs.FinMap.{get-empty}
 use Rattle.std.proofs.lemmas.Bool.{cases_lt}
-use Rattle.sd_pagetable.specs.Nested.{Table, inside, is_alive}
+use Rattle.sd_pagetable.specs.Nested.{Table, is_alive}
 use Rattle.sd_pagetable.specs.Page.{Page, cleared_page}
 use Rattle.sd_pagetable.specs.Contents.{Contents, page_at, IsSound}
 use Rattle.sd_procfs.specs.declared.clear_error.ClearError.{ClearError}
 use Rattle.sd_procfs.specs.declared.clear_error.ClearError.TheVariants.{NoSuchSpace}
-use Rattle.sd_procfs.specs.Clears.{Clears, answer_to}
-use Rattle.ckpt.specs.Cleared.{IsCleared, IsClearedBelow}
+use Rattle.sd_pagetable.specs.Tracking.{Event, Run}
+use Rattle.sd_procfs.specs.Clears.{Clears, IsClearOf, IsHistory, answer_to}
+use Rattle.ckpt.specs.Cleared.{IsCleared, IsClearedBelow, IsHistoryOfClears}
 
 in_table : (o : Option (Table Page)) (page : ℕ) → (is_some o ≡ true → ⊥) → finmap.get (unwrap_or o finmap.empty) page ≡ None
 in_table None page dead = get-empty nat_cmp page
@@ -89,3 +91,19 @@ pub cleared_or_dead : (result : Answer) (start old new : Contents) (space : ℕ)
 cleared_or_dead (Ok done) start old new space due clears kept was = one_cleared start old new space was clears
 cleared_or_dead (Err error) start old new space due clears kept was =
     subst (IsClearedBelow (space + 1) start) (sym kept) (dead_cleared start old space (refused (Err error) (is_alive old.spaces space) due) was)
+
+-- Clears, and then those of a space.
+pub no_clears : (memory : Contents) → IsHistoryOfClears memory memory
+no_clears memory = ([], tt, refl)
+
+clears_and : (space : ℕ) (start old : Contents) → IsHistoryOfClears start old → (history : List Event) (new : Contents) → AllByRecursion (IsClearOf space) history → Run old history new
+    → IsHistoryOfClears start new
+clears_and space start old was [] new clears run = subst (IsHistoryOfClears start) (sym run) was
+clears_and space start old was (event ∷ history) new clears run =
+    let before = clears_and space start old was history run.0 clears.1 run.1 in
+    (event ∷ before.0, ((space, clears.0.0, clears.0.1), before.1), (run.0, before.2, run.2))
+
+pub clears_more : (result : Result (Unit {0}) ClearError) (space : ℕ) (start old new : Contents) → OnOk result (IsHistory space old new) → OnErr result (new ≡ old)
+    → IsHistoryOfClears start old → IsHistoryOfClears start new
+clears_more (Ok done) space start old new history same was = clears_and space start old was history.0 new history.1 history.2
+clears_more (Err error) space start old new history same was = subst (IsHistoryOfClears start) (sym same) was

@@ -3,8 +3,8 @@ use Rattle.std.proofs.Common.{◌≡◌, ◌≢◌, ◌⊎◌, ℕ, ◌<◌, Lis
 use Rattle.std.proofs.lemmas.Bool.{cases_eq, false≢true}
 use Rattle.std.proofs.lemmas.List.{ext_get_or, get_or-set_same, get_or-set_other, length-set}
 use Rattle.sd_disk.specs.Contents.{file_at, AtSlot}
-use Rattle.sd_disk.specs.Crash.{Elapses, Follows, LeavesOnly, OnlyAt, Within}
-use Rattle.sd_disk.specs.Spans.{nothing_called, one_call, span_widened, spans_join}
+use Rattle.sd_disk.specs.Crash.{Follows, LeavesOnly, OnlyAt, Within}
+use Rattle.sd_disk.specs.Spans.{span_widened, spans_join}
 use Rattle.sd_image.specs.Image.{is_open}
 use Rattle.ckpt.specs.AfterCrash.{ChangesAlone, FollowsAt, IsLeft, IsReadyAfterCrash, ShowsOnly}
 use Rattle.sd_areas.specs.PlainMemory.{PlainMemory}

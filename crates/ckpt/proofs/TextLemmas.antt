@@ -1,5 +1,5 @@
 -- The text of a whole dump is an image.
-use Rattle.std.proofs.Common.{◌≡◌, ◌⊎◌, ◌<◌, ◌≤◌, ◌+◌, ◌*◌, ◌^◌, ℕ, zero, suc, Bool, true, false, not, cond, nat_eq, List, [], ◌∷◌, ◌++◌, map, filter, length, sum_by, Option, Some, None, refl, sym, ◌∙◌, ap, subst, arith, lit≤, lit<, length-append, zero-add, ◌&&◌, inl, inr}
+use Rattle.std.proofs.Common.{◌≡◌, ◌<◌, ◌≤◌, ◌+◌, ◌*◌, ◌^◌, ℕ, zero, suc, Bool, true, false, not, cond, nat_eq, List, [], ◌∷◌, ◌++◌, map, filter, length, sum_by, Option, Some, None, refl, sym, ◌∙◌, ap, subst, arith, lit≤, lit<, length-append, ◌&&◌}
 use Rattle.std.proofs.lemmas.Bool.{le-leb}
 use Rattle.std.proofs.lemmas.List.Sums.{sum_by-cons}
 use Rattle.std.proofs.lemmas.List.Elements.{filter-append}
@@ -11,7 +11,6 @@ use Rattle.sd_areas.specs.Areas.{area_pages}
 use Rattle.sd_areas.specs.Pages.{pages_from}
 use Rattle.sd_areas.specs.PlainMemory.{Page, PlainMemory}
 use Rattle.sd_image.specs.declared.header.Header.{Header}
-use Rattle.sd_image.specs.declared.header.Kind.TheVariants.{Dump}
 use Rattle.sd_image.specs.declared.run.Run.{Run}
 use Rattle.sd_image.specs.declared.run.RunKind.TheVariants.{Data}
 use Rattle.sd_image.specs.Header.{header_text}
@@ -22,7 +21,7 @@ use Rattle.sd_image.specs.Words.{number_bytes, zeros}
 use Rattle.ckpt.specs.declared.image_text.ImageText.{ImageText}
 use Rattle.ckpt.specs.Pages.{Place, bytes_at, is_data, IsWholePage}
 use Rattle.ckpt.specs.Runs.{pages_by}
-use Rattle.ckpt.specs.Dump.{IsTableOf, IsDumpBelow, Rise, places_in, places_of}
+use Rattle.ckpt.specs.Dump.{IsTableOf, Rise, places_in, places_of}
 use Rattle.ckpt.specs.ImageText.{dump_header, file_of, IsTextOf, IsImageOf}
 use Rattle.ckpt.specs.SlotFile.{AreWhole}
 use Rattle.ckpt.proofs.SlotLemmas.{length_concat}

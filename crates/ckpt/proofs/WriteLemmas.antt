@@ -1,10 +1,10 @@
 -- The plans that write an image: the phases that each takes its slot through.
-use Rattle.std.proofs.Common.{◌≡◌, ◌<◌, ℕ, ◌+◌, ◌*◌, List, [], ◌∷◌, ◌++◌, length, slice_set, take, refl, sym, ◌∙◌, ap, subst, inl, inr, arith}
+use Rattle.std.proofs.Common.{◌≡◌, ◌<◌, ℕ, ◌+◌, ◌*◌, List, [], ◌∷◌, ◌++◌, length, slice_set, take, refl, sym, ap, subst, inl, inr}
 use Rattle.std.specs.List.{concat}
 use Rattle.sd_disk.specs.Contents.{file_at, written}
 use Rattle.sd_image.specs.declared.header.Header.{Header}
 use Rattle.sd_image.specs.Header.{header_text}
-use Rattle.sd_gate.specs.declared.call.Call.TheVariants.{Write, WriteHeader, Close, Open, Cut, Sync}
+use Rattle.sd_gate.specs.declared.call.Call.TheVariants.{Write, WriteHeader, Open, Sync}
 use Rattle.sd_gate.specs.declared.phase.Phase.TheVariants.{Raw, RawClosing, Whole, Shut, Bare, Writing, Ready, Opening, Doubt}
 use Rattle.sd_gate.specs.Laws.{BodiesFill, ImageWholeOrClosed, pages_body}
 use Rattle.sd_gate.specs.Phases.{body_after}

@@ -1,5 +1,5 @@
 -- What a crash leaves of a store.
-use Rattle.std.specs.Prelude.{◌≡◌, ℕ, ◌<◌, List, length, Option}
+use Rattle.std.specs.Prelude.{ℕ, ◌<◌, List, length, Option}
 use Rattle.sd_areas.specs.PlainMemory.{PlainMemory}
 use Rattle.sd_disk.specs.Contents.{file_at, AtSlot}
 use Rattle.sd_disk.specs.Crash.{Outcomes, Follows}

@@ -1,18 +1,18 @@
 -- What is written of a whole dump.
-use Rattle.std.specs.Prelude.{◌≡◌, ℕ, ◌<◌, ◌≤◌, true, List, [], ◌∷◌, ◌++◌, length, map}
+use Rattle.std.specs.Prelude.{◌≡◌, ℕ, ◌<◌, ◌≤◌, true, List, ◌∷◌, ◌++◌, length, map}
 use Rattle.std.specs.List.{concat}
 use Rattle.sd_areas.specs.PlainMemory.{PlainMemory}
 use Rattle.sd_image.specs.declared.header.Header.{Header}
 use Rattle.sd_image.specs.declared.header.Kind.TheVariants.{Dump}
 use Rattle.sd_image.specs.Header.{header_text}
-use Rattle.sd_image.specs.Table.{Listed, listed, table_text}
+use Rattle.sd_image.specs.Table.{listed, table_text}
 use Rattle.sd_image.specs.Image.{Image, IsImage, gate, is_open}
 use Rattle.sd_image.specs.Shows.{IsRestorable}
 use Rattle.sd_image.specs.Laws.{IsWholeMemory}
 use Rattle.ckpt.specs.declared.dump.Dump as declared
 use Rattle.ckpt.specs.declared.image_text.ImageText.{ImageText}
 use Rattle.ckpt.specs.Dump.{IsDumpOf}
-use Rattle.ckpt.specs.Pages.{Place, bytes_at}
+use Rattle.ckpt.specs.Pages.{bytes_at}
 use Rattle.ckpt.specs.SlotFile.{AreWhole}
 
 -- the header of a whole dump: it stands for itself, and has no parent

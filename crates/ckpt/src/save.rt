@@ -11,7 +11,7 @@ ghost use Rattle.sd_gate.specs.declared.phase.Phase.TheVariants.{Raw};
 ghost use Rattle.sd_gate.specs.Fits.{SlotFits};
 ghost use Rattle.sd_pagetable.specs.Contents.{plain_of};
 ghost use Rattle.ckpt.specs.AfterCrash.{FollowsAt, IsLeft, IsReadyAfterCrash, ShowsOnly};
-ghost use Rattle.ckpt.specs.Cleared.{IsCleared};
+ghost use Rattle.ckpt.specs.Cleared.{IsCleared, IsHistoryOfClears};
 ghost use Rattle.ckpt.specs.Pages.{bytes_at};
 ghost use Rattle.ckpt.specs.Slots.{raw_slots};
 ghost use Rattle.ckpt.specs.SlotFile.{AreWhole};
@@ -33,8 +33,8 @@ use std::alloc::Global;
 ///
 /// # Errors
 ///
-/// `NoSlot` where fewer than two slots are free: nothing changes. `OutOfMemory`: nothing was written, and pages may have
-/// been cleared. `Device` where the disk failed: also, the slot may hold anything behind a closed gate.
+/// `NoSlot` where fewer than two slots are free: nothing changes. `OutOfMemory`: nothing was written, and each page is
+/// cleared. `Device` where the disk failed: also, the slot may hold anything behind a closed gate, or the whole image.
 pub fn save<D: Disk>(
     alloc: Global,
     disk: &mut D,
@@ -55,18 +55,22 @@ pub fn save<D: Disk>(
     ensures durable { D.is_honest disk.new → IsReadyAfterCrash (D.contents disk.old) (D.may_leave disk.old) number
         → OnOk result (ShowsOnly (Some (number, plain_of memory.new)) (D.may_leave disk.new)) }
 
+    // And what a crash leaves is ready for the number above.
+    ensures ready_after { D.is_honest disk.new → IsReadyAfterCrash (D.contents disk.old) (D.may_leave disk.old) number
+        → OnOk result (IsReadyAfterCrash (D.contents disk.new) (D.may_leave disk.new) (number + 1)) }
+
     // However it ends, at every moment of it a crash leaves what was shown before, or what is saved.
     ensures any_moment { (shown : Option (ℕ × PlainMemory)) → D.is_honest disk.new → IsReadyAfterCrash (D.contents disk.old) (D.may_leave disk.old) number
         → ShowsOnly shown (D.may_leave disk.old)
         → LeavesOnly D.moment D.left_since disk.old disk.new (λ c. Shows c shown ⊎ Shows c (Some (number, plain_of memory.new))) }
 
-    // And what a crash leaves is ready for the number above.
-    ensures ready_after { D.is_honest disk.new → IsReadyAfterCrash (D.contents disk.old) (D.may_leave disk.old) number
-        → OnOk result (IsReadyAfterCrash (D.contents disk.new) (D.may_leave disk.new) (number + 1)) }
-
     // Each page is cleared, and the spaces, areas and bytes stay.
     ensures cleared { OnOk result (IsCleared memory.old memory.new) }
     ensures memory { plain_of memory.new ≡ plain_of memory.old }
+
+    // An error leaves either no page cleared or each, and the tracking law is about the clears.
+    ensures unsaved { IsErr result → (memory.new ≡ memory.old) ⊎ IsCleared memory.old memory.new }
+    ensures history { IsHistoryOfClears memory.old memory.new }
     ensures kept { IsErrOf result SaveError.NoSlot → memory.new ≡ memory.old }
 
     // It is written into the lowest of the free slots, and nowhere else.

@@ -7,7 +7,7 @@ pub enum SaveError {
     /// Fewer than two slots are free.
     NoSlot,
     OutOfMemory,
-    /// The disk failed; the dump may be there in part, behind a closed gate.
+    /// The disk failed; the dump may be there in part, behind a closed gate, or in whole.
     Device,
 }
 

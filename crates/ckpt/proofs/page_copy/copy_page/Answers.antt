@@ -1,4 +1,4 @@
-use Rattle.std.proofs.Common.{◌≡◌, ◌*◌, ◌+◌, ◌-◌, ℕ, List, length, take, sym, ◌∙◌, ap, refl, arith, rules}
+use Rattle.std.proofs.Common.{◌≡◌, ◌*◌, ◌+◌, ◌-◌, ℕ, List, length, take, sym, ◌∙◌, ap, refl, arith}
 use borrow.Rule.Slice.PartMut.{put_mid, same_len_mid}
 use Rattle.sd_pagetable.specs.Contents.{page_at}
 use Rattle.ckpt.proofs.PageBytes.{Reads, bytes_of, bytes_in_plain, copied_more, copied_all}

@@ -1,12 +1,10 @@
-use Rattle.std.proofs.Common.{◌≡◌, ◌⊎◌, ◌+◌, ◌<◌, length, List, ℕ, arith, sym, ◌∙◌, ap, subst, inl, Some, ◌∷◌, slice_set}
+use Rattle.std.proofs.Common.{◌≡◌, ◌⊎◌, ◌+◌, ◌<◌, length, sym, ◌∙◌, ap, subst, inl, Some, ◌∷◌, slice_set}
 use Rattle.sd_image.specs.Shows.{Shows}
 use Rattle.sd_image.specs.Laws.{AreBelow, IsReady}
 use Rattle.ckpt.specs.ImageText.{file_of}
 use Rattle.sd_pagetable.specs.Contents.{plain_of}
-use Rattle.sd_disk.specs.Crash.{LeavesOnly}
 use Rattle.sd_disk.specs.Spans.{span_widened, spans_join}
-use Rattle.sd_areas.specs.PlainMemory.{PlainMemory}
-use Rattle.ckpt.specs.AfterCrash.{IsLeft, IsReadyAfterCrash, ShowsOnly}
+use Rattle.ckpt.specs.AfterCrash.{IsLeft}
 use Rattle.ckpt.specs.ImageText.{body_of}
 use Rattle.ckpt.proofs.CrashLemmas.{left_shows, one_slot_later, raw_fits, short_elsewhere}
 use Rattle.ckpt.proofs.FileLemmas.{short_is_closed}

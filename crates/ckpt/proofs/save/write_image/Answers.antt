@@ -1,8 +1,6 @@
-use Rattle.std.proofs.Common.{◌++◌, [], map, length, sym, ◌∙◌}
-use Rattle.std.specs.List.{concat}
+use Rattle.std.proofs.Common.{map, sym, ◌∙◌}
 use Rattle.std.proofs.lemmas.List.{length-map}
 use Rattle.std.proofs.lemmas.Result.{on_ok_weaker}
-use Rattle.sd_image.specs.Header.{header_text}
 use Rattle.sd_pagetable.specs.Contents.{plain_of}
 use Rattle.ckpt.specs.ImageText.{body_of, file_of}
 use Rattle.ckpt.specs.Pages.{bytes_at}

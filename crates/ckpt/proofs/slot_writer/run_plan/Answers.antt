@@ -1,6 +1,6 @@
 use Rattle.std.proofs.Common.{◌≡◌, ◌<◌, length, true, false, Some, ap, arith, sym, ◌∙◌, subst}
 use Rattle.sd_gate.specs.Calls.{is_done}
-use Rattle.sd_gate.specs.Plans.{Gives, Planned, calls_after, plan_after}
+use Rattle.sd_gate.specs.Plans.{Planned, calls_after}
 use Rattle.ckpt.proofs.PlanLemmas.{Running, WasMade, begins, done_if, ends_in, no_read_next, failed_if, fails, fewer, follows, goes_on, not_failed}
 use Rattle.ckpt.proofs.slot_writer.run_plan.Goals as goal
 

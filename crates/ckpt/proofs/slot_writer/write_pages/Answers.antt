@@ -1,4 +1,4 @@
-use Rattle.std.proofs.Common.{◌≡◌, ◌<◌, [], ◌∷◌, ◌++◌, length, map, take, drop, slice_set, arith, ap, sym, subst, ◌∙◌}
+use Rattle.std.proofs.Common.{◌≡◌, ◌<◌, [], ◌++◌, length, map, take, drop, slice_set, arith, ap, sym, subst, ◌∙◌}
 use Rattle.std.proofs.lemmas.List.{length-set}
 use Rattle.sd_disk.specs.Spans.{nothing_called}
 use Rattle.sd_gate.specs.declared.phase.Phase.TheVariants.{Bare}
