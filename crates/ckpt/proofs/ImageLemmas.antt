@@ -6,11 +6,11 @@ use Rattle.std.specs.FinMap as finmap
 use Rattle.std.proofs.lemmas.Bool.Decides.{nat_tests}
 use Rattle.std.proofs.lemmas.Bool.{eqb-true, cases_lt}
 use Rattle.std.proofs.lemmas.Option.{slice_get-map}
-use Rattle.std.proofs.lemmas.List.{append-nil, map-append}
+use Rattle.std.proofs.lemmas.List.{map-append}
 use Rattle.std.proofs.lemmas.List.Elements.{Contains-append_left, Contains-append_right, filter-append}
 use Rattle.sd_areas.specs.declared.area.Area.{Area}
 use Rattle.sd_areas.specs.declared.prot.Prot.{Prot}
-use Rattle.sd_areas.specs.Areas.{area_pages, prot_in, AreAreasOf}
+use Rattle.sd_areas.specs.Areas.{area_pages, prot_in}
 use Rattle.sd_areas.specs.Pages.{pages_from, is_within}
 use Rattle.sd_image.specs.declared.header.Header.{Header}
 use Rattle.sd_image.specs.declared.run.Run.{Run}
@@ -22,9 +22,8 @@ use Rattle.sd_image.specs.Image.{Image}
 use Rattle.sd_image.specs.Shows.{pages_of, Holds, by_data, by_zero, page_in, IsMemory}
 use Rattle.sd_areas.specs.PlainMemory.{Page, PlainMemory}
 use Rattle.ckpt.specs.Pages.{Place, bytes_at, is_data, IsWholePage}
-use Rattle.ckpt.specs.Runs.{AreRunsOf, pages_by}
+use Rattle.ckpt.specs.Runs.{pages_by}
 use Rattle.ckpt.specs.Dump.{IsTableOf, IsDumpBelow, places_in, places_of}
-use Rattle.ckpt.specs.SlotFile.{AreWhole}
 use Rattle.ckpt.proofs.GrownRuns.{both}
 
 pub cases_bool : (b : Bool) → (b ≡ true) ⊎ (b ≡ false)

@@ -1,5 +1,5 @@
 -- The text of an image's line.
-use Rattle.std.proofs.Common.{◌≡◌, ℕ, ◌-◌, ◌^◌, false, List, [], ◌∷◌, ◌++◌, length, replicate, append-nil, append_assoc, codes, refl, ap, ◌∙◌, arith}
+use Rattle.std.proofs.Common.{◌≡◌, ℕ, ◌-◌, ◌^◌, false, List, [], ◌∷◌, ◌++◌, length, append-nil, append_assoc, codes, refl, ap, ◌∙◌, arith}
 use Rattle.std.specs.Fmt.{decimal, char_count, shown_prefix, padded_integral, format_spec}
 use Rattle.sd_image.specs.declared.header.Header.{Header}
 use Rattle.sd_chain.specs.Catalog.{Opened}

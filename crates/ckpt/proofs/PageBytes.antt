@@ -1,5 +1,5 @@
 -- A page's bytes, sector by sector.
-use Rattle.std.proofs.Common.{◌≡◌, ◌⊎◌, ◌<◌, ◌≤◌, ◌+◌, ◌-◌, ◌*◌, ℕ, Bool, true, false, not, nat_eq, ◌&&◌, List, [], ◌∷◌, ◌++◌, length, take, drop, Option, Some, None, IfSome, is_some, refl, sym, ◌∙◌, ap, subst, arith, unwrap_or}
+use Rattle.std.proofs.Common.{◌≡◌, ◌<◌, ◌≤◌, ◌+◌, ◌-◌, ◌*◌, ℕ, Bool, true, false, nat_eq, ◌&&◌, List, [], ◌++◌, length, take, drop, Option, Some, None, IfSome, is_some, refl, sym, ◌∙◌, ap, arith, unwrap_or}
 use Rattle.std.specs.List.{list_all, slice_range}
 use Rattle.std.specs.Option.{option_map, option_map_or, option_and_then}
 use Rattle.std.specs.Ordering.{nat_cmp}
@@ -17,7 +17,7 @@ use Rattle.sd_pagetable.specs.Nested.{value_at}
 use Rattle.sd_pagetable.specs.Page.{Page, plain_page}
 use Rattle.sd_pagetable.specs.Contents.{Contents, page_at, plain_of}
 use Rattle.sd_pagetable.specs.Law.{PlainLaw}
-use Rattle.ckpt.specs.Pages.{bytes_at, is_data, IsWholePage}
+use Rattle.ckpt.specs.Pages.{bytes_at, IsWholePage}
 
 -- two words for what a memory has at a page
 pub page_in_is : (memory : PlainMemory) (space page : ℕ) → page_in memory space page ≡ value_at memory space page

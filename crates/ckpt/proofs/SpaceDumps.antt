@@ -1,5 +1,5 @@
 -- A dump that grows space by space.
-use Rattle.std.proofs.Common.{◌≡◌, ◌≢◌, ◌⊎◌, ◌<◌, ◌≤◌, ◌+◌, ℕ, zero, suc, Bool, true, false, not, nat_eq, ◌||◌, List, [], ◌∷◌, ◌++◌, map, filter, length, sum_by, Option, Some, None, unwrap_or, is_some, refl, sym, ◌∙◌, ap, subst, arith, append-nil, inl, inr}
+use Rattle.std.proofs.Common.{◌≡◌, ◌⊎◌, ◌<◌, ◌≤◌, ◌+◌, ℕ, suc, Bool, true, false, nat_eq, ◌||◌, List, [], ◌∷◌, ◌++◌, filter, sum_by, Option, Some, None, unwrap_or, is_some, refl, sym, ◌∙◌, ap, subst, arith, append-nil, inl, inr}
 use Rattle.std.specs.List.{AllByRecursion, flat_map, list_any}
 use Rattle.std.specs.Option.{option_map}
 use Rattle.std.specs.Ordering.{nat_cmp}
@@ -8,11 +8,10 @@ use Rattle.std.specs.FinMap.{len-empty}
 use Rattle.std.proofs.lemmas.Bool.{cases_lt}
 use Rattle.std.proofs.lemmas.Bool.Decides.{nat_tests}
 use Rattle.std.proofs.lemmas.Grind.{flat_map-append}
-use Rattle.std.proofs.lemmas.List.{map-append}
 use Rattle.std.proofs.lemmas.List.Folds.{list_any-append}
 use Rattle.std.proofs.lemmas.List.Sums.{sum_by-append}
 use Rattle.sd_areas.specs.declared.area.Area.{Area}
-use Rattle.sd_areas.specs.Areas.{PageMap, AreAreasOf, area_pages}
+use Rattle.sd_areas.specs.Areas.{PageMap, AreAreasOf}
 use Rattle.sd_areas.specs.Laws as areas
 use Rattle.sd_areas.specs.PlainMemory as plain
 use Rattle.sd_areas.specs.PlainMemory.{PlainMemory}
@@ -24,8 +23,7 @@ use Rattle.sd_pagetable.specs.Contents.{Contents, page_at, plain_of, IsSound}
 use Rattle.sd_pagetable.specs.Kept.{prots_of}
 use Rattle.sd_pagetable.specs.Law.{PlainLaw, pages_below}
 use Rattle.ckpt.specs.Pages.{Place, is_data}
-use Rattle.ckpt.specs.Runs.{AreRunsOf}
-use Rattle.ckpt.specs.Dump.{Dumps, IsTableOf, IsDumpBelow, Rise, places_of}
+use Rattle.ckpt.specs.Dump.{IsTableOf, IsDumpBelow, Rise, places_of}
 use Rattle.ckpt.proofs.DumpLemmas.{all_snoc}
 use Rattle.ckpt.proofs.PageBytes.{page_in_plain}
 

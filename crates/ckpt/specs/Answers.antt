@@ -1,5 +1,5 @@
 -- What a line of a script is answered, and what it does to the memory.
-use Rattle.std.specs.Prelude.{◌≡◌, ◌⊎◌, ℕ, Bool, true, false, ◌+◌, ◌%◌, ◌^◌, ◌||◌, nat_lt, List, length, map, slice_range, if◌then◌else◌, Option, Some, None, IfSome, Result, Ok, Err}
+use Rattle.std.specs.Prelude.{◌≡◌, ◌⊎◌, ℕ, Bool, true, false, ◌+◌, ◌%◌, ◌^◌, ◌||◌, nat_lt, length, map, slice_range, if◌then◌else◌, Option, Some, None, IfSome, Result, Ok, Err}
 use Rattle.std.specs.List.{range_with_len}
 use Rattle.sd_areas.specs.Pages.{page_of, pages_for}
 use Rattle.sd_areas.specs.PlainMemory.{PlainMemory}

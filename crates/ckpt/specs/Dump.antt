@@ -1,12 +1,11 @@
 -- A whole dump of a plain memory.
-use Rattle.std.specs.Prelude.{◌≡◌, ℕ, ◌<◌, ◌≤◌, ◌==◌, Bool, List, [], ◌∷◌, ◌++◌, length, map, filter, false, None}
+use Rattle.std.specs.Prelude.{◌≡◌, ℕ, ◌<◌, ◌≤◌, ◌==◌, List, [], ◌∷◌, ◌++◌, length, map, filter, false, None}
 use Rattle.std.specs.List.{flat_map, list_any, AllByRecursion}
 use Rattle.std.specs.Option.{option_map}
 use Rattle.std.specs.FinMap as finmap
 use Rattle.sd_areas.specs.Areas.{area_pages, prot_in, AreMaximal}
 use Rattle.sd_areas.specs.PlainMemory.{Page, PlainMemory}
 use Rattle.sd_image.specs.declared.run.Run.{Run}
-use Rattle.sd_image.specs.declared.table.SpaceTable.{SpaceTable}
 use Rattle.sd_image.specs.Table.{Listed, listed, mapped_count}
 use Rattle.sd_image.specs.Shows.{page_in}
 use Rattle.ckpt.specs.declared.dump.Dump.{Dump}

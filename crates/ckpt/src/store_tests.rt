@@ -189,6 +189,7 @@ fn a_broken_chain_is_a_fault(rt: HostRuntime) -> Result<(), Fail> {
     let mut disk = store(&rt, 4, &vec![in alloc; merged(alloc)?, second(alloc)?]?)?;
     let (out, _) = printed(alloc, &mut disk, "verify");
     assert!(&rt; out.as_slice() == "ok checkpoint 2 images 2\n".as_bytes());
+    assert!(&rt; disk.slots() > 0);
     disk.write_at(0, 0, &[0])?;
     for program in ["restore", "verify"] {
         let (out, status) = printed(alloc, &mut disk, program);

@@ -5,9 +5,7 @@ ghost use Rattle.std.specs.Prelude.{◌≤◌};
 
 use sd_areas::{Area, PAGE_SIZE, PageNo, Prot, SpaceId};
 use sd_disk::{Disk, MemDisk};
-use sd_image::{
-    Header, Kind, Run, RunKind, SpaceTable, Table, encode_header, encode_table,
-};
+use sd_image::{Header, Kind, Run, RunKind, SpaceTable, Table, encode_header, encode_table};
 use sd_restore::{Fault, restore};
 use std::alloc::{AllocError, Global};
 use std::io;
@@ -86,7 +84,7 @@ fn store(alloc: Global, images: u64) -> Result<MemDisk, Fault>
     for slot in 0..disk.slots() {
         let parents = share.saturating_mul(slot as u64).min(PAGES);
         let file = image(alloc, slot as u64 + 1, parents, share)?;
-        if !file.is_empty() {
+        if slot < disk.slots() && !file.is_empty() {
             disk.write_at(slot, 0, &file)?;
         }
     }

@@ -1,4 +1,4 @@
-use Rattle.std.proofs.Common.{◌≡◌, ◌-◌, ◌++◌, ◌∷◌, [], ℕ, List, sym, ◌∙◌, ap, subst, arith, append_assoc, append-nil, IfSome}
+use Rattle.std.proofs.Common.{◌≡◌, ◌-◌, ◌++◌, ◌∷◌, [], sym, ◌∙◌, ap, subst, arith, append_assoc, append-nil, IfSome}
 use Rattle.sd_areas.specs.Pages.{pages_from}
 use Rattle.sd_pagetable.specs.Contents.{plain_of}
 use Rattle.ckpt.specs.Dump.{Dumps}

@@ -1,4 +1,4 @@
-use Rattle.std.proofs.Common.{◌≡◌, ◌++◌, ◌∷◌, [], true, false, not, cond, sym, ◌∙◌, ap, append-nil}
+use Rattle.std.proofs.Common.{◌≡◌, true, false, cond, sym, ◌∙◌, ap, append-nil}
 use Rattle.std.proofs.lemmas.Result.{on_ok_weaker}
 use Rattle.sd_pagetable.specs.Contents.{plain_of}
 use Rattle.sd_image.specs.declared.run.RunKind.TheVariants.{Data, Zero}

@@ -1,4 +1,3 @@
-use Rattle.std.proofs.Common.{◌≡◌, ◌++◌}
 use Rattle.std.proofs.lemmas.Result.{on_ok_weaker}
 use Rattle.ckpt.proofs.ListingLemmas.{line_written}
 use Rattle.ckpt.proofs.listing.push_image.Goals as goal

@@ -1,6 +1,5 @@
-use Rattle.std.proofs.Common.{◌≡◌, List, ℕ, Bool, true, false, not, replicate, sym, ◌∙◌, ap, refl, arith}
-use Rattle.sd_pagetable.specs.Contents.{page_at, plain_of}
-use Rattle.ckpt.specs.Pages.{is_data}
+use Rattle.std.proofs.Common.{◌≡◌, Bool, false, not, replicate, sym, ◌∙◌, ap, refl, arith}
+use Rattle.sd_pagetable.specs.Contents.{page_at}
 use Rattle.ckpt.proofs.PageBytes.{Reads, all_zero, bytes_of, bytes_in_plain, whole_in_plain, none_seen, zero_step, zero_stop, zero_end}
 use Rattle.ckpt.proofs.page_copy.is_zero_page.Goals as goal
 

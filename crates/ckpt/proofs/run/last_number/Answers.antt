@@ -1,5 +1,3 @@
-use Rattle.std.proofs.Common.{◌+◌}
-use Rattle.sd_image.specs.Laws.{IsReady}
 use Rattle.ckpt.proofs.EndingLemmas.{ready_of}
 use Rattle.ckpt.proofs.run.last_number.Goals as goal
 

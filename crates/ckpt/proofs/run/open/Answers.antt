@@ -1,4 +1,4 @@
-use Rattle.std.proofs.Common.{◌≡◌, ◌∙◌, ap, None, List, Err, subst, ℕ}
+use Rattle.std.proofs.Common.{◌∙◌, ap, None, List, Err, subst, ℕ}
 use Rattle.sd_image.specs.Shows.{Shows}
 use Rattle.sd_pagetable.specs.Contents.{plain_of}
 use Rattle.ckpt.proofs.run.open.Goals as goal

@@ -1,5 +1,5 @@
 use Rattle.std.proofs.Common.{◌≡◌, ◌≤◌, ap, map, subst, sym, arith, lit≤}
-use Rattle.sd_image.specs.Table.{listed, mapped_count}
+use Rattle.sd_image.specs.Table.{listed}
 use Rattle.sd_pagetable.specs.Contents.{plain_of}
 use Rattle.ckpt.specs.Dump.{IsDumpBelow}
 use Rattle.ckpt.proofs.SpaceDumps.{dead_high, none_below_one, none_counted}

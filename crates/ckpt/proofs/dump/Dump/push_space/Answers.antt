@@ -1,13 +1,10 @@
-use Rattle.std.proofs.Common.{◌≡◌, ◌≤◌, ◌+◌, ◌++◌, ◌∷◌, [], List, ℕ, true, false, map, filter, length, Option, Some, None, is_some, sym, ◌∙◌, ap, subst, refl, append-nil, rules}
+use Rattle.std.proofs.Common.{◌≡◌, ◌≤◌, ◌+◌, List, map, length, is_some, sym, ◌∙◌, ap, subst, rules}
 use Rattle.std.specs.List.{flat_map}
-use Rattle.std.specs.FinMap as finmap
 use Rattle.std.proofs.lemmas.List.{map-append}
 use Rattle.sd_areas.specs.declared.area.Area.{Area}
-use Rattle.sd_areas.specs.Areas.{AreAreasOf, AreMaximal, area_pages}
+use Rattle.sd_areas.specs.Areas.{AreAreasOf, area_pages}
 use Rattle.sd_image.specs.Table.{Listed, listed, mapped_count}
 use Rattle.sd_pagetable.specs.Contents.{plain_of}
-use Rattle.sd_pagetable.specs.Law.{pages_below}
-use Rattle.ckpt.specs.Pages.{is_data}
 use Rattle.ckpt.specs.Dump.{Dumps, IsDumpBelow, IsTableOf, places_of}
 use Rattle.ckpt.proofs.DumpLemmas.{no_dumps}
 use Rattle.ckpt.proofs.SpaceDumps.{HasTable, has_table, no_table, same_prot, nothing_more, one_table_more, count_of_none, count_of_table}
