@@ -1,7 +1,7 @@
 -- One slot's file through the calls that write it.
 use Rattle.std.proofs.Common.{◌≡◌, ℕ, zero, suc, ◌<◌, ◌≤◌, ◌+◌, ◌-◌, ◌*◌, List, [], ◌∷◌, ◌++◌, length, take, drop, replicate, slice_set, slice_index_or, refl, sym, ◌∙◌, ap, arith}
 use Rattle.std.proofs.lemmas.List.{get_or-set_same, set-set}
-use Rattle.sd_disk.specs.Contents.{file_at, written}
+use Rattle.sd_disk.specs.Contents.{file_at, file_after_write}
 use Rattle.std.specs.List.{concat}
 use Rattle.std.proofs.Common.{lit≤, length-append, append_assoc, append-nil}
 use Rattle.std.proofs.lemmas.List.{drop_all, length-replicate}
@@ -26,11 +26,11 @@ step old mid new slot change file next within was is now =
     ∙ ap (slice_set old slot) now
 
 -- a byte at the front, and a cut behind it
-pub cut_to_first : (file : List ℕ) (byte : ℕ) → take 1 (written file 0 (byte ∷ [])) ≡ byte ∷ []
+pub cut_to_first : (file : List ℕ) (byte : ℕ) → take 1 (file_after_write file 0 (byte ∷ [])) ≡ byte ∷ []
 cut_to_first file byte = refl
 
 -- a write at or past the file's end: zeros up to it, and then the bytes
-written_behind : (file : List ℕ) (at : ℕ) (bytes : List ℕ) → length file ≤ at → written file at bytes ≡ (file ++ replicate (at - length file) 0) ++ bytes
+written_behind : (file : List ℕ) (at : ℕ) (bytes : List ℕ) → length file ≤ at → file_after_write file at bytes ≡ (file ++ replicate (at - length file) 0) ++ bytes
 written_behind file at bytes short =
     let pad : List ℕ = file ++ replicate (at - length file) 0 in
     let whole : length pad ≡ at = omega (arith, length-append file (replicate (at - length file) 0), length-replicate {A = ℕ} (at - length file) 0) in
@@ -45,19 +45,19 @@ length-zeros : (n : ℕ) → length (zeros n) ≡ n
 unfolding zeros
 length-zeros n = length-replicate {A = ℕ} n 0
 
-first_written : (bytes : List ℕ) → written (0 ∷ []) 4096 bytes ≡ 0 ∷ zeros 4095 ++ [] ++ bytes
+first_written : (bytes : List ℕ) → file_after_write (0 ∷ []) 4096 bytes ≡ 0 ∷ zeros 4095 ++ [] ++ bytes
 unfolding zeros
 first_written bytes = written_behind (0 ∷ []) 4096 bytes (lit≤ tt) ∙ ap (λ xs. 0 ∷ (xs ++ bytes)) (sym (append-nil (replicate 4095 0)))
 
 -- at its end: no zeros between
-written_at_end : (file : List ℕ) (at : ℕ) (bytes : List ℕ) → length file ≡ at → written file at bytes ≡ file ++ bytes
+written_at_end : (file : List ℕ) (at : ℕ) (bytes : List ℕ) → length file ≡ at → file_after_write file at bytes ≡ file ++ bytes
 written_at_end file at bytes ends =
     written_behind file at bytes (omega arith)
     ∙ ap (λ n. (file ++ replicate n 0) ++ bytes) (let none : at - length file ≡ 0 = omega arith in none)
     ∙ ap (λ xs. xs ++ bytes) (append-nil file)
 
 pub body_written : (pages : List (List ℕ)) (bytes : List ℕ) → AreWhole pages
-    → written (closed_file pages) (body_place pages) bytes ≡ 0 ∷ zeros 4095 ++ concat pages ++ bytes
+    → file_after_write (closed_file pages) (body_place pages) bytes ≡ 0 ∷ zeros 4095 ++ concat pages ++ bytes
 body_written [] bytes whole = first_written bytes
 body_written (page ∷ pages) bytes whole =
     let room : length (zeros 4095) ≡ 4095 = length-zeros 4095 in
@@ -70,7 +70,7 @@ concat_snoc pages page = concat-append pages (page ∷ []) ∙ ap (λ xs. concat
 
 -- the next data page
 pub page_written : (pages : List (List ℕ)) (page : List ℕ) → AreWhole pages
-    → written (closed_file pages) (body_place pages) page ≡ closed_file (pages ++ page ∷ [])
+    → file_after_write (closed_file pages) (body_place pages) page ≡ closed_file (pages ++ page ∷ [])
 page_written [] page whole =
     first_written page ∙ ap (λ xs. 0 ∷ xs) (ap (λ xs. xs ++ page) (append-nil (zeros 4095)) ∙ ap (λ xs. zeros 4095 ++ xs) (sym (append-nil page)))
 page_written (first ∷ pages) page whole =
@@ -78,7 +78,7 @@ page_written (first ∷ pages) page whole =
     ∙ ap (λ xs. 0 ∷ xs) (append_assoc (zeros 4095) (concat (first ∷ pages)) page ∙ ap (λ xs. zeros 4095 ++ xs) (sym (concat_snoc (first ∷ pages) page)))
 
 -- the header, in its room
-pub header_written : (header body : List ℕ) → length header ≡ 4095 → written (0 ∷ zeros 4095 ++ body) 1 header ≡ 0 ∷ header ++ body
+pub header_written : (header body : List ℕ) → length header ≡ 4095 → file_after_write (0 ∷ zeros 4095 ++ body) 1 header ≡ 0 ∷ header ++ body
 header_written header body whole =
     let room : length (zeros 4095) ≡ 4095 = length-zeros 4095 in
     let behind : 1 + length header ≡ suc (length (zeros 4095)) = omega arith in
@@ -86,7 +86,7 @@ header_written header body whole =
     ∙ ap (λ xs. 0 ∷ (header ++ xs)) (drop-append_seam (zeros 4095) body)
 
 -- the gate
-pub gate_written : (file : List ℕ) (old gate : ℕ) → written (old ∷ file) 0 (gate ∷ []) ≡ gate ∷ file
+pub gate_written : (file : List ℕ) (old gate : ℕ) → file_after_write (old ∷ file) 0 (gate ∷ []) ≡ gate ∷ file
 gate_written file old gate = refl
 
 -- the first places of a list, one by one
@@ -108,13 +108,13 @@ length_front f pages i within = length-map (take i pages) f ∙ omega (arith, le
 pub page_added : {X : Type 0} (old mid new : List (List ℕ)) (slot i : ℕ) (page : X) (f : X → List ℕ) (pages : List X) → slot < length old → i < length pages
     → page ≡ get_or pages i page → AreWhole (map f pages)
     → mid ≡ slice_set old slot (closed_file (map f (take i pages)))
-    → new ≡ slice_set mid slot (written (file_at mid slot) (4096 + 4096 * i) (f page))
+    → new ≡ slice_set mid slot (file_after_write (file_at mid slot) (4096 + 4096 * i) (f page))
     → new ≡ slice_set old slot (closed_file (map f (take (i + 1) pages)))
 page_added old mid new slot i page f pages in_disk within here whole was is =
     let place : body_place (map f (take i pages)) ≡ 4096 + 4096 * i = ap (λ n. 4096 + 4096 * n) (length_front f pages i (omega arith)) in
-    step old mid new slot (λ file. written file (4096 + 4096 * i) (f page)) (closed_file (map f (take i pages)))
+    step old mid new slot (λ file. file_after_write file (4096 + 4096 * i) (f page)) (closed_file (map f (take i pages)))
     (closed_file (map f (take (i + 1) pages))) in_disk was is
-    (ap (λ at. written (closed_file (map f (take i pages))) at (f page)) (sym place)
+    (ap (λ at. file_after_write (closed_file (map f (take i pages))) at (f page)) (sym place)
     ∙ page_written (map f (take i pages)) (f page) (whole_front f pages i whole)
     ∙ ap closed_file (taken f pages i page within here))
 
@@ -127,20 +127,20 @@ set_itself (x ∷ xs) (suc i) d = ap (λ ys. x ∷ ys) (set_itself xs i d)
 -- the table, the header and the gate, in the disk's contents
 pub body_closed : (old tabled headed opened : List (List ℕ)) (slot : ℕ) (pages : List (List ℕ)) (header table : List ℕ) → slot < length old
     → AreWhole pages → length header ≡ 4095 → file_at old slot ≡ closed_file pages
-    → tabled ≡ slice_set old slot (written (file_at old slot) (body_place pages) table)
-    → headed ≡ slice_set tabled slot (written (file_at tabled slot) 1 header)
-    → opened ≡ slice_set headed slot (written (file_at headed slot) 0 (165 ∷ []))
+    → tabled ≡ slice_set old slot (file_after_write (file_at old slot) (body_place pages) table)
+    → headed ≡ slice_set tabled slot (file_after_write (file_at tabled slot) 1 header)
+    → opened ≡ slice_set headed slot (file_after_write (file_at headed slot) 0 (165 ∷ []))
     → opened ≡ slice_set old slot (165 ∷ header ++ concat pages ++ table)
 body_closed old tabled headed opened slot pages header table within whole long was table_is header_is gate_is =
     let before : old ≡ slice_set old slot (closed_file pages) = sym (ap (slice_set old slot) (sym was) ∙ set_itself old slot []) in
     let with_table : tabled ≡ slice_set old slot (0 ∷ zeros 4095 ++ concat pages ++ table) =
-    step old old tabled slot (λ file. written file (body_place pages) table) (closed_file pages) _ within before table_is (body_written pages table whole) in
+    step old old tabled slot (λ file. file_after_write file (body_place pages) table) (closed_file pages) _ within before table_is (body_written pages table whole) in
     let with_header : headed ≡ slice_set old slot (0 ∷ header ++ concat pages ++ table) =
-    step old tabled headed slot (λ file. written file 1 header) (0 ∷ zeros 4095 ++ concat pages ++ table) _ within with_table header_is
-    (ap (λ xs. written (0 ∷ xs) 1 header) (append_assoc (zeros 4095) (concat pages) table)
+    step old tabled headed slot (λ file. file_after_write file 1 header) (0 ∷ zeros 4095 ++ concat pages ++ table) _ within with_table header_is
+    (ap (λ xs. file_after_write (0 ∷ xs) 1 header) (append_assoc (zeros 4095) (concat pages) table)
     ∙ header_written header (concat pages ++ table) long
     ∙ ap (λ xs. 0 ∷ xs) (sym (append_assoc header (concat pages) table))) in
-    step old headed opened slot (λ file. written file 0 (165 ∷ [])) (0 ∷ header ++ concat pages ++ table) _ within with_header gate_is
+    step old headed opened slot (λ file. file_after_write file 0 (165 ∷ [])) (0 ∷ header ++ concat pages ++ table) _ within with_header gate_is
     (gate_written (header ++ concat pages ++ table) 0 165)
 
 pub AreWhole-snoc : {X : Type 0} (f : X → List ℕ) (pages : List X) (page : X) → AreWhole (map f pages) → length (f page) ≡ 4096 → AreWhole (map f (pages ++ page ∷ []))

@@ -1,7 +1,7 @@
 -- The plans that write an image: the phases that each takes its slot through.
 use Rattle.std.proofs.Common.{◌≡◌, ◌<◌, ℕ, ◌+◌, ◌*◌, List, [], ◌∷◌, ◌++◌, length, slice_set, take, refl, sym, ap, subst, inl, inr}
 use Rattle.std.specs.List.{concat}
-use Rattle.sd_disk.specs.Contents.{file_at, written}
+use Rattle.sd_disk.specs.Contents.{file_at, file_after_write}
 use Rattle.sd_image.specs.declared.header.Header.{Header}
 use Rattle.sd_image.specs.Header.{header_text}
 use Rattle.sd_gate.specs.declared.call.Call.TheVariants.{Write, WriteHeader, Open, Sync}
@@ -90,15 +90,15 @@ close_takes law fill pages header table whole count =
 -- what they make of the contents
 pub formatted : (old : List (List ℕ)) (slot : ℕ) → slot < length old → contents_done closing_calls slot old ≡ slice_set old slot (0 ∷ [])
 formatted old slot within =
-    let mid : List (List ℕ) = slice_set old slot (written (file_at old slot) 0 (0 ∷ [])) in
-    step old mid (slice_set mid slot (take 1 (file_at mid slot))) slot (take 1) (written (file_at old slot) 0 (0 ∷ [])) (0 ∷ []) within refl refl
+    let mid : List (List ℕ) = slice_set old slot (file_after_write (file_at old slot) 0 (0 ∷ [])) in
+    step old mid (slice_set mid slot (take 1 (file_at mid slot))) slot (take 1) (file_after_write (file_at old slot) 0 (0 ∷ [])) (0 ∷ []) within refl refl
     (cut_to_first (file_at old slot) 0)
 
 pub body_done : (old : List (List ℕ)) (slot : ℕ) (pages : List (List ℕ)) (header : Header) (table : List ℕ) → slot < length old → AreWhole pages → header.pages ≡ length pages
     → file_at old slot ≡ closed_file pages
     → contents_done (body_calls header table) slot old ≡ slice_set old slot (165 ∷ header_text header ++ concat pages ++ table)
 body_done old slot pages header table within whole count body =
-    let tabled : List (List ℕ) = slice_set old slot (written (file_at old slot) (table_place header) table) in
-    let headed : List (List ℕ) = slice_set tabled slot (written (file_at tabled slot) 1 (header_text header)) in
-    body_closed old tabled headed (slice_set headed slot (written (file_at headed slot) 0 (165 ∷ []))) slot pages (header_text header) table within whole (length_header header) body
-    (ap (λ n. slice_set old slot (written (file_at old slot) (4096 + 4096 * n) table)) count) refl refl
+    let tabled : List (List ℕ) = slice_set old slot (file_after_write (file_at old slot) (table_place header) table) in
+    let headed : List (List ℕ) = slice_set tabled slot (file_after_write (file_at tabled slot) 1 (header_text header)) in
+    body_closed old tabled headed (slice_set headed slot (file_after_write (file_at headed slot) 0 (165 ∷ []))) slot pages (header_text header) table within whole (length_header header) body
+    (ap (λ n. slice_set old slot (file_after_write (file_at old slot) (4096 + 4096 * n) table)) count) refl refl

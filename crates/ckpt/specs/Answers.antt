@@ -3,15 +3,15 @@ use Rattle.std.specs.Prelude.{◌≡◌, ◌⊎◌, ℕ, Bool, true, false, ◌+
 use Rattle.std.specs.List.{range_with_len}
 use Rattle.sd_areas.specs.Pages.{page_of, pages_for}
 use Rattle.sd_areas.specs.PlainMemory.{PlainMemory}
-use Rattle.sd_pagetable.specs.declared.denied.Denied.{Denied}
-use Rattle.sd_pagetable.specs.declared.denied.Denied.TheVariants.{Refused, Segv}
+use Rattle.sd_pagetable.specs.declared.access_error.AccessError.{AccessError}
+use Rattle.sd_pagetable.specs.declared.access_error.AccessError.TheVariants.{Refused, Segv}
 use Rattle.sd_pagetable.specs.declared.memory_error.MemoryError.{MemoryError}
 use Rattle.sd_pagetable.specs.declared.memory_error.MemoryError.TheVariants as error
-use Rattle.sd_pagetable.specs.declared.need.Need.TheVariants.{Read, Write}
-use Rattle.sd_pagetable.specs.declared.refusal.Refusal as memory
-use Rattle.sd_pagetable.specs.declared.refusal.Refusal.TheVariants as due
-use Rattle.sd_pagetable.specs.declared.tried.Tried.{Tried}
-use Rattle.sd_pagetable.specs.declared.tried.Tried.TheVariants as tried
+use Rattle.sd_pagetable.specs.declared.access.Access.TheVariants.{Read, Write}
+use Rattle.sd_pagetable.specs.declared.memory_refusal.MemoryRefusal as memory
+use Rattle.sd_pagetable.specs.declared.memory_refusal.MemoryRefusal.TheVariants as due
+use Rattle.sd_pagetable.specs.declared.store_outcome.StoreOutcome.{StoreOutcome}
+use Rattle.sd_pagetable.specs.declared.store_outcome.StoreOutcome.TheVariants as tried
 use Rattle.sd_pagetable.specs.Page.{Page}
 use Rattle.sd_pagetable.specs.Contents.{Contents, page_at, plain_of, word_at}
 use Rattle.sd_pagetable.specs.Due.{in_space, access_due, fault_due, store_due, tried as tried_at, mmap_due, munmap_due, mprotect_due, fork_due, exit_due}
@@ -28,7 +28,7 @@ use Rattle.ckpt.specs.declared.reply.Reply.{Reply}
 use Rattle.ckpt.specs.declared.reply.Reply.TheVariants as reply
 
 -- a refusal of the memory, as an answer
-abbrev pub refusal_of : memory.Refusal → Refusal
+abbrev pub refusal_of : memory.MemoryRefusal → Refusal
 refusal_of due.Einval = refusal.Einval
 refusal_of due.Enomem = refusal.Enomem
 refusal_of due.NoSuchSpace = refusal.NoSuchSpace
@@ -36,7 +36,7 @@ refusal_of due.TooManySpaces = refusal.TooManySpaces
 refusal_of due.NoFrame = refusal.NoFrame
 refusal_of due.LastSpace = refusal.LastSpace
 
-abbrev pub reply_of : Denied → Reply
+abbrev pub reply_of : AccessError → Reply
 reply_of (Refused why) = reply.Refused (refusal_of why)
 reply_of (Segv why) = reply.Segv why
 
@@ -45,7 +45,7 @@ reply_to (error.Denied denied) = reply_of denied
 reply_to error.OutOfMemory = reply.Refused refusal.OutOfMemory
 
 -- what a command is denied, if anything
-abbrev pub denial : Command → Contents → Option Denied
+abbrev pub denial : Command → Contents → Option AccessError
 denial (command.Mmap space address bytes prot) memory = mmap_due (plain_of memory) space address bytes prot
 denial (command.Munmap space address bytes) memory = munmap_due (plain_of memory) space address bytes
 denial (command.Mprotect space address bytes prot) memory = mprotect_due (plain_of memory) space address bytes prot
@@ -62,7 +62,7 @@ done_by (Ok _) = Ok reply.Done
 done_by (Err error) = Err error
 
 -- the answer of a try of a store
-abbrev pub tried_by : Tried → Reply
+abbrev pub tried_by : StoreOutcome → Reply
 tried_by tried.Done = reply.Done
 tried_by tried.NeedsFault = reply.NeedsFault
 
@@ -98,7 +98,7 @@ effect (command.Store space address bytes) reply.Done memory = after_store memor
 effect _ _ memory = memory
 
 -- words of a space that is alive, at most 512, of pages that can be mapped
-abbrev pub words_due : PlainMemory → ℕ → ℕ → ℕ → Option Denied
+abbrev pub words_due : PlainMemory → ℕ → ℕ → ℕ → Option AccessError
 words_due memory space address count = in_space memory space (if nat_lt 512 count || nat_lt (2 ^ 35) (page_of address + count) then Some (Refused due.Einval) else None)
 
 -- the words of so many pages
@@ -113,9 +113,9 @@ takes_memory (command.TryStore space address bytes) = false
 takes_memory _ = true
 
 -- A request is denied as it is due, or the memory that it takes is wanting, and nothing changes; or it is accepted and does this.
-abbrev pub Answered : Option Denied → Bool → Reply → Contents → Contents → Type 0 → Type 0
+abbrev pub Answered : Option AccessError → Bool → Reply → Contents → Contents → Type 0 → Type 0
 Answered due takes answer old new does =
-    ((denied : Denied) × (due ≡ Some denied) × (answer ≡ reply_of denied) × (new ≡ old))
+    ((denied : AccessError) × (due ≡ Some denied) × (answer ≡ reply_of denied) × (new ≡ old))
     ⊎ (((takes ≡ true) × (answer ≡ reply.Refused refusal.OutOfMemory) × (new ≡ old)) ⊎ ((due ≡ None) × does))
 
 -- what a checkpoint does to the bits: an acknowledged one cleared each page, a refused one changed nothing, but where memory was wanting

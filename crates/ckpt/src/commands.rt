@@ -2,13 +2,13 @@
 ghost use Rattle.std.specs.Prelude.{◌≡◌, true, Err, OnErr, IfOk};
 ghost use Rattle.sd_pagetable.specs.Contents.{plain_of};
 ghost use Rattle.sd_pagetable.specs.Due.{Answers, access_due};
-ghost use Rattle.sd_pagetable.specs.declared.need.Need.TheVariants.{Read};
+ghost use Rattle.sd_pagetable.specs.declared.access.Access.TheVariants.{Read};
 ghost use Rattle.ckpt.specs.Answers.{denial, done_by, effect, tried_by, takes_memory, Answered, Does, IsBytes};
 
 use crate::command::Command;
 use crate::reply::Reply;
 use sd_areas::SpaceId;
-use sd_pagetable::{Memory, MemoryError, Tried};
+use sd_pagetable::{Memory, MemoryError, StoreOutcome};
 use std::alloc::Global;
 
 /// One byte more than a load can have.
@@ -81,12 +81,12 @@ fn done(answered: Result<(), MemoryError>) -> Result<Reply, MemoryError>
 }
 
 /// The answer of a try of a store.
-fn tried(tried: Tried) -> Reply
+fn tried(tried: StoreOutcome) -> Reply
     ensures { result ≡ tried_by tried }
 {
     match tried {
-        Tried::Done => Reply::Done,
-        Tried::NeedsFault => Reply::NeedsFault,
+        StoreOutcome::Done => Reply::Done,
+        StoreOutcome::NeedsFault => Reply::NeedsFault,
     }
 }
 

@@ -1,4 +1,4 @@
-use sd_pagetable::Refusal as Due;
+use sd_pagetable::MemoryRefusal as Due;
 use thiserror::Error;
 
 /// Why a request was refused. It is printed with its number.

@@ -1,6 +1,6 @@
 use crate::refusal::Refusal;
 use sd_areas::SpaceId;
-use sd_pagetable::{Denied, MemoryError, Segv};
+use sd_pagetable::{AccessError, MemoryError, Segv};
 use std::fmt;
 
 /// What a line of a script is answered.
@@ -65,8 +65,8 @@ impl From<MemoryError> for Reply {
 
     fn from(error: MemoryError) -> Reply {
         match error {
-            MemoryError::Denied(Denied::Refused(due)) => Reply::Refused(Refusal::from(due)),
-            MemoryError::Denied(Denied::Segv(segv)) => Reply::Segv(segv),
+            MemoryError::Denied(AccessError::Refused(due)) => Reply::Refused(Refusal::from(due)),
+            MemoryError::Denied(AccessError::Segv(segv)) => Reply::Segv(segv),
             MemoryError::OutOfMemory => Reply::Refused(Refusal::OutOfMemory),
         }
     }

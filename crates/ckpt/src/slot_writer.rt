@@ -1,7 +1,7 @@
 //! The plans that write one image into a slot.
 ghost use Rattle.std.specs.Prelude.{◌≡◌, ◌<◌, ◌≤◌, ◌++◌, ◌∷◌, List, ℕ, [], length, map, None, IfOk, OnOk, MatchOption, slice_set};
 ghost use Rattle.std.specs.List.{concat};
-ghost use Rattle.sd_disk.specs.Contents.{file_at, written};
+ghost use Rattle.sd_disk.specs.Contents.{file_at, file_after_write};
 ghost use Rattle.sd_disk.specs.Crash.{LeavesOnly};
 ghost use Rattle.sd_disk.specs.Failures.{HasCause};
 ghost use Rattle.sd_gate.specs.declared.phase.Phase.{Phase};
@@ -98,7 +98,7 @@ fn write_page<D: Disk>(
     requires slot { slot < length (D.contents disk.old) }
     requires page { IsPage place page.items }
     ensures written { OnOk result (D.contents disk.new
-        ≡ slice_set (D.contents disk.old) slot (written (file_at (D.contents disk.old) slot) (data_place place) page.items)) }
+        ≡ slice_set (D.contents disk.old) slot (file_after_write (file_at (D.contents disk.old) slot) (data_place place) page.items)) }
     ensures back { IfOk result (λ back. length back.items ≡ 4096) }
     ensures crash { FollowsAt slot (D.may_leave disk.old) (D.may_leave disk.new) }
     ensures fits { (pages : List (List ℕ)) → AreWhole pages → length pages ≡ place

@@ -6,11 +6,11 @@ use Rattle.std.proofs.Math.Seq.{get_or-append_seam}
 use Rattle.sd_disk.specs.Contents.{file_at}
 use Rattle.sd_disk.specs.Outcomes.{at_rest}
 use Rattle.sd_disk.specs.Slots.{held, room_of, Tracks, AreAtRest}
-use Rattle.sd_disk.specs.declared.slot.Slot.{Slot}
+use Rattle.sd_disk.specs.declared.slot_file.SlotFile.{SlotFile}
 
-module _ (slots : List Slot) (new : Slot) where
+module _ (slots : List SlotFile) (new : SlotFile) where
   -- the last slot is the new one
-  last : (number : ℕ) (other : Slot) → number < length (slots ++ new ∷ []) → length slots ≤ number → slice_index_or (slots ++ new ∷ []) number other ≡ new
+  last : (number : ℕ) (other : SlotFile) → number < length (slots ++ new ∷ []) → length slots ≤ number → slice_index_or (slots ++ new ∷ []) number other ≡ new
   last number other near past =
       let is : number ≡ length slots = omega (arith, length-append slots (new ∷ [])) in
       ap (λ n. slice_index_or (slots ++ new ∷ []) n other) is ∙ get_or-append_seam slots new [] other
@@ -41,12 +41,12 @@ module _ (slots : List Slot) (new : Slot) where
       map-append room_of slots (new ∷ []) ∙ ap (λ front. front ++ room_of new ∷ []) before ∙ ap (λ room. take (length slots) rooms ++ room ∷ []) here
       ∙ sym (take_more rooms (length slots) 0 more)
 
-pub room_at : (slots : List Slot) (number : ℕ) (slot : Slot) → number < length slots → slot ≡ slice_index_or slots number slot
+pub room_at : (slots : List SlotFile) (number : ℕ) (slot : SlotFile) → number < length slots → slot ≡ slice_index_or slots number slot
     → room_of slot ≡ slice_index (map room_of slots) number
 room_at slots number slot near here = ap room_of here ∙ sym (get_or-map room_of slots number slot 0 near)
 
 -- slots that hold these contents
-pub files_same : (slots slots' : List Slot) (contents : List (List ℕ)) → slots' ≡ slots → length slots ≡ length contents
+pub files_same : (slots slots' : List SlotFile) (contents : List (List ℕ)) → slots' ≡ slots → length slots ≡ length contents
     → ((number : ℕ) → number < length slots → file_at (map held slots) number ≡ file_at contents number) → map held slots' ≡ contents
 files_same slots slots' contents are size same =
     ap (map held) are ∙ same_lists (map held slots) contents (length-map slots held ∙ size) (λ number other near.

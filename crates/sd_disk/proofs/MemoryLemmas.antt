@@ -4,10 +4,10 @@ use Rattle.std.proofs.lemmas.List.{get_or-map, map-set, length-map}
 use Rattle.std.proofs.Math.Seq.{map-set_same}
 use Rattle.sd_disk.specs.Contents.{file_at, AtSlot}
 use Rattle.sd_disk.specs.Slots.{held, room_of}
-use Rattle.sd_disk.specs.declared.slot.Slot.{Slot}
+use Rattle.sd_disk.specs.declared.slot_file.SlotFile.{SlotFile}
 use Rattle.sd_disk.proofs.StepLemmas.{at_slot}
 
-module _ (slots : List Slot) (i : ℕ) (old new : Slot) (is_slot : i < length (map held slots)) (is : old ≡ slice_index_or slots i old) where
+module _ (slots : List SlotFile) (i : ℕ) (old new : SlotFile) (is_slot : i < length (map held slots)) (is : old ≡ slice_index_or slots i old) where
   pub file_read : file_at (map held slots) i ≡ held old
   file_read =
       let within : i < length slots = subst (λ n. i < n) (length-map slots held) is_slot in

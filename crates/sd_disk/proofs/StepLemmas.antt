@@ -5,7 +5,7 @@ use Rattle.std.proofs.lemmas.List.{get_or-set_same, get_or-set_other, get_or-tak
 use Rattle.std.proofs.lemmas.List.FromFn.{get_or-map-range_with_len}
 use Rattle.std.proofs.lemmas.List.FromFn.{length-map-range_with_len}
 use Rattle.std.proofs.lemmas.Grind.{same_number_lists}
-use Rattle.sd_disk.specs.Contents.{file_at, written, Torn, Cut, AtSlot}
+use Rattle.sd_disk.specs.Contents.{file_at, file_after_write, Torn, Cut, AtSlot}
 use Rattle.sd_disk.specs.Events.{mixed, torn_write, torn_cut}
 
 -- one slot gets another file
@@ -28,10 +28,10 @@ torn_same at n file = record { no_shorter = omega arith; no_longer = omega arith
 pub cut_same : (n : ℕ) (file : List ℕ) → Cut n file file
 cut_same n file = record { no_shorter = omega arith; no_longer = omega arith; below = λ i old near. refl }
 
-pub length_written : (file bytes : List ℕ) (at : ℕ) → length (written file at bytes) ≡ max (length file) (at + length bytes)
+pub length_written : (file bytes : List ℕ) (at : ℕ) → length (file_after_write file at bytes) ≡ max (length file) (at + length bytes)
 length_written file bytes at = grind (arith, common_steps)
 
-pub torn_written : (file bytes : List ℕ) (at : ℕ) → Torn at (length bytes) file (written file at bytes)
+pub torn_written : (file bytes : List ℕ) (at : ℕ) → Torn at (length bytes) file (file_after_write file at bytes)
 torn_written file bytes at =
     let size = length_written file bytes at in
     record {

@@ -9,7 +9,7 @@ use Rattle.sd_disk.specs.Events.{Outside, Event, after, files_after, failures_in
 use Rattle.sd_disk.specs.Outcomes.{Leaves, MayLeave, AreSettled, at_rest, with_write, with_cut, unsynced_after, was_synced}
 use Rattle.sd_disk.specs.Slots.{held, Tracks, AreTracked, AreAtRest}
 use Rattle.sd_disk.specs.declared.call.Call.TheVariants.{Written, Cut as Cuts, Synced, Failed}
-use Rattle.sd_disk.specs.declared.slot.Slot.{Slot}
+use Rattle.sd_disk.specs.declared.slot_file.SlotFile.{SlotFile}
 use Rattle.sd_disk.proofs.LeaveLemmas.{rest_only}
 use Rattle.sd_disk.proofs.MemoryLemmas.{file_read}
 
@@ -24,7 +24,7 @@ either_way true is = refl
 either_way false is = is
 
 -- one slot changes by a call on it
-pub tracked_after : (slots : List Slot) (i : ℕ) (old new : Slot) (is_slot : i < length slots) (is : old ≡ slice_index_or slots i old)
+pub tracked_after : (slots : List SlotFile) (i : ℕ) (old new : SlotFile) (is_slot : i < length slots) (is : old ≡ slice_index_or slots i old)
     (outside outside' : Outside) (events events' : List Event) (event : Event) (same : outside' ≡ outside) (noted : events' ≡ event ∷ events)
     → ((number : ℕ) → number ≢ i → unsynced_after outside (event ∷ events) number ≡ unsynced_after outside events number)
     → ((number : ℕ) → was_synced events number ≡ true → was_synced (event ∷ events) number ≡ true)
@@ -46,7 +46,7 @@ tracked_after slots i old new is_slot is outside outside' events events' event s
     within : (number : ℕ) → number < length (slice_set slots i new) → number < length slots
     within number near = subst (λ n. number < n) (length-set slots i new) near
 
-pub replayed_after : (slots slots' : List Slot) (outside outside' : Outside) (events events' : List Event) (event : Event) → outside' ≡ outside → events' ≡ event ∷ events
+pub replayed_after : (slots slots' : List SlotFile) (outside outside' : Outside) (events events' : List Event) (event : Event) → outside' ≡ outside → events' ≡ event ∷ events
     → files_after outside events ≡ map held slots → ((left : List ℕ) → after event.0 event.1 left (map held slots) ≡ map held slots')
     → files_after outside' events' ≡ map held slots'
 replayed_after slots slots' outside outside' events events' event same noted before changes =
@@ -54,7 +54,7 @@ replayed_after slots slots' outside outside' events events' event same noted bef
     ∙ ap (after event.0 event.1 (file_at outside.left (failures_in events))) before ∙ changes (file_at outside.left (failures_in events))
 
 -- a call failed, and changed nothing
-pub tracked_failed : (slots : List Slot) (outside outside' : Outside) (events events' : List Event) → outside' ≡ outside → events' ≡ (Failed, []) ∷ events
+pub tracked_failed : (slots : List SlotFile) (outside outside' : Outside) (events events' : List Event) → outside' ≡ outside → events' ≡ (Failed, []) ∷ events
     → AreTracked slots outside events → AreTracked slots outside' events'
 tracked_failed slots outside outside' events events' same noted before =
     subst (λ es. AreTracked slots outside' es) (sym noted)
@@ -97,7 +97,7 @@ settled_only files outside events settled c left =
     any_default : (contents : List (List ℕ)) (number : ℕ) (other : List ℕ) → number < length contents → slice_index_or contents number other ≡ file_at contents number
     any_default contents number other near = get_or_default contents number other [] near
 
-pub settled_tracked : (slots : List Slot) (outside : Outside) (events : List Event) → AreAtRest slots → AreSettled (map held slots) (length slots) outside events
+pub settled_tracked : (slots : List SlotFile) (outside : Outside) (events : List Event) → AreAtRest slots → AreSettled (map held slots) (length slots) outside events
     → AreTracked slots outside events
 settled_tracked slots outside events rest settled = record {
   synced = settled.synced;
@@ -108,7 +108,7 @@ settled_tracked slots outside events rest settled = record {
 }
 
 -- a call on a slot
-module _ (slots : List Slot) (i : ℕ) (old new : Slot) (is_file : i < length (map held slots)) (is : old ≡ slice_index_or slots i old)
+module _ (slots : List SlotFile) (i : ℕ) (old new : SlotFile) (is_file : i < length (map held slots)) (is : old ≡ slice_index_or slots i old)
     (outside outside' : Outside) (events events' : List Event) where
   is_slot : i < length slots
   is_slot = subst (λ n. i < n) (length-map slots held) is_file
@@ -147,7 +147,7 @@ module _ (slots : List Slot) (i : ℕ) (old new : Slot) (is_file : i < length (m
       ∙ ap at_rest (read_here replayed))) tracks)
       before
 
-pub settled_slots : (slots : List Slot) (outside : Outside) (events : List Event) → AreSettled (map held slots) (length slots) outside events
+pub settled_slots : (slots : List SlotFile) (outside : Outside) (events : List Event) → AreSettled (map held slots) (length slots) outside events
     → Only (map held slots) (MayLeave outside events)
 settled_slots slots outside events settled =
     settled_only (map held slots) outside events (subst (λ n. AreSettled (map held slots) n outside events) (sym (length-map slots held)) settled)

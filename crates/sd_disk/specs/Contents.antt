@@ -6,8 +6,8 @@ abbrev pub file_at : List (List ℕ) → ℕ → List ℕ
 file_at contents slot = slice_index_or contents slot []
 
 -- a file after these bytes were written at a place; where that begins past the old end, zeros fill the gap
-abbrev pub written : List ℕ → ℕ → List ℕ → List ℕ
-written file at bytes = take at (file ++ replicate (at - length file) 0) ++ bytes ++ drop (at + length bytes) file
+abbrev pub file_after_write : List ℕ → ℕ → List ℕ → List ℕ
+file_after_write file at bytes = take at (file ++ replicate (at - length file) 0) ++ bytes ++ drop (at + length bytes) file
 
 -- what a write of n bytes may leave, done in part or whole: any bytes in its range and past the old end
 pub record Torn (at n : ℕ) (old new : List ℕ) : Type 0 where

@@ -31,10 +31,3 @@ pub record Elapses (before now : ℕ) (past since : ℕ → List (List ℕ) → 
   pub later : before ≤ now
   pub nothing_else : (t : ℕ) (c : List (List ℕ)) → t ≤ before → since t c → past t c ⊎ outcomes c
   pub keeps : (t : ℕ) (c : List (List ℕ)) → t ≤ before → past t c → since t c
-
--- A crash at any moment since old leaves contents that have P.
-pub record LeavesOnly {D : Type 0} (moment : D → ℕ) (left_since : D → ℕ → List (List ℕ) → Type 0) (old new : D) (P : List (List ℕ) → Type 0) : Type 0 where
-  pub later : moment old ≤ moment new
-  pub each : (c : List (List ℕ)) → left_since new (moment old) c → P c
-  -- for a run that began earlier
-  pub before : (t : ℕ) (c : List (List ℕ)) → t ≤ moment old → left_since new t c → left_since old t c ⊎ P c

@@ -1,7 +1,7 @@
 -- What a record of calls says of files.
 use Rattle.std.specs.Prelude.{◌≡◌, ℕ, ◌+◌, max, min, Bool, true, false, not, cond, ◌&&◌, ◌||◌, nat_lt, List, [], ◌∷◌, length, take, map, slice_index, slice_range, slice_set}
 use Rattle.std.specs.List.{range_with_len}
-use Rattle.sd_disk.specs.Contents.{file_at, written}
+use Rattle.sd_disk.specs.Contents.{file_at, file_after_write}
 use Rattle.sd_disk.specs.declared.call.Call.{Call}
 use Rattle.sd_disk.specs.declared.call.Call.TheVariants.{Measured, Read, Written, Cut, Synced, Failed, WriteFailed, CutFailed}
 
@@ -47,7 +47,7 @@ torn_cut n file left = mixed (max (min (length file) n) (min (length file) (leng
 abbrev pub after : Call → List ℕ → List ℕ → List (List ℕ) → List (List ℕ)
 after (Measured slot len) bytes left files = files
 after (Read slot at) bytes left files = files
-after (Written slot at) bytes left files = slice_set files slot (written (file_at files slot) at bytes)
+after (Written slot at) bytes left files = slice_set files slot (file_after_write (file_at files slot) at bytes)
 after (Cut slot len) bytes left files = slice_set files slot (take len (file_at files slot))
 after (Synced slot) bytes left files = files
 after Failed bytes left files = files

@@ -9,5 +9,6 @@ pub mod Laws
 pub mod Memory
 pub mod Moments
 pub mod Outcomes
+pub mod Reads
 pub mod Slots
 pub mod Spans

@@ -4,7 +4,7 @@ use Rattle.sd_disk.specs.Events.{Event, failures_in}
 use Rattle.sd_disk.specs.Outcomes.{MayLeave}
 use Rattle.sd_disk.specs.Moments.{LeftSince}
 use Rattle.sd_disk.specs.Slots.{held, room_of}
-use Rattle.sd_disk.specs.declared.memory.MemDisk.{MemDisk}
+use Rattle.sd_disk.specs.declared.mem_disk.MemDisk.{MemDisk}
 
 -- its files
 abbrev pub memory_files : MemDisk → List (List ℕ)
@@ -20,7 +20,7 @@ memory_calls disk = disk.budget.calls_left
 
 -- how often it has failed
 abbrev pub memory_failures : MemDisk → ℕ
-memory_failures disk = failures_in disk.budget.journal.record.events
+memory_failures disk = failures_in disk.budget.log.trace.events
 
 -- how often it was read
 abbrev pub memory_reads : MemDisk → ℕ
@@ -28,7 +28,7 @@ memory_reads disk = disk.reads
 
 -- the writes, cuts and syncs on it, the last first
 abbrev pub memory_events : MemDisk → List Event
-memory_events disk = disk.budget.journal.record.events
+memory_events disk = disk.budget.log.trace.events
 
 -- how many calls were made on it: these, and the questions for a length and the reads
 abbrev pub memory_called : MemDisk → ℕ
@@ -36,7 +36,7 @@ memory_called disk = length (memory_events disk) + length disk.asked.events
 
 -- what a crash now may leave
 abbrev pub memory_may_leave : MemDisk → List (List ℕ) → Type 0
-memory_may_leave disk = MayLeave disk.budget.journal.record.outside (memory_events disk)
+memory_may_leave disk = MayLeave disk.budget.log.trace.outside (memory_events disk)
 
 -- the moment, by the number of calls
 abbrev pub memory_moment : MemDisk → ℕ
@@ -44,7 +44,7 @@ memory_moment disk = length (memory_events disk)
 
 -- what a crash since a moment might have left
 abbrev pub memory_left_since : MemDisk → ℕ → List (List ℕ) → Type 0
-memory_left_since disk = LeftSince disk.budget.journal.record.outside (memory_events disk)
+memory_left_since disk = LeftSince disk.budget.log.trace.outside (memory_events disk)
 
 -- there is room for a write of n bytes
 abbrev pub HasRoom : MemDisk → ℕ → ℕ → ℕ → Type 0

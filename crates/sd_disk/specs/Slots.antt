@@ -3,14 +3,14 @@ use Rattle.std.specs.Prelude.{◌≡◌, ℕ, ◌<◌, true, false, List, take, 
 use Rattle.sd_disk.specs.Events.{Outside, Event}
 use Rattle.sd_disk.specs.Outcomes.{Unsynced, is_touched, at_rest, unsynced_after, was_synced}
 use Rattle.sd_disk.specs.declared.shadow.Shadow.{Shadow}
-use Rattle.sd_disk.specs.declared.slot.Slot.{Slot}
+use Rattle.sd_disk.specs.declared.slot_file.SlotFile.{SlotFile}
 
 -- the file in a slot
-abbrev pub held : Slot → List ℕ
+abbrev pub held : SlotFile → List ℕ
 held slot = take slot.len slot.room.items
 
 -- how many bytes it has room for
-abbrev pub room_of : Slot → ℕ
+abbrev pub room_of : SlotFile → ℕ
 room_of slot = length slot.room.items
 
 -- how many bytes a shadow has room for
@@ -25,12 +25,12 @@ pub record Tracks (shadow : Shadow) (known : Unsynced) : Type 0 where
   pub greatest : shadow.greatest ≡ known.greatest
 
 -- each slot was synced, and its shadow has what befell it since
-pub record AreTracked (slots : List Slot) (outside : Outside) (events : List Event) : Type 0 where
+pub record AreTracked (slots : List SlotFile) (outside : Outside) (events : List Event) : Type 0 where
   pub synced : (number : ℕ) → number < length slots → was_synced events number ≡ true
-  pub shadows : (number : ℕ) (slot : Slot) → number < length slots → slot ≡ slice_index_or slots number slot
+  pub shadows : (number : ℕ) (slot : SlotFile) → number < length slots → slot ≡ slice_index_or slots number slot
       → Tracks slot.shadow (unsynced_after outside events number)
 
 -- each slot is as right after a sync
-abbrev pub AreAtRest : List Slot → Type 0
-AreAtRest slots = (number : ℕ) (slot : Slot) → number < length slots → slot ≡ slice_index_or slots number slot
+abbrev pub AreAtRest : List SlotFile → Type 0
+AreAtRest slots = (number : ℕ) (slot : SlotFile) → number < length slots → slot ≡ slice_index_or slots number slot
     → Tracks slot.shadow (at_rest (held slot))

@@ -5,13 +5,13 @@ ghost use Rattle.sd_disk.specs.Events.{Outside};
 
 use crate::call::Call;
 use crate::error::DeviceError;
-use crate::journal::Journal;
-use crate::slot::Slot;
+use crate::call_log::CallLog;
+use crate::slot_file::SlotFile;
 
 #[derive(Drop)]
 pub(crate) struct Budget {
     calls_left: usize,
-    journal: Journal,
+    log: CallLog,
 }
 
 impl Budget {
@@ -20,26 +20,26 @@ impl Budget {
     ghost use Rattle.sd_disk.specs.Slots.{held};
 
     /// Of a disk with these slots, each of them synced.
-    pub(crate) fn new(slots: &[Slot], calls: usize) -> Budget
+    pub(crate) fn new(slots: &[SlotFile], calls: usize) -> Budget
         ghost outside: { Outside }
         requires { outside.found ≡ map held slots.now }
         ensures calls { result.calls_left ≡ calls }
-        ensures settled { AreSettled (map held slots.now) (length slots.now) result.journal.record.outside result.journal.record.events }
+        ensures settled { AreSettled (map held slots.now) (length slots.now) result.log.trace.outside result.log.trace.events }
     {
-        let mut journal = Journal::new();
+        let mut log = CallLog::new();
         for slot in 0..slots.len() {
-            journal.note(&Call::Synced { slot }, &[]);
+            log.note(&Call::Synced { slot }, &[]);
         }
         Budget {
             calls_left: calls,
-            journal,
+            log,
         }
     }
 
     pub(crate) fn failures(&self) -> u64
-        ensures { result ≡ min (failures_in self.now.journal.record.events) (2 ^ 64 - 1) }
+        ensures { result ≡ min (failures_in self.now.log.trace.events) (2 ^ 64 - 1) }
     {
-        self.journal.failures()
+        self.log.failures()
     }
 
     /// How many more calls there is room for.
@@ -53,22 +53,22 @@ impl Budget {
     pub(crate) fn spend(&mut self, call: &Call, bytes: &[u8], fits: bool) -> Result<(), DeviceError>
         requires { is_failure call.now ≡ false }
         ensures room { IsOk result ↔ (0 < self.old.calls_left) × IsTrue fits }
-        ensures outside { self.new.journal.record.outside ≡ self.old.journal.record.outside }
+        ensures outside { self.new.log.trace.outside ≡ self.old.log.trace.outside }
 
         ensures spent { OnOk result (self.old.calls_left ≡ self.new.calls_left + 1) }
-        ensures noted { OnOk result (self.new.journal.record.events
-            ≡ (call.now, bytes.now) ∷ self.old.journal.record.events) }
+        ensures noted { OnOk result (self.new.log.trace.events
+            ≡ (call.now, bytes.now) ∷ self.old.log.trace.events) }
 
         ensures unspent { OnErr result (self.new.calls_left ≡ self.old.calls_left) }
-        ensures failure { OnErr result (self.new.journal.record.events
-            ≡ (Failed, []) ∷ self.old.journal.record.events) }
+        ensures failure { OnErr result (self.new.log.trace.events
+            ≡ (Failed, []) ∷ self.old.log.trace.events) }
     {
         if self.calls_left == 0 || !fits {
-            self.journal.note(&Call::Failed, &[]);
+            self.log.note(&Call::Failed, &[]);
             return Err(DeviceError);
         }
         self.calls_left -= 1;
-        self.journal.note(call, bytes);
+        self.log.note(call, bytes);
         Ok(())
     }
 }

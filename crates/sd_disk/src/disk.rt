@@ -1,5 +1,5 @@
 ghost use Rattle.std.specs.Prelude.{◌≡◌, ℕ, ◌+◌, ◌-◌, ◌<◌, ◌≤◌, ◌^◌, min, List, length, take, OnOk, IfOk, slice_range, slice_set};
-ghost use Rattle.sd_disk.specs.Contents.{file_at, written, Torn, Cut, AtSlot};
+ghost use Rattle.sd_disk.specs.Contents.{file_at, file_after_write, Torn, Cut, AtSlot};
 ghost use Rattle.sd_disk.specs.Crash.{Follows, Within, OnlyAt, Elapses};
 ghost use Rattle.sd_disk.specs.Failures.{HasCause};
 
@@ -73,7 +73,7 @@ pub trait Disk {
         requires slot { slot < length (contents self.old) }
         requires some { 0 < length bytes.now }
         ensures written { OnOk result (contents self.new
-            ≡ slice_set (contents self.old) slot (written (file_at (contents self.old) slot) at bytes.now)) }
+            ≡ slice_set (contents self.old) slot (file_after_write (file_at (contents self.old) slot) at bytes.now)) }
         ensures torn { AtSlot slot (Torn at (length bytes.now)) (contents self.old) (contents self.new) }
         ensures crash { Follows (AtSlot slot (Torn at (length bytes.now))) (may_leave self.old) (may_leave self.new) }
         ensures time { Elapses (moment self.old) (moment self.new) (left_since self.old) (left_since self.new) (may_leave self.new) }

@@ -1,157 +1,134 @@
-//! A disk over the files of a folder.
-ghost use Rattle.std.specs.Prelude.{◌≡◌, length};
-ghost use Rattle.sd_disk.specs.Events.{Outside};
+//! A slot's file in a folder: each function makes one call of the system. `None` is a file that is missing.
+ghost use Rattle.std.specs.Prelude.{◌≡◌, ◌<◌, length, slice_index_or};
 
-use crate::call::Call;
-use crate::disk::Disk;
-use crate::error::DeviceError;
-use crate::image::{self, Folder};
-use crate::journal::Journal;
+use crate::open_error::OpenError;
+use std::fs::{File, OpenOptions};
+use std::os::unix::fs::FileExt;
+use std::rt::Files;
+use std::{fs, io};
 
-/// A disk over the slots' files in a folder. A file that is missing has length 0, and a write to it fails.
-///
-/// Each method makes one call of `image` and notes it, with its answer, in the journal: no contract says what
-/// a real file gives, so `is_honest` is the premise that each answer was that of the files by the journal.
+const SLOTS: usize = 64;
+
+/// The slots' files `img-000` to `img-063` in a folder, opened once.
 #[derive(Drop)]
-pub struct DirDisk {
-    folder: Folder,
-    journal: Journal,
-    ghost one_each: { length journal.record.outside.found ≡ length folder.images.items },
+pub struct Folder {
+    images: Vec<Option<File>>,
+    ghost count: { length images.items ≡ 64 },
 }
 
-impl DirDisk {
-    ghost use Rattle.sd_disk.specs.Folder.{folder_files, folder_failures};
+impl Folder {
+    ghost use Rattle.std.specs.Prelude.{IfOk};
+    ghost use Rattle.sd_disk.specs.Folder.{folder_slots};
 
-    /// `outside` stands for what the files hold, and for what each failed write and cut will leave of them.
-    pub fn new(folder: Folder) -> DirDisk
-        ghost outside: { Outside }
-        requires { length outside.found ≡ 64 }
-        ensures found { folder_files result ≡ outside.found }
-        ensures failed { folder_failures result ≡ 0 }
+    /// Opens the files. With `make` the folder, its parents and the files that are missing are made; without it
+    /// nothing is, and the folder has to be there.
+    pub fn open(
+        rt: &(impl Files<File = File> + AllocGlobal),
+        path: &str,
+        make: bool,
+    ) -> Result<Folder, OpenError>
+        ensures { IfOk result (λ folder. folder_slots folder ≡ SLOTS) }
     {
-        DirDisk {
-            folder,
-            journal: Journal::new(),
+        prepare(rt, path, make).map_err(|_| OpenError::Folder)?;
+        let mut images = Vec::with_capacity(rt.alloc(), SLOTS)?;
+        for slot in 0..SLOTS {
+            let name = format!(in rt.alloc(); "{path}/img-{slot:03}").map_err(
+                |_| OpenError::OutOfMemory,
+            )?;
+            let image = open_image(rt, name.as_str(), make).map_err(|_| OpenError::Folder)?;
+            images.push(image)?;
         }
+        if make {
+            sync_folder(rt, path).map_err(|_| OpenError::Folder)?;
+        }
+        Ok(Folder { images })
+    }
+
+    pub(crate) fn slots(&self) -> usize
+        ensures count { result ≡ folder_slots self.now }
+        ensures fixed { result ≡ SLOTS }
+    {
+        self.images.len()
+    }
+
+    pub(crate) fn image(&self, slot: usize) -> &Option<File>
+        requires { slot < length self.now.images.items }
+        ensures { result.now ≡ slice_index_or self.now.images.items slot result.now }
+    {
+        &self.images[slot]
     }
 }
 
-impl Disk for DirDisk {
-    ghost use Rattle.std.specs.Prelude.{◌+◌, ◌<◌, [], ◌∷◌, OnOk};
-    ghost use Rattle.sd_disk.specs.Failures.{HasCause};
-    ghost use Rattle.sd_disk.specs.Contents.{file_at};
-    ghost use Rattle.sd_disk.specs.Crash.{Within, OnlyAt, Elapses};
-    ghost use Rattle.sd_disk.specs.Folder.{folder_files, folder_events, folder_failures, folder_called, IsFolderHonest, folder_may_leave, folder_moment, folder_left_since};
-    ghost use Rattle.sd_disk.specs.Moments.{counts_now, only_now};
-
-    ghost contents = { folder_files };
-
-    ghost may_leave = { folder_may_leave };
-
-    ghost moment = { folder_moment };
-
-    ghost left_since = { folder_left_since };
-
-    ghost failed = { folder_failures };
-
-    ghost calls = { folder_called };
-
-    ghost is_honest = { IsFolderHonest };
-
-    ghost as_read = { λ disk. disk.journal.as_read };
-
-    ghost same_slots = { λ disk c left. left.count };
-
-    ghost counts_now = { λ disk t c since now. counts_now disk.journal.record.outside (folder_events disk) t c since now };
-
-    ghost only_now = { λ disk c left. only_now disk.journal.record.outside (folder_events disk) c left };
-
-    #[tactic(auto, using(crate::proofs::FolderLemmas::length_files))]
-    fn slots(&self) -> usize {
-        self.folder.slots()
+/// Makes the folder, or sees that it is there.
+fn prepare(rt: &impl Files, folder: &str, make: bool) -> io::Result<()> {
+    if make {
+        return fs::create_dir_all(rt, folder);
     }
-
-    fn failures(&self) -> u64 {
-        self.journal.failures()
+    if fs::metadata(rt, folder)?.is_dir() {
+        Ok(())
+    } else {
+        Err(io::ErrorKind::NotADirectory.into())
     }
+}
 
-    #[tactic(auto, using(crate::proofs::FolderLemmas::length_files))]
-    fn len(&mut self, slot: usize) -> Result<usize, DeviceError> {
-        match image::len(self.folder.image(slot)) {
-            Ok(len) => {
-                self.journal.note(&Call::Measured { slot, len }, &[]);
-                Ok(len)
-            }
-            Err(_) => {
-                self.journal.note(&Call::Failed, &[]);
-                Err(DeviceError)
-            }
+/// Waits until the files that were made have their names on the device.
+fn sync_folder(rt: &impl Files<File = File>, path: &str) -> io::Result<()> {
+    File::open(rt, path)?.sync_all()
+}
+
+fn open_image(rt: &impl Files<File = File>, path: &str, make: bool) -> io::Result<Option<File>> {
+    match fs::metadata(rt, path) {
+        Ok(found) if found.is_file() => open_found(rt, path).map(Some),
+        Ok(_) => Err(io::ErrorKind::Unsupported.into()),
+        Err(error) if error.kind() == io::ErrorKind::NotFound && !make => Ok(None),
+        Err(error) if error.kind() == io::ErrorKind::NotFound => {
+            File::create_new(rt, path).map(Some)
         }
+        Err(error) => Err(error),
     }
+}
 
-    #[tactic(auto, using(crate::proofs::FolderLemmas::length_files))]
-    fn read(&mut self, slot: usize, at: usize, buffer: &mut [u8]) -> Result<(), DeviceError> {
-        match image::read(self.folder.image(slot), at, buffer) {
-            Ok(()) => {
-                self.journal.note(&Call::Read { slot, at }, buffer);
-                Ok(())
-            }
-            Err(_) => {
-                self.journal.note(&Call::Failed, &[]);
-                Err(DeviceError)
-            }
-        }
+/// For reading alone where writing is denied.
+fn open_found(rt: &impl Files<File = File>, path: &str) -> io::Result<File> {
+    match OpenOptions::new().read(true).write(true).open(rt, path) {
+        Err(error) if error.kind() == io::ErrorKind::PermissionDenied => File::open(rt, path),
+        opened => opened,
     }
+}
 
-    #[tactic(auto, using(crate::proofs::FolderLemmas::length_files))]
-    fn write_at(&mut self, slot: usize, at: usize, bytes: &[u8]) -> Result<(), DeviceError> {
-        match image::write(self.folder.image(slot), at, bytes) {
-            Ok(()) => {
-                self.journal.note(&Call::Written { slot, at }, bytes);
-                Ok(())
-            }
-            Err(_) => {
-                self.journal.note(&Call::WriteFailed { slot, at }, bytes);
-                Err(DeviceError)
-            }
-        }
+pub(crate) fn len(image: &Option<File>) -> io::Result<usize> {
+    match image {
+        Some(file) => Ok(file.metadata()?.len() as usize),
+        None => Ok(0),
     }
+}
 
-    #[tactic(auto, using(crate::proofs::FolderLemmas::length_files))]
-    fn cut(&mut self, slot: usize, len: usize) -> Result<(), DeviceError> {
-        match image::cut(self.folder.image(slot), len) {
-            Ok(()) => {
-                self.journal.note(&Call::Cut { slot, len }, &[]);
-                Ok(())
-            }
-            Err(_) => {
-                self.journal.note(&Call::CutFailed { slot, len }, &[]);
-                Err(DeviceError)
-            }
-        }
+pub(crate) fn read(image: &Option<File>, at: usize, buffer: &mut [u8]) -> io::Result<()> {
+    match image {
+        None if buffer.is_empty() => Ok(()),
+        image => present(image)?.read_exact_at(buffer, at as u64),
     }
+}
 
-    #[tactic(auto, using(crate::proofs::FolderLemmas::length_files))]
-    fn sync(&mut self, slot: usize) -> Result<(), DeviceError>
-        requires { slot < length (folder_files self.old) }
-        ensures noted { OnOk result (folder_events self.new ≡ (Call.Synced slot, []) ∷ folder_events self.old) }
-        ensures durable { OnOk result (OnlyAt slot (file_at (folder_files self.old) slot) (folder_may_leave self.new)) }
-        ensures same { folder_files self.new ≡ folder_files self.old }
-        ensures crash { Within (folder_may_leave self.new) (folder_may_leave self.old) }
-        ensures time { Elapses (folder_moment self.old) (folder_moment self.new) (folder_left_since self.old) (folder_left_since self.new) (folder_may_leave self.new) }
-        ensures honest { IsFolderHonest self.new → IsFolderHonest self.old }
-        ensures counted { folder_called self.new ≡ folder_called self.old + 1 }
-        ensures cause { HasCause (folder_failures self.old) (folder_failures self.new) result }
-    {
-        match image::sync(self.folder.image(slot)) {
-            Ok(()) => {
-                self.journal.note(&Call::Synced { slot }, &[]);
-                Ok(())
-            }
-            Err(_) => {
-                self.journal.note(&Call::Failed, &[]);
-                Err(DeviceError)
-            }
-        }
+pub(crate) fn write(image: &Option<File>, at: usize, bytes: &[u8]) -> io::Result<()> {
+    present(image)?.write_all_at(bytes, at as u64)
+}
+
+/// A file that is missing has been cut to 0 bytes already.
+pub(crate) fn cut(image: &Option<File>, len: usize) -> io::Result<()> {
+    match image {
+        None if len == 0 => Ok(()),
+        image => present(image)?.set_len(len as u64),
     }
+}
+
+pub(crate) fn sync(image: &Option<File>) -> io::Result<()> {
+    match image {
+        Some(file) => file.sync_all(),
+        None => Ok(()),
+    }
+}
+
+fn present(image: &Option<File>) -> io::Result<&File> {
+    image.as_ref().ok_or(io::ErrorKind::NotFound.into())
 }

@@ -63,7 +63,7 @@ impl<D: Disk> Fused<D> {
 
 impl<D: Disk> Disk for Fused<D> {
     ghost use Rattle.sd_disk.specs.Fused.{fuse_of, is_dropping, missed, Burns};
-    ghost use Rattle.sd_disk.specs.Contents.{file_at, written, Torn, Cut, AtSlot};
+    ghost use Rattle.sd_disk.specs.Contents.{file_at, file_after_write, Torn, Cut, AtSlot};
     ghost use Rattle.sd_disk.specs.Crash.{Follows, Within, OnlyAt, Elapses};
     ghost use Rattle.sd_disk.specs.Failures.{HasCause};
 
@@ -143,7 +143,7 @@ impl<D: Disk> Disk for Fused<D> {
         requires slot { slot < length (D.contents self.old.disk) }
         requires some { 0 < length bytes.now }
         ensures written { OnOk result (D.contents self.new.disk
-            ≡ slice_set (D.contents self.old.disk) slot (written (file_at (D.contents self.old.disk) slot) at bytes.now)) }
+            ≡ slice_set (D.contents self.old.disk) slot (file_after_write (file_at (D.contents self.old.disk) slot) at bytes.now)) }
         ensures torn { AtSlot slot (Torn at (length bytes.now)) (D.contents self.old.disk) (D.contents self.new.disk) }
         ensures crash { Follows (AtSlot slot (Torn at (length bytes.now))) (D.may_leave self.old.disk) (D.may_leave self.new.disk) }
         ensures time { Elapses (D.moment self.old.disk) (D.moment self.new.disk) (D.left_since self.old.disk) (D.left_since self.new.disk) (D.may_leave self.new.disk) }
@@ -154,7 +154,7 @@ impl<D: Disk> Disk for Fused<D> {
         ensures fails { fuse_of self.old ≡ Some 0 → IsErr result }
         ensures dropped { fuse_of self.old ≡ Some 0 → IsTrue (is_dropping self.old) → self.new.disk ≡ self.old.disk }
         ensures made { fuse_of self.old ≡ Some 0 → is_dropping self.old ≡ false
-            → (D.contents self.new.disk ≡ slice_set (D.contents self.old.disk) slot (written (file_at (D.contents self.old.disk) slot) at bytes.now)) ⊎ (D.failed self.old.disk < D.failed self.new.disk) }
+            → (D.contents self.new.disk ≡ slice_set (D.contents self.old.disk) slot (file_after_write (file_at (D.contents self.old.disk) slot) at bytes.now)) ⊎ (D.failed self.old.disk < D.failed self.new.disk) }
     {
         if self.fuse.burn() {
             self.misses = self.drops;

@@ -4,7 +4,7 @@ use Rattle.std.specs.List.{concat}
 use Rattle.std.proofs.lemmas.List.{drop_all, length-replicate}
 use Rattle.std.proofs.lemmas.List.Folds.{concat-append}
 use Rattle.std.proofs.Math.Seq.{take-length, drop-append_seam}
-use Rattle.sd_disk.specs.Contents.{written}
+use Rattle.sd_disk.specs.Contents.{file_after_write}
 use Rattle.sd_image.specs.declared.header.Header.{Header}
 use Rattle.sd_image.specs.Header.{header_text}
 use Rattle.sd_image.specs.Words.{number_bytes, zeros}
@@ -12,7 +12,7 @@ use Rattle.sd_gate.specs.Laws.{AreWhole, pages_body, page_place}
 use Rattle.sd_gate.specs.Steps.{table_place}
 
 -- a write at or past the end: zeros up to it, and then the bytes
-written_behind : (body : List ℕ) (at : ℕ) (bytes : List ℕ) → length body ≤ at → written body at bytes ≡ (body ++ replicate (at - length body) 0) ++ bytes
+written_behind : (body : List ℕ) (at : ℕ) (bytes : List ℕ) → length body ≤ at → file_after_write body at bytes ≡ (body ++ replicate (at - length body) 0) ++ bytes
 written_behind body at bytes short =
     let pad : List ℕ = body ++ replicate (at - length body) 0 in
     let whole : length pad ≡ at = omega (arith, length-append body (replicate (at - length body) 0), length-replicate {A = ℕ} (at - length body) 0) in
@@ -20,7 +20,7 @@ written_behind body at bytes short =
     ∙ ap (λ xs. xs ++ bytes) (ap (λ n. take n pad) (sym whole) ∙ take-length pad)
 
 -- at its end: no zeros between
-written_at_end : (body : List ℕ) (at : ℕ) (bytes : List ℕ) → length body ≡ at → written body at bytes ≡ body ++ bytes
+written_at_end : (body : List ℕ) (at : ℕ) (bytes : List ℕ) → length body ≡ at → file_after_write body at bytes ≡ body ++ bytes
 written_at_end body at bytes ends =
     written_behind body at bytes (omega arith)
     ∙ ap (λ n. (body ++ replicate n 0) ++ bytes) (let none : at - length body ≡ 0 = omega arith in none)
@@ -35,13 +35,13 @@ unfolding zeros
 length-zeros n = length-replicate {A = ℕ} n 0
 
 -- behind an empty body: the room for the header, and the bytes
-first_written : (at : ℕ) (bytes : List ℕ) → at ≡ 4095 → written [] at bytes ≡ zeros 4095 ++ bytes
+first_written : (at : ℕ) (bytes : List ℕ) → at ≡ 4095 → file_after_write [] at bytes ≡ zeros 4095 ++ bytes
 unfolding zeros
-first_written at bytes is = ap (λ n. written [] n bytes) is ∙ written_behind [] 4095 bytes (lit≤ tt)
+first_written at bytes is = ap (λ n. file_after_write [] n bytes) is ∙ written_behind [] 4095 bytes (lit≤ tt)
 
 -- bytes behind the data pages
 behind_pages : (pages : List (List ℕ)) (at : ℕ) (bytes : List ℕ) → AreWhole pages → at ≡ page_place pages
-    → written (pages_body pages) (at - 1) bytes ≡ zeros 4095 ++ concat pages ++ bytes
+    → file_after_write (pages_body pages) (at - 1) bytes ≡ zeros 4095 ++ concat pages ++ bytes
 unfolding zeros
 behind_pages [] at bytes whole is = first_written (at - 1) bytes (omega (arith, is))
 behind_pages (page ∷ pages) at bytes whole is =
@@ -59,7 +59,7 @@ body_snoc [] page = refl
 body_snoc (first ∷ pages) page = refl
 
 pub page_filled : (pages : List (List ℕ)) (page : List ℕ) → AreWhole pages
-    → written (pages_body pages) (page_place pages - 1) page ≡ pages_body (pages ++ page ∷ [])
+    → file_after_write (pages_body pages) (page_place pages - 1) page ≡ pages_body (pages ++ page ∷ [])
 page_filled pages page whole =
     behind_pages pages (page_place pages) page whole refl
     ∙ append_assoc (zeros 4095) (concat pages) page
@@ -67,7 +67,7 @@ page_filled pages page whole =
     ∙ sym (body_snoc pages page)
 
 -- the header, in its room
-header_written : (header rest : List ℕ) → length header ≡ 4095 → written (zeros 4095 ++ rest) 0 header ≡ header ++ rest
+header_written : (header rest : List ℕ) → length header ≡ 4095 → file_after_write (zeros 4095 ++ rest) 0 header ≡ header ++ rest
 header_written header rest whole =
     let room : length (zeros 4095) ≡ 4095 = length-zeros 4095 in
     let behind : 0 + length header ≡ length (zeros 4095) = omega arith in
@@ -78,9 +78,9 @@ unfolding header_text number_bytes zeros
 length_header header = refl
 
 pub image_filled : (pages : List (List ℕ)) (header : Header) (table : List ℕ) → AreWhole pages → header.pages ≡ length pages
-    → written (written (pages_body pages) (table_place header - 1) table) 0 (header_text header) ≡ header_text header ++ concat pages ++ table
+    → file_after_write (file_after_write (pages_body pages) (table_place header - 1) table) 0 (header_text header) ≡ header_text header ++ concat pages ++ table
 image_filled pages header table whole count =
-    ap (λ body. written body 0 (header_text header))
+    ap (λ body. file_after_write body 0 (header_text header))
     (behind_pages pages (table_place header) table whole (ap (λ n. 4096 + 4096 * n) count) ∙ append_assoc (zeros 4095) (concat pages) table)
     ∙ header_written (header_text header) (concat pages ++ table) (length_header header)
     ∙ sym (append_assoc (header_text header) (concat pages) table)

@@ -1,7 +1,7 @@
 -- A slot's file through the calls on it.
 use Rattle.std.proofs.Common.{◌≡◌, ℕ, zero, suc, ◌+◌, ◌-◌, ◌<◌, List, [], ◌∷◌, length, take, slice_index, refl, sym, ◌∙◌, ap, arith, sub-one}
 use Rattle.std.proofs.lemmas.Grind.{same_number_lists}
-use Rattle.sd_disk.specs.Contents.{written, Torn, Cut}
+use Rattle.sd_disk.specs.Contents.{file_after_write, Torn, Cut}
 use Rattle.sd_image.specs.Image.{gate}
 use Rattle.sd_gate.specs.Fits.{IsClosed, IsBehind, IsBehindClosed, IsShort}
 
@@ -46,31 +46,31 @@ pub torn_short : (old new : List ℕ) → IsShort old → Torn 0 1 old new → I
 torn_short old new short torn = omega (arith, torn.no_longer)
 
 -- a 0 at the front
-pub zeroed_closed : (file : List ℕ) → IsClosed (written file 0 (0 ∷ []))
+pub zeroed_closed : (file : List ℕ) → IsClosed (file_after_write file 0 (0 ∷ []))
 zeroed_closed file = record { some = omega arith; shut = λ is_gate. omega (arith, is_gate) }
 
-pub gate_written : (first byte : ℕ) (body : List ℕ) → written (first ∷ body) 0 (byte ∷ []) ≡ byte ∷ body
+pub gate_written : (first byte : ℕ) (body : List ℕ) → file_after_write (first ∷ body) 0 (byte ∷ []) ≡ byte ∷ body
 gate_written first byte body = refl
 
-pub zeroed_behind : (body file : List ℕ) → IsBehind body file → IsBehindClosed body (written file 0 (0 ∷ []))
+pub zeroed_behind : (body file : List ℕ) → IsBehind body file → IsBehindClosed body (file_after_write file 0 (0 ∷ []))
 zeroed_behind body file behind = record { first = 0; shut = λ is_gate. omega (arith, is_gate); spelled = rw behind.spelled (gate_written behind.first 0 body) }
 
-pub opened : (body file : List ℕ) → IsBehind body file → written file 0 (gate ∷ []) ≡ gate ∷ body
+pub opened : (body file : List ℕ) → IsBehind body file → file_after_write file 0 (gate ∷ []) ≡ gate ∷ body
 opened body file behind = rw behind.spelled (gate_written behind.first gate body)
 
 -- bytes behind the gate are written into the body
-pub body_written : (first at : ℕ) (body bytes : List ℕ) → 0 < at → written (first ∷ body) at bytes ≡ first ∷ written body (at - 1) bytes
+pub body_written : (first at : ℕ) (body bytes : List ℕ) → 0 < at → file_after_write (first ∷ body) at bytes ≡ first ∷ file_after_write body (at - 1) bytes
 body_written first zero body bytes behind = absurd (omega (arith, behind))
 body_written first (suc at) body bytes behind =
     let pad : suc at - suc (length body) ≡ at - length body = omega arith in
     let past : suc at + length bytes ≡ suc (at + length bytes) = omega arith in
     rw (pad, past, sub-one) refl
 
-pub filled_behind : (at : ℕ) (body bytes file : List ℕ) → 0 < at → IsBehindClosed body file → IsBehindClosed (written body (at - 1) bytes) (written file at bytes)
+pub filled_behind : (at : ℕ) (body bytes file : List ℕ) → 0 < at → IsBehindClosed body file → IsBehindClosed (file_after_write body (at - 1) bytes) (file_after_write file at bytes)
 filled_behind at body bytes file behind closed = record {
   first = closed.first;
   shut = closed.shut;
-  spelled = ap (λ xs. written xs at bytes) closed.spelled ∙ body_written closed.first at body bytes behind;
+  spelled = ap (λ xs. file_after_write xs at bytes) closed.spelled ∙ body_written closed.first at body bytes behind;
 }
 
 -- the first byte alone
@@ -78,7 +78,7 @@ pub cut_bare : (file : List ℕ) → IsClosed file → IsBehindClosed [] (take 1
 cut_bare [] closed = absurd (omega (arith, closed.some))
 cut_bare (x ∷ file) closed = record { first = x; shut = closed.shut; spelled = refl }
 
-pub written_closed : (at : ℕ) (bytes file : List ℕ) → 0 < at → IsClosed file → IsClosed (written file at bytes)
+pub written_closed : (at : ℕ) (bytes file : List ℕ) → 0 < at → IsClosed file → IsClosed (file_after_write file at bytes)
 written_closed at bytes [] behind closed = absurd (omega (arith, closed.some))
-written_closed at bytes (x ∷ file) behind closed = behind_is_closed (written file (at - 1) bytes) (written (x ∷ file) at bytes)
+written_closed at bytes (x ∷ file) behind closed = behind_is_closed (file_after_write file (at - 1) bytes) (file_after_write (x ∷ file) at bytes)
     (record { first = x; shut = closed.shut; spelled = body_written x at file bytes behind })

@@ -2,7 +2,7 @@
 use Rattle.std.proofs.Common.{◌≡◌, ℕ, ◌-◌, ◌<◌, ◌≤◌, true, List, [], ◌∷◌, length, take, slice_set, refl, sym, ◌∙◌, ap, subst, arith}
 use Rattle.std.proofs.lemmas.Bool.{false≢true}
 use Rattle.std.proofs.lemmas.List.{get_or-set_same}
-use Rattle.sd_disk.specs.Contents.{file_at, written, Torn, AtSlot, Cut as CutTo}
+use Rattle.sd_disk.specs.Contents.{file_at, file_after_write, Torn, AtSlot, Cut as CutTo}
 use Rattle.sd_disk.specs.Crash.{Follows, OnlyAt}
 use Rattle.sd_image.specs.Image.{gate}
 use Rattle.sd_gate.specs.declared.phase.Phase.{Phase}
@@ -28,14 +28,14 @@ leaves_closed DoubtSynced body file ready is = absurd (false≢true ready)
 
 -- what a phase reads and leaves after a write behind the gate
 filled_reads : (phase : Phase) (at : ℕ) (body bytes file : List ℕ) → may_write phase ≡ true → 0 < at → Reads phase body file
-    → Reads (filled phase) (written body (at - 1) bytes) (written file at bytes)
+    → Reads (filled phase) (file_after_write body (at - 1) bytes) (file_after_write file at bytes)
 filled_reads Raw at body bytes file ready behind is = absurd (false≢true ready)
 filled_reads RawClosing at body bytes file ready behind is = absurd (false≢true ready)
 filled_reads Whole at body bytes file ready behind is = absurd (false≢true ready)
 filled_reads Closing at body bytes file ready behind is = absurd (false≢true ready)
 filled_reads Shut at body bytes file ready behind is = written_closed at bytes file behind is
 filled_reads ShutSynced at body bytes file ready behind is = written_closed at bytes file behind is
-filled_reads Bare at body bytes file ready behind is = subst (λ b. IsBehindClosed (written b (at - 1) bytes) (written file at bytes)) (sym is.0) (filled_behind at [] bytes file behind is.1)
+filled_reads Bare at body bytes file ready behind is = subst (λ b. IsBehindClosed (file_after_write b (at - 1) bytes) (file_after_write file at bytes)) (sym is.0) (filled_behind at [] bytes file behind is.1)
 filled_reads Writing at body bytes file ready behind is = filled_behind at body bytes file behind is
 filled_reads Ready at body bytes file ready behind is = filled_behind at body bytes file behind is
 filled_reads Opening at body bytes file ready behind is = absurd (false≢true ready)
@@ -71,7 +71,7 @@ filled_unsynced Doubt ready sync = false≢true ready
 filled_unsynced DoubtSynced ready sync = false≢true ready
 
 -- after a 0 over the gate
-closing_reads : (phase : Phase) (body file : List ℕ) → may_close phase ≡ true → Leaves phase body file → Reads (closing phase) body (written file 0 (0 ∷ []))
+closing_reads : (phase : Phase) (body file : List ℕ) → may_close phase ≡ true → Leaves phase body file → Reads (closing phase) body (file_after_write file 0 (0 ∷ []))
 closing_reads Raw body file ready is = zeroed_closed file
 closing_reads RawClosing body file ready is = zeroed_closed file
 closing_reads Whole body file ready is = zeroed_behind body file (open_is_behind body file is)
@@ -253,13 +253,13 @@ module _ (slot : ℕ) (old : List (List ℕ)) (before : List (List ℕ) → Type
     here file is = ap (λ c. file_at c slot) is ∙ get_or-set_same old slot file [] there
 
     pub slot_filled : (phase : Phase) (body bytes : List ℕ) (at : ℕ) → may_write phase ≡ true → 0 < at
-        → new ≡ slice_set old slot (written (file_at old slot) at bytes) → Follows (AtSlot slot (Torn at (length bytes))) before after_it
-        → SlotFits phase body slot old before → SlotFits (filled phase) (written body (at - 1) bytes) slot new after_it
+        → new ≡ slice_set old slot (file_after_write (file_at old slot) at bytes) → Follows (AtSlot slot (Torn at (length bytes))) before after_it
+        → SlotFits phase body slot old before → SlotFits (filled phase) (file_after_write body (at - 1) bytes) slot new after_it
     slot_filled phase body bytes at ready behind is crash fits = record {
-      reads = subst (Reads (filled phase) (written body (at - 1) bytes)) (sym (here (written (file_at old slot) at bytes) is))
+      reads = subst (Reads (filled phase) (file_after_write body (at - 1) bytes)) (sym (here (file_after_write (file_at old slot) at bytes) is))
           (filled_reads phase at body bytes (file_at old slot) ready behind fits.reads);
       leaves = λ c may. let was = crash c may in
-          filled_leaves phase (written body (at - 1) bytes) (file_at c slot) ready
+          filled_leaves phase (file_after_write body (at - 1) bytes) (file_at c slot) ready
           (torn_closed at (length bytes) (file_at was.0 slot) (file_at c slot) behind (leaves_closed phase body (file_at was.0 slot) ready (fits.leaves was.0 was.1)) was.2.here);
       as_read = λ sync. absurd (filled_unsynced phase ready sync);
     }
@@ -295,10 +295,10 @@ module _ (slot : ℕ) (old : List (List ℕ)) (before : List (List ℕ) → Type
     }
 
     pub slot_closing : (phase : Phase) (body : List ℕ) → may_close phase ≡ true
-        → new ≡ slice_set old slot (written (file_at old slot) 0 (0 ∷ [])) → Follows (AtSlot slot (Torn 0 1)) before after_it
+        → new ≡ slice_set old slot (file_after_write (file_at old slot) 0 (0 ∷ [])) → Follows (AtSlot slot (Torn 0 1)) before after_it
         → SlotFits phase body slot old before → SlotFits (closing phase) body slot new after_it
     slot_closing phase body ready is crash fits = record {
-      reads = subst (Reads (closing phase) body) (sym (here (written (file_at old slot) 0 (0 ∷ [])) is))
+      reads = subst (Reads (closing phase) body) (sym (here (file_after_write (file_at old slot) 0 (0 ∷ [])) is))
           (closing_reads phase body (file_at old slot) ready (may_read phase body fits));
       leaves = λ c may. let was = crash c may in
           closing_leaves phase body (file_at was.0 slot) (file_at c slot) ready (fits.leaves was.0 was.1) was.2.here;
@@ -318,10 +318,10 @@ module _ (slot : ℕ) (old : List (List ℕ)) (before : List (List ℕ) → Type
     }
 
     pub slot_opening : (body : List ℕ)
-        → new ≡ slice_set old slot (written (file_at old slot) 0 (gate ∷ [])) → Follows (AtSlot slot (Torn 0 1)) before after_it
+        → new ≡ slice_set old slot (file_after_write (file_at old slot) 0 (gate ∷ [])) → Follows (AtSlot slot (Torn 0 1)) before after_it
         → SlotFits Ready body slot old before → SlotFits Opening body slot new after_it
     slot_opening body is crash fits = record {
-      reads = here (written (file_at old slot) 0 (gate ∷ [])) is ∙ opened body (file_at old slot) (closed_is_behind body (file_at old slot) fits.reads);
+      reads = here (file_after_write (file_at old slot) 0 (gate ∷ [])) is ∙ opened body (file_at old slot) (closed_is_behind body (file_at old slot) fits.reads);
       leaves = λ c may. let was = crash c may in
           torn_behind body (file_at was.0 slot) (file_at c slot) (closed_is_behind body (file_at was.0 slot) (fits.leaves was.0 was.1)) was.2.here;
       as_read = λ sync. absurd (false≢true sync);

@@ -1,6 +1,6 @@
 -- What a device call makes of the contents of a disk.
 use Rattle.std.specs.Prelude.{◌≡◌, ℕ, ◌+◌, ◌<◌, ◌≤◌, Bool, true, false, List, [], ◌∷◌, length, take, slice_range, slice_set, Option, Some, None}
-use Rattle.sd_disk.specs.Contents.{file_at, written, Torn, AtSlot, Cut as CutTo}
+use Rattle.sd_disk.specs.Contents.{file_at, file_after_write, Torn, AtSlot, Cut as CutTo}
 use Rattle.sd_image.specs.Header.{header_text}
 use Rattle.sd_image.specs.Image.{gate}
 use Rattle.sd_gate.specs.declared.answer.Answer.{Answer}
@@ -69,10 +69,10 @@ IsInside Sync bytes file = Unit {0}
 abbrev pub contents_after : Call → List ℕ → ℕ → List (List ℕ) → List (List ℕ)
 contents_after Len bytes slot contents = contents
 contents_after (Read at) bytes slot contents = contents
-contents_after (Write at) bytes slot contents = slice_set contents slot (written (file_at contents slot) at bytes)
-contents_after WriteHeader bytes slot contents = slice_set contents slot (written (file_at contents slot) 1 bytes)
-contents_after Close bytes slot contents = slice_set contents slot (written (file_at contents slot) 0 (0 ∷ []))
-contents_after Open bytes slot contents = slice_set contents slot (written (file_at contents slot) 0 (gate ∷ []))
+contents_after (Write at) bytes slot contents = slice_set contents slot (file_after_write (file_at contents slot) at bytes)
+contents_after WriteHeader bytes slot contents = slice_set contents slot (file_after_write (file_at contents slot) 1 bytes)
+contents_after Close bytes slot contents = slice_set contents slot (file_after_write (file_at contents slot) 0 (0 ∷ []))
+contents_after Open bytes slot contents = slice_set contents slot (file_after_write (file_at contents slot) 0 (gate ∷ []))
 contents_after Cut bytes slot contents = slice_set contents slot (take 1 (file_at contents slot))
 contents_after Sync bytes slot contents = contents
 

@@ -1,6 +1,6 @@
 -- The phases of a slot: which calls each waits for, and which phase follows.
 use Rattle.std.specs.Prelude.{◌≡◌, ℕ, ◌-◌, Bool, true, false, if◌then◌else◌, List, [], Some, slice_get, slice_set}
-use Rattle.sd_disk.specs.Contents.{file_at, written}
+use Rattle.sd_disk.specs.Contents.{file_at, file_after_write}
 use Rattle.sd_gate.specs.declared.call.Call.{Call}
 use Rattle.sd_gate.specs.declared.call.Call.TheVariants.{Len, Read, Write, WriteHeader, Close, Open, Cut, Sync}
 use Rattle.sd_gate.specs.declared.note.Note.{Note}
@@ -138,8 +138,8 @@ after phase Sync done = if done then synced phase else given_up phase
 abbrev pub body_after : List ℕ → Call → List ℕ → List ℕ
 body_after body Len bytes = body
 body_after body (Read at) bytes = body
-body_after body (Write at) bytes = written body (at - 1) bytes
-body_after body WriteHeader bytes = written body 0 bytes
+body_after body (Write at) bytes = file_after_write body (at - 1) bytes
+body_after body WriteHeader bytes = file_after_write body 0 bytes
 body_after body Close bytes = body
 body_after body Open bytes = body
 body_after body Cut bytes = []

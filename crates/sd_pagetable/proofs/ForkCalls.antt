@@ -15,8 +15,8 @@ use Rattle.sd_pagetable.specs.Nested.{Table, map_values, inside, is_alive, total
 use Rattle.sd_pagetable.specs.Page.{Page, plain_page, shared_page, inherited_page}
 use Rattle.sd_pagetable.specs.Contents.{Contents, plain_of, page_count, IsSound}
 use Rattle.sd_pagetable.specs.Effects.{after_exit, after_fork, IsLeastFree}
-use Rattle.sd_pagetable.specs.declared.denied.Denied.TheVariants.{Refused}
-use Rattle.sd_pagetable.specs.declared.refusal.Refusal.TheVariants.{NoSuchSpace, LastSpace, TooManySpaces, Enomem}
+use Rattle.sd_pagetable.specs.declared.access_error.AccessError.TheVariants.{Refused}
+use Rattle.sd_pagetable.specs.declared.memory_refusal.MemoryRefusal.TheVariants.{NoSuchSpace, LastSpace, TooManySpaces, Enomem}
 use Rattle.sd_pagetable.specs.Due.{exit_due, fork_due}
 use Rattle.sd_pagetable.specs.Kept.{HasAreas, prots_of}
 use Rattle.sd_pagetable.proofs.MemoryLemmas.{plain_alive}

@@ -4,8 +4,8 @@ use Rattle.std.proofs.lemmas.Bool.{cases_eq, eq-eqb, ne_eqb, lt-ltb, le-ltb, con
 use Rattle.std.specs.List.{range_with_len}
 use Rattle.std.specs.Option.{option_map_or}
 use Rattle.sd_pagetable.specs.declared.entry.Entry.{Entry}
-use Rattle.sd_pagetable.specs.declared.denied.Denied.TheVariants.{Refused}
-use Rattle.sd_pagetable.specs.declared.refusal.Refusal.TheVariants.{NoFrame}
+use Rattle.sd_pagetable.specs.declared.access_error.AccessError.TheVariants.{Refused}
+use Rattle.sd_pagetable.specs.declared.memory_refusal.MemoryRefusal.TheVariants.{NoFrame}
 use Rattle.sd_pagetable.specs.Nested.{Nested, value_at, put_at}
 use Rattle.sd_pagetable.specs.Page.{opened_page}
 use Rattle.sd_pagetable.specs.Contents.{Contents, page_at, put_page, members, is_full, is_alone}

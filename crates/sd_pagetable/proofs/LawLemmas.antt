@@ -7,14 +7,14 @@ use Rattle.sd_pagetable.specs.Contents.{Contents, page_at, plain_of}
 use Rattle.sd_pagetable.specs.Tracking.{Event, Step, Tracks, BitsLaw, TryLaw, touches, clears, opens, closes, is_dirty, is_open}
 use Rattle.std.specs.Prelude.{Result}
 use Rattle.sd_areas.specs.PlainMemory as plain
-use Rattle.sd_pagetable.specs.declared.denied.Denied.{Denied}
-use Rattle.sd_pagetable.specs.declared.denied.Denied.TheVariants.{Refused}
-use Rattle.sd_pagetable.specs.declared.refusal.Refusal.TheVariants.{Einval, NoSuchSpace}
-use Rattle.sd_pagetable.specs.declared.need.Need.TheVariants.{Write}
-use Rattle.sd_pagetable.specs.declared.tried.Tried.{Tried}
-use Rattle.sd_pagetable.specs.declared.tried.Tried.TheVariants.{Done, NeedsFault}
+use Rattle.sd_pagetable.specs.declared.access_error.AccessError.{AccessError}
+use Rattle.sd_pagetable.specs.declared.access_error.AccessError.TheVariants.{Refused}
+use Rattle.sd_pagetable.specs.declared.memory_refusal.MemoryRefusal.TheVariants.{Einval, NoSuchSpace}
+use Rattle.sd_pagetable.specs.declared.access.Access.TheVariants.{Write}
+use Rattle.sd_pagetable.specs.declared.store_outcome.StoreOutcome.{StoreOutcome}
+use Rattle.sd_pagetable.specs.declared.store_outcome.StoreOutcome.TheVariants.{Done, NeedsFault}
 use Rattle.sd_pagetable.specs.Nested.{value_at}
-use Rattle.sd_pagetable.specs.Due.{access_due, answer, page_due, tried, tried_reply}
+use Rattle.sd_pagetable.specs.Due.{access_due, answer, page_due, try_outcome, try_answer}
 use Rattle.sd_pagetable.proofs.LawEvents.{Comes, comes, changed}
 use Rattle.sd_pagetable.proofs.NestedLemmas.{value_at-map}
 use Rattle.sd_pagetable.proofs.LawTests.{dirty_more, open_more, open_is_dirty}
@@ -61,8 +61,8 @@ mapped_there contents space address bytes allowed =
     let page = changed plain_page (page_at contents space (page_of address)) there.0 (sym (value_at-map plain_page contents.spaces space (page_of address)) ∙ there.1) in
     (page.0, page.1)
 
-abbrev replied : Bool → Result Tried Denied
-replied b = Ok (tried_reply b)
+abbrev replied : Bool → Result StoreOutcome AccessError
+replied b = Ok (try_answer b)
 
 needs_fault : (b : Bool) → replied b ≡ Ok NeedsFault → b ≡ false
 needs_fault true e = absurd (let f : Ok Done ≡ Ok NeedsFault = e in cc)
@@ -73,7 +73,7 @@ try_law start end history space address bytes beginning run allowed =
     let number = page_of address in
     let there = mapped_there end space address bytes allowed in
     let writable = (bits_law start end history beginning run).writable space number there.0 there.1 in
-    let reply : tried end space address bytes ≡ replied (is_open history space number) =
-    ap (λ d. answer d (tried_reply (option_map_or (λ (page : Page). page.writable) (page_at end space number) false))) allowed
+    let reply : try_outcome end space address bytes ≡ replied (is_open history space number) =
+    ap (λ d. answer d (try_answer (option_map_or (λ (page : Page). page.writable) (page_at end space number) false))) allowed
     ∙ ap (λ o. replied (option_map_or (λ (page : Page). page.writable) o false)) there.1 ∙ ap replied writable in
     (λ e. needs_fault (is_open history space number) (sym reply ∙ e), λ e. reply ∙ ap replied e)

@@ -13,9 +13,9 @@ use Rattle.sd_areas.specs.Areas.{PageMap}
 use Rattle.sd_areas.specs.Memory.{memory_of}
 use Rattle.sd_areas.specs.PlainMemory as plain
 use Rattle.sd_areas.specs.PlainMemory.{PlainMemory}
-use Rattle.sd_pagetable.specs.declared.denied.Denied.{Denied}
-use Rattle.sd_pagetable.specs.declared.denied.Denied.TheVariants.{Refused}
-use Rattle.sd_pagetable.specs.declared.refusal.Refusal.TheVariants.{NoFrame, Enomem}
+use Rattle.sd_pagetable.specs.declared.access_error.AccessError.{AccessError}
+use Rattle.sd_pagetable.specs.declared.access_error.AccessError.TheVariants.{Refused}
+use Rattle.sd_pagetable.specs.declared.memory_refusal.MemoryRefusal.TheVariants.{NoFrame, Enomem}
 use Rattle.sd_pagetable.specs.Nested.{Table, Nested, map_values, inside, value_at, is_alive, total, total_within}
 use Rattle.sd_pagetable.specs.Page.{Page, plain_page}
 use Rattle.sd_pagetable.specs.Contents.{Contents, page_at, plain_of, members, share_of, classes, page_count}
@@ -133,9 +133,9 @@ allowed over (e ∷ es) space t h f = elim (cases_Bool (eq_by_cmp nat_cmp space 
 due_parts : (pool : ℕ) (memory : PlainMemory) → snapshot_due pool memory ≡ None → (nat_lt pool (nonzero_pages memory) ≡ false) × (is_over_limits memory ≡ false)
 due_parts pool memory h = by_tests (nat_lt pool (nonzero_pages memory)) (is_over_limits memory) h
   where
-    by_tests : (a b : Bool) → ◌≡◌ {A = Option Denied} (cond a (Some (Refused NoFrame)) (cond b (Some (Refused Enomem)) None)) None → (a ≡ false) × (b ≡ false)
-    by_tests true b e = absurd (let f : ◌≡◌ {A = Option Denied} (Some (Refused NoFrame)) None = e in cc)
-    by_tests false true e = absurd (let f : ◌≡◌ {A = Option Denied} (Some (Refused Enomem)) None = e in cc)
+    by_tests : (a b : Bool) → ◌≡◌ {A = Option AccessError} (cond a (Some (Refused NoFrame)) (cond b (Some (Refused Enomem)) None)) None → (a ≡ false) × (b ≡ false)
+    by_tests true b e = absurd (let f : ◌≡◌ {A = Option AccessError} (Some (Refused NoFrame)) None = e in cc)
+    by_tests false true e = absurd (let f : ◌≡◌ {A = Option AccessError} (Some (Refused Enomem)) None = e in cc)
     by_tests false false e = (refl, refl)
 
 module _ (pool : ℕ) (saved : PlainMemory) (cur : Contents) (rest later : List (ℕ × Pages)) (space : ℕ) (pages : Pages) (h : IsLoading pool saved cur rest) (e : rest ≡ (space, pages) ∷ later) (due : snapshot_due pool saved ≡ None) where

@@ -13,10 +13,10 @@ use Rattle.sd_areas.specs.Areas.{PageMap}
 use Rattle.sd_areas.specs.Pages.{page_of}
 use Rattle.sd_areas.specs.declared.prot.Prot.{Prot}
 use Rattle.sd_areas.specs.PlainMemory as plain
-use Rattle.sd_pagetable.specs.declared.need.Need.{Need}
-use Rattle.sd_pagetable.specs.declared.need.Need.TheVariants.{Read, Write}
-use Rattle.sd_pagetable.specs.declared.denied.Denied.{Denied}
-use Rattle.sd_pagetable.specs.declared.denied.Denied.TheVariants.{Segv as Stopped, Refused}
+use Rattle.sd_pagetable.specs.declared.access.Access.{Access}
+use Rattle.sd_pagetable.specs.declared.access.Access.TheVariants.{Read, Write}
+use Rattle.sd_pagetable.specs.declared.access_error.AccessError.{AccessError}
+use Rattle.sd_pagetable.specs.declared.access_error.AccessError.TheVariants.{Segv as Stopped, Refused}
 use Rattle.sd_pagetable.specs.declared.segv.Segv.TheVariants.{Maperr, Accerr}
 use Rattle.sd_pagetable.specs.declared.entry.Entry.{Entry}
 use Rattle.sd_pagetable.specs.Nested.{Table, Nested, map_values, inside, value_at, is_alive, put_at}
@@ -24,7 +24,7 @@ use Rattle.sd_pagetable.specs.Page.{Page, plain_page, opened_page, stored_page}
 use Rattle.sd_pagetable.specs.Contents.{Contents, page_at, put_page, plain_of}
 use Rattle.sd_pagetable.specs.View.{entry_of}
 use Rattle.sd_pagetable.specs.Access.{allows, stored_at, is_bad_access}
-use Rattle.sd_pagetable.specs.declared.refusal.Refusal.TheVariants.{NoSuchSpace, Einval}
+use Rattle.sd_pagetable.specs.declared.memory_refusal.MemoryRefusal.TheVariants.{NoSuchSpace, Einval}
 use Rattle.sd_pagetable.specs.Effects.{after_store}
 use Rattle.sd_pagetable.specs.Due.{page_due, access_due, fault_due, frame_due, or_else, Answers}
 use Rattle.sd_pagetable.specs.Tracking.{Opens}
@@ -108,19 +108,19 @@ pub no_page_seen : (m : Contents) (s p : ℕ) → option_map entry_of (page_at m
 no_page_seen m s p h = none_seen_page (page_at m s p) h
 
 -- what is due at a page, by the page
-pub due_none : (m : Contents) (s p : ℕ) (need : Need) → page_at m s p ≡ None → page_due need (value_at (plain_of m) s p) ≡ Some (Stopped Maperr)
+pub due_none : (m : Contents) (s p : ℕ) (need : Access) → page_at m s p ≡ None → page_due need (value_at (plain_of m) s p) ≡ Some (Stopped Maperr)
 due_none m s p Read h = ap (page_due Read) (plain_at m s p ∙ ap (option_map plain_page) h)
 due_none m s p Write h = ap (page_due Write) (plain_at m s p ∙ ap (option_map plain_page) h)
 
-pub due_some : (m : Contents) (s p : ℕ) (need : Need) (x : Page) → page_at m s p ≡ Some x → page_due need (value_at (plain_of m) s p) ≡ cond (allows need x.prot) None (Some (Stopped Accerr))
+pub due_some : (m : Contents) (s p : ℕ) (need : Access) (x : Page) → page_at m s p ≡ Some x → page_due need (value_at (plain_of m) s p) ≡ cond (allows need x.prot) None (Some (Stopped Accerr))
 due_some m s p Read x h = ap (page_due Read) (plain_at m s p ∙ ap (option_map plain_page) h)
 due_some m s p Write x h = ap (page_due Write) (plain_at m s p ∙ ap (option_map plain_page) h)
 
 -- a page that may be accessed
-pub permitted_page : (m : Contents) (s p : ℕ) (need : Need) → page_due need (value_at (plain_of m) s p) ≡ None → (x : Page) × (page_at m s p ≡ Some x) × (allows need x.prot ≡ true)
+pub permitted_page : (m : Contents) (s p : ℕ) (need : Access) → page_due need (value_at (plain_of m) s p) ≡ None → (x : Page) × (page_at m s p ≡ Some x) × (allows need x.prot ≡ true)
 permitted_page m s p need h = by_page (page_at m s p) refl
   where
-    stopped : (d : Denied) → ◌≡◌ {A = Option Denied} (Some d) None → ⊥
+    stopped : (d : AccessError) → ◌≡◌ {A = Option AccessError} (Some d) None → ⊥
     stopped d e = cc
 
     by_prot : (x : Page) → page_at m s p ≡ Some x → (b : Bool) → allows need x.prot ≡ b → (y : Page) × (page_at m s p ≡ Some y) × (allows need y.prot ≡ true)
@@ -132,13 +132,13 @@ permitted_page m s p need h = by_page (page_at m s p) refl
     by_page (Some x) e = by_prot x e (allows need x.prot) refl
 
 -- ---- what is due, by what the code has tested
-pub access_dead : (m : Contents) (s address bytes : ℕ) (need : Need) → is_alive m.spaces s ≡ false → access_due (plain_of m) s address bytes need ≡ Some (Refused NoSuchSpace)
+pub access_dead : (m : Contents) (s address bytes : ℕ) (need : Access) → is_alive m.spaces s ≡ false → access_due (plain_of m) s address bytes need ≡ Some (Refused NoSuchSpace)
 access_dead m s address bytes need h = cond-false _ _ _ (plain_alive m s ∙ h)
 
-pub access_bad : (m : Contents) (s address bytes : ℕ) (need : Need) → is_alive m.spaces s ≡ true → is_bad_access address bytes ≡ true → access_due (plain_of m) s address bytes need ≡ Some (Refused Einval)
+pub access_bad : (m : Contents) (s address bytes : ℕ) (need : Access) → is_alive m.spaces s ≡ true → is_bad_access address bytes ≡ true → access_due (plain_of m) s address bytes need ≡ Some (Refused Einval)
 access_bad m s address bytes need h b = cond-true _ _ _ (plain_alive m s ∙ h) ∙ cond-true _ _ _ b
 
-pub access_at : (m : Contents) (s address bytes : ℕ) (need : Need) → is_alive m.spaces s ≡ true → is_bad_access address bytes ≡ false → access_due (plain_of m) s address bytes need ≡ page_due need (value_at (plain_of m) s (page_of address))
+pub access_at : (m : Contents) (s address bytes : ℕ) (need : Access) → is_alive m.spaces s ≡ true → is_bad_access address bytes ≡ false → access_due (plain_of m) s address bytes need ≡ page_due need (value_at (plain_of m) s (page_of address))
 access_at m s address bytes need h b = cond-true _ _ _ (plain_alive m s ∙ h) ∙ cond-false _ _ _ b
 
 pub access_within : (address bytes : ℕ) → is_bad_access address bytes ≡ false → address % 4096 + bytes ≤ 4096
@@ -174,13 +174,13 @@ either_result (Err e) P Q R p q f g = g q
 pub fault_dead : (m : Contents) (s address : ℕ) → is_alive m.spaces s ≡ false → fault_due m s address ≡ Some (Refused NoSuchSpace)
 fault_dead m s address h = ap (λ o. or_else o (frame_due m (page_at m s (page_of address)))) (cond-false _ _ _ (plain_alive m s ∙ h))
 
-pub fault_stopped : (m : Contents) (s address : ℕ) (d : Denied) → is_alive m.spaces s ≡ true → page_due Write (value_at (plain_of m) s (page_of address)) ≡ Some d → fault_due m s address ≡ Some d
+pub fault_stopped : (m : Contents) (s address : ℕ) (d : AccessError) → is_alive m.spaces s ≡ true → page_due Write (value_at (plain_of m) s (page_of address)) ≡ Some d → fault_due m s address ≡ Some d
 fault_stopped m s address d h e = ap (λ o. or_else o (frame_due m (page_at m s (page_of address)))) (cond-true _ _ _ (plain_alive m s ∙ h) ∙ e)
 
 pub fault_goes : (m : Contents) (s address : ℕ) → is_alive m.spaces s ≡ true → page_due Write (value_at (plain_of m) s (page_of address)) ≡ None → fault_due m s address ≡ frame_due m (page_at m s (page_of address))
 fault_goes m s address h e = ap (λ o. or_else o (frame_due m (page_at m s (page_of address)))) (cond-true _ _ _ (plain_alive m s ∙ h) ∙ e)
 
-pub answers_err : (due : Option Denied) (d : Denied) (e : MemoryError) (r : Result (Unit {0}) MemoryError) → due ≡ Some d → e ≡ DeniedError d → r ≡ Err e → Answers due r
+pub answers_err : (due : Option AccessError) (d : AccessError) (e : MemoryError) (r : Result (Unit {0}) MemoryError) → due ≡ Some d → e ≡ DeniedError d → r ≡ Err e → Answers due r
 answers_err due d e r h is was = subst (λ (x : Result (Unit {0}) MemoryError). Answers due x) (sym (was ∙ ap Err is)) h
 
 -- what a fault needs

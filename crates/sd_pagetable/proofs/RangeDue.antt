@@ -9,9 +9,9 @@ use Rattle.sd_areas.specs.declared.errno.Errno.TheVariants.{Einval, Enomem}
 use Rattle.sd_areas.specs.Areas.{PageMap}
 use Rattle.sd_areas.specs.Calls.{mapped, unmapped, protected}
 use Rattle.sd_areas.specs.Pages.{is_within, is_invalid, is_outside, page_of, pages_for}
-use Rattle.sd_pagetable.specs.declared.denied.Denied.{Denied}
-use Rattle.sd_pagetable.specs.declared.denied.Denied.TheVariants.{Refused}
-use Rattle.sd_pagetable.specs.declared.refusal.Refusal.TheVariants.{NoSuchSpace, Enomem as NoMemory}
+use Rattle.sd_pagetable.specs.declared.access_error.AccessError.{AccessError}
+use Rattle.sd_pagetable.specs.declared.access_error.AccessError.TheVariants.{Refused}
+use Rattle.sd_pagetable.specs.declared.memory_refusal.MemoryRefusal.TheVariants.{NoSuchSpace, Enomem as NoMemory}
 use Rattle.sd_pagetable.specs.Nested.{Table, inside, is_alive, set_within, remove_within, change_within, fill_within}
 use Rattle.sd_pagetable.specs.Page.{Page, fresh_page, protected_page}
 use Rattle.sd_pagetable.specs.Contents.{Contents, plain_of, page_count}
@@ -32,7 +32,7 @@ use Rattle.sd_pagetable.proofs.RangeCounts.{same_count}
 use Rattle.sd_pagetable.proofs.PlainRanges.{prots_seen, plain_mapped, plain_many}
 
 -- ---- what is due, by the contents
-pub seen_due : (c : Contents) (s : ℕ) (due : PageMap → Option Denied) (seen : PageMap) → seen ≡ prots_of (inside c.spaces s) → in_space (plain_of c) s (due seen) ≡ in_space c.spaces s (due (prots_of (inside c.spaces s)))
+pub seen_due : (c : Contents) (s : ℕ) (due : PageMap → Option AccessError) (seen : PageMap) → seen ≡ prots_of (inside c.spaces s) → in_space (plain_of c) s (due seen) ≡ in_space c.spaces s (due (prots_of (inside c.spaces s)))
 seen_due c s due seen same = ap (λ b. cond b (due seen) (Some (Refused NoSuchSpace))) (plain_alive c s) ∙ ap (λ p. in_space c.spaces s (due p)) same
 
 pub munmap_seen : (c : Contents) (s address bytes : ℕ) → munmap_due (plain_of c) s address bytes ≡ in_space c.spaces s (area_due (unmapped (prots_of (inside c.spaces s)) address bytes))
@@ -41,7 +41,7 @@ munmap_seen c s address bytes = seen_due c s (λ p. area_due (unmapped p address
 pub mprotect_seen : (c : Contents) (s address bytes : ℕ) (prot : Prot) → mprotect_due (plain_of c) s address bytes prot ≡ in_space c.spaces s (area_due (protected (prots_of (inside c.spaces s)) address bytes prot))
 mprotect_seen c s address bytes prot = seen_due c s (λ p. area_due (protected p address bytes prot)) _ (prots_seen c s)
 
-too_many : ℕ → Option Denied
+too_many : ℕ → Option AccessError
 too_many pages = cond (nat_lt 65536 pages) (Some (Refused NoMemory)) None
 
 pub mapped_pages : (c : Contents) (s address bytes : ℕ) (prot : Prot)
@@ -61,7 +61,7 @@ pub nothing_due : (c : Contents) (s : ℕ) (answer : Result PageMap Errno) (own 
 nothing_due c s answer own alive is = ap (λ b. cond b (area_due answer) (Some (Refused NoSuchSpace))) alive ∙ ap area_due is
 
 -- a first refusal is due before a second
-pub first_due : (alive : Bool) (first second : Option Denied) (denied : Denied) → cond alive first (Some (Refused NoSuchSpace)) ≡ Some denied → cond alive (or_else first second) (Some (Refused NoSuchSpace)) ≡ Some denied
+pub first_due : (alive : Bool) (first second : Option AccessError) (denied : AccessError) → cond alive first (Some (Refused NoSuchSpace)) ≡ Some denied → cond alive (or_else first second) (Some (Refused NoSuchSpace)) ≡ Some denied
 first_due true None second denied e = absurd (let f : None ≡ Some denied = e in cc)
 first_due true (Some first) second denied e = e
 first_due false first second denied e = e
@@ -172,7 +172,7 @@ pub holes_seen : (c : Contents) (s : ℕ) (own : PageMap) (pages : List ℕ) →
 holes_seen c s own pages are = same_count _ _ pages (λ q. ap (λ m. not (is_some (finmap.get m q))) are ∙ ap (λ o. not (is_some o)) (get-map_values (λ (page : Page). page.prot) (inside c.spaces s) q) ∙ hole_by_areas (finmap.get (inside c.spaces s) q))
 
 -- what a failed call was due
-pub refuses_first : (error : MemoryError) (c : Contents) (s : ℕ) (first second : Option Denied) → Refuses error (in_space c.spaces s first) → Refuses error (in_space c.spaces s (or_else first second))
+pub refuses_first : (error : MemoryError) (c : Contents) (s : ℕ) (first second : Option AccessError) → Refuses error (in_space c.spaces s first) → Refuses error (in_space c.spaces s (or_else first second))
 refuses_first (DeniedError denied) c s first second due = first_due (is_alive c.spaces s) first second denied due
 refuses_first OutOfMemory c s first second due = due
 

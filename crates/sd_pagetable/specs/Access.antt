@@ -1,8 +1,8 @@
 -- Loads and stores.
 use Rattle.std.specs.Prelude.{ℕ, ◌+◌, ◌%◌, Bool, ◌||◌, ◌==◌, nat_lt, List, ◌++◌, length, take, drop}
 use Rattle.sd_areas.specs.declared.prot.Prot.{Prot}
-use Rattle.sd_pagetable.specs.declared.need.Need.{Need}
-use Rattle.sd_pagetable.specs.declared.need.Need.TheVariants.{Read, Write}
+use Rattle.sd_pagetable.specs.declared.access.Access.{Access}
+use Rattle.sd_pagetable.specs.declared.access.Access.TheVariants.{Read, Write}
 
 -- an access of no bytes, of over 64, or across the end of a page
 abbrev pub is_bad_access : ℕ → ℕ → Bool
@@ -13,6 +13,6 @@ abbrev pub stored_at : List ℕ → ℕ → List ℕ → List ℕ
 stored_at page offset bytes = take offset page ++ bytes ++ drop (offset + length bytes) page
 
 -- whether permissions allow an access
-abbrev pub allows : Need → Prot → Bool
+abbrev pub allows : Access → Prot → Bool
 allows Read prot = prot.read
 allows Write prot = prot.write

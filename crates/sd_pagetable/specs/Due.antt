@@ -9,16 +9,16 @@ use Rattle.sd_areas.specs.Pages.{page_of}
 use Rattle.sd_areas.specs.PlainMemory.{Page, Space, PlainMemory}
 use Rattle.sd_areas.specs.Areas.{PageMap}
 use Rattle.sd_areas.specs.Calls.{mapped, unmapped, protected}
-use Rattle.sd_pagetable.specs.declared.need.Need.{Need}
-use Rattle.sd_pagetable.specs.declared.need.Need.TheVariants.{Write}
-use Rattle.sd_pagetable.specs.declared.refusal.Refusal.TheVariants.{Einval, Enomem, NoSuchSpace, TooManySpaces, NoFrame, LastSpace}
+use Rattle.sd_pagetable.specs.declared.access.Access.{Access}
+use Rattle.sd_pagetable.specs.declared.access.Access.TheVariants.{Write}
+use Rattle.sd_pagetable.specs.declared.memory_refusal.MemoryRefusal.TheVariants.{Einval, Enomem, NoSuchSpace, TooManySpaces, NoFrame, LastSpace}
 use Rattle.sd_pagetable.specs.declared.segv.Segv.TheVariants.{Maperr, Accerr}
-use Rattle.sd_pagetable.specs.declared.denied.Denied.{Denied}
-use Rattle.sd_pagetable.specs.declared.denied.Denied.TheVariants.{Refused, Segv as Stopped}
+use Rattle.sd_pagetable.specs.declared.access_error.AccessError.{AccessError}
+use Rattle.sd_pagetable.specs.declared.access_error.AccessError.TheVariants.{Refused, Segv as Stopped}
 use Rattle.sd_pagetable.specs.declared.memory_error.MemoryError.{MemoryError}
 use Rattle.sd_pagetable.specs.declared.memory_error.MemoryError.TheVariants.{Denied as DeniedError, OutOfMemory}
-use Rattle.sd_pagetable.specs.declared.tried.Tried.{Tried}
-use Rattle.sd_pagetable.specs.declared.tried.Tried.TheVariants.{Done, NeedsFault}
+use Rattle.sd_pagetable.specs.declared.store_outcome.StoreOutcome.{StoreOutcome}
+use Rattle.sd_pagetable.specs.declared.store_outcome.StoreOutcome.TheVariants.{Done, NeedsFault}
 use Rattle.sd_pagetable.specs.Nested.{Nested, map_values, inside, value_at, is_alive}
 use Rattle.sd_pagetable.specs.Page as full
 use Rattle.sd_pagetable.specs.Contents.{Contents, page_at, plain_of, is_alone, is_full, page_count}
@@ -26,86 +26,86 @@ use Rattle.sd_pagetable.specs.Access.{is_bad_access, allows}
 use Rattle.sd_pagetable.specs.Effects.{after_mmap}
 
 -- the first that is due
-abbrev pub or_else : Option Denied → Option Denied → Option Denied
+abbrev pub or_else : Option AccessError → Option AccessError → Option AccessError
 or_else None second = second
 or_else (Some denied) second = Some denied
 
 -- a call that takes no memory answers what is due
-abbrev pub answer : {T : Type 0} → Option Denied → T → Result T Denied
+abbrev pub answer : {T : Type 0} → Option AccessError → T → Result T AccessError
 answer None value = Ok value
 answer (Some denied) value = Err denied
 
 -- a call that takes memory answers what is due; want of memory says nothing of the call
-abbrev pub Answers : {T : Type 0} → Option Denied → Result T MemoryError → Type 0
+abbrev pub Answers : {T : Type 0} → Option AccessError → Result T MemoryError → Type 0
 Answers due (Ok value) = due ≡ None
 Answers due (Err (DeniedError denied)) = due ≡ Some denied
 Answers due (Err OutOfMemory) = Unit {0}
 
 -- the space has to be alive
-abbrev pub in_space : {X : Type 0} → Nested X → ℕ → Option Denied → Option Denied
+abbrev pub in_space : {X : Type 0} → Nested X → ℕ → Option AccessError → Option AccessError
 in_space memory space due = if is_alive memory space then due else Some (Refused NoSuchSpace)
 
 -- the page has to be mapped with the permission that the access needs
-abbrev pub page_due : Need → Option Page → Option Denied
+abbrev pub page_due : Access → Option Page → Option AccessError
 page_due need None = Some (Stopped Maperr)
 page_due need (Some page) = if allows need page.prot then None else Some (Stopped Accerr)
 
 -- a load or a store of so many bytes
-abbrev pub access_due : PlainMemory → ℕ → ℕ → ℕ → Need → Option Denied
+abbrev pub access_due : PlainMemory → ℕ → ℕ → ℕ → Access → Option AccessError
 access_due memory space address bytes need = in_space memory space (if is_bad_access address bytes then Some (Refused Einval) else page_due need (value_at memory space (page_of address)))
 
 -- a frame has to be left where the page isn't alone in a class
-abbrev pub frame_due : Contents → Option full.Page → Option Denied
+abbrev pub frame_due : Contents → Option full.Page → Option AccessError
 frame_due contents None = None
 frame_due contents (Some page) = if not (is_alone contents page) && is_full contents then Some (Refused NoFrame) else None
 
 -- a fault
-abbrev pub fault_due : Contents → ℕ → ℕ → Option Denied
+abbrev pub fault_due : Contents → ℕ → ℕ → Option AccessError
 fault_due contents space address = or_else (in_space (plain_of contents) space (page_due Write (value_at (plain_of contents) space (page_of address)))) (frame_due contents (page_at contents space (page_of address)))
 
 -- a fault and store in one
-abbrev pub store_due : Contents → ℕ → ℕ → ℕ → Option Denied
+abbrev pub store_due : Contents → ℕ → ℕ → ℕ → Option AccessError
 store_due contents space address bytes = or_else (access_due (plain_of contents) space address bytes Write) (frame_due contents (page_at contents space (page_of address)))
 
 -- a try of a store: a page that isn't writable needs a fault
-abbrev pub tried_reply : Bool → Tried
-tried_reply true = Done
-tried_reply false = NeedsFault
+abbrev pub try_answer : Bool → StoreOutcome
+try_answer true = Done
+try_answer false = NeedsFault
 
-abbrev pub tried : Contents → ℕ → ℕ → ℕ → Result Tried Denied
-tried contents space address bytes = answer (access_due (plain_of contents) space address bytes Write) (tried_reply (option_map_or (λ (page : full.Page). page.writable) (page_at contents space (page_of address)) false))
+abbrev pub try_outcome : Contents → ℕ → ℕ → ℕ → Result StoreOutcome AccessError
+try_outcome contents space address bytes = answer (access_due (plain_of contents) space address bytes Write) (try_answer (option_map_or (λ (page : full.Page). page.writable) (page_at contents space (page_of address)) false))
 
 -- the permissions of a space's pages
 abbrev pub prots_in : Space → PageMap
 prots_in space = map_values (λ (page : Page). page.prot) space
 
 -- what a call on areas is refused
-abbrev pub errno_due : Errno → Denied
+abbrev pub errno_due : Errno → AccessError
 errno_due AreaEinval = Refused Einval
 errno_due AreaEnomem = Refused Enomem
 
-abbrev pub area_due : Result PageMap Errno → Option Denied
+abbrev pub area_due : Result PageMap Errno → Option AccessError
 area_due (Ok pages) = None
 area_due (Err errno) = Some (errno_due errno)
 
 -- `mmap`: at most 65,536 pages afterwards
-abbrev pub mmap_due : PlainMemory → ℕ → ℕ → ℕ → Prot → Option Denied
+abbrev pub mmap_due : PlainMemory → ℕ → ℕ → ℕ → Prot → Option AccessError
 mmap_due memory space address bytes prot = in_space memory space
     (or_else (area_due (mapped (prots_in (inside memory space)) address bytes prot))
     (if nat_lt 65536 (page_count (after_mmap memory space address bytes prot)) then Some (Refused Enomem) else None))
 
-abbrev pub munmap_due : PlainMemory → ℕ → ℕ → ℕ → Option Denied
+abbrev pub munmap_due : PlainMemory → ℕ → ℕ → ℕ → Option AccessError
 munmap_due memory space address bytes = in_space memory space (area_due (unmapped (prots_in (inside memory space)) address bytes))
 
-abbrev pub mprotect_due : PlainMemory → ℕ → ℕ → ℕ → Prot → Option Denied
+abbrev pub mprotect_due : PlainMemory → ℕ → ℕ → ℕ → Prot → Option AccessError
 mprotect_due memory space address bytes prot = in_space memory space (area_due (protected (prots_in (inside memory space)) address bytes prot))
 
 -- `fork`: with 16 spaces alive there is no number left, and at most 65,536 pages afterwards
-abbrev pub fork_due : PlainMemory → ℕ → Option Denied
+abbrev pub fork_due : PlainMemory → ℕ → Option AccessError
 fork_due memory space = in_space memory space
     (if nat_le 16 (finmap.len memory) then Some (Refused TooManySpaces)
     else if nat_lt 65536 (page_count memory + finmap.len (inside memory space)) then Some (Refused Enomem) else None)
 
 -- `exit`: the only space stays
-abbrev pub exit_due : PlainMemory → ℕ → Option Denied
+abbrev pub exit_due : PlainMemory → ℕ → Option AccessError
 exit_due memory space = in_space memory space (if finmap.len memory == 1 then Some (Refused LastSpace) else None)

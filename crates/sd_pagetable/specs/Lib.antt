@@ -6,7 +6,7 @@ pub mod Effects
 pub mod Due
 pub mod Tracking
 pub mod Frames
-pub mod Slots
+pub mod FrameCells
 pub mod View
 pub mod Law
 pub mod Owning

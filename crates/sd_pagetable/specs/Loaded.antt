@@ -5,9 +5,9 @@ use Rattle.std.specs.FinMap as finmap
 use Rattle.sd_areas.specs.PlainMemory as plain
 use Rattle.sd_areas.specs.PlainMemory.{PlainMemory}
 use Rattle.sd_areas.specs.Areas.{areas_of}
-use Rattle.sd_pagetable.specs.declared.refusal.Refusal.TheVariants.{NoFrame, Enomem}
-use Rattle.sd_pagetable.specs.declared.denied.Denied.{Denied}
-use Rattle.sd_pagetable.specs.declared.denied.Denied.TheVariants.{Refused}
+use Rattle.sd_pagetable.specs.declared.memory_refusal.MemoryRefusal.TheVariants.{NoFrame, Enomem}
+use Rattle.sd_pagetable.specs.declared.access_error.AccessError.{AccessError}
+use Rattle.sd_pagetable.specs.declared.access_error.AccessError.TheVariants.{Refused}
 use Rattle.sd_pagetable.specs.Nested.{total_within}
 use Rattle.sd_pagetable.specs.Page.{Page}
 use Rattle.sd_pagetable.specs.Contents.{Contents, page_at, put_page, plain_of, members, classes, is_alone, page_count}
@@ -34,7 +34,7 @@ abbrev pub is_over_limits : PlainMemory → Bool
 is_over_limits memory = list_any is_over_in_space (finmap.entries memory) || nat_lt 65536 (page_count memory)
 
 -- what a memory is refused: each page that isn't all zeros needs a frame, and the limits hold
-abbrev pub snapshot_due : ℕ → PlainMemory → Option Denied
+abbrev pub snapshot_due : ℕ → PlainMemory → Option AccessError
 snapshot_due pool memory =
     if nat_lt pool (nonzero_pages memory) then Some (Refused NoFrame)
     else if is_over_limits memory then Some (Refused Enomem) else None

@@ -5,13 +5,13 @@ use Rattle.std.specs.List.{list_any}
 use Rattle.std.specs.FinMap as finmap
 use Rattle.sd_areas.specs.declared.prot.Prot.{Prot}
 use Rattle.sd_areas.specs.Pages.{is_within, page_of}
-use Rattle.sd_pagetable.specs.declared.need.Need.TheVariants.{Write}
-use Rattle.sd_pagetable.specs.declared.tried.Tried.TheVariants.{NeedsFault}
+use Rattle.sd_pagetable.specs.declared.access.Access.TheVariants.{Write}
+use Rattle.sd_pagetable.specs.declared.store_outcome.StoreOutcome.TheVariants.{NeedsFault}
 use Rattle.sd_pagetable.specs.Nested.{Table, map_values, inside, is_alive, set_within, remove_within, change_within}
 use Rattle.sd_pagetable.specs.Page.{Page, fresh_page, cleared_page, protected_page, shared_page, inherited_page, opened_page, stored_page}
 use Rattle.sd_pagetable.specs.Contents.{Contents, page_at, put_page, members, is_alone, plain_of}
 use Rattle.sd_pagetable.specs.Access.{stored_at}
-use Rattle.sd_pagetable.specs.Due.{access_due, tried}
+use Rattle.sd_pagetable.specs.Due.{access_due, try_outcome}
 
 -- A call or a clear. Those with a name of their own were accepted; a call that was refused, a load, and a try of a store that
 -- needs a fault have passed by.
@@ -130,4 +130,4 @@ BitsLaw = (start end : Contents) (history : List Event) → IsBeginning start �
 abbrev pub TryLaw : Type 0
 TryLaw = (start end : Contents) (history : List Event) (space address bytes : ℕ) → IsBeginning start → Run start history end →
     access_due (plain_of end) space address bytes Write ≡ None →
-    (tried end space address bytes ≡ Ok NeedsFault) ↔ (is_open history space (page_of address) ≡ false)
+    (try_outcome end space address bytes ≡ Ok NeedsFault) ↔ (is_open history space (page_of address) ≡ false)

@@ -10,12 +10,12 @@ ghost use Rattle.sd_pagetable.specs.Effects.{after_exit, after_fork, IsLeastFree
 ghost use Rattle.sd_pagetable.specs.Kept.{HasAreas};
 ghost use Rattle.sd_pagetable.specs.Tracking.{Step, Exited, Forked, forked};
 
-use crate::denied::Denied;
-use crate::mappings::{MAPPED_LIMIT, Mappings, SPACE_LIMIT};
+use crate::access_error::AccessError;
+use crate::paging::{MAPPED_LIMIT, Paging, SPACE_LIMIT};
 use crate::memory_error::MemoryError;
 use crate::range_calls::{Areas, copy_in};
 use crate::ranges::{copy_pages, share_pages, unmap_all};
-use crate::refusal::Refusal;
+use crate::memory_refusal::MemoryRefusal;
 use sd_areas::{AreaMap, SpaceId};
 use std::alloc::AllocError;
 
@@ -40,30 +40,30 @@ fn drop_areas(areas: &mut Areas, space: SpaceId)
 }
 
 /// Unmaps all pages of a space, and ends it.
-fn end_space(mappings: &mut Mappings, space: SpaceId)
-    requires { is_alive mappings.old.spaces space ≡ true }
-    ensures { mappings.new ≡ record { pool = mappings.old.pool; spaces = finmap.remove mappings.old.spaces space } }
+fn end_space(paging: &mut Paging, space: SpaceId)
+    requires { is_alive paging.old.spaces space ≡ true }
+    ensures { paging.new ≡ record { pool = paging.old.pool; spaces = finmap.remove paging.old.spaces space } }
 {
-    unmap_all(mappings, space);
-    mappings.remove_space(space);
+    unmap_all(paging, space);
+    paging.remove_space(space);
 }
 
 /// `exit` over the pages of all spaces and the areas beside them. It takes no memory.
-pub(crate) fn exit(mappings: &mut Mappings, areas: &mut Areas, space: SpaceId) -> Result<(), Denied>
-    requires kept { HasAreas areas.old mappings.old }
-    ensures kept { HasAreas areas.new mappings.new }
-    ensures due { result ≡ answer (exit_due (plain_of mappings.old) space) tt }
-    ensures step { OnOk result (Step mappings.old (Exited space) mappings.new) }
-    ensures memory { OnOk result (plain_of mappings.new ≡ after_exit (plain_of mappings.old) space) }
-    ensures err { OnErr result (mappings.new ≡ mappings.old) }
+pub(crate) fn exit(paging: &mut Paging, areas: &mut Areas, space: SpaceId) -> Result<(), AccessError>
+    requires kept { HasAreas areas.old paging.old }
+    ensures kept { HasAreas areas.new paging.new }
+    ensures due { result ≡ answer (exit_due (plain_of paging.old) space) tt }
+    ensures step { OnOk result (Step paging.old (Exited space) paging.new) }
+    ensures memory { OnOk result (plain_of paging.new ≡ after_exit (plain_of paging.old) space) }
+    ensures err { OnErr result (paging.new ≡ paging.old) }
 {
-    if !mappings.is_alive(space) {
-        return Err(Denied::Refused(Refusal::NoSuchSpace));
+    if !paging.is_alive(space) {
+        return Err(AccessError::Refused(MemoryRefusal::NoSuchSpace));
     }
-    if mappings.space_count() == 1 {
-        return Err(Denied::Refused(Refusal::LastSpace));
+    if paging.space_count() == 1 {
+        return Err(AccessError::Refused(MemoryRefusal::LastSpace));
     }
-    end_space(mappings, space);
+    end_space(paging, space);
     drop_areas(areas, space);
     Ok(())
 }
@@ -73,34 +73,34 @@ pub(crate) fn exit(mappings: &mut Mappings, areas: &mut Areas, space: SpaceId) -
 /// # Errors
 ///
 /// Out of memory where a table can't grow: nothing changes.
-fn copy_space(mappings: &mut Mappings, space: SpaceId, child: SpaceId) -> Result<(), AllocError>
-    requires alive { is_alive mappings.old.spaces space ≡ true }
-    requires fresh { is_alive mappings.old.spaces child ≡ false }
+fn copy_space(paging: &mut Paging, space: SpaceId, child: SpaceId) -> Result<(), AllocError>
+    requires alive { is_alive paging.old.spaces space ≡ true }
+    requires fresh { is_alive paging.old.spaces child ≡ false }
     requires least { 1 ≤ child }
     requires greatest { child ≤ 16 }
-    requires few { page_count mappings.old.spaces + finmap.len (inside mappings.old.spaces space) ≤ 65536 }
-    ensures ok { OnOk result (mappings.new ≡ forked mappings.old space child) }
-    ensures err { OnErr result (mappings.new ≡ mappings.old) }
+    requires few { page_count paging.old.spaces + finmap.len (inside paging.old.spaces space) ≤ 65536 }
+    ensures ok { OnOk result (paging.new ≡ forked paging.old space child) }
+    ensures err { OnErr result (paging.new ≡ paging.old) }
 {
-    mappings.add_space(child)?;
-    if let Err(error) = copy_pages(mappings, space, child) {
-        end_space(mappings, child);
+    paging.add_space(child)?;
+    if let Err(error) = copy_pages(paging, space, child) {
+        end_space(paging, child);
         return Err(error);
     }
-    share_pages(mappings, space, child);
+    share_pages(paging, space, child);
     Ok(())
 }
 
 /// The least number that isn't alive, if there is one.
-fn free_number(mappings: &Mappings) -> Option<SpaceId>
-    requires { IsSound mappings.now }
+fn free_number(paging: &Paging) -> Option<SpaceId>
+    requires { IsSound paging.now }
     ensures { MatchOption result
-        (16 ≤ finmap.len mappings.now.spaces)
-        (λ child. IsLeastFree (plain_of mappings.now) child × (finmap.len mappings.now.spaces < 16) × (child ≤ 16)) }
+        (16 ≤ finmap.len paging.now.spaces)
+        (λ child. IsLeastFree (plain_of paging.now) child × (finmap.len paging.now.spaces < 16) × (child ≤ 16)) }
 {
     for number in 1..=SPACE_LIMIT {
         let space = SpaceId::new(number);
-        if !mappings.is_alive(space) {
+        if !paging.is_alive(space) {
             return Some(space);
         }
     }
@@ -109,31 +109,31 @@ fn free_number(mappings: &Mappings) -> Option<SpaceId>
 
 /// `fork` over the pages of all spaces and the areas beside them.
 pub(crate) fn fork(
-    mappings: &mut Mappings,
+    paging: &mut Paging,
     areas: &mut Areas,
     space: SpaceId,
 ) -> Result<SpaceId, MemoryError>
-    requires kept { HasAreas areas.old mappings.old }
-    ensures kept { HasAreas areas.new mappings.new }
-    ensures due { Answers (fork_due (plain_of mappings.old) space) result }
-    ensures child { IfOk result (λ child. IsLeastFree (plain_of mappings.old) child) }
-    ensures step { IfOk result (λ child. Step mappings.old (Forked space child) mappings.new) }
-    ensures memory { IfOk result (λ child. plain_of mappings.new ≡ after_fork (plain_of mappings.old) space child) }
-    ensures err { OnErr result (mappings.new ≡ mappings.old) }
+    requires kept { HasAreas areas.old paging.old }
+    ensures kept { HasAreas areas.new paging.new }
+    ensures due { Answers (fork_due (plain_of paging.old) space) result }
+    ensures child { IfOk result (λ child. IsLeastFree (plain_of paging.old) child) }
+    ensures step { IfOk result (λ child. Step paging.old (Forked space child) paging.new) }
+    ensures memory { IfOk result (λ child. plain_of paging.new ≡ after_fork (plain_of paging.old) space child) }
+    ensures err { OnErr result (paging.new ≡ paging.old) }
 {
-    if !mappings.is_alive(space) {
-        return Err(Refusal::NoSuchSpace.into());
+    if !paging.is_alive(space) {
+        return Err(MemoryRefusal::NoSuchSpace.into());
     }
-    let mapped = mappings.mapped();
-    let Some(child) = free_number(mappings) else {
-        return Err(Refusal::TooManySpaces.into());
+    let mapped = paging.mapped();
+    let Some(child) = free_number(paging) else {
+        return Err(MemoryRefusal::TooManySpaces.into());
     };
-    if mapped + mappings.pages_in(space) as u64 > MAPPED_LIMIT {
-        return Err(Refusal::Enomem.into());
+    if mapped + paging.pages_in(space) as u64 > MAPPED_LIMIT {
+        return Err(MemoryRefusal::Enomem.into());
     }
     let own = copy_in(areas, space)?;
     add_areas(areas, child, own)?;
-    if let Err(error) = copy_space(mappings, space, child) {
+    if let Err(error) = copy_space(paging, space, child) {
         drop_areas(areas, child);
         return Err(error.into());
     }

@@ -7,7 +7,7 @@ ghost use Rattle.sd_pagetable.specs.Frames.{Cell, cell_at, count_at, bytes_at, S
 ghost use Rattle.sd_pagetable.specs.View.{frame_bytes};
 
 use crate::frame::Frame;
-use crate::slot::{Slot, next_free};
+use crate::frame_cell::{FrameCell, next_free};
 use sd_areas::PAGE_SIZE;
 use std::alloc::{AllocError, Global};
 use std::marker::Model;
@@ -20,14 +20,14 @@ static ZEROS: [u8; PAGE_SIZE] = [0; PAGE_SIZE];
 pub(crate) struct Frames {
     alloc: Global,
     pool: usize,
-    slots: Vec<Slot>,
+    slots: Vec<FrameCell>,
     free: Option<usize>,
 }
 
 impl Model for Frames {
     ghost use Rattle.std.specs.Prelude.{◌≤◌, length};
     ghost use Rattle.sd_pagetable.specs.Frames.{Pool, pool_code};
-    ghost use Rattle.sd_pagetable.specs.Slots.{cells_of, IsFreeList};
+    ghost use Rattle.sd_pagetable.specs.FrameCells.{cells_of, IsFreeList};
 
     ghost Value = { Pool };
 
@@ -56,7 +56,7 @@ impl Frames {
         ensures { result ≡ count_at self.now number }
     {
         match self.slots.get(number) {
-            Some(Slot::Used(frame)) => frame.count(),
+            Some(FrameCell::Used(frame)) => frame.count(),
             _ => 0,
         }
     }
@@ -80,7 +80,7 @@ impl Frames {
         ensures length { length result.now ≡ 4096 }
     {
         match self.slots.get(number) {
-            Some(Slot::Used(frame)) => frame.bytes(),
+            Some(FrameCell::Used(frame)) => frame.bytes(),
             _ => &ZEROS,
         }
     }
@@ -121,7 +121,7 @@ impl Frames {
             else Some (record { count = count_at self.old number - 1; bytes = bytes_at self.old number })) }
     {
         if self.count(number) == 1 {
-            self.slots[number] = Slot::Free(self.free);
+            self.slots[number] = FrameCell::Free(self.free);
             self.free = Some(number);
         } else {
             self.slots[number].release();
@@ -174,12 +174,12 @@ impl Frames {
         match self.free {
             Some(number) => {
                 self.free = next_free(&self.slots, number);
-                self.slots[number] = Slot::Used(frame);
+                self.slots[number] = FrameCell::Used(frame);
                 Ok(number)
             }
             None => {
                 let number = self.slots.len();
-                self.slots.push(Slot::Used(frame))?;
+                self.slots.push(FrameCell::Used(frame))?;
                 Ok(number)
             }
         }

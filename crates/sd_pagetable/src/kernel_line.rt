@@ -1,4 +1,4 @@
-use crate::refusal::Refusal;
+use crate::memory_refusal::MemoryRefusal;
 use crate::segv::Segv;
 use sd_areas::Prot;
 
@@ -8,12 +8,12 @@ use sd_areas::Prot;
 pub(crate) enum Line {
     /// Maps so many bytes with these permissions.
     Mmap(u64, u64, u64, Prot),
-    MmapRefused(u64, u64, u64, Prot, Refusal),
+    MmapRefused(u64, u64, u64, Prot, MemoryRefusal),
     /// Unmaps so many bytes.
     Munmap(u64, u64, u64),
     /// Gives so many bytes these permissions.
     Mprotect(u64, u64, u64, Prot),
-    MprotectRefused(u64, u64, u64, Prot, Refusal),
+    MprotectRefused(u64, u64, u64, Prot, MemoryRefusal),
     /// Makes a child with this number.
     Fork(u64, u64),
     Exit(u64),

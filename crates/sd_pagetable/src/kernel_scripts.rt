@@ -1,8 +1,8 @@
 //! Scripts that were run on a Linux kernel with soft-dirty bits (6.1.192 and 6.12.117, x86-64), one process for each space:
-//! private anonymous mappings at fixed addresses, a clear being a write of `4` to `clear_refs`. The words are those of
+//! private anonymous paging at fixed addresses, a clear being a write of `4` to `clear_refs`. The words are those of
 //! `pagemap` without the frame's number and bits 57 to 62; a store's fault is a minor fault.
 use crate::kernel_line::Line;
-use crate::refusal::Refusal;
+use crate::memory_refusal::MemoryRefusal;
 use crate::segv::Segv;
 use sd_areas::Prot;
 
@@ -248,15 +248,15 @@ pub(crate) const MPROTECT_FRESH: [Line; 6] = [
 /// A hole at the start of the range.
 pub(crate) const MPROTECT_HOLE_FIRST: [Line; 4] = [
     Line::Mmap(1, 0x1_0000_1000, 4096, READ_WRITE),
-    Line::MprotectRefused(1, 0x1_0000_0000, 8192, READ, Refusal::Enomem),
+    Line::MprotectRefused(1, 0x1_0000_0000, 8192, READ, MemoryRefusal::Enomem),
     Line::Store(1, 0x1_0000_1000, &[0x61], true),
     Line::Words(1, 0x1_0000_0000, &[0, DIRTY_ALONE]),
 ];
 
 /// Nothing mapped at all.
 pub(crate) const MPROTECT_ONLY_HOLE: [Line; 3] = [
-    Line::MprotectRefused(1, 0x1_0000_0000, 4096, READ_WRITE, Refusal::Enomem),
-    Line::MprotectRefused(1, 0x1_0000_0000, 4096, NONE, Refusal::Enomem),
+    Line::MprotectRefused(1, 0x1_0000_0000, 4096, READ_WRITE, MemoryRefusal::Enomem),
+    Line::MprotectRefused(1, 0x1_0000_0000, 4096, NONE, MemoryRefusal::Enomem),
     Line::Words(1, 0x1_0000_0000, &[0]),
 ];
 
@@ -265,7 +265,7 @@ pub(crate) const MPROTECT_LENGTH_0: [Line; 7] = [
     Line::Mprotect(1, 0x1_0000_0000, 0, READ_WRITE),
     Line::Mprotect(1, 0x7FFF_FFFF_F000, 0, READ_WRITE),
     Line::Mprotect(1, 0xFFFF_FFFF_FFFF_F000, 0, READ),
-    Line::MprotectRefused(1, 0x1_0000_0001, 0, READ_WRITE, Refusal::Einval),
+    Line::MprotectRefused(1, 0x1_0000_0001, 0, READ_WRITE, MemoryRefusal::Einval),
     Line::Mmap(1, 0x1_0000_0000, 4096, READ_WRITE),
     Line::Mprotect(1, 0x1_0000_0000, 0, NONE),
     Line::Store(1, 0x1_0000_0000, &[0x61], true),
@@ -274,25 +274,25 @@ pub(crate) const MPROTECT_LENGTH_0: [Line; 7] = [
 /// Unaligned EINVAL, outside ENOMEM.
 pub(crate) const MPROTECT_BAD: [Line; 9] = [
     Line::Mmap(1, 0x1_0000_0000, 4096, READ_WRITE),
-    Line::MprotectRefused(1, 0x1_0000_0001, 4096, READ, Refusal::Einval),
+    Line::MprotectRefused(1, 0x1_0000_0001, 4096, READ, MemoryRefusal::Einval),
     Line::MprotectRefused(
         1,
         0x1_0000_0001,
         0xFFFF_FFFF_FFFF_FFFF,
         READ,
-        Refusal::Einval,
+        MemoryRefusal::Einval,
     ),
-    Line::MprotectRefused(1, 0x7FFF_FFFF_F000, 4096, READ, Refusal::Enomem),
-    Line::MprotectRefused(1, 0xFFFF_FFFF_FFFF_F000, 4096, READ, Refusal::Enomem),
-    Line::MprotectRefused(1, 0xFFFF_FFFF_FFFF_F000, 8192, READ, Refusal::Enomem),
+    Line::MprotectRefused(1, 0x7FFF_FFFF_F000, 4096, READ, MemoryRefusal::Enomem),
+    Line::MprotectRefused(1, 0xFFFF_FFFF_FFFF_F000, 4096, READ, MemoryRefusal::Enomem),
+    Line::MprotectRefused(1, 0xFFFF_FFFF_FFFF_F000, 8192, READ, MemoryRefusal::Enomem),
     Line::MprotectRefused(
         1,
         0x1_0000_0000,
         0xFFFF_FFFF_FFFF_FFFF,
         READ,
-        Refusal::Enomem,
+        MemoryRefusal::Enomem,
     ),
-    Line::MprotectRefused(1, 0x8000_0000_0000, 4096, READ, Refusal::Enomem),
+    Line::MprotectRefused(1, 0x8000_0000_0000, 4096, READ, MemoryRefusal::Enomem),
     Line::Store(1, 0x1_0000_0000, &[0x61], true),
 ];
 
@@ -308,25 +308,25 @@ pub(crate) const MPROTECT_ROUNDS_UP: [Line; 6] = [
 
 /// Length 0 and unaligned EINVAL, outside ENOMEM.
 pub(crate) const MMAP_BAD: [Line; 9] = [
-    Line::MmapRefused(1, 0x1_0000_0000, 0, READ_WRITE, Refusal::Einval),
-    Line::MmapRefused(1, 0x1_0000_0001, 4096, READ_WRITE, Refusal::Einval),
-    Line::MmapRefused(1, 0x1_0000_0FFF, 4096, READ_WRITE, Refusal::Einval),
-    Line::MmapRefused(1, 0x1_0000_0001, 0, READ_WRITE, Refusal::Einval),
-    Line::MmapRefused(1, 0x8000_0000_0000, 4096, READ_WRITE, Refusal::Enomem),
-    Line::MmapRefused(1, 0xFFFF_FFFF_FFFF_F000, 4096, READ_WRITE, Refusal::Enomem),
+    Line::MmapRefused(1, 0x1_0000_0000, 0, READ_WRITE, MemoryRefusal::Einval),
+    Line::MmapRefused(1, 0x1_0000_0001, 4096, READ_WRITE, MemoryRefusal::Einval),
+    Line::MmapRefused(1, 0x1_0000_0FFF, 4096, READ_WRITE, MemoryRefusal::Einval),
+    Line::MmapRefused(1, 0x1_0000_0001, 0, READ_WRITE, MemoryRefusal::Einval),
+    Line::MmapRefused(1, 0x8000_0000_0000, 4096, READ_WRITE, MemoryRefusal::Enomem),
+    Line::MmapRefused(1, 0xFFFF_FFFF_FFFF_F000, 4096, READ_WRITE, MemoryRefusal::Enomem),
     Line::MmapRefused(
         1,
         0x1_0000_0000,
         0xFFFF_FFFF_FFFF_FFFF,
         READ_WRITE,
-        Refusal::Enomem,
+        MemoryRefusal::Enomem,
     ),
     Line::MmapRefused(
         1,
         0x1_0000_0000,
         0x7FFF_FFFF_0000,
         READ_WRITE,
-        Refusal::Enomem,
+        MemoryRefusal::Enomem,
     ),
     Line::Words(1, 0x1_0000_0000, &[0]),
 ];
@@ -336,14 +336,14 @@ pub(crate) const MMAP_BAD_KEEPS: [Line; 9] = [
     Line::Mmap(1, 0x1_0000_0000, 4096, READ_WRITE),
     Line::Store(1, 0x1_0000_0000, &[0x61], true),
     Line::Clear(1),
-    Line::MmapRefused(1, 0x1_0000_0000, 0, READ, Refusal::Einval),
-    Line::MmapRefused(1, 0x1_0000_0001, 4096, READ, Refusal::Einval),
+    Line::MmapRefused(1, 0x1_0000_0000, 0, READ, MemoryRefusal::Einval),
+    Line::MmapRefused(1, 0x1_0000_0001, 4096, READ, MemoryRefusal::Einval),
     Line::MmapRefused(
         1,
         0x1_0000_0000,
         0xFFFF_FFFF_FFFF_FFFF,
         READ,
-        Refusal::Enomem,
+        MemoryRefusal::Enomem,
     ),
     Line::Words(1, 0x1_0000_0000, &[CLEAN_ALONE]),
     Line::Load(1, 0x1_0000_0000, &[0x61]),

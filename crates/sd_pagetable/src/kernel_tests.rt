@@ -1,13 +1,13 @@
 //! The answers of a Linux kernel, asked of a memory.
 use crate::kernel_line::Line;
-use crate::{Denied, Memory, MemoryError, Refusal, Segv, Tried, kernel_scripts as scripts};
+use crate::{AccessError, Memory, MemoryError, MemoryRefusal, Segv, StoreOutcome, kernel_scripts as scripts};
 use sd_areas::{PageNo, SpaceId};
 use std::alloc::Global;
 use std::test::Fail;
 
 /// What a refused call answers.
-fn refused(refusal: Refusal) -> Result<(), MemoryError> {
-    Err(MemoryError::Denied(Denied::Refused(refusal)))
+fn refused(refusal: MemoryRefusal) -> Result<(), MemoryError> {
+    Err(MemoryError::Denied(AccessError::Refused(refusal)))
 }
 
 /// Clears every page of a space.
@@ -28,11 +28,11 @@ fn clear(memory: &mut Memory, space: SpaceId) {
 fn stores(memory: &mut Memory, space: SpaceId, address: u64, bytes: &[u8], faults: bool) -> bool {
     let tried = memory.try_store(space, address, bytes);
     if !faults {
-        return tried == Ok(Tried::Done);
+        return tried == Ok(StoreOutcome::Done);
     }
-    tried == Ok(Tried::NeedsFault)
+    tried == Ok(StoreOutcome::NeedsFault)
         && memory.fault(space, address) == Ok(())
-        && memory.try_store(space, address, bytes) == Ok(Tried::Done)
+        && memory.try_store(space, address, bytes) == Ok(StoreOutcome::Done)
 }
 
 /// Whether a load gives these bytes.
@@ -46,7 +46,7 @@ fn loads(memory: &Memory, space: SpaceId, address: u64, bytes: &[u8]) -> bool {
 fn stops(memory: &Memory, space: SpaceId, address: u64, count: usize, segv: Segv) -> bool {
     let mut buffer = [0; 64];
     let count = count.min(64);
-    memory.load(space, address, &mut buffer[..count]) == Err(Denied::Segv(segv))
+    memory.load(space, address, &mut buffer[..count]) == Err(AccessError::Segv(segv))
 }
 
 /// Whether the pages from an address on have these words.
@@ -84,7 +84,7 @@ fn answers(memory: &mut Memory, line: Line) -> bool {
             stores(memory, SpaceId::new(space), address, bytes, faults)
         }
         Line::StoreStopped(space, address, bytes, segv) => {
-            memory.try_store(SpaceId::new(space), address, bytes) == Err(Denied::Segv(segv))
+            memory.try_store(SpaceId::new(space), address, bytes) == Err(AccessError::Segv(segv))
         }
         Line::Load(space, address, bytes) => loads(memory, SpaceId::new(space), address, bytes),
         Line::LoadStopped(space, address, count, segv) => {

@@ -1,7 +1,7 @@
 //! Memory as page tables over counted frames: faults, copy on write, and which pages were touched since their clear.
 #![tactic(auto)]
 
-mod denied;
+mod access_error;
 mod entry;
 mod fork_calls;
 mod frame;
@@ -18,26 +18,26 @@ mod law;
 mod loading;
 #[cfg(test)]
 mod loading_tests;
-mod mappings;
+mod paging;
 mod memory;
 mod memory_error;
-mod need;
+mod access;
 mod page_table;
 mod range_calls;
 mod ranges;
-mod refusal;
+mod memory_refusal;
 mod segv;
-mod slot;
+mod frame_cell;
 mod tables;
 #[cfg(test)]
 mod tests;
-mod tried;
+mod store_outcome;
 
-pub use denied::Denied;
+pub use access_error::AccessError;
 pub use law::{clear_law, count_law, plain_law, tracking_law};
 pub use memory::{Memory, SECTOR_SIZE};
 pub use memory_error::MemoryError;
-pub use need::Need;
-pub use refusal::Refusal;
+pub use access::Access;
+pub use memory_refusal::MemoryRefusal;
 pub use segv::Segv;
-pub use tried::Tried;
+pub use store_outcome::StoreOutcome;

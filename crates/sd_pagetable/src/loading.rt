@@ -8,9 +8,9 @@ ghost use Rattle.std.specs.FinMap as finmap;
 ghost use Rattle.sd_areas.specs.Memory.{memory_of, space_of};
 ghost use Rattle.sd_areas.specs.Calls.{within_areas};
 ghost use Rattle.sd_areas.specs.PlainMemory as plain;
-ghost use Rattle.sd_pagetable.specs.declared.denied.Denied.TheVariants.{Refused};
+ghost use Rattle.sd_pagetable.specs.declared.access_error.AccessError.TheVariants.{Refused};
 ghost use Rattle.sd_pagetable.specs.declared.memory_error.MemoryError.TheVariants.{Denied as DeniedError, OutOfMemory};
-ghost use Rattle.sd_pagetable.specs.declared.refusal.Refusal.TheVariants.{Enomem};
+ghost use Rattle.sd_pagetable.specs.declared.memory_refusal.MemoryRefusal.TheVariants.{Enomem};
 ghost use Rattle.sd_pagetable.specs.Nested.{inside, is_alive, total};
 ghost use Rattle.sd_pagetable.specs.Contents.{page_count, plain_of};
 ghost use Rattle.sd_pagetable.specs.Page.{zeros};
@@ -18,10 +18,10 @@ ghost use Rattle.sd_pagetable.specs.Due.{Answers, prots_in};
 ghost use Rattle.sd_pagetable.specs.Loaded.{is_zero_page, frames_for, nonzero_pages, is_over_in_space, snapshot_due, IsBegun, IsLoaded};
 
 use crate::fork_calls::add_areas;
-use crate::mappings::{MAPPED_LIMIT, Mappings, SPACE_LIMIT};
+use crate::paging::{MAPPED_LIMIT, Paging, SPACE_LIMIT};
 use crate::memory_error::MemoryError;
 use crate::range_calls::Areas;
-use crate::refusal::Refusal;
+use crate::memory_refusal::MemoryRefusal;
 use sd_areas::{AreaMap, PAGE_SIZE, PageNo, Snapshot, SnapshotPage, SpaceId};
 use std::alloc::{AllocError, Global};
 use std::collections::BTreeMap;
@@ -98,7 +98,7 @@ fn areas_in(alloc: Global, space: SpaceId, pages: &Pages) -> Result<AreaMap, Mem
     ensures errors { IfErr result (λ e. (e ≡ OutOfMemory) ⊎ (e ≡ DeniedError (Refused Enomem))) }
 {
     if space.number() == 0 || space.number() > SPACE_LIMIT {
-        return Err(Refusal::Enomem.into());
+        return Err(MemoryRefusal::Enomem.into());
     }
     Ok(AreaMap::from_pages(alloc, pages)?)
 }
@@ -136,10 +136,10 @@ pub(crate) fn areas_of(
     ensures due { Answers (snapshot_due frames (memory_of snapshot.now)) result }
 {
     if is_short(frames, snapshot) {
-        return Err(Refusal::NoFrame.into());
+        return Err(MemoryRefusal::NoFrame.into());
     }
     if is_crowded(snapshot) {
-        return Err(Refusal::Enomem.into());
+        return Err(MemoryRefusal::Enomem.into());
     }
     areas_by_space(alloc, snapshot)
 }
@@ -149,18 +149,18 @@ pub(crate) fn areas_of(
 /// # Errors
 ///
 /// Out of memory where a table or the list of frames can't grow: some of the pages are mapped.
-fn load_space(mappings: &mut Mappings, space: SpaceId, pages: Pages) -> Result<(), AllocError>
-    requires alive { is_alive mappings.old.spaces space ≡ true }
-    requires bare { inside mappings.old.spaces space ≡ finmap.empty }
-    requires begun { IsBegun mappings.old }
-    requires few { page_count mappings.old.spaces + finmap.len (space_of pages.entries) ≤ 65536 }
-    requires room { nonzero_pages (plain_of mappings.old) + total frames_for (space_of pages.entries) ≤ mappings.old.pool }
-    ensures begun { OnOk result (IsBegun mappings.new) }
-    ensures pool { OnOk result (mappings.new.pool ≡ mappings.old.pool) }
-    ensures memory { OnOk result (plain_of mappings.new ≡ finmap.insert (plain_of mappings.old) space (space_of pages.entries)) }
+fn load_space(paging: &mut Paging, space: SpaceId, pages: Pages) -> Result<(), AllocError>
+    requires alive { is_alive paging.old.spaces space ≡ true }
+    requires bare { inside paging.old.spaces space ≡ finmap.empty }
+    requires begun { IsBegun paging.old }
+    requires few { page_count paging.old.spaces + finmap.len (space_of pages.entries) ≤ 65536 }
+    requires room { nonzero_pages (plain_of paging.old) + total frames_for (space_of pages.entries) ≤ paging.old.pool }
+    ensures begun { OnOk result (IsBegun paging.new) }
+    ensures pool { OnOk result (paging.new.pool ≡ paging.old.pool) }
+    ensures memory { OnOk result (plain_of paging.new ≡ finmap.insert (plain_of paging.old) space (space_of pages.entries)) }
 {
     for (page, found) in pages {
-        mappings.load(space, page, found)?;
+        paging.load(space, page, found)?;
     }
     Ok(())
 }
@@ -170,14 +170,14 @@ fn load_space(mappings: &mut Mappings, space: SpaceId, pages: Pages) -> Result<(
 /// # Errors
 ///
 /// Out of memory where a table or the list of frames can't grow: some of the pages are mapped.
-pub(crate) fn load(mappings: &mut Mappings, snapshot: Snapshot) -> Result<(), AllocError>
-    requires bare { mappings.old.spaces ≡ finmap.empty }
-    requires due { snapshot_due mappings.old.pool (memory_of snapshot) ≡ None }
-    ensures { OnOk result (IsLoaded mappings.old.pool (memory_of snapshot) mappings.new) }
+pub(crate) fn load(paging: &mut Paging, snapshot: Snapshot) -> Result<(), AllocError>
+    requires bare { paging.old.spaces ≡ finmap.empty }
+    requires due { snapshot_due paging.old.pool (memory_of snapshot) ≡ None }
+    ensures { OnOk result (IsLoaded paging.old.pool (memory_of snapshot) paging.new) }
 {
     for (space, pages) in snapshot.spaces {
-        mappings.add_space(space)?;
-        load_space(mappings, space, pages)?;
+        paging.add_space(space)?;
+        load_space(paging, space, pages)?;
     }
     Ok(())
 }

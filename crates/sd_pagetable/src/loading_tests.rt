@@ -1,4 +1,4 @@
-use super::{Denied, Memory, MemoryError, Refusal, Tried};
+use super::{AccessError, Memory, MemoryError, MemoryRefusal, StoreOutcome};
 use sd_areas::{PAGE_SIZE, PageNo, Prot, Snapshot, SpaceId};
 use std::alloc::Global;
 use std::test::Fail;
@@ -15,9 +15,9 @@ const READ_WRITE: Prot = Prot {
     execute: false,
 };
 
-const NO_FRAME: MemoryError = MemoryError::Denied(Denied::Refused(Refusal::NoFrame));
+const NO_FRAME: MemoryError = MemoryError::Denied(AccessError::Refused(MemoryRefusal::NoFrame));
 
-const ENOMEM: MemoryError = MemoryError::Denied(Denied::Refused(Refusal::Enomem));
+const ENOMEM: MemoryError = MemoryError::Denied(AccessError::Refused(MemoryRefusal::Enomem));
 
 /// A snapshot of spaces whose pages are given by space, number, permissions and first byte.
 fn snapshot_of(
@@ -62,7 +62,7 @@ fn begins_with_a_snapshot(rt: HostRuntime) -> Result<(), Fail> {
     assert_eq!(rt; byte[0], 0x62);
     assert_eq!(rt; memory.load(one, 0x11000, &mut byte), Ok(()));
     assert_eq!(rt; byte[0], 0);
-    assert_eq!(rt; memory.try_store(one, 0x10000, &[1]), Ok(Tried::NeedsFault));
+    assert_eq!(rt; memory.try_store(one, 0x10000, &[1]), Ok(StoreOutcome::NeedsFault));
     assert_eq!(rt; memory.store_now(one, 0x10001, &[1]), Ok(()));
     assert_eq!(rt; memory.store_now(one, 0x11000, &[1]), Err(NO_FRAME));
     assert_eq!(rt; memory.fork(one), Ok(SpaceId::new(2)));

@@ -1,13 +1,13 @@
 ghost use Rattle.sd_pagetable.specs.Access.{allows, is_bad_access};
 ghost use Rattle.std.specs.Prelude.{◌≡◌, ◌%◌, ◌+◌, ◌*◌, ◌<◌, ◌≤◌, ℕ, true, false, None, Some, Ok, length, slice_range, is_some, IsSome, OnOk, OnErr, IfOk, IfSome, IfErr};
 
-use crate::denied::Denied;
-use crate::mappings::{Mappings, SPACE_LIMIT};
+use crate::access_error::AccessError;
+use crate::paging::{Paging, SPACE_LIMIT};
 use crate::memory_error::MemoryError;
-use crate::need::Need;
-use crate::refusal::Refusal;
+use crate::access::Access;
+use crate::memory_refusal::MemoryRefusal;
 use crate::segv::Segv;
-use crate::tried::Tried;
+use crate::store_outcome::StoreOutcome;
 use crate::{fork_calls, loading, range_calls};
 use sd_areas::{AreaMap, PAGE_SIZE, PageNo, Prot, Snapshot, SpaceId};
 use std::alloc::{AllocError, Global};
@@ -34,7 +34,7 @@ struct Place {
 /// Address spaces of private anonymous memory, with the soft-dirty bits of their pages.
 #[derive(Drop)]
 pub struct Memory {
-    mappings: Mappings,
+    paging: Paging,
     areas: BTreeMap<SpaceId, AreaMap>,
 }
 
@@ -46,9 +46,9 @@ impl Model for Memory {
 
     ghost coded = { contents_code };
 
-    ghost view = { λ m. m.mappings };
+    ghost view = { λ m. m.paging };
 
-    ghost invariant = { λ m. HasAreas m.areas m.mappings };
+    ghost invariant = { λ m. HasAreas m.areas m.paging };
 }
 
 impl Memory {
@@ -60,13 +60,13 @@ impl Memory {
     ghost use Rattle.sd_pagetable.specs.Page.{Page};
     ghost use Rattle.sd_pagetable.specs.Contents.{page_at, plain_of, word_at, IsSound};
     ghost use Rattle.sd_pagetable.specs.Effects.{after_mmap, after_munmap, after_mprotect, after_fork, after_exit, after_store, IsLeastFree};
-    ghost use Rattle.sd_pagetable.specs.Due.{answer, Answers, page_due, access_due, fault_due, store_due, tried, mmap_due, munmap_due, mprotect_due, fork_due, exit_due};
+    ghost use Rattle.sd_pagetable.specs.Due.{answer, Answers, page_due, access_due, fault_due, store_due, try_outcome, mmap_due, munmap_due, mprotect_due, fork_due, exit_due};
     ghost use Rattle.sd_pagetable.specs.Tracking.{Step, IsBeginning, Mapped, Unmapped, Protected, Forked, Exited, Faulted, Tried as TriedEvent, Stored, Cleared};
     ghost use Rattle.sd_pagetable.specs.Order.{IsNextPage, IsFirstPage, IsFirstIn};
     ghost use Rattle.sd_pagetable.specs.Kept.{prots_of};
     ghost use Rattle.sd_pagetable.specs.Loaded.{snapshot_due, IsLoaded};
-    ghost use Rattle.sd_pagetable.specs.declared.need.Need.TheVariants.{Read, Write};
-    ghost use Rattle.sd_pagetable.specs.declared.tried.Tried.TheVariants.{Done, NeedsFault};
+    ghost use Rattle.sd_pagetable.specs.declared.access.Access.TheVariants.{Read, Write};
+    ghost use Rattle.sd_pagetable.specs.declared.store_outcome.StoreOutcome.TheVariants.{Done, NeedsFault};
 
     /// Space 1 alone, without pages, over a pool of so many frames, 1 to 65,536.
     ///
@@ -80,11 +80,11 @@ impl Memory {
         ensures memory { IfOk result (λ memory. plain_of memory ≡ finmap.insert finmap.empty 1 finmap.empty) }
     {
         let space = SpaceId::new(1);
-        let mut mappings = Mappings::new(alloc, frames);
-        mappings.add_space(space)?;
+        let mut paging = Paging::new(alloc, frames);
+        paging.add_space(space)?;
         let mut areas = BTreeMap::new(alloc);
         areas.insert(space, AreaMap::new(alloc))?;
-        Ok(Memory { mappings, areas })
+        Ok(Memory { paging, areas })
     }
 
     /// The spaces and pages of a snapshot, over a pool of so many frames, 1 to 65,536. Each page is
@@ -107,9 +107,9 @@ impl Memory {
         ensures loaded { IfOk result (IsLoaded frames (memory_of snapshot)) }
     {
         let areas = loading::areas_of(alloc, frames, &snapshot)?;
-        let mut mappings = Mappings::new(alloc, frames);
-        loading::load(&mut mappings, snapshot)?;
-        Ok(Memory { mappings, areas })
+        let mut paging = Paging::new(alloc, frames);
+        loading::load(&mut paging, snapshot)?;
+        Ok(Memory { paging, areas })
     }
 
     /// Maps the whole pages of a range with these permissions and zeros, whatever was mapped
@@ -135,7 +135,7 @@ impl Memory {
         ensures err { OnErr result (self.new ≡ self.old) }
     {
         range_calls::mmap(
-            &mut self.mappings,
+            &mut self.paging,
             &mut self.areas,
             space,
             address,
@@ -158,7 +158,7 @@ impl Memory {
         ensures memory { OnOk result (plain_of self.new ≡ after_munmap (plain_of self.old) space address bytes) }
         ensures err { OnErr result (self.new ≡ self.old) }
     {
-        range_calls::munmap(&mut self.mappings, &mut self.areas, space, address, bytes)
+        range_calls::munmap(&mut self.paging, &mut self.areas, space, address, bytes)
     }
 
     /// Gives the whole pages of a range these permissions, as `mprotect` of POSIX.1-2017 does, and
@@ -183,7 +183,7 @@ impl Memory {
         ensures err { OnErr result (self.new ≡ self.old) }
     {
         range_calls::mprotect(
-            &mut self.mappings,
+            &mut self.paging,
             &mut self.areas,
             space,
             address,
@@ -206,7 +206,7 @@ impl Memory {
         ensures memory { IfOk result (λ child. plain_of self.new ≡ after_fork (plain_of self.old) space child) }
         ensures err { OnErr result (self.new ≡ self.old) }
     {
-        fork_calls::fork(&mut self.mappings, &mut self.areas, space)
+        fork_calls::fork(&mut self.paging, &mut self.areas, space)
     }
 
     /// Ends a space. It takes no memory.
@@ -214,17 +214,17 @@ impl Memory {
     /// # Errors
     ///
     /// In this order: no-such-space; last-space where it is the only one. An error changes nothing.
-    pub fn exit(&mut self, space: SpaceId) -> Result<(), Denied>
+    pub fn exit(&mut self, space: SpaceId) -> Result<(), AccessError>
         ensures due { result ≡ answer (exit_due (plain_of self.old) space) tt }
         ensures step { OnOk result (Step self.old (Exited space) self.new) }
         ensures memory { OnOk result (plain_of self.new ≡ after_exit (plain_of self.old) space) }
         ensures err { OnErr result (self.new ≡ self.old) }
     {
-        fork_calls::exit(&mut self.mappings, &mut self.areas, space)
+        fork_calls::exit(&mut self.paging, &mut self.areas, space)
     }
 
     /// Where an access is, if it may be made.
-    fn place(&self, space: SpaceId, address: u64, bytes: usize, need: Need) -> Result<Place, Denied>
+    fn place(&self, space: SpaceId, address: u64, bytes: usize, need: Access) -> Result<Place, AccessError>
         ensures page { IfOk result (λ place. place.page ≡ page_of address) }
         ensures offset { IfOk result (λ place. place.offset ≡ address % 4096) }
         ensures within { IfOk result (λ place. place.offset + bytes ≤ 4096) }
@@ -232,30 +232,30 @@ impl Memory {
         ensures ok { OnOk result (access_due (plain_of self.now) space address bytes need ≡ None) }
         ensures refused { IfErr result (λ denied. access_due (plain_of self.now) space address bytes need ≡ Some denied) }
     {
-        if !self.mappings.is_alive(space) {
-            return Err(Denied::Refused(Refusal::NoSuchSpace));
+        if !self.paging.is_alive(space) {
+            return Err(AccessError::Refused(MemoryRefusal::NoSuchSpace));
         }
         let offset = (address % PAGE_BYTES) as usize;
         if is_bad_access(offset, bytes) {
-            return Err(Denied::Refused(Refusal::Einval));
+            return Err(AccessError::Refused(MemoryRefusal::Einval));
         }
         let page = self.permitted(space, address, need)?;
         Ok(Place { page, offset })
     }
 
     /// The page of an address, if it is mapped with the permission that the access needs.
-    fn permitted(&self, space: SpaceId, address: u64, need: Need) -> Result<PageNo, Denied>
+    fn permitted(&self, space: SpaceId, address: u64, need: Access) -> Result<PageNo, AccessError>
         ensures page { IfOk result (λ page. page ≡ page_of address) }
         ensures ok { OnOk result (page_due need (value_at (plain_of self.now) space (page_of address)) ≡ None) }
         ensures refused { IfErr result (λ denied. page_due need (value_at (plain_of self.now) space (page_of address)) ≡ Some denied) }
     {
-        let Some(found) = self.mappings.find(space, address) else {
-            return Err(Denied::Segv(Segv::Maperr));
+        let Some(found) = self.paging.find(space, address) else {
+            return Err(AccessError::Segv(Segv::Maperr));
         };
         if allows(need, found.1.prot) {
             Ok(found.0)
         } else {
-            Err(Denied::Segv(Segv::Accerr))
+            Err(AccessError::Segv(Segv::Accerr))
         }
     }
 
@@ -266,14 +266,14 @@ impl Memory {
     ///
     /// In this order: no-such-space; EINVAL for 0 bytes, over 64, or across a page's end; maperr
     /// where the page isn't mapped; accerr where it can't be read. An error leaves the buffer.
-    pub fn load(&self, space: SpaceId, address: u64, buffer: &mut [u8]) -> Result<(), Denied>
+    pub fn load(&self, space: SpaceId, address: u64, buffer: &mut [u8]) -> Result<(), AccessError>
         ensures due { result ≡ answer (access_due (plain_of self.now) space address (length buffer.old) Read) tt }
         ensures bytes { OnOk result (IfSome (page_at self.now space (page_of address)) (λ (page : Page).
             buffer.new ≡ slice_range page.bytes (address % 4096) (address % 4096 + length buffer.old))) }
         ensures err { OnErr result (buffer.new ≡ buffer.old) }
     {
-        let place = self.place(space, address, buffer.len(), Need::Read)?;
-        if let Some(bytes) = self.mappings.bytes(space, place.page) {
+        let place = self.place(space, address, buffer.len(), Access::Read)?;
+        if let Some(bytes) = self.paging.bytes(space, place.page) {
             buffer.copy_from_slice(&bytes[place.offset..place.offset + buffer.len()]);
         }
         Ok(())
@@ -285,20 +285,20 @@ impl Memory {
     /// # Errors
     ///
     /// As of `load`, where the permission is to write. An error changes nothing.
-    pub fn try_store(&mut self, space: SpaceId, address: u64, bytes: &[u8]) -> Result<Tried, Denied>
-        ensures due { result ≡ tried self.old space address (length bytes.now) }
+    pub fn try_store(&mut self, space: SpaceId, address: u64, bytes: &[u8]) -> Result<StoreOutcome, AccessError>
+        ensures due { result ≡ try_outcome self.old space address (length bytes.now) }
         ensures step { result ≡ Ok Done → Step self.old (TriedEvent space (page_of address) (address % 4096) bytes.now) self.new }
         ensures memory { result ≡ Ok Done → plain_of self.new ≡ after_store (plain_of self.old) space address bytes.now }
         ensures needs_fault { result ≡ Ok NeedsFault → self.new ≡ self.old }
         ensures err { OnErr result (self.new ≡ self.old) }
     {
-        let place = self.place(space, address, bytes.len(), Need::Write)?;
-        match self.mappings.entry(space, place.page) {
+        let place = self.place(space, address, bytes.len(), Access::Write)?;
+        match self.paging.entry(space, place.page) {
             Some(entry) if entry.writable => {
-                self.mappings.write(space, place.page, place.offset, bytes);
-                Ok(Tried::Done)
+                self.paging.write(space, place.page, place.offset, bytes);
+                Ok(StoreOutcome::Done)
             }
-            _ => Ok(Tried::NeedsFault),
+            _ => Ok(StoreOutcome::NeedsFault),
         }
     }
 
@@ -316,11 +316,11 @@ impl Memory {
         ensures memory { plain_of self.new ≡ plain_of self.old }
         ensures err { OnErr result (self.new ≡ self.old) }
     {
-        if !self.mappings.is_alive(space) {
-            return Err(Refusal::NoSuchSpace.into());
+        if !self.paging.is_alive(space) {
+            return Err(MemoryRefusal::NoSuchSpace.into());
         }
-        let page = self.permitted(space, address, Need::Write)?;
-        self.mappings.open(space, page)
+        let page = self.permitted(space, address, Access::Write)?;
+        self.paging.open(space, page)
     }
 
     /// Stores 1 to 64 bytes from an address on, within one page, with a fault where one is needed.
@@ -339,9 +339,9 @@ impl Memory {
         ensures memory { OnOk result (plain_of self.new ≡ after_store (plain_of self.old) space address bytes.now) }
         ensures err { OnErr result (self.new ≡ self.old) }
     {
-        let place = self.place(space, address, bytes.len(), Need::Write)?;
-        self.mappings.open(space, place.page)?;
-        self.mappings.write(space, place.page, place.offset, bytes);
+        let place = self.place(space, address, bytes.len(), Access::Write)?;
+        self.paging.open(space, place.page)?;
+        self.paging.write(space, place.page, place.offset, bytes);
         Ok(())
     }
 
@@ -353,8 +353,8 @@ impl Memory {
         ensures memory { plain_of self.new ≡ plain_of self.old }
         ensures none { result ≡ None → self.new ≡ self.old }
     {
-        let entry = self.mappings.entry(space, page)?;
-        self.mappings.close(space, page, entry.prot, false);
+        let entry = self.paging.entry(space, page)?;
+        self.paging.close(space, page, entry.prot, false);
         Some(entry.soft_dirty)
     }
 
@@ -374,7 +374,7 @@ impl Memory {
             bytes.new ≡ slice_range found.bytes (512 * sector) (512 * sector + 512)) }
         ensures none { result ≡ false → bytes.new ≡ bytes.old }
     {
-        let Some(found) = self.mappings.bytes(space, page) else {
+        let Some(found) = self.paging.bytes(space, page) else {
             return false;
         };
         let start = SECTOR_SIZE * sector;
@@ -388,7 +388,7 @@ impl Memory {
     pub fn word(&self, space: SpaceId, page: PageNo) -> u64
         ensures { result ≡ word_at self.now space page }
     {
-        self.mappings.word(space, page)
+        self.paging.word(space, page)
     }
 
     /// The least mapped page above another, by space and then by page; with none, the least of all.
@@ -399,7 +399,7 @@ impl Memory {
         let Some((space, page)) = after else {
             return self.first_page(0);
         };
-        match self.mappings.first_from(space, Bound::Excluded(page)) {
+        match self.paging.first_from(space, Bound::Excluded(page)) {
             Some(next) => Some((space, next)),
             None => self.first_page(space.number()),
         }
@@ -425,7 +425,7 @@ impl Memory {
         ensures sound { IsSound self.now }
     {
         let space = SpaceId::new(number);
-        let page = self.mappings.first_in(space)?;
+        let page = self.paging.first_in(space)?;
         (above < number).then_some((space, page))
     }
 
@@ -436,7 +436,7 @@ impl Memory {
     pub fn sound(&self)
         ensures { IsSound self.now }
     {
-        let _mapped = self.mappings.mapped();
+        let _mapped = self.paging.mapped();
     }
 
     /// The areas of a space, at most 1,024, or none where it isn't alive.
@@ -456,11 +456,11 @@ fn is_bad_access(offset: usize, bytes: usize) -> bool
 }
 
 /// Whether permissions allow an access.
-fn allows(need: Need, prot: Prot) -> bool
+fn allows(need: Access, prot: Prot) -> bool
     ensures { result ≡ allows need prot }
 {
     match need {
-        Need::Read => prot.read,
-        Need::Write => prot.write,
+        Access::Read => prot.read,
+        Access::Write => prot.write,
     }
 }

@@ -1,5 +1,5 @@
-use crate::denied::Denied;
-use crate::refusal::Refusal;
+use crate::access_error::AccessError;
+use crate::memory_refusal::MemoryRefusal;
 use sd_areas::{AreaError, Errno};
 use std::alloc::AllocError;
 use thiserror::Error;
@@ -9,7 +9,7 @@ use thiserror::Error;
 pub enum MemoryError {
     /// A rule forbids it.
     #[error("{0}")]
-    Denied(Denied),
+    Denied(AccessError),
     /// A growth was refused.
     #[error("out-of-memory")]
     OutOfMemory,
@@ -26,26 +26,26 @@ impl From<AllocError> for MemoryError {
     }
 }
 
-impl From<Denied> for MemoryError {
+impl From<AccessError> for MemoryError {
     ghost use Rattle.std.specs.Prelude.{◌≡◌};
     ghost use Rattle.sd_pagetable.specs.declared.memory_error.MemoryError.TheVariants.{Denied as DeniedError};
 
     ghost from_gives = { λ denied e. e ≡ DeniedError denied };
 
-    fn from(denied: Denied) -> MemoryError {
+    fn from(denied: AccessError) -> MemoryError {
         MemoryError::Denied(denied)
     }
 }
 
-impl From<Refusal> for MemoryError {
+impl From<MemoryRefusal> for MemoryError {
     ghost use Rattle.std.specs.Prelude.{◌≡◌};
-    ghost use Rattle.sd_pagetable.specs.declared.denied.Denied.TheVariants.{Refused};
+    ghost use Rattle.sd_pagetable.specs.declared.access_error.AccessError.TheVariants.{Refused};
     ghost use Rattle.sd_pagetable.specs.declared.memory_error.MemoryError.TheVariants.{Denied as DeniedError};
 
     ghost from_gives = { λ refusal e. e ≡ DeniedError (Refused refusal) };
 
-    fn from(refusal: Refusal) -> MemoryError {
-        MemoryError::Denied(Denied::Refused(refusal))
+    fn from(refusal: MemoryRefusal) -> MemoryError {
+        MemoryError::Denied(AccessError::Refused(refusal))
     }
 }
 
@@ -57,8 +57,8 @@ impl From<AreaError> for MemoryError {
 
     fn from(error: AreaError) -> MemoryError {
         match error {
-            AreaError::Refused(Errno::Einval) => Refusal::Einval.into(),
-            AreaError::Refused(Errno::Enomem) => Refusal::Enomem.into(),
+            AreaError::Refused(Errno::Einval) => MemoryRefusal::Einval.into(),
+            AreaError::Refused(Errno::Enomem) => MemoryRefusal::Enomem.into(),
             AreaError::OutOfMemory => MemoryError::OutOfMemory,
         }
     }

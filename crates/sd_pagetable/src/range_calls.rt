@@ -4,9 +4,9 @@ ghost use Rattle.std.specs.Ordering.{nat_cmp};
 ghost use Rattle.std.specs.BTreeMap.{get};
 ghost use Rattle.sd_areas.specs.Calls.{mapped, unmapped, protected};
 ghost use Rattle.sd_areas.specs.Pages.{page_of, pages_for, pages_from};
-ghost use Rattle.sd_pagetable.specs.declared.denied.Denied.TheVariants.{Refused};
+ghost use Rattle.sd_pagetable.specs.declared.access_error.AccessError.TheVariants.{Refused};
 ghost use Rattle.sd_pagetable.specs.declared.memory_error.MemoryError.TheVariants.{Denied as DeniedError, OutOfMemory};
-ghost use Rattle.sd_pagetable.specs.declared.refusal.Refusal.TheVariants.{Enomem, NoSuchSpace};
+ghost use Rattle.sd_pagetable.specs.declared.memory_refusal.MemoryRefusal.TheVariants.{Enomem, NoSuchSpace};
 ghost use Rattle.sd_pagetable.specs.Nested.{inside, is_alive, set_within, change_within};
 ghost use Rattle.sd_pagetable.specs.Page.{Page, fresh_page, protected_page};
 ghost use Rattle.sd_pagetable.specs.Contents.{Contents, page_at, page_count, plain_of};
@@ -16,10 +16,10 @@ ghost use Rattle.sd_pagetable.specs.Kept.{HasAreas, prots_of};
 ghost use Rattle.sd_pagetable.specs.RangeCalls.{Refuses};
 ghost use Rattle.sd_pagetable.specs.Tracking.{Step, Mapped, Unmapped, Protected, with_space};
 
-use crate::mappings::{MAPPED_LIMIT, Mappings};
+use crate::paging::{MAPPED_LIMIT, Paging};
 use crate::memory_error::MemoryError;
 use crate::ranges::{fill, holes, protect, renew, unfill, unmap};
-use crate::refusal::Refusal;
+use crate::memory_refusal::MemoryRefusal;
 use sd_areas::{
     AreaMap, PAGE_SIZE, PageNo, Prot, SpaceId, mapped_law, protected_law, unmapped_law,
 };
@@ -46,7 +46,7 @@ pub(crate) fn copy_in(areas: &Areas, space: SpaceId) -> Result<AreaMap, MemoryEr
     ensures errors { IfErr result (λ e. (e ≡ OutOfMemory) ⊎ (e ≡ DeniedError (Refused NoSuchSpace))) }
 {
     let Some(own) = areas.get(&space) else {
-        return Err(Refusal::NoSuchSpace.into());
+        return Err(MemoryRefusal::NoSuchSpace.into());
     };
     Ok(copy_of(own)?)
 }
@@ -113,137 +113,137 @@ fn with_protected(
 }
 
 /// Whether a run can be mapped without passing the limit of pages.
-fn has_room(mappings: &Mappings, own: &AreaMap, first: u64, end: u64) -> bool
+fn has_room(paging: &Paging, own: &AreaMap, first: u64, end: u64) -> bool
     requires ordered { first ≤ end }
     requires within { end ≤ 2 ^ 35 }
-    ensures fits { (space : ℕ) → own.now ≡ prots_of (inside mappings.now.spaces space) → result ≡ true
-        → page_count mappings.now.spaces + count_by (λ page. not (is_some (page_at mappings.now space page))) (pages_from first (end - first)) ≤ 65536 }
-    ensures full { (space : ℕ) (page : Page) → own.now ≡ prots_of (inside mappings.now.spaces space) → result ≡ false
-        → 65536 < page_count (with_space mappings.now space (set_within (inside mappings.now.spaces space) first (end - first) page)).spaces }
+    ensures fits { (space : ℕ) → own.now ≡ prots_of (inside paging.now.spaces space) → result ≡ true
+        → page_count paging.now.spaces + count_by (λ page. not (is_some (page_at paging.now space page))) (pages_from first (end - first)) ≤ 65536 }
+    ensures full { (space : ℕ) (page : Page) → own.now ≡ prots_of (inside paging.now.spaces space) → result ≡ false
+        → 65536 < page_count (with_space paging.now space (set_within (inside paging.now.spaces space) first (end - first) page)).spaces }
 {
     if end - first > MAPPED_LIMIT {
         return false;
     }
-    mappings.mapped() + holes(own, first, end) <= MAPPED_LIMIT
+    paging.mapped() + holes(own, first, end) <= MAPPED_LIMIT
 }
 
 /// Maps each page of a run anew.
 fn map_run(
-    mappings: &mut Mappings,
+    paging: &mut Paging,
     own: &AreaMap,
     space: SpaceId,
     first: u64,
     end: u64,
     prot: Prot,
 ) -> Result<(), MemoryError>
-    requires alive { is_alive mappings.old.spaces space ≡ true }
-    requires areas { own.now ≡ prots_of (inside mappings.old.spaces space) }
+    requires alive { is_alive paging.old.spaces space ≡ true }
+    requires areas { own.now ≡ prots_of (inside paging.old.spaces space) }
     requires ordered { first ≤ end }
     requires within { end ≤ 2 ^ 35 }
-    ensures ok { OnOk result (mappings.new ≡ with_space mappings.old space (set_within (inside mappings.old.spaces space) first (end - first) (fresh_page prot))) }
-    ensures few { OnOk result (page_count mappings.new.spaces ≤ 65536) }
+    ensures ok { OnOk result (paging.new ≡ with_space paging.old space (set_within (inside paging.old.spaces space) first (end - first) (fresh_page prot))) }
+    ensures few { OnOk result (page_count paging.new.spaces ≤ 65536) }
     ensures many { result ≡ Err (DeniedError (Refused Enomem))
-        → 65536 < page_count (with_space mappings.old space (set_within (inside mappings.old.spaces space) first (end - first) (fresh_page prot))).spaces }
+        → 65536 < page_count (with_space paging.old space (set_within (inside paging.old.spaces space) first (end - first) (fresh_page prot))).spaces }
     ensures errors { IfErr result (λ e. (e ≡ OutOfMemory) ⊎ (e ≡ DeniedError (Refused Enomem))) }
-    ensures err { OnErr result (mappings.new ≡ mappings.old) }
+    ensures err { OnErr result (paging.new ≡ paging.old) }
 {
-    if !has_room(mappings, own, first, end) {
-        return Err(Refusal::Enomem.into());
+    if !has_room(paging, own, first, end) {
+        return Err(MemoryRefusal::Enomem.into());
     }
-    let reached = fill(mappings, space, first, end, prot);
+    let reached = fill(paging, space, first, end, prot);
     if reached < end {
-        unfill(mappings, space, first, reached, own);
+        unfill(paging, space, first, reached, own);
         return Err(MemoryError::OutOfMemory);
     }
-    renew(mappings, space, first, end, prot);
-    let _few = mappings.mapped();
+    renew(paging, space, first, end, prot);
+    let _few = paging.mapped();
     Ok(())
 }
 
 /// `munmap` over the pages of all spaces and the areas beside them.
 pub(crate) fn munmap(
-    mappings: &mut Mappings,
+    paging: &mut Paging,
     areas: &mut Areas,
     space: SpaceId,
     address: u64,
     bytes: u64,
 ) -> Result<(), MemoryError>
-    requires kept { HasAreas areas.old mappings.old }
-    ensures kept { HasAreas areas.new mappings.new }
-    ensures due { Answers (munmap_due (plain_of mappings.old) space address bytes) result }
-    ensures step { OnOk result (Step mappings.old (Unmapped space (page_of address) (pages_for bytes)) mappings.new) }
-    ensures memory { OnOk result (plain_of mappings.new ≡ after_munmap (plain_of mappings.old) space address bytes) }
-    ensures err { OnErr result (mappings.new ≡ mappings.old) }
+    requires kept { HasAreas areas.old paging.old }
+    ensures kept { HasAreas areas.new paging.new }
+    ensures due { Answers (munmap_due (plain_of paging.old) space address bytes) result }
+    ensures step { OnOk result (Step paging.old (Unmapped space (page_of address) (pages_for bytes)) paging.new) }
+    ensures memory { OnOk result (plain_of paging.new ≡ after_munmap (plain_of paging.old) space address bytes) }
+    ensures err { OnErr result (paging.new ≡ paging.old) }
 {
     unmapped_law();
     let own = with_unmapped(areas, space, address, bytes)?;
     let first = address / PAGE_BYTES;
     let end = first + bytes.div_ceil(PAGE_BYTES);
     let page = PageNo::new(first).unwrap();
-    unmap(mappings, space, page, end);
+    unmap(paging, space, page, end);
     put_areas(areas, space, own);
     Ok(())
 }
 
 /// Gives the whole pages of a range permissions, and takes the writable bit of each. A range of no bytes has none.
-fn protect_range(mappings: &mut Mappings, space: SpaceId, address: u64, bytes: u64, prot: Prot)
-    requires alive { is_alive mappings.old.spaces space ≡ true }
+fn protect_range(paging: &mut Paging, space: SpaceId, address: u64, bytes: u64, prot: Prot)
+    requires alive { is_alive paging.old.spaces space ≡ true }
     requires within { bytes ≢ 0 → page_of address + pages_for bytes ≤ 2 ^ 35 }
-    ensures { mappings.new ≡ with_space mappings.old space (change_within (protected_page prot) (inside mappings.old.spaces space) (page_of address) (pages_for bytes)) }
+    ensures { paging.new ≡ with_space paging.old space (change_within (protected_page prot) (inside paging.old.spaces space) (page_of address) (pages_for bytes)) }
 {
     if bytes == 0 {
         return;
     }
     let first = address / PAGE_BYTES;
     let end = first + bytes.div_ceil(PAGE_BYTES);
-    protect(mappings, space, first, end, prot);
+    protect(paging, space, first, end, prot);
 }
 
 /// `mprotect` over the pages of all spaces and the areas beside them.
 pub(crate) fn mprotect(
-    mappings: &mut Mappings,
+    paging: &mut Paging,
     areas: &mut Areas,
     space: SpaceId,
     address: u64,
     bytes: u64,
     prot: Prot,
 ) -> Result<(), MemoryError>
-    requires kept { HasAreas areas.old mappings.old }
-    ensures kept { HasAreas areas.new mappings.new }
-    ensures due { Answers (mprotect_due (plain_of mappings.old) space address bytes prot) result }
-    ensures step { OnOk result (Step mappings.old (Protected space (page_of address) (pages_for bytes) prot) mappings.new) }
-    ensures memory { OnOk result (plain_of mappings.new ≡ after_mprotect (plain_of mappings.old) space address bytes prot) }
-    ensures err { OnErr result (mappings.new ≡ mappings.old) }
+    requires kept { HasAreas areas.old paging.old }
+    ensures kept { HasAreas areas.new paging.new }
+    ensures due { Answers (mprotect_due (plain_of paging.old) space address bytes prot) result }
+    ensures step { OnOk result (Step paging.old (Protected space (page_of address) (pages_for bytes) prot) paging.new) }
+    ensures memory { OnOk result (plain_of paging.new ≡ after_mprotect (plain_of paging.old) space address bytes prot) }
+    ensures err { OnErr result (paging.new ≡ paging.old) }
 {
     protected_law();
     let own = with_protected(areas, space, address, bytes, prot)?;
-    protect_range(mappings, space, address, bytes, prot);
+    protect_range(paging, space, address, bytes, prot);
     put_areas(areas, space, own);
     Ok(())
 }
 
 /// `mmap` over the pages of all spaces and the areas beside them.
 pub(crate) fn mmap(
-    mappings: &mut Mappings,
+    paging: &mut Paging,
     areas: &mut Areas,
     space: SpaceId,
     address: u64,
     bytes: u64,
     prot: Prot,
 ) -> Result<(), MemoryError>
-    requires kept { HasAreas areas.old mappings.old }
-    ensures kept { HasAreas areas.new mappings.new }
-    ensures due { Answers (mmap_due (plain_of mappings.old) space address bytes prot) result }
-    ensures step { OnOk result (Step mappings.old (Mapped space (page_of address) (pages_for bytes) prot) mappings.new) }
-    ensures memory { OnOk result (plain_of mappings.new ≡ after_mmap (plain_of mappings.old) space address bytes prot) }
-    ensures err { OnErr result (mappings.new ≡ mappings.old) }
+    requires kept { HasAreas areas.old paging.old }
+    ensures kept { HasAreas areas.new paging.new }
+    ensures due { Answers (mmap_due (plain_of paging.old) space address bytes prot) result }
+    ensures step { OnOk result (Step paging.old (Mapped space (page_of address) (pages_for bytes) prot) paging.new) }
+    ensures memory { OnOk result (plain_of paging.new ≡ after_mmap (plain_of paging.old) space address bytes prot) }
+    ensures err { OnErr result (paging.new ≡ paging.old) }
 {
     mapped_law();
     let own = with_mapped(areas, space, address, bytes, prot)?;
     let first = address / PAGE_BYTES;
     let end = first + bytes.div_ceil(PAGE_BYTES);
     let before = areas.get(&space).unwrap();
-    map_run(mappings, before, space, first, end, prot)?;
+    map_run(paging, before, space, first, end, prot)?;
     put_areas(areas, space, own);
     Ok(())
 }

@@ -1,4 +1,4 @@
-use super::{Denied, Memory, MemoryError, Refusal, Segv, Tried};
+use super::{AccessError, Memory, MemoryError, MemoryRefusal, Segv, StoreOutcome};
 use sd_areas::{PageNo, Prot, SpaceId};
 use std::test::Fail;
 
@@ -14,11 +14,11 @@ const READ: Prot = Prot {
     execute: false,
 };
 
-const EINVAL: MemoryError = MemoryError::Denied(Denied::Refused(Refusal::Einval));
+const EINVAL: MemoryError = MemoryError::Denied(AccessError::Refused(MemoryRefusal::Einval));
 
-const ENOMEM: MemoryError = MemoryError::Denied(Denied::Refused(Refusal::Enomem));
+const ENOMEM: MemoryError = MemoryError::Denied(AccessError::Refused(MemoryRefusal::Enomem));
 
-const NO_FRAME: MemoryError = MemoryError::Denied(Denied::Refused(Refusal::NoFrame));
+const NO_FRAME: MemoryError = MemoryError::Denied(AccessError::Refused(MemoryRefusal::NoFrame));
 
 /// A pool of one frame: a second page gets it once the first is unmapped.
 #[test]
@@ -59,16 +59,16 @@ fn exact_bits(rt: HostRuntime) -> Result<(), Fail> {
     assert_eq!(rt; memory.word(space, next), 0);
     assert_eq!(rt;
         memory.try_store(space, 0x10000, &[0x61]),
-        Ok(Tried::NeedsFault)
+        Ok(StoreOutcome::NeedsFault)
     );
     assert_eq!(rt; memory.fault(space, 0x10000), Ok(()));
-    assert_eq!(rt; memory.try_store(space, 0x10000, &[0x61]), Ok(Tried::Done));
+    assert_eq!(rt; memory.try_store(space, 0x10000, &[0x61]), Ok(StoreOutcome::Done));
     assert_eq!(rt; memory.word(space, page), DIRTY_ALONE);
     assert_eq!(rt; memory.test_and_clear(space, page), Some(true));
     assert_eq!(rt; memory.word(space, page), CLEAN_ALONE);
     assert_eq!(rt;
         memory.try_store(space, 0x10000, &[0x62]),
-        Ok(Tried::NeedsFault)
+        Ok(StoreOutcome::NeedsFault)
     );
     let mut sector = [7; 512];
     assert!(rt; memory.read_sector(space, page, 0, &mut sector));
@@ -104,15 +104,15 @@ fn copy_on_write(rt: HostRuntime) -> Result<(), Fail> {
     assert_eq!(rt; memory.exit(child), Ok(()));
     assert_eq!(rt;
         memory.exit(parent),
-        Err(Denied::Refused(Refusal::LastSpace))
+        Err(AccessError::Refused(MemoryRefusal::LastSpace))
     );
     assert_eq!(rt;
         memory.load(child, 0x10000, &mut byte),
-        Err(Denied::Refused(Refusal::NoSuchSpace))
+        Err(AccessError::Refused(MemoryRefusal::NoSuchSpace))
     );
     assert_eq!(rt;
         memory.load(parent, 0x20000, &mut byte),
-        Err(Denied::Segv(Segv::Maperr))
+        Err(AccessError::Segv(Segv::Maperr))
     );
     Ok(())
 }
@@ -133,18 +133,18 @@ fn refusals(rt: HostRuntime) -> Result<(), Fail> {
     assert_eq!(rt; memory.munmap(space, 0x20000, 4096), Ok(()));
     assert_eq!(rt;
         memory.store_now(space, 0x10000, &[0x61]),
-        Err(MemoryError::Denied(Denied::Segv(Segv::Accerr)))
+        Err(MemoryError::Denied(AccessError::Segv(Segv::Accerr)))
     );
     assert_eq!(rt;
         memory.store_now(space, 0x20000, &[0x61]),
-        Err(MemoryError::Denied(Denied::Segv(Segv::Maperr)))
+        Err(MemoryError::Denied(AccessError::Segv(Segv::Maperr)))
     );
     let mut bytes = [9; 2];
     assert_eq!(rt; memory.load(space, 0x10000, &mut bytes), Ok(()));
     assert_eq!(rt; bytes, [0, 0]);
     assert_eq!(rt;
         memory.load(SpaceId::new(9), 0x10000, &mut bytes),
-        Err(Denied::Refused(Refusal::NoSuchSpace))
+        Err(AccessError::Refused(MemoryRefusal::NoSuchSpace))
     );
     Ok(())
 }
@@ -156,14 +156,14 @@ fn spaces(rt: HostRuntime) -> Result<(), Fail> {
     let first = SpaceId::new(1);
     assert_eq!(rt;
         memory.exit(first),
-        Err(Denied::Refused(Refusal::LastSpace))
+        Err(AccessError::Refused(MemoryRefusal::LastSpace))
     );
     for number in 2..=16 {
         assert_eq!(rt; memory.fork(first), Ok(SpaceId::new(number)));
     }
     assert_eq!(rt;
         memory.fork(first),
-        Err(MemoryError::Denied(Denied::Refused(Refusal::TooManySpaces)))
+        Err(MemoryError::Denied(AccessError::Refused(MemoryRefusal::TooManySpaces)))
     );
     assert_eq!(rt; memory.exit(SpaceId::new(3)), Ok(()));
     assert_eq!(rt; memory.fork(first), Ok(SpaceId::new(3)));

@@ -1,6 +1,6 @@
 use super::{ClearError, NoSuchSpace, clear_refs, listing, pagemap};
 use sd_areas::{PageNo, Prot, SpaceId};
-use sd_pagetable::{Memory, Tried};
+use sd_pagetable::{Memory, StoreOutcome};
 use std::test::Fail;
 
 const READ_WRITE: Prot = Prot {
@@ -48,7 +48,7 @@ fn exact_bits(rt: HostRuntime) -> Result<(), Fail> {
 fn clears_past_holes(rt: HostRuntime) -> Result<(), Fail> {
     let mut memory = two_pages(&rt)?;
     let space = SpaceId::new(1);
-    assert_eq!(rt; memory.try_store(space, 0x10000, &[0x62]), Ok(Tried::Done));
+    assert_eq!(rt; memory.try_store(space, 0x10000, &[0x62]), Ok(StoreOutcome::Done));
     assert_eq!(rt; clear_refs(&mut memory, space, b"4\n"), Ok(()));
     let first = PageNo::new(16).ok_or("no page")?;
     let mut words = [7; 24];
@@ -57,7 +57,7 @@ fn clears_past_holes(rt: HostRuntime) -> Result<(), Fail> {
     assert_eq!(rt; &words[8..], [0; 16].as_slice());
     assert_eq!(rt;
         memory.try_store(space, 0x10000, &[0x63]),
-        Ok(Tried::NeedsFault)
+        Ok(StoreOutcome::NeedsFault)
     );
     Ok(())
 }

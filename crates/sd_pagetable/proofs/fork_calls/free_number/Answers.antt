@@ -9,14 +9,14 @@ loop-number-init c = record { alive = λ q from below. absurd (omega (arith, fro
 pub returns-then-not-is_alive : goal.returns-then-not-is_alive
 returns-then-not-is_alive c =
     let is : c.new-space.result ≡ c.loop-number.number = c.new-space.ensures in
-    let free : is_alive c.args.mappings.now.spaces c.loop-number.number ≡ false = ap (is_alive c.args.mappings.now.spaces) (sym is) ∙ sym c.is_alive.ensures ∙ c.if-not-is_alive.true in
-    is_free c.args.mappings.now c.loop-number.number c.new-space.result is c.requires c.loop-number.auto.number c.loop-number-test.true free c.loop-number.invariant.alive
+    let free : is_alive c.args.paging.now.spaces c.loop-number.number ≡ false = ap (is_alive c.args.paging.now.spaces) (sym is) ∙ sym c.is_alive.ensures ∙ c.if-not-is_alive.true in
+    is_free c.args.paging.now c.loop-number.number c.new-space.result is c.requires c.loop-number.auto.number c.loop-number-test.true free c.loop-number.invariant.alive
 
 pub loop-number-preserved : goal.loop-number-preserved
 loop-number-preserved c =
     let is : c.new-space.result ≡ c.loop-number.number = c.new-space.ensures in
-    let alive : is_alive c.args.mappings.now.spaces c.loop-number.number ≡ true = ap (is_alive c.args.mappings.now.spaces) (sym is) ∙ sym c.is_alive.ensures ∙ c.if-not-is_alive.false in
-    record { alive = one_alive_more c.args.mappings.now c.loop-number.number alive c.loop-number.invariant.alive }
+    let alive : is_alive c.args.paging.now.spaces c.loop-number.number ≡ true = ap (is_alive c.args.paging.now.spaces) (sym is) ∙ sym c.is_alive.ensures ∙ c.if-not-is_alive.false in
+    record { alive = one_alive_more c.args.paging.now c.loop-number.number alive c.loop-number.invariant.alive }
 
 pub returns : goal.returns
-returns c = has_sixteen c.args.mappings.now c.loop-number.number c.loop-number-test.false c.loop-number.invariant.alive
+returns c = has_sixteen c.args.paging.now c.loop-number.number c.loop-number-test.false c.loop-number.invariant.alive

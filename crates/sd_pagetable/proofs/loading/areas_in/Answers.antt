@@ -8,8 +8,8 @@ use Rattle.sd_areas.specs.Areas.{PageMap, areas_of}
 use Rattle.sd_areas.specs.Calls as area_calls
 use Rattle.sd_areas.specs.Calls.{within_areas}
 use Rattle.sd_areas.specs.Memory.{space_of, prots_of}
-use Rattle.sd_pagetable.specs.declared.denied.Denied.TheVariants.{Refused}
-use Rattle.sd_pagetable.specs.declared.refusal.Refusal.TheVariants.{Enomem}
+use Rattle.sd_pagetable.specs.declared.access_error.AccessError.TheVariants.{Refused}
+use Rattle.sd_pagetable.specs.declared.memory_refusal.MemoryRefusal.TheVariants.{Enomem}
 use Rattle.sd_pagetable.specs.declared.memory_error.MemoryError.{MemoryError}
 use Rattle.sd_pagetable.specs.declared.memory_error.MemoryError.TheVariants.{Denied as DeniedError, OutOfMemory}
 use Rattle.sd_pagetable.specs.AreaErrors.{error_of}

@@ -8,25 +8,25 @@ use Rattle.sd_pagetable.proofs.RangeDue.{filled_back, filled_there, renewed_run}
 use Rattle.sd_pagetable.proofs.range_calls.map_run.Goals as goal
 
 pub unfill-requires-clause-alive : goal.unfill-requires-clause-alive
-unfill-requires-clause-alive c = ap (λ (m : Contents). is_alive m.spaces c.args.space) c.fill-reached.ensures.filled ∙ alive_with c.args.mappings.now c.args.space _
+unfill-requires-clause-alive c = ap (λ (m : Contents). is_alive m.spaces c.args.space) c.fill-reached.ensures.filled ∙ alive_with c.args.paging.now c.args.space _
 
 pub returns-then-reached-end-clause-err : goal.returns-then-reached-end-clause-err
-returns-then-reached-end-clause-err c = filled_back c.args.mappings.now c.fill-reached.new.mappings c.unfill.new.mappings c.args.space c.args.first c.fill-reached.result (fresh_page c.args.prot) c.args.own.now
+returns-then-reached-end-clause-err c = filled_back c.args.paging.now c.fill-reached.new.paging c.unfill.new.paging c.args.space c.args.first c.fill-reached.result (fresh_page c.args.prot) c.args.own.now
     c.requires.alive c.requires.areas c.fill-reached.ensures.filled c.unfill.ensures
 
 pub renew-requires-clause-alive : goal.renew-requires-clause-alive
-renew-requires-clause-alive c = ap (λ (m : Contents). is_alive m.spaces c.args.space) c.fill-reached.ensures.filled ∙ alive_with c.args.mappings.now c.args.space _
+renew-requires-clause-alive c = ap (λ (m : Contents). is_alive m.spaces c.args.space) c.fill-reached.ensures.filled ∙ alive_with c.args.paging.now c.args.space _
 
 pub renew-requires-clause-there : goal.renew-requires-clause-there
 renew-requires-clause-there c = λ page from below.
     let all : c.fill-reached.result ≡ c.args.end = omega (arith, c.fill-reached.ensures.end, c.if-reached-end.false) in
-    filled_there c.args.mappings.now c.fill-reached.new.mappings c.args.space c.args.first c.args.end page (fresh_page c.args.prot)
-    (subst (λ n. c.fill-reached.new.mappings ≡ with_space c.args.mappings.now c.args.space (fill_within (inside c.args.mappings.now.spaces c.args.space) c.args.first (n - c.args.first) (fresh_page c.args.prot))) all c.fill-reached.ensures.filled)
+    filled_there c.args.paging.now c.fill-reached.new.paging c.args.space c.args.first c.args.end page (fresh_page c.args.prot)
+    (subst (λ n. c.fill-reached.new.paging ≡ with_space c.args.paging.now c.args.space (fill_within (inside c.args.paging.now.spaces c.args.space) c.args.first (n - c.args.first) (fresh_page c.args.prot))) all c.fill-reached.ensures.filled)
     from below
 
 pub returns-clause-ok : goal.returns-clause-ok
 returns-clause-ok c =
     let all : c.fill-reached.result ≡ c.args.end = omega (arith, c.fill-reached.ensures.end, c.if-reached-end.false) in
-    renewed_run c.args.mappings.now c.fill-reached.new.mappings c.renew.new.mappings c.args.space c.args.first c.args.end (fresh_page c.args.prot)
-    (subst (λ n. c.fill-reached.new.mappings ≡ with_space c.args.mappings.now c.args.space (fill_within (inside c.args.mappings.now.spaces c.args.space) c.args.first (n - c.args.first) (fresh_page c.args.prot))) all c.fill-reached.ensures.filled)
+    renewed_run c.args.paging.now c.fill-reached.new.paging c.renew.new.paging c.args.space c.args.first c.args.end (fresh_page c.args.prot)
+    (subst (λ n. c.fill-reached.new.paging ≡ with_space c.args.paging.now c.args.space (fill_within (inside c.args.paging.now.spaces c.args.space) c.args.first (n - c.args.first) (fresh_page c.args.prot))) all c.fill-reached.ensures.filled)
     c.renew.ensures

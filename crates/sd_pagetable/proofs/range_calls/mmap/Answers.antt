@@ -13,48 +13,48 @@ use Rattle.sd_pagetable.proofs.range_calls.mmap.Goals as goal
 
 pub returns-in_err-own-clause-due : goal.returns-in_err-own-clause-due
 returns-in_err-own-clause-due c =
-    let refused : Refuses c.in_err-own.field-0.0 (mmap_due (plain_of c.args.mappings.now) c.args.space c.args.address c.args.bytes c.args.prot) =
-    subst (Refuses c.in_err-own.field-0.0) (sym (mmap_seen c.args.mappings.now c.args.space c.args.address c.args.bytes c.args.prot))
-    (refuses_first c.in_err-own.field-0.0 c.args.mappings.now c.args.space _ _ (c.in_err-own.ensures.due c.args.mappings.now c.requires.kept)) in
+    let refused : Refuses c.in_err-own.field-0.0 (mmap_due (plain_of c.args.paging.now) c.args.space c.args.address c.args.bytes c.args.prot) =
+    subst (Refuses c.in_err-own.field-0.0) (sym (mmap_seen c.args.paging.now c.args.space c.args.address c.args.bytes c.args.prot))
+    (refuses_first c.in_err-own.field-0.0 c.args.paging.now c.args.space _ _ (c.in_err-own.ensures.due c.args.paging.now c.requires.kept)) in
     search rules
 
 pub map_run-requires-clause-within : goal.map_run-requires-clause-within
 map_run-requires-clause-within c =
-    let is = (c.in_ok-own.ensures.ok c.args.mappings.now c.requires.kept).1 in
-    let within = mapped_within (prots_of (inside c.args.mappings.now.spaces c.args.space)) c.args.address c.args.bytes c.args.prot c.in_ok-own.own is in
+    let is = (c.in_ok-own.ensures.ok c.args.paging.now c.requires.kept).1 in
+    let within = mapped_within (prots_of (inside c.args.paging.now.spaces c.args.space)) c.args.address c.args.bytes c.args.prot c.in_ok-own.own is in
     let count : c.div_ceil.result ≡ pages_for c.args.bytes = search rules in
     omega (arith, within.0, count)
 
 pub returns-in_err-map_run-clause-due : goal.returns-in_err-map_run-clause-due
 returns-in_err-map_run-clause-due c =
-    let ok = c.in_ok-own.ensures.ok c.args.mappings.now c.requires.kept in
-    let t = inside c.args.mappings.now.spaces c.args.space in
+    let ok = c.in_ok-own.ensures.ok c.args.paging.now c.requires.kept in
+    let t = inside c.args.paging.now.spaces c.args.space in
     let count : c.args.address / 4096 + c.div_ceil.result - c.args.address / 4096 ≡ pages_for c.args.bytes = search rules in
-    let refused : Refuses c.in_err-map_run.field-0.0 (mmap_due (plain_of c.args.mappings.now) c.args.space c.args.address c.args.bytes c.args.prot) =
-    subst (Refuses c.in_err-map_run.field-0.0) (sym (mmap_seen c.args.mappings.now c.args.space c.args.address c.args.bytes c.args.prot))
-    (refuses_many c.in_err-map_run.field-0.0 c.args.mappings.now c.args.space _ c.in_ok-own.own _ ok.0 ok.1 c.in_err-map_run.ensures.errors (λ is.
-    subst (λ n. 65536 < page_count (with_space c.args.mappings.now c.args.space (set_within t (page_of c.args.address) n (fresh_page c.args.prot))).spaces) count (c.in_err-map_run.ensures.many (ap Err is)))) in
+    let refused : Refuses c.in_err-map_run.field-0.0 (mmap_due (plain_of c.args.paging.now) c.args.space c.args.address c.args.bytes c.args.prot) =
+    subst (Refuses c.in_err-map_run.field-0.0) (sym (mmap_seen c.args.paging.now c.args.space c.args.address c.args.bytes c.args.prot))
+    (refuses_many c.in_err-map_run.field-0.0 c.args.paging.now c.args.space _ c.in_ok-own.own _ ok.0 ok.1 c.in_err-map_run.ensures.errors (λ is.
+    subst (λ n. 65536 < page_count (with_space c.args.paging.now c.args.space (set_within t (page_of c.args.address) n (fresh_page c.args.prot))).spaces) count (c.in_err-map_run.ensures.many (ap Err is)))) in
     search rules
 
 pub returns-clause-kept : goal.returns-clause-kept
 returns-clause-kept c =
-    let is = (c.in_ok-own.ensures.ok c.args.mappings.now c.requires.kept).1 in
-    let t = inside c.args.mappings.now.spaces c.args.space in
-    let done : c.map_run.new.mappings ≡ with_space c.args.mappings.now c.args.space (set_within t (page_of c.args.address) (pages_for c.args.bytes) (fresh_page c.args.prot)) = search rules in
+    let is = (c.in_ok-own.ensures.ok c.args.paging.now c.requires.kept).1 in
+    let t = inside c.args.paging.now.spaces c.args.space in
+    let done : c.map_run.new.paging ≡ with_space c.args.paging.now c.args.space (set_within t (page_of c.args.address) (pages_for c.args.bytes) (fresh_page c.args.prot)) = search rules in
     subst (HasAreas c.put_areas.new.areas) (sym done)
-    (areas_with c.args.areas.now c.put_areas.new.areas c.args.mappings.now c.args.space _ c.in_ok-own.own c.requires.kept
+    (areas_with c.args.areas.now c.put_areas.new.areas c.args.paging.now c.args.space _ c.in_ok-own.own c.requires.kept
     (own_mapped t c.in_ok-own.own (page_of c.args.address) (pages_for c.args.bytes) c.args.prot (c.mapped_law.ensures (prots_of t) c.in_ok-own.own c.args.address c.args.bytes c.args.prot is))
     c.put_areas.ensures)
 
 pub returns-clause-due : goal.returns-clause-due
 returns-clause-due c =
-    let ok = c.in_ok-own.ensures.ok c.args.mappings.now c.requires.kept in
-    let t = inside c.args.mappings.now.spaces c.args.space in
-    let done : c.map_run.new.mappings ≡ with_space c.args.mappings.now c.args.space (set_within t (page_of c.args.address) (pages_for c.args.bytes) (fresh_page c.args.prot)) = search rules in
+    let ok = c.in_ok-own.ensures.ok c.args.paging.now c.requires.kept in
+    let t = inside c.args.paging.now.spaces c.args.space in
+    let done : c.map_run.new.paging ≡ with_space c.args.paging.now c.args.space (set_within t (page_of c.args.address) (pages_for c.args.bytes) (fresh_page c.args.prot)) = search rules in
     let few = subst (λ (m : Contents). page_count m.spaces ≤ 65536) done c.in_ok-map_run.ensures.few in
-    mmap_seen c.args.mappings.now c.args.space c.args.address c.args.bytes c.args.prot ∙ mapped_due c.args.mappings.now c.args.space _ c.in_ok-own.own _ false ok.0 ok.1 (few_pages _ few)
+    mmap_seen c.args.paging.now c.args.space c.args.address c.args.bytes c.args.prot ∙ mapped_due c.args.paging.now c.args.space _ c.in_ok-own.own _ false ok.0 ok.1 (few_pages _ few)
 
 pub returns-clause-memory : goal.returns-clause-memory
 returns-clause-memory c =
-    let done : c.map_run.new.mappings ≡ with_space c.args.mappings.now c.args.space (set_within (inside c.args.mappings.now.spaces c.args.space) (page_of c.args.address) (pages_for c.args.bytes) (fresh_page c.args.prot)) = search rules in
-    ap plain_of done ∙ plain_mapped c.args.mappings.now c.args.space c.args.address c.args.bytes c.args.prot
+    let done : c.map_run.new.paging ≡ with_space c.args.paging.now c.args.space (set_within (inside c.args.paging.now.spaces c.args.space) (page_of c.args.address) (pages_for c.args.bytes) (fresh_page c.args.prot)) = search rules in
+    ap plain_of done ∙ plain_mapped c.args.paging.now c.args.space c.args.address c.args.bytes c.args.prot

@@ -12,32 +12,32 @@ use Rattle.sd_pagetable.proofs.range_calls.munmap.Goals as goal
 
 pub returns-in_err-own-clause-due : goal.returns-in_err-own-clause-due
 returns-in_err-own-clause-due c =
-    let refused : Refuses c.in_err-own.field-0.0 (munmap_due (plain_of c.args.mappings.now) c.args.space c.args.address c.args.bytes) =
-    subst (Refuses c.in_err-own.field-0.0) (sym (munmap_seen c.args.mappings.now c.args.space c.args.address c.args.bytes)) (c.in_err-own.ensures.due c.args.mappings.now c.requires.kept) in
+    let refused : Refuses c.in_err-own.field-0.0 (munmap_due (plain_of c.args.paging.now) c.args.space c.args.address c.args.bytes) =
+    subst (Refuses c.in_err-own.field-0.0) (sym (munmap_seen c.args.paging.now c.args.space c.args.address c.args.bytes)) (c.in_err-own.ensures.due c.args.paging.now c.requires.kept) in
     search rules
 
 pub unwrap-page-requires : goal.unwrap-page-requires
 unwrap-page-requires c =
-    let is = (c.in_ok-own.ensures.ok c.args.mappings.now c.requires.kept).1 in
-    let within = unmapped_within (prots_of (inside c.args.mappings.now.spaces c.args.space)) c.args.address c.args.bytes c.in_ok-own.own is in
+    let is = (c.in_ok-own.ensures.ok c.args.paging.now c.requires.kept).1 in
+    let within = unmapped_within (prots_of (inside c.args.paging.now.spaces c.args.space)) c.args.address c.args.bytes c.in_ok-own.own is in
     c.new.ensures.within.1 (omega (arith, within.0, within.1))
 
 pub returns-clause-kept : goal.returns-clause-kept
 returns-clause-kept c =
-    let is = (c.in_ok-own.ensures.ok c.args.mappings.now c.requires.kept).1 in
-    let t = inside c.args.mappings.now.spaces c.args.space in
-    let done : c.unmap.new.mappings ≡ with_space c.args.mappings.now c.args.space (remove_within t (page_of c.args.address) (pages_for c.args.bytes)) = search rules in
+    let is = (c.in_ok-own.ensures.ok c.args.paging.now c.requires.kept).1 in
+    let t = inside c.args.paging.now.spaces c.args.space in
+    let done : c.unmap.new.paging ≡ with_space c.args.paging.now c.args.space (remove_within t (page_of c.args.address) (pages_for c.args.bytes)) = search rules in
     subst (HasAreas c.put_areas.new.areas) (sym done)
-    (areas_with c.args.areas.now c.put_areas.new.areas c.args.mappings.now c.args.space _ c.in_ok-own.own c.requires.kept
+    (areas_with c.args.areas.now c.put_areas.new.areas c.args.paging.now c.args.space _ c.in_ok-own.own c.requires.kept
     (own_unmapped t c.in_ok-own.own (page_of c.args.address) (pages_for c.args.bytes) (c.unmapped_law.ensures (prots_of t) c.in_ok-own.own c.args.address c.args.bytes is))
     c.put_areas.ensures)
 
 pub returns-clause-due : goal.returns-clause-due
 returns-clause-due c =
-    let ok = c.in_ok-own.ensures.ok c.args.mappings.now c.requires.kept in
-    munmap_seen c.args.mappings.now c.args.space c.args.address c.args.bytes ∙ nothing_due c.args.mappings.now c.args.space _ c.in_ok-own.own ok.0 ok.1
+    let ok = c.in_ok-own.ensures.ok c.args.paging.now c.requires.kept in
+    munmap_seen c.args.paging.now c.args.space c.args.address c.args.bytes ∙ nothing_due c.args.paging.now c.args.space _ c.in_ok-own.own ok.0 ok.1
 
 pub returns-clause-memory : goal.returns-clause-memory
 returns-clause-memory c =
-    let done : c.unmap.new.mappings ≡ with_space c.args.mappings.now c.args.space (remove_within (inside c.args.mappings.now.spaces c.args.space) (page_of c.args.address) (pages_for c.args.bytes)) = search rules in
-    ap plain_of done ∙ plain_unmapped c.args.mappings.now c.args.space c.args.address c.args.bytes
+    let done : c.unmap.new.paging ≡ with_space c.args.paging.now c.args.space (remove_within (inside c.args.paging.now.spaces c.args.space) (page_of c.args.address) (pages_for c.args.bytes)) = search rules in
+    ap plain_of done ∙ plain_unmapped c.args.paging.now c.args.space c.args.address c.args.bytes

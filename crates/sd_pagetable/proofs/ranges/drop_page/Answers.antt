@@ -4,9 +4,9 @@ use Rattle.sd_pagetable.proofs.RangeSteps.{seen_there, dropped_there, dropped_ho
 use Rattle.sd_pagetable.proofs.ranges.drop_page.Goals as goal
 
 pub returns-then-is_some : goal.returns-then-is_some
-returns-then-is_some c = dropped_there c.args.mappings.now c.remove.new.self c.args.space c.args.page c.requires.alive
-    (seen_there entry_of (page_at c.args.mappings.now c.args.space c.args.page) c.entry.result _ c.entry.ensures.value c.if-is_some.ensures) c.remove.ensures
+returns-then-is_some c = dropped_there c.args.paging.now c.remove.new.self c.args.space c.args.page c.requires.alive
+    (seen_there entry_of (page_at c.args.paging.now c.args.space c.args.page) c.entry.result _ c.entry.ensures.value c.if-is_some.ensures) c.remove.ensures
 
 pub returns-else-is_some : goal.returns-else-is_some
-returns-else-is_some c = dropped_hole c.args.mappings.now c.args.space c.args.page c.requires.alive
-    (seen_there entry_of (page_at c.args.mappings.now c.args.space c.args.page) c.entry.result _ c.entry.ensures.value c.if-is_some.ensures)
+returns-else-is_some c = dropped_hole c.args.paging.now c.args.space c.args.page c.requires.alive
+    (seen_there entry_of (page_at c.args.paging.now c.args.space c.args.page) c.entry.result _ c.entry.ensures.value c.if-is_some.ensures)

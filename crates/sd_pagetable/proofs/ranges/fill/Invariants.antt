@@ -10,6 +10,6 @@ use Rattle.sd_pagetable.proofs.ranges.fill.Given as goal
 -- the holes up to this page were filled, and there is room for the others
 abbrev pub invariant-loop-number : goal.invariant-loop-number
 invariant-loop-number l = record {
-  done : l.mappings ≡ with_space l.fn.mappings l.space (fill_within (inside l.fn.mappings.spaces l.space) l.first (l.number - l.first) (fresh_page l.prot));
-  few : page_count l.mappings.spaces + count_by (λ page. not (is_some (page_at l.fn.mappings l.space page))) (pages_from l.number (l.end - l.number)) ≤ 65536;
+  done : l.paging ≡ with_space l.fn.paging l.space (fill_within (inside l.fn.paging.spaces l.space) l.first (l.number - l.first) (fresh_page l.prot));
+  few : page_count l.paging.spaces + count_by (λ page. not (is_some (page_at l.fn.paging l.space page))) (pages_from l.number (l.end - l.number)) ≤ 65536;
 }

@@ -7,5 +7,5 @@ use Rattle.sd_pagetable.proofs.ranges.protect.Given as goal
 -- the pages up to this one were protected
 abbrev pub invariant-loop-number : goal.invariant-loop-number
 invariant-loop-number l = record {
-  done : l.mappings ≡ with_space l.fn.mappings l.space (change_within (protected_page l.prot) (inside l.fn.mappings.spaces l.space) l.first (l.number - l.first));
+  done : l.paging ≡ with_space l.fn.paging l.space (change_within (protected_page l.prot) (inside l.fn.paging.spaces l.space) l.first (l.number - l.first));
 }

@@ -7,5 +7,5 @@ use Rattle.sd_pagetable.proofs.ranges.renew.Given as goal
 -- the pages up to this one were mapped anew
 abbrev pub invariant-loop-number : goal.invariant-loop-number
 invariant-loop-number l = record {
-  done : l.mappings ≡ with_space l.fn.mappings l.space (set_within (inside l.fn.mappings.spaces l.space) l.first (l.number - l.first) (fresh_page l.prot));
+  done : l.paging ≡ with_space l.fn.paging l.space (set_within (inside l.fn.paging.spaces l.space) l.first (l.number - l.first) (fresh_page l.prot));
 }

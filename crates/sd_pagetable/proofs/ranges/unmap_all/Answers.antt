@@ -6,13 +6,13 @@ use Rattle.sd_pagetable.proofs.RangeSteps.{still_others, emptied}
 use Rattle.sd_pagetable.proofs.ranges.unmap_all.Goals as goal
 
 pub loop-page-init : goal.loop-page-init
-loop-page-init c = record { others = sym (with_itself c.args.mappings.now c.args.space c.requires.alive) }
+loop-page-init c = record { others = sym (with_itself c.args.paging.now c.args.space c.requires.alive) }
 
 pub loop-page-smaller : goal.loop-page-smaller
-loop-page-smaller c = subst (λ (m : Contents). page_count m.spaces < page_count c.loop-page.mappings.spaces) (sym c.remove.ensures) (one_less c.loop-page.mappings c.args.space c.in-Some.page c.in-Some.ensures.0)
+loop-page-smaller c = subst (λ (m : Contents). page_count m.spaces < page_count c.loop-page.paging.spaces) (sym c.remove.ensures) (one_less c.loop-page.paging c.args.space c.in-Some.page c.in-Some.ensures.0)
 
 pub loop-page-preserved : goal.loop-page-preserved
-loop-page-preserved c = record { others = still_others c.args.mappings.now c.loop-page.mappings c.remove.new.self c.args.space c.in-Some.page c.loop-page.invariant.others c.remove.ensures }
+loop-page-preserved c = record { others = still_others c.args.paging.now c.loop-page.paging c.remove.new.self c.args.space c.in-Some.page c.loop-page.invariant.others c.remove.ensures }
 
 pub returns : goal.returns
-returns c = emptied c.args.mappings.now c.loop-page.mappings c.args.space c.loop-page.invariant.others c.in_default.ensures
+returns c = emptied c.args.paging.now c.loop-page.paging c.args.space c.loop-page.invariant.others c.in_default.ensures

@@ -7,8 +7,8 @@ use Rattle.sd_pagetable.proofs.ranges.unmap_all.Given as goal
 -- no other space changed
 abbrev pub invariant-loop-page : goal.invariant-loop-page
 invariant-loop-page l = record {
-  others : l.mappings ≡ with_space l.fn.mappings l.space (inside l.mappings.spaces l.space);
+  others : l.paging ≡ with_space l.fn.paging l.space (inside l.paging.spaces l.space);
 }
 
 abbrev pub decreases-loop-page : goal.decreases-loop-page
-decreases-loop-page l = page_count l.mappings.spaces
+decreases-loop-page l = page_count l.paging.spaces

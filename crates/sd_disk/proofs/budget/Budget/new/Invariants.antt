@@ -8,4 +8,4 @@ ghost-new g a = g.outside
 
 -- the slots so far are synced
 abbrev pub invariant-loop-slot : goal.invariant-loop-slot
-invariant-loop-slot g l = AreSettled (map held l.slots) l.slot l.journal.record.outside l.journal.record.events
+invariant-loop-slot g l = AreSettled (map held l.slots) l.slot l.log.trace.outside l.log.trace.events

@@ -1,7 +1,7 @@
 use Rattle.std.proofs.Common.{◌≡◌, ℕ, Bool, true, false, is_some, Option, Some, None, refl, subst, ◌∙◌, arith}
 use Rattle.std.proofs.lemmas.Bool.{eqb-true, eqb-false}
 use Rattle.sd_pagetable.specs.Frames.{IsExhausted, HasFree}
-use Rattle.sd_pagetable.specs.Slots.{IsFreeList}
+use Rattle.sd_pagetable.specs.FrameCells.{IsFreeList}
 use Rattle.sd_pagetable.proofs.FrameLemmas.{has_room, has_first, all_used}
 use Rattle.sd_pagetable.proofs.frames.Frames.is_exhausted.Goals as goal
 

@@ -1,13 +1,13 @@
 use Rattle.std.proofs.Common.{◌≡◌, ◌<◌, ℕ, List, Option, Some, None, set, sym, ap, subst, ◌∙◌, arith, length-set, length-append}
 use Rattle.std.specs.List.{slice_get}
 use Rattle.sd_pagetable.specs.Frames.{Pool, cell_at, SetsCell, HasFree}
-use Rattle.sd_pagetable.specs.declared.slot.Slot.{Slot}
-use Rattle.sd_pagetable.specs.declared.slot.Slot.TheVariants.{Used, Free}
-use Rattle.sd_pagetable.specs.Slots.{IsFreeList}
+use Rattle.sd_pagetable.specs.declared.frame_cell.FrameCell.{FrameCell}
+use Rattle.sd_pagetable.specs.declared.frame_cell.FrameCell.TheVariants.{Used, Free}
+use Rattle.sd_pagetable.specs.FrameCells.{IsFreeList}
 use Rattle.sd_pagetable.proofs.FrameLemmas.{frames_of, taken, pushed, first_free, got_within, free_none, room_left, sets_cell, past_none}
 use Rattle.sd_pagetable.proofs.frames.Frames.place.Goals as goal
 
-list_at : (slots : List Slot) (o : Option ℕ) (k : ℕ) → o ≡ Some k → IsFreeList slots o → IsFreeList slots (Some k)
+list_at : (slots : List FrameCell) (o : Option ℕ) (k : ℕ) → o ≡ Some k → IsFreeList slots o → IsFreeList slots (Some k)
 list_at slots o k e h = subst (λ (p : Option ℕ). IsFreeList slots p) e h
 
 pub index_mut-requires : goal.index_mut-requires
@@ -20,7 +20,7 @@ pub invariant_of-self : goal.invariant_of-self
 invariant_of-self c =
     let h = list_at c.self.inside.slots.items c.self.inside.free c.in-Some.number c.in-Some.is c.self.invariant.1 in
     let f = first_free c.self.inside.slots.items c.in-Some.number h in
-    let e : c.next_free-self-inside.result ≡ f.0 = c.next_free-self-inside.ensures f.0 (ap (λ (s : List Slot). slice_get s c.in-Some.number) c.deref.ensures.value ∙ f.1) in
+    let e : c.next_free-self-inside.result ≡ f.0 = c.next_free-self-inside.ensures f.0 (ap (λ (s : List FrameCell). slice_get s c.in-Some.number) c.deref.ensures.value ∙ f.1) in
     (simp length-set (c.self.invariant.0), taken c.self.inside.slots.items c.in-Some.number c.next_free-self-inside.result c.args.frame h (f.1 ∙ ap (λ n. Some (Free n)) (sym e)))
 
 pub invariant_of-self-in-None : goal.invariant_of-self-in-None

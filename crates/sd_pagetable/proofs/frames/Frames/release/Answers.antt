@@ -1,7 +1,7 @@
 use Rattle.std.proofs.Common.{◌≡◌, ◌-◌, nat_eq, true, false, Option, set, sym, subst, ◌∙◌, length-set}
 use Rattle.std.proofs.lemmas.Bool.{eq-eqb, ne_eqb, cond-true, cond-false}
 use Rattle.sd_pagetable.specs.Frames.{Cell, count_at, SetsCell}
-use Rattle.sd_pagetable.specs.declared.slot.Slot.TheVariants.{Free}
+use Rattle.sd_pagetable.specs.declared.frame_cell.FrameCell.TheVariants.{Free}
 use Rattle.sd_pagetable.proofs.FrameLemmas.{frames_of, within_slots, changes_frame, changes_free, frees_frame, some_counted, used_at, freed}
 use Rattle.sd_pagetable.proofs.frames.Frames.release.Goals as goal
 

@@ -14,14 +14,14 @@ returns-in_default-clause-refused c = due_none c.args.self.now c.args.space (pag
 
 pub returns-then-allows-clause-ok : goal.returns-then-allows-clause-ok
 returns-then-allows-clause-ok c =
-    let x = page_of_seen c.self.inside.mappings c.args.space (page_of c.args.address) c.in-Some.found.1 c.in-Some.ensures.found.1 in
+    let x = page_of_seen c.self.inside.paging c.args.space (page_of c.args.address) c.in-Some.found.1 c.in-Some.ensures.found.1 in
     let allowed : allows c.args.need x.0.prot ≡ true = ap (λ (e : Entry). allows c.args.need e.prot) x.2 ∙ sym c.allows.ensures ∙ c.if-allows.true in
     ap (λ (m : Contents). page_due c.args.need (value_at (plain_of m) c.args.space (page_of c.args.address))) (sym c.self.view_is)
-    ∙ due_some c.self.inside.mappings c.args.space (page_of c.args.address) c.args.need x.0 x.1 ∙ cond-true _ _ _ allowed
+    ∙ due_some c.self.inside.paging c.args.space (page_of c.args.address) c.args.need x.0 x.1 ∙ cond-true _ _ _ allowed
 
 pub returns-else-allows-clause-refused : goal.returns-else-allows-clause-refused
 returns-else-allows-clause-refused c =
-    let x = page_of_seen c.self.inside.mappings c.args.space (page_of c.args.address) c.in-Some.found.1 c.in-Some.ensures.found.1 in
+    let x = page_of_seen c.self.inside.paging c.args.space (page_of c.args.address) c.in-Some.found.1 c.in-Some.ensures.found.1 in
     let refused : allows c.args.need x.0.prot ≡ false = ap (λ (e : Entry). allows c.args.need e.prot) x.2 ∙ sym c.allows.ensures ∙ c.if-allows.false in
     ap (λ (m : Contents). page_due c.args.need (value_at (plain_of m) c.args.space (page_of c.args.address))) (sym c.self.view_is)
-    ∙ due_some c.self.inside.mappings c.args.space (page_of c.args.address) c.args.need x.0 x.1 ∙ cond-false _ _ _ refused
+    ∙ due_some c.self.inside.paging c.args.space (page_of c.args.address) c.args.need x.0 x.1 ∙ cond-false _ _ _ refused

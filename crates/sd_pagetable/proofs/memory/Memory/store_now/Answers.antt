@@ -12,16 +12,16 @@ use Rattle.sd_pagetable.proofs.MemoryLemmas.{areas_opened, areas_stored}
 use Rattle.sd_pagetable.proofs.memory.Memory.store_now.Goals as goal
 
 pub open-requires-clause-permitted : goal.open-requires-clause-permitted
-open-requires-clause-permitted c = let x = write_there c.args.self.now c.self.inside.mappings c.args.space (page_of c.args.address) c.in_ok-place.place.page c.self.view_is c.in_ok-place.ensures.page c.in_ok-place.ensures.permitted in rw x.1 x.2
+open-requires-clause-permitted c = let x = write_there c.args.self.now c.self.inside.paging c.args.space (page_of c.args.address) c.in_ok-place.place.page c.self.view_is c.in_ok-place.ensures.page c.in_ok-place.ensures.permitted in rw x.1 x.2
 
 pub open-requires-clause-there : goal.open-requires-clause-there
-open-requires-clause-there c = let x = write_there c.args.self.now c.self.inside.mappings c.args.space (page_of c.args.address) c.in_ok-place.place.page c.self.view_is c.in_ok-place.ensures.page c.in_ok-place.ensures.permitted in rw x.1 refl
+open-requires-clause-there c = let x = write_there c.args.self.now c.self.inside.paging c.args.space (page_of c.args.address) c.in_ok-place.place.page c.self.view_is c.in_ok-place.ensures.page c.in_ok-place.ensures.permitted in rw x.1 refl
 
 pub write-requires-clause-there : goal.write-requires-clause-there
-write-requires-clause-there c = let x = opened_there c.self.inside.mappings c.open.new.self c.args.space c.in_ok-place.place.page c.in_ok-open.ensures.opened in rw x.1 refl
+write-requires-clause-there c = let x = opened_there c.self.inside.paging c.open.new.self c.args.space c.in_ok-place.place.page c.in_ok-open.ensures.opened in rw x.1 refl
 
 pub write-requires-clause-writable : goal.write-requires-clause-writable
-write-requires-clause-writable c = let x = opened_there c.self.inside.mappings c.open.new.self c.args.space c.in_ok-place.place.page c.in_ok-open.ensures.opened in rw x.1 x.2
+write-requires-clause-writable c = let x = opened_there c.self.inside.paging c.open.new.self c.args.space c.in_ok-place.place.page c.in_ok-open.ensures.opened in rw x.1 x.2
 
 stored : (m n l : Contents) (s address p offset : ℕ) (bytes : List ℕ) → p ≡ page_of address → offset ≡ address % 4096 → Opens m s p (λ b. b) n
     → IfSome (page_at n s p) (λ (before : Page). l ≡ put_page n s p (stored_page before (stored_at before.bytes offset bytes)))
@@ -40,10 +40,10 @@ returns-clause-memory c = (stored c.args.self.now c.open.new.self c.write.new.se
 
 pub invariant_of-self : goal.invariant_of-self
 invariant_of-self c = either_result c.open.result _ _ _ c.open.ensures.opened c.open.ensures.err
-    (λ o. areas_opened c.self.inside.areas c.self.inside.mappings c.open.new.self c.args.space c.in_ok-place.place.page (λ b. b) c.self.invariant o) (λ e. subst (HasAreas c.self.inside.areas) (sym e) c.self.invariant)
+    (λ o. areas_opened c.self.inside.areas c.self.inside.paging c.open.new.self c.args.space c.in_ok-place.place.page (λ b. b) c.self.invariant o) (λ e. subst (HasAreas c.self.inside.areas) (sym e) c.self.invariant)
 
 pub invariant_of-self-2 : goal.invariant_of-self-2
 invariant_of-self-2 c =
-    let o = areas_opened c.self.inside.areas c.self.inside.mappings c.open.new.self c.args.space c.in_ok-place.place.page (λ b. b) c.self.invariant c.in_ok-open.ensures.opened in
-    let x = opened_there c.self.inside.mappings c.open.new.self c.args.space c.in_ok-place.place.page c.in_ok-open.ensures.opened in
+    let o = areas_opened c.self.inside.areas c.self.inside.paging c.open.new.self c.args.space c.in_ok-place.place.page (λ b. b) c.self.invariant c.in_ok-open.ensures.opened in
+    let x = opened_there c.self.inside.paging c.open.new.self c.args.space c.in_ok-place.place.page c.in_ok-open.ensures.opened in
     areas_stored c.self.inside.areas c.open.new.self c.write.new.self c.args.space c.in_ok-place.place.page (λ b. stored_at b c.in_ok-place.place.offset c.args.bytes.now) o (ap is_some x.1) c.write.ensures

@@ -1,4 +1,0 @@
-use Rattle.sd_disk.proofs.folder.DirDisk.new.Given as goal
-
-abbrev pub ghost-new : goal.ghost-new
-ghost-new g a = g.outside

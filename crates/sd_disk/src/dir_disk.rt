@@ -1,0 +1,157 @@
+//! A disk over the files of a folder.
+ghost use Rattle.std.specs.Prelude.{◌≡◌, length};
+ghost use Rattle.sd_disk.specs.Events.{Outside};
+
+use crate::call::Call;
+use crate::disk::Disk;
+use crate::error::DeviceError;
+use crate::folder::{self, Folder};
+use crate::call_log::CallLog;
+
+/// A disk over the slots' files in a folder. A file that is missing has length 0, and a write to it fails.
+///
+/// Each method makes one call of `image` and notes it, with its answer, in the log: no contract says what
+/// a real file gives, so `is_honest` is the premise that each answer was that of the files by the log.
+#[derive(Drop)]
+pub struct DirDisk {
+    folder: Folder,
+    log: CallLog,
+    ghost one_each: { length log.trace.outside.found ≡ length folder.images.items },
+}
+
+impl DirDisk {
+    ghost use Rattle.sd_disk.specs.Folder.{folder_files, folder_failures};
+
+    /// `outside` stands for what the files hold, and for what each failed write and cut will leave of them.
+    pub fn new(folder: Folder) -> DirDisk
+        ghost outside: { Outside }
+        requires { length outside.found ≡ 64 }
+        ensures found { folder_files result ≡ outside.found }
+        ensures failed { folder_failures result ≡ 0 }
+    {
+        DirDisk {
+            folder,
+            log: CallLog::new(),
+        }
+    }
+}
+
+impl Disk for DirDisk {
+    ghost use Rattle.std.specs.Prelude.{◌+◌, ◌<◌, [], ◌∷◌, OnOk};
+    ghost use Rattle.sd_disk.specs.Failures.{HasCause};
+    ghost use Rattle.sd_disk.specs.Contents.{file_at};
+    ghost use Rattle.sd_disk.specs.Crash.{Within, OnlyAt, Elapses};
+    ghost use Rattle.sd_disk.specs.Folder.{folder_files, folder_events, folder_failures, folder_called, IsFolderHonest, folder_may_leave, folder_moment, folder_left_since};
+    ghost use Rattle.sd_disk.specs.Moments.{counts_now, only_now};
+
+    ghost contents = { folder_files };
+
+    ghost may_leave = { folder_may_leave };
+
+    ghost moment = { folder_moment };
+
+    ghost left_since = { folder_left_since };
+
+    ghost failed = { folder_failures };
+
+    ghost calls = { folder_called };
+
+    ghost is_honest = { IsFolderHonest };
+
+    ghost as_read = { λ disk. disk.log.as_read };
+
+    ghost same_slots = { λ disk c left. left.count };
+
+    ghost counts_now = { λ disk t c since now. counts_now disk.log.trace.outside (folder_events disk) t c since now };
+
+    ghost only_now = { λ disk c left. only_now disk.log.trace.outside (folder_events disk) c left };
+
+    #[tactic(auto, using(crate::proofs::FolderLemmas::length_files))]
+    fn slots(&self) -> usize {
+        self.folder.slots()
+    }
+
+    fn failures(&self) -> u64 {
+        self.log.failures()
+    }
+
+    #[tactic(auto, using(crate::proofs::FolderLemmas::length_files))]
+    fn len(&mut self, slot: usize) -> Result<usize, DeviceError> {
+        match folder::len(self.folder.image(slot)) {
+            Ok(len) => {
+                self.log.note(&Call::Measured { slot, len }, &[]);
+                Ok(len)
+            }
+            Err(_) => {
+                self.log.note(&Call::Failed, &[]);
+                Err(DeviceError)
+            }
+        }
+    }
+
+    #[tactic(auto, using(crate::proofs::FolderLemmas::length_files))]
+    fn read(&mut self, slot: usize, at: usize, buffer: &mut [u8]) -> Result<(), DeviceError> {
+        match folder::read(self.folder.image(slot), at, buffer) {
+            Ok(()) => {
+                self.log.note(&Call::Read { slot, at }, buffer);
+                Ok(())
+            }
+            Err(_) => {
+                self.log.note(&Call::Failed, &[]);
+                Err(DeviceError)
+            }
+        }
+    }
+
+    #[tactic(auto, using(crate::proofs::FolderLemmas::length_files))]
+    fn write_at(&mut self, slot: usize, at: usize, bytes: &[u8]) -> Result<(), DeviceError> {
+        match folder::write(self.folder.image(slot), at, bytes) {
+            Ok(()) => {
+                self.log.note(&Call::Written { slot, at }, bytes);
+                Ok(())
+            }
+            Err(_) => {
+                self.log.note(&Call::WriteFailed { slot, at }, bytes);
+                Err(DeviceError)
+            }
+        }
+    }
+
+    #[tactic(auto, using(crate::proofs::FolderLemmas::length_files))]
+    fn cut(&mut self, slot: usize, len: usize) -> Result<(), DeviceError> {
+        match folder::cut(self.folder.image(slot), len) {
+            Ok(()) => {
+                self.log.note(&Call::Cut { slot, len }, &[]);
+                Ok(())
+            }
+            Err(_) => {
+                self.log.note(&Call::CutFailed { slot, len }, &[]);
+                Err(DeviceError)
+            }
+        }
+    }
+
+    #[tactic(auto, using(crate::proofs::FolderLemmas::length_files))]
+    fn sync(&mut self, slot: usize) -> Result<(), DeviceError>
+        requires { slot < length (folder_files self.old) }
+        ensures noted { OnOk result (folder_events self.new ≡ (Call.Synced slot, []) ∷ folder_events self.old) }
+        ensures durable { OnOk result (OnlyAt slot (file_at (folder_files self.old) slot) (folder_may_leave self.new)) }
+        ensures same { folder_files self.new ≡ folder_files self.old }
+        ensures crash { Within (folder_may_leave self.new) (folder_may_leave self.old) }
+        ensures time { Elapses (folder_moment self.old) (folder_moment self.new) (folder_left_since self.old) (folder_left_since self.new) (folder_may_leave self.new) }
+        ensures honest { IsFolderHonest self.new → IsFolderHonest self.old }
+        ensures counted { folder_called self.new ≡ folder_called self.old + 1 }
+        ensures cause { HasCause (folder_failures self.old) (folder_failures self.new) result }
+    {
+        match folder::sync(self.folder.image(slot)) {
+            Ok(()) => {
+                self.log.note(&Call::Synced { slot }, &[]);
+                Ok(())
+            }
+            Err(_) => {
+                self.log.note(&Call::Failed, &[]);
+                Err(DeviceError)
+            }
+        }
+    }
+}

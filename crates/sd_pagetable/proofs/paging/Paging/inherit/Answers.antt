@@ -1,0 +1,87 @@
+use Rattle.std.proofs.Common.{◌≡◌, ℕ, ap, ◌∙◌, sym, subst, IsSome, refl, is_some, Some, None, true, false, arith}
+use Rattle.std.specs.Option.{IfSome}
+use Rattle.sd_pagetable.specs.declared.entry.Entry.{Entry}
+use Rattle.sd_pagetable.specs.Nested.{Nested, value_at, put_at}
+use Rattle.sd_pagetable.specs.Page.{Page}
+use Rattle.sd_pagetable.specs.Contents.{Contents, page_at, put_page}
+use Rattle.sd_pagetable.specs.Frames.{Pool}
+use Rattle.sd_pagetable.specs.View.{page_of_entry, contents_of, IsKept}
+use Rattle.sd_pagetable.proofs.TableLemmas.{not_none}
+use Rattle.sd_pagetable.proofs.NestedLemmas.{alive_at}
+use Rattle.sd_pagetable.proofs.ViewLemmas.{entry_there, view_put, same_pool, page_entry, none_there}
+use Rattle.sd_pagetable.proofs.KeptLemmas.{frame_counted, kept_closed}
+use Rattle.sd_pagetable.proofs.TableLemmas.{some_of}
+use Rattle.sd_pagetable.proofs.ViewLemmas.{page_entry}
+use Rattle.sd_pagetable.proofs.NestedLemmas.{value_at-put}
+use Rattle.std.proofs.lemmas.Bool.{cond-true, cond-false, and_from, and_left, ne_eqb, eq-eqb}
+use Rattle.sd_pagetable.proofs.InheritLemmas.{members_le, kept_inherited, view_inherited}
+use Rattle.sd_pagetable.proofs.paging.Paging.inherit.Goals as goal
+
+abbrev shared_entry : Entry → Entry
+shared_entry e = record { prot = e.prot; frame = e.frame; writable = false; soft_dirty = e.soft_dirty }
+
+abbrev inherited_entry : Entry → Entry
+inherited_entry e = record { prot = e.prot; frame = e.frame; writable = false; soft_dirty = true }
+
+-- the child's own entry, once the parent's was changed
+record Inherits (pool : Pool) (tables : Nested Entry) (n parent child page : ℕ) (e : Entry) : Type 0 where
+  kept : IsKept pool (put_at tables parent page (shared_entry e)) n
+  there : value_at (put_at tables parent page (shared_entry e)) parent page ≡ Some (shared_entry e)
+  own : Entry
+  here : value_at (put_at tables parent page (shared_entry e)) child page ≡ Some own
+  none : own.frame ≡ None
+
+inherits : (pool : Pool) (tables : Nested Entry) (n parent child page : ℕ) (e : Entry) (m : Contents) → IsKept pool tables n → contents_of pool tables ≡ m → value_at tables parent page ≡ Some e → (parent ≡ child → ⊥) → IsSome (page_at m child page) → IfSome (page_at m child page) (λ (own : Page). own.class ≡ None) → Inherits pool tables n parent child page e
+inherits pool tables n parent child page e m kept v h apart mapped fresh =
+    let x = some_of (page_at m child page) mapped in
+    let own = page_entry pool tables child page x.0 (ap (λ (z : Contents). page_at z child page) v ∙ x.1) in
+    record {
+      kept = kept_closed pool tables n parent page (shared_entry e) e kept h refl refl;
+      there = value_at-put tables parent page (shared_entry e) parent page ∙ cond-true _ _ _ (and_from _ _ (eq-eqb parent parent refl) (eq-eqb page page refl));
+      own = own.0;
+      here = value_at-put tables parent page (shared_entry e) child page ∙ cond-false _ _ _ (and_left _ _ (ne_eqb child parent (λ same. apart (sym same)))) ∙ own.1;
+      none = ap (λ (z : Page). z.class) own.2 ∙ rw x.1 at fresh;
+    }
+
+pub replace-requires-2 : goal.replace-requires-2
+replace-requires-2 c =
+    let i = inherits c.self.inside.frames c.self.inside.tables c.self.inside.mapped c.args.parent c.args.child c.args.page c.in-Some.entry c.args.self.now c.self.invariant c.self.view_is (sym c.in-Some.ensures) c.requires.apart c.requires.mapped c.requires.fresh in
+    let t : c.replace.new.self ≡ put_at c.self.inside.tables c.args.parent c.args.page (shared_entry c.in-Some.entry) = c.replace.ensures ∙ ap (put_at c.self.inside.tables c.args.parent c.args.page) c.closed.ensures in
+    subst (λ (tables : Nested Entry). IsSome (value_at tables c.args.child c.args.page)) (sym t) (ap is_some i.here)
+
+pub share-requires-clause-used : goal.share-requires-clause-used
+share-requires-clause-used c = λ frame is. frame_counted c.self.inside.frames c.self.inside.tables c.self.inside.mapped c.args.parent c.args.page c.in-Some.entry frame c.self.invariant (sym c.in-Some.ensures) is
+
+pub share-requires-clause-few : goal.share-requires-clause-few
+share-requires-clause-few c = λ frame is.
+    let a = members_le (contents_of c.self.inside.frames c.self.inside.tables) frame in
+    let b = c.self.invariant.sound.few in
+    let d = c.self.invariant.counts frame in
+    omega (arith, a, b, d)
+
+pub invariant_of-self : goal.invariant_of-self
+invariant_of-self c =
+    let i = inherits c.self.inside.frames c.self.inside.tables c.self.inside.mapped c.args.parent c.args.child c.args.page c.in-Some.entry c.args.self.now c.self.invariant c.self.view_is (sym c.in-Some.ensures) c.requires.apart c.requires.mapped c.requires.fresh in
+    let t : c.replace.new.self ≡ put_at c.self.inside.tables c.args.parent c.args.page (shared_entry c.in-Some.entry) = c.replace.ensures ∙ ap (put_at c.self.inside.tables c.args.parent c.args.page) c.closed.ensures in
+    let u : c.replace-2.new.self ≡ put_at (put_at c.self.inside.tables c.args.parent c.args.page (shared_entry c.in-Some.entry)) c.args.child c.args.page (inherited_entry c.in-Some.entry) =
+    c.replace-2.ensures ∙ ap (λ (tables : Nested Entry). put_at tables c.args.child c.args.page c.closed-2.result) t ∙ ap (put_at (put_at c.self.inside.tables c.args.parent c.args.page (shared_entry c.in-Some.entry)) c.args.child c.args.page) c.closed-2.ensures in
+    subst (λ (tables : Nested Entry). IsKept c.share.new.frames tables c.self.inside.mapped) (sym u)
+    (kept_inherited c.self.inside.frames c.share.new.frames (put_at c.self.inside.tables c.args.parent c.args.page (shared_entry c.in-Some.entry)) c.self.inside.mapped c.args.parent c.args.child c.args.page (shared_entry c.in-Some.entry) i.own i.kept i.there refl i.here i.none c.share.ensures (inherited_entry c.in-Some.entry) refl refl)
+
+pub returns : goal.returns
+returns c =
+    let i = inherits c.self.inside.frames c.self.inside.tables c.self.inside.mapped c.args.parent c.args.child c.args.page c.in-Some.entry c.args.self.now c.self.invariant c.self.view_is (sym c.in-Some.ensures) c.requires.apart c.requires.mapped c.requires.fresh in
+    let h = sym c.in-Some.ensures in
+    let t : c.replace.new.self ≡ put_at c.self.inside.tables c.args.parent c.args.page (shared_entry c.in-Some.entry) = c.replace.ensures ∙ ap (put_at c.self.inside.tables c.args.parent c.args.page) c.closed.ensures in
+    let u : c.replace-2.new.self ≡ put_at (put_at c.self.inside.tables c.args.parent c.args.page (shared_entry c.in-Some.entry)) c.args.child c.args.page (inherited_entry c.in-Some.entry) =
+    c.replace-2.ensures ∙ ap (λ (tables : Nested Entry). put_at tables c.args.child c.args.page c.closed-2.result) t ∙ ap (put_at (put_at c.self.inside.tables c.args.parent c.args.page (shared_entry c.in-Some.entry)) c.args.child c.args.page) c.closed-2.ensures in
+    let now = ap (contents_of c.share.new.frames) u
+    ∙ view_inherited c.self.inside.frames c.share.new.frames (put_at c.self.inside.tables c.args.parent c.args.page (shared_entry c.in-Some.entry)) c.self.inside.mapped c.args.parent c.args.child c.args.page (shared_entry c.in-Some.entry) i.own i.kept i.there refl i.here i.none c.share.ensures (inherited_entry c.in-Some.entry) refl
+    ∙ ap (λ (m : Contents). put_page m c.args.child c.args.page (page_of_entry c.self.inside.frames (inherited_entry c.in-Some.entry)))
+    (view_put c.self.inside.frames c.self.inside.frames c.self.inside.tables c.args.parent c.args.page refl (alive_at c.self.inside.tables c.args.parent c.args.page c.in-Some.entry h) (same_pool c.self.inside.frames c.self.inside.tables c.args.parent c.args.page) (shared_entry c.in-Some.entry)
+    ∙ ap (λ (m : Contents). put_page m c.args.parent c.args.page (page_of_entry c.self.inside.frames (shared_entry c.in-Some.entry))) c.self.view_is) in
+    let there : page_at c.args.self.now c.args.parent c.args.page ≡ Some (page_of_entry c.self.inside.frames c.in-Some.entry) = ap (λ (m : Contents). page_at m c.args.parent c.args.page) (sym c.self.view_is) ∙ entry_there c.self.inside.frames c.self.inside.tables c.args.parent c.args.page c.in-Some.entry h in
+    rw there now
+
+pub returns-in_default : goal.returns-in_default
+returns-in_default c = absurd (not_none _ (none_there c.self.inside.frames c.self.inside.tables c.args.self.now c.args.parent c.args.page c.self.view_is (sym c.in_default.ensures)) c.requires.there)

@@ -1,0 +1,65 @@
+use Rattle.std.proofs.Common.{◌≡◌, ℕ, ap, ◌∙◌, sym, subst, Option, Some, true, false}
+use Rattle.std.specs.Option.{IfSome}
+use Rattle.sd_pagetable.specs.declared.entry.Entry.{Entry}
+use Rattle.sd_pagetable.specs.Nested.{Nested, value_at, put_at}
+use Rattle.sd_pagetable.specs.Page.{Page}
+use Rattle.sd_pagetable.specs.Contents.{Contents, page_at}
+use Rattle.sd_pagetable.specs.Frames.{Pool}
+use Rattle.sd_pagetable.specs.View.{contents_of, IsKept}
+use Rattle.sd_pagetable.proofs.TableLemmas.{not_none}
+use Rattle.sd_pagetable.proofs.ViewLemmas.{entry_there, none_there}
+use Rattle.sd_pagetable.proofs.KeptLemmas.{frame_counted}
+use Rattle.std.specs.Prelude.{Result, Err}
+use Rattle.std.proofs.Common.{◌⊎◌, inl, inr}
+use Rattle.std.proofs.lemmas.Result.{err_from_is_err_and}
+use Rattle.sd_pagetable.specs.declared.memory_error.MemoryError.{MemoryError}
+use Rattle.sd_pagetable.specs.declared.memory_error.MemoryError.TheVariants.{Denied as DeniedError, OutOfMemory}
+use Rattle.sd_pagetable.specs.declared.access_error.AccessError.{AccessError}
+use Rattle.sd_pagetable.specs.declared.access_error.AccessError.TheVariants.{Refused}
+use Rattle.sd_pagetable.specs.declared.memory_refusal.MemoryRefusal.TheVariants.{NoFrame}
+use Rattle.sd_pagetable.specs.Due.{Answers}
+use Rattle.sd_pagetable.specs.Frames.{IsExhausted}
+use Rattle.sd_pagetable.specs.Owning.{is_own}
+use Rattle.sd_pagetable.specs.Tracking.{Opens}
+use Rattle.sd_pagetable.proofs.FullLemmas.{due_room, due_full, opens_page}
+use Rattle.sd_pagetable.proofs.paging.Paging.open.Goals as goal
+
+pub returns-in_default-clause-opened : goal.returns-in_default-clause-opened
+returns-in_default-clause-opened c = absurd (not_none _ (none_there c.self.inside.frames c.self.inside.tables c.args.self.now c.args.space c.args.page c.self.view_is (sym c.in_default.ensures)) c.requires.there)
+
+pub returns-in_default-clause-due : goal.returns-in_default-clause-due
+returns-in_default-clause-due c = absurd (not_none _ (none_there c.self.inside.frames c.self.inside.tables c.args.self.now c.args.space c.args.page c.self.view_is (sym c.in_default.ensures)) c.requires.there)
+
+pub own_frame-requires : goal.own_frame-requires
+own_frame-requires c = λ frame is. frame_counted c.self.inside.frames c.self.inside.tables c.self.inside.mapped c.args.space c.args.page c.in-Some.entry frame c.self.invariant (sym c.in-Some.ensures) is
+
+refused : (due : Option AccessError) (error : MemoryError) (r : Result (Unit {0}) MemoryError) → r ≡ Err error → (error ≡ OutOfMemory) ⊎ ((error ≡ DeniedError (Refused NoFrame)) × (due ≡ Some (Refused NoFrame))) → Answers due r
+refused due error r e (inl memory) = subst (λ (x : Result (Unit {0}) MemoryError). Answers due x) (sym (e ∙ ap Err memory)) tt
+refused due error r e (inr full) = subst (λ (x : Result (Unit {0}) MemoryError). Answers due x) (sym (e ∙ ap Err full.0)) full.1
+
+refused_so : (error : MemoryError) (due : Option AccessError) (pool : Pool) (frame : Option ℕ) → (is_own pool frame ≡ false → IsExhausted pool → due ≡ Some (Refused NoFrame)) → (error ≡ OutOfMemory) ⊎ ((error ≡ DeniedError (Refused NoFrame)) × (is_own pool frame ≡ false) × IsExhausted pool) → (error ≡ OutOfMemory) ⊎ ((error ≡ DeniedError (Refused NoFrame)) × (due ≡ Some (Refused NoFrame)))
+refused_so error due pool frame h (inl memory) = inl memory
+refused_so error due pool frame h (inr full) = inr (full.0, h full.1 full.2)
+
+pub returns-in_err-frame-clause-due : goal.returns-in_err-frame-clause-due
+returns-in_err-frame-clause-due c =
+    let p = err_from_is_err_and c.from_residual.result c.from_residual.ensures.1 in
+    refused _ p.0 c.from_residual.result p.1 (rw p.2 (refused_so _ _ c.self.inside.frames c.in-Some.entry.frame (due_full c.self.inside.frames c.self.inside.tables c.self.inside.mapped c.self.invariant c.args.space c.args.page c.in-Some.entry (sym c.in-Some.ensures) c.args.self.now c.self.view_is) c.in_err-frame.ensures.refused))
+
+write_here : (pool : Pool) (tables : Nested Entry) (m : Contents) (s p : ℕ) (e : Entry) → contents_of pool tables ≡ m → value_at tables s p ≡ Some e → IfSome (page_at m s p) (λ (before : Page). before.prot.write ≡ true) → e.prot.write ≡ true
+write_here pool tables m s p e v h w = rw (entry_there pool tables s p e h) at (subst (λ (n : Contents). IfSome (page_at n s p) (λ (before : Page). before.prot.write ≡ true)) (sym v) w)
+
+pub invariant_of-self-2 : goal.invariant_of-self-2
+invariant_of-self-2 c =
+    let write = write_here c.self.inside.frames c.self.inside.tables c.args.self.now c.args.space c.args.page c.in-Some.entry c.self.view_is (sym c.in-Some.ensures) c.requires.permitted in
+    subst (λ (t : Nested Entry). IsKept c.own_frame.new.frames t c.self.inside.mapped) (sym (c.replace.ensures ∙ ap (put_at c.self.inside.tables c.args.space c.args.page) c.opened.ensures))
+    (opens_page c.self.inside.frames c.self.inside.tables c.self.inside.mapped c.self.invariant c.args.space c.args.page c.in-Some.entry (sym c.in-Some.ensures) c.args.self.now c.self.view_is c.own_frame.new.frames c.in_ok-frame.frame write c.in_ok-frame.ensures.owns).0
+
+pub returns-clause-opened : goal.returns-clause-opened
+returns-clause-opened c =
+    let write = write_here c.self.inside.frames c.self.inside.tables c.args.self.now c.args.space c.args.page c.in-Some.entry c.self.view_is (sym c.in-Some.ensures) c.requires.permitted in
+    subst (λ (t : Nested Entry). Opens c.args.self.now c.args.space c.args.page (λ bytes. bytes) (contents_of c.own_frame.new.frames t)) (sym (c.replace.ensures ∙ ap (put_at c.self.inside.tables c.args.space c.args.page) c.opened.ensures))
+    (opens_page c.self.inside.frames c.self.inside.tables c.self.inside.mapped c.self.invariant c.args.space c.args.page c.in-Some.entry (sym c.in-Some.ensures) c.args.self.now c.self.view_is c.own_frame.new.frames c.in_ok-frame.frame write c.in_ok-frame.ensures.owns).1
+
+pub returns-clause-due : goal.returns-clause-due
+returns-clause-due c = due_room c.self.inside.frames c.self.inside.tables c.self.inside.mapped c.self.invariant c.args.space c.args.page c.in-Some.entry (sym c.in-Some.ensures) c.args.self.now c.self.view_is c.in_ok-frame.ensures.room

@@ -1,6 +1,0 @@
-/// What an access does to a page, and so which permission it needs.
-#[derive(Clone, Copy, Debug, PartialEq, Eq)]
-pub enum Need {
-    Read,
-    Write,
-}

@@ -1,0 +1,458 @@
+//! The pages of all spaces over the frames, one page at a time.
+ghost use Rattle.std.specs.Prelude.{◌≡◌, ◌+◌, ◌<◌, ◌≤◌, ◌^◌, if◌then◌else◌, ℕ, ◌==◌, true, false, None, Some, length, IsSome, OnOk, OnErr, IfOk, IfSome, IfNone};
+ghost use Rattle.sd_areas.specs.Pages.{page_of};
+ghost use Rattle.std.specs.Option.{option_map, option_map_or};
+ghost use Rattle.std.specs.FinMap as finmap;
+ghost use Rattle.sd_pagetable.specs.Nested.{inside, is_alive};
+ghost use Rattle.sd_pagetable.specs.Page.{Page, fresh_page, shared_page, inherited_page, stored_page};
+ghost use Rattle.sd_pagetable.specs.Contents.{page_at, put_page, remove_page, is_alone, is_full, page_count, word_at, IsSound};
+ghost use Rattle.sd_pagetable.specs.Access.{stored_at};
+ghost use Rattle.sd_pagetable.specs.Firsts.{IsFirstFrom};
+ghost use Rattle.std.specs.Prelude.{◌⊎◌, IfErr};
+ghost use Rattle.std.specs.Option.{ForSome};
+ghost use Rattle.sd_pagetable.specs.Frames.{count_at, IsExhausted, HasFree};
+ghost use Rattle.sd_pagetable.specs.Owning.{ReleasesFrame, SharesFrame, is_own, TakesFrame, OwnsFrame};
+ghost use Rattle.sd_pagetable.specs.declared.memory_refusal.MemoryRefusal.TheVariants.{NoFrame};
+ghost use Rattle.sd_pagetable.specs.declared.access_error.AccessError.TheVariants.{Refused};
+ghost use Rattle.sd_pagetable.specs.declared.memory_error.MemoryError.TheVariants.{Denied as DeniedError, OutOfMemory};
+ghost use Rattle.sd_pagetable.specs.Due.{Answers, frame_due};
+ghost use Rattle.sd_pagetable.specs.Tracking.{Opens};
+ghost use Rattle.sd_pagetable.specs.View.{entry_of};
+ghost use Rattle.sd_areas.specs.Memory.{page_of_snapshot};
+ghost use Rattle.sd_pagetable.specs.Loaded.{is_zero_page, Loads, GivesFrame};
+
+use crate::entry::Entry;
+use crate::frame::Frame;
+use crate::frames::Frames;
+use crate::loading::is_zero;
+use crate::memory_error::MemoryError;
+use crate::memory_refusal::MemoryRefusal;
+use crate::tables::Tables;
+use sd_areas::{PAGE_SIZE, PageNo, Prot, SnapshotPage, SpaceId};
+use std::alloc::{AllocError, Global};
+use std::marker::Model;
+use std::ops::Bound;
+
+/// How many bytes a page has.
+const PAGE_BYTES: u64 = PAGE_SIZE as u64;
+
+/// How many pages can be mapped in all spaces.
+pub(crate) const MAPPED_LIMIT: u64 = 65_536;
+
+/// The greatest number that a space can have.
+pub(crate) const SPACE_LIMIT: u64 = 16;
+
+/// Bit 63 of a word: the page has a frame.
+const PRESENT: u64 = 1 << 63;
+
+/// Bit 56 of a word: no other page has its frame.
+const EXCLUSIVE: u64 = 1 << 56;
+
+/// Bit 55 of a word: the page was touched since its clear.
+const SOFT_DIRTY: u64 = 1 << 55;
+
+/// The pages of all spaces: their entries, over the frames.
+#[derive(Drop)]
+pub(crate) struct Paging {
+    frames: Frames,
+    tables: Tables,
+    mapped: u64,
+}
+
+impl Model for Paging {
+    ghost use Rattle.sd_pagetable.specs.Contents.{Contents, contents_code};
+    ghost use Rattle.sd_pagetable.specs.View.{contents_of, IsKept};
+
+    ghost Value = { Contents };
+
+    ghost coded = { contents_code };
+
+    ghost view = { λ m. contents_of m.frames m.tables };
+
+    ghost invariant = { λ m. IsKept m.frames m.tables m.mapped };
+}
+
+impl Paging {
+    /// No space, over a pool of so many frames.
+    pub(crate) fn new(alloc: Global, pool: usize) -> Self
+        ensures { result ≡ record { pool = pool; spaces = finmap.empty } }
+    {
+        Paging {
+            frames: Frames::new(alloc, pool),
+            tables: Tables::new(alloc),
+            mapped: 0,
+        }
+    }
+
+    /// Whether a space is alive.
+    pub(crate) fn is_alive(&self, space: SpaceId) -> bool
+        ensures { result ≡ is_alive self.now.spaces space }
+    {
+        self.tables.is_alive(space)
+    }
+
+    /// How many spaces are alive.
+    pub(crate) fn space_count(&self) -> usize
+        ensures { result ≡ finmap.len self.now.spaces }
+    {
+        self.tables.len()
+    }
+
+    /// How many pages are mapped in all spaces.
+    pub(crate) fn mapped(&self) -> u64
+        ensures value { result ≡ page_count self.now.spaces }
+        ensures few { result ≤ 65536 }
+        ensures sound { IsSound self.now }
+    {
+        self.mapped
+    }
+
+    /// How many pages a space has.
+    pub(crate) fn pages_in(&self, space: SpaceId) -> usize
+        ensures { result ≡ finmap.len (inside self.now.spaces space) }
+    {
+        self.tables.pages_in(space)
+    }
+
+    /// The entry of a page, if it is mapped.
+    pub(crate) fn entry(&self, space: SpaceId, page: PageNo) -> Option<Entry>
+        ensures value { result ≡ option_map entry_of (page_at self.now space page) }
+        ensures sound { IsSound self.now }
+    {
+        self.tables.get(space, page)
+    }
+
+    /// The page of an address and its entry, if it is mapped.
+    pub(crate) fn find(&self, space: SpaceId, address: u64) -> Option<(PageNo, Entry)>
+        ensures found { IfSome result (λ found. (found.0 ≡ page_of address)
+            × (option_map entry_of (page_at self.now space (page_of address)) ≡ Some found.1)) }
+        ensures none { IfNone result (page_at self.now space (page_of address) ≡ None) }
+    {
+        let tables = &self.tables;
+        let Some(page) = PageNo::new(address / PAGE_BYTES) else {
+            return None;
+        };
+        let Some(entry) = tables.get(space, page) else {
+            return None;
+        };
+        Some((page, entry))
+    }
+
+    /// The bytes of a page, if it is mapped. A page without a frame reads as zeros.
+    pub(crate) fn bytes(&self, space: SpaceId, page: PageNo) -> Option<&[u8]>
+        ensures value { option_map (λ bytes. bytes.now) result ≡ option_map (λ (page : Page). page.bytes) (page_at self.now space page) }
+        ensures length { IfSome result (λ bytes. length bytes.now ≡ 4096) }
+    {
+        let entry = self.tables.get(space, page)?;
+        Some(self.frames.bytes_of(entry.frame))
+    }
+
+    /// The word of a page.
+    pub(crate) fn word(&self, space: SpaceId, page: PageNo) -> u64
+        ensures { result ≡ word_at self.now space page }
+    {
+        let Some(entry) = self.tables.get(space, page) else {
+            return 0;
+        };
+        let soft_dirty = dirty_bit(entry);
+        let Some(frame) = entry.frame else {
+            return soft_dirty;
+        };
+        if self.frames.count(frame) == 1 {
+            PRESENT + EXCLUSIVE + soft_dirty
+        } else {
+            PRESENT + soft_dirty
+        }
+    }
+
+    /// The first page of a space from a bound on.
+    pub(crate) fn first_from(&self, space: SpaceId, start: Bound<PageNo>) -> Option<PageNo>
+        ensures { IsFirstFrom (inside self.now.spaces space) start result }
+    {
+        self.tables.first_from(space, start)
+    }
+
+    /// The first page of a space.
+    pub(crate) fn first_in(&self, space: SpaceId) -> Option<PageNo>
+        ensures first { IsFirstFrom (inside self.now.spaces space) Bound.Unbounded result }
+        ensures sound { IsSound self.now }
+    {
+        let _mapped = self.mapped;
+        self.first_from(space, Bound::Unbounded)
+    }
+
+    /// Adds a space without pages.
+    ///
+    /// # Errors
+    ///
+    /// Out of memory where there is no room for it: nothing changes.
+    pub(crate) fn add_space(&mut self, space: SpaceId) -> Result<(), AllocError>
+        requires fresh { is_alive self.old.spaces space ≡ false }
+        requires least { 1 ≤ space }
+        requires greatest { space ≤ 16 }
+        ensures ok { OnOk result (self.new ≡ record { pool = self.old.pool; spaces = finmap.insert self.old.spaces space finmap.empty }) }
+        ensures err { OnErr result (self.new ≡ self.old) }
+    {
+        self.tables.add_space(space)
+    }
+
+    /// Takes a space without pages away.
+    pub(crate) fn remove_space(&mut self, space: SpaceId)
+        requires { inside self.old.spaces space ≡ finmap.empty }
+        ensures { self.new ≡ record { pool = self.old.pool; spaces = finmap.remove self.old.spaces space } }
+    {
+        self.tables.remove_space(space);
+    }
+
+    /// Maps a page that isn't mapped.
+    ///
+    /// # Errors
+    ///
+    /// Out of memory where the table can't grow: nothing changes.
+    pub(crate) fn add(&mut self, space: SpaceId, page: PageNo, prot: Prot) -> Result<(), AllocError>
+        requires alive { is_alive self.old.spaces space ≡ true }
+        requires hole { page_at self.old space page ≡ None }
+        requires few { page_count self.old.spaces < 65536 }
+        ensures ok { OnOk result (self.new ≡ put_page self.old space page (fresh_page prot)) }
+        ensures err { OnErr result (self.new ≡ self.old) }
+    {
+        let _number = page.number();
+        self.tables.insert(space, page, Entry::fresh(prot))?;
+        self.mapped += 1;
+        Ok(())
+    }
+
+    /// Maps a page of a snapshot that isn't mapped: without a frame where it is all zeros, else
+    /// alone in one, which its bytes become.
+    ///
+    /// # Errors
+    ///
+    /// Out of memory where the table or the list of frames can't grow.
+    pub(crate) fn load(
+        &mut self,
+        space: SpaceId,
+        page: PageNo,
+        found: SnapshotPage,
+    ) -> Result<(), AllocError>
+        requires alive { is_alive self.old.spaces space ≡ true }
+        requires hole { page_at self.old space page ≡ None }
+        requires few { page_count self.old.spaces < 65536 }
+        requires room { is_zero_page found.bytes.value ≡ false → is_full self.old ≡ false }
+        ensures { OnOk result (Loads self.old space page (page_of_snapshot found) self.new) }
+    {
+        let SnapshotPage { prot, bytes } = found;
+        self.add(space, page, prot)?;
+        if is_zero(&bytes) {
+            return Ok(());
+        }
+        self.put_bytes(space, page, bytes)
+    }
+
+    /// Gives a page without a frame one of its own, with these bytes.
+    ///
+    /// # Errors
+    ///
+    /// Out of memory where the list of frames can't grow: nothing changes.
+    fn put_bytes(
+        &mut self,
+        space: SpaceId,
+        page: PageNo,
+        bytes: Box<[u8; PAGE_SIZE]>,
+    ) -> Result<(), AllocError>
+        requires there { IsSome (page_at self.old space page) }
+        requires fresh { IfSome (page_at self.old space page) (λ (before : Page). (before.class ≡ None) × (before.writable ≡ false)) }
+        requires room { is_full self.old ≡ false }
+        ensures { OnOk result (IfSome (page_at self.old space page) (λ (before : Page). GivesFrame self.old space page before bytes.value self.new)) }
+    {
+        let Some(entry) = self.tables.get(space, page) else {
+            return Ok(());
+        };
+        let frame = self.frames.place(Frame::new(bytes))?;
+        self.tables.replace(space, page, entry.with_frame(frame));
+        Ok(())
+    }
+
+    /// Unmaps a page.
+    pub(crate) fn remove(&mut self, space: SpaceId, page: PageNo)
+        requires { IsSome (page_at self.old space page) }
+        ensures { self.new ≡ remove_page self.old space page }
+    {
+        let Some(entry) = self.tables.get(space, page) else {
+            return;
+        };
+        self.tables.remove(space, page);
+        release(&mut self.frames, entry.frame);
+        self.mapped -= 1;
+    }
+
+    /// Maps a page anew in place of what it was.
+    pub(crate) fn renew(&mut self, space: SpaceId, page: PageNo, prot: Prot)
+        requires { IsSome (page_at self.old space page) }
+        ensures { self.new ≡ put_page self.old space page (fresh_page prot) }
+    {
+        let Some(entry) = self.tables.get(space, page) else {
+            return;
+        };
+        self.tables.replace(space, page, Entry::fresh(prot));
+        release(&mut self.frames, entry.frame);
+    }
+
+    /// Gives a page permissions and a soft-dirty bit, and takes its writable bit.
+    pub(crate) fn close(&mut self, space: SpaceId, page: PageNo, prot: Prot, soft_dirty: bool)
+        requires { IsSome (page_at self.old space page) }
+        ensures { IfSome (page_at self.old space page) (λ (before : Page).
+            self.new ≡ put_page self.old space page
+            (record before { prot = prot; writable = false; soft_dirty = soft_dirty })) }
+    {
+        if let Some(entry) = self.tables.get(space, page) {
+            let frame = entry.frame;
+            let closed = Entry {
+                prot,
+                frame,
+                writable: false,
+                soft_dirty,
+            };
+            self.tables.replace(space, page, closed);
+        }
+    }
+
+    /// Puts a child's page, which has no frame, into the class of the parent's, and takes both
+    /// writable bits.
+    pub(crate) fn inherit(&mut self, parent: SpaceId, child: SpaceId, page: PageNo)
+        requires apart { parent ≡ child → ⊥ }
+        requires there { IsSome (page_at self.old parent page) }
+        requires fresh { IfSome (page_at self.old child page) (λ (own : Page). own.class ≡ None) }
+        requires mapped { IsSome (page_at self.old child page) }
+        ensures { IfSome (page_at self.old parent page) (λ (before : Page).
+            self.new ≡ put_page (put_page self.old parent page (shared_page before)) child page
+            (inherited_page before)) }
+    {
+        let Some(entry) = self.tables.get(parent, page) else {
+            return;
+        };
+        self.tables
+            .replace(parent, page, entry.closed(entry.soft_dirty));
+        self.tables.replace(child, page, entry.closed(true));
+        share(&mut self.frames, entry.frame);
+    }
+
+    /// Gives a page a frame of its own alone, a copy where it was shared, and sets both bits.
+    ///
+    /// # Errors
+    ///
+    /// No-frame where a frame is needed and every frame of the pool is used, and out of memory
+    /// where the frame's bytes can't be allocated. An error changes nothing.
+    pub(crate) fn open(&mut self, space: SpaceId, page: PageNo) -> Result<(), MemoryError>
+        requires permitted { IfSome (page_at self.old space page) (λ (before : Page). before.prot.write ≡ true) }
+        requires there { IsSome (page_at self.old space page) }
+        ensures opened { OnOk result (Opens self.old space page (λ bytes. bytes) self.new) }
+        ensures due { Answers (frame_due self.old (page_at self.old space page)) result }
+        ensures err { OnErr result (self.new ≡ self.old) }
+    {
+        let Some(entry) = self.tables.get(space, page) else {
+            return Ok(());
+        };
+        let frame = own_frame(&mut self.frames, entry.frame)?;
+        self.tables.replace(space, page, entry.opened(frame));
+        Ok(())
+    }
+
+    /// Writes bytes into a writable page, from an offset on.
+    pub(crate) fn write(&mut self, space: SpaceId, page: PageNo, offset: usize, bytes: &[u8])
+        requires there { IsSome (page_at self.old space page) }
+        requires writable { IfSome (page_at self.old space page) (λ (before : Page). before.writable ≡ true) }
+        requires within { offset + length bytes.now ≤ 4096 }
+        ensures { IfSome (page_at self.old space page) (λ (before : Page).
+            self.new ≡ put_page self.old space page (stored_page before (stored_at before.bytes offset bytes.now))) }
+    {
+        let Some(entry) = self.tables.get(space, page) else {
+            return;
+        };
+        let Some(frame) = entry.frame else {
+            return;
+        };
+        self.frames.write(frame, offset, bytes);
+    }
+}
+
+/// Bit 55 of a word, where it is set.
+fn dirty_bit(entry: Entry) -> u64
+    ensures { result ≡ (if entry.soft_dirty then 2 ^ 55 else 0) }
+{
+    if entry.soft_dirty { SOFT_DIRTY } else { 0 }
+}
+
+/// One entry less has this frame, if it has one.
+fn release(frames: &mut Frames, frame: Option<usize>)
+    requires { ForSome frame (λ number. 0 < count_at frames.old number) }
+    ensures { ReleasesFrame frames.old frames.new frame }
+{
+    let Some(number) = frame else {
+        return;
+    };
+    frames.release(number);
+}
+
+/// One entry more has this frame, if it has one.
+fn share(frames: &mut Frames, frame: Option<usize>)
+    requires used { ForSome frame (λ number. 0 < count_at frames.old number) }
+    requires few { ForSome frame (λ number. count_at frames.old number < 2 ^ 17) }
+    ensures { SharesFrame frames.old frames.new frame }
+{
+    let Some(number) = frame else {
+        return;
+    };
+    frames.share(number);
+}
+
+/// The frame that an entry has to itself: its own where no other has it, else a new one, with a
+/// copy of what it had.
+///
+/// # Errors
+///
+/// No-frame where a new one is needed and every frame is used, and out of memory. Nothing changes.
+fn own_frame(frames: &mut Frames, frame: Option<usize>) -> Result<usize, MemoryError>
+    requires { ForSome frame (λ number. 0 < count_at frames.old number) }
+    ensures owns { IfOk result (λ own. OwnsFrame frames.old frames.new frame own) }
+    ensures refused { IfErr result (λ error. (error ≡ OutOfMemory) ⊎ ((error ≡ DeniedError (Refused NoFrame)) × (is_own frames.old frame ≡ false) × IsExhausted frames.old)) }
+    ensures room { IfOk result (λ _. (is_own frames.old frame ≡ true) ⊎ HasFree frames.old) }
+    ensures err { OnErr result (frames.new ≡ frames.old) }
+{
+    let Some(shared) = frame else {
+        return zero_frame(frames);
+    };
+    if frames.count(shared) == 1 {
+        return Ok(shared);
+    }
+    copy_of(frames, shared)
+}
+
+/// A new frame of zeros.
+fn zero_frame(frames: &mut Frames) -> Result<usize, MemoryError>
+    ensures owns { IfOk result (λ own. TakesFrame frames.old frames.new None own) }
+    ensures refused { IfErr result (λ error. (error ≡ OutOfMemory) ⊎ ((error ≡ DeniedError (Refused NoFrame)) × IsExhausted frames.old)) }
+    ensures room { OnOk result (HasFree frames.old) }
+    ensures err { OnErr result (frames.new ≡ frames.old) }
+{
+    if frames.is_exhausted() {
+        return Err(MemoryRefusal::NoFrame.into());
+    }
+    Ok(frames.fresh()?)
+}
+
+/// A copy of a shared frame, which one entry less has then.
+fn copy_of(frames: &mut Frames, shared: usize) -> Result<usize, MemoryError>
+    requires some { 0 < count_at frames.old shared }
+    requires more { count_at frames.old shared ≡ 1 → ⊥ }
+    ensures owns { IfOk result (λ own. TakesFrame frames.old frames.new (Some shared) own) }
+    ensures refused { IfErr result (λ error. (error ≡ OutOfMemory) ⊎ ((error ≡ DeniedError (Refused NoFrame)) × IsExhausted frames.old)) }
+    ensures room { OnOk result (HasFree frames.old) }
+    ensures err { OnErr result (frames.new ≡ frames.old) }
+{
+    if frames.is_exhausted() {
+        return Err(MemoryRefusal::NoFrame.into());
+    }
+    let own = frames.copied(shared)?;
+    frames.release(shared);
+    Ok(own)
+}

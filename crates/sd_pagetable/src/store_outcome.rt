@@ -1,0 +1,8 @@
+/// What a try of a store on a permitted page answers.
+#[derive(Clone, Copy, Debug, PartialEq, Eq, Hash)]
+pub enum StoreOutcome {
+    /// The bytes are stored.
+    Done,
+    /// The page isn't writable: it needs a fault first, and nothing is stored.
+    NeedsFault,
+}
