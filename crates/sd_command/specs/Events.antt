@@ -1,0 +1,54 @@
+-- The page table's event of a command and its reply, and what the frames and the writable bits decide of the reply.
+use Rattle.std.specs.Prelude.{◌≡◌, ◌≢◌, ◌↔◌, ◌%◌, ℕ, Bool, true, false, length, Option, Some, None, IfSome}
+use Rattle.sd_areas.specs.Pages.{page_of, pages_for}
+use Rattle.sd_pagetable.specs.Contents.{Contents, page_at, plain_of}
+use Rattle.sd_pagetable.specs.Due.{frame_due}
+use Rattle.sd_pagetable.specs.Page.{Page}
+use Rattle.sd_pagetable.specs.Tracking.{Event, Mapped, Unmapped, Protected, Forked, Exited, Faulted, Tried, Stored, Passed, Step}
+use Rattle.sd_command.specs.declared.command.Command.{Command}
+use Rattle.sd_command.specs.declared.command.Command.TheVariants as command
+use Rattle.sd_command.specs.declared.refusal.Refusal.TheVariants as refusal
+use Rattle.sd_command.specs.declared.reply.Reply.{Reply}
+use Rattle.sd_command.specs.declared.reply.Reply.TheVariants as reply
+use Rattle.sd_command.specs.Replies.{IsLegalReply, denial_in, effect}
+
+-- the page table's event: it has passed by where nothing happened
+abbrev pub event_of : Command → Reply → Event
+event_of (command.Mmap space address bytes prot) reply.Done = Mapped space (page_of address) (pages_for bytes) prot
+event_of (command.Munmap space address bytes) reply.Done = Unmapped space (page_of address) (pages_for bytes)
+event_of (command.Mprotect space address bytes prot) reply.Done = Protected space (page_of address) (pages_for bytes) prot
+event_of (command.Fork space) (reply.Child child) = Forked space child
+event_of (command.Exit space) reply.Done = Exited space
+event_of (command.TryStore space address bytes) reply.Done = Tried space (page_of address) (address % 4096) bytes
+event_of (command.Fault space address) reply.Done = Faulted space (page_of address)
+event_of (command.Store space address bytes) reply.Done = Stored space (page_of address) (address % 4096) bytes
+event_of _ _ = Passed
+
+-- the page of an address
+abbrev pub page_under : Contents → ℕ → ℕ → Option Page
+page_under memory space address = page_at memory space (page_of address)
+
+-- What a legal reply leaves open: a try needs a fault exactly where the page isn't writable; a fault or a store is
+-- refused a frame exactly where one is due and none is left.
+abbrev pub Chooses : Contents → Command → Reply → Type 0
+Chooses memory (command.TryStore space address bytes) answer =
+    denial_in (plain_of memory) (command.TryStore space address bytes) ≡ None
+    → (answer ≡ reply.NeedsFault) ↔ IfSome (page_under memory space address) (λ (page : Page). page.writable ≡ false)
+Chooses memory (command.Fault space address) answer =
+    denial_in (plain_of memory) (command.Fault space address) ≡ None
+    → (answer ≡ reply.Refused refusal.NoFrame) ↔ (frame_due memory (page_under memory space address) ≢ None)
+Chooses memory (command.Store space address bytes) answer =
+    denial_in (plain_of memory) (command.Store space address bytes) ≡ None
+    → (answer ≡ reply.Refused refusal.NoFrame) ↔ (frame_due memory (page_under memory space address) ≢ None)
+Chooses memory _ answer = Unit {0}
+
+-- whether a command takes memory, and so may find none: an exit and a try of a store take none
+abbrev pub takes_memory : Command → Bool
+takes_memory (command.Exit space) = false
+takes_memory (command.TryStore space address bytes) = false
+takes_memory _ = true
+
+-- a legal reply's event makes of the plain memory what the command makes of it
+abbrev pub EffectLaw : Type 0
+EffectLaw = (old new : Contents) (asked : Command) (answer : Reply) → IsLegalReply (plain_of old) false asked answer
+    → Step old (event_of asked answer) new → plain_of new ≡ effect asked answer (plain_of old)

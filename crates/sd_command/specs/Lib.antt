@@ -1,0 +1,4 @@
+pub mod Attempts
+pub mod Events
+pub mod Refusals
+pub mod Replies

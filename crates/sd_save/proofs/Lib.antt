@@ -1,0 +1,16 @@
+pub mod AreaLemmas
+pub mod ClearLemmas
+pub mod CrashLemmas
+pub mod DumpLemmas
+pub mod FileLemmas
+pub mod GreatestLemmas
+pub mod GrownRuns
+pub mod ImageLemmas
+pub mod PageBytes
+pub mod PlanLemmas
+pub mod RawLemmas
+pub mod SlotLemmas
+pub mod SpaceDumps
+pub mod TakeLemmas
+pub mod TextLemmas
+pub mod WriteLemmas

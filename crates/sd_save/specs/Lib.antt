@@ -1,0 +1,11 @@
+pub mod AfterCrash
+pub mod Answers
+pub mod Beginning
+pub mod Cleared
+pub mod Dump
+pub mod ImageText
+pub mod Pages
+pub mod PlanRun
+pub mod Runs
+pub mod SlotFile
+pub mod Slots

@@ -1,0 +1,7 @@
+-- The lines so far fit, and made the requests so far.
+use Rattle.std.proofs.Common.{map}
+use Rattle.sd_script.proofs.Parsing.{Parsed}
+use Rattle.sd_script.proofs.script.Script.parse.Given as goal
+
+abbrev pub invariant-loop-index : goal.invariant-loop-index
+invariant-loop-index l = Parsed l.script l.text-items l.index (l.lines.items)

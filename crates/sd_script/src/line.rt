@@ -1,0 +1,255 @@
+//! One line of a script.
+
+ghost use Rattle.std.specs.Prelude.{◌≡◌, ◌≤◌, map};
+ghost use Rattle.sd_script.specs.Line.{Gives, GivesBytes, asked_by, asked_by_word, at_least_one, checkpoint_of, exit_of, fault_of, fork_of, hex_of, load_of, mmap_of, mprotect_of, munmap_of, number_of, numeral_of, prot_of, store_of, try_of, words_of};
+
+use crate::line_error::LineError;
+use sd_areas::{Prot, SpaceId};
+use sd_command::{Bytes, Command};
+use std::alloc::Global;
+
+/// What a line asks for.
+#[derive(Debug, Drop)]
+pub enum Line {
+    Command(Command),
+    /// The words of so many pages, from the page of an address on.
+    Words {
+        space: SpaceId,
+        address: u64,
+        count: u64,
+    },
+    /// A checkpoint with no rounds before its freeze.
+    Checkpoint,
+}
+
+/// What a line asks for. Its fields are separated by single spaces.
+pub fn parse(alloc: Global, line: &str) -> Result<Line, LineError>
+    ensures { Gives result (asked_by line.now) }
+{
+    let fields: Vec<&str> = line.split(' ').collect(alloc)?;
+    match fields.as_slice() {
+        [word, arguments @ ..] => request(alloc, word, arguments),
+        [] => Err(LineError::Unfit),
+    }
+}
+
+fn request(alloc: Global, word: &str, arguments: &[&str]) -> Result<Line, LineError>
+    ensures { Gives result (asked_by_word word.now (map (λ field. field.now) arguments.now)) }
+{
+    match word {
+        "mmap" => mmap(arguments).ok_or(LineError::Unfit),
+        "munmap" => munmap(arguments).ok_or(LineError::Unfit),
+        "mprotect" => mprotect(arguments).ok_or(LineError::Unfit),
+        "fork" => fork(arguments).ok_or(LineError::Unfit),
+        "exit" => exit(arguments).ok_or(LineError::Unfit),
+        "load" => load(arguments).ok_or(LineError::Unfit),
+        "try" => try_store(alloc, arguments),
+        "fault" => fault(arguments).ok_or(LineError::Unfit),
+        "store" => store(alloc, arguments),
+        "words" => words(arguments).ok_or(LineError::Unfit),
+        "checkpoint" => checkpoint(arguments).ok_or(LineError::Unfit),
+        _ => Err(LineError::Unfit),
+    }
+}
+
+fn mmap(arguments: &[&str]) -> Option<Line>
+    ensures { result ≡ mmap_of (map (λ field. field.now) arguments.now) }
+{
+    let [space, address, length, prot] = arguments else {
+        return None;
+    };
+    Some(Line::Command(Command::Mmap {
+        space: SpaceId::new(number(space)?),
+        address: number(address)?,
+        length: number(length)?,
+        prot: permissions(prot)?,
+    }))
+}
+
+fn munmap(arguments: &[&str]) -> Option<Line>
+    ensures { result ≡ munmap_of (map (λ field. field.now) arguments.now) }
+{
+    let [space, address, length] = arguments else {
+        return None;
+    };
+    Some(Line::Command(Command::Munmap {
+        space: SpaceId::new(number(space)?),
+        address: number(address)?,
+        length: number(length)?,
+    }))
+}
+
+fn mprotect(arguments: &[&str]) -> Option<Line>
+    ensures { result ≡ mprotect_of (map (λ field. field.now) arguments.now) }
+{
+    let [space, address, length, prot] = arguments else {
+        return None;
+    };
+    Some(Line::Command(Command::Mprotect {
+        space: SpaceId::new(number(space)?),
+        address: number(address)?,
+        length: number(length)?,
+        prot: permissions(prot)?,
+    }))
+}
+
+fn fork(arguments: &[&str]) -> Option<Line>
+    ensures { result ≡ fork_of (map (λ field. field.now) arguments.now) }
+{
+    let [space] = arguments else {
+        return None;
+    };
+    let space = SpaceId::new(number(space)?);
+    Some(Line::Command(Command::Fork { space }))
+}
+
+fn exit(arguments: &[&str]) -> Option<Line>
+    ensures { result ≡ exit_of (map (λ field. field.now) arguments.now) }
+{
+    let [space] = arguments else {
+        return None;
+    };
+    let space = SpaceId::new(number(space)?);
+    Some(Line::Command(Command::Exit { space }))
+}
+
+fn load(arguments: &[&str]) -> Option<Line>
+    ensures { result ≡ load_of (map (λ field. field.now) arguments.now) }
+{
+    let [space, address, count] = arguments else {
+        return None;
+    };
+    Some(Line::Command(Command::Load {
+        space: SpaceId::new(number(space)?),
+        address: number(address)?,
+        count: number(count)?,
+    }))
+}
+
+fn try_store(alloc: Global, arguments: &[&str]) -> Result<Line, LineError>
+    ensures { Gives result (try_of (map (λ field. field.now) arguments.now)) }
+{
+    let [space, address, bytes] = arguments else {
+        return Err(LineError::Unfit);
+    };
+    Ok(Line::Command(Command::TryStore {
+        space: SpaceId::new(number(space).ok_or(LineError::Unfit)?),
+        address: number(address).ok_or(LineError::Unfit)?,
+        bytes: Bytes::new(hex_bytes(alloc, bytes)?),
+    }))
+}
+
+fn fault(arguments: &[&str]) -> Option<Line>
+    ensures { result ≡ fault_of (map (λ field. field.now) arguments.now) }
+{
+    let [space, address] = arguments else {
+        return None;
+    };
+    Some(Line::Command(Command::Fault {
+        space: SpaceId::new(number(space)?),
+        address: number(address)?,
+    }))
+}
+
+fn store(alloc: Global, arguments: &[&str]) -> Result<Line, LineError>
+    ensures { Gives result (store_of (map (λ field. field.now) arguments.now)) }
+{
+    let [space, address, bytes] = arguments else {
+        return Err(LineError::Unfit);
+    };
+    Ok(Line::Command(Command::Store {
+        space: SpaceId::new(number(space).ok_or(LineError::Unfit)?),
+        address: number(address).ok_or(LineError::Unfit)?,
+        bytes: Bytes::new(hex_bytes(alloc, bytes)?),
+    }))
+}
+
+/// Words of no page at all don't fit.
+fn words(arguments: &[&str]) -> Option<Line>
+    ensures { result ≡ words_of (map (λ field. field.now) arguments.now) }
+{
+    let [space, address, count] = arguments else {
+        return None;
+    };
+    Some(Line::Words {
+        space: SpaceId::new(number(space)?),
+        address: number(address)?,
+        count: at_least_one(number(count)?)?,
+    })
+}
+
+fn at_least_one(number: u64) -> Option<u64>
+    ensures { result ≡ at_least_one number }
+{
+    (number > 0).then_some(number)
+}
+
+/// Rounds before the freeze aren't built yet.
+fn checkpoint(arguments: &[&str]) -> Option<Line>
+    ensures { result ≡ checkpoint_of (map (λ field. field.now) arguments.now) }
+{
+    let [rounds] = arguments else {
+        return None;
+    };
+    match number(rounds)? {
+        0 => Some(Line::Checkpoint),
+        _ => None,
+    }
+}
+
+/// A number below 2^64, decimal or `0x` and hexadecimal digits in either case, with leading zeros or without.
+fn number(text: &str) -> Option<u64>
+    ensures { result ≡ number_of text.now }
+{
+    match text.strip_prefix("0x") {
+        Some(digits) => numeral(digits, 16),
+        None => numeral(text, 10),
+    }
+}
+
+/// A number below 2^64 in digits, without a sign.
+fn numeral(digits: &str, radix: u32) -> Option<u64>
+    requires low { 2 ≤ radix }
+    requires high { radix ≤ 36 }
+    ensures { result ≡ numeral_of radix digits.now }
+{
+    if digits.starts_with('+') {
+        return None;
+    }
+    u64::from_str_radix(digits, radix).ok()
+}
+
+/// `none`, or some of the letters r, w, x in this order.
+fn permissions(text: &str) -> Option<Prot>
+    ensures { result ≡ prot_of text.now }
+{
+    let (read, write, execute) = match text {
+        "none" => (false, false, false),
+        "r" => (true, false, false),
+        "w" => (false, true, false),
+        "x" => (false, false, true),
+        "rw" => (true, true, false),
+        "rx" => (true, false, true),
+        "wx" => (false, true, true),
+        "rwx" => (true, true, true),
+        _ => return None,
+    };
+    Some(Prot {
+        read,
+        write,
+        execute,
+    })
+}
+
+/// An even number of hexadecimal digits, at least 2, as bytes.
+fn hex_bytes(alloc: Global, text: &str) -> Result<Vec<u8>, LineError>
+    ensures { GivesBytes result (hex_of text.now) }
+{
+    if text.is_empty() {
+        return Err(LineError::Unfit);
+    }
+    hex::decode(alloc, text).map_err(|error| match error {
+        hex::FromHexError::OutOfMemory => LineError::OutOfMemory,
+        _ => LineError::Unfit,
+    })
+}
