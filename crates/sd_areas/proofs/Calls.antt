@@ -15,7 +15,7 @@ use Rattle.std.proofs.Common.{◌%◌}
 use Rattle.std.proofs.lemmas.Bool.{not_from_true, not_from_false}
 use Rattle.sd_areas.specs.declared.errno.Errno.TheVariants.{Einval, Enomem}
 use Rattle.sd_areas.specs.Pages.{page_of, pages_for, is_invalid, is_outside}
-use Rattle.sd_areas.specs.Calls.{set_pages, remove_pages, within_areas, mapped, unmapped, has_hole, protected}
+use Rattle.sd_areas.specs.Calls.{set_pages, remove_pages, within_areas, map_result, unmap_result, has_hole, protect_result}
 use Rattle.sd_areas.specs.Runs.{HasRun, HasGap}
 use Rattle.sd_areas.proofs.PagesOf.{find-run, get-pages_of, pages_of_areas, same_pages}
 use Rattle.sd_areas.proofs.Entries.{areas_of_is}
@@ -75,16 +75,16 @@ gap_is old new first count h = same_pages _ _ (λ page.
     ∙ sym (h.same page) ∙ sym (get-pages_of new page))
 
 -- ---- `mmap`
-pub mapped_invalid : (pages : PageMap) (address bytes : ℕ) (prot : Prot) → is_invalid address bytes ≡ true → mapped pages address bytes prot ≡ Err Einval
-unfolding mapped
+pub mapped_invalid : (pages : PageMap) (address bytes : ℕ) (prot : Prot) → is_invalid address bytes ≡ true → map_result pages address bytes prot ≡ Err Einval
+unfolding map_result
 mapped_invalid pages address bytes prot e = cond-true _ _ _ e
 
-pub mapped_outside : (pages : PageMap) (address bytes : ℕ) (prot : Prot) → is_invalid address bytes ≡ false → is_outside address bytes ≡ true → mapped pages address bytes prot ≡ Err Enomem
-unfolding mapped
+pub mapped_outside : (pages : PageMap) (address bytes : ℕ) (prot : Prot) → is_invalid address bytes ≡ false → is_outside address bytes ≡ true → map_result pages address bytes prot ≡ Err Enomem
+unfolding map_result
 mapped_outside pages address bytes prot e o = cond-false _ _ _ e ∙ cond-true _ _ _ o
 
-pub mapped_within : (pages : PageMap) (address bytes : ℕ) (prot : Prot) → is_invalid address bytes ≡ false → is_outside address bytes ≡ false → mapped pages address bytes prot ≡ within_areas (set_pages pages (page_of address) (pages_for bytes) prot)
-unfolding mapped
+pub mapped_within : (pages : PageMap) (address bytes : ℕ) (prot : Prot) → is_invalid address bytes ≡ false → is_outside address bytes ≡ false → map_result pages address bytes prot ≡ within_areas (set_pages pages (page_of address) (pages_for bytes) prot)
+unfolding map_result
 mapped_within pages address bytes prot e o = cond-false _ _ _ e ∙ cond-false _ _ _ o
 
 -- ---- what a caller sees
@@ -97,50 +97,50 @@ shown_value areas shown pages e v m = e ∙ sym (ap areas_of (sym v) ∙ areas_o
 
 -- the space afterwards is what `mmap` gives, as far as the limit allows
 pub mapped_run : (pages : PageMap) (old new : List Area) (area : Area) (address bytes : ℕ) (prot : Prot) → pages_of old ≡ pages → is_invalid address bytes ≡ false → is_outside address bytes ≡ false →
-    area.first ≡ page_of address → area.count ≡ pages_for bytes → area.prot ≡ prot → HasRun old new area → mapped pages address bytes prot ≡ within_areas (pages_of new)
+    area.first ≡ page_of address → area.count ≡ pages_for bytes → area.prot ≡ prot → HasRun old new area → map_result pages address bytes prot ≡ within_areas (pages_of new)
 mapped_run pages old new area address bytes prot v valid inside_space f n p h =
     mapped_within pages address bytes prot valid inside_space
     ∙ ap within_areas (rw (← v, ← f, ← n, ← p) (run_is old new area h))
 
 -- ---- `munmap`
-pub unmapped_invalid : (pages : PageMap) (address bytes : ℕ) → is_invalid address bytes ≡ true → unmapped pages address bytes ≡ Err Einval
-unfolding unmapped
+pub unmapped_invalid : (pages : PageMap) (address bytes : ℕ) → is_invalid address bytes ≡ true → unmap_result pages address bytes ≡ Err Einval
+unfolding unmap_result
 unmapped_invalid pages address bytes e = cond-true _ _ _ e
 
-pub unmapped_outside : (pages : PageMap) (address bytes : ℕ) → is_invalid address bytes ≡ false → is_outside address bytes ≡ true → unmapped pages address bytes ≡ Err Einval
-unfolding unmapped
+pub unmapped_outside : (pages : PageMap) (address bytes : ℕ) → is_invalid address bytes ≡ false → is_outside address bytes ≡ true → unmap_result pages address bytes ≡ Err Einval
+unfolding unmap_result
 unmapped_outside pages address bytes e o = cond-false _ _ _ e ∙ cond-true _ _ _ o
 
-pub unmapped_within : (pages : PageMap) (address bytes : ℕ) → is_invalid address bytes ≡ false → is_outside address bytes ≡ false → unmapped pages address bytes ≡ within_areas (remove_pages pages (page_of address) (pages_for bytes))
-unfolding unmapped
+pub unmapped_within : (pages : PageMap) (address bytes : ℕ) → is_invalid address bytes ≡ false → is_outside address bytes ≡ false → unmap_result pages address bytes ≡ within_areas (remove_pages pages (page_of address) (pages_for bytes))
+unfolding unmap_result
 unmapped_within pages address bytes e o = cond-false _ _ _ e ∙ cond-false _ _ _ o
 
 pub unmapped_gap : (pages : PageMap) (old new : List Area) (first count address bytes : ℕ) → pages_of old ≡ pages → is_invalid address bytes ≡ false → is_outside address bytes ≡ false →
-    first ≡ page_of address → count ≡ pages_for bytes → HasGap old new first count → unmapped pages address bytes ≡ within_areas (pages_of new)
+    first ≡ page_of address → count ≡ pages_for bytes → HasGap old new first count → unmap_result pages address bytes ≡ within_areas (pages_of new)
 unmapped_gap pages old new first count address bytes v valid inside_space f n h =
     unmapped_within pages address bytes valid inside_space
     ∙ ap within_areas (rw (← v, ← f, ← n) (gap_is old new first count h))
 
 -- ---- `mprotect`
-pub protected_invalid : (pages : PageMap) (address bytes : ℕ) (prot : Prot) → (address % 4096 == 0) ≡ false → protected pages address bytes prot ≡ Err Einval
-unfolding protected
+pub protected_invalid : (pages : PageMap) (address bytes : ℕ) (prot : Prot) → (address % 4096 == 0) ≡ false → protect_result pages address bytes prot ≡ Err Einval
+unfolding protect_result
 protected_invalid pages address bytes prot e = cond-true _ _ _ (not_from_false _ e)
 
-pub protected_nothing : (pages : PageMap) (address bytes : ℕ) (prot : Prot) → (address % 4096 == 0) ≡ true → bytes ≡ 0 → protected pages address bytes prot ≡ Ok pages
-unfolding protected
+pub protected_nothing : (pages : PageMap) (address bytes : ℕ) (prot : Prot) → (address % 4096 == 0) ≡ true → bytes ≡ 0 → protect_result pages address bytes prot ≡ Ok pages
+unfolding protect_result
 protected_nothing pages address bytes prot e z = cond-false _ _ _ (not_from_true _ e) ∙ cond-true _ _ _ (eq-eqb bytes 0 z)
 
-pub protected_outside : (pages : PageMap) (address bytes : ℕ) (prot : Prot) → (address % 4096 == 0) ≡ true → (bytes ≡ 0 → ⊥) → is_outside address bytes ≡ true → protected pages address bytes prot ≡ Err Enomem
-unfolding protected
+pub protected_outside : (pages : PageMap) (address bytes : ℕ) (prot : Prot) → (address % 4096 == 0) ≡ true → (bytes ≡ 0 → ⊥) → is_outside address bytes ≡ true → protect_result pages address bytes prot ≡ Err Enomem
+unfolding protect_result
 protected_outside pages address bytes prot e z o = cond-false _ _ _ (not_from_true _ e) ∙ cond-false _ _ _ (ne_eqb bytes 0 z) ∙ cond-true _ _ _ o
 
-pub protected_hole : (pages : PageMap) (address bytes : ℕ) (prot : Prot) → (address % 4096 == 0) ≡ true → (bytes ≡ 0 → ⊥) → is_outside address bytes ≡ false → has_hole pages (page_of address) (pages_for bytes) ≡ true → protected pages address bytes prot ≡ Err Enomem
-unfolding protected
+pub protected_hole : (pages : PageMap) (address bytes : ℕ) (prot : Prot) → (address % 4096 == 0) ≡ true → (bytes ≡ 0 → ⊥) → is_outside address bytes ≡ false → has_hole pages (page_of address) (pages_for bytes) ≡ true → protect_result pages address bytes prot ≡ Err Enomem
+unfolding protect_result
 protected_hole pages address bytes prot e z o h = cond-false _ _ _ (not_from_true _ e) ∙ cond-false _ _ _ (ne_eqb bytes 0 z) ∙ cond-false _ _ _ o ∙ cond-true _ _ _ h
 
 pub protected_within : (pages : PageMap) (address bytes : ℕ) (prot : Prot) → (address % 4096 == 0) ≡ true → (bytes ≡ 0 → ⊥) → is_outside address bytes ≡ false → has_hole pages (page_of address) (pages_for bytes) ≡ false →
-    protected pages address bytes prot ≡ within_areas (set_pages pages (page_of address) (pages_for bytes) prot)
-unfolding protected
+    protect_result pages address bytes prot ≡ within_areas (set_pages pages (page_of address) (pages_for bytes) prot)
+unfolding protect_result
 protected_within pages address bytes prot e z o h = cond-false _ _ _ (not_from_true _ e) ∙ cond-false _ _ _ (ne_eqb bytes 0 z) ∙ cond-false _ _ _ o ∙ cond-false _ _ _ h
 
 -- the test for a hole, as the code makes it
@@ -148,7 +148,7 @@ pub hole_test : (pages : PageMap) (old : List Area) (first count address bytes :
 hole_test pages old first count address bytes b v f n h = rw (← v, ← f, ← n) (sym h)
 
 pub protected_run : (pages : PageMap) (old new : List Area) (area : Area) (address bytes : ℕ) (prot : Prot) → pages_of old ≡ pages → (address % 4096 == 0) ≡ true → (bytes ≡ 0 → ⊥) → is_outside address bytes ≡ false →
-    has_hole pages (page_of address) (pages_for bytes) ≡ false → area.first ≡ page_of address → area.count ≡ pages_for bytes → area.prot ≡ prot → HasRun old new area → protected pages address bytes prot ≡ within_areas (pages_of new)
+    has_hole pages (page_of address) (pages_for bytes) ≡ false → area.first ≡ page_of address → area.count ≡ pages_for bytes → area.prot ≡ prot → HasRun old new area → protect_result pages address bytes prot ≡ within_areas (pages_of new)
 protected_run pages old new area address bytes prot v valid some inside_space full f n p h =
     protected_within pages address bytes prot valid some inside_space full
     ∙ ap within_areas (rw (← v, ← f, ← n, ← p) (run_is old new area h))

@@ -13,7 +13,7 @@ use Rattle.std.proofs.Common.{◌%◌}
 use Rattle.sd_areas.specs.declared.errno.Errno.{Errno}
 use Rattle.sd_areas.specs.declared.errno.Errno.TheVariants.{Einval, Enomem}
 use Rattle.sd_areas.specs.Pages.{page_of, pages_for, is_invalid, is_outside}
-use Rattle.sd_areas.specs.Calls.{set_pages, remove_pages, within_areas, mapped, unmapped, has_hole, protected}
+use Rattle.sd_areas.specs.Calls.{set_pages, remove_pages, within_areas, map_result, unmap_result, has_hole, protect_result}
 use Rattle.sd_areas.proofs.Entries.{areas_of_is, areas_of_are}
 use Rattle.std.specs.Prelude.{◌↔◌}
 use Rattle.std.proofs.lemmas.Bool.{ltb-true}
@@ -37,9 +37,9 @@ within_same : (pages after : PageMap) → within_areas pages ≡ Ok after → pa
 unfolding within_areas
 within_same pages after h = ok_same _ _ (past (nat_lt 1024 (length (areas_of pages))) Enomem (Ok pages) after h).1
 
-pub mapped_pages : (before after : PageMap) (address bytes : ℕ) (prot : Prot) → mapped before address bytes prot ≡ Ok after →
+pub mapped_pages : (before after : PageMap) (address bytes : ℕ) (prot : Prot) → map_result before address bytes prot ≡ Ok after →
     (page : ℕ) → finmap.get after page ≡ (if is_within (page_of address) (pages_for bytes) page then Some prot else finmap.get before page)
-unfolding mapped
+unfolding map_result
 mapped_pages before after address bytes prot h page =
     let done = within_areas (set_pages before (page_of address) (pages_for bytes) prot) in
     let one = past (is_invalid address bytes) Einval (cond (is_outside address bytes) (Err Enomem) done) after h in
@@ -47,9 +47,9 @@ mapped_pages before after address bytes prot h page =
     let same = within_same (set_pages before (page_of address) (pages_for bytes) prot) after two.1 in
     sym (ap (λ m. finmap.get m page) same) ∙ get-set_pages before (page_of address) (pages_for bytes) prot page
 
-pub unmapped_pages : (before after : PageMap) (address bytes : ℕ) → unmapped before address bytes ≡ Ok after →
+pub unmapped_pages : (before after : PageMap) (address bytes : ℕ) → unmap_result before address bytes ≡ Ok after →
     (page : ℕ) → finmap.get after page ≡ (if is_within (page_of address) (pages_for bytes) page then None else finmap.get before page)
-unfolding unmapped
+unfolding unmap_result
 unmapped_pages before after address bytes h page =
     let done = within_areas (remove_pages before (page_of address) (pages_for bytes)) in
     let one = past (is_invalid address bytes) Einval (cond (is_outside address bytes) (Err Einval) done) after h in
@@ -93,10 +93,10 @@ all_changed : (before after : PageMap) (first count : ℕ) (prot : Prot) (page :
 unfolding AtPage
 all_changed before after first count prot page e full = (ap (λ m. finmap.get m page) (sym e) ∙ get-set_pages before first count prot page, mapped_in_run before first count page full)
 
-pub protected_pages : (before after : PageMap) (address bytes : ℕ) (prot : Prot) → protected before address bytes prot ≡ Ok after →
+pub protected_pages : (before after : PageMap) (address bytes : ℕ) (prot : Prot) → protect_result before address bytes prot ≡ Ok after →
     (page : ℕ) → (finmap.get after page ≡ (if is_within (page_of address) (pages_for bytes) page then Some prot else finmap.get before page))
     × (IsTrue (is_within (page_of address) (pages_for bytes) page) → IsSome (finmap.get before page))
-unfolding protected AtPage
+unfolding protect_result AtPage
 protected_pages before after address bytes prot h page =
     let done = within_areas (set_pages before (page_of address) (pages_for bytes) prot) in
     let full = cond (has_hole before (page_of address) (pages_for bytes)) (Err Enomem) done in

@@ -23,15 +23,15 @@ unfoldable pub within_areas : PageMap → Result PageMap Errno
 within_areas pages = if nat_lt 1024 (length (areas_of pages)) then Err Enomem else Ok pages
 
 -- `mmap`: the whole pages of the range get these permissions, whatever was there
-unfoldable pub mapped : PageMap → ℕ → ℕ → Prot → Result PageMap Errno
-mapped pages address bytes prot =
+unfoldable pub map_result : PageMap → ℕ → ℕ → Prot → Result PageMap Errno
+map_result pages address bytes prot =
     if is_invalid address bytes then Err Einval
     else if is_outside address bytes then Err Enomem
     else within_areas (set_pages pages (page_of address) (pages_for bytes) prot)
 
 -- `munmap`: each whole page that contains a part of the range goes; a hole has no effect
-unfoldable pub unmapped : PageMap → ℕ → ℕ → Result PageMap Errno
-unmapped pages address bytes =
+unfoldable pub unmap_result : PageMap → ℕ → ℕ → Result PageMap Errno
+unmap_result pages address bytes =
     if is_invalid address bytes then Err Einval
     else if is_outside address bytes then Err Einval
     else within_areas (remove_pages pages (page_of address) (pages_for bytes))
@@ -41,15 +41,15 @@ unfoldable pub has_hole : PageMap → ℕ → ℕ → Bool
 has_hole pages first count = list_any (λ page. not (is_some (finmap.get pages page))) (pages_from first count)
 
 -- `mprotect`: the whole pages of the range, all of them mapped, get these permissions
-unfoldable pub protected : PageMap → ℕ → ℕ → Prot → Result PageMap Errno
-protected pages address bytes prot =
+unfoldable pub protect_result : PageMap → ℕ → ℕ → Prot → Result PageMap Errno
+protect_result pages address bytes prot =
     if not (address % 4096 == 0) then Err Einval
     else if bytes == 0 then Ok pages
     else if is_outside address bytes then Err Enomem
     else if has_hole pages (page_of address) (pages_for bytes) then Err Enomem
     else within_areas (set_pages pages (page_of address) (pages_for bytes) prot)
 
--- a refusal is the one that was due; want of memory says nothing of the call
+-- a refusal is the one that was due; out of memory says nothing of the call
 abbrev pub Answers : Result PageMap Errno → AreaError → Type 0
 Answers due (Refused e) = due ≡ Err e
 Answers due OutOfMemory = Unit {0}

@@ -13,7 +13,7 @@ use Rattle.sd_areas.specs.declared.prot.Prot.{Prot}
 use Rattle.sd_areas.specs.declared.errno.Errno.TheVariants.{Enomem}
 use Rattle.sd_areas.specs.Pages.{page_of, pages_for, is_within}
 use Rattle.sd_areas.specs.Areas.{PageMap, AreAreasOf, AreInSpace, areas_of}
-use Rattle.sd_areas.specs.Calls.{within_areas, mapped, unmapped, protected}
+use Rattle.sd_areas.specs.Calls.{within_areas, map_result, unmap_result, protect_result}
 
 -- what `areas_of` makes of a space are its areas: they rise, are maximal, and give each page its permissions
 abbrev pub AreasLaw : Type 0
@@ -37,17 +37,17 @@ LimitLaw = (pages : PageMap) → AreInSpace pages → (within_areas pages ≡ Er
 
 -- `mmap` gives each whole page of the range the permissions, and leaves every other page
 abbrev pub MappedLaw : Type 0
-MappedLaw = (before after : PageMap) (address bytes : ℕ) (prot : Prot) → mapped before address bytes prot ≡ Ok after →
+MappedLaw = (before after : PageMap) (address bytes : ℕ) (prot : Prot) → map_result before address bytes prot ≡ Ok after →
     (page : ℕ) → finmap.get after page ≡ (if is_within (page_of address) (pages_for bytes) page then Some prot else finmap.get before page)
 
 -- `munmap` removes each whole page of the range, and leaves every other page
 abbrev pub UnmappedLaw : Type 0
-UnmappedLaw = (before after : PageMap) (address bytes : ℕ) → unmapped before address bytes ≡ Ok after →
+UnmappedLaw = (before after : PageMap) (address bytes : ℕ) → unmap_result before address bytes ≡ Ok after →
     (page : ℕ) → finmap.get after page ≡ (if is_within (page_of address) (pages_for bytes) page then None else finmap.get before page)
 
 -- `mprotect` does as `mmap`, where every page of the range was mapped
 abbrev pub ProtectedLaw : Type 0
-ProtectedLaw = (before after : PageMap) (address bytes : ℕ) (prot : Prot) → protected before address bytes prot ≡ Ok after →
+ProtectedLaw = (before after : PageMap) (address bytes : ℕ) (prot : Prot) → protect_result before address bytes prot ≡ Ok after →
     (page : ℕ) → (finmap.get after page ≡ (if is_within (page_of address) (pages_for bytes) page then Some prot else finmap.get before page))
     × (IsTrue (is_within (page_of address) (pages_for bytes) page) → IsSome (finmap.get before page))
 

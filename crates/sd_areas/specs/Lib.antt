@@ -1,9 +1,10 @@
 pub mod Pages
 pub mod Prot
 pub mod Areas
-pub mod Codes
+pub mod Refusals
 pub mod Calls
 pub mod Laws
 pub mod Runs
 pub mod PlainMemory
+pub mod Codes
 pub mod Memory

@@ -4,6 +4,7 @@ ghost use Rattle.sd_areas.specs.Pages.{is_invalid, is_outside};
 
 use crate::area::Area;
 use crate::errno::{AreaError, Errno};
+use crate::limits::AREA_LIMIT;
 use crate::page_no::PageNo;
 use crate::page_range::{PageRange, is_page_start, is_range};
 use crate::prot::Prot;
@@ -13,9 +14,6 @@ use crate::snapshot_page::SnapshotPage;
 use std::alloc::Global;
 use std::collections::BTreeMap;
 use std::marker::Model;
-
-/// How many areas a space can have.
-pub const AREA_LIMIT: usize = 1024;
 
 /// The address space of one task: which pages are mapped, and with which permissions.
 ///
@@ -45,7 +43,7 @@ impl Model for AreaMap {
 
 impl AreaMap {
     ghost use Rattle.sd_areas.specs.Areas.{AreAreasOf, AreMaximal, areas_of, pages_of};
-    ghost use Rattle.sd_areas.specs.Calls.{mapped, unmapped, protected, within_areas, Answers};
+    ghost use Rattle.sd_areas.specs.Calls.{map_result, unmap_result, protect_result, within_areas, Answers};
     ghost use Rattle.sd_areas.specs.Memory.{prots_of};
     ghost use Rattle.sd_areas.specs.declared.errno.AreaError.TheVariants.{Refused};
     ghost use Rattle.sd_areas.specs.declared.errno.Errno.TheVariants.{Einval, Enomem};
@@ -107,8 +105,8 @@ impl AreaMap {
     /// ENOMEM for a range that ends past 2^47, and where the space would have over 1,024 areas.
     /// Out of memory where the list of areas can't grow. An error changes nothing.
     pub fn map(&mut self, address: u64, bytes: u64, prot: Prot) -> Result<(), AreaError>
-        ensures ok { OnOk result (mapped self.old address bytes prot ≡ Ok self.new) }
-        ensures refused { IfErr result (Answers (mapped self.old address bytes prot)) }
+        ensures ok { OnOk result (map_result self.old address bytes prot ≡ Ok self.new) }
+        ensures refused { IfErr result (Answers (map_result self.old address bytes prot)) }
         ensures invalid { IsTrue (is_invalid address bytes) → result ≡ Err (Refused Einval) }
         ensures outside { IsFalse (is_invalid address bytes) → IsTrue (is_outside address bytes)
             → result ≡ Err (Refused Enomem) }
@@ -134,8 +132,8 @@ impl AreaMap {
     /// ENOMEM where the space would have over 1,024 areas, since the range lies within one.
     /// Out of memory where the list of areas can't grow. An error changes nothing.
     pub fn unmap(&mut self, address: u64, bytes: u64) -> Result<(), AreaError>
-        ensures ok { OnOk result (unmapped self.old address bytes ≡ Ok self.new) }
-        ensures refused { IfErr result (Answers (unmapped self.old address bytes)) }
+        ensures ok { OnOk result (unmap_result self.old address bytes ≡ Ok self.new) }
+        ensures refused { IfErr result (Answers (unmap_result self.old address bytes)) }
         ensures invalid { IsTrue (is_invalid address bytes) → result ≡ Err (Refused Einval) }
         ensures outside { IsFalse (is_invalid address bytes) → IsTrue (is_outside address bytes)
             → result ≡ Err (Refused Einval) }
@@ -161,8 +159,8 @@ impl AreaMap {
     /// would have over 1,024 areas.
     /// Out of memory where the list of areas can't grow. An error changes nothing.
     pub fn protect(&mut self, address: u64, bytes: u64, prot: Prot) -> Result<(), AreaError>
-        ensures ok { OnOk result (protected self.old address bytes prot ≡ Ok self.new) }
-        ensures refused { IfErr result (Answers (protected self.old address bytes prot)) }
+        ensures ok { OnOk result (protect_result self.old address bytes prot ≡ Ok self.new) }
+        ensures refused { IfErr result (Answers (protect_result self.old address bytes prot)) }
         ensures invalid { IsFalse (address % 4096 == 0) → result ≡ Err (Refused Einval) }
         ensures nothing { IsTrue (address % 4096 == 0) → bytes ≡ 0 → result ≡ Ok tt }
         ensures outside { IsFalse (is_invalid address bytes) → IsTrue (is_outside address bytes)
@@ -185,7 +183,11 @@ impl AreaMap {
         self.replace(areas)
     }
 
-    /// Puts other areas in place of the space's own, or answers ENOMEM where they are too many.
+    /// Replaces the space's areas.
+    ///
+    /// # Errors
+    ///
+    /// ENOMEM where the new areas are over 1,024: nothing changes.
     fn replace(&mut self, areas: Vec<Area>) -> Result<(), AreaError>
         requires { AreMaximal None areas.items }
         ensures ok { OnOk result (within_areas (pages_of areas.items) ≡ Ok self.new) }

@@ -5,6 +5,7 @@ mod area;
 mod area_map;
 mod errno;
 mod laws;
+mod limits;
 mod page_no;
 mod page_range;
 mod prot;
@@ -16,13 +17,16 @@ mod space_id;
 mod tests;
 
 pub use area::Area;
-pub use area_map::{AREA_LIMIT, AreaMap};
+pub use area_map::AreaMap;
 pub use errno::{AreaError, Errno};
 pub use laws::{
     areas_law, count_law, limit_law, mapped_law, memory_law, one_list_law, protected_law,
     unmapped_law,
 };
-pub use page_no::{PAGE_LIMIT, PAGE_SIZE, PageNo};
+pub use limits::{
+    AREA_LIMIT, MAPPED_PAGE_LIMIT, PAGE_BYTES, PAGE_NUMBER_LIMIT, PAGE_SIZE, SPACE_LIMIT,
+};
+pub use page_no::PageNo;
 pub use prot::Prot;
 pub use runs::find_prot;
 pub use snapshot::{Snapshot, areas_in};

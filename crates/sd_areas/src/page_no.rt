@@ -1,12 +1,7 @@
 ghost use Rattle.std.specs.Prelude.{◌≡◌, ℕ, ◌<◌, ◌^◌, ◌↔◌, IsSome, IfSome};
 
+use crate::limits::PAGE_NUMBER_LIMIT;
 use std::marker::Model;
-
-/// How many bytes a page has.
-pub const PAGE_SIZE: usize = 4096;
-
-/// How many pages a space can have: addresses are below 2^47.
-pub const PAGE_LIMIT: u64 = 1 << 35;
 
 /// The number of a page in its space, below 2^35: its address divided by 4,096.
 #[derive(Clone, Copy, Debug, PartialEq, Eq, PartialOrd, Ord, Hash)]
@@ -30,7 +25,7 @@ impl PageNo {
         ensures within { IsSome result ↔ (number < 2 ^ 35) }
         ensures value { IfSome result (λ page. page ≡ number) }
     {
-        if number < PAGE_LIMIT {
+        if number < PAGE_NUMBER_LIMIT {
             Some(PageNo { number })
         } else {
             None

@@ -2,10 +2,9 @@ ghost use Rattle.std.specs.Prelude.{◌≡◌, ◌<◌, ◌%◌, ◌==◌, not, 
 ghost use Rattle.sd_areas.specs.Pages.{page_of, pages_for, is_invalid, is_outside};
 
 use crate::area::Area;
-use crate::page_no::{PAGE_LIMIT, PAGE_SIZE, PageNo};
+use crate::limits::{PAGE_BYTES, PAGE_NUMBER_LIMIT};
+use crate::page_no::PageNo;
 use crate::prot::Prot;
-
-const PAGE_BYTES: u64 = PAGE_SIZE as u64;
 
 /// The whole pages of a range of bytes: `count` of them, from `first` on.
 #[derive(Clone, Copy)]
@@ -25,7 +24,7 @@ impl PageRange {
     {
         let first = PageNo::new(address / PAGE_BYTES)?;
         let count = bytes.div_ceil(PAGE_BYTES);
-        if PAGE_LIMIT < first.number() + count {
+        if PAGE_NUMBER_LIMIT < first.number() + count {
             return None;
         }
         Some(PageRange { first, count })

@@ -6,7 +6,8 @@ ghost use Rattle.sd_areas.specs.Calls.{has_hole};
 ghost use Rattle.sd_areas.specs.Runs.{is_continued, end_of_all, IsExtended, IsPart, HasPart, HasParts, HasRun, HasGap};
 
 use crate::area::Area;
-use crate::page_no::{PAGE_LIMIT, PageNo};
+use crate::limits::PAGE_NUMBER_LIMIT;
+use crate::page_no::PageNo;
 use crate::page_range::PageRange;
 use crate::prot::Prot;
 use std::alloc::{AllocError, Global};
@@ -115,7 +116,7 @@ pub(crate) fn with_area(alloc: Global, areas: &[Area], area: Area) -> Result<Vec
     let mut joined = Vec::new(alloc);
     push_parts(&mut joined, areas, 0, begin)?;
     push_area(&mut joined, area)?;
-    push_parts(&mut joined, areas, end, PAGE_LIMIT)?;
+    push_parts(&mut joined, areas, end, PAGE_NUMBER_LIMIT)?;
     Ok(joined)
 }
 
@@ -133,7 +134,7 @@ pub(crate) fn without_pages(
     let end = begin + range.count;
     let mut joined = Vec::new(alloc);
     push_parts(&mut joined, areas, 0, begin)?;
-    push_parts(&mut joined, areas, end, PAGE_LIMIT)?;
+    push_parts(&mut joined, areas, end, PAGE_NUMBER_LIMIT)?;
     Ok(joined)
 }
 

@@ -4,7 +4,8 @@ ghost use Rattle.sd_areas.specs.Areas.{AreAreasOf};
 ghost use Rattle.sd_areas.specs.Memory.{prots_of};
 
 use crate::area::Area;
-use crate::page_no::{PAGE_SIZE, PageNo};
+use crate::limits::PAGE_SIZE;
+use crate::page_no::PageNo;
 use crate::prot::Prot;
 use crate::runs::push_page;
 use crate::snapshot_page::SnapshotPage;

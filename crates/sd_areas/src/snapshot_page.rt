@@ -1,4 +1,4 @@
-use crate::page_no::PAGE_SIZE;
+use crate::limits::PAGE_SIZE;
 use crate::prot::Prot;
 
 /// A mapped page as it was: its permissions and its bytes.

@@ -21,7 +21,7 @@ use Rattle.sd_pagetable.specs.Due.{exit_due, fork_due}
 use Rattle.sd_pagetable.specs.Kept.{HasAreas, prots_of}
 use Rattle.sd_pagetable.proofs.MemoryLemmas.{plain_alive}
 use Rattle.sd_pagetable.specs.Ranges.{bare_page}
-use Rattle.sd_pagetable.specs.Tracking.{with_space, forked}
+use Rattle.sd_pagetable.specs.Tracking.{with_space, contents_after_fork}
 use Rattle.sd_pagetable.proofs.TableLemmas.{same_table, get_put, get_removed, get-map_values, entries-map_values}
 use Rattle.sd_pagetable.proofs.NestedLemmas.{alive-insert}
 use Rattle.sd_pagetable.proofs.TotalLemmas.{total-empty, total-insert, total-remove, total_within-insert, total_within-remove_space}
@@ -161,7 +161,7 @@ pub still_alive : (c : Contents) (s u : ℕ) (t : Table Page) → is_alive c.spa
 still_alive c s u t alive = alive-insert c.spaces s t u ∙ ap (λ b. nat_eq u s || b) alive ∙ or_true (nat_eq u s)
 
 pub shared : (c copied new : Contents) (s child : ℕ) (t : Table Page) → (s ≡ child → ⊥) → copied ≡ with_space (with_space c child finmap.empty) child t
-    → new ≡ with_space (with_space copied s (map_values shared_page (inside copied.spaces s))) child (map_values inherited_page (inside copied.spaces s)) → new ≡ forked c s child
+    → new ≡ with_space (with_space copied s (map_values shared_page (inside copied.spaces s))) child (map_values inherited_page (inside copied.spaces s)) → new ≡ contents_after_fork c s child
 shared c copied new s child t apart is done =
     let own = inside c.spaces s in
     done ∙ ap (λ p. with_space (with_space copied s (map_values shared_page p)) child (map_values inherited_page p)) (copied_parent c copied s child t apart is)
@@ -190,7 +190,7 @@ unfolding plain_of
 plain_space c s = get-map_values (map_values plain_page) c.spaces s
 
 -- the plain memory after `fork`
-pub plain_forked : (c : Contents) (s child : ℕ) → (s ≡ child → ⊥) → is_alive c.spaces s ≡ true → plain_of (forked c s child) ≡ after_fork (plain_of c) s child
+pub plain_forked : (c : Contents) (s child : ℕ) → (s ≡ child → ⊥) → is_alive c.spaces s ≡ true → plain_of (contents_after_fork c s child) ≡ after_fork (plain_of c) s child
 plain_forked c s child apart alive =
     let own = inside c.spaces s in
     plain_with (with_space c s (map_values shared_page own)) child (map_values inherited_page own)
@@ -216,7 +216,7 @@ own_areas o None own has is = absurd (let e : None ≡ Some own = sym has ∙ is
 own_areas o (Some t) own has is = (let e : Some own ≡ Some (prots_of t) = sym is ∙ has in cc)
 
 pub areas_forked : (areas new : BTreeMap ℕ PageMap) (c : Contents) (s child : ℕ) (own : PageMap) → HasAreas areas c → get nat_cmp areas s ≡ Some own
-    → ((q : ℕ) → get nat_cmp new q ≡ cond (nat_eq q child) (Some own) (get nat_cmp areas q)) → HasAreas new (forked c s child)
+    → ((q : ℕ) → get nat_cmp new q ≡ cond (nat_eq q child) (Some own) (get nat_cmp areas q)) → HasAreas new (contents_after_fork c s child)
 areas_forked areas new c s child own has is put =
     let are = own_areas (get nat_cmp areas s) (finmap.get c.spaces s) own (has s) is in
     areas_with areas new (with_space c s (map_values shared_page (inside c.spaces s))) child (map_values inherited_page (inside c.spaces s)) own

@@ -7,17 +7,17 @@ use Rattle.sd_pagetable.specs.declared.entry.Entry.{Entry}
 use Rattle.sd_pagetable.specs.declared.access_error.AccessError.TheVariants.{Refused}
 use Rattle.sd_pagetable.specs.declared.memory_refusal.MemoryRefusal.TheVariants.{NoFrame}
 use Rattle.sd_pagetable.specs.Nested.{Nested, value_at, put_at}
-use Rattle.sd_pagetable.specs.Page.{opened_page}
+use Rattle.sd_pagetable.specs.Page.{writable_page}
 use Rattle.sd_pagetable.specs.Contents.{Contents, page_at, put_page, members, is_full, is_alone}
 use Rattle.sd_pagetable.specs.Frames.{Pool, Cell, cell_at, count_at, IsExhausted, HasFree}
 use Rattle.sd_pagetable.specs.View.{page_of_entry, frame_bytes, contents_of, IsKept}
 use Rattle.sd_pagetable.specs.Owning.{is_own, OwnsFrame}
-use Rattle.sd_pagetable.specs.Tracking.{Opens}
+use Rattle.sd_pagetable.specs.Tracking.{MakesWritable}
 use Rattle.sd_pagetable.specs.Due.{frame_due}
 use Rattle.sd_pagetable.proofs.NestedLemmas.{alive_at}
 use Rattle.sd_pagetable.proofs.TableLemmas.{some_of}
 use Rattle.sd_pagetable.proofs.ViewLemmas.{view_put, same_pool, entry_there}
-use Rattle.sd_pagetable.proofs.OpenLemmas.{kept_own, kept_taken, view_taken, own_at, no_member}
+use Rattle.sd_pagetable.proofs.WritableLemmas.{kept_own, kept_taken, view_taken, own_at, no_member}
 
 kept_all : (p : ℕ → Bool) (a n : ℕ) → ((k : ℕ) → a ≤ k → k < a + n → p k ≡ true) → length (filter p (range_with_len a n)) ≡ n
 kept_all p a zero h = refl
@@ -77,10 +77,10 @@ module _ (pool : Pool) (tables : Nested Entry) (n : ℕ) (kept : IsKept pool tab
     pub due_full : is_own pool e.frame ≡ false → IsExhausted pool → frame_due m (page_at m s p) ≡ Some (Refused NoFrame)
     due_full own h = due_is ∙ cond-true _ _ _ (and_from _ _ (not_from_false _ own) (ap is_full (sym v) ∙ full_exhausted h))
 
-    pub opens_page : (new : Pool) (own : ℕ) → e.prot.write ≡ true → OwnsFrame pool new e.frame own →
+    pub makes_page_writable : (new : Pool) (own : ℕ) → e.prot.write ≡ true → OwnsFrame pool new e.frame own →
         IsKept new (put_at tables s p (record { prot = e.prot; frame = Some own; writable = true; soft_dirty = true })) n
-        × Opens m s p (λ bytes. bytes) (contents_of new (put_at tables s p (record { prot = e.prot; frame = Some own; writable = true; soft_dirty = true })))
-    opens_page new own w (inl keeps) =
+        × MakesWritable m s p (λ bytes. bytes) (contents_of new (put_at tables s p (record { prot = e.prot; frame = Some own; writable = true; soft_dirty = true })))
+    makes_page_writable new own w (inl keeps) =
         let e' : Entry = record { prot = e.prot; frame = Some own; writable = true; soft_dirty = true } in
         let one = own_at pool e.frame own keeps.0 keeps.1 in (
           subst (λ (q : Pool). IsKept q (put_at tables s p e') n) (sym keeps.2) (kept_own pool tables n s p e own kept h w keeps.1 one),
@@ -91,10 +91,10 @@ module _ (pool : Pool) (tables : Nested Entry) (n : ℕ) (kept : IsKept pool tab
             inl (ap (λ (z : Contents). is_alone z (page_of_entry pool e)) (sym v) ∙ sym (own_alone e.frame) ∙ keeps.0, keeps.1),
             ap (λ (q : Pool). contents_of q (put_at tables s p e')) keeps.2 ∙ view_put pool pool tables s p refl (alive_at tables s p e h) (same_pool pool tables s p) e'
                 ∙ ap (λ (f : Option ℕ). put_page (contents_of pool tables) s p (record { prot = e.prot; bytes = frame_bytes pool f; class = Some own; writable = true; soft_dirty = true })) (sym keeps.1)
-                ∙ ap (λ (z : Contents). put_page z s p (opened_page (page_of_entry pool e) own (frame_bytes pool e.frame))) v,
+                ∙ ap (λ (z : Contents). put_page z s p (writable_page (page_of_entry pool e) own (frame_bytes pool e.frame))) v,
           ),
         )
-    opens_page new own w (inr (shared, takes)) = (
+    makes_page_writable new own w (inr (shared, takes)) = (
       kept_taken pool tables n s p e own kept h w new shared takes,
       (
         page_of_entry pool e,
@@ -105,6 +105,6 @@ module _ (pool : Pool) (tables : Nested Entry) (n : ℕ) (kept : IsKept pool tab
           ap (λ (z : Contents). members z own) (sym v) ∙ no_member pool tables n s p e own kept h w new shared takes,
           subst (λ (z : Contents). own < z.pool) v takes.within,
         ),
-        view_taken pool tables n s p e own kept h w new shared takes ∙ ap (λ (z : Contents). put_page z s p (opened_page (page_of_entry pool e) own (frame_bytes pool e.frame))) v,
+        view_taken pool tables n s p e own kept h w new shared takes ∙ ap (λ (z : Contents). put_page z s p (writable_page (page_of_entry pool e) own (frame_bytes pool e.frame))) v,
       ),
     )

@@ -6,7 +6,7 @@ use Rattle.std.specs.Option.{option_map_or}
 use Rattle.sd_pagetable.specs.declared.entry.Entry.{Entry}
 use Rattle.sd_pagetable.specs.Nested.{Nested, value_at, is_alive, put_at, total}
 use Rattle.sd_pagetable.specs.Page.{Page, zeros}
-use Rattle.sd_pagetable.specs.Contents.{Contents, page_at, put_page, members, share_of, page_count, IsOpen, IsSound}
+use Rattle.sd_pagetable.specs.Contents.{Contents, page_at, put_page, members, share_of, page_count, IsWritable, IsSound}
 use Rattle.sd_pagetable.specs.Frames.{Pool, Cell, cell_at, count_at, SetsCell}
 use Rattle.sd_pagetable.specs.View.{page_of_entry, frame_bytes, contents_of, IsKept}
 use Rattle.sd_pagetable.proofs.NestedLemmas.{same_nested, value_at-put, alive-put_same, alive-map, alive_at}
@@ -42,7 +42,7 @@ one_page _ = 1
 module _ (old new : Pool) (tables : Nested Entry) (n count : ℕ) (s p : ℕ) (e : Entry) (before : Option Page) (kept : IsKept old tables n) (size : new.size ≡ old.size) (alive : is_alive tables s ≡ true) (others : SameOthers old new tables s p) (there : page_at (contents_of old tables) s p ≡ before) where
   pub kept_put : p < 2 ^ 35 → ((k : ℕ) → count_at new k + option_map_or (share_of k) before 0 ≡ count_at old k + share_of k (page_of_entry new e))
       → ((k : ℕ) (c : Cell) → cell_at new k ≡ Some c → 0 < c.count) → count + option_map_or one_page before 0 ≡ n + 1 → count ≤ 65536 → ((k : ℕ) → e.frame ≡ Some k → k < old.size)
-      → (e.writable ≡ true → IsOpen (put_page (contents_of old tables) s p (page_of_entry new e)) (page_of_entry new e))
+      → (e.writable ≡ true → IsWritable (put_page (contents_of old tables) s p (page_of_entry new e)) (page_of_entry new e))
       → IsApart (contents_of old tables) s p (page_of_entry new e)
       → IsKept new (put_at tables s p e) count
   kept_put number counts used total few class opening apart =
@@ -89,8 +89,8 @@ pub never : (b : Bool) → b ≡ false → b ≡ true → ⊥
 never b f t = (let e : false ≡ true = sym f ∙ t in cc)
 
 -- an entry with the same frame, which isn't writable
-pub kept_closed : (old : Pool) (tables : Nested Entry) (n s p : ℕ) (e was : Entry) → IsKept old tables n → value_at tables s p ≡ Some was → e.frame ≡ was.frame → e.writable ≡ false → IsKept old (put_at tables s p e) n
-kept_closed old tables n s p e was kept h same closed =
+pub kept_write_protected : (old : Pool) (tables : Nested Entry) (n s p : ℕ) (e was : Entry) → IsKept old tables n → value_at tables s p ≡ Some was → e.frame ≡ was.frame → e.writable ≡ false → IsKept old (put_at tables s p e) n
+kept_write_protected old tables n s p e was kept h same closed =
     let there = entry_there old tables s p was h in
     let k_few = kept.sound.few in
     let k_mapped = kept.mapped in
@@ -132,7 +132,7 @@ pub kept_written : (old new : Pool) (tables : Nested Entry) (n s p : ℕ) (e : E
 kept_written old new tables n s p e j bytes kept h f w sets =
     let m = contents_of old tables in
     let there = entry_there old tables s p e h in
-    let open_page = kept.sound.opened s p (page_of_entry old e) there w in
+    let open_page = kept.sound.writable s p (page_of_entry old e) there w in
     let a = alone_in m (page_of_entry old e) open_page.alone in
     let a_is : a.0 ≡ j = (let g : ◌≡◌ {A = Option ℕ} (Some a.0) (Some j) = sym a.1 ∙ f in cc) in
     let one : members m j ≡ 1 = ap (members m) (sym a_is) ∙ a.2 in

@@ -8,22 +8,22 @@ use Rattle.std.specs.FinMap.{get-empty}
 use Rattle.sd_areas.specs.declared.prot.Prot.{Prot}
 use Rattle.sd_areas.specs.Pages.{is_within}
 use Rattle.sd_pagetable.specs.Nested.{Table, Nested, map_values, inside, value_at}
-use Rattle.sd_pagetable.specs.Page.{Page, fresh_page, protected_page, shared_page, inherited_page, opened_page}
+use Rattle.sd_pagetable.specs.Page.{Page, fresh_page, protected_page, shared_page, inherited_page, writable_page}
 use Rattle.sd_pagetable.specs.Contents.{Contents, page_at, put_page}
-use Rattle.sd_pagetable.specs.Tracking.{Event, Mapped, Unmapped, Protected, Forked, Exited, Faulted, Tried, Stored, Cleared, Passed, Step, with_space, touches, clears, opens, closes}
+use Rattle.sd_pagetable.specs.Tracking.{Event, Mapped, Unmapped, Protected, Forked, Exited, Faulted, Tried, Stored, Cleared, Passed, Step, with_space, touches, clears, makes_writable, write_protects}
 use Rattle.sd_pagetable.proofs.TableLemmas.{get_removed, get-map_values, get-set_within, get-remove_within, get-change_within}
 use Rattle.sd_pagetable.proofs.NestedLemmas.{tests, value_at-insert, value_at-put}
 
 -- the page was there, and its bits are those before but where the event is one that changes them
 pub record IsKept (event : Event) (space number : ℕ) (before after : Page) : Type 0 where
   pub soft_dirty : after.soft_dirty ≡ cond (clears space number event) false (touches space number event || before.soft_dirty)
-  pub writable : after.writable ≡ cond (closes space number event) false (opens space number event || before.writable)
+  pub writable : after.writable ≡ cond (write_protects space number event) false (makes_writable space number event || before.writable)
 
 -- the event made the page
 pub record IsMade (event : Event) (space number : ℕ) (after : Page) : Type 0 where
   pub touched : touches space number event ≡ true
   pub uncleared : clears space number event ≡ false
-  pub closed : closes space number event ≡ true
+  pub protected : write_protects space number event ≡ true
   pub soft_dirty : after.soft_dirty ≡ true
   pub writable : after.writable ≡ false
 
@@ -46,12 +46,12 @@ gone x e = absurd (let f : None ≡ Some x = e in cc)
 
 -- an event that does nothing to the page
 abbrev IsIdle : Event → ℕ → ℕ → Type 0
-IsIdle event space number = (touches space number event ≡ false) × (clears space number event ≡ false) × (opens space number event ≡ false) × (closes space number event ≡ false)
+IsIdle event space number = (touches space number event ≡ false) × (clears space number event ≡ false) × (makes_writable space number event ≡ false) × (write_protects space number event ≡ false)
 
 idle : (event : Event) (space number : ℕ) (page : Page) → IsIdle event space number → IsKept event space number page page
 idle event space number page is = record {
   soft_dirty = sym (ap (λ c. cond c false (touches space number event || page.soft_dirty)) is.1 ∙ ap (λ t. t || page.soft_dirty) is.0);
-  writable = sym (ap (λ c. cond c false (opens space number event || page.writable)) is.3 ∙ ap (λ o. o || page.writable) is.2);
+  writable = sym (ap (λ c. cond c false (makes_writable space number event || page.writable)) is.3 ∙ ap (λ o. o || page.writable) is.2);
 }
 
 kept : (old : Contents) (event : Event) (space number : ℕ) (after : Page) → page_at old space number ≡ Some after → IsIdle event space number → Comes old event space number after
@@ -74,7 +74,7 @@ mapped old s first count prot space number after true false e f is = kept old _ 
 mapped old s first count prot space number after true true e f is = inr (record {
   touched = ap (λ h. h && is_within first count number) e ∙ f;
   uncleared = refl;
-  closed = ap (λ h. h && is_within first count number) e ∙ f;
+  protected = ap (λ h. h && is_within first count number) e ∙ f;
   soft_dirty = ap (λ (p : Page). p.soft_dirty) (sym (same _ _ is));
   writable = ap (λ (p : Page). p.writable) (sym (same _ _ is));
 })
@@ -122,7 +122,7 @@ forked_page old parent child space number after true is_parent e f is =
     inr (record {
       touched = e;
       uncleared = refl;
-      closed = either (nat_eq parent space) (nat_eq child space) e;
+      protected = either (nat_eq parent space) (nat_eq child space) e;
       soft_dirty = ap (λ (p : Page). p.soft_dirty) was.2;
       writable = ap (λ (p : Page). p.writable) was.2;
     })
@@ -150,10 +150,10 @@ exited old s space number after false e is = kept old _ space number after is (r
 
 -- a fault or a store
 opened : (old : Contents) (s p : ℕ) (event : Event) (bytes : List ℕ) (class : ℕ) (space number : ℕ) (before after : Page) (here : Bool)
-    → touches space number event ≡ (nat_eq s space && nat_eq p number) → opens space number event ≡ (nat_eq s space && nat_eq p number)
-    → clears space number event ≡ false → closes space number event ≡ false
+    → touches space number event ≡ (nat_eq s space && nat_eq p number) → makes_writable space number event ≡ (nat_eq s space && nat_eq p number)
+    → clears space number event ≡ false → write_protects space number event ≡ false
     → page_at old s p ≡ Some before → (nat_eq s space && nat_eq p number) ≡ here
-    → cond here (Some (opened_page before class bytes)) (page_at old space number) ≡ Some after → Comes old event space number after
+    → cond here (Some (writable_page before class bytes)) (page_at old space number) ≡ Some after → Comes old event space number after
 opened old s p event bytes class space number before after false t o c d there e is = kept old event space number after is (t ∙ e, c, o ∙ e, d)
 opened old s p event bytes class space number before after true t o c d there e is =
     inl (
@@ -161,7 +161,7 @@ opened old s p event bytes class space number before after true t o c d there e 
       at_page s p space number e ∙ there,
       record {
         soft_dirty = ap (λ (q : Page). q.soft_dirty) (sym (same _ _ is)) ∙ sym (ap (λ b. cond b false (touches space number event || before.soft_dirty)) c ∙ ap (λ b. b || before.soft_dirty) (t ∙ e));
-        writable = ap (λ (q : Page). q.writable) (sym (same _ _ is)) ∙ sym (ap (λ b. cond b false (opens space number event || before.writable)) d ∙ ap (λ b. b || before.writable) (o ∙ e));
+        writable = ap (λ (q : Page). q.writable) (sym (same _ _ is)) ∙ sym (ap (λ b. cond b false (makes_writable space number event || before.writable)) d ∙ ap (λ b. b || before.writable) (o ∙ e));
       },
     )
   where

@@ -4,7 +4,7 @@ use Rattle.std.specs.Option.{option_map_or}
 use Rattle.sd_areas.specs.Pages.{page_of}
 use Rattle.sd_pagetable.specs.Page.{Page, plain_page}
 use Rattle.sd_pagetable.specs.Contents.{Contents, page_at, plain_of}
-use Rattle.sd_pagetable.specs.Tracking.{Event, Step, Tracks, BitsLaw, TryLaw, touches, clears, opens, closes, is_dirty, is_open}
+use Rattle.sd_pagetable.specs.Tracking.{Event, Step, Tracks, BitsLaw, TryLaw, touches, clears, makes_writable, write_protects, is_dirty, is_writable}
 use Rattle.std.specs.Prelude.{Result}
 use Rattle.sd_areas.specs.PlainMemory as plain
 use Rattle.sd_pagetable.specs.declared.access_error.AccessError.{AccessError}
@@ -17,16 +17,16 @@ use Rattle.sd_pagetable.specs.Nested.{value_at}
 use Rattle.sd_pagetable.specs.Due.{access_due, answer, page_due, try_outcome, try_answer}
 use Rattle.sd_pagetable.proofs.LawEvents.{Comes, comes, changed}
 use Rattle.sd_pagetable.proofs.NestedLemmas.{value_at-map}
-use Rattle.sd_pagetable.proofs.LawTests.{dirty_more, open_more, open_is_dirty}
+use Rattle.sd_pagetable.proofs.LawTests.{dirty_more, writable_more, writable_is_dirty}
 
 step_tracks : (history : List Event) (event : Event) (old new : Contents) → Tracks history old → Step old event new → Tracks (event ∷ history) new
 step_tracks history event old new tracks step = record {
   soft_dirty = λ space number page there. dirty_then space number page (comes old new event space number page dirty step there);
-  writable = λ space number page there. open_then space number page (comes old new event space number page dirty step there);
+  writable = λ space number page there. writable_then space number page (comes old new event space number page dirty step there);
 }
   where
     dirty : (s p : ℕ) (page : Page) → page_at old s p ≡ Some page → page.writable ≡ true → page.soft_dirty ≡ true
-    dirty s p page there is = tracks.soft_dirty s p page there ∙ open_is_dirty history s p (sym (tracks.writable s p page there) ∙ is)
+    dirty s p page there is = tracks.soft_dirty s p page there ∙ writable_is_dirty history s p (sym (tracks.writable s p page there) ∙ is)
 
     dirty_then : (space number : ℕ) (page : Page) → Comes old event space number page → page.soft_dirty ≡ is_dirty (event ∷ history) space number
     dirty_then space number page (inl k) = k.2.soft_dirty
@@ -34,11 +34,11 @@ step_tracks history event old new tracks step = record {
     dirty_then space number page (inr m) = m.soft_dirty
         ∙ sym (dirty_more event history space number ∙ ap (λ c. cond c false (touches space number event || is_dirty history space number)) m.uncleared ∙ ap (λ t. t || is_dirty history space number) m.touched)
 
-    open_then : (space number : ℕ) (page : Page) → Comes old event space number page → page.writable ≡ is_open (event ∷ history) space number
-    open_then space number page (inl k) = k.2.writable
-        ∙ ap (λ b. cond (closes space number event) false (opens space number event || b)) (tracks.writable space number k.0 k.1) ∙ sym (open_more event history space number)
-    open_then space number page (inr m) = m.writable
-        ∙ sym (open_more event history space number ∙ ap (λ c. cond c false (opens space number event || is_open history space number)) m.closed)
+    writable_then : (space number : ℕ) (page : Page) → Comes old event space number page → page.writable ≡ is_writable (event ∷ history) space number
+    writable_then space number page (inl k) = k.2.writable
+        ∙ ap (λ b. cond (write_protects space number event) false (makes_writable space number event || b)) (tracks.writable space number k.0 k.1) ∙ sym (writable_more event history space number)
+    writable_then space number page (inr m) = m.writable
+        ∙ sym (writable_more event history space number ∙ ap (λ c. cond c false (makes_writable space number event || is_writable history space number)) m.protected)
 
 pub bits_law : BitsLaw
 bits_law start end [] beginning run = record {
@@ -73,7 +73,7 @@ try_law start end history space address bytes beginning run allowed =
     let number = page_of address in
     let there = mapped_there end space address bytes allowed in
     let writable = (bits_law start end history beginning run).writable space number there.0 there.1 in
-    let reply : try_outcome end space address bytes ≡ replied (is_open history space number) =
+    let reply : try_outcome end space address bytes ≡ replied (is_writable history space number) =
     ap (λ d. answer d (try_answer (option_map_or (λ (page : Page). page.writable) (page_at end space number) false))) allowed
     ∙ ap (λ o. replied (option_map_or (λ (page : Page). page.writable) o false)) there.1 ∙ ap replied writable in
-    (λ e. needs_fault (is_open history space number) (sym reply ∙ e), λ e. reply ∙ ap replied e)
+    (λ e. needs_fault (is_writable history space number) (sym reply ∙ e), λ e. reply ∙ ap replied e)

@@ -1,7 +1,7 @@
 -- One event more in a history: whether a page is then dirty, and whether it is open.
 use Rattle.std.proofs.Common.{◌≡◌, ℕ, ◌+◌, suc, Bool, true, false, not, cond, ◌||◌, List, [], ◌∷◌, take, refl, sym, ◌∙◌, ap, arith}
 use Rattle.std.specs.List.{list_any, prefix_len}
-use Rattle.sd_pagetable.specs.Tracking.{Event, Mapped, Unmapped, Protected, Forked, Exited, Faulted, Tried, Stored, Cleared, Passed, touches, clears, opens, closes, since, is_dirty, is_open}
+use Rattle.sd_pagetable.specs.Tracking.{Event, Mapped, Unmapped, Protected, Forked, Exited, Faulted, Tried, Stored, Cleared, Passed, touches, clears, makes_writable, write_protects, since, is_dirty, is_writable}
 
 taken : (b : Bool) (event : Event) (history : List Event) (n : ℕ) → take (cond (not b) (1 + n) 0) (event ∷ history) ≡ cond b [] (event ∷ take n history)
 taken true event history n = refl
@@ -28,46 +28,46 @@ dirty_more event history space page =
     ap (λ b. b || not (list_any (clears space page) (event ∷ history))) (any_since (touches space page) (clears space page) event history)
     ∙ dirty_by (clears space page event) (touches space page event) (list_any (touches space page) (since (clears space page) history)) (list_any (clears space page) history)
 
-pub open_more : (event : Event) (history : List Event) (space page : ℕ)
-    → is_open (event ∷ history) space page ≡ cond (closes space page event) false (opens space page event || is_open history space page)
-open_more event history space page = any_since (opens space page) (closes space page) event history
+pub writable_more : (event : Event) (history : List Event) (space page : ℕ)
+    → is_writable (event ∷ history) space page ≡ cond (write_protects space page event) false (makes_writable space page event || is_writable history space page)
+writable_more event history space page = any_since (makes_writable space page) (write_protects space page) event history
 
--- a clear closes, and what opens touches
-clear_closes : (event : Event) (space page : ℕ) → closes space page event ≡ false → clears space page event ≡ false
-clear_closes (Mapped s first count prot) space page e = refl
-clear_closes (Unmapped s first count) space page e = refl
-clear_closes (Protected s first count prot) space page e = refl
-clear_closes (Forked parent child) space page e = refl
-clear_closes (Exited s) space page e = refl
-clear_closes (Faulted s p) space page e = refl
-clear_closes (Tried s p offset bytes) space page e = refl
-clear_closes (Stored s p offset bytes) space page e = refl
-clear_closes (Cleared s p) space page e = e
-clear_closes Passed space page e = refl
+-- a clear write_protects, and what makes_writable touches
+clear_write_protects : (event : Event) (space page : ℕ) → write_protects space page event ≡ false → clears space page event ≡ false
+clear_write_protects (Mapped s first count prot) space page e = refl
+clear_write_protects (Unmapped s first count) space page e = refl
+clear_write_protects (Protected s first count prot) space page e = refl
+clear_write_protects (Forked parent child) space page e = refl
+clear_write_protects (Exited s) space page e = refl
+clear_write_protects (Faulted s p) space page e = refl
+clear_write_protects (Tried s p offset bytes) space page e = refl
+clear_write_protects (Stored s p offset bytes) space page e = refl
+clear_write_protects (Cleared s p) space page e = e
+clear_write_protects Passed space page e = refl
 
-open_touches : (event : Event) (space page : ℕ) → opens space page event ≡ true → touches space page event ≡ true
-open_touches (Mapped s first count prot) space page e = absurd (let f : false ≡ true = e in cc)
-open_touches (Unmapped s first count) space page e = absurd (let f : false ≡ true = e in cc)
-open_touches (Protected s first count prot) space page e = absurd (let f : false ≡ true = e in cc)
-open_touches (Forked parent child) space page e = absurd (let f : false ≡ true = e in cc)
-open_touches (Exited s) space page e = absurd (let f : false ≡ true = e in cc)
-open_touches (Faulted s p) space page e = e
-open_touches (Tried s p offset bytes) space page e = absurd (let f : false ≡ true = e in cc)
-open_touches (Stored s p offset bytes) space page e = e
-open_touches (Cleared s p) space page e = absurd (let f : false ≡ true = e in cc)
-open_touches Passed space page e = absurd (let f : false ≡ true = e in cc)
+making_writable_touches : (event : Event) (space page : ℕ) → makes_writable space page event ≡ true → touches space page event ≡ true
+making_writable_touches (Mapped s first count prot) space page e = absurd (let f : false ≡ true = e in cc)
+making_writable_touches (Unmapped s first count) space page e = absurd (let f : false ≡ true = e in cc)
+making_writable_touches (Protected s first count prot) space page e = absurd (let f : false ≡ true = e in cc)
+making_writable_touches (Forked parent child) space page e = absurd (let f : false ≡ true = e in cc)
+making_writable_touches (Exited s) space page e = absurd (let f : false ≡ true = e in cc)
+making_writable_touches (Faulted s p) space page e = e
+making_writable_touches (Tried s p offset bytes) space page e = absurd (let f : false ≡ true = e in cc)
+making_writable_touches (Stored s p offset bytes) space page e = e
+making_writable_touches (Cleared s p) space page e = absurd (let f : false ≡ true = e in cc)
+making_writable_touches Passed space page e = absurd (let f : false ≡ true = e in cc)
 
-opened_dirty : (close clear opens_it touch was_open was_dirty : Bool) → (close ≡ false → clear ≡ false) → (opens_it ≡ true → touch ≡ true) → (was_open ≡ true → was_dirty ≡ true)
+writable_dirty : (close clear opens_it touch was_open was_dirty : Bool) → (close ≡ false → clear ≡ false) → (opens_it ≡ true → touch ≡ true) → (was_open ≡ true → was_dirty ≡ true)
     → cond close false (opens_it || was_open) ≡ true → cond clear false (touch || was_dirty) ≡ true
-opened_dirty true clear opens_it touch was_open was_dirty h t w e = absurd (let f : false ≡ true = e in cc)
-opened_dirty false clear true touch was_open was_dirty h t w e = ap (λ c. cond c false (touch || was_dirty)) (h refl) ∙ ap (λ b. b || was_dirty) (t refl)
-opened_dirty false clear false true was_open was_dirty h t w e = ap (λ c. cond c false true) (h refl)
-opened_dirty false clear false false was_open was_dirty h t w e = ap (λ c. cond c false was_dirty) (h refl) ∙ w e
+writable_dirty true clear opens_it touch was_open was_dirty h t w e = absurd (let f : false ≡ true = e in cc)
+writable_dirty false clear true touch was_open was_dirty h t w e = ap (λ c. cond c false (touch || was_dirty)) (h refl) ∙ ap (λ b. b || was_dirty) (t refl)
+writable_dirty false clear false true was_open was_dirty h t w e = ap (λ c. cond c false true) (h refl)
+writable_dirty false clear false false was_open was_dirty h t w e = ap (λ c. cond c false was_dirty) (h refl) ∙ w e
 
 -- what is open is dirty
-pub open_is_dirty : (history : List Event) (space page : ℕ) → is_open history space page ≡ true → is_dirty history space page ≡ true
-open_is_dirty [] space page e = refl
-open_is_dirty (event ∷ history) space page e =
+pub writable_is_dirty : (history : List Event) (space page : ℕ) → is_writable history space page ≡ true → is_dirty history space page ≡ true
+writable_is_dirty [] space page e = refl
+writable_is_dirty (event ∷ history) space page e =
     dirty_more event history space page
-    ∙ opened_dirty (closes space page event) (clears space page event) (opens space page event) (touches space page event) (is_open history space page) (is_dirty history space page)
-    (clear_closes event space page) (open_touches event space page) (open_is_dirty history space page) (sym (open_more event history space page) ∙ e)
+    ∙ writable_dirty (write_protects space page event) (clears space page event) (makes_writable space page event) (touches space page event) (is_writable history space page) (is_dirty history space page)
+    (clear_write_protects event space page) (making_writable_touches event space page) (writable_is_dirty history space page) (sym (writable_more event history space page) ∙ e)

@@ -10,7 +10,7 @@ pub mod KeptLemmas
 pub mod WordLemmas
 pub mod SpaceLemmas
 pub mod MemoryLemmas
-pub mod OpenLemmas
+pub mod WritableLemmas
 pub mod FullLemmas
 pub mod RangeLemmas
 pub mod RangeCounts

@@ -20,14 +20,14 @@ use Rattle.sd_pagetable.specs.declared.access_error.AccessError.TheVariants.{Seg
 use Rattle.sd_pagetable.specs.declared.segv.Segv.TheVariants.{Maperr, Accerr}
 use Rattle.sd_pagetable.specs.declared.entry.Entry.{Entry}
 use Rattle.sd_pagetable.specs.Nested.{Table, Nested, map_values, inside, value_at, is_alive, put_at}
-use Rattle.sd_pagetable.specs.Page.{Page, plain_page, opened_page, stored_page}
+use Rattle.sd_pagetable.specs.Page.{Page, plain_page, writable_page, stored_page}
 use Rattle.sd_pagetable.specs.Contents.{Contents, page_at, put_page, plain_of}
 use Rattle.sd_pagetable.specs.View.{entry_of}
 use Rattle.sd_pagetable.specs.Access.{allows, stored_at, is_bad_access}
 use Rattle.sd_pagetable.specs.declared.memory_refusal.MemoryRefusal.TheVariants.{NoSuchSpace, Einval}
 use Rattle.sd_pagetable.specs.Effects.{after_store}
 use Rattle.sd_pagetable.specs.Due.{page_due, access_due, fault_due, frame_due, or_else, Answers}
-use Rattle.sd_pagetable.specs.Tracking.{Opens}
+use Rattle.sd_pagetable.specs.Tracking.{MakesWritable}
 use Rattle.std.specs.Prelude.{Result, Ok, Err, OnOk, OnErr, IfSome}
 use Rattle.sd_pagetable.specs.declared.memory_error.MemoryError.{MemoryError}
 use Rattle.sd_pagetable.specs.declared.memory_error.MemoryError.TheVariants.{Denied as DeniedError}
@@ -190,34 +190,34 @@ write_there m n s p q v e h =
     (x.0, ap (page_at n s) e ∙ ap (λ (z : Contents). page_at z s p) v ∙ x.1, x.2)
 
 -- a fault leaves the plain memory
-pub plain_opened : (m n : Contents) (s p : ℕ) → Opens m s p (λ bytes. bytes) n → plain_of n ≡ plain_of m
-plain_opened m n s p (x, k, there, own, is) = ap plain_of is ∙ plain_same m s p x (opened_page x k x.bytes) there refl
+pub plain_made_writable : (m n : Contents) (s p : ℕ) → MakesWritable m s p (λ bytes. bytes) n → plain_of n ≡ plain_of m
+plain_made_writable m n s p (x, k, there, own, is) = ap plain_of is ∙ plain_same m s p x (writable_page x k x.bytes) there refl
 
 -- and a store behind it is a store
-pub opened_there : (m n : Contents) (s p : ℕ) → Opens m s p (λ bytes. bytes) n → (x : Page) × (page_at n s p ≡ Some x) × (x.writable ≡ true)
-opened_there m n s p (x, k, there, own, is) = (opened_page x k x.bytes, ap (λ (z : Contents). page_at z s p) is ∙ at_put_here m s p (opened_page x k x.bytes), refl)
+pub writable_there : (m n : Contents) (s p : ℕ) → MakesWritable m s p (λ bytes. bytes) n → (x : Page) × (page_at n s p ≡ Some x) × (x.writable ≡ true)
+writable_there m n s p (x, k, there, own, is) = (writable_page x k x.bytes, ap (λ (z : Contents). page_at z s p) is ∙ at_put_here m s p (writable_page x k x.bytes), refl)
 
-pub stored_after : (m n l : Contents) (s address : ℕ) (bytes : List ℕ) → Opens m s (page_of address) (λ b. b) n
+pub stored_after : (m n l : Contents) (s address : ℕ) (bytes : List ℕ) → MakesWritable m s (page_of address) (λ b. b) n
     → IfSome (page_at n s (page_of address)) (λ (before : Page). l ≡ put_page n s (page_of address) (stored_page before (stored_at before.bytes (address % 4096) bytes)))
-    → Opens m s (page_of address) (λ before. stored_at before (address % 4096) bytes) l × (plain_of l ≡ after_store (plain_of m) s address bytes)
+    → MakesWritable m s (page_of address) (λ before. stored_at before (address % 4096) bytes) l × (plain_of l ≡ after_store (plain_of m) s address bytes)
 stored_after m n l s address bytes (x, k, there, own, is) h =
     let p = page_of address in
-    let here : page_at n s p ≡ Some (opened_page x k x.bytes) = ap (λ (z : Contents). page_at z s p) is ∙ at_put_here m s p (opened_page x k x.bytes) in
-    let wrote : l ≡ put_page n s p (opened_page x k (stored_at x.bytes (address % 4096) bytes)) = rw here at h in
-    let all : l ≡ put_page m s p (opened_page x k (stored_at x.bytes (address % 4096) bytes)) = wrote ∙ ap (λ (z : Contents). put_page z s p (opened_page x k (stored_at x.bytes (address % 4096) bytes))) is ∙ put_twice m s p (opened_page x k x.bytes) (opened_page x k (stored_at x.bytes (address % 4096) bytes)) in
-    ((x, k, there, own, all), ap plain_of all ∙ plain_stored m s address bytes x (opened_page x k (stored_at x.bytes (address % 4096) bytes)) there refl)
+    let here : page_at n s p ≡ Some (writable_page x k x.bytes) = ap (λ (z : Contents). page_at z s p) is ∙ at_put_here m s p (writable_page x k x.bytes) in
+    let wrote : l ≡ put_page n s p (writable_page x k (stored_at x.bytes (address % 4096) bytes)) = rw here at h in
+    let all : l ≡ put_page m s p (writable_page x k (stored_at x.bytes (address % 4096) bytes)) = wrote ∙ ap (λ (z : Contents). put_page z s p (writable_page x k (stored_at x.bytes (address % 4096) bytes))) is ∙ put_twice m s p (writable_page x k x.bytes) (writable_page x k (stored_at x.bytes (address % 4096) bytes)) in
+    ((x, k, there, own, all), ap plain_of all ∙ plain_stored m s address bytes x (writable_page x k (stored_at x.bytes (address % 4096) bytes)) there refl)
 
 -- ---- the areas stay where the permissions do
-pub areas_opened : (areas : BTreeMap ℕ PageMap) (m n : Contents) (s p : ℕ) (f : List ℕ → List ℕ) → HasAreas areas m → Opens m s p f n → HasAreas areas n
-areas_opened areas m n s p f h (x, k, there, own, is) = subst (HasAreas areas) (sym is) (areas_put areas m s p x (opened_page x k (f x.bytes)) h there refl)
+pub areas_made_writable : (areas : BTreeMap ℕ PageMap) (m n : Contents) (s p : ℕ) (f : List ℕ → List ℕ) → HasAreas areas m → MakesWritable m s p f n → HasAreas areas n
+areas_made_writable areas m n s p f h (x, k, there, own, is) = subst (HasAreas areas) (sym is) (areas_put areas m s p x (writable_page x k (f x.bytes)) h there refl)
 
 pub areas_stored : (areas : BTreeMap ℕ PageMap) (m n : Contents) (s p : ℕ) (bytes : List ℕ → List ℕ) → HasAreas areas m → IsSome (page_at m s p) → IfSome (page_at m s p) (λ (before : Page). n ≡ put_page m s p (stored_page before (bytes before.bytes))) → HasAreas areas n
 areas_stored areas m n s p bytes h some is =
     let x = some_of (page_at m s p) some in
     subst (HasAreas areas) (sym (rw x.1 at is)) (areas_put areas m s p x.0 (stored_page x.0 (bytes x.0.bytes)) h x.1 refl)
 
-pub areas_closed : (areas : BTreeMap ℕ PageMap) (m n : Contents) (s p : ℕ) (prot : Prot) (bit : Bool) (x : Page) → HasAreas areas m → page_at m s p ≡ Some x → prot ≡ x.prot → IfSome (page_at m s p) (λ (before : Page). n ≡ put_page m s p (record before { prot = prot; writable = false; soft_dirty = bit })) → HasAreas areas n
-areas_closed areas m n s p prot bit x h there same is =
+pub areas_write_protected : (areas : BTreeMap ℕ PageMap) (m n : Contents) (s p : ℕ) (prot : Prot) (bit : Bool) (x : Page) → HasAreas areas m → page_at m s p ≡ Some x → prot ≡ x.prot → IfSome (page_at m s p) (λ (before : Page). n ≡ put_page m s p (record before { prot = prot; writable = false; soft_dirty = bit })) → HasAreas areas n
+areas_write_protected areas m n s p prot bit x h there same is =
     subst (HasAreas areas) (sym (rw there at is)) (areas_put areas m s p x (record x { prot = prot; writable = false; soft_dirty = bit }) h there same)
 
 -- one space without pages

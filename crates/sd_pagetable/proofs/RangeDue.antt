@@ -7,7 +7,7 @@ use Rattle.sd_areas.specs.declared.prot.Prot.{Prot}
 use Rattle.sd_areas.specs.declared.errno.Errno.{Errno}
 use Rattle.sd_areas.specs.declared.errno.Errno.TheVariants.{Einval, Enomem}
 use Rattle.sd_areas.specs.Areas.{PageMap}
-use Rattle.sd_areas.specs.Calls.{mapped, unmapped, protected}
+use Rattle.sd_areas.specs.Calls.{map_result, unmap_result, protect_result}
 use Rattle.sd_areas.specs.Pages.{is_within, is_invalid, is_outside, page_of, pages_for}
 use Rattle.sd_pagetable.specs.declared.access_error.AccessError.{AccessError}
 use Rattle.sd_pagetable.specs.declared.access_error.AccessError.TheVariants.{Refused}
@@ -35,11 +35,11 @@ use Rattle.sd_pagetable.proofs.PlainRanges.{prots_seen, plain_mapped, plain_many
 pub seen_due : (c : Contents) (s : ℕ) (due : PageMap → Option AccessError) (seen : PageMap) → seen ≡ prots_of (inside c.spaces s) → in_space (plain_of c) s (due seen) ≡ in_space c.spaces s (due (prots_of (inside c.spaces s)))
 seen_due c s due seen same = ap (λ b. cond b (due seen) (Some (Refused NoSuchSpace))) (plain_alive c s) ∙ ap (λ p. in_space c.spaces s (due p)) same
 
-pub munmap_seen : (c : Contents) (s address bytes : ℕ) → munmap_due (plain_of c) s address bytes ≡ in_space c.spaces s (area_due (unmapped (prots_of (inside c.spaces s)) address bytes))
-munmap_seen c s address bytes = seen_due c s (λ p. area_due (unmapped p address bytes)) _ (prots_seen c s)
+pub munmap_seen : (c : Contents) (s address bytes : ℕ) → munmap_due (plain_of c) s address bytes ≡ in_space c.spaces s (area_due (unmap_result (prots_of (inside c.spaces s)) address bytes))
+munmap_seen c s address bytes = seen_due c s (λ p. area_due (unmap_result p address bytes)) _ (prots_seen c s)
 
-pub mprotect_seen : (c : Contents) (s address bytes : ℕ) (prot : Prot) → mprotect_due (plain_of c) s address bytes prot ≡ in_space c.spaces s (area_due (protected (prots_of (inside c.spaces s)) address bytes prot))
-mprotect_seen c s address bytes prot = seen_due c s (λ p. area_due (protected p address bytes prot)) _ (prots_seen c s)
+pub mprotect_seen : (c : Contents) (s address bytes : ℕ) (prot : Prot) → mprotect_due (plain_of c) s address bytes prot ≡ in_space c.spaces s (area_due (protect_result (prots_of (inside c.spaces s)) address bytes prot))
+mprotect_seen c s address bytes prot = seen_due c s (λ p. area_due (protect_result p address bytes prot)) _ (prots_seen c s)
 
 too_many : ℕ → Option AccessError
 too_many pages = cond (nat_lt 65536 pages) (Some (Refused NoMemory)) None
@@ -50,11 +50,11 @@ mapped_pages c s address bytes prot = sym (ap page_count (plain_mapped c s addre
 
 pub mmap_seen : (c : Contents) (s address bytes : ℕ) (prot : Prot)
     → mmap_due (plain_of c) s address bytes prot
-    ≡ in_space c.spaces s (or_else (area_due (mapped (prots_of (inside c.spaces s)) address bytes prot))
+    ≡ in_space c.spaces s (or_else (area_due (map_result (prots_of (inside c.spaces s)) address bytes prot))
     (cond (nat_lt 65536 (page_count (with_space c s (set_within (inside c.spaces s) (page_of address) (pages_for bytes) (fresh_page prot))).spaces)) (Some (Refused NoMemory)) None))
 mmap_seen c s address bytes prot =
-    seen_due c s (λ p. or_else (area_due (mapped p address bytes prot)) (cond (nat_lt 65536 (page_count (after_mmap (plain_of c) s address bytes prot))) (Some (Refused NoMemory)) None)) _ (prots_seen c s)
-    ∙ ap (λ n. in_space c.spaces s (or_else (area_due (mapped (prots_of (inside c.spaces s)) address bytes prot)) (cond (nat_lt 65536 n) (Some (Refused NoMemory)) None))) (mapped_pages c s address bytes prot)
+    seen_due c s (λ p. or_else (area_due (map_result p address bytes prot)) (cond (nat_lt 65536 (page_count (after_mmap (plain_of c) s address bytes prot))) (Some (Refused NoMemory)) None)) _ (prots_seen c s)
+    ∙ ap (λ n. in_space c.spaces s (or_else (area_due (map_result (prots_of (inside c.spaces s)) address bytes prot)) (cond (nat_lt 65536 n) (Some (Refused NoMemory)) None))) (mapped_pages c s address bytes prot)
 
 -- an accepted call is due nothing
 pub nothing_due : (c : Contents) (s : ℕ) (answer : Result PageMap Errno) (own : PageMap) → is_alive c.spaces s ≡ true → answer ≡ Ok own → in_space c.spaces s (area_due answer) ≡ None
@@ -93,14 +93,14 @@ has_bytes address bytes valid = some bytes (not (nat_eq (address % 4096) 0)) val
     some : (bytes : ℕ) (b : Bool) → (nat_eq bytes 0 || b) ≡ false → 0 < bytes
     some bytes b e = grind (arith, nat_tests)
 
-pub unmapped_within : (pages : PageMap) (address bytes : ℕ) (own : PageMap) → unmapped pages address bytes ≡ Ok own → (page_of address + pages_for bytes ≤ 2 ^ 35) × (0 < bytes)
-unfolding unmapped
+pub unmapped_within : (pages : PageMap) (address bytes : ℕ) (own : PageMap) → unmap_result pages address bytes ≡ Ok own → (page_of address + pages_for bytes ≤ 2 ^ 35) × (0 < bytes)
+unfolding unmap_result
 unmapped_within pages address bytes own is =
     let t = tested (is_invalid address bytes) (is_outside address bytes) Einval _ own is in
     (within_space address bytes t.1, has_bytes address bytes t.0)
 
-pub mapped_within : (pages : PageMap) (address bytes : ℕ) (prot : Prot) (own : PageMap) → mapped pages address bytes prot ≡ Ok own → (page_of address + pages_for bytes ≤ 2 ^ 35) × (0 < bytes)
-unfolding mapped
+pub mapped_within : (pages : PageMap) (address bytes : ℕ) (prot : Prot) (own : PageMap) → map_result pages address bytes prot ≡ Ok own → (page_of address + pages_for bytes ≤ 2 ^ 35) × (0 < bytes)
+unfolding map_result
 mapped_within pages address bytes prot own is =
     let t = tested (is_invalid address bytes) (is_outside address bytes) Enomem _ own is in
     (within_space address bytes t.1, has_bytes address bytes t.0)
@@ -112,8 +112,8 @@ third false false false pages rest own e is = refl
 third true true outside pages rest own e is = absurd (let f : true ≡ false = e in cc)
 third false true outside pages rest own e is = absurd (let f : true ≡ false = e in cc)
 
-pub protected_within : (pages : PageMap) (address bytes : ℕ) (prot : Prot) (own : PageMap) → protected pages address bytes prot ≡ Ok own → (bytes ≡ 0 → ⊥) → page_of address + pages_for bytes ≤ 2 ^ 35
-unfolding protected
+pub protected_within : (pages : PageMap) (address bytes : ℕ) (prot : Prot) (own : PageMap) → protect_result pages address bytes prot ≡ Ok own → (bytes ≡ 0 → ⊥) → page_of address + pages_for bytes ≤ 2 ^ 35
+unfolding protect_result
 protected_within pages address bytes prot own is some =
     within_space address bytes (third (not (nat_eq (address % 4096) 0)) (nat_eq bytes 0) (is_outside address bytes) pages _ own (differs bytes some) is)
   where

@@ -90,9 +90,9 @@ module _ (m : Contents) (sound : IsSound m) (s p : ℕ) (x : Page) (there : page
 
   pub sound_removed : IsSound (remove_page m s p)
   sound_removed = record {
-    opened = λ q r y h w.
+    writable = λ q r y h w.
         let l = left q r y h in
-        let o = sound.opened q r y l.1 w in
+        let o = sound.writable q r y l.1 w in
         let a = alone_in m y o.alone in
         let b = total_within-remove (share_of a.0) m.spaces s p in
         let d = before_weight (share_of a.0) in

@@ -19,8 +19,8 @@ use Rattle.sd_pagetable.proofs.ViewLemmas.{same_contents, alone_in, is_alone_in}
 -- the same pages
 pub sound_same : (m n : Contents) → IsSound m → n.pool ≡ m.pool → ((q r : ℕ) → page_at n q r ≡ page_at m q r) → ((k : ℕ) → members n k ≡ members m k) → ((q : ℕ) → is_alive n.spaces q ≡ true → (1 ≤ q) × (q ≤ 16)) → page_count n.spaces ≡ page_count m.spaces → IsSound n
 sound_same m n sound pool same count alive pages = record {
-  opened = λ q r y h w.
-      let o = sound.opened q r y (sym (same q r) ∙ h) w in
+  writable = λ q r y h w.
+      let o = sound.writable q r y (sym (same q r) ∙ h) w in
       let a = alone_in m y o.alone in
       record { soft_dirty = o.soft_dirty; permitted = o.permitted; alone = is_alone_in n y a.0 a.1 (count a.0 ∙ a.2) };
   classes = λ q r y k h c. subst (λ p. k < p) (sym pool) (sound.classes q r y k (sym (same q r) ∙ h) c);
@@ -76,7 +76,7 @@ kept_empty pool tables none e =
     let cell_none : (k : ℕ) → cell_at pool k ≡ None = λ k. ap (λ (cells : List (Option Cell)). cell_at (record { size = pool.size; cells = cells }) k) none in
     record {
       sound = record {
-        opened = λ q r y h w. absurd (let f : ◌≡◌ {A = Option Page} None (Some y) = sym (nothing q r) ∙ h in cc);
+        writable = λ q r y h w. absurd (let f : ◌≡◌ {A = Option Page} None (Some y) = sym (nothing q r) ∙ h in cc);
         classes = λ q r y k h c. absurd (let f : ◌≡◌ {A = Option Page} None (Some y) = sym (nothing q r) ∙ h in cc);
         spaces = λ q h. absurd (let f : false ≡ true = sym (ap (λ (n : Nested Page). is_alive n q) spaces ∙ ap is_some (get-empty nat_cmp q)) ∙ h in cc);
         numbers = λ q r y h. absurd (let f : ◌≡◌ {A = Option Page} None (Some y) = sym (nothing q r) ∙ h in cc);

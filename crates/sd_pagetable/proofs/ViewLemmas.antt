@@ -6,7 +6,7 @@ use Rattle.std.specs.Option.{option_map, option_map_or}
 use Rattle.sd_pagetable.specs.declared.entry.Entry.{Entry}
 use Rattle.sd_pagetable.specs.Nested.{Nested, map_values, value_at, is_alive, put_at, remove_at}
 use Rattle.sd_pagetable.specs.Page.{Page}
-use Rattle.sd_pagetable.specs.Contents.{Contents, page_at, put_page, remove_page, members, share_of, is_alone, page_count, IsOpen, IsSound}
+use Rattle.sd_pagetable.specs.Contents.{Contents, page_at, put_page, remove_page, members, share_of, is_alone, page_count, IsWritable, IsSound}
 use Rattle.sd_pagetable.specs.Frames.{Pool}
 use Rattle.sd_pagetable.specs.View.{page_of_entry, contents_of}
 use Rattle.sd_pagetable.proofs.TableLemmas.{turned_in, turned_out}
@@ -117,14 +117,14 @@ module _ (m : Contents) (sound : IsSound m) (s p : ℕ) (x : Page) (alive : is_a
   numbers_at q r h = (let e : q ≡ s = grind (arith, nat_tests) in e, let e : r ≡ p = grind (arith, nat_tests) in e)
 
   pub sound_put : p < 2 ^ 35 → ((k : ℕ) → x.class ≡ Some k → k < m.pool) → page_count (put_at m.spaces s p x) ≤ 65536
-      → (x.writable ≡ true → IsOpen (put_page m s p x) x)
+      → (x.writable ≡ true → IsWritable (put_page m s p x) x)
       → ((q r : ℕ) (y : Page) (k : ℕ) → is_at s p q r ≡ false → page_at m q r ≡ Some y → y.writable ≡ true → y.class ≡ Some k → members m k ≡ 1 → share_of k x ≡ 0)
       → IsSound (put_page m s p x)
   sound_put number class few opening apart = record {
-    opened = λ q r y h w. elim (either q r y h) [
-      | inl here ↦ subst (IsOpen (put_page m s p x)) here.1 (opening (ap (λ (z : Page). z.writable) here.1 ∙ w))
+    writable = λ q r y h w. elim (either q r y h) [
+      | inl here ↦ subst (IsWritable (put_page m s p x)) here.1 (opening (ap (λ (z : Page). z.writable) here.1 ∙ w))
       | inr there ↦
-          let o = sound.opened q r y there.1 w in
+          let o = sound.writable q r y there.1 w in
           let a = alone_in m y o.alone in
           let b = total_within-put (share_of a.0) m.spaces s p x in
           let e = apart q r y a.0 there.0 there.1 w a.1 a.2 in

@@ -66,14 +66,14 @@ abbrev pub word_at : Contents → ℕ → ℕ → ℕ
 word_at contents space page = option_map_or (word_of_page contents) (page_at contents space page) 0
 
 -- a writable page is soft-dirty, may be written, and is alone in a class
-pub record IsOpen (contents : Contents) (page : Page) : Type 0 where
+pub record IsWritable (contents : Contents) (page : Page) : Type 0 where
   pub soft_dirty : page.soft_dirty ≡ true
   pub permitted : page.prot.write ≡ true
   pub alone : is_alone contents page ≡ true
 
 -- what holds of every memory
 pub record IsSound (contents : Contents) : Type 0 where
-  pub opened : (space number : ℕ) (page : Page) → page_at contents space number ≡ Some page → page.writable ≡ true → IsOpen contents page
+  pub writable : (space number : ℕ) (page : Page) → page_at contents space number ≡ Some page → page.writable ≡ true → IsWritable contents page
   pub classes : (space number : ℕ) (page : Page) (class : ℕ) → page_at contents space number ≡ Some page → page.class ≡ Some class → class < contents.pool
   pub spaces : (space : ℕ) → is_alive contents.spaces space ≡ true → (1 ≤ space) × (space ≤ 16)
   pub numbers : (space number : ℕ) (page : Page) → page_at contents space number ≡ Some page → number < 2 ^ 35

@@ -8,7 +8,7 @@ use Rattle.sd_areas.specs.declared.errno.Errno.TheVariants.{Einval as AreaEinval
 use Rattle.sd_areas.specs.Pages.{page_of}
 use Rattle.sd_areas.specs.PlainMemory.{Page, Space, PlainMemory}
 use Rattle.sd_areas.specs.Areas.{PageMap}
-use Rattle.sd_areas.specs.Calls.{mapped, unmapped, protected}
+use Rattle.sd_areas.specs.Calls.{map_result, unmap_result, protect_result}
 use Rattle.sd_pagetable.specs.declared.access.Access.{Access}
 use Rattle.sd_pagetable.specs.declared.access.Access.TheVariants.{Write}
 use Rattle.sd_pagetable.specs.declared.memory_refusal.MemoryRefusal.TheVariants.{Einval, Enomem, NoSuchSpace, TooManySpaces, NoFrame, LastSpace}
@@ -91,14 +91,14 @@ area_due (Err errno) = Some (errno_due errno)
 -- `mmap`: at most 65,536 pages afterwards
 abbrev pub mmap_due : PlainMemory → ℕ → ℕ → ℕ → Prot → Option AccessError
 mmap_due memory space address bytes prot = in_space memory space
-    (or_else (area_due (mapped (prots_in (inside memory space)) address bytes prot))
+    (or_else (area_due (map_result (prots_in (inside memory space)) address bytes prot))
     (if nat_lt 65536 (page_count (after_mmap memory space address bytes prot)) then Some (Refused Enomem) else None))
 
 abbrev pub munmap_due : PlainMemory → ℕ → ℕ → ℕ → Option AccessError
-munmap_due memory space address bytes = in_space memory space (area_due (unmapped (prots_in (inside memory space)) address bytes))
+munmap_due memory space address bytes = in_space memory space (area_due (unmap_result (prots_in (inside memory space)) address bytes))
 
 abbrev pub mprotect_due : PlainMemory → ℕ → ℕ → ℕ → Prot → Option AccessError
-mprotect_due memory space address bytes prot = in_space memory space (area_due (protected (prots_in (inside memory space)) address bytes prot))
+mprotect_due memory space address bytes prot = in_space memory space (area_due (protect_result (prots_in (inside memory space)) address bytes prot))
 
 -- `fork`: with 16 spaces alive there is no number left, and at most 65,536 pages afterwards
 abbrev pub fork_due : PlainMemory → ℕ → Option AccessError

@@ -42,8 +42,8 @@ abbrev pub inherited_page : Page → Page
 inherited_page page = record page { writable = false; soft_dirty = true }
 
 -- a page after an accepted fault or store: writable, soft-dirty, in a class with these bytes
-abbrev pub opened_page : Page → ℕ → List ℕ → Page
-opened_page page class bytes = record { prot = page.prot; bytes = bytes; class = Some class; writable = true; soft_dirty = true }
+abbrev pub writable_page : Page → ℕ → List ℕ → Page
+writable_page page class bytes = record { prot = page.prot; bytes = bytes; class = Some class; writable = true; soft_dirty = true }
 
 -- after a store to a writable page
 abbrev pub stored_page : Page → List ℕ → Page

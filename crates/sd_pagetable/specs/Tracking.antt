@@ -8,7 +8,7 @@ use Rattle.sd_areas.specs.Pages.{is_within, page_of}
 use Rattle.sd_pagetable.specs.declared.access.Access.TheVariants.{Write}
 use Rattle.sd_pagetable.specs.declared.store_outcome.StoreOutcome.TheVariants.{NeedsFault}
 use Rattle.sd_pagetable.specs.Nested.{Table, map_values, inside, is_alive, set_within, remove_within, change_within}
-use Rattle.sd_pagetable.specs.Page.{Page, fresh_page, cleared_page, protected_page, shared_page, inherited_page, opened_page, stored_page}
+use Rattle.sd_pagetable.specs.Page.{Page, fresh_page, cleared_page, protected_page, shared_page, inherited_page, writable_page, stored_page}
 use Rattle.sd_pagetable.specs.Contents.{Contents, page_at, put_page, members, is_alone, plain_of}
 use Rattle.sd_pagetable.specs.Access.{stored_at}
 use Rattle.sd_pagetable.specs.Due.{access_due, try_outcome}
@@ -34,8 +34,8 @@ abbrev pub with_space : Contents → ℕ → Table Page → Contents
 with_space contents space pages = record { pool = contents.pool; spaces = finmap.insert contents.spaces space pages }
 
 -- after `fork` the child's pages are in the classes of the parent's, and neither is writable
-abbrev pub forked : Contents → ℕ → ℕ → Contents
-forked contents parent child = with_space (with_space contents parent (map_values shared_page (inside contents.spaces parent))) child (map_values inherited_page (inside contents.spaces parent))
+abbrev pub contents_after_fork : Contents → ℕ → ℕ → Contents
+contents_after_fork contents parent child = with_space (with_space contents parent (map_values shared_page (inside contents.spaces parent))) child (map_values inherited_page (inside contents.spaces parent))
 
 -- the class in which a page ends up alone: its own where it is alone in it, else one of the pool that has no page
 abbrev pub IsOwnClass : Contents → Page → ℕ → Type 0
@@ -44,21 +44,21 @@ IsOwnClass contents page class =
     ⊎ ((is_alone contents page ≡ false) × (members contents class ≡ 0) × (class < contents.pool))
 
 -- a page becomes writable, soft-dirty, and alone in a class, with these bytes
-abbrev pub Opens : Contents → ℕ → ℕ → (List ℕ → List ℕ) → Contents → Type 0
-Opens old space number bytes new = (page : Page) × (class : ℕ) × (page_at old space number ≡ Some page)
-    × IsOwnClass old page class × (new ≡ put_page old space number (opened_page page class (bytes page.bytes)))
+abbrev pub MakesWritable : Contents → ℕ → ℕ → (List ℕ → List ℕ) → Contents → Type 0
+MakesWritable old space number bytes new = (page : Page) × (class : ℕ) × (page_at old space number ≡ Some page)
+    × IsOwnClass old page class × (new ≡ put_page old space number (writable_page page class (bytes page.bytes)))
 
 -- what an event makes of a memory
 abbrev pub Step : Contents → Event → Contents → Type 0
 Step old (Mapped space first count prot) new = new ≡ with_space old space (set_within (inside old.spaces space) first count (fresh_page prot))
 Step old (Unmapped space first count) new = new ≡ with_space old space (remove_within (inside old.spaces space) first count)
 Step old (Protected space first count prot) new = new ≡ with_space old space (change_within (protected_page prot) (inside old.spaces space) first count)
-Step old (Forked parent child) new = (is_alive old.spaces child ≡ false) × (new ≡ forked old parent child)
+Step old (Forked parent child) new = (is_alive old.spaces child ≡ false) × (new ≡ contents_after_fork old parent child)
 Step old (Exited space) new = new ≡ record { pool = old.pool; spaces = finmap.remove old.spaces space }
-Step old (Faulted space page) new = Opens old space page (λ bytes. bytes) new
+Step old (Faulted space page) new = MakesWritable old space page (λ bytes. bytes) new
 Step old (Tried space number offset bytes) new = (page : Page) × (page_at old space number ≡ Some page) × (page.writable ≡ true)
     × (new ≡ put_page old space number (stored_page page (stored_at page.bytes offset bytes)))
-Step old (Stored space page offset bytes) new = Opens old space page (λ before. stored_at before offset bytes) new
+Step old (Stored space page offset bytes) new = MakesWritable old space page (λ before. stored_at before offset bytes) new
 Step old (Cleared space number) new = (page : Page) × (page_at old space number ≡ Some page) × (new ≡ put_page old space number (cleared_page page))
 Step old Passed new = new ≡ old
 
@@ -81,19 +81,19 @@ clears space page (Cleared s p) = is_page s p space page
 clears space page _ = false
 
 -- an accepted fault or store at the page
-abbrev pub opens : ℕ → ℕ → Event → Bool
-opens space page (Faulted s p) = is_page s p space page
-opens space page (Stored s p offset bytes) = is_page s p space page
-opens space page _ = false
+abbrev pub makes_writable : ℕ → ℕ → Event → Bool
+makes_writable space page (Faulted s p) = is_page s p space page
+makes_writable space page (Stored s p offset bytes) = is_page s p space page
+makes_writable space page _ = false
 
 -- a clear of it, an accepted `mmap`, `munmap` or `mprotect` over it, a `fork` of its space or one that makes it as a page of the child
-abbrev pub closes : ℕ → ℕ → Event → Bool
-closes space page (Mapped s first count prot) = s == space && is_within first count page
-closes space page (Unmapped s first count) = s == space && is_within first count page
-closes space page (Protected s first count prot) = s == space && is_within first count page
-closes space page (Forked parent child) = parent == space || child == space
-closes space page (Cleared s p) = is_page s p space page
-closes space page _ = false
+abbrev pub write_protects : ℕ → ℕ → Event → Bool
+write_protects space page (Mapped s first count prot) = s == space && is_within first count page
+write_protects space page (Unmapped s first count) = s == space && is_within first count page
+write_protects space page (Protected s first count prot) = s == space && is_within first count page
+write_protects space page (Forked parent child) = parent == space || child == space
+write_protects space page (Cleared s p) = is_page s p space page
+write_protects space page _ = false
 
 -- the events since the last that passes a test
 abbrev pub since : (Event → Bool) → List Event → List Event
@@ -103,14 +103,14 @@ since test history = take_while (λ event. not (test event)) history
 abbrev pub is_dirty : List Event → ℕ → ℕ → Bool
 is_dirty history space page = list_any (touches space page) (since (clears space page) history) || not (list_any (clears space page) history)
 
--- a fault or store was accepted at it, and since then came nothing that closes it
-abbrev pub is_open : List Event → ℕ → ℕ → Bool
-is_open history space page = list_any (opens space page) (since (closes space page) history)
+-- a fault or store was accepted at it, and since then came nothing that write_protects it
+abbrev pub is_writable : List Event → ℕ → ℕ → Bool
+is_writable history space page = list_any (makes_writable space page) (since (write_protects space page) history)
 
 -- the bits of each mapped page are those that the history says
 pub record Tracks (history : List Event) (contents : Contents) : Type 0 where
   pub soft_dirty : (space number : ℕ) (page : Page) → page_at contents space number ≡ Some page → page.soft_dirty ≡ is_dirty history space number
-  pub writable : (space number : ℕ) (page : Page) → page_at contents space number ≡ Some page → page.writable ≡ is_open history space number
+  pub writable : (space number : ℕ) (page : Page) → page_at contents space number ≡ Some page → page.writable ≡ is_writable history space number
 
 -- the history leads from one memory to another
 abbrev pub Run : Contents → List Event → Contents → Type 0
@@ -130,4 +130,4 @@ BitsLaw = (start end : Contents) (history : List Event) → IsBeginning start �
 abbrev pub TryLaw : Type 0
 TryLaw = (start end : Contents) (history : List Event) (space address bytes : ℕ) → IsBeginning start → Run start history end →
     access_due (plain_of end) space address bytes Write ≡ None →
-    (try_outcome end space address bytes ≡ Ok NeedsFault) ↔ (is_open history space (page_of address) ≡ false)
+    (try_outcome end space address bytes ≡ Ok NeedsFault) ↔ (is_writable history space (page_of address) ≡ false)

@@ -26,7 +26,7 @@ impl Entry {
     }
 
     /// The entry where the next store needs a fault.
-    pub(crate) fn closed(self, soft_dirty: bool) -> Self
+    pub(crate) fn write_protected(self, soft_dirty: bool) -> Self
         ensures { result ≡ record self { writable = false; soft_dirty = soft_dirty } }
     {
         Entry {
@@ -50,7 +50,7 @@ impl Entry {
     }
 
     /// The entry after a fault: writable and soft-dirty, with a frame of its own.
-    pub(crate) fn opened(self, frame: usize) -> Self
+    pub(crate) fn made_writable(self, frame: usize) -> Self
         ensures { result ≡ record { prot = self.prot; frame = Some frame; writable = true; soft_dirty = true } }
     {
         Entry {

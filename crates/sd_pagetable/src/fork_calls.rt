@@ -8,15 +8,15 @@ ghost use Rattle.sd_pagetable.specs.Contents.{page_count, plain_of, IsSound};
 ghost use Rattle.sd_pagetable.specs.Due.{Answers, answer, exit_due, fork_due};
 ghost use Rattle.sd_pagetable.specs.Effects.{after_exit, after_fork, IsLeastFree};
 ghost use Rattle.sd_pagetable.specs.Kept.{HasAreas};
-ghost use Rattle.sd_pagetable.specs.Tracking.{Step, Exited, Forked, forked};
+ghost use Rattle.sd_pagetable.specs.Tracking.{Step, Exited, Forked, contents_after_fork};
 
 use crate::access_error::AccessError;
-use crate::paging::{MAPPED_LIMIT, Paging, SPACE_LIMIT};
 use crate::memory_error::MemoryError;
+use crate::memory_refusal::MemoryRefusal;
+use crate::paging::Paging;
 use crate::range_calls::{Areas, copy_in};
 use crate::ranges::{copy_pages, share_pages, unmap_all};
-use crate::memory_refusal::MemoryRefusal;
-use sd_areas::{AreaMap, SpaceId};
+use sd_areas::{AreaMap, MAPPED_PAGE_LIMIT, SPACE_LIMIT, SpaceId};
 use std::alloc::AllocError;
 
 /// Puts a space's areas beside the others.
@@ -49,7 +49,11 @@ fn end_space(paging: &mut Paging, space: SpaceId)
 }
 
 /// `exit` over the pages of all spaces and the areas beside them. It takes no memory.
-pub(crate) fn exit(paging: &mut Paging, areas: &mut Areas, space: SpaceId) -> Result<(), AccessError>
+pub(crate) fn exit(
+    paging: &mut Paging,
+    areas: &mut Areas,
+    space: SpaceId,
+) -> Result<(), AccessError>
     requires kept { HasAreas areas.old paging.old }
     ensures kept { HasAreas areas.new paging.new }
     ensures due { result ≡ answer (exit_due (plain_of paging.old) space) tt }
@@ -79,7 +83,7 @@ fn copy_space(paging: &mut Paging, space: SpaceId, child: SpaceId) -> Result<(),
     requires least { 1 ≤ child }
     requires greatest { child ≤ 16 }
     requires few { page_count paging.old.spaces + finmap.len (inside paging.old.spaces space) ≤ 65536 }
-    ensures ok { OnOk result (paging.new ≡ forked paging.old space child) }
+    ensures ok { OnOk result (paging.new ≡ contents_after_fork paging.old space child) }
     ensures err { OnErr result (paging.new ≡ paging.old) }
 {
     paging.add_space(child)?;
@@ -128,7 +132,7 @@ pub(crate) fn fork(
     let Some(child) = free_number(paging) else {
         return Err(MemoryRefusal::TooManySpaces.into());
     };
-    if mapped + paging.pages_in(space) as u64 > MAPPED_LIMIT {
+    if mapped + paging.pages_in(space) as u64 > MAPPED_PAGE_LIMIT {
         return Err(MemoryRefusal::Enomem.into());
     }
     let own = copy_in(areas, space)?;

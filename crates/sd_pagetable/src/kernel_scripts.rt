@@ -313,7 +313,13 @@ pub(crate) const MMAP_BAD: [Line; 9] = [
     Line::MmapRefused(1, 0x1_0000_0FFF, 4096, READ_WRITE, MemoryRefusal::Einval),
     Line::MmapRefused(1, 0x1_0000_0001, 0, READ_WRITE, MemoryRefusal::Einval),
     Line::MmapRefused(1, 0x8000_0000_0000, 4096, READ_WRITE, MemoryRefusal::Enomem),
-    Line::MmapRefused(1, 0xFFFF_FFFF_FFFF_F000, 4096, READ_WRITE, MemoryRefusal::Enomem),
+    Line::MmapRefused(
+        1,
+        0xFFFF_FFFF_FFFF_F000,
+        4096,
+        READ_WRITE,
+        MemoryRefusal::Enomem,
+    ),
     Line::MmapRefused(
         1,
         0x1_0000_0000,

@@ -1,6 +1,8 @@
 //! The answers of a Linux kernel, asked of a memory.
 use crate::kernel_line::Line;
-use crate::{AccessError, Memory, MemoryError, MemoryRefusal, Segv, StoreOutcome, kernel_scripts as scripts};
+use crate::{
+    AccessError, Memory, MemoryError, MemoryRefusal, Segv, StoreOutcome, kernel_scripts as scripts,
+};
 use sd_areas::{PageNo, SpaceId};
 use std::alloc::Global;
 use std::test::Fail;

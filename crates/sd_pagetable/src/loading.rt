@@ -18,11 +18,13 @@ ghost use Rattle.sd_pagetable.specs.Due.{Answers, prots_in};
 ghost use Rattle.sd_pagetable.specs.Loaded.{is_zero_page, frames_for, nonzero_pages, is_over_in_space, snapshot_due, IsBegun, IsLoaded};
 
 use crate::fork_calls::add_areas;
-use crate::paging::{MAPPED_LIMIT, Paging, SPACE_LIMIT};
 use crate::memory_error::MemoryError;
-use crate::range_calls::Areas;
 use crate::memory_refusal::MemoryRefusal;
-use sd_areas::{AreaMap, PAGE_SIZE, PageNo, Snapshot, SnapshotPage, SpaceId};
+use crate::paging::Paging;
+use crate::range_calls::Areas;
+use sd_areas::{
+    AreaMap, MAPPED_PAGE_LIMIT, PAGE_SIZE, PageNo, SPACE_LIMIT, Snapshot, SnapshotPage, SpaceId,
+};
 use std::alloc::{AllocError, Global};
 use std::collections::BTreeMap;
 
@@ -76,7 +78,7 @@ fn is_short(frames: usize, snapshot: &Snapshot) -> bool
 fn is_crowded(snapshot: &Snapshot) -> bool
     ensures { result ≡ nat_lt 65536 (page_count (memory_of snapshot.now)) }
 {
-    let mut left = MAPPED_LIMIT as usize;
+    let mut left = MAPPED_PAGE_LIMIT as usize;
     for (_, pages) in &snapshot.spaces {
         let count = pages.len();
         if count > left {

@@ -62,7 +62,10 @@ fn begins_with_a_snapshot(rt: HostRuntime) -> Result<(), Fail> {
     assert_eq!(rt; byte[0], 0x62);
     assert_eq!(rt; memory.load(one, 0x11000, &mut byte), Ok(()));
     assert_eq!(rt; byte[0], 0);
-    assert_eq!(rt; memory.try_store(one, 0x10000, &[1]), Ok(StoreOutcome::NeedsFault));
+    assert_eq!(rt;
+        memory.try_store(one, 0x10000, &[1]),
+        Ok(StoreOutcome::NeedsFault)
+    );
     assert_eq!(rt; memory.store_now(one, 0x10001, &[1]), Ok(()));
     assert_eq!(rt; memory.store_now(one, 0x11000, &[1]), Err(NO_FRAME));
     assert_eq!(rt; memory.fork(one), Ok(SpaceId::new(2)));

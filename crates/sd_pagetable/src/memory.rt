@@ -1,28 +1,20 @@
 ghost use Rattle.sd_pagetable.specs.Access.{allows, is_bad_access};
 ghost use Rattle.std.specs.Prelude.{◌≡◌, ◌%◌, ◌+◌, ◌*◌, ◌<◌, ◌≤◌, ℕ, true, false, None, Some, Ok, length, slice_range, is_some, IsSome, OnOk, OnErr, IfOk, IfSome, IfErr};
 
-use crate::access_error::AccessError;
-use crate::paging::{Paging, SPACE_LIMIT};
-use crate::memory_error::MemoryError;
 use crate::access::Access;
+use crate::access_error::AccessError;
+use crate::limits::{ACCESS_LIMIT, SECTOR_SIZE};
+use crate::memory_error::MemoryError;
 use crate::memory_refusal::MemoryRefusal;
+use crate::paging::Paging;
 use crate::segv::Segv;
 use crate::store_outcome::StoreOutcome;
 use crate::{fork_calls, loading, range_calls};
-use sd_areas::{AreaMap, PAGE_SIZE, PageNo, Prot, Snapshot, SpaceId};
+use sd_areas::{AreaMap, PAGE_BYTES, PAGE_SIZE, PageNo, Prot, SPACE_LIMIT, Snapshot, SpaceId};
 use std::alloc::{AllocError, Global};
 use std::collections::BTreeMap;
 use std::marker::Model;
 use std::ops::Bound;
-
-/// How many bytes a sector has.
-pub const SECTOR_SIZE: usize = 512;
-
-/// How many bytes a load or a store can have.
-const ACCESS_LIMIT: usize = 64;
-
-/// How many bytes a page has.
-const PAGE_BYTES: u64 = PAGE_SIZE as u64;
 
 /// Where an access begins.
 #[derive(Clone, Copy)]
@@ -224,7 +216,13 @@ impl Memory {
     }
 
     /// Where an access is, if it may be made.
-    fn place(&self, space: SpaceId, address: u64, bytes: usize, need: Access) -> Result<Place, AccessError>
+    fn place(
+        &self,
+        space: SpaceId,
+        address: u64,
+        bytes: usize,
+        need: Access,
+    ) -> Result<Place, AccessError>
         ensures page { IfOk result (λ place. place.page ≡ page_of address) }
         ensures offset { IfOk result (λ place. place.offset ≡ address % 4096) }
         ensures within { IfOk result (λ place. place.offset + bytes ≤ 4096) }
@@ -285,7 +283,12 @@ impl Memory {
     /// # Errors
     ///
     /// As of `load`, where the permission is to write. An error changes nothing.
-    pub fn try_store(&mut self, space: SpaceId, address: u64, bytes: &[u8]) -> Result<StoreOutcome, AccessError>
+    pub fn try_store(
+        &mut self,
+        space: SpaceId,
+        address: u64,
+        bytes: &[u8],
+    ) -> Result<StoreOutcome, AccessError>
         ensures due { result ≡ try_outcome self.old space address (length bytes.now) }
         ensures step { result ≡ Ok Done → Step self.old (TriedEvent space (page_of address) (address % 4096) bytes.now) self.new }
         ensures memory { result ≡ Ok Done → plain_of self.new ≡ after_store (plain_of self.old) space address bytes.now }
@@ -320,7 +323,7 @@ impl Memory {
             return Err(MemoryRefusal::NoSuchSpace.into());
         }
         let page = self.permitted(space, address, Access::Write)?;
-        self.paging.open(space, page)
+        self.paging.make_writable(space, page)
     }
 
     /// Stores 1 to 64 bytes from an address on, within one page, with a fault where one is needed.
@@ -340,7 +343,7 @@ impl Memory {
         ensures err { OnErr result (self.new ≡ self.old) }
     {
         let place = self.place(space, address, bytes.len(), Access::Write)?;
-        self.paging.open(space, place.page)?;
+        self.paging.make_writable(space, place.page)?;
         self.paging.write(space, place.page, place.offset, bytes);
         Ok(())
     }
@@ -354,7 +357,7 @@ impl Memory {
         ensures none { result ≡ None → self.new ≡ self.old }
     {
         let entry = self.paging.entry(space, page)?;
-        self.paging.close(space, page, entry.prot, false);
+        self.paging.write_protect(space, page, entry.prot, false);
         Some(entry.soft_dirty)
     }
 

@@ -16,7 +16,7 @@ ghost use Rattle.sd_pagetable.specs.declared.memory_refusal.MemoryRefusal.TheVar
 ghost use Rattle.sd_pagetable.specs.declared.access_error.AccessError.TheVariants.{Refused};
 ghost use Rattle.sd_pagetable.specs.declared.memory_error.MemoryError.TheVariants.{Denied as DeniedError, OutOfMemory};
 ghost use Rattle.sd_pagetable.specs.Due.{Answers, frame_due};
-ghost use Rattle.sd_pagetable.specs.Tracking.{Opens};
+ghost use Rattle.sd_pagetable.specs.Tracking.{MakesWritable};
 ghost use Rattle.sd_pagetable.specs.View.{entry_of};
 ghost use Rattle.sd_areas.specs.Memory.{page_of_snapshot};
 ghost use Rattle.sd_pagetable.specs.Loaded.{is_zero_page, Loads, GivesFrame};
@@ -28,19 +28,10 @@ use crate::loading::is_zero;
 use crate::memory_error::MemoryError;
 use crate::memory_refusal::MemoryRefusal;
 use crate::tables::Tables;
-use sd_areas::{PAGE_SIZE, PageNo, Prot, SnapshotPage, SpaceId};
+use sd_areas::{PAGE_BYTES, PAGE_SIZE, PageNo, Prot, SnapshotPage, SpaceId};
 use std::alloc::{AllocError, Global};
 use std::marker::Model;
 use std::ops::Bound;
-
-/// How many bytes a page has.
-const PAGE_BYTES: u64 = PAGE_SIZE as u64;
-
-/// How many pages can be mapped in all spaces.
-pub(crate) const MAPPED_LIMIT: u64 = 65_536;
-
-/// The greatest number that a space can have.
-pub(crate) const SPACE_LIMIT: u64 = 16;
 
 /// Bit 63 of a word: the page has a frame.
 const PRESENT: u64 = 1 << 63;
@@ -298,7 +289,13 @@ impl Paging {
     }
 
     /// Gives a page permissions and a soft-dirty bit, and takes its writable bit.
-    pub(crate) fn close(&mut self, space: SpaceId, page: PageNo, prot: Prot, soft_dirty: bool)
+    pub(crate) fn write_protect(
+        &mut self,
+        space: SpaceId,
+        page: PageNo,
+        prot: Prot,
+        soft_dirty: bool,
+    )
         requires { IsSome (page_at self.old space page) }
         ensures { IfSome (page_at self.old space page) (λ (before : Page).
             self.new ≡ put_page self.old space page
@@ -306,13 +303,13 @@ impl Paging {
     {
         if let Some(entry) = self.tables.get(space, page) {
             let frame = entry.frame;
-            let closed = Entry {
+            let protected = Entry {
                 prot,
                 frame,
                 writable: false,
                 soft_dirty,
             };
-            self.tables.replace(space, page, closed);
+            self.tables.replace(space, page, protected);
         }
     }
 
@@ -331,8 +328,9 @@ impl Paging {
             return;
         };
         self.tables
-            .replace(parent, page, entry.closed(entry.soft_dirty));
-        self.tables.replace(child, page, entry.closed(true));
+            .replace(parent, page, entry.write_protected(entry.soft_dirty));
+        self.tables
+            .replace(child, page, entry.write_protected(true));
         share(&mut self.frames, entry.frame);
     }
 
@@ -342,10 +340,10 @@ impl Paging {
     ///
     /// No-frame where a frame is needed and every frame of the pool is used, and out of memory
     /// where the frame's bytes can't be allocated. An error changes nothing.
-    pub(crate) fn open(&mut self, space: SpaceId, page: PageNo) -> Result<(), MemoryError>
+    pub(crate) fn make_writable(&mut self, space: SpaceId, page: PageNo) -> Result<(), MemoryError>
         requires permitted { IfSome (page_at self.old space page) (λ (before : Page). before.prot.write ≡ true) }
         requires there { IsSome (page_at self.old space page) }
-        ensures opened { OnOk result (Opens self.old space page (λ bytes. bytes) self.new) }
+        ensures writable { OnOk result (MakesWritable self.old space page (λ bytes. bytes) self.new) }
         ensures due { Answers (frame_due self.old (page_at self.old space page)) result }
         ensures err { OnErr result (self.new ≡ self.old) }
     {
@@ -353,7 +351,7 @@ impl Paging {
             return Ok(());
         };
         let frame = own_frame(&mut self.frames, entry.frame)?;
-        self.tables.replace(space, page, entry.opened(frame));
+        self.tables.replace(space, page, entry.made_writable(frame));
         Ok(())
     }
 

@@ -2,7 +2,7 @@
 ghost use Rattle.std.specs.Prelude.{◌≡◌, ◌≢◌, ◌⊎◌, ◌+◌, ◌-◌, ◌<◌, ◌≤◌, ◌^◌, ℕ, ◌==◌, if◌then◌else◌, true, false, not, is_some, count_by, None, Some, Ok, Err, IsSome, IfOk, IfErr, OnOk, OnErr, IfSome};
 ghost use Rattle.std.specs.Ordering.{nat_cmp};
 ghost use Rattle.std.specs.BTreeMap.{get};
-ghost use Rattle.sd_areas.specs.Calls.{mapped, unmapped, protected};
+ghost use Rattle.sd_areas.specs.Calls.{map_result, unmap_result, protect_result};
 ghost use Rattle.sd_areas.specs.Pages.{page_of, pages_for, pages_from};
 ghost use Rattle.sd_pagetable.specs.declared.access_error.AccessError.TheVariants.{Refused};
 ghost use Rattle.sd_pagetable.specs.declared.memory_error.MemoryError.TheVariants.{Denied as DeniedError, OutOfMemory};
@@ -16,18 +16,16 @@ ghost use Rattle.sd_pagetable.specs.Kept.{HasAreas, prots_of};
 ghost use Rattle.sd_pagetable.specs.RangeCalls.{Refuses};
 ghost use Rattle.sd_pagetable.specs.Tracking.{Step, Mapped, Unmapped, Protected, with_space};
 
-use crate::paging::{MAPPED_LIMIT, Paging};
 use crate::memory_error::MemoryError;
-use crate::ranges::{fill, holes, protect, renew, unfill, unmap};
 use crate::memory_refusal::MemoryRefusal;
+use crate::paging::Paging;
+use crate::ranges::{fill, holes, protect, renew, unfill, unmap};
 use sd_areas::{
-    AreaMap, PAGE_SIZE, PageNo, Prot, SpaceId, mapped_law, protected_law, unmapped_law,
+    AreaMap, MAPPED_PAGE_LIMIT, PAGE_BYTES, PageNo, Prot, SpaceId, mapped_law, protected_law,
+    unmapped_law,
 };
 use std::alloc::AllocError;
 use std::collections::BTreeMap;
-
-/// How many bytes a page has.
-const PAGE_BYTES: u64 = PAGE_SIZE as u64;
 
 /// The areas of each living space.
 pub(crate) type Areas = BTreeMap<SpaceId, AreaMap>;
@@ -68,9 +66,9 @@ fn with_mapped(
     prot: Prot,
 ) -> Result<AreaMap, MemoryError>
     ensures ok { IfOk result (λ own. (contents : Contents) → HasAreas areas.now contents → (is_alive contents.spaces space ≡ true)
-        × (mapped (prots_of (inside contents.spaces space)) address bytes prot ≡ Ok own)) }
+        × (map_result (prots_of (inside contents.spaces space)) address bytes prot ≡ Ok own)) }
     ensures due { IfErr result (λ e. (contents : Contents) → HasAreas areas.now contents
-        → Refuses e (in_space contents.spaces space (area_due (mapped (prots_of (inside contents.spaces space)) address bytes prot)))) }
+        → Refuses e (in_space contents.spaces space (area_due (map_result (prots_of (inside contents.spaces space)) address bytes prot)))) }
 {
     let mut own = copy_in(areas, space)?;
     own.map(address, bytes, prot)?;
@@ -85,9 +83,9 @@ fn with_unmapped(
     bytes: u64,
 ) -> Result<AreaMap, MemoryError>
     ensures ok { IfOk result (λ own. (contents : Contents) → HasAreas areas.now contents → (is_alive contents.spaces space ≡ true)
-        × (unmapped (prots_of (inside contents.spaces space)) address bytes ≡ Ok own)) }
+        × (unmap_result (prots_of (inside contents.spaces space)) address bytes ≡ Ok own)) }
     ensures due { IfErr result (λ e. (contents : Contents) → HasAreas areas.now contents
-        → Refuses e (in_space contents.spaces space (area_due (unmapped (prots_of (inside contents.spaces space)) address bytes)))) }
+        → Refuses e (in_space contents.spaces space (area_due (unmap_result (prots_of (inside contents.spaces space)) address bytes)))) }
 {
     let mut own = copy_in(areas, space)?;
     own.unmap(address, bytes)?;
@@ -103,9 +101,9 @@ fn with_protected(
     prot: Prot,
 ) -> Result<AreaMap, MemoryError>
     ensures ok { IfOk result (λ own. (contents : Contents) → HasAreas areas.now contents → (is_alive contents.spaces space ≡ true)
-        × (protected (prots_of (inside contents.spaces space)) address bytes prot ≡ Ok own)) }
+        × (protect_result (prots_of (inside contents.spaces space)) address bytes prot ≡ Ok own)) }
     ensures due { IfErr result (λ e. (contents : Contents) → HasAreas areas.now contents
-        → Refuses e (in_space contents.spaces space (area_due (protected (prots_of (inside contents.spaces space)) address bytes prot)))) }
+        → Refuses e (in_space contents.spaces space (area_due (protect_result (prots_of (inside contents.spaces space)) address bytes prot)))) }
 {
     let mut own = copy_in(areas, space)?;
     own.protect(address, bytes, prot)?;
@@ -121,10 +119,10 @@ fn has_room(paging: &Paging, own: &AreaMap, first: u64, end: u64) -> bool
     ensures full { (space : ℕ) (page : Page) → own.now ≡ prots_of (inside paging.now.spaces space) → result ≡ false
         → 65536 < page_count (with_space paging.now space (set_within (inside paging.now.spaces space) first (end - first) page)).spaces }
 {
-    if end - first > MAPPED_LIMIT {
+    if end - first > MAPPED_PAGE_LIMIT {
         return false;
     }
-    paging.mapped() + holes(own, first, end) <= MAPPED_LIMIT
+    paging.mapped() + holes(own, first, end) <= MAPPED_PAGE_LIMIT
 }
 
 /// Maps each page of a run anew.

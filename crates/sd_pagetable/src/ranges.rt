@@ -151,7 +151,7 @@ fn protect_page(paging: &mut Paging, space: SpaceId, page: PageNo, prot: Prot)
     let Some(entry) = paging.entry(space, page) else {
         return;
     };
-    paging.close(space, page, prot, entry.soft_dirty);
+    paging.write_protect(space, page, prot, entry.soft_dirty);
 }
 
 /// Gives each page of a run permissions, and takes its writable bit.

@@ -62,7 +62,10 @@ fn exact_bits(rt: HostRuntime) -> Result<(), Fail> {
         Ok(StoreOutcome::NeedsFault)
     );
     assert_eq!(rt; memory.fault(space, 0x10000), Ok(()));
-    assert_eq!(rt; memory.try_store(space, 0x10000, &[0x61]), Ok(StoreOutcome::Done));
+    assert_eq!(rt;
+        memory.try_store(space, 0x10000, &[0x61]),
+        Ok(StoreOutcome::Done)
+    );
     assert_eq!(rt; memory.word(space, page), DIRTY_ALONE);
     assert_eq!(rt; memory.test_and_clear(space, page), Some(true));
     assert_eq!(rt; memory.word(space, page), CLEAN_ALONE);

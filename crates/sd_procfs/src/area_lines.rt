@@ -2,12 +2,9 @@
 ghost use Rattle.std.specs.Prelude.{◌≡◌, ◌+◌, ◌≤◌, ◌^◌, ◌++◌, IfOk, OnOk};
 ghost use Rattle.sd_procfs.specs.Listing.{area_line, listing_text};
 
-use sd_areas::{Area, AreaMap};
+use sd_areas::{Area, AreaMap, PAGE_BYTES};
 use std::alloc::{AllocError, Global};
 use std::fmt::Write;
-
-/// How many bytes a page has.
-const PAGE_SIZE: u64 = sd_areas::PAGE_SIZE as u64;
 
 /// One line for each area, rising: `area FIRST END PERMISSIONS`, the addresses in hexadecimal.
 ///
@@ -28,7 +25,7 @@ fn push_line(text: &mut String, area: &Area) -> Result<(), AllocError>
     requires { area.now.first + area.now.count ≤ 2 ^ 35 }
     ensures { OnOk result (text.new.bytes.items ≡ text.old.bytes.items ++ area_line area.now) }
 {
-    let first = PAGE_SIZE * area.first.number();
-    let end = PAGE_SIZE * (area.first.number() + area.count);
+    let first = PAGE_BYTES * area.first.number();
+    let end = PAGE_BYTES * (area.first.number() + area.count);
     writeln!(text, "area 0x{first:x} 0x{end:x} {}", area.prot)
 }

@@ -48,7 +48,10 @@ fn exact_bits(rt: HostRuntime) -> Result<(), Fail> {
 fn clears_past_holes(rt: HostRuntime) -> Result<(), Fail> {
     let mut memory = two_pages(&rt)?;
     let space = SpaceId::new(1);
-    assert_eq!(rt; memory.try_store(space, 0x10000, &[0x62]), Ok(StoreOutcome::Done));
+    assert_eq!(rt;
+        memory.try_store(space, 0x10000, &[0x62]),
+        Ok(StoreOutcome::Done)
+    );
     assert_eq!(rt; clear_refs(&mut memory, space, b"4\n"), Ok(()));
     let first = PageNo::new(16).ok_or("no page")?;
     let mut words = [7; 24];

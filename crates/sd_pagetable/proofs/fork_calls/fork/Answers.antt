@@ -28,9 +28,9 @@ overflow_add-mapped c =
     let sum : c.mapped-mapped.result + c.pages_in.result < 2 ^ 64 = omega (arith, few, c.pages_in.ensures, c.mapped-mapped.ensures.value, c.mapped-mapped.ensures.few) in
     search rules
 
-pub returns-then-mapped-pages_in-gt-MAPPED_LIMIT-clause-due : goal.returns-then-mapped-pages_in-gt-MAPPED_LIMIT-clause-due
-returns-then-mapped-pages_in-gt-MAPPED_LIMIT-clause-due c =
-    let more : 65536 < page_count c.args.paging.now.spaces + finmap.len (inside c.args.paging.now.spaces c.args.space) = omega (arith, c.pages_in.ensures, c.mapped-mapped.ensures.value, c.if-mapped-pages_in-gt-MAPPED_LIMIT.true) in
+pub returns-then-mapped-pages_in-gt-MAPPED_PAGE_LIMIT-clause-due : goal.returns-then-mapped-pages_in-gt-MAPPED_PAGE_LIMIT-clause-due
+returns-then-mapped-pages_in-gt-MAPPED_PAGE_LIMIT-clause-due c =
+    let more : 65536 < page_count c.args.paging.now.spaces + finmap.len (inside c.args.paging.now.spaces c.args.space) = omega (arith, c.pages_in.ensures, c.mapped-mapped.ensures.value, c.if-mapped-pages_in-gt-MAPPED_PAGE_LIMIT.true) in
     let due : fork_due (plain_of c.args.paging.now) c.args.space ≡ Some (Refused Enomem) =
     fork_alive c.args.paging.now c.args.space false true (sym c.if-not-is_alive.ensures) (is_fewer _ c.in-Some.ensures.1) (many_pages _ more) in
     search rules
@@ -50,7 +50,7 @@ returns-clause-kept c = subst (HasAreas c.add_areas.new.areas) (sym c.in_default
 
 pub returns-clause-due : goal.returns-clause-due
 returns-clause-due c =
-    let few : page_count c.args.paging.now.spaces + finmap.len (inside c.args.paging.now.spaces c.args.space) ≤ 65536 = omega (arith, c.pages_in.ensures, c.mapped-mapped.ensures.value, c.if-mapped-pages_in-gt-MAPPED_LIMIT.false) in
+    let few : page_count c.args.paging.now.spaces + finmap.len (inside c.args.paging.now.spaces c.args.space) ≤ 65536 = omega (arith, c.pages_in.ensures, c.mapped-mapped.ensures.value, c.if-mapped-pages_in-gt-MAPPED_PAGE_LIMIT.false) in
     fork_alive c.args.paging.now c.args.space false false (sym c.if-not-is_alive.ensures) (is_fewer _ c.in-Some.ensures.1) (few_pages _ few)
 
 pub returns-clause-step : goal.returns-clause-step

@@ -4,10 +4,10 @@ use Rattle.sd_pagetable.proofs.PlainRanges.{run_is_mapped, mapped_count}
 use Rattle.sd_pagetable.proofs.RangeDue.{holes_seen, is_at_most, is_above}
 use Rattle.sd_pagetable.proofs.range_calls.has_room.Goals as goal
 
-pub returns-then-end-first-gt-MAPPED_LIMIT-clause-full : goal.returns-then-end-first-gt-MAPPED_LIMIT-clause-full
-returns-then-end-first-gt-MAPPED_LIMIT-clause-full c = λ space page are full.
+pub returns-then-end-first-gt-MAPPED_PAGE_LIMIT-clause-full : goal.returns-then-end-first-gt-MAPPED_PAGE_LIMIT-clause-full
+returns-then-end-first-gt-MAPPED_PAGE_LIMIT-clause-full c = λ space page are full.
     let mapped = run_is_mapped c.args.paging.now space c.args.first (c.args.end - c.args.first) page in
-    omega (arith, mapped, c.if-end-first-gt-MAPPED_LIMIT.true)
+    omega (arith, mapped, c.if-end-first-gt-MAPPED_PAGE_LIMIT.true)
 
 pub returns-clause-fits : goal.returns-clause-fits
 returns-clause-fits c = λ space are fits.

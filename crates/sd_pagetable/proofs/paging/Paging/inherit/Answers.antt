@@ -9,7 +9,7 @@ use Rattle.sd_pagetable.specs.View.{page_of_entry, contents_of, IsKept}
 use Rattle.sd_pagetable.proofs.TableLemmas.{not_none}
 use Rattle.sd_pagetable.proofs.NestedLemmas.{alive_at}
 use Rattle.sd_pagetable.proofs.ViewLemmas.{entry_there, view_put, same_pool, page_entry, none_there}
-use Rattle.sd_pagetable.proofs.KeptLemmas.{frame_counted, kept_closed}
+use Rattle.sd_pagetable.proofs.KeptLemmas.{frame_counted, kept_write_protected}
 use Rattle.sd_pagetable.proofs.TableLemmas.{some_of}
 use Rattle.sd_pagetable.proofs.ViewLemmas.{page_entry}
 use Rattle.sd_pagetable.proofs.NestedLemmas.{value_at-put}
@@ -36,7 +36,7 @@ inherits pool tables n parent child page e m kept v h apart mapped fresh =
     let x = some_of (page_at m child page) mapped in
     let own = page_entry pool tables child page x.0 (ap (λ (z : Contents). page_at z child page) v ∙ x.1) in
     record {
-      kept = kept_closed pool tables n parent page (shared_entry e) e kept h refl refl;
+      kept = kept_write_protected pool tables n parent page (shared_entry e) e kept h refl refl;
       there = value_at-put tables parent page (shared_entry e) parent page ∙ cond-true _ _ _ (and_from _ _ (eq-eqb parent parent refl) (eq-eqb page page refl));
       own = own.0;
       here = value_at-put tables parent page (shared_entry e) child page ∙ cond-false _ _ _ (and_left _ _ (ne_eqb child parent (λ same. apart (sym same)))) ∙ own.1;
@@ -46,7 +46,7 @@ inherits pool tables n parent child page e m kept v h apart mapped fresh =
 pub replace-requires-2 : goal.replace-requires-2
 replace-requires-2 c =
     let i = inherits c.self.inside.frames c.self.inside.tables c.self.inside.mapped c.args.parent c.args.child c.args.page c.in-Some.entry c.args.self.now c.self.invariant c.self.view_is (sym c.in-Some.ensures) c.requires.apart c.requires.mapped c.requires.fresh in
-    let t : c.replace.new.self ≡ put_at c.self.inside.tables c.args.parent c.args.page (shared_entry c.in-Some.entry) = c.replace.ensures ∙ ap (put_at c.self.inside.tables c.args.parent c.args.page) c.closed.ensures in
+    let t : c.replace.new.self ≡ put_at c.self.inside.tables c.args.parent c.args.page (shared_entry c.in-Some.entry) = c.replace.ensures ∙ ap (put_at c.self.inside.tables c.args.parent c.args.page) c.write_protected.ensures in
     subst (λ (tables : Nested Entry). IsSome (value_at tables c.args.child c.args.page)) (sym t) (ap is_some i.here)
 
 pub share-requires-clause-used : goal.share-requires-clause-used
@@ -62,9 +62,9 @@ share-requires-clause-few c = λ frame is.
 pub invariant_of-self : goal.invariant_of-self
 invariant_of-self c =
     let i = inherits c.self.inside.frames c.self.inside.tables c.self.inside.mapped c.args.parent c.args.child c.args.page c.in-Some.entry c.args.self.now c.self.invariant c.self.view_is (sym c.in-Some.ensures) c.requires.apart c.requires.mapped c.requires.fresh in
-    let t : c.replace.new.self ≡ put_at c.self.inside.tables c.args.parent c.args.page (shared_entry c.in-Some.entry) = c.replace.ensures ∙ ap (put_at c.self.inside.tables c.args.parent c.args.page) c.closed.ensures in
+    let t : c.replace.new.self ≡ put_at c.self.inside.tables c.args.parent c.args.page (shared_entry c.in-Some.entry) = c.replace.ensures ∙ ap (put_at c.self.inside.tables c.args.parent c.args.page) c.write_protected.ensures in
     let u : c.replace-2.new.self ≡ put_at (put_at c.self.inside.tables c.args.parent c.args.page (shared_entry c.in-Some.entry)) c.args.child c.args.page (inherited_entry c.in-Some.entry) =
-    c.replace-2.ensures ∙ ap (λ (tables : Nested Entry). put_at tables c.args.child c.args.page c.closed-2.result) t ∙ ap (put_at (put_at c.self.inside.tables c.args.parent c.args.page (shared_entry c.in-Some.entry)) c.args.child c.args.page) c.closed-2.ensures in
+    c.replace-2.ensures ∙ ap (λ (tables : Nested Entry). put_at tables c.args.child c.args.page c.write_protected-2.result) t ∙ ap (put_at (put_at c.self.inside.tables c.args.parent c.args.page (shared_entry c.in-Some.entry)) c.args.child c.args.page) c.write_protected-2.ensures in
     subst (λ (tables : Nested Entry). IsKept c.share.new.frames tables c.self.inside.mapped) (sym u)
     (kept_inherited c.self.inside.frames c.share.new.frames (put_at c.self.inside.tables c.args.parent c.args.page (shared_entry c.in-Some.entry)) c.self.inside.mapped c.args.parent c.args.child c.args.page (shared_entry c.in-Some.entry) i.own i.kept i.there refl i.here i.none c.share.ensures (inherited_entry c.in-Some.entry) refl refl)
 
@@ -72,9 +72,9 @@ pub returns : goal.returns
 returns c =
     let i = inherits c.self.inside.frames c.self.inside.tables c.self.inside.mapped c.args.parent c.args.child c.args.page c.in-Some.entry c.args.self.now c.self.invariant c.self.view_is (sym c.in-Some.ensures) c.requires.apart c.requires.mapped c.requires.fresh in
     let h = sym c.in-Some.ensures in
-    let t : c.replace.new.self ≡ put_at c.self.inside.tables c.args.parent c.args.page (shared_entry c.in-Some.entry) = c.replace.ensures ∙ ap (put_at c.self.inside.tables c.args.parent c.args.page) c.closed.ensures in
+    let t : c.replace.new.self ≡ put_at c.self.inside.tables c.args.parent c.args.page (shared_entry c.in-Some.entry) = c.replace.ensures ∙ ap (put_at c.self.inside.tables c.args.parent c.args.page) c.write_protected.ensures in
     let u : c.replace-2.new.self ≡ put_at (put_at c.self.inside.tables c.args.parent c.args.page (shared_entry c.in-Some.entry)) c.args.child c.args.page (inherited_entry c.in-Some.entry) =
-    c.replace-2.ensures ∙ ap (λ (tables : Nested Entry). put_at tables c.args.child c.args.page c.closed-2.result) t ∙ ap (put_at (put_at c.self.inside.tables c.args.parent c.args.page (shared_entry c.in-Some.entry)) c.args.child c.args.page) c.closed-2.ensures in
+    c.replace-2.ensures ∙ ap (λ (tables : Nested Entry). put_at tables c.args.child c.args.page c.write_protected-2.result) t ∙ ap (put_at (put_at c.self.inside.tables c.args.parent c.args.page (shared_entry c.in-Some.entry)) c.args.child c.args.page) c.write_protected-2.ensures in
     let now = ap (contents_of c.share.new.frames) u
     ∙ view_inherited c.self.inside.frames c.share.new.frames (put_at c.self.inside.tables c.args.parent c.args.page (shared_entry c.in-Some.entry)) c.self.inside.mapped c.args.parent c.args.child c.args.page (shared_entry c.in-Some.entry) i.own i.kept i.there refl i.here i.none c.share.ensures (inherited_entry c.in-Some.entry) refl
     ∙ ap (λ (m : Contents). put_page m c.args.child c.args.page (page_of_entry c.self.inside.frames (inherited_entry c.in-Some.entry)))

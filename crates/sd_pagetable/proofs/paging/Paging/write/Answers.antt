@@ -37,7 +37,7 @@ pub returns-in_default-frame : goal.returns-in_default-frame
 returns-in_default-frame c =
     let h = sym c.get.ensures ∙ c.in-Some.is in
     let open_here = writable_here c.self.inside.frames c.self.inside.tables c.args.self.now c.args.space c.args.page c.in-Some.entry c.self.view_is h c.requires.writable in
-    let o = c.self.invariant.sound.opened c.args.space c.args.page (page_of_entry c.self.inside.frames c.in-Some.entry) (entry_there c.self.inside.frames c.self.inside.tables c.args.space c.args.page c.in-Some.entry h) open_here in
+    let o = c.self.invariant.sound.writable c.args.space c.args.page (page_of_entry c.self.inside.frames c.in-Some.entry) (entry_there c.self.inside.frames c.self.inside.tables c.args.space c.args.page c.in-Some.entry h) open_here in
     let a = alone_in (contents_of c.self.inside.frames c.self.inside.tables) (page_of_entry c.self.inside.frames c.in-Some.entry) o.alone in
     absurd (let f : ◌≡◌ {A = Option ℕ} None (Some a.0) = sym c.in_default-frame.is ∙ a.1 in cc)
 

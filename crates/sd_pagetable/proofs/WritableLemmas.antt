@@ -4,7 +4,7 @@ use Rattle.std.proofs.lemmas.Bool.{cases_eq, eqb-true, eqb-false, eq-eqb}
 use Rattle.std.specs.Option.{option_map_or}
 use Rattle.sd_pagetable.specs.declared.entry.Entry.{Entry}
 use Rattle.sd_pagetable.specs.Nested.{Nested, value_at, put_at}
-use Rattle.sd_pagetable.specs.Page.{zeros, opened_page}
+use Rattle.sd_pagetable.specs.Page.{zeros, writable_page}
 use Rattle.sd_pagetable.specs.Contents.{Contents, put_page, members, share_of}
 use Rattle.sd_pagetable.specs.Frames.{Pool, Cell, cell_at, count_at}
 use Rattle.sd_pagetable.specs.View.{page_of_entry, frame_bytes, contents_of, IsKept}
@@ -144,7 +144,7 @@ module _ (old : Pool) (tables : Nested Entry) (n s p : ℕ) (e : Entry) (own : �
         record { soft_dirty = refl; permitted = permitted; alone = is_alone_in (put_page (contents_of old tables) s p (page_of_entry new e')) (page_of_entry new e') own refl (omega (arith, t, a, b, g, z)) })
         (apart_new (contents_of old tables) s p (page_of_entry new e') own refl no_member)
 
-    pub view_taken : contents_of new (put_at tables s p (record { prot = e.prot; frame = Some own; writable = true; soft_dirty = true })) ≡ put_page (contents_of old tables) s p (opened_page (page_of_entry old e) own (frame_bytes old e.frame))
+    pub view_taken : contents_of new (put_at tables s p (record { prot = e.prot; frame = Some own; writable = true; soft_dirty = true })) ≡ put_page (contents_of old tables) s p (writable_page (page_of_entry old e) own (frame_bytes old e.frame))
     view_taken =
         let e' : Entry = record { prot = e.prot; frame = Some own; writable = true; soft_dirty = true } in
         view_put old new tables s p takes.size (alive_at tables s p e h) others e'

@@ -20,12 +20,12 @@ use Rattle.sd_pagetable.specs.declared.memory_refusal.MemoryRefusal.TheVariants.
 use Rattle.sd_pagetable.specs.Due.{Answers}
 use Rattle.sd_pagetable.specs.Frames.{IsExhausted}
 use Rattle.sd_pagetable.specs.Owning.{is_own}
-use Rattle.sd_pagetable.specs.Tracking.{Opens}
-use Rattle.sd_pagetable.proofs.FullLemmas.{due_room, due_full, opens_page}
-use Rattle.sd_pagetable.proofs.paging.Paging.open.Goals as goal
+use Rattle.sd_pagetable.specs.Tracking.{MakesWritable}
+use Rattle.sd_pagetable.proofs.FullLemmas.{due_room, due_full, makes_page_writable}
+use Rattle.sd_pagetable.proofs.paging.Paging.make_writable.Goals as goal
 
-pub returns-in_default-clause-opened : goal.returns-in_default-clause-opened
-returns-in_default-clause-opened c = absurd (not_none _ (none_there c.self.inside.frames c.self.inside.tables c.args.self.now c.args.space c.args.page c.self.view_is (sym c.in_default.ensures)) c.requires.there)
+pub returns-in_default-clause-writable : goal.returns-in_default-clause-writable
+returns-in_default-clause-writable c = absurd (not_none _ (none_there c.self.inside.frames c.self.inside.tables c.args.self.now c.args.space c.args.page c.self.view_is (sym c.in_default.ensures)) c.requires.there)
 
 pub returns-in_default-clause-due : goal.returns-in_default-clause-due
 returns-in_default-clause-due c = absurd (not_none _ (none_there c.self.inside.frames c.self.inside.tables c.args.self.now c.args.space c.args.page c.self.view_is (sym c.in_default.ensures)) c.requires.there)
@@ -52,14 +52,14 @@ write_here pool tables m s p e v h w = rw (entry_there pool tables s p e h) at (
 pub invariant_of-self-2 : goal.invariant_of-self-2
 invariant_of-self-2 c =
     let write = write_here c.self.inside.frames c.self.inside.tables c.args.self.now c.args.space c.args.page c.in-Some.entry c.self.view_is (sym c.in-Some.ensures) c.requires.permitted in
-    subst (λ (t : Nested Entry). IsKept c.own_frame.new.frames t c.self.inside.mapped) (sym (c.replace.ensures ∙ ap (put_at c.self.inside.tables c.args.space c.args.page) c.opened.ensures))
-    (opens_page c.self.inside.frames c.self.inside.tables c.self.inside.mapped c.self.invariant c.args.space c.args.page c.in-Some.entry (sym c.in-Some.ensures) c.args.self.now c.self.view_is c.own_frame.new.frames c.in_ok-frame.frame write c.in_ok-frame.ensures.owns).0
+    subst (λ (t : Nested Entry). IsKept c.own_frame.new.frames t c.self.inside.mapped) (sym (c.replace.ensures ∙ ap (put_at c.self.inside.tables c.args.space c.args.page) c.made_writable.ensures))
+    (makes_page_writable c.self.inside.frames c.self.inside.tables c.self.inside.mapped c.self.invariant c.args.space c.args.page c.in-Some.entry (sym c.in-Some.ensures) c.args.self.now c.self.view_is c.own_frame.new.frames c.in_ok-frame.frame write c.in_ok-frame.ensures.owns).0
 
-pub returns-clause-opened : goal.returns-clause-opened
-returns-clause-opened c =
+pub returns-clause-writable : goal.returns-clause-writable
+returns-clause-writable c =
     let write = write_here c.self.inside.frames c.self.inside.tables c.args.self.now c.args.space c.args.page c.in-Some.entry c.self.view_is (sym c.in-Some.ensures) c.requires.permitted in
-    subst (λ (t : Nested Entry). Opens c.args.self.now c.args.space c.args.page (λ bytes. bytes) (contents_of c.own_frame.new.frames t)) (sym (c.replace.ensures ∙ ap (put_at c.self.inside.tables c.args.space c.args.page) c.opened.ensures))
-    (opens_page c.self.inside.frames c.self.inside.tables c.self.inside.mapped c.self.invariant c.args.space c.args.page c.in-Some.entry (sym c.in-Some.ensures) c.args.self.now c.self.view_is c.own_frame.new.frames c.in_ok-frame.frame write c.in_ok-frame.ensures.owns).1
+    subst (λ (t : Nested Entry). MakesWritable c.args.self.now c.args.space c.args.page (λ bytes. bytes) (contents_of c.own_frame.new.frames t)) (sym (c.replace.ensures ∙ ap (put_at c.self.inside.tables c.args.space c.args.page) c.made_writable.ensures))
+    (makes_page_writable c.self.inside.frames c.self.inside.tables c.self.inside.mapped c.self.invariant c.args.space c.args.page c.in-Some.entry (sym c.in-Some.ensures) c.args.self.now c.self.view_is c.own_frame.new.frames c.in_ok-frame.frame write c.in_ok-frame.ensures.owns).1
 
 pub returns-clause-due : goal.returns-clause-due
 returns-clause-due c = due_room c.self.inside.frames c.self.inside.tables c.self.inside.mapped c.self.invariant c.args.space c.args.page c.in-Some.entry (sym c.in-Some.ensures) c.args.self.now c.self.view_is c.in_ok-frame.ensures.room

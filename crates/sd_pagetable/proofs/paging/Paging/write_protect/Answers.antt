@@ -7,11 +7,11 @@ use Rattle.sd_pagetable.specs.View.{contents_of}
 use Rattle.sd_pagetable.proofs.TableLemmas.{not_none}
 use Rattle.sd_pagetable.proofs.NestedLemmas.{alive_at}
 use Rattle.sd_pagetable.proofs.ViewLemmas.{entry_there, view_put, same_pool, none_there}
-use Rattle.sd_pagetable.proofs.KeptLemmas.{kept_closed}
-use Rattle.sd_pagetable.proofs.paging.Paging.close.Goals as goal
+use Rattle.sd_pagetable.proofs.KeptLemmas.{kept_write_protected}
+use Rattle.sd_pagetable.proofs.paging.Paging.write_protect.Goals as goal
 
 pub invariant_of-self : goal.invariant_of-self
-invariant_of-self c = rw c.replace.ensures (kept_closed c.self.inside.frames c.self.inside.tables c.self.inside.mapped c.args.space c.args.page _ c.in-Some.entry c.self.invariant (sym c.get.ensures ∙ c.in-Some.is) refl refl)
+invariant_of-self c = rw c.replace.ensures (kept_write_protected c.self.inside.frames c.self.inside.tables c.self.inside.mapped c.args.space c.args.page _ c.in-Some.entry c.self.invariant (sym c.get.ensures ∙ c.in-Some.is) refl refl)
 
 pub returns-in-Some : goal.returns-in-Some
 returns-in-Some c =
