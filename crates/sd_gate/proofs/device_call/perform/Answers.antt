@@ -46,13 +46,13 @@ returns-clause-every_slot g c = λ phases bodies phase waits fits. each_slot pha
     (returns-clause-elsewhere g c)
 
 pub returns-clause-any_moment : goal.returns-clause-any_moment
-returns-clause-any_moment g c = λ phase body ready fits. within_call g.D.Disk.moment g.D.Disk.left_since c.args.disk.now c.make-order.new.disk
+returns-clause-any_moment g c = λ phase body ready fits. within_call g.D.Disk c.args.disk.now c.make-order.new.disk
     _ _ (g.D.Disk.may_leave c.args.disk.now) (g.D.Disk.may_leave c.make-order.new.disk)
     (λ left_c left. g.met.D.Disk.only_now c.args.disk.now left_c left) c.make-order.ensures.time fits.leaves
     ((returns-clause-fits g c phase body ready fits).leaves)
 
 pub returns-clause-every_moment : goal.returns-clause-every_moment
-returns-clause-every_moment g c = λ phases bodies phase waits fits. within_call g.D.Disk.moment g.D.Disk.left_since c.args.disk.now c.make-order.new.disk
+returns-clause-every_moment g c = λ phases bodies phase waits fits. within_call g.D.Disk c.args.disk.now c.make-order.new.disk
     _ _ (g.D.Disk.may_leave c.args.disk.now) (g.D.Disk.may_leave c.make-order.new.disk)
     (λ left_c left. g.met.D.Disk.only_now c.args.disk.now left_c left) c.make-order.ensures.time
     (each_left phases bodies (g.D.Disk.contents c.args.disk.now) (g.D.Disk.may_leave c.args.disk.now) fits)
