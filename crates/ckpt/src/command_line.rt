@@ -1,6 +1,6 @@
 //! The words that the program is called with.
 
-use clap::{Arg, Command, Error};
+use clap::{Arg, ArgAction, Command, Error};
 use std::alloc::Global;
 
 /// The command line: one subcommand for each program.
@@ -8,7 +8,13 @@ pub fn command<'a>(alloc: Global) -> Result<Command<'a>, Error> {
     let run = Command::new(alloc, "run")
         .about("Runs a script over the store in a folder, which is made where it is missing")
         .arg(Arg::new(alloc, "DIR").required(true))?
-        .arg(Arg::new(alloc, "SCRIPT").required(true))?;
+        .arg(Arg::new(alloc, "SCRIPT").required(true))?
+        .arg(
+            Arg::new(alloc, "restore")
+                .long("restore")
+                .action(ArgAction::SetTrue)
+                .help("Prints afterwards what `restore` prints of the folder"),
+        )?;
     let restore = Command::new(alloc, "restore")
         .about("Prints the memory that the store in a folder shows")
         .arg(Arg::new(alloc, "DIR").required(true))?;

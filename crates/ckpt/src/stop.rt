@@ -1,14 +1,66 @@
-use sd_restore::Fault;
-use std::alloc::AllocError;
-use std::io;
+//! How a program ends.
+ghost use Rattle.std.specs.Prelude.{◌≡◌};
+ghost use Rattle.ckpt.specs.Ending.{Ends, status_of};
 
-/// Why a program ends before its last line.
+use sd_disk::OpenError;
+use sd_restore::Fault;
+use sd_script::ScriptError;
+use std::alloc::AllocError;
+use std::io::Write;
+use std::{fmt, io};
+
+/// The exit status of a program that was refused or stopped.
+const FAILED: u8 = 1;
+
+/// Why a program ends before its last line. It is printed as the program's last line.
 #[derive(Debug, Drop)]
 pub enum Stop {
-    /// It prints this, and ends.
+    /// The store, its device or the memory.
     Fault(Fault),
+    /// The line with this number, counted from 1, doesn't fit the language.
+    ScriptLine(usize),
+    CannotReadScript,
+    CannotOpenFolder,
     /// Nothing more can be printed.
     Writer(io::Error),
+}
+
+impl fmt::Display for Stop {
+    fn fmt<W: fmt::Write>(&self, f: &mut fmt::Formatter<W>) -> fmt::Result {
+        match self {
+            Stop::Fault(fault) => write!(f, "{fault}"),
+            Stop::ScriptLine(number) => write!(f, "script line {number}"),
+            Stop::CannotReadScript => f.write_str("cannot read SCRIPT"),
+            Stop::CannotOpenFolder => f.write_str("cannot open DIR"),
+            Stop::Writer(_) => f.write_str("cannot print"),
+        }
+    }
+}
+
+/// Prints why a program ended early, if it did, and returns its exit status: 0 at its end, 3 for a store without a
+/// checkpoint, 2 for a script that doesn't fit the language, and else 1.
+pub fn status<W: Write>(ended: Result<(), Stop>, out: &mut W) -> u8
+    ensures { Ends ended result }
+{
+    match ended {
+        Ok(()) => 0,
+        Err(Stop::Writer(_)) => FAILED,
+        Err(stop) => match writeln!(out, "{stop}") {
+            Ok(()) => stop_status(&stop),
+            Err(_) => FAILED,
+        },
+    }
+}
+
+/// The exit status of a program that printed why it stopped.
+fn stop_status(stop: &Stop) -> u8
+    ensures { result ≡ status_of stop.now }
+{
+    match stop {
+        Stop::Fault(Fault::EmptyChain) => 3,
+        Stop::ScriptLine(_) => 2,
+        _ => FAILED,
+    }
 }
 
 impl From<Fault> for Stop {
@@ -31,6 +83,28 @@ impl From<AllocError> for Stop {
 
     fn from(_error: AllocError) -> Stop {
         Stop::Fault(Fault::OutOfMemory)
+    }
+}
+
+impl From<ScriptError> for Stop {
+    ghost use Rattle.ckpt.specs.Ending.{StopsFor};
+
+    ghost from_gives = { StopsFor };
+
+    fn from(error: ScriptError) -> Stop {
+        match error {
+            ScriptError::Line(number) => Stop::ScriptLine(number),
+            ScriptError::OutOfMemory => Stop::Fault(Fault::OutOfMemory),
+        }
+    }
+}
+
+impl From<OpenError> for Stop {
+    fn from(error: OpenError) -> Stop {
+        match error {
+            OpenError::Folder => Stop::CannotOpenFolder,
+            OpenError::OutOfMemory => Stop::Fault(Fault::OutOfMemory),
+        }
     }
 }
 

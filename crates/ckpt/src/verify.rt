@@ -1,34 +1,37 @@
-//! Checking that a store can be restored.
+//! `ckpt verify`: checking that a store can be restored.
 ghost use Rattle.std.specs.Prelude.{◌≡◌, ◌≢◌, ◌≤◌, Err, OnOk};
+ghost use Rattle.sd_disk.specs.Reads.{OnlyReads};
 ghost use Rattle.sd_restore.specs.declared.fault.Fault.TheVariants as fault;
 ghost use Rattle.ckpt.specs.declared.stop.Stop.TheVariants as stop;
 ghost use Rattle.ckpt.specs.Ending.{IsShowing};
 
-use crate::ending;
-use crate::stop::Stop;
+use crate::stop::{Stop, status};
 use sd_disk::Disk;
 use sd_restore::verify;
 use std::alloc::Global;
 use std::io::Write;
 
-/// Prints whether a store shows a checkpoint or that nothing was saved, and answers the exit status.
+/// Prints whether a store shows a checkpoint or that nothing was saved, and returns the exit status.
 pub fn verify_to<D: Disk, W: Write>(alloc: Global, disk: &mut D, out: &mut W) -> u8
     // Status 0 only where the store shows one of the two.
     ensures showing { D.is_honest disk.new → result ≡ 0 → IsShowing (D.contents disk.old) }
     // A store without a checkpoint is no fault here.
     ensures status { result ≤ 1 }
-    ensures same { D.contents disk.new ≡ D.contents disk.old }
-    ensures honest { D.is_honest disk.new → D.is_honest disk.old }
+    ensures reads { OnlyReads D.Disk disk.old disk.new }
 {
-    let ended = check(alloc, disk, out);
-    ending::status(ended, out)
+    let ended = print_report(alloc, disk, out);
+    status(ended, out)
 }
 
-fn check<D: Disk, W: Write>(alloc: Global, disk: &mut D, out: &mut W) -> Result<(), Stop>
+/// Prints what a store shows.
+pub fn print_report<D: Disk, W: Write>(
+    alloc: Global,
+    disk: &mut D,
+    out: &mut W,
+) -> Result<(), Stop>
     ensures showing { D.is_honest disk.new → OnOk result (IsShowing (D.contents disk.old)) }
     ensures empty { result ≢ Err (stop.Fault fault.EmptyChain) }
-    ensures same { D.contents disk.new ≡ D.contents disk.old }
-    ensures honest { D.is_honest disk.new → D.is_honest disk.old }
+    ensures reads { OnlyReads D.Disk disk.old disk.new }
 {
     let report = verify(alloc, disk)?;
     match report.checkpoint {

@@ -2,9 +2,10 @@
 use Rattle.std.proofs.Common.{◌≡◌, ◌≢◌, ◌⊎◌, ℕ, ◌<◌, List, [], length, slice_set, true, false, Option, Some, refl, sym, ◌∙◌, ap, subst, inl, inr}
 use Rattle.std.proofs.lemmas.Bool.{cases_eq, false≢true}
 use Rattle.std.proofs.lemmas.List.{ext_get_or, get_or-set_same, get_or-set_other, length-set}
+use Rattle.sd_disk.specs.declared.disk.Disk.{Ghosts}
 use Rattle.sd_disk.specs.Contents.{file_at, AtSlot}
-use Rattle.sd_disk.specs.Crash.{Follows, LeavesOnly, OnlyAt, Within}
-use Rattle.sd_disk.specs.Spans.{span_widened, spans_join}
+use Rattle.sd_disk.specs.Crash.{Follows, OnlyAt, Within}
+use Rattle.sd_disk.specs.Spans.{LeavesOnly, span_widened, spans_join}
 use Rattle.sd_image.specs.Image.{is_open}
 use Rattle.sd_save.specs.AfterCrash.{ChangesAlone, FollowsAt, IsLeft, IsReadyAfterCrash, ShowsOnly}
 use Rattle.sd_areas.specs.PlainMemory.{PlainMemory}
@@ -103,14 +104,14 @@ left_so slot image body phase contents old new follows bound fits c has =
     let before = follows c has in
     record { was = before.0; outcome = before.1; alone = before.2; holds = bound (file_at c slot) (fits.leaves c has) }
 
-module _ {D : Type 0} (moment : D → ℕ) (left_since : D → ℕ → List (List ℕ) → Type 0) (may_leave : D → List (List ℕ) → Type 0) (slot : ℕ) (image : List ℕ) where
+module _ {D : Type 0} (g : Ghosts D) (slot : ℕ) (image : List ℕ) where
   -- two spans of calls on one slot
-  pub left_join : (old mid new : D) → FollowsAt slot (may_leave old) (may_leave mid)
-      → LeavesOnly moment left_since old mid (IsLeft slot image (may_leave old)) → LeavesOnly moment left_since mid new (IsLeft slot image (may_leave mid))
-      → LeavesOnly moment left_since old new (IsLeft slot image (may_leave old))
+  pub left_join : (old mid new : D) → FollowsAt slot (g.may_leave old) (g.may_leave mid)
+      → LeavesOnly g old mid (IsLeft slot image (g.may_leave old)) → LeavesOnly g mid new (IsLeft slot image (g.may_leave mid))
+      → LeavesOnly g old new (IsLeft slot image (g.may_leave old))
   left_join old mid new follows first second =
-      spans_join moment left_since old mid new (IsLeft slot image (may_leave old)) first
-      (span_widened moment left_since mid new (IsLeft slot image (may_leave mid)) (IsLeft slot image (may_leave old)) (left_before slot image (may_leave old) (may_leave mid) follows) second)
+      spans_join g old mid new (IsLeft slot image (g.may_leave old)) first
+      (span_widened g mid new (IsLeft slot image (g.may_leave mid)) (IsLeft slot image (g.may_leave old)) (left_before slot image (g.may_leave old) (g.may_leave mid) follows) second)
 
 -- a slot that is shorter than a header, and left so
 pub raw_fits : (slot : ℕ) (first contents : List (List ℕ)) (old now : List (List ℕ) → Type 0) → contents ≡ first → Within now old

@@ -9,6 +9,7 @@ pub mod ImageLemmas
 pub mod PageBytes
 pub mod PlanLemmas
 pub mod RawLemmas
+pub mod ReadyLemmas
 pub mod SlotLemmas
 pub mod SpaceDumps
 pub mod TakeLemmas

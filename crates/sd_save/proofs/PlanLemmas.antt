@@ -1,8 +1,9 @@
 -- A plan's slot through its calls.
 use Rattle.std.proofs.Common.{◌≡◌, ◌⊎◌, ◌<◌, ℕ, Bool, inl, inr, true, false, cond, List, [], ◌∷◌, length, None, refl, sym, ◌∙◌, ap, subst, arith}
+use Rattle.sd_disk.specs.declared.disk.Disk.{Ghosts}
 use Rattle.sd_disk.specs.Contents.{file_at}
-use Rattle.sd_disk.specs.Crash.{Elapses, Follows, LeavesOnly, Within}
-use Rattle.sd_disk.specs.Spans.{nothing_called, one_call}
+use Rattle.sd_disk.specs.Crash.{Elapses, Follows, Within}
+use Rattle.sd_disk.specs.Spans.{LeavesOnly, nothing_called, one_call}
 use Rattle.sd_gate.specs.declared.answer.Answer.{Answer}
 use Rattle.sd_gate.specs.declared.answer.Answer.TheVariants.{Done}
 use Rattle.sd_gate.specs.declared.call.Call.{Call}
@@ -100,75 +101,75 @@ takes_bound : (image : List ℕ) (phase : Phase) (body : List ℕ) (calls : Call
 takes_bound image phase body [] last final takes = takes.0
 takes_bound image phase body ((call, bytes) ∷ calls) last final takes = takes.0
 
-module _ {D : Type 0} (contents : D → List (List ℕ)) (may_leave : D → List (List ℕ) → Type 0) (moment : D → ℕ) (left_since : D → ℕ → List (List ℕ) → Type 0) where
+module _ {D : Type 0} (g : Ghosts D) where
   -- what is known of a call that was made
   pub record WasMade (slot : ℕ) (call : Call) (bytes : List ℕ) (done : Bool) (old new : D) : Type 0 where
-    pub torn : Makes call bytes slot (contents old) (contents new)
-    pub crash : Follows (Makes call bytes slot) (may_leave old) (may_leave new)
-    pub whole : done ≡ true → contents new ≡ contents_after call bytes slot (contents old)
-    pub fits : (phase : Phase) (body : List ℕ) → is_ready phase call ≡ true → SlotFits phase body slot (contents old) (may_leave old)
-        → SlotFits (after phase call done) (body_after body call bytes) slot (contents new) (may_leave new)
-    pub time : Elapses (moment old) (moment new) (left_since old) (left_since new) (may_leave new)
+    pub torn : Makes call bytes slot (g.contents old) (g.contents new)
+    pub crash : Follows (Makes call bytes slot) (g.may_leave old) (g.may_leave new)
+    pub whole : done ≡ true → g.contents new ≡ contents_after call bytes slot (g.contents old)
+    pub fits : (phase : Phase) (body : List ℕ) → is_ready phase call ≡ true → SlotFits phase body slot (g.contents old) (g.may_leave old)
+        → SlotFits (after phase call done) (body_after body call bytes) slot (g.contents new) (g.may_leave new)
+    pub time : Elapses (g.moment old) (g.moment new) (g.left_since old) (g.left_since new) (g.may_leave new)
 
   -- how far the slot of a plan has come: calls are left that take it to the last phase
   pub record Stage (image : List ℕ) (slot : ℕ) (calls : Calls) (last : Phase) (final : List ℕ) (first now : D) : Type 0 where
     pub phase : Phase
     pub body : List ℕ
     pub takes : Takes image phase body calls last final
-    pub fits : SlotFits phase body slot (contents now) (may_leave now)
-    pub left : LeavesOnly moment left_since first now (IsLeft slot image (may_leave first))
+    pub fits : SlotFits phase body slot (g.contents now) (g.may_leave now)
+    pub left : LeavesOnly g first now (IsLeft slot image (g.may_leave first))
 
   module _ (image : List ℕ) (slot : ℕ) (call : Call) (bytes : List ℕ) (calls : Calls) (last : Phase) (final : List ℕ) (first old new : D) where
     -- a call that was done
-    pub stage_done : FollowsAt slot (may_leave first) (may_leave new) → WasMade slot call bytes true old new
+    pub stage_done : FollowsAt slot (g.may_leave first) (g.may_leave new) → WasMade slot call bytes true old new
         → Stage image slot ((call, bytes) ∷ calls) last final first old → Stage image slot calls last final first new
     stage_done follows made stage =
         let next = after stage.phase call true in
         let body = body_after stage.body call bytes in
         let takes : Takes image next body calls last final = stage.takes.3 in
-        let fits : SlotFits next body slot (contents new) (may_leave new) = made.fits stage.phase stage.body stage.takes.1 stage.fits in
+        let fits : SlotFits next body slot (g.contents new) (g.may_leave new) = made.fits stage.phase stage.body stage.takes.1 stage.fits in
         record {
           phase = next;
           body = body;
           takes = takes;
           fits = fits;
-          left = one_call moment left_since first old new (IsLeft slot image (may_leave first)) (may_leave new) stage.left made.time
-              (left_so slot image body next (contents new) (may_leave first) (may_leave new) follows (takes_bound image next body calls last final takes) fits);
+          left = one_call g first old new (IsLeft slot image (g.may_leave first)) (g.may_leave new) stage.left made.time
+              (left_so slot image body next (g.contents new) (g.may_leave first) (g.may_leave new) follows (takes_bound image next body calls last final takes) fits);
         }
 
     -- one that failed
-    pub left_failed : FollowsAt slot (may_leave first) (may_leave new) → WasMade slot call bytes false old new
-        → Stage image slot ((call, bytes) ∷ calls) last final first old → LeavesOnly moment left_since first new (IsLeft slot image (may_leave first))
+    pub left_failed : FollowsAt slot (g.may_leave first) (g.may_leave new) → WasMade slot call bytes false old new
+        → Stage image slot ((call, bytes) ∷ calls) last final first old → LeavesOnly g first new (IsLeft slot image (g.may_leave first))
     left_failed follows made stage =
         let next = after stage.phase call false in
         let body = body_after stage.body call bytes in
-        let fits : SlotFits next body slot (contents new) (may_leave new) = made.fits stage.phase stage.body stage.takes.1 stage.fits in
-        one_call moment left_since first old new (IsLeft slot image (may_leave first)) (may_leave new) stage.left made.time
-        (left_so slot image body next (contents new) (may_leave first) (may_leave new) follows stage.takes.2 fits)
+        let fits : SlotFits next body slot (g.contents new) (g.may_leave new) = made.fits stage.phase stage.body stage.takes.1 stage.fits in
+        one_call g first old new (IsLeft slot image (g.may_leave first)) (g.may_leave new) stage.left made.time
+        (left_so slot image body next (g.contents new) (g.may_leave first) (g.may_leave new) follows stage.takes.2 fits)
 
   -- no call is left
   pub stage_ends : (image : List ℕ) (slot : ℕ) (last : Phase) (final : List ℕ) (first now : D) → Stage image slot [] last final first now
-      → SlotFits last final slot (contents now) (may_leave now)
+      → SlotFits last final slot (g.contents now) (g.may_leave now)
   stage_ends image slot last final first now stage =
-      subst (λ b. SlotFits last b slot (contents now) (may_leave now)) stage.takes.2
-      (subst (λ p. SlotFits p stage.body slot (contents now) (may_leave now)) stage.takes.1 stage.fits)
+      subst (λ b. SlotFits last b slot (g.contents now) (g.may_leave now)) stage.takes.2
+      (subst (λ p. SlotFits p stage.body slot (g.contents now) (g.may_leave now)) stage.takes.1 stage.fits)
 
   -- a plan that began, and what is left of it
   pub record Running (start plan : Planned) (first now : D) : Type 0 where
     pub same_slot : plan.slot ≡ start.slot
     pub out : plan.out ≡ None
     pub awaits : plan.awaits ≡ nothing
-    pub within : start.slot < length (contents now)
-    pub changes : AreChanges plan.calls start.slot (contents now)
-    pub done : contents_done plan.calls start.slot (contents now) ≡ contents_done start.calls start.slot (contents first)
+    pub within : start.slot < length (g.contents now)
+    pub changes : AreChanges plan.calls start.slot (g.contents now)
+    pub done : contents_done plan.calls start.slot (g.contents now) ≡ contents_done start.calls start.slot (g.contents first)
     pub back : back_after plan.calls plan.found ≡ back_after start.calls start.found
-    pub crash : FollowsAt start.slot (may_leave first) (may_leave now)
+    pub crash : FollowsAt start.slot (g.may_leave first) (g.may_leave now)
     pub stage : (image body final : List ℕ) (phase last : Phase) → Takes image phase body start.calls last final
-        → SlotFits phase body start.slot (contents first) (may_leave first) → Stage image start.slot plan.calls last final first now
+        → SlotFits phase body start.slot (g.contents first) (g.may_leave first) → Stage image start.slot plan.calls last final first now
 
   -- none of its calls is made yet
-  pub begins : (start : Planned) (first : D) → start.out ≡ None → start.awaits ≡ nothing → start.slot < length (contents first)
-      → AreChanges start.calls start.slot (contents first) → Within (left_since first (moment first)) (may_leave first) → Running start start first first
+  pub begins : (start : Planned) (first : D) → start.out ≡ None → start.awaits ≡ nothing → start.slot < length (g.contents first)
+      → AreChanges start.calls start.slot (g.contents first) → Within (g.left_since first (g.moment first)) (g.may_leave first) → Running start start first first
   begins start first out awaits within changes only_now = record {
     same_slot = refl;
     out = out;
@@ -177,14 +178,14 @@ module _ {D : Type 0} (contents : D → List (List ℕ)) (may_leave : D → List
     changes = changes;
     done = refl;
     back = refl;
-    crash = follows_itself start.slot (may_leave first);
+    crash = follows_itself start.slot (g.may_leave first);
     stage = λ image body final phase last takes fits. record {
       phase = phase;
       body = body;
       takes = takes;
       fits = fits;
-      left = nothing_called moment left_since first (IsLeft start.slot image (may_leave first)) (may_leave first) only_now
-          (left_so start.slot image body phase (contents first) (may_leave first) (may_leave first) (follows_itself start.slot (may_leave first))
+      left = nothing_called g first (IsLeft start.slot image (g.may_leave first)) (g.may_leave first) only_now
+          (left_so start.slot image body phase (g.contents first) (g.may_leave first) (g.may_leave first) (follows_itself start.slot (g.may_leave first))
           (takes_bound image phase body start.calls last final takes) fits);
     };
   }
@@ -193,11 +194,11 @@ module _ {D : Type 0} (contents : D → List (List ℕ)) (may_leave : D → List
     slot_is : request.note.slot ≡ start.slot
     slot_is = gives.slot ∙ running.same_slot
 
-    next_changes : AreChanges ((request.note.call, request.bytes) ∷ given.calls) start.slot (contents old)
-    next_changes = subst (λ calls. AreChanges calls start.slot (contents old)) gives.next running.changes
+    next_changes : AreChanges ((request.note.call, request.bytes) ∷ given.calls) start.slot (g.contents old)
+    next_changes = subst (λ calls. AreChanges calls start.slot (g.contents old)) gives.next running.changes
 
     next_stage : (image body final : List ℕ) (phase last : Phase) → Takes image phase body start.calls last final
-        → SlotFits phase body start.slot (contents first) (may_leave first) → Stage image start.slot ((request.note.call, request.bytes) ∷ given.calls) last final first old
+        → SlotFits phase body start.slot (g.contents first) (g.may_leave first) → Stage image start.slot ((request.note.call, request.bytes) ∷ given.calls) last final first old
     next_stage image body final phase last takes fits =
         subst (λ calls. Stage image start.slot calls last final first old) gives.next (running.stage image body final phase last takes fits)
 
@@ -205,7 +206,7 @@ module _ {D : Type 0} (contents : D → List (List ℕ)) (may_leave : D → List
       here : WasMade start.slot request.note.call request.bytes done old new
       here = subst (λ slot. WasMade slot request.note.call request.bytes done old new) slot_is was_made
 
-      pub follows : FollowsAt start.slot (may_leave first) (may_leave new)
+      pub follows : FollowsAt start.slot (g.may_leave first) (g.may_leave new)
       follows c has =
           let before = here.crash c has in
           let alone = makes_alone request.note.call request.bytes start.slot before.0 c before.2 in
@@ -217,8 +218,8 @@ module _ {D : Type 0} (contents : D → List (List ℕ)) (may_leave : D → List
 
     -- after a call that failed
     pub fails : WasMade request.note.slot request.note.call request.bytes false old new → (image body final : List ℕ) (phase last : Phase)
-        → Takes image phase body start.calls last final → SlotFits phase body start.slot (contents first) (may_leave first)
-        → LeavesOnly moment left_since first new (IsLeft start.slot image (may_leave first))
+        → Takes image phase body start.calls last final → SlotFits phase body start.slot (g.contents first) (g.may_leave first)
+        → LeavesOnly g first new (IsLeft start.slot image (g.may_leave first))
     fails made image body final phase last takes fits =
         left_failed image start.slot request.note.call request.bytes given.calls last final first old new (follows false made) (here false made)
         (next_stage image body final phase last takes fits)
@@ -252,7 +253,7 @@ module _ {D : Type 0} (contents : D → List (List ℕ)) (may_leave : D → List
           }) (calls_are given outcome ok (gives.same_awaits ∙ running.awaits))
           ∙ ap (λ (f : Back). record { slot = given.slot; calls = given.calls; awaits = nothing; out = None; found = f }) found_is
 
-      whole : contents new ≡ contents_after request.note.call request.bytes start.slot (contents old)
+      whole : g.contents new ≡ contents_after request.note.call request.bytes start.slot (g.contents old)
       whole = (here true made).whole refl
 
       runs_next : Running start next first new
@@ -261,10 +262,10 @@ module _ {D : Type 0} (contents : D → List (List ℕ)) (may_leave : D → List
         same_slot = gives.same_slot ∙ running.same_slot;
         out = refl;
         awaits = refl;
-        within = subst (λ n. start.slot < n) (sym (makes_alone request.note.call request.bytes start.slot (contents old) (contents new) (here true made).torn).count) running.within;
+        within = subst (λ n. start.slot < n) (sym (makes_alone request.note.call request.bytes start.slot (g.contents old) (g.contents new) (here true made).torn).count) running.within;
         changes = subst (λ c. AreChanges given.calls start.slot c) (sym whole) next_changes.2;
         done = ap (contents_done given.calls start.slot) whole
-            ∙ sym (ap (λ calls. contents_done calls start.slot (contents old)) gives.next) ∙ running.done;
+            ∙ sym (ap (λ calls. contents_done calls start.slot (g.contents old)) gives.next) ∙ running.done;
         back = sym (ap (λ calls. back_after calls plan.found) gives.next) ∙ running.back;
         crash = follows true made;
         stage = λ image body final phase last takes fits.
@@ -283,8 +284,8 @@ module _ {D : Type 0} (contents : D → List (List ℕ)) (may_leave : D → List
 
   -- no call is left
   pub ends_in : (start plan : Planned) (first now : D) → Running start plan first now → plan.calls ≡ [] → (image body final : List ℕ) (phase last : Phase)
-      → Takes image phase body start.calls last final → SlotFits phase body start.slot (contents first) (may_leave first)
-      → SlotFits last final start.slot (contents now) (may_leave now)
+      → Takes image phase body start.calls last final → SlotFits phase body start.slot (g.contents first) (g.may_leave first)
+      → SlotFits last final start.slot (g.contents now) (g.may_leave now)
   ends_in start plan first now running none image body final phase last takes fits =
       stage_ends image start.slot last final first now
       (subst (λ calls. Stage image start.slot calls last final first now) none (running.stage image body final phase last takes fits))

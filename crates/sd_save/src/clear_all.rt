@@ -3,8 +3,7 @@ ghost use Rattle.std.specs.Prelude.{◌≡◌, ◌+◌, ◌≤◌};
 ghost use Rattle.sd_pagetable.specs.Contents.{Contents, plain_of};
 ghost use Rattle.sd_save.specs.Cleared.{IsCleared, IsClearedBelow, IsHistoryOfClears};
 
-use crate::dump::SPACE_LIMIT;
-use sd_areas::SpaceId;
+use sd_areas::{SPACE_LIMIT, SpaceId};
 use sd_pagetable::Memory;
 use sd_procfs::clear_refs;
 

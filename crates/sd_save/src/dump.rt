@@ -11,13 +11,10 @@ ghost use Rattle.sd_save.specs.Runs.{end_of};
 
 use crate::page_copy::is_zero_page;
 use crate::runs;
-use sd_areas::{Area, PageNo, SpaceId};
+use sd_areas::{Area, PageNo, SPACE_LIMIT, SpaceId};
 use sd_image::{Run, RunKind, SpaceTable};
 use sd_pagetable::Memory;
 use std::alloc::{AllocError, Global};
-
-/// How many spaces can be alive.
-pub const SPACE_LIMIT: u64 = 16;
 
 /// What a dump of a memory has: the tables of its spaces, and the pages whose bytes it stores.
 #[derive(Debug, Drop)]

@@ -1,7 +1,8 @@
 //! Which slot a dump goes into.
 ghost use Rattle.std.specs.Prelude.{◌≡◌, ◌<◌, ◌≤◌, ◌≢◌, List, ℕ, ◌∷◌, length, IfOk, IsErrOf, OnErr};
 ghost use Rattle.sd_disk.specs.Contents.{file_at};
-ghost use Rattle.sd_disk.specs.Crash.{LeavesOnly, Within};
+ghost use Rattle.sd_disk.specs.Crash.{Within};
+ghost use Rattle.sd_disk.specs.Spans.{LeavesOnly};
 ghost use Rattle.sd_save.specs.Slots.{raw_slots};
 
 use crate::save_error::SaveError;

@@ -1,25 +1,29 @@
 //! The words of pages, as a line of a script asks for them.
-ghost use Rattle.std.specs.Prelude.{◌≡◌, ◌+◌, ◌-◌, ◌≤◌, ◌^◌, ◌||◌, nat_lt, map, true, IfOk};
+ghost use Rattle.std.specs.Prelude.{◌≡◌, ◌+◌, ◌-◌, ◌≤◌, ◌^◌, ◌||◌, nat_lt, map, IfOk};
 ghost use Rattle.std.specs.List.{range_with_len};
 ghost use Rattle.sd_pagetable.specs.Nested.{is_alive};
 ghost use Rattle.sd_pagetable.specs.Contents.{plain_of, word_at};
 ghost use Rattle.sd_pagetable.specs.Due.{Answers};
-ghost use Rattle.sd_save.specs.Answers.{Answered, IsWords, words_due};
+ghost use Rattle.sd_save.specs.Answers.{AreGiven, IsWords, words_due};
 
-use crate::reply::Reply;
-use sd_areas::{PAGE_LIMIT, PageNo, SpaceId};
-use sd_pagetable::{Memory, MemoryError, Refusal, plain_law};
+use sd_areas::{PAGE_NUMBER_LIMIT, PageNo, SpaceId};
+use sd_command::{Refusal, Reply};
+use sd_pagetable::{Memory, MemoryError, MemoryRefusal, plain_law};
+use sd_script::Answer;
 use std::alloc::{AllocError, Global};
 
 /// How many words a line can ask for.
 const WORD_LIMIT: u64 = 512;
 
-/// Answers with the words of so many pages, from the page of an address on.
-pub fn answer(alloc: Global, memory: &Memory, space: SpaceId, address: u64, count: u64) -> Reply
-    ensures { Answered (words_due (plain_of memory.now) space address count) true result memory.now memory.now
-        (IsWords memory.now space address count result) }
+/// The words of so many pages, from the page of an address on.
+pub fn answer(alloc: Global, memory: &Memory, space: SpaceId, address: u64, count: u64) -> Answer
+    ensures { AreGiven memory.now space address count result }
 {
-    words(alloc, memory, space, address, count).unwrap_or_else(Reply::from)
+    match words(alloc, memory, space, address, count) {
+        Ok(answer) => answer,
+        Err(MemoryError::Denied(error)) => Answer::Reply(Reply::from(error)),
+        Err(MemoryError::OutOfMemory) => Answer::Reply(Reply::Refused(Refusal::OutOfMemory)),
+    }
 }
 
 fn words(
@@ -28,18 +32,18 @@ fn words(
     space: SpaceId,
     address: u64,
     count: u64,
-) -> Result<Reply, MemoryError>
+) -> Result<Answer, MemoryError>
     ensures due { Answers (words_due (plain_of memory.now) space address count) result }
-    ensures words { IfOk result (λ reply. IsWords memory.now space address count reply) }
+    ensures words { IfOk result (IsWords memory.now space address count) }
 {
     if !is_alive(memory, space) {
-        return Err(Refusal::NoSuchSpace.into());
+        return Err(MemoryRefusal::NoSuchSpace.into());
     }
     let first = address / 4096;
     if are_too_many(first, count) {
-        return Err(Refusal::Einval.into());
+        return Err(MemoryRefusal::Einval.into());
     }
-    Ok(Reply::Words(words_from(alloc, memory, space, first, first + count)?))
+    Ok(Answer::Words(words_from(alloc, memory, space, first, first + count)?))
 }
 
 /// Whether a space is alive.
@@ -55,7 +59,7 @@ fn are_too_many(first: u64, count: u64) -> bool
     requires { first ≤ 2 ^ 52 }
     ensures { result ≡ (nat_lt 512 count || nat_lt (2 ^ 35) (first + count)) }
 {
-    count > WORD_LIMIT || first + count > PAGE_LIMIT
+    count > WORD_LIMIT || first + count > PAGE_NUMBER_LIMIT
 }
 
 /// The words of the pages from a first up to another.

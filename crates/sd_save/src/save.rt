@@ -1,7 +1,8 @@
 //! Saving a memory: one whole dump, into the lowest free slot.
 ghost use Rattle.std.specs.Prelude.{◌≡◌, ◌≢◌, ◌⊎◌, ◌+◌, ◌<◌, ◌≤◌, [], ◌∷◌, ℕ, List, Option, length, map, Some, OnOk, IsErr, IsErrOf, slice_set};
 ghost use Rattle.sd_areas.specs.PlainMemory.{PlainMemory};
-ghost use Rattle.sd_disk.specs.Crash.{LeavesOnly, OnlyAt, Within};
+ghost use Rattle.sd_disk.specs.Crash.{OnlyAt, Within};
+ghost use Rattle.sd_disk.specs.Spans.{LeavesOnly};
 ghost use Rattle.sd_disk.specs.Failures.{HasCause};
 ghost use Rattle.sd_disk.specs.Contents.{file_at};
 ghost use Rattle.sd_image.specs.Shows.{Shows};

@@ -1,24 +1,30 @@
-//! The engine: it keeps a memory, and answers one request after the other.
-ghost use Rattle.std.specs.Prelude.{◌≡◌, ◌≢◌, ◌+◌, ◌<◌, ◌≤◌, ◌^◌, ◌↔◌, ℕ, List, length, Some, Ok, Err, IsErr, IfOk, OnOk, OnErr};
+//! A session: it keeps a memory, and answers one line of a script after the other.
+ghost use Rattle.std.specs.Prelude.{◌≡◌, ◌≢◌, ◌⊎◌, ◌+◌, ◌<◌, ◌≤◌, ◌^◌, ◌↔◌, ℕ, length, Some, Ok, Err, IsErr, IfOk, OnOk, OnErr};
+ghost use Rattle.sd_areas.specs.Memory.{memory_of};
 ghost use Rattle.sd_image.specs.Shows.{Shows};
 ghost use Rattle.sd_image.specs.Laws.{IsReady};
 ghost use Rattle.sd_pagetable.specs.Contents.{plain_of};
 ghost use Rattle.sd_save.specs.Slots.{raw_slots};
-ghost use Rattle.sd_save.specs.Answers.{IsAnswer, IsSaved};
+ghost use Rattle.sd_save.specs.Answers.{IsAnswer, IsApplied, IsOutOfMemory, IsSaved};
+ghost use Rattle.sd_save.specs.Beginning.{Begins};
 
-use crate::line::Line;
-use crate::refusal::Refusal;
-use crate::reply::Reply;
+use crate::greatest::greatest_number;
+use crate::page_words;
 use crate::save::save;
 use crate::save_error::SaveError;
-use crate::{commands, page_words};
+use sd_areas::Snapshot;
+use sd_command::{Command, Refusal, Reply, apply_to};
 use sd_disk::Disk;
 use sd_pagetable::Memory;
-use sd_restore::Fault;
+use sd_restore::{Fault, restore, scan};
+use sd_script::{Answer, Line};
 use std::alloc::Global;
 
 /// From this number on no checkpoint is numbered.
 const NUMBER_LIMIT: u64 = 1 << 63;
+
+/// How many frames the memory has.
+const FRAMES: usize = 65_536;
 
 /// A memory, and how far its store has numbered.
 #[derive(Drop)]
@@ -36,26 +42,52 @@ impl Session {
         Session { memory, greatest }
     }
 
-    /// Answers one request. A fault of the device ends the session.
+    /// Begins with the memory that a store shows, or with space 1 alone where nothing was saved. Returns the number of
+    /// the store's checkpoint too, if it has one.
+    pub fn open<D: Disk>(alloc: Global, disk: &mut D) -> Result<(Session, Option<u64>), Fault>
+        ensures begins { D.is_honest disk.new
+            → IfOk result (λ opened. Begins (D.contents disk.old) opened.1 (plain_of opened.0.memory)) }
+        ensures ready { D.is_honest disk.new
+            → IfOk result (λ opened. IsReady (D.contents disk.new) (opened.0.greatest + 1)) }
+        ensures empty { result ≢ Err Fault.EmptyChain }
+        ensures same { D.contents disk.new ≡ D.contents disk.old }
+        ensures honest { D.is_honest disk.new → D.is_honest disk.old }
+    {
+        let greatest = last_number(alloc, disk)?;
+        match restore(alloc, disk) {
+            Ok(snapshot) => {
+                let checkpoint = snapshot.checkpoint;
+                let memory = load(alloc, snapshot)?;
+                Ok((Session::new(memory, greatest), Some(checkpoint)))
+            }
+            Err(Fault::EmptyChain) => {
+                let memory = Memory::new(alloc, FRAMES)?;
+                Ok((Session::new(memory, greatest), None))
+            }
+            Err(fault) => Err(fault),
+        }
+    }
+
+    /// Answers one line. A failure of the device ends the session.
     pub fn answer<D: Disk>(
         &mut self,
         alloc: Global,
         disk: &mut D,
         line: &Line,
-    ) -> Result<Reply, Fault>
+    ) -> Result<Answer, Fault>
         // What the line is answered, and what it did to the memory.
-        ensures does { IfOk result (λ reply. IsAnswer line.now reply self.old.memory self.new.memory) }
+        ensures does { IfOk result (λ answer. IsAnswer line.now answer self.old.memory self.new.memory) }
 
         // A checkpoint is numbered one above the greatest number, and its memory is what the store then shows.
-        ensures acked { (n : ℕ) → result ≡ Ok (Reply.Acked n) → (n ≡ self.old.greatest + 1) × (self.new.greatest ≡ n) }
+        ensures acked { (n : ℕ) → result ≡ Ok (Answer.Reply (Reply.Acked n)) → (n ≡ self.old.greatest + 1) × (self.new.greatest ≡ n) }
         ensures shown { D.is_honest disk.new → IsReady (D.contents disk.old) (self.old.greatest + 1)
-            → (n : ℕ) → result ≡ Ok (Reply.Acked n) → Shows (D.contents disk.new) (Some (n, plain_of self.new.memory)) }
+            → (n : ℕ) → result ≡ Ok (Answer.Reply (Reply.Acked n)) → Shows (D.contents disk.new) (Some (n, plain_of self.new.memory)) }
         ensures ready { D.is_honest disk.new → IsReady (D.contents disk.old) (self.old.greatest + 1)
             → OnOk result (IsReady (D.contents disk.new) (self.new.greatest + 1)) }
 
         // It is refused where the numbers are used up, and where fewer than two slots are free.
-        ensures numbers_used { line.now ≡ Line.Checkpoint → (result ≡ Ok (Reply.Refused Refusal.NumbersUsed)) ↔ (2 ^ 63 ≤ self.old.greatest) }
-        ensures no_slot { D.is_honest disk.new → line.now ≡ Line.Checkpoint → result ≡ Ok (Reply.Refused Refusal.NoSlot)
+        ensures numbers_used { line.now ≡ Line.Checkpoint → (result ≡ Ok (Answer.Reply (Reply.Refused Refusal.NumbersUsed))) ↔ (2 ^ 63 ≤ self.old.greatest) }
+        ensures no_slot { D.is_honest disk.new → line.now ≡ Line.Checkpoint → result ≡ Ok (Answer.Reply (Reply.Refused Refusal.NoSlot))
             → length (raw_slots (D.contents disk.old)) < 2 }
 
         // No other line touches the disk or the numbers.
@@ -66,13 +98,13 @@ impl Session {
         ensures honest { D.is_honest disk.new → D.is_honest disk.old }
     {
         match line {
-            Line::Command(command) => Ok(commands::answer(alloc, &mut self.memory, command)),
+            Line::Command(command) => Ok(Answer::Reply(replied(alloc, &mut self.memory, command))),
             Line::Words {
                 space,
                 address,
                 count,
             } => Ok(page_words::answer(alloc, &self.memory, *space, *address, *count)),
-            Line::Checkpoint => self.checkpoint(alloc, disk),
+            Line::Checkpoint => Ok(Answer::Reply(self.checkpoint(alloc, disk)?)),
         }
     }
 
@@ -105,4 +137,35 @@ impl Session {
             Err(SaveError::Device) => Err(Fault::Device),
         }
     }
+}
+
+/// The reply to a command, out of memory among them.
+fn replied(alloc: Global, memory: &mut Memory, command: &Command) -> Reply
+    ensures { IsApplied command.now result memory.old memory.new
+        ⊎ IsOutOfMemory command.now result memory.old memory.new }
+{
+    match apply_to(alloc, memory, command) {
+        Ok(reply) => reply,
+        Err(_) => Reply::Refused(Refusal::OutOfMemory),
+    }
+}
+
+/// The greatest checkpoint or serial of a store, or 0 where it has no image.
+fn last_number<D: Disk>(alloc: Global, disk: &mut D) -> Result<u64, Fault>
+    ensures ready { D.is_honest disk.new → IfOk result (λ greatest. IsReady (D.contents disk.old) (greatest + 1)) }
+    ensures empty { result ≢ Err Fault.EmptyChain }
+    ensures same { D.contents disk.new ≡ D.contents disk.old }
+    ensures honest { D.is_honest disk.new → D.is_honest disk.old }
+{
+    let catalog = scan(alloc, disk)?;
+    catalog.has_the_images();
+    Ok(greatest_number(&catalog)?)
+}
+
+/// The memory of a snapshot. That of an image is within the limits of a memory, so it is refused out of memory alone.
+fn load(alloc: Global, snapshot: Snapshot) -> Result<Memory, Fault>
+    ensures memory { IfOk result (λ memory. plain_of memory ≡ memory_of snapshot) }
+    ensures error { OnErr result (result ≡ Err Fault.OutOfMemory) }
+{
+    Memory::from_snapshot(alloc, FRAMES, snapshot).map_err(|_| Fault::OutOfMemory)
 }

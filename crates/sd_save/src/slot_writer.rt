@@ -2,7 +2,7 @@
 ghost use Rattle.std.specs.Prelude.{◌≡◌, ◌<◌, ◌≤◌, ◌++◌, ◌∷◌, List, ℕ, [], length, map, None, IfOk, OnOk, MatchOption, slice_set};
 ghost use Rattle.std.specs.List.{concat};
 ghost use Rattle.sd_disk.specs.Contents.{file_at, file_after_write};
-ghost use Rattle.sd_disk.specs.Crash.{LeavesOnly};
+ghost use Rattle.sd_disk.specs.Spans.{LeavesOnly};
 ghost use Rattle.sd_disk.specs.Failures.{HasCause};
 ghost use Rattle.sd_gate.specs.declared.phase.Phase.{Phase};
 ghost use Rattle.sd_gate.specs.declared.phase.Phase.TheVariants.{Raw, Bare, Whole};

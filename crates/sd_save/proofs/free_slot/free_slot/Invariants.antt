@@ -1,5 +1,6 @@
 use Rattle.std.proofs.Common.{◌≡◌, ◌≤◌, ◌<◌, ◌++◌, length, drop, option_to_list, IfSome}
-use Rattle.sd_disk.specs.Crash.{LeavesOnly, Within}
+use Rattle.sd_disk.specs.Crash.{Within}
+use Rattle.sd_disk.specs.Spans.{LeavesOnly}
 use Rattle.sd_save.specs.Slots.{raw_slots, raw_from}
 use Rattle.sd_save.proofs.free_slot.free_slot.Given as goal
 
@@ -8,7 +9,7 @@ abbrev pub invariant-loop-slot : goal.invariant-loop-slot
 invariant-loop-slot g l = record {
   same : g.D.Disk.contents l.disk ≡ g.D.Disk.contents l.fn.disk;
   crash : Within (g.D.Disk.may_leave l.disk) (g.D.Disk.may_leave l.fn.disk);
-  left : LeavesOnly g.D.Disk.moment g.D.Disk.left_since l.fn.disk l.disk (g.D.Disk.may_leave l.fn.disk);
+  left : LeavesOnly g.D.Disk l.fn.disk l.disk (g.D.Disk.may_leave l.fn.disk);
   honest : g.D.Disk.is_honest l.disk → g.D.Disk.is_honest l.fn.disk;
   later : g.D.Disk.failed l.fn.disk ≤ g.D.Disk.failed l.disk;
   count : l.slot-end ≡ length (g.D.Disk.contents l.fn.disk);

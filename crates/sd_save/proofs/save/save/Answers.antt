@@ -106,10 +106,10 @@ returns-in_err-write_image-clause-any_moment g c = λ shown honest safe only.
     let short = first_is_free old slot (free.0 ∷ free.1) free.2 in
     let fits = raw_fits slot old (D.contents c.free_slot.new.disk) leaves mid c.in_ok-slot.ensures.same c.in_ok-slot.ensures.crash short
     (λ d may. safe.free d slot may short) in
-    spans_join D.moment D.left_since c.args.disk.now c.free_slot.new.disk c.write_image.new.disk (λ d. Shows d shown ⊎ Shows d (Some (c.args.number, memory)))
-    (span_widened D.moment D.left_since c.args.disk.now c.free_slot.new.disk leaves (λ d. Shows d shown ⊎ Shows d (Some (c.args.number, memory)))
+    spans_join D c.args.disk.now c.free_slot.new.disk c.write_image.new.disk (λ d. Shows d shown ⊎ Shows d (Some (c.args.number, memory)))
+    (span_widened D c.args.disk.now c.free_slot.new.disk leaves (λ d. Shows d shown ⊎ Shows d (Some (c.args.number, memory)))
     (λ d may. inl (only d may)) c.free_slot.ensures.any_moment)
-    (span_widened D.moment D.left_since c.free_slot.new.disk c.write_image.new.disk (IsLeft slot (body_of memory c.in_ok-text.text) mid) (λ d. Shows d shown ⊎ Shows d (Some (c.args.number, memory)))
+    (span_widened D c.free_slot.new.disk c.write_image.new.disk (IsLeft slot (body_of memory c.in_ok-text.text) mid) (λ d. Shows d shown ⊎ Shows d (Some (c.args.number, memory)))
     (left_shows c.newest_is_shown.ensures c.shown_still.ensures memory c.args.number c.in_ok-text.text c.in_ok-text.ensures old leaves mid shown slot
     (g.met.D.Disk.same_slots c.args.disk.now) c.in_ok-slot.ensures.slot short c.in_ok-slot.ensures.crash safe only)
     (c.write_image.ensures.any_moment fits))
@@ -126,10 +126,10 @@ returns-clause-any_moment g c = λ shown honest safe only.
     let short = first_is_free old slot (free.0 ∷ free.1) free.2 in
     let fits = raw_fits slot old (D.contents c.free_slot.new.disk) leaves mid c.in_ok-slot.ensures.same c.in_ok-slot.ensures.crash short
     (λ d may. safe.free d slot may short) in
-    spans_join D.moment D.left_since c.args.disk.now c.free_slot.new.disk c.write_image.new.disk (λ d. Shows d shown ⊎ Shows d (Some (c.args.number, memory)))
-    (span_widened D.moment D.left_since c.args.disk.now c.free_slot.new.disk leaves (λ d. Shows d shown ⊎ Shows d (Some (c.args.number, memory)))
+    spans_join D c.args.disk.now c.free_slot.new.disk c.write_image.new.disk (λ d. Shows d shown ⊎ Shows d (Some (c.args.number, memory)))
+    (span_widened D c.args.disk.now c.free_slot.new.disk leaves (λ d. Shows d shown ⊎ Shows d (Some (c.args.number, memory)))
     (λ d may. inl (only d may)) c.free_slot.ensures.any_moment)
-    (span_widened D.moment D.left_since c.free_slot.new.disk c.write_image.new.disk (IsLeft slot (body_of memory c.in_ok-text.text) mid) (λ d. Shows d shown ⊎ Shows d (Some (c.args.number, memory)))
+    (span_widened D c.free_slot.new.disk c.write_image.new.disk (IsLeft slot (body_of memory c.in_ok-text.text) mid) (λ d. Shows d shown ⊎ Shows d (Some (c.args.number, memory)))
     (left_shows c.newest_is_shown.ensures c.shown_still.ensures memory c.args.number c.in_ok-text.text c.in_ok-text.ensures old leaves mid shown slot
     (g.met.D.Disk.same_slots c.args.disk.now) c.in_ok-slot.ensures.slot short c.in_ok-slot.ensures.crash safe only)
     (c.write_image.ensures.any_moment fits))

@@ -16,7 +16,7 @@ pub returns-in_err-write_pages-clause-any_moment : goal.returns-in_err-write_pag
 returns-in_err-write_pages-clause-any_moment g c = λ fits.
     let D = g.D.Disk in
     let image = body_of (plain_of c.args.memory.now) c.args.text in
-    left_join D.moment D.left_since D.may_leave c.args.slot image c.args.disk.now c.format.new.disk c.write_pages.new.disk c.format.ensures.crash
+    left_join D c.args.slot image c.args.disk.now c.format.new.disk c.write_pages.new.disk c.format.ensures.crash
     (c.format.ensures.any_moment image fits) (c.write_pages.ensures.any_moment image (c.in_ok-format.ensures.fits fits))
 
 pub returns-clause-written : goal.returns-clause-written
@@ -56,8 +56,8 @@ returns-clause-any_moment g c = λ fits.
     let pages = map (bytes_at (plain_of c.args.memory.now)) c.args.text.stored.items in
     let count = c.requires.pages ∙ sym (length-map c.args.text.stored.items (bytes_at (plain_of c.args.memory.now))) in
     let filled = rw c.deref.ensures.value at (c.in_ok-write_pages.ensures.fits (c.in_ok-format.ensures.fits fits)) in
-    let first = left_join D.moment D.left_since D.may_leave slot image c.args.disk.now c.format.new.disk c.write_pages.new.disk c.format.ensures.crash
+    let first = left_join D slot image c.args.disk.now c.format.new.disk c.write_pages.new.disk c.format.ensures.crash
     (c.format.ensures.any_moment image fits) (c.write_pages.ensures.any_moment image (c.in_ok-format.ensures.fits fits)) in
-    left_join D.moment D.left_since D.may_leave slot image c.args.disk.now c.write_pages.new.disk c.close_body.new.disk
+    left_join D slot image c.args.disk.now c.write_pages.new.disk c.close_body.new.disk
     (follows_join slot (D.may_leave c.args.disk.now) (D.may_leave c.format.new.disk) (D.may_leave c.write_pages.new.disk) c.format.ensures.crash c.write_pages.ensures.crash)
     first (c.close_body.ensures.any_moment pages c.requires.whole count filled)

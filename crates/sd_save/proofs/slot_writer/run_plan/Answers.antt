@@ -6,7 +6,7 @@ use Rattle.sd_save.proofs.slot_writer.run_plan.Goals as goal
 
 pub loop-request-init : goal.loop-request-init
 loop-request-init g c = record {
-  running = begins g.D.Disk.contents g.D.Disk.may_leave g.D.Disk.moment g.D.Disk.left_since c.args.plan c.args.disk.now
+  running = begins g.D.Disk c.args.plan c.args.disk.now
       (ap (λ (p : Planned). p.out) c.requires.begins) (ap (λ (p : Planned). p.awaits) c.requires.begins) c.requires.slot c.requires.changes
       (λ left_c left. g.met.D.Disk.only_now c.args.disk.now left_c left);
   honest = λ h. h;
@@ -21,12 +21,12 @@ loop-request-preserved g c =
     let gives = c.in-Some.ensures in
     let settles = c.settle.ensures.settled (gives.out ∙ ap Some (sym made.note)) in
     let ok : is_done outcome.answer ≡ true = done_if (is_done outcome.answer) (calls_after c.next_request.new.plan outcome).0 (λ failed. not_failed c.settle.result c.in-More.is (settles.1 ∙ failed)) in
-    let was_made : WasMade D.contents D.may_leave D.moment D.left_since c.in-Some.request.note.slot c.in-Some.request.note.call c.in-Some.request.bytes true c.loop-request.disk c.perform-outcome.new.disk =
-    subst (λ done. WasMade D.contents D.may_leave D.moment D.left_since c.in-Some.request.note.slot c.in-Some.request.note.call c.in-Some.request.bytes done c.loop-request.disk c.perform-outcome.new.disk) ok
+    let was_made : WasMade D c.in-Some.request.note.slot c.in-Some.request.note.call c.in-Some.request.bytes true c.loop-request.disk c.perform-outcome.new.disk =
+    subst (λ done. WasMade D c.in-Some.request.note.slot c.in-Some.request.note.call c.in-Some.request.bytes done c.loop-request.disk c.perform-outcome.new.disk) ok
     (record { torn = made.torn; crash = made.crash; whole = made.done; fits = made.fits; time = made.time }) in
     record {
-      running = subst (λ p. Running D.contents D.may_leave D.moment D.left_since c.args.plan p c.args.disk.now c.perform-outcome.new.disk) (sym settles.0)
-          (goes_on D.contents D.may_leave D.moment D.left_since c.args.plan c.loop-request.plan c.next_request.new.plan c.in-Some.request c.args.disk.now c.loop-request.disk c.perform-outcome.new.disk
+      running = subst (λ p. Running D c.args.plan p c.args.disk.now c.perform-outcome.new.disk) (sym settles.0)
+          (goes_on D c.args.plan c.loop-request.plan c.next_request.new.plan c.in-Some.request c.args.disk.now c.loop-request.disk c.perform-outcome.new.disk
           c.loop-request.invariant.running gives outcome made.note made.bytes (made.answer ok) ok was_made);
       honest = λ h. c.loop-request.invariant.honest (made.honest h);
       later = omega (arith, c.loop-request.invariant.later, made.cause.later);
@@ -40,11 +40,11 @@ loop-request-smaller g c =
     let gives = c.in-Some.ensures in
     let settles = c.settle.ensures.settled (gives.out ∙ ap Some (sym made.note)) in
     let ok : is_done outcome.answer ≡ true = done_if (is_done outcome.answer) (calls_after c.next_request.new.plan outcome).0 (λ failed. not_failed c.settle.result c.in-More.is (settles.1 ∙ failed)) in
-    let was_made : WasMade D.contents D.may_leave D.moment D.left_since c.in-Some.request.note.slot c.in-Some.request.note.call c.in-Some.request.bytes true c.loop-request.disk c.perform-outcome.new.disk =
-    subst (λ done. WasMade D.contents D.may_leave D.moment D.left_since c.in-Some.request.note.slot c.in-Some.request.note.call c.in-Some.request.bytes done c.loop-request.disk c.perform-outcome.new.disk) ok
+    let was_made : WasMade D c.in-Some.request.note.slot c.in-Some.request.note.call c.in-Some.request.bytes true c.loop-request.disk c.perform-outcome.new.disk =
+    subst (λ done. WasMade D c.in-Some.request.note.slot c.in-Some.request.note.call c.in-Some.request.bytes done c.loop-request.disk c.perform-outcome.new.disk) ok
     (record { torn = made.torn; crash = made.crash; whole = made.done; fits = made.fits; time = made.time }) in
     subst (λ (p : Planned). length p.calls < length c.loop-request.plan.calls) (sym settles.0)
-    (fewer D.contents D.may_leave D.moment D.left_since c.args.plan c.loop-request.plan c.next_request.new.plan c.in-Some.request c.args.disk.now c.loop-request.disk c.perform-outcome.new.disk
+    (fewer D c.args.plan c.loop-request.plan c.next_request.new.plan c.in-Some.request c.args.disk.now c.loop-request.disk c.perform-outcome.new.disk
     c.loop-request.invariant.running gives outcome made.note made.bytes (made.answer ok) ok was_made)
 
 pub returns-in-Failed-clause-crash : goal.returns-in-Failed-clause-crash
@@ -52,7 +52,7 @@ returns-in-Failed-clause-crash g c =
     let D = g.D.Disk in
     let made = c.perform-outcome.ensures in
     let gives = c.in-Some.ensures in
-    follows D.contents D.may_leave D.moment D.left_since c.args.plan c.loop-request.plan c.next_request.new.plan c.in-Some.request c.args.disk.now c.loop-request.disk c.perform-outcome.new.disk
+    follows D c.args.plan c.loop-request.plan c.next_request.new.plan c.in-Some.request c.args.disk.now c.loop-request.disk c.perform-outcome.new.disk
     c.loop-request.invariant.running gives (is_done c.perform-outcome.result.answer)
     (record { torn = made.torn; crash = made.crash; whole = made.done; fits = made.fits; time = made.time })
 
@@ -64,10 +64,10 @@ returns-in-Failed-clause-any_moment g c =
     let gives = c.in-Some.ensures in
     let settles = c.settle.ensures.settled (gives.out ∙ ap Some (sym made.note)) in
     let no : is_done outcome.answer ≡ false = failed_if (is_done outcome.answer) (calls_after c.next_request.new.plan outcome).0 (sym settles.1 ∙ c.in-Failed.is) in
-    let was_made : WasMade D.contents D.may_leave D.moment D.left_since c.in-Some.request.note.slot c.in-Some.request.note.call c.in-Some.request.bytes false c.loop-request.disk c.perform-outcome.new.disk =
-    subst (λ done. WasMade D.contents D.may_leave D.moment D.left_since c.in-Some.request.note.slot c.in-Some.request.note.call c.in-Some.request.bytes done c.loop-request.disk c.perform-outcome.new.disk) no
+    let was_made : WasMade D c.in-Some.request.note.slot c.in-Some.request.note.call c.in-Some.request.bytes false c.loop-request.disk c.perform-outcome.new.disk =
+    subst (λ done. WasMade D c.in-Some.request.note.slot c.in-Some.request.note.call c.in-Some.request.bytes done c.loop-request.disk c.perform-outcome.new.disk) no
     (record { torn = made.torn; crash = made.crash; whole = made.done; fits = made.fits; time = made.time }) in
-    fails D.contents D.may_leave D.moment D.left_since c.args.plan c.loop-request.plan c.next_request.new.plan c.in-Some.request c.args.disk.now c.loop-request.disk c.perform-outcome.new.disk
+    fails D c.args.plan c.loop-request.plan c.next_request.new.plan c.in-Some.request c.args.disk.now c.loop-request.disk c.perform-outcome.new.disk
     c.loop-request.invariant.running gives was_made
 
 pub next_request-requires-clause-no_read : goal.next_request-requires-clause-no_read
@@ -76,5 +76,5 @@ next_request-requires-clause-no_read g c =
 
 pub returns-clause-fits : goal.returns-clause-fits
 returns-clause-fits g c =
-    ends_in g.D.Disk.contents g.D.Disk.may_leave g.D.Disk.moment g.D.Disk.left_since c.args.plan c.loop-request.plan c.args.disk.now c.loop-request.disk
+    ends_in g.D.Disk c.args.plan c.loop-request.plan c.args.disk.now c.loop-request.disk
     c.loop-request.invariant.running c.in_default.ensures.1

@@ -5,7 +5,7 @@ use Rattle.sd_save.proofs.slot_writer.run_plan.Given as goal
 -- the calls so far were done, and the others are left
 abbrev pub invariant-loop-request : goal.invariant-loop-request
 invariant-loop-request g l = record {
-  running : Running g.D.Disk.contents g.D.Disk.may_leave g.D.Disk.moment g.D.Disk.left_since l.fn.plan l.plan l.fn.disk l.disk;
+  running : Running g.D.Disk l.fn.plan l.plan l.fn.disk l.disk;
   honest : g.D.Disk.is_honest l.disk → g.D.Disk.is_honest l.fn.disk;
   later : g.D.Disk.failed l.fn.disk ≤ g.D.Disk.failed l.disk;
 }

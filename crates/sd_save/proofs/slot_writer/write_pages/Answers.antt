@@ -25,7 +25,7 @@ loop-count-init g c =
       written = sym (ap (slice_set old slot) (sym c.requires.bare) ∙ set_itself old slot []);
       crash = follows_itself slot leaves;
       fits = λ fits. fits;
-      left = λ image fits. nothing_called D.moment D.left_since c.args.disk.now (IsLeft slot image leaves) leaves
+      left = λ image fits. nothing_called D c.args.disk.now (IsLeft slot image leaves) leaves
           (λ left_c left. g.met.D.Disk.only_now c.args.disk.now left_c left)
           (left_so slot image [] Bare old leaves leaves (follows_itself slot leaves) (bare c.image_whole_or_closed.ensures image []) fits);
       honest = λ h. h;
@@ -54,7 +54,7 @@ write_page-requires-clause-page g c =
 pub returns-in_err-buffer-clause-any_moment : goal.returns-in_err-buffer-clause-any_moment
 returns-in_err-buffer-clause-any_moment g c = λ image fits.
     let D = g.D.Disk in
-    left_join D.moment D.left_since D.may_leave c.args.slot image c.args.disk.now c.loop-count.disk c.write_page.new.disk c.loop-count.invariant.crash
+    left_join D c.args.slot image c.args.disk.now c.loop-count.disk c.write_page.new.disk c.loop-count.invariant.crash
     (c.loop-count.invariant.left image fits)
     (c.write_page.ensures.any_moment image (map (bytes_at (plain_of c.args.memory.now)) (take c.loop-count.count c.args.pages.now)) (c.loop-count.invariant.fits fits))
 
@@ -79,7 +79,7 @@ loop-count-preserved g c =
       fits = λ fits. subst (λ written. SlotFits (pages_phase written) (pages_body written) slot (D.contents c.write_page.new.disk) (D.may_leave c.write_page.new.disk))
           (taken f pages count page (omega arith) c.index-pages-count.is)
           ((rw item at c.in_ok-buffer.ensures.fits) (map f (take count pages)) (whole_front f pages count c.requires.whole) (length_front f pages count (omega arith)) (was.fits fits));
-      left = λ image fits. left_join D.moment D.left_since D.may_leave slot image c.args.disk.now c.loop-count.disk c.write_page.new.disk was.crash
+      left = λ image fits. left_join D slot image c.args.disk.now c.loop-count.disk c.write_page.new.disk was.crash
           (was.left image fits) (c.write_page.ensures.any_moment image (map f (take count pages)) (was.fits fits));
       honest = λ h. was.honest (c.write_page.ensures.honest h);
       later = omega (arith, was.later, c.write_page.ensures.cause.later);

@@ -1,5 +1,5 @@
 use Rattle.std.proofs.Common.{◌≡◌, ◌≤◌, ℕ, List, [], length, map, take, slice_set}
-use Rattle.sd_disk.specs.Crash.{LeavesOnly}
+use Rattle.sd_disk.specs.Spans.{LeavesOnly}
 use Rattle.sd_gate.specs.declared.phase.Phase.TheVariants.{Bare}
 use Rattle.sd_gate.specs.Fits.{SlotFits}
 use Rattle.sd_gate.specs.Laws.{pages_body}
@@ -20,7 +20,7 @@ invariant-loop-count g l = record {
       → SlotFits (pages_phase (map (bytes_at (plain_of l.memory)) (take l.count l.pages))) (pages_body (map (bytes_at (plain_of l.memory)) (take l.count l.pages)))
       l.slot (g.D.Disk.contents l.disk) (g.D.Disk.may_leave l.disk);
   left : (image : List ℕ) → SlotFits Bare [] l.slot (g.D.Disk.contents l.fn.disk) (g.D.Disk.may_leave l.fn.disk)
-      → LeavesOnly g.D.Disk.moment g.D.Disk.left_since l.fn.disk l.disk (IsLeft l.slot image (g.D.Disk.may_leave l.fn.disk));
+      → LeavesOnly g.D.Disk l.fn.disk l.disk (IsLeft l.slot image (g.D.Disk.may_leave l.fn.disk));
   honest : g.D.Disk.is_honest l.disk → g.D.Disk.is_honest l.fn.disk;
   later : g.D.Disk.failed l.fn.disk ≤ g.D.Disk.failed l.disk;
 }

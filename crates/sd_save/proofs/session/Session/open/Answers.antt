@@ -1,7 +1,7 @@
 use Rattle.std.proofs.Common.{◌∙◌, ap, None, List, Err, subst, ℕ}
 use Rattle.sd_image.specs.Shows.{Shows}
 use Rattle.sd_pagetable.specs.Contents.{plain_of}
-use Rattle.ckpt.proofs.run.open.Goals as goal
+use Rattle.sd_save.proofs.session.Session.open.Goals as goal
 
 pub returns-in_ok-memory-in-Err-EmptyChain-clause-begins : goal.returns-in_ok-memory-in-Err-EmptyChain-clause-begins
 returns-in_ok-memory-in-Err-EmptyChain-clause-begins g c = λ honest.

@@ -1,5 +1,5 @@
-use Rattle.ckpt.proofs.EndingLemmas.{ready_of}
-use Rattle.ckpt.proofs.run.last_number.Goals as goal
+use Rattle.sd_save.proofs.ReadyLemmas.{ready_of}
+use Rattle.sd_save.proofs.session.last_number.Goals as goal
 
 pub returns-clause-ready : goal.returns-clause-ready
 returns-clause-ready g c = λ honest.

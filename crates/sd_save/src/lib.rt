@@ -1,0 +1,19 @@
+//! Saving a memory as one whole dump, and a session that answers a script with it. It lives until a run drives a world.
+#![tactic(auto)]
+
+mod clear_all;
+mod dump;
+mod free_slot;
+mod greatest;
+mod image_text;
+mod page_copy;
+mod page_words;
+mod runs;
+mod save;
+mod save_error;
+mod session;
+mod slot_writer;
+
+pub use save::save;
+pub use save_error::SaveError;
+pub use session::Session;
