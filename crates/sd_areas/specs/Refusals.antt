@@ -3,6 +3,8 @@ use Rattle.std.specs.Prelude.{ℕ, List, ◌∷◌, ◌++◌, false, codes}
 use Rattle.std.specs.Fmt.{digits}
 use Rattle.sd_areas.specs.declared.errno.Errno.{Errno}
 use Rattle.sd_areas.specs.declared.errno.Errno.TheVariants.{Einval, Enomem}
+use Rattle.sd_areas.specs.declared.errno.AreaError.{AreaError}
+use Rattle.sd_areas.specs.declared.errno.AreaError.TheVariants.{Refused, OutOfMemory}
 
 -- its number among the refusals of calls on memory
 abbrev pub errno_number : Errno → ℕ
@@ -19,3 +21,8 @@ numbered_text number name = digits 10 false number ++ codes " " ++ name
 
 abbrev pub errno_text : Errno → List ℕ
 errno_text errno = numbered_text (errno_number errno) (errno_name errno)
+
+-- what a call that failed prints
+abbrev pub area_error_text : AreaError → List ℕ
+area_error_text (Refused errno) = errno_text errno
+area_error_text OutOfMemory = codes "out-of-memory"

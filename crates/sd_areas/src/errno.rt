@@ -1,9 +1,9 @@
 ghost use Rattle.std.specs.Prelude.{◌≡◌, Some};
-ghost use Rattle.sd_areas.specs.Refusals.{errno_number, errno_name, errno_text};
+ghost use Rattle.sd_areas.specs.Refusals.{errno_number, errno_name, errno_text, area_error_text};
 
 use std::alloc::AllocError;
+use std::error::Error;
 use std::fmt;
-use thiserror::Error;
 
 /// Why POSIX.1-2017 refuses a call on an address space.
 #[derive(Clone, Copy, Debug, PartialEq, Eq, Hash)]
@@ -45,16 +45,30 @@ impl fmt::Display for Errno {
     }
 }
 
+impl Error for Errno {}
+
 /// Why a call on an address space changed nothing.
-#[derive(Clone, Copy, Debug, PartialEq, Eq, Hash, Error)]
+#[derive(Clone, Copy, Debug, PartialEq, Eq, Hash)]
 pub enum AreaError {
     /// The call broke a rule of POSIX.1-2017.
-    #[error("{0}")]
     Refused(Errno),
     /// The list of areas couldn't grow.
-    #[error("out-of-memory")]
     OutOfMemory,
 }
+
+/// Prints the refusal, or `out-of-memory`.
+impl fmt::Display for AreaError {
+    ghost output = { λ error. Some (area_error_text error) };
+
+    fn fmt<W: fmt::Write>(&self, f: &mut fmt::Formatter<W>) -> fmt::Result {
+        match self {
+            AreaError::Refused(errno) => write!(f, "{errno}"),
+            AreaError::OutOfMemory => f.write_str("out-of-memory"),
+        }
+    }
+}
+
+impl Error for AreaError {}
 
 impl From<AllocError> for AreaError {
     ghost use Rattle.sd_areas.specs.declared.errno.AreaError.TheVariants.{OutOfMemory};

@@ -2,6 +2,7 @@ pub mod Nested
 pub mod Page
 pub mod Contents
 pub mod Access
+pub mod Refusals
 pub mod Effects
 pub mod Due
 pub mod Tracking

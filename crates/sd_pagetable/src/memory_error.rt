@@ -1,19 +1,35 @@
+ghost use Rattle.std.specs.Prelude.{Some};
+ghost use Rattle.sd_pagetable.specs.Refusals.{memory_error_text};
+
 use crate::access_error::AccessError;
 use crate::memory_refusal::MemoryRefusal;
 use sd_areas::{AreaError, Errno};
 use std::alloc::AllocError;
-use thiserror::Error;
+use std::error::Error;
+use std::fmt;
 
 /// Why a call that takes memory changed nothing.
-#[derive(Clone, Copy, Debug, PartialEq, Eq, Hash, Error)]
+#[derive(Clone, Copy, Debug, PartialEq, Eq, Hash)]
 pub enum MemoryError {
     /// A rule forbids it.
-    #[error("{0}")]
     Denied(AccessError),
     /// A growth was refused.
-    #[error("out-of-memory")]
     OutOfMemory,
 }
+
+/// Prints what forbids the call, or `out-of-memory`.
+impl fmt::Display for MemoryError {
+    ghost output = { λ error. Some (memory_error_text error) };
+
+    fn fmt<W: fmt::Write>(&self, f: &mut fmt::Formatter<W>) -> fmt::Result {
+        match self {
+            MemoryError::Denied(denied) => write!(f, "{denied}"),
+            MemoryError::OutOfMemory => f.write_str("out-of-memory"),
+        }
+    }
+}
+
+impl Error for MemoryError {}
 
 impl From<AllocError> for MemoryError {
     ghost use Rattle.std.specs.Prelude.{◌≡◌};

@@ -9,7 +9,7 @@ use Rattle.sd_pagetable.specs.Page.{Page, cleared_page}
 use Rattle.sd_pagetable.specs.Contents.{Contents, page_at}
 use Rattle.sd_pagetable.specs.Tracking.{Event, Step, Cleared, Run, is_page}
 use Rattle.sd_pagetable.specs.Law.{IsClearedAt, ClearLaw}
-use Rattle.sd_procfs.specs.Clears.{Clears, IsClearOf, IsHistory, IsNextIn}
+use Rattle.sd_procfs.specs.Clears.{Clears, IsNextIn}
 
 -- whether a page was passed: those before the cursor, or all
 abbrev pub is_behind : Option ℕ → ℕ → Bool
@@ -42,9 +42,6 @@ starts (Some cursor) space memory some zero = record {
   others = λ other page differs. refl;
 }
 
-pub no_history : (space : ℕ) (memory : Contents) → IsHistory space memory memory
-no_history space memory = ([], tt, refl)
-
 -- a test and clear, also of a page that isn't mapped
 pub tested : ClearLaw → (result : Option Bool) (space page : ℕ) (old new : Contents) → result ≡ option_map (λ (p : Page). p.soft_dirty) (page_at old space page)
     → IfSome result (λ _. Step old (Cleared space page) new) → (result ≡ None → new ≡ old) → IsClearedAt space page old new
@@ -60,11 +57,6 @@ tested law None space page old new bits step none = record {
     unmapped None is bits same = same
     unmapped (Some p) is bits same = absurd (let f : None ≡ Some p.soft_dirty = bits in cc)
 
-pub longer_history : (result : Option Bool) (space page : ℕ) (start old new : Contents) → IsHistory space start old
-    → IfSome result (λ _. Step old (Cleared space page) new) → (result ≡ None → new ≡ old) → IsHistory space start new
-longer_history (Some bit) space page start old new history step none = (Cleared space page ∷ history.0, ((page, refl), history.1), (old, history.2, step))
-longer_history None space page start old new history step none = subst (IsHistory space start) (sym (none refl)) history
-
 same_page : (space page p : ℕ) → p ≡ page → (p ≢ page → ⊥)
 same_page space page p is differs = differs is
 
@@ -74,24 +66,24 @@ apart_in space page p differs = grind (arith, nat_tests)
 apart_from : (space page other p : ℕ) → other ≢ space → is_page space page other p ≡ false
 apart_from space page other p differs = grind (arith, nat_tests)
 
-not_mapped : (o : Option Page) → (IsSome o → ⊥) → o ≡ None
+pub not_mapped : (o : Option Page) → (IsSome o → ⊥) → o ≡ None
 not_mapped None none = refl
 not_mapped (Some p) none = absurd (none refl)
 
-below_is : (p n : ℕ) → nat_lt p n ≡ true → p < n
+pub below_is : (p n : ℕ) → nat_lt p n ≡ true → p < n
 below_is p n below = grind (arith, nat_tests)
 
-above_is : (p n : ℕ) → nat_lt p n ≡ false → n ≤ p
+pub above_is : (p n : ℕ) → nat_lt p n ≡ false → n ≤ p
 above_is p n above = grind (arith, nat_tests)
 
-is_below : (p n : ℕ) → p < n → nat_lt p n ≡ true
+pub is_below : (p n : ℕ) → p < n → nat_lt p n ≡ true
 is_below p n below = grind (arith, nat_tests)
 
-is_above : (p n : ℕ) → n ≤ p → nat_lt p n ≡ false
+pub is_above : (p n : ℕ) → n ≤ p → nat_lt p n ≡ false
 is_above p n above = grind (arith, nat_tests)
 
 -- a page behind the one that was just cleared, before the next
-between : (next : Option ℕ) (memory : Contents) (space page p : ℕ) → IsNextIn memory space page next → page < p → is_behind next p ≡ true → IsSome (page_at memory space p) → ⊥
+pub between : (next : Option ℕ) (memory : Contents) (space page p : ℕ) → IsNextIn memory space page next → page < p → is_behind next p ≡ true → IsSome (page_at memory space p) → ⊥
 between None memory space page p least above behind mapped = omega (arith, above, least p mapped)
 between (Some next) memory space page p least above behind mapped = omega (arith, least.2 p mapped above, below_is p next behind)
 

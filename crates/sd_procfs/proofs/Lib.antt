@@ -1,3 +1,4 @@
 pub mod ClearSteps
+pub mod ClearHistory
 pub mod WordLemmas
 pub mod AreaLemmas

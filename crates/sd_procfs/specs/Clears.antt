@@ -1,11 +1,11 @@
 -- What a write to `clear_refs` does.
-use Rattle.std.specs.Prelude.{◌≡◌, ◌≢◌, ◌<◌, ◌≤◌, ℕ, Bool, not, ◌||◌, ◌∷◌, ◌++◌, [], List, codes, bytes_eq, if◌then◌else◌, Option, Some, None, IsSome, Result, Ok, Err}
-use Rattle.std.specs.List.{AllByRecursion}
+use Rattle.std.specs.Prelude.{◌≡◌, ◌≢◌, ◌<◌, ◌≤◌, ◌==◌, ℕ, Bool, not, ◌||◌, ◌∷◌, ◌++◌, [], List, map, codes, bytes_eq, if◌then◌else◌, Option, Some, None, IsSome, is_some, Result, Ok, Err}
+use Rattle.std.specs.List.{AllByRecursion, list_any}
 use Rattle.std.specs.Option.{option_map}
 use Rattle.sd_pagetable.specs.Nested.{is_alive}
 use Rattle.sd_pagetable.specs.Page.{cleared_page}
 use Rattle.sd_pagetable.specs.Contents.{Contents, page_at}
-use Rattle.sd_pagetable.specs.Tracking.{Event, Cleared, Run}
+use Rattle.sd_pagetable.specs.Tracking.{Cleared, Run}
 use Rattle.sd_procfs.specs.declared.clear_error.ClearError.{ClearError}
 use Rattle.sd_procfs.specs.declared.clear_error.ClearError.TheVariants.{NoSuchSpace, UnsupportedValue}
 
@@ -13,7 +13,7 @@ use Rattle.sd_procfs.specs.declared.clear_error.ClearError.TheVariants.{NoSuchSp
 abbrev pub is_clear_text : List ℕ → Bool
 is_clear_text text = bytes_eq text (codes "4") || bytes_eq text (codes "4" ++ 10 ∷ [])
 
--- what a text is answered
+-- what a write of a text returns
 abbrev pub answer_to : Contents → ℕ → List ℕ → Result (Unit {0}) ClearError
 answer_to memory space text =
     if not (is_alive memory.spaces space) then Err NoSuchSpace
@@ -27,13 +27,23 @@ pub record Clears (space : ℕ) (old new : Contents) : Type 0 where
   pub here : (page : ℕ) → page_at new space page ≡ option_map cleared_page (page_at old space page)
   pub others : (other page : ℕ) → other ≢ space → page_at new other page ≡ page_at old other page
 
--- a clear of a page of the space
-abbrev pub IsClearOf : ℕ → Event → Type 0
-IsClearOf space event = (page : ℕ) × (event ≡ Cleared space page)
+-- each page is above all that come after it
+abbrev pub AreFalling : List ℕ → Type 0
+AreFalling [] = Unit {0}
+AreFalling (page ∷ pages) = AllByRecursion (λ other. other < page) pages × AreFalling pages
 
--- clears of the space's pages, and nothing else, lead from one memory to the other
-abbrev pub IsHistory : ℕ → Contents → Contents → Type 0
-IsHistory space old new = (history : List Event) × AllByRecursion (IsClearOf space) history × Run old history new
+abbrev pub is_among : List ℕ → ℕ → Bool
+is_among pages page = list_any (λ other. other == page) pages
+
+-- One clear for each mapped page of the space, and nothing else, leads from one memory to the other. The clears rise by page:
+-- a history has the newest first, so the pages fall in it.
+pub record IsHistory (space : ℕ) (old new : Contents) (pages : List ℕ) : Type 0 where
+  pub falls : AreFalling pages
+  pub each : (page : ℕ) → is_among pages page ≡ is_some (page_at old space page)
+  pub run : Run old (map (Cleared space) pages) new
+
+abbrev pub HasHistory : ℕ → Contents → Contents → Type 0
+HasHistory space old new = (pages : List ℕ) × IsHistory space old new pages
 
 -- the least mapped page of the space above another, if there is one
 abbrev pub IsNextIn : Contents → ℕ → ℕ → Option ℕ → Type 0

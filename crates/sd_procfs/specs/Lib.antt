@@ -1,3 +1,4 @@
 pub mod Clears
 pub mod Words
 pub mod Listing
+pub mod Refusals

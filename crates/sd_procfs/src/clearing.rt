@@ -2,7 +2,7 @@
 ghost use Rattle.std.specs.Prelude.{◌≡◌, ◌≤◌, ℕ, Ok, Err, true, false, None, OnOk, OnErr};
 ghost use Rattle.sd_pagetable.specs.Nested.{is_alive};
 ghost use Rattle.sd_pagetable.specs.Contents.{plain_of};
-ghost use Rattle.sd_procfs.specs.Clears.{Clears, IsHistory, IsNextIn, answer_to, is_clear_text};
+ghost use Rattle.sd_procfs.specs.Clears.{Clears, HasHistory, IsNextIn, answer_to, is_clear_text};
 
 use crate::clear_error::ClearError;
 use sd_areas::{PageNo, SpaceId};
@@ -19,7 +19,7 @@ pub fn clear_refs(memory: &mut Memory, space: SpaceId, text: &[u8]) -> Result<()
     ensures due { result ≡ answer_to memory.old space text.now }
     ensures clears { OnOk result (Clears space memory.old memory.new) }
     // The tracking law is about these clears.
-    ensures history { OnOk result (IsHistory space memory.old memory.new) }
+    ensures history { OnOk result (HasHistory space memory.old memory.new) }
     ensures memory { plain_of memory.new ≡ plain_of memory.old }
     ensures err { OnErr result (memory.new ≡ memory.old) }
 {
@@ -51,7 +51,7 @@ fn next_in(memory: &Memory, space: SpaceId, page: PageNo) -> Option<PageNo>
 /// Clears each mapped page of a space, rising.
 fn clear_pages(memory: &mut Memory, space: SpaceId)
     ensures clears { Clears space memory.old memory.new }
-    ensures history { IsHistory space memory.old memory.new }
+    ensures history { HasHistory space memory.old memory.new }
     ensures memory { plain_of memory.new ≡ plain_of memory.old }
 {
     clear_law();

@@ -1,0 +1,45 @@
+-- Refusals of calls on memory: their numbers, their names, and how they are printed.
+use Rattle.std.specs.Prelude.{ℕ, List, ◌++◌, codes}
+use Rattle.sd_areas.specs.Refusals.{numbered_text}
+use Rattle.sd_pagetable.specs.declared.memory_refusal.MemoryRefusal.{MemoryRefusal}
+use Rattle.sd_pagetable.specs.declared.memory_refusal.MemoryRefusal.TheVariants.{Einval, Enomem, NoSuchSpace, TooManySpaces, NoFrame, LastSpace}
+use Rattle.sd_pagetable.specs.declared.segv.Segv as segv
+use Rattle.sd_pagetable.specs.declared.segv.Segv.TheVariants.{Maperr, Accerr}
+use Rattle.sd_pagetable.specs.declared.access_error.AccessError.{AccessError}
+use Rattle.sd_pagetable.specs.declared.access_error.AccessError.TheVariants.{Refused, Segv as Stopped}
+use Rattle.sd_pagetable.specs.declared.memory_error.MemoryError.{MemoryError}
+use Rattle.sd_pagetable.specs.declared.memory_error.MemoryError.TheVariants.{Denied as DeniedError, OutOfMemory}
+
+abbrev pub refusal_number : MemoryRefusal → ℕ
+refusal_number Einval = 1
+refusal_number Enomem = 2
+refusal_number NoSuchSpace = 3
+refusal_number TooManySpaces = 4
+refusal_number NoFrame = 5
+refusal_number LastSpace = 15
+
+abbrev pub refusal_name : MemoryRefusal → List ℕ
+refusal_name Einval = codes "EINVAL"
+refusal_name Enomem = codes "ENOMEM"
+refusal_name NoSuchSpace = codes "no-such-space"
+refusal_name TooManySpaces = codes "too-many-spaces"
+refusal_name NoFrame = codes "no-frame"
+refusal_name LastSpace = codes "last-space"
+
+-- the number and the name, separated by a space
+abbrev pub refusal_text : MemoryRefusal → List ℕ
+refusal_text refusal = numbered_text (refusal_number refusal) (refusal_name refusal)
+
+abbrev pub segv_name : segv.Segv → List ℕ
+segv_name Maperr = codes "maperr"
+segv_name Accerr = codes "accerr"
+
+-- what an access that failed prints
+abbrev pub access_error_text : AccessError → List ℕ
+access_error_text (Refused refusal) = refusal_text refusal
+access_error_text (Stopped stop) = codes "segv " ++ segv_name stop
+
+-- what a call that failed prints
+abbrev pub memory_error_text : MemoryError → List ℕ
+memory_error_text (DeniedError denied) = access_error_text denied
+memory_error_text OutOfMemory = codes "out-of-memory"
