@@ -2,8 +2,8 @@
 ghost use Rattle.std.specs.Prelude.{◌≡◌, length};
 
 use crate::{
-    Answer, Call, Found, Plan, Refusal, Request, Settled, SlotState, Worker, bodies_fill, cuts_fit,
-    found_fits, given_up_fits, image_whole_or_closed, inspection_tells, perform, plans_lead,
+    Answer, Call, Found, Plan, Settled, SlotState, Worker, bodies_fill, cuts_fit, found_fits,
+    given_up_fits, image_whole_or_closed, inspection_tells, perform, plans_lead,
 };
 use sd_disk::{Disk, Fused, MemDisk, Pick};
 use sd_image::{Header, Kind};
@@ -52,7 +52,7 @@ fn run<D: Disk>(
             break;
         };
         assert!(rt; request.slot < disk.slots());
-        calls.push(request.note().call)?;
+        calls.push(request.id().call)?;
         let outcome = perform(disk, request);
         let settled = plan.settle(outcome);
         if settled != Settled::More {
@@ -156,7 +156,7 @@ fn what_is_no_part_of_an_image_has_no_call(rt: HostRuntime) -> Result<(), Fail> 
         ..HEADER
     };
     let mut plans = [
-        Plan::write_page(0, 65_536, page(alloc)?),
+        Plan::write_page(0, 1 << 39, page(alloc)?),
         Plan::write_page(0, 0, Vec::new(alloc)),
         Plan::write_page(0, 0, table(alloc)?),
         Plan::read_page(0, usize::MAX, page(alloc)?),
@@ -167,18 +167,11 @@ fn what_is_no_part_of_an_image_has_no_call(rt: HostRuntime) -> Result<(), Fail> 
     for plan in &mut plans {
         assert!(rt; plan.take(Worker::Dumper, 1)?.is_none());
     }
-    let mut last = Plan::write_page(0, 65_535, page(alloc)?);
+    let mut last = Plan::write_page(0, (1 << 39) - 1, page(alloc)?);
     let Some(request) = last.take(Worker::Dumper, 1)? else {
         return Err(Fail::from("no request"));
     };
-    assert_eq!(rt; request.note().call, Call::Write { at: 268_435_456 });
-    Ok(())
-}
-
-#[test]
-fn want_of_memory_has_a_name(rt: HostRuntime) -> Result<(), Fail> {
-    let text = format!(in rt.alloc(); "{}", Refusal::OutOfMemory)?;
-    assert_eq!(rt; text.as_str(), "out-of-memory");
+    assert_eq!(rt; request.id().call, Call::Write { at: 1 << 51 });
     Ok(())
 }
 
@@ -262,7 +255,7 @@ fn a_dropped_request_stays_out(rt: HostRuntime) -> Result<(), Fail> {
     };
     assert!(rt; request.slot < disk.slots());
     let outcome = perform(&mut disk, request);
-    assert!(rt; outcome.answer() == Answer::Done && outcome.note().ticket == 2);
+    assert!(rt; outcome.answer() == Answer::Done && outcome.id().ticket == 2);
     assert!(rt; plan.settle(outcome) == Settled::Strange);
     assert!(rt; plan.take(Worker::Merger, 3)?.is_none());
     assert!(rt; other.take(Worker::Merger, 3)?.is_none());
