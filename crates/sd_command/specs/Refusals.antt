@@ -1,5 +1,6 @@
 -- The refusals with their numbers and names.
 use Rattle.std.specs.Prelude.{ℕ, List, codes}
+use Rattle.sd_areas.specs.Refusals.{numbered_text}
 use Rattle.sd_command.specs.declared.refusal.Refusal.{Refusal}
 use Rattle.sd_command.specs.declared.refusal.Refusal.TheVariants.{Einval, Enomem, NoSuchSpace, TooManySpaces, NoFrame, Frozen, JournalFull, OutOfMemory, UnsupportedValue, NotOpen, Busy, NoSlot, StoreDown, Idle, LastSpace, LockBusy, NumbersUsed, Damaged, Device}
 
@@ -44,3 +45,7 @@ refusal_name LockBusy = codes "lock-busy"
 refusal_name NumbersUsed = codes "numbers-used"
 refusal_name Damaged = codes "damaged"
 refusal_name Device = codes "device"
+
+-- how a refusal is printed
+abbrev pub refusal_text : Refusal → List ℕ
+refusal_text refusal = numbered_text (refusal_number refusal) (refusal_name refusal)
