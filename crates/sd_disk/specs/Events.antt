@@ -1,5 +1,5 @@
 -- What a record of calls says of files.
-use Rattle.std.specs.Prelude.{◌≡◌, ℕ, ◌+◌, max, min, Bool, true, false, not, cond, ◌&&◌, ◌||◌, nat_lt, List, [], ◌∷◌, length, take, map, slice_index, slice_range, slice_set}
+use Rattle.std.specs.Prelude.{◌≡◌, ℕ, ◌+◌, ◌≤◌, max, min, Bool, true, false, not, cond, ◌&&◌, ◌||◌, nat_lt, List, [], ◌∷◌, length, take, map, slice_index, slice_range, slice_set}
 use Rattle.std.specs.List.{range_with_len}
 use Rattle.sd_disk.specs.Contents.{file_at, file_after_write}
 use Rattle.sd_disk.specs.declared.call.Call.{Call}
@@ -64,7 +64,7 @@ abbrev pub IsAnswer : Call → List ℕ → List (List ℕ) → Type 0
 IsAnswer (Measured slot len) bytes files = len ≡ length (file_at files slot)
 IsAnswer (Read slot at) bytes files = bytes ≡ slice_range (file_at files slot) at (at + length bytes)
 IsAnswer (Written slot at) bytes files = Unit {0}
-IsAnswer (Cut slot len) bytes files = Unit {0}
+IsAnswer (Cut slot len) bytes files = len ≤ length (file_at files slot)
 IsAnswer (Synced slot) bytes files = Unit {0}
 IsAnswer Failed bytes files = Unit {0}
 IsAnswer (WriteFailed slot at) bytes files = Unit {0}

@@ -65,9 +65,8 @@ pub record Refuses (old new : MemDisk) : Type 0 where
   pub reads : memory_reads new ≡ memory_reads old
   pub files : memory_files new ≡ memory_files old
 
--- a read
+-- a read, done or failed
 pub record CountsRead (old new : MemDisk) : Type 0 where
   pub calls : memory_calls new ≡ memory_calls old
-  pub failures : memory_failures new ≡ memory_failures old
   pub rooms : memory_rooms new ≡ memory_rooms old
   pub reads : memory_reads new ≡ min (memory_reads old + 1) (2 ^ 64 - 1)

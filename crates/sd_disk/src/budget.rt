@@ -4,8 +4,8 @@ ghost use Rattle.sd_disk.specs.declared.call.Call.TheVariants.{Failed};
 ghost use Rattle.sd_disk.specs.Events.{Outside};
 
 use crate::call::Call;
-use crate::error::DeviceError;
 use crate::call_log::CallLog;
+use crate::error::DeviceError;
 use crate::slot_file::SlotFile;
 
 #[derive(Drop)]
@@ -64,11 +64,20 @@ impl Budget {
             ≡ (Failed, []) ∷ self.old.log.trace.events) }
     {
         if self.calls_left == 0 || !fits {
-            self.log.note(&Call::Failed, &[]);
-            return Err(DeviceError);
+            return Err(self.refuse());
         }
         self.calls_left -= 1;
         self.log.note(call, bytes);
         Ok(())
+    }
+
+    /// Counts a call that can't be made as a failure.
+    pub(crate) fn refuse(&mut self) -> DeviceError
+        ensures outside { self.new.log.trace.outside ≡ self.old.log.trace.outside }
+        ensures unspent { self.new.calls_left ≡ self.old.calls_left }
+        ensures failure { self.new.log.trace.events ≡ (Failed, []) ∷ self.old.log.trace.events }
+    {
+        self.log.note(&Call::Failed, &[]);
+        DeviceError
     }
 }

@@ -3,10 +3,10 @@ ghost use Rattle.std.specs.Prelude.{◌≡◌, length};
 ghost use Rattle.sd_disk.specs.Events.{Outside};
 
 use crate::call::Call;
+use crate::call_log::CallLog;
 use crate::disk::Disk;
 use crate::error::DeviceError;
 use crate::folder::{self, Folder};
-use crate::call_log::CallLog;
 
 /// A disk over the slots' files in a folder. A file that is missing has length 0, and a write to it fails.
 ///

@@ -54,10 +54,13 @@ pub trait Disk {
         ensures counted { calls self.new ≡ calls self.old + 1 }
         ensures cause { HasCause (failed self.old) (failed self.new) result };
 
-    /// Fills the buffer from a slot's file, from byte `at` on. On an error the buffer may hold anything.
+    /// Fills the buffer from a slot's file, from byte `at` on. A file that ends before the buffer is full is an
+    /// error, counted as a failure. On an error the buffer may hold anything.
     fn read(&mut self, slot: usize, at: usize, buffer: &mut [u8]) -> Result<(), DeviceError>
         requires slot { slot < length (contents self.old) }
-        requires inside { is_honest self.old → at + length buffer.old ≤ length (file_at (contents self.old) slot) }
+        // A read of bytes past the end fails.
+        ensures inside { is_honest self.new → 0 < length buffer.old
+            → OnOk result (at + length buffer.old ≤ length (file_at (contents self.old) slot)) }
         ensures bytes { is_honest self.new → OnOk result (buffer.new
             ≡ slice_range (file_at (contents self.old) slot) at (at + length buffer.old)) }
         ensures same { contents self.new ≡ contents self.old }
@@ -81,10 +84,12 @@ pub trait Disk {
         ensures counted { calls self.new ≡ calls self.old + 1 }
         ensures cause { HasCause (failed self.old) (failed self.new) result };
 
-    /// Cuts a slot's file to `len` bytes. On an error it may have cut.
+    /// Cuts a slot's file to `len` bytes. A shorter file isn't lengthened: that is an error, counted as a failure.
+    /// On an error it may have cut.
     fn cut(&mut self, slot: usize, len: usize) -> Result<(), DeviceError>
         requires slot { slot < length (contents self.old) }
-        requires no_longer { is_honest self.old → len ≤ length (file_at (contents self.old) slot) }
+        // A cut that would lengthen the file fails.
+        ensures no_longer { is_honest self.new → OnOk result (len ≤ length (file_at (contents self.old) slot)) }
         ensures cut { OnOk result (contents self.new
             ≡ slice_set (contents self.old) slot (take len (file_at (contents self.old) slot))) }
         ensures torn { AtSlot slot (Cut len) (contents self.old) (contents self.new) }

@@ -7,6 +7,7 @@ use std::os::unix::fs::FileExt;
 use std::rt::Files;
 use std::{fs, io};
 
+/// How many slots a folder has.
 const SLOTS: usize = 64;
 
 /// The slots' files `img-000` to `img-063` in a folder, opened once.
@@ -105,8 +106,9 @@ pub(crate) fn len(image: &Option<File>) -> io::Result<usize> {
 
 pub(crate) fn read(image: &Option<File>, at: usize, buffer: &mut [u8]) -> io::Result<()> {
     match image {
+        Some(file) => file.read_exact_at(buffer, at as u64),
         None if buffer.is_empty() => Ok(()),
-        image => present(image)?.read_exact_at(buffer, at as u64),
+        None => Err(io::ErrorKind::NotFound.into()),
     }
 }
 
@@ -114,11 +116,15 @@ pub(crate) fn write(image: &Option<File>, at: usize, bytes: &[u8]) -> io::Result
     present(image)?.write_all_at(bytes, at as u64)
 }
 
-/// A file that is missing has been cut to 0 bytes already.
-pub(crate) fn cut(image: &Option<File>, len: usize) -> io::Result<()> {
+/// A file that is missing has been cut to 0 bytes already. The system would lengthen a shorter file by zeros, so its
+/// length is asked first.
+pub(crate) fn cut(image: &Option<File>, size: usize) -> io::Result<()> {
+    if size > len(image)? {
+        return Err(io::ErrorKind::InvalidInput.into());
+    }
     match image {
-        None if len == 0 => Ok(()),
-        image => present(image)?.set_len(len as u64),
+        Some(file) => file.set_len(size as u64),
+        None => Ok(()),
     }
 }
 

@@ -119,7 +119,8 @@ impl<D: Disk> Disk for Fused<D> {
 
     fn read(&mut self, slot: usize, at: usize, buffer: &mut [u8]) -> Result<(), DeviceError>
         requires slot { slot < length (D.contents self.old.disk) }
-        requires inside { D.is_honest self.old.disk → at + length buffer.old ≤ length (file_at (D.contents self.old.disk) slot) }
+        ensures inside { D.is_honest self.new.disk → 0 < length buffer.old
+            → OnOk result (at + length buffer.old ≤ length (file_at (D.contents self.old.disk) slot)) }
         ensures bytes { D.is_honest self.new.disk → OnOk result (buffer.new
             ≡ slice_range (file_at (D.contents self.old.disk) slot) at (at + length buffer.old)) }
         ensures same { D.contents self.new.disk ≡ D.contents self.old.disk }
@@ -168,7 +169,7 @@ impl<D: Disk> Disk for Fused<D> {
 
     fn cut(&mut self, slot: usize, len: usize) -> Result<(), DeviceError>
         requires slot { slot < length (D.contents self.old.disk) }
-        requires no_longer { D.is_honest self.old.disk → len ≤ length (file_at (D.contents self.old.disk) slot) }
+        ensures no_longer { D.is_honest self.new.disk → OnOk result (len ≤ length (file_at (D.contents self.old.disk) slot)) }
         ensures cut { OnOk result (D.contents self.new.disk
             ≡ slice_set (D.contents self.old.disk) slot (take len (file_at (D.contents self.old.disk) slot))) }
         ensures torn { AtSlot slot (Cut len) (D.contents self.old.disk) (D.contents self.new.disk) }

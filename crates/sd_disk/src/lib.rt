@@ -3,30 +3,30 @@
 
 mod budget;
 mod call;
+mod call_log;
+mod call_trace;
 #[cfg(test)]
 mod crash_tests;
+mod dir_disk;
 mod disk;
 mod error;
 mod folder;
 mod fuse;
 mod fused;
-mod dir_disk;
-mod call_log;
 mod laws;
 mod mem_disk;
 mod open_error;
 mod pick;
-mod call_trace;
 mod shadow;
 mod slot_file;
 #[cfg(test)]
 mod tests;
 
+pub use dir_disk::DirDisk;
 pub use disk::Disk;
 pub use error::DeviceError;
-pub use dir_disk::DirDisk;
-pub use fused::Fused;
 pub use folder::Folder;
+pub use fused::Fused;
 pub use laws::crash_outcomes;
 pub use mem_disk::MemDisk;
 pub use open_error::OpenError;

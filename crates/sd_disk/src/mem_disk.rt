@@ -5,16 +5,16 @@ ghost use Rattle.sd_disk.specs.Slots.{held, AreTracked};
 
 use crate::budget::Budget;
 use crate::call::Call;
+use crate::call_trace::CallTrace;
 use crate::disk::Disk;
 use crate::error::DeviceError;
 use crate::pick::Pick;
-use crate::call_trace::CallTrace;
 use crate::slot_file::SlotFile;
 use std::alloc::{AllocError, Global};
 
-/// A disk in memory, whose room was taken when it was made. A write that does not fit its slot's room fails,
-/// and so does each write, cut and sync past the number of calls that there is room for. A call that fails
-/// is not made: it changes no file, and nothing that a crash may leave.
+/// A disk in memory, whose room was taken when it was made. A write that does not fit its slot's room fails, as do
+/// a read past the end, a cut that would lengthen, and each write, cut and sync past the number of calls that there is
+/// room for. A call that fails is not made: it changes no file, and nothing that a crash may leave.
 #[derive(Drop)]
 pub struct MemDisk {
     slots: Vec<SlotFile>,
@@ -155,17 +155,24 @@ impl Disk for MemDisk {
 
     fn read(&mut self, slot: usize, at: usize, buffer: &mut [u8]) -> Result<(), DeviceError>
         requires slot { slot < length (memory_files self.old) }
-        requires inside { at + length buffer.old ≤ length (file_at (memory_files self.old) slot) }
-        ensures bytes { buffer.new ≡ slice_range (file_at (memory_files self.old) slot) at (at + length buffer.old) }
-        ensures succeeds { IsOk result }
+        ensures inside { IsOk result ↔ (at + length buffer.old ≤ length (file_at (memory_files self.old) slot)) }
+        ensures bytes { OnOk result (buffer.new ≡ slice_range (file_at (memory_files self.old) slot) at (at + length buffer.old)) }
         ensures same { memory_files self.new ≡ memory_files self.old }
-        ensures quiet { self.new.budget ≡ self.old.budget }
-        ensures read { CountsRead self.old self.new }
+        ensures crash { Within (memory_may_leave self.new) (memory_may_leave self.old) }
+        ensures reached { Within (memory_may_leave self.old) (memory_may_leave self.new) }
+        ensures time { Elapses (memory_moment self.old) (memory_moment self.new) (memory_left_since self.old) (memory_left_since self.new) (memory_may_leave self.new) }
         ensures counted { memory_called self.new ≡ memory_called self.old + 1 }
+        ensures read { CountsRead self.old self.new }
+        ensures quiet { OnOk result (self.new.budget ≡ self.old.budget) }
+        ensures refused { OnErr result (memory_failures self.new ≡ memory_failures self.old + 1) }
     {
         self.reads = self.reads.saturating_add(1);
+        let file = &self.slots[slot];
+        if !file.has_bytes(at, buffer.len()) {
+            return Err(self.budget.refuse());
+        }
+        file.read(at, buffer);
         self.asked.note(&Call::Read { slot, at }, &[]);
-        self.slots[slot].read(at, buffer);
         Ok(())
     }
 
@@ -192,7 +199,6 @@ impl Disk for MemDisk {
 
     fn cut(&mut self, slot: usize, len: usize) -> Result<(), DeviceError>
         requires slot { slot < length (memory_files self.old) }
-        requires no_longer { len ≤ length (file_at (memory_files self.old) slot) }
         ensures cut { OnOk result (memory_files self.new
             ≡ slice_set (memory_files self.old) slot (take len (file_at (memory_files self.old) slot))) }
         ensures torn { AtSlot slot (Cut len) (memory_files self.old) (memory_files self.new) }
@@ -202,10 +208,12 @@ impl Disk for MemDisk {
         ensures counted { memory_called self.new ≡ memory_called self.old + 1 }
         ensures done { OnOk result (UsesCall self.old self.new) }
         ensures refused { OnErr result (Refuses self.old self.new) }
-        ensures room { IsOk result ↔ 0 < memory_calls self.old }
+        ensures room { IsOk result ↔ (0 < memory_calls self.old) × (len ≤ length (file_at (memory_files self.old) slot)) }
     {
-        self.budget.spend(&Call::Cut { slot, len }, &[], true)?;
-        self.slots[slot].cut(len);
+        let file = &mut self.slots[slot];
+        let fits = len <= file.len();
+        self.budget.spend(&Call::Cut { slot, len }, &[], fits)?;
+        file.cut(len);
         Ok(())
     }
 

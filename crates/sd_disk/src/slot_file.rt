@@ -48,6 +48,13 @@ impl SlotFile {
         at <= self.room.len() && count <= self.room.len() - at
     }
 
+    /// Whether so many bytes at this place stand in the file.
+    pub(crate) fn has_bytes(&self, at: usize, count: usize) -> bool
+        ensures { IsTrue result ↔ (at + count ≤ length (held self.now)) }
+    {
+        at <= self.len && count <= self.len - at
+    }
+
     pub(crate) fn read(&self, at: usize, buffer: &mut [u8])
         requires { at + length buffer.old ≤ length (held self.now) }
         ensures { buffer.new ≡ slice_range (held self.now) at (at + length buffer.old) }

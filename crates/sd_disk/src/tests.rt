@@ -51,7 +51,6 @@ pub(crate) fn shorten<D: Disk>(
     len: usize,
 ) -> Result<(), Fail> {
     assert!(rt; slot < disk.slots());
-    assert!(rt; len <= disk.len(slot)?);
     disk.cut(slot, len)?;
     Ok(())
 }
@@ -79,6 +78,21 @@ fn exercise<D: Disk>(rt: &(impl Abort + AllocGlobal), disk: &mut D) -> Result<()
     holds(rt, disk, 0, b"head")?;
     holds(rt, disk, 1, b"")?;
     assert_eq!(rt; disk.failures(), 0);
+    refuses_past_the_end(rt, disk)
+}
+
+/// Neither a read past the end nor a cut that would lengthen.
+fn refuses_past_the_end<D: Disk>(
+    rt: &(impl Abort + AllocGlobal),
+    disk: &mut D,
+) -> Result<(), Fail> {
+    assert!(rt; disk.slots() > 3);
+    let mut buffer = [0; 2];
+    assert!(rt; matches!(disk.read(0, 3, &mut buffer), Err(DeviceError)));
+    assert!(rt; matches!(disk.read(0, 9, &mut buffer), Err(DeviceError)));
+    assert!(rt; matches!(disk.cut(0, 5), Err(DeviceError)));
+    holds(rt, disk, 0, b"head")?;
+    assert_eq!(rt; disk.failures(), 3);
     Ok(())
 }
 
@@ -87,7 +101,7 @@ fn memory_reads_back_what_was_written(rt: HostRuntime) -> Result<(), Fail> {
     let mut disk = MemDisk::new(rt.alloc(), 4, 6, 5)?;
     assert_eq!(rt; disk.slots(), 4);
     exercise(&rt, &mut disk)?;
-    assert_eq!(rt; disk.reads(), 5);
+    assert_eq!(rt; disk.reads(), 8);
     Ok(())
 }
 

@@ -9,7 +9,7 @@ use Rattle.sd_image.specs.declared.header.Header.{Header}
 use Rattle.sd_image.specs.Header.{header_text}
 use Rattle.sd_image.specs.Words.{number_bytes, zeros}
 use Rattle.sd_gate.specs.Laws.{AreWhole, pages_body, page_place}
-use Rattle.sd_gate.specs.Steps.{table_place}
+use Rattle.sd_gate.specs.Sequences.{table_place}
 
 -- a write at or past the end: zeros up to it, and then the bytes
 written_behind : (body : List ℕ) (at : ℕ) (bytes : List ℕ) → length body ≤ at → file_after_write body at bytes ≡ (body ++ replicate (at - length body) 0) ++ bytes

@@ -14,7 +14,7 @@ use Rattle.sd_gate.specs.declared.slot_state.SlotState.{SlotState}
 use Rattle.sd_gate.specs.Fits.{IsClosed, IsBehind, IsShort, Leaves, Reads, SlotFits}
 use Rattle.sd_gate.specs.Laws.{IsClosedOrWhole, CrashLeaves, found_phase, phase_told, InspectionTells, Leads, no_call, one_call, MayFormat, raw, shut, bare, found_shut, whole, doubt, PlansLead}
 use Rattle.sd_gate.specs.Phases.{is_ready, after, body_after}
-use Rattle.sd_gate.specs.Steps.{format_calls, closing_calls, body_calls, table_place}
+use Rattle.sd_gate.specs.Sequences.{format_calls, closing_calls, body_calls, table_place}
 use Rattle.sd_gate.proofs.FitLemmas.{behind_is_closed}
 
 short_not_open : (file : List ℕ) → IsShort file → is_open file ≡ false

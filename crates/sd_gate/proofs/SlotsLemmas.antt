@@ -4,8 +4,9 @@ use Rattle.std.proofs.lemmas.Bool.{cases_eq}
 use Rattle.std.proofs.lemmas.List.{get_or-set_same, get_or-set_other, length-set}
 use Rattle.std.proofs.lemmas.Option.{slice_get_within, get_or_from_slice_get, slice_get-get_or}
 use Rattle.sd_disk.specs.Contents.{file_at}
-use Rattle.sd_disk.specs.Crash.{Within, Elapses, LeavesOnly}
-use Rattle.sd_disk.specs.Spans.{nothing_called, one_call}
+use Rattle.sd_disk.specs.Crash.{Within, Elapses}
+use Rattle.sd_disk.specs.Spans.{LeavesOnly, nothing_called, one_call}
+use Rattle.sd_disk.specs.declared.disk.Disk.{Ghosts}
 use Rattle.sd_gate.specs.declared.phase.Phase.{Phase}
 use Rattle.sd_gate.specs.declared.phase.Phase.TheVariants.{Raw}
 use Rattle.sd_gate.specs.Fits.{SlotFits, DiskFits, DiskLeaves}
@@ -42,11 +43,11 @@ pub each_left : (phases : List Phase) (bodies contents : List (List ℕ)) (may_l
     → Within may_leave (DiskLeaves phases bodies)
 each_left phases bodies contents may_leave fits = λ c may. record { each = λ slot phase is. (fits.each slot phase is).leaves c may }
 
-module _ {D : Type 0} (moment : D → ℕ) (left_since : D → ℕ → List (List ℕ) → Type 0) where
+module _ {D : Type 0} (g : Ghosts D) where
   -- a crash at any moment of a call leaves what it may leave before or after
-  pub within_call : (old new : D) (P Q before now : List (List ℕ) → Type 0) → Within (left_since old (moment old)) before
-      → Elapses (moment old) (moment new) (left_since old) (left_since new) now → Within before P → Within now Q
-      → LeavesOnly moment left_since old new (λ c. P c ⊎ Q c)
+  pub within_call : (old new : D) (P Q before now : List (List ℕ) → Type 0) → Within (g.left_since old (g.moment old)) before
+      → Elapses (g.moment old) (g.moment new) (g.left_since old) (g.left_since new) now → Within before P → Within now Q
+      → LeavesOnly g old new (λ c. P c ⊎ Q c)
   within_call old new P Q before now only time was is =
-      one_call moment left_since old old new (λ c. P c ⊎ Q c) now
-      (nothing_called moment left_since old (λ c. P c ⊎ Q c) before only (λ c may. inl (was c may))) time (λ c may. inr (is c may))
+      one_call g old old new (λ c. P c ⊎ Q c) now
+      (nothing_called g old (λ c. P c ⊎ Q c) before only (λ c may. inl (was c may))) time (λ c may. inr (is c may))

@@ -54,10 +54,10 @@ IsSound OpenOrder = Unit {0}
 IsSound CutOrder = Unit {0}
 IsSound SyncOrder = Unit {0}
 
--- a read lies inside the file, and a cut doesn't lengthen it
+-- the bytes of a read stand in the file, and a cut doesn't lengthen it
 abbrev pub IsInside : Call → List ℕ → List ℕ → Type 0
 IsInside Len bytes file = Unit {0}
-IsInside (Read at) bytes file = at + length bytes ≤ length file
+IsInside (Read at) bytes file = 0 < length bytes → at + length bytes ≤ length file
 IsInside (Write at) bytes file = Unit {0}
 IsInside WriteHeader bytes file = Unit {0}
 IsInside Close bytes file = Unit {0}

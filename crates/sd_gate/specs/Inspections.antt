@@ -8,9 +8,9 @@ use Rattle.sd_image.specs.Words.{zeros}
 use Rattle.sd_gate.specs.declared.answer.Answer.{Answer}
 use Rattle.sd_gate.specs.declared.answer.Answer.TheVariants.{Done as DoneAnswer, Len as LenIs, Failed}
 use Rattle.sd_gate.specs.declared.call.Call.TheVariants.{Len, Read, Write, WriteHeader, Close, Open, Cut, Sync}
-use Rattle.sd_gate.specs.declared.stage.Stage.{Stage}
-use Rattle.sd_gate.specs.declared.stage.Stage.TheVariants.{Sync as SyncStage, Len as LenStage, AwaitLen, First, AwaitFirst, Table, Done}
-use Rattle.sd_gate.specs.Steps.{Calls, table_place}
+use Rattle.sd_gate.specs.declared.inspection_stage.InspectionStage.{InspectionStage}
+use Rattle.sd_gate.specs.declared.inspection_stage.InspectionStage.TheVariants.{Sync as SyncStage, Len as LenStage, AwaitLen, First, AwaitFirst, Table, Done}
+use Rattle.sd_gate.specs.Sequences.{Calls, table_place}
 
 -- the outcome that decides what follows the calls that are known
 pub data Awaits : Type 0 where
@@ -20,7 +20,7 @@ pub data Awaits : Type 0 where
   the_header : ℕ → Awaits
 
 -- the calls that are known
-abbrev pub calls_of_stage : Stage → Calls
+abbrev pub calls_of_stage : InspectionStage → Calls
 calls_of_stage SyncStage = (Sync, []) ∷ (Len, []) ∷ []
 calls_of_stage LenStage = (Len, []) ∷ []
 calls_of_stage AwaitLen = []
@@ -29,7 +29,7 @@ calls_of_stage (AwaitFirst len) = []
 calls_of_stage (Table at len) = (Read at, zeros len) ∷ []
 calls_of_stage Done = []
 
-abbrev pub awaits_of : Stage → Awaits
+abbrev pub awaits_of : InspectionStage → Awaits
 awaits_of SyncStage = the_length
 awaits_of LenStage = the_length
 awaits_of AwaitLen = the_length

@@ -15,7 +15,7 @@ use Rattle.sd_gate.specs.declared.slot_state.SlotState.{SlotState}
 use Rattle.sd_gate.specs.declared.slot_state.SlotState.TheVariants.{Raw as RawSlot, Closed, Open as OpenSlot}
 use Rattle.sd_gate.specs.Fits.{Leaves, SlotFits}
 use Rattle.sd_gate.specs.Phases.{is_ready, given_up, after, body_after}
-use Rattle.sd_gate.specs.Steps.{Calls, format_calls, closing_calls, body_calls, data_place, table_place}
+use Rattle.sd_gate.specs.Sequences.{Calls, format_calls, closing_calls, body_calls, data_place, table_place}
 
 -- the slot holds no image, or this one
 abbrev pub IsClosedOrWhole : List ℕ → List ℕ → Type 0

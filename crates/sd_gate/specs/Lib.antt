@@ -4,5 +4,5 @@ pub mod Inspections
 pub mod Laws
 pub mod Phases
 pub mod Plans
-pub mod Steps
+pub mod Sequences
 pub mod Requests

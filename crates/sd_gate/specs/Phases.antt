@@ -3,7 +3,7 @@ use Rattle.std.specs.Prelude.{◌≡◌, ℕ, ◌-◌, Bool, true, false, if◌t
 use Rattle.sd_disk.specs.Contents.{file_at, file_after_write}
 use Rattle.sd_gate.specs.declared.call.Call.{Call}
 use Rattle.sd_gate.specs.declared.call.Call.TheVariants.{Len, Read, Write, WriteHeader, Close, Open, Cut, Sync}
-use Rattle.sd_gate.specs.declared.note.Note.{Note}
+use Rattle.sd_gate.specs.declared.request_id.RequestId.{RequestId}
 use Rattle.sd_gate.specs.declared.phase.Phase.{Phase}
 use Rattle.sd_gate.specs.declared.phase.Phase.TheVariants.{Raw, RawClosing, Whole, Closing, Shut, ShutSynced, Bare, Writing, Ready, Opening, Doubt, DoubtSynced}
 
@@ -146,13 +146,13 @@ body_after body Cut bytes = []
 body_after body Sync bytes = body
 
 -- a slot is in this phase, and ready for the call of a request
-pub record Waits (phases : List Phase) (note : Note) (phase : Phase) : Type 0 where
-  pub is : slice_get phases note.slot ≡ Some phase
-  pub ready : is_ready phase note.call ≡ true
+pub record Waits (phases : List Phase) (id : RequestId) (phase : Phase) : Type 0 where
+  pub is : slice_get phases id.slot ≡ Some phase
+  pub ready : is_ready phase id.call ≡ true
 
 -- the phases and the bodies of all slots after that call
-abbrev pub phases_after : List Phase → Note → Phase → Bool → List Phase
-phases_after phases note phase done = slice_set phases note.slot (after phase note.call done)
+abbrev pub phases_after : List Phase → RequestId → Phase → Bool → List Phase
+phases_after phases id phase done = slice_set phases id.slot (after phase id.call done)
 
-abbrev pub bodies_after : List (List ℕ) → Note → List ℕ → List (List ℕ)
-bodies_after bodies note bytes = slice_set bodies note.slot (body_after (file_at bodies note.slot) note.call bytes)
+abbrev pub bodies_after : List (List ℕ) → RequestId → List ℕ → List (List ℕ)
+bodies_after bodies id bytes = slice_set bodies id.slot (body_after (file_at bodies id.slot) id.call bytes)

@@ -5,25 +5,25 @@ use Rattle.sd_gate.specs.declared.answer.Answer.{Answer}
 use Rattle.sd_gate.specs.declared.answer.Answer.TheVariants.{Done as DoneAnswer, Len as LenIs, Failed as FailedAnswer}
 use Rattle.sd_gate.specs.declared.found.Found.{Found}
 use Rattle.sd_gate.specs.declared.job.Job.{Job}
-use Rattle.sd_gate.specs.declared.job.Job.TheVariants.{Steps as StepsJob, Inspection as InspectionJob}
-use Rattle.sd_gate.specs.declared.note.Note.{Note}
+use Rattle.sd_gate.specs.declared.job.Job.TheVariants.{Sequence as SequenceJob, Inspection as InspectionJob}
+use Rattle.sd_gate.specs.declared.request_id.RequestId.{RequestId}
 use Rattle.sd_gate.specs.declared.settled.Settled.{Settled}
 use Rattle.sd_gate.specs.declared.settled.Settled.TheVariants.{More, Finished, Failed}
 use Rattle.sd_gate.specs.Calls.{is_done, buffer_back}
 use Rattle.sd_gate.specs.Requests.{Asked, Made}
-use Rattle.sd_gate.specs.Steps.{Calls, calls_of_steps, AreSound}
+use Rattle.sd_gate.specs.Sequences.{Calls, calls_of_sequence, AreSound}
 use Rattle.sd_gate.specs.Inspections.{Awaits, nothing, calls_of_stage, awaits_of, Following, calls_then}
 
 abbrev pub calls_of : Job → Calls
-calls_of (StepsJob steps) = calls_of_steps steps
+calls_of (SequenceJob sequence) = calls_of_sequence sequence
 calls_of (InspectionJob inspection) = calls_of_stage inspection.stage
 
 abbrev pub awaited_by : Job → Awaits
-awaited_by (StepsJob steps) = nothing
+awaited_by (SequenceJob sequence) = nothing
 awaited_by (InspectionJob inspection) = awaits_of inspection.stage
 
 abbrev pub IsSoundJob : Job → Type 0
-IsSoundJob (StepsJob steps) = AreSound steps
+IsSoundJob (SequenceJob sequence) = AreSound sequence
 IsSoundJob (InspectionJob inspection) = Unit {0}
 
 -- what came back to a plan: the length that it asked for, and its buffers
@@ -68,7 +68,7 @@ pub record Planned : Type 0 where
   -- the outcome that tells which calls follow these
   pub awaits : Awaits
   -- the request that is out
-  pub out : Option Note
+  pub out : Option RequestId
   pub found : Back
 
 -- a plan that begins with these calls
@@ -78,9 +78,9 @@ begun slot calls awaits = record { slot = slot; calls = calls; awaits = awaits; 
 -- the plan gives out its next call, and waits for the outcome
 pub record Gives (old new : Planned) (request : Asked) : Type 0 where
   pub free : old.out ≡ None
-  pub next : old.calls ≡ (request.note.call, request.bytes) ∷ new.calls
-  pub slot : request.note.slot ≡ old.slot
-  pub out : new.out ≡ Some request.note
+  pub next : old.calls ≡ (request.id.call, request.bytes) ∷ new.calls
+  pub slot : request.id.slot ≡ old.slot
+  pub out : new.out ≡ Some request.id
   pub same_slot : new.slot ≡ old.slot
   pub same_awaits : new.awaits ≡ old.awaits
   pub same_found : new.found ≡ old.found
@@ -88,7 +88,7 @@ pub record Gives (old new : Planned) (request : Asked) : Type 0 where
 -- a plan goes on after its outcome, and makes no further call after one that failed
 abbrev pub calls_after : Planned → Made → Following
 calls_after plan made =
-    if is_done made.answer then calls_then plan.calls plan.awaits made.answer (buffer_back made.note.call made.bytes) else ([], nothing)
+    if is_done made.answer then calls_then plan.calls plan.awaits made.answer (buffer_back made.request.id.call made.request.bytes) else ([], nothing)
 
 abbrev pub plan_after : Planned → Made → Planned
 plan_after plan made = record {
@@ -96,7 +96,7 @@ plan_after plan made = record {
   calls = (calls_after plan made).0;
   awaits = (calls_after plan made).1;
   out = None;
-  found = found_after plan.found made.answer (buffer_back made.note.call made.bytes);
+  found = found_after plan.found made.answer (buffer_back made.request.id.call made.request.bytes);
 }
 
 -- what an outcome of the request that is out is to a plan that has these calls left then

@@ -1,7 +1,8 @@
 //! Making one device call.
 ghost use Rattle.std.specs.Prelude.{◌≡◌, ◌≢◌, ◌⊎◌, ◌+◌, ◌<◌, ℕ, true, List, length, MatchResult};
 ghost use Rattle.sd_disk.specs.Contents.{file_at};
-ghost use Rattle.sd_disk.specs.Crash.{Follows, OnlyAt, Elapses, LeavesOnly};
+ghost use Rattle.sd_disk.specs.Crash.{Follows, OnlyAt, Elapses};
+ghost use Rattle.sd_disk.specs.Spans.{LeavesOnly};
 ghost use Rattle.sd_gate.specs.Calls.{call_of, bytes_of, is_done, contents_after, Makes, IsInside, IsSound, IsAnswerTo, AreKept, Tells, HasCause};
 ghost use Rattle.sd_gate.specs.Phases.{is_ready, after, body_after, Waits, phases_after, bodies_after};
 ghost use Rattle.sd_gate.specs.Fits.{Leaves, SlotFits, DiskFits, DiskLeaves};
@@ -9,14 +10,12 @@ ghost use Rattle.sd_gate.specs.declared.call.Call.TheVariants.{Sync};
 ghost use Rattle.sd_gate.specs.declared.phase.Phase.{Phase};
 
 use crate::answer::Answer;
+use crate::layout::GATE;
 use crate::order::Order;
 use crate::outcome::Outcome;
 use crate::request::Request;
 use sd_disk::{DeviceError, Disk};
 use sd_image::encode_header;
-
-/// The gate byte of an open slot.
-const GATE: u8 = 0xA5;
 
 /// How a call ended that tells nothing else.
 fn answer_of(ended: Result<(), DeviceError>) -> Answer
@@ -42,10 +41,11 @@ fn length_of(ended: Result<usize, DeviceError>) -> Answer
 fn make<D: Disk>(disk: &mut D, slot: usize, order: Order) -> (Order, Answer)
     requires slot { slot < length (D.contents disk.old) }
     requires sound { IsSound order }
-    requires inside { D.is_honest disk.old → IsInside (call_of order) (bytes_of order) (file_at (D.contents disk.old) slot) }
     ensures call { call_of result.0 ≡ call_of order }
+    ensures sound { IsSound result.0 }
     ensures bytes { AreKept (call_of order) (bytes_of order) (bytes_of result.0) }
     ensures answer { is_done result.1 ≡ true → IsAnswerTo (call_of order) result.1 }
+    ensures inside { D.is_honest disk.new → is_done result.1 ≡ true → IsInside (call_of order) (bytes_of order) (file_at (D.contents disk.old) slot) }
     ensures tells { D.is_honest disk.new → is_done result.1 ≡ true → Tells (call_of order) (file_at (D.contents disk.old) slot) result.1 (bytes_of result.0) }
     ensures done { is_done result.1 ≡ true → D.contents disk.new ≡ contents_after (call_of order) (bytes_of order) slot (D.contents disk.old) }
     ensures torn { Makes (call_of order) (bytes_of order) slot (D.contents disk.old) (D.contents disk.new) }
@@ -79,42 +79,44 @@ fn make<D: Disk>(disk: &mut D, slot: usize, order: Order) -> (Order, Answer)
 
 /// Makes the one device call of a request, and no other. It takes no memory, and gives the buffer back in the outcome.
 pub fn perform<D: Disk>(disk: &mut D, request: Request) -> Outcome
-    requires slot { request.note.slot < length (D.contents disk.old) }
-    requires inside { D.is_honest disk.old → IsInside request.note.call request.bytes (file_at (D.contents disk.old) request.note.slot) }
-    ensures note { result.note ≡ request.note }
-    ensures bytes { AreKept request.note.call request.bytes result.bytes }
-    ensures answer { is_done result.answer ≡ true → IsAnswerTo request.note.call result.answer }
-    ensures tells { D.is_honest disk.new → is_done result.answer ≡ true → Tells request.note.call (file_at (D.contents disk.old) request.note.slot) result.answer result.bytes }
-    ensures done { is_done result.answer ≡ true → D.contents disk.new ≡ contents_after request.note.call request.bytes request.note.slot (D.contents disk.old) }
-    ensures torn { Makes request.note.call request.bytes request.note.slot (D.contents disk.old) (D.contents disk.new) }
-    ensures crash { Follows (Makes request.note.call request.bytes request.note.slot) (D.may_leave disk.old) (D.may_leave disk.new) }
-    ensures durable { request.note.call ≡ Sync → is_done result.answer ≡ true → OnlyAt request.note.slot (file_at (D.contents disk.old) request.note.slot) (D.may_leave disk.new) }
+    requires slot { request.id.slot < length (D.contents disk.old) }
+    ensures id { result.request.id ≡ request.id }
+    ensures bytes { AreKept request.id.call request.bytes result.request.bytes }
+    ensures answer { is_done result.answer ≡ true → IsAnswerTo request.id.call result.answer }
+    // A read of bytes past the end fails, and so does a cut that would lengthen the file.
+    ensures inside { D.is_honest disk.new → is_done result.answer ≡ true
+        → IsInside request.id.call request.bytes (file_at (D.contents disk.old) request.id.slot) }
+    ensures tells { D.is_honest disk.new → is_done result.answer ≡ true → Tells request.id.call (file_at (D.contents disk.old) request.id.slot) result.answer result.request.bytes }
+    ensures done { is_done result.answer ≡ true → D.contents disk.new ≡ contents_after request.id.call request.bytes request.id.slot (D.contents disk.old) }
+    ensures torn { Makes request.id.call request.bytes request.id.slot (D.contents disk.old) (D.contents disk.new) }
+    ensures crash { Follows (Makes request.id.call request.bytes request.id.slot) (D.may_leave disk.old) (D.may_leave disk.new) }
+    ensures durable { request.id.call ≡ Sync → is_done result.answer ≡ true → OnlyAt request.id.slot (file_at (D.contents disk.old) request.id.slot) (D.may_leave disk.new) }
     ensures time { Elapses (D.moment disk.old) (D.moment disk.new) (D.left_since disk.old) (D.left_since disk.new) (D.may_leave disk.new) }
     ensures honest { D.is_honest disk.new → D.is_honest disk.old }
     // It is one call, and no other is made.
     ensures one_call { D.calls disk.new ≡ D.calls disk.old + 1 }
     ensures cause { HasCause (D.failed disk.old) (D.failed disk.new) result.answer }
     // A slot that waits for the call is afterwards in the phase that follows.
-    ensures fits { (phase : Phase) (body : List ℕ) → is_ready phase request.note.call ≡ true
-        → SlotFits phase body request.note.slot (D.contents disk.old) (D.may_leave disk.old)
-        → SlotFits (after phase request.note.call (is_done result.answer)) (body_after body request.note.call request.bytes) request.note.slot (D.contents disk.new) (D.may_leave disk.new) }
+    ensures fits { (phase : Phase) (body : List ℕ) → is_ready phase request.id.call ≡ true
+        → SlotFits phase body request.id.slot (D.contents disk.old) (D.may_leave disk.old)
+        → SlotFits (after phase request.id.call (is_done result.answer)) (body_after body request.id.call request.bytes) request.id.slot (D.contents disk.new) (D.may_leave disk.new) }
     // Every other slot is in the phase in which it was.
-    ensures elsewhere { (other : ℕ) (phase : Phase) (body : List ℕ) → other ≢ request.note.slot
+    ensures elsewhere { (other : ℕ) (phase : Phase) (body : List ℕ) → other ≢ request.id.slot
         → SlotFits phase body other (D.contents disk.old) (D.may_leave disk.old)
         → SlotFits phase body other (D.contents disk.new) (D.may_leave disk.new) }
     // A crash at any moment of the call leaves what one of the two phases leaves.
-    ensures any_moment { (phase : Phase) (body : List ℕ) → is_ready phase request.note.call ≡ true
-        → SlotFits phase body request.note.slot (D.contents disk.old) (D.may_leave disk.old)
-        → LeavesOnly D.moment D.left_since disk.old disk.new (λ c. Leaves phase body (file_at c request.note.slot)
-        ⊎ Leaves (after phase request.note.call (is_done result.answer)) (body_after body request.note.call request.bytes) (file_at c request.note.slot)) }
+    ensures any_moment { (phase : Phase) (body : List ℕ) → is_ready phase request.id.call ≡ true
+        → SlotFits phase body request.id.slot (D.contents disk.old) (D.may_leave disk.old)
+        → LeavesOnly D.Disk disk.old disk.new (λ c. Leaves phase body (file_at c request.id.slot)
+        ⊎ Leaves (after phase request.id.call (is_done result.answer)) (body_after body request.id.call request.bytes) (file_at c request.id.slot)) }
     // The same of all slots together.
-    ensures every_slot { (phases : List Phase) (bodies : List (List ℕ)) (phase : Phase) → Waits phases request.note phase
+    ensures every_slot { (phases : List Phase) (bodies : List (List ℕ)) (phase : Phase) → Waits phases request.id phase
         → DiskFits phases bodies (D.contents disk.old) (D.may_leave disk.old)
-        → DiskFits (phases_after phases request.note phase (is_done result.answer)) (bodies_after bodies request.note request.bytes) (D.contents disk.new) (D.may_leave disk.new) }
-    ensures every_moment { (phases : List Phase) (bodies : List (List ℕ)) (phase : Phase) → Waits phases request.note phase
+        → DiskFits (phases_after phases request.id phase (is_done result.answer)) (bodies_after bodies request.id request.bytes) (D.contents disk.new) (D.may_leave disk.new) }
+    ensures every_moment { (phases : List Phase) (bodies : List (List ℕ)) (phase : Phase) → Waits phases request.id phase
         → DiskFits phases bodies (D.contents disk.old) (D.may_leave disk.old)
-        → LeavesOnly D.moment D.left_since disk.old disk.new (λ c. DiskLeaves phases bodies c
-        ⊎ DiskLeaves (phases_after phases request.note phase (is_done result.answer)) (bodies_after bodies request.note request.bytes) c) }
+        → LeavesOnly D.Disk disk.old disk.new (λ c. DiskLeaves phases bodies c
+        ⊎ DiskLeaves (phases_after phases request.id phase (is_done result.answer)) (bodies_after bodies request.id request.bytes) c) }
 {
     let Request {
         worker,
@@ -123,11 +125,11 @@ pub fn perform<D: Disk>(disk: &mut D, request: Request) -> Outcome
         order,
     } = request;
     let (order, answer) = make(disk, slot, order);
-    Outcome {
+    let request = Request {
         worker,
         ticket,
         slot,
         order,
-        answer,
-    }
+    };
+    Outcome { request, answer }
 }

@@ -6,24 +6,17 @@ ghost use Rattle.sd_gate.specs.Inspections.{calls_of_stage, awaits_of, IsReadNex
 ghost use Rattle.std.specs.Option.{option_map};
 
 use crate::answer::Answer;
+use crate::inspection_stage::InspectionStage;
+use crate::layout::{GATE, HEADER_SIZE, PAGE_SIZE};
 use crate::order::Order;
-use crate::stage::Stage;
 use sd_image::decode_header;
 use std::alloc::{AllocError, Global};
-
-/// The gate byte of an open slot.
-const GATE: u8 = 0xA5;
-
-/// Where the header ends. A shorter file is closed.
-const HEADER_SIZE: usize = 4096;
-
-const PAGE_SIZE: usize = 4096;
 
 /// A sync, the length, the header of a file that has one, and the table of an open image.
 #[derive(Debug, Drop)]
 pub struct Inspection {
     pub alloc: Global,
-    pub stage: Stage,
+    pub stage: InspectionStage,
 }
 
 /// A buffer of zeros.
@@ -35,28 +28,28 @@ fn zeros(alloc: Global, len: usize) -> Result<Vec<u8>, AllocError>
 }
 
 /// What follows the length.
-fn after_length(answer: Answer) -> Stage
+fn after_length(answer: Answer) -> InspectionStage
     ensures { (calls_of_stage result, awaits_of result) ≡ after_length answer }
 {
     match answer {
-        Answer::Len(len) if len >= HEADER_SIZE => Stage::First { len },
-        _ => Stage::Done,
+        Answer::Len(len) if len >= HEADER_SIZE => InspectionStage::First { len },
+        _ => InspectionStage::Done,
     }
 }
 
 /// What follows the first bytes of a file of this length.
-fn after_first(bytes: &[u8], len: usize) -> Stage
+fn after_first(bytes: &[u8], len: usize) -> InspectionStage
     ensures { (calls_of_stage result, awaits_of result) ≡ after_first bytes.now len }
 {
     if bytes.len() != HEADER_SIZE || bytes[0] != GATE {
-        return Stage::Done;
+        return InspectionStage::Done;
     }
     match decode_header(bytes, len as u64) {
-        Ok(header) => Stage::Table {
+        Ok(header) => InspectionStage::Table {
             at: HEADER_SIZE + PAGE_SIZE * header.pages as usize,
             len: header.table_len as usize,
         },
-        Err(_) => Stage::Done,
+        Err(_) => InspectionStage::Done,
     }
 }
 
@@ -71,17 +64,22 @@ impl Inspection {
         ensures refused { IsErr result → (self.new.stage ≡ self.old.stage) × IsReadNext (calls_of_stage self.old.stage) }
     {
         let (order, next) = match self.stage {
-            Stage::Sync => (Order::Sync, Stage::Len),
-            Stage::Len => (Order::Len, Stage::AwaitLen),
-            Stage::First { len } => {
+            InspectionStage::Sync => (Order::Sync, InspectionStage::Len),
+            InspectionStage::Len => (Order::Len, InspectionStage::AwaitLen),
+            InspectionStage::First { len } => {
                 let buffer = zeros(self.alloc, HEADER_SIZE)?;
-                (Order::Read { at: 0, buffer }, Stage::AwaitFirst { len })
+                (
+                    Order::Read { at: 0, buffer },
+                    InspectionStage::AwaitFirst { len },
+                )
             }
-            Stage::Table { at, len } => {
+            InspectionStage::Table { at, len } => {
                 let buffer = zeros(self.alloc, len)?;
-                (Order::Read { at, buffer }, Stage::Done)
+                (Order::Read { at, buffer }, InspectionStage::Done)
             }
-            Stage::AwaitLen | Stage::AwaitFirst { .. } | Stage::Done => return Ok(None),
+            InspectionStage::AwaitLen
+            | InspectionStage::AwaitFirst { .. }
+            | InspectionStage::Done => return Ok(None),
         };
         self.stage = next;
         Ok(Some(order))
@@ -92,14 +90,18 @@ impl Inspection {
         ensures { (calls_of_stage self.new.stage, awaits_of self.new.stage) ≡ calls_then (calls_of_stage self.old.stage) (awaits_of self.old.stage) answer (option_map (λ b. b.items) buffer.now) }
     {
         match self.stage {
-            Stage::AwaitLen => self.stage = after_length(answer),
-            Stage::AwaitFirst { len } => {
+            InspectionStage::AwaitLen => self.stage = after_length(answer),
+            InspectionStage::AwaitFirst { len } => {
                 self.stage = match buffer {
                     Some(bytes) => after_first(bytes, len),
-                    None => Stage::Done,
+                    None => InspectionStage::Done,
                 };
             }
-            Stage::Sync | Stage::Len | Stage::First { .. } | Stage::Table { .. } | Stage::Done => {}
+            InspectionStage::Sync
+            | InspectionStage::Len
+            | InspectionStage::First { .. }
+            | InspectionStage::Table { .. }
+            | InspectionStage::Done => {}
         }
     }
 
@@ -109,7 +111,7 @@ impl Inspection {
     {
         matches!(
             self.stage,
-            Stage::AwaitLen | Stage::AwaitFirst { .. } | Stage::Done
+            InspectionStage::AwaitLen | InspectionStage::AwaitFirst { .. } | InspectionStage::Done
         )
     }
 }

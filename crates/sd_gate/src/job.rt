@@ -6,15 +6,15 @@ ghost use Rattle.sd_gate.specs.Inspections.{IsReadNext, calls_then};
 ghost use Rattle.sd_gate.specs.Plans.{calls_of, awaited_by, IsSoundJob};
 
 use crate::answer::Answer;
+use crate::call_sequence::CallSequence;
 use crate::inspection::Inspection;
 use crate::order::Order;
-use crate::steps::Steps;
 use std::alloc::AllocError;
 use std::mem;
 
 #[derive(Debug, Drop)]
 pub enum Job {
-    Steps(Steps),
+    Sequence(CallSequence),
     Inspection(Inspection),
 }
 
@@ -31,11 +31,11 @@ impl Job {
         ensures refused { IsErr result → (calls_of self.new ≡ calls_of self.old) × IsReadNext (calls_of self.old) }
     {
         match self {
-            Job::Steps(steps) => {
-                let Some((order, left)) = mem::replace(steps, Steps::Done).split() else {
+            Job::Sequence(sequence) => {
+                let Some((order, left)) = mem::replace(sequence, CallSequence::Done).split() else {
                     return Ok(None);
                 };
-                *steps = left;
+                *sequence = left;
                 Ok(Some(order))
             }
             Job::Inspection(inspection) => inspection.take(),
@@ -57,7 +57,7 @@ impl Job {
         ensures { IsTrue result ↔ calls_of self.now ≡ [] }
     {
         match self {
-            Job::Steps(steps) => steps.are_done(),
+            Job::Sequence(sequence) => sequence.is_done(),
             Job::Inspection(inspection) => inspection.is_done(),
         }
     }

@@ -3,22 +3,22 @@
 
 mod answer;
 mod call;
+mod call_sequence;
 mod device_call;
 mod found;
 mod inspection;
+mod inspection_stage;
 mod job;
 mod laws;
-mod note;
+mod layout;
 mod order;
 mod outcome;
 mod phase;
 mod plan;
-mod refusal;
 mod request;
+mod request_id;
 mod settled;
 mod slot_state;
-mod stage;
-mod steps;
 mod worker;
 
 pub use answer::Answer;
@@ -29,12 +29,11 @@ pub use laws::{
     bodies_fill, cuts_fit, found_fits, given_up_fits, image_whole_or_closed, inspection_tells,
     plans_lead,
 };
-pub use note::Note;
 pub use outcome::Outcome;
 pub use phase::Phase;
 pub use plan::Plan;
-pub use refusal::Refusal;
 pub use request::Request;
+pub use request_id::RequestId;
 pub use settled::Settled;
 pub use slot_state::SlotState;
 pub use worker::Worker;

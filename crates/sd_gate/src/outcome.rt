@@ -2,47 +2,32 @@
 ghost use Rattle.std.specs.Prelude.{◌≡◌};
 
 use crate::answer::Answer;
-use crate::note::Note;
-use crate::order::Order;
-use crate::request::call_of;
-use crate::worker::Worker;
+use crate::request::Request;
+use crate::request_id::RequestId;
 use std::marker::Model;
 
-/// One device call that was made, how it ended, and the bytes that it wrote or the buffer that it filled.
-/// `perform` alone makes one.
+/// The request of a device call that was made, with the bytes that it wrote or the buffer that it filled, and how the
+/// call ended. `perform` alone makes one.
 #[derive(Debug, Drop)]
 pub struct Outcome {
-    pub(crate) worker: Worker,
-    pub(crate) ticket: u64,
-    pub(crate) slot: usize,
-    pub(crate) order: Order,
+    pub(crate) request: Request,
     pub(crate) answer: Answer,
 }
 
 impl Model for Outcome {
     ghost use Rattle.sd_gate.specs.Requests.{Made};
-    ghost use Rattle.sd_gate.specs.Calls.{call_of, bytes_of};
 
     ghost Value = { Made };
 
-    ghost view = { λ o. record {
-      note = record { worker = o.worker; ticket = o.ticket; slot = o.slot; call = call_of o.order };
-      bytes = bytes_of o.order;
-      answer = o.answer;
-    } };
+    ghost view = { λ o. record { request = o.request; answer = o.answer } };
 }
 
 impl Outcome {
-    /// The note of its request.
-    pub fn note(&self) -> Note
-        ensures { result ≡ self.now.note }
+    /// What tells its request from every other.
+    pub fn id(&self) -> RequestId
+        ensures { result ≡ self.now.request.id }
     {
-        Note {
-            worker: self.worker,
-            ticket: self.ticket,
-            slot: self.slot,
-            call: call_of(&self.order),
-        }
+        self.request.id()
     }
 
     /// How the call ended.

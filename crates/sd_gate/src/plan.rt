@@ -1,42 +1,34 @@
 //! Plans of device calls.
-ghost use Rattle.std.specs.Prelude.{◌≡◌, ◌≢◌, ◌⊎◌, ◌↔◌, ◌≤◌, [], ◌∷◌, true, None, Some, IsTrue, IsSome, IsErr, IfOk, MatchOption};
+ghost use Rattle.std.specs.Prelude.{◌≡◌, ◌≢◌, ◌⊎◌, ◌↔◌, ◌≤◌, ◌^◌, [], ◌∷◌, true, None, Some, IsTrue, IsSome, IsErr, IfOk, MatchOption};
 ghost use Rattle.sd_gate.specs.declared.call.Call.TheVariants.{Read, Write};
 ghost use Rattle.sd_gate.specs.Calls.{is_done};
-ghost use Rattle.sd_gate.specs.Steps.{format_calls, closing_calls, body_calls, data_place, first_looks, IsPage, IsBody};
+ghost use Rattle.sd_gate.specs.Sequences.{format_calls, closing_calls, body_calls, data_place, first_looks, IsPage, IsBody};
 ghost use Rattle.sd_gate.specs.Inspections.{nothing, the_length, IsReadNext};
 ghost use Rattle.sd_gate.specs.Plans.{calls_of, awaited_by, IsSoundJob, found_of, begun, Gives, calls_after, settled, plan_after};
 
+use crate::call_sequence::CallSequence;
 use crate::found::Found;
 use crate::inspection::Inspection;
+use crate::inspection_stage::InspectionStage;
 use crate::job::Job;
-use crate::note::Note;
+use crate::layout::{HEADER_SIZE, PAGE_LIMIT, PAGE_SIZE};
 use crate::outcome::Outcome;
-use crate::refusal::Refusal;
 use crate::request::Request;
+use crate::request_id::RequestId;
 use crate::settled::Settled;
 use crate::slot_state::SlotState;
-use crate::stage::Stage;
-use crate::steps::Steps;
 use crate::worker::Worker;
 use sd_image::Header;
-use std::alloc::Global;
+use std::alloc::{AllocError, Global};
 use std::marker::Model;
 use std::mem;
-
-/// Where the data pages begin.
-const HEADER_SIZE: usize = 4096;
-
-const PAGE_SIZE: usize = 4096;
-
-/// How many data pages an image has at most.
-const PAGE_LIMIT: usize = 65_536;
 
 /// Device calls on one slot, one after the other: each is asked for when the one before is done.
 #[derive(Debug, Drop)]
 pub struct Plan {
     slot: usize,
     job: Job,
-    out: Option<Note>,
+    out: Option<RequestId>,
     found: Found,
 }
 
@@ -57,10 +49,10 @@ impl Model for Plan {
 }
 
 /// Whether this is the request that is out.
-fn is_out(out: &Option<Note>, note: Note) -> bool
-    ensures { IsTrue result ↔ out.now ≡ Some note }
+fn is_out(out: &Option<RequestId>, id: RequestId) -> bool
+    ensures { IsTrue result ↔ out.now ≡ Some id }
 {
-    *out == Some(note)
+    *out == Some(id)
 }
 
 /// Whether this is the place of a data page and a page's bytes.
@@ -79,7 +71,7 @@ fn is_body(header: &Header, table: &[u8]) -> bool
 
 /// Where a data page begins.
 fn data_place(place: usize) -> usize
-    requires { place ≤ 65536 }
+    requires { place ≤ 2 ^ 39 }
     ensures { result ≡ data_place place }
 {
     HEADER_SIZE + PAGE_SIZE * place
@@ -114,22 +106,25 @@ impl Plan {
         ensures { result ≡ begun slot (format_calls state) nothing }
     {
         match state {
-            SlotState::Raw | SlotState::Open => Plan::new(slot, Job::Steps(Steps::Close)),
-            SlotState::Closed | SlotState::Writing => Plan::new(slot, Job::Steps(Steps::Cut)),
+            SlotState::Raw | SlotState::Open => Plan::new(slot, Job::Sequence(CallSequence::Close)),
+            SlotState::Closed | SlotState::Writing => Plan::new(
+                slot,
+                Job::Sequence(CallSequence::Cut),
+            ),
         }
     }
 
-    /// Writes the data page with this number: a slot's data pages are counted from 0, up to 65,535. A number beyond
-    /// these and a buffer of other than 4,096 bytes are no page: the plan has no call then.
+    /// Writes the data page with this number: a slot's data pages are counted from 0, and their numbers are below 2^39.
+    /// A number beyond these and a buffer of other than 4,096 bytes are no page: the plan has no call then.
     pub fn write_page(slot: usize, place: usize, buffer: Vec<u8>) -> Self
         ensures page { IsPage place buffer.items → result ≡ begun slot ((Write (data_place place), buffer.items) ∷ []) nothing }
         ensures other { (IsPage place buffer.items → ⊥) → result ≡ begun slot [] nothing }
     {
         if !is_page(place, &buffer) {
-            return Plan::new(slot, Job::Steps(Steps::Done));
+            return Plan::new(slot, Job::Sequence(CallSequence::Done));
         }
         let at = data_place(place);
-        Plan::new(slot, Job::Steps(Steps::WritePage { at, buffer }))
+        Plan::new(slot, Job::Sequence(CallSequence::WritePage { at, buffer }))
     }
 
     /// Reads the data page with this number into the buffer. What is no page has no call, as in `write_page`.
@@ -138,31 +133,34 @@ impl Plan {
         ensures other { (IsPage place buffer.items → ⊥) → result ≡ begun slot [] nothing }
     {
         if !is_page(place, &buffer) {
-            return Plan::new(slot, Job::Steps(Steps::Done));
+            return Plan::new(slot, Job::Sequence(CallSequence::Done));
         }
         let at = data_place(place);
-        Plan::new(slot, Job::Steps(Steps::ReadPage { at, buffer }))
+        Plan::new(slot, Job::Sequence(CallSequence::ReadPage { at, buffer }))
     }
 
     /// Writes the table behind the data pages and the header before them, syncs them, and opens the gate.
-    /// The image is there once the last sync is done. A table without bytes and a header that counts more than 65,536
-    /// data pages are of no image: the plan has no call then.
+    /// The image is there once the last sync is done. A table without bytes and a header that counts more than
+    /// 2^39 data pages are of no image: the plan has no call then.
     pub fn close_body(slot: usize, header: Header, table: Vec<u8>) -> Self
         ensures body { IsBody header table.items → result ≡ begun slot (body_calls header table.items) nothing }
         ensures other { (IsBody header table.items → ⊥) → result ≡ begun slot [] nothing }
     {
         if !is_body(&header, &table) {
-            return Plan::new(slot, Job::Steps(Steps::Done));
+            return Plan::new(slot, Job::Sequence(CallSequence::Done));
         }
         let at = data_place(header.pages as usize);
-        Plan::new(slot, Job::Steps(Steps::Table { at, table, header }))
+        Plan::new(
+            slot,
+            Job::Sequence(CallSequence::Table { at, table, header }),
+        )
     }
 
     /// Closes an image that nobody needs, and makes its slot one closed byte.
     pub fn retire(slot: usize) -> Self
         ensures { result ≡ begun slot closing_calls nothing }
     {
-        Plan::new(slot, Job::Steps(Steps::Close))
+        Plan::new(slot, Job::Sequence(CallSequence::Close))
     }
 
     /// Syncs a slot and looks at it: its length, the header of a file that has one, and the table of an open image.
@@ -173,7 +171,7 @@ impl Plan {
             slot,
             Job::Inspection(Inspection {
                 alloc,
-                stage: Stage::Sync,
+                stage: InspectionStage::Sync,
             }),
         )
     }
@@ -183,11 +181,11 @@ impl Plan {
     ///
     /// # Errors
     ///
-    /// `OutOfMemory` where an inspection finds no memory for a buffer: nothing changed.
-    pub fn take(&mut self, worker: Worker, ticket: u64) -> Result<Option<Request>, Refusal>
+    /// `AllocError` where an inspection finds no memory for a buffer: nothing changed.
+    pub fn take(&mut self, worker: Worker, ticket: u64) -> Result<Option<Request>, AllocError>
         ensures given { IfOk result (λ given. MatchOption given
             ((self.new ≡ self.old) × (IsSome self.old.out ⊎ (self.old.calls ≡ [])))
-            (λ request. Gives self.old self.new request × (request.note.worker ≡ worker) × (request.note.ticket ≡ ticket))) }
+            (λ request. Gives self.old self.new request × (request.id.worker ≡ worker) × (request.id.ticket ≡ ticket))) }
         ensures refused { IsErr result → (self.new ≡ self.old) × IsReadNext self.old.calls }
     {
         if self.out.is_some() {
@@ -202,28 +200,28 @@ impl Plan {
             slot: self.slot,
             order,
         };
-        self.out = Some(request.note());
+        self.out = Some(request.id());
         Ok(Some(request))
     }
 
     /// Takes the outcome of the request that is out. One of any other request is strange, and changes nothing.
     /// After one that failed no call is left.
     pub fn settle(&mut self, outcome: Outcome) -> Settled
-        ensures strange { self.old.out ≢ Some outcome.note → (self.new ≡ self.old) × (result ≡ Settled.Strange) }
-        ensures settled { self.old.out ≡ Some outcome.note → (self.new ≡ plan_after self.old outcome)
+        ensures strange { self.old.out ≢ Some outcome.request.id → (self.new ≡ self.old) × (result ≡ Settled.Strange) }
+        ensures settled { self.old.out ≡ Some outcome.request.id → (self.new ≡ plan_after self.old outcome)
             × (result ≡ settled (is_done outcome.answer) (calls_after self.old outcome).0) }
     {
-        if !is_out(&self.out, outcome.note()) {
+        if !is_out(&self.out, outcome.id()) {
             return Settled::Strange;
         }
-        let Outcome { order, answer, .. } = outcome;
+        let Outcome { request, answer } = outcome;
         self.out = None;
-        let buffer = order.into_buffer();
+        let buffer = request.into_buffer();
         let ended = if answer.is_done() {
             self.job.resume(answer, &buffer);
             settled(&self.job)
         } else {
-            self.job = Job::Steps(Steps::Done);
+            self.job = Job::Sequence(CallSequence::Done);
             Settled::Failed
         };
         self.found = mem::replace(&mut self.found, Found::new()).with(answer, buffer);

@@ -1,10 +1,11 @@
 //! One device call that is asked for.
 ghost use Rattle.std.specs.Prelude.{◌≡◌};
-ghost use Rattle.sd_gate.specs.Calls.{call_of};
+ghost use Rattle.std.specs.Option.{option_map};
+ghost use Rattle.sd_gate.specs.Calls.{call_of, buffer_back};
 
 use crate::call::Call;
-use crate::note::Note;
 use crate::order::Order;
+use crate::request_id::RequestId;
 use crate::worker::Worker;
 use std::marker::Model;
 
@@ -25,7 +26,7 @@ impl Model for Request {
     ghost Value = { Asked };
 
     ghost view = { λ r. record {
-      note = record { worker = r.worker; ticket = r.ticket; slot = r.slot; call = call_of r.order };
+      id = record { worker = r.worker; ticket = r.ticket; slot = r.slot; call = call_of r.order };
       bytes = bytes_of r.order;
     } };
 
@@ -49,11 +50,19 @@ pub(crate) fn call_of(order: &Order) -> Call
 }
 
 impl Request {
-    /// What tells it from every other request.
-    pub fn note(&self) -> Note
-        ensures { result ≡ self.now.note }
+    /// The buffer that it wrote or filled.
+    pub(crate) fn into_buffer(self) -> Option<Vec<u8>>
+        ensures { option_map (λ b. b.items) result ≡ buffer_back self.id.call self.bytes }
     {
-        Note {
+        let Request { order, .. } = self;
+        order.into_buffer()
+    }
+
+    /// What tells it from every other request.
+    pub fn id(&self) -> RequestId
+        ensures { result ≡ self.now.id }
+    {
+        RequestId {
             worker: self.worker,
             ticket: self.ticket,
             slot: self.slot,

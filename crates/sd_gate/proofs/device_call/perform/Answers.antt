@@ -16,8 +16,8 @@ returns-clause-fits g c = λ phase body ready fits.
     let now = g.D.Disk.may_leave c.make-order.new.disk in
     let done = is_done c.make-order.result.1 in
     let made = c.make-order.ensures in
-    follows c.args.request.note.slot c.args.request.bytes old new before now c.args.request.note.call done phase body
-    (subst (λ (r : Asked). IsMade r.note.slot r.note.call r.bytes done old new before now) c.request.view_is
+    follows c.args.request.id.slot c.args.request.bytes old new before now c.args.request.id.call done phase body
+    (subst (λ (r : Asked). IsMade r.id.slot r.id.call r.bytes done old new before now) c.request.view_is
     (record {
       there = rw (← c.request.view_is) at c.requires.slot;
       behind = behind_gate c.request.inside.order c.request.invariant;
@@ -35,24 +35,24 @@ returns-clause-elsewhere g c =
     let before = g.D.Disk.may_leave c.args.disk.now in
     let now = g.D.Disk.may_leave c.make-order.new.disk in
     let made = c.make-order.ensures in
-    subst (λ (r : Asked). (other : ℕ) (phase : Phase) (body : List ℕ) → other ≢ r.note.slot → SlotFits phase body other old before → SlotFits phase body other new now) c.request.view_is
+    subst (λ (r : Asked). (other : ℕ) (phase : Phase) (body : List ℕ) → other ≢ r.id.slot → SlotFits phase body other old before → SlotFits phase body other new now) c.request.view_is
     (kept_elsewhere (call_of c.request.inside.order) (bytes_of c.request.inside.order) c.request.inside.slot old new before now made.torn made.crash)
 
 pub returns-clause-every_slot : goal.returns-clause-every_slot
 returns-clause-every_slot g c = λ phases bodies phase waits fits. each_slot phases bodies
     (g.D.Disk.contents c.args.disk.now) (g.D.Disk.contents c.make-order.new.disk) (g.D.Disk.may_leave c.args.disk.now) (g.D.Disk.may_leave c.make-order.new.disk)
-    c.args.request.note.slot phase _ _ fits waits.is
-    (λ here. returns-clause-fits g c phase (file_at bodies c.args.request.note.slot) waits.ready here)
+    c.args.request.id.slot phase _ _ fits waits.is
+    (λ here. returns-clause-fits g c phase (file_at bodies c.args.request.id.slot) waits.ready here)
     (returns-clause-elsewhere g c)
 
 pub returns-clause-any_moment : goal.returns-clause-any_moment
-returns-clause-any_moment g c = λ phase body ready fits. within_call g.D.Disk.moment g.D.Disk.left_since c.args.disk.now c.make-order.new.disk
+returns-clause-any_moment g c = λ phase body ready fits. within_call g.D.Disk c.args.disk.now c.make-order.new.disk
     _ _ (g.D.Disk.may_leave c.args.disk.now) (g.D.Disk.may_leave c.make-order.new.disk)
     (λ left_c left. g.met.D.Disk.only_now c.args.disk.now left_c left) c.make-order.ensures.time fits.leaves
     ((returns-clause-fits g c phase body ready fits).leaves)
 
 pub returns-clause-every_moment : goal.returns-clause-every_moment
-returns-clause-every_moment g c = λ phases bodies phase waits fits. within_call g.D.Disk.moment g.D.Disk.left_since c.args.disk.now c.make-order.new.disk
+returns-clause-every_moment g c = λ phases bodies phase waits fits. within_call g.D.Disk c.args.disk.now c.make-order.new.disk
     _ _ (g.D.Disk.may_leave c.args.disk.now) (g.D.Disk.may_leave c.make-order.new.disk)
     (λ left_c left. g.met.D.Disk.only_now c.args.disk.now left_c left) c.make-order.ensures.time
     (each_left phases bodies (g.D.Disk.contents c.args.disk.now) (g.D.Disk.may_leave c.args.disk.now) fits)

@@ -11,18 +11,18 @@ use Rattle.sd_disk.proofs.mem_disk.MemDiskDisk.cut.Goals as goal
 pub invariant_of-self-2 : goal.invariant_of-self-2
 invariant_of-self-2 c = record {
   replayed = replayed_after c.args.self.now.slots.items _ _ _ _ _ _ c.spend.ensures.outside c.in_ok-spend.ensures.noted c.args.self.now.replayed
-      (λ left. sym (slot_changed _ _ c.index_mut.result.now _ c.requires.slot c.index_mut.ensures.value (take c.args.len) c.cut.ensures.cut));
-  tracked = cut_tracked _ _ c.index_mut.result.now _ c.requires.slot c.index_mut.ensures.value _ _ _ _ c.args.len
+      (λ left. sym (slot_changed _ _ c.index_mut-file.result.now _ c.requires.slot c.index_mut-file.ensures.value (take c.args.len) c.cut.ensures.cut));
+  tracked = cut_tracked _ _ c.index_mut-file.result.now _ c.requires.slot c.index_mut-file.ensures.value _ _ _ _ c.args.len
       c.spend.ensures.outside c.in_ok-spend.ensures.noted c.args.self.now.replayed (c.cut.ensures.tracks _) c.args.self.now.tracked;
 }
 
 pub returns-clause-cut : goal.returns-clause-cut
-returns-clause-cut c = slot_changed _ _ c.index_mut.result.now _ c.requires.slot c.index_mut.ensures.value (take c.args.len) c.cut.ensures.cut
+returns-clause-cut c = slot_changed _ _ c.index_mut-file.result.now _ c.requires.slot c.index_mut-file.ensures.value (take c.args.len) c.cut.ensures.cut
 
 pub returns-clause-torn : goal.returns-clause-torn
 returns-clause-torn c =
-    let old = held c.index_mut.result.now in
-    slot_stepped _ _ c.index_mut.result.now c.cut.new.self c.requires.slot c.index_mut.ensures.value (Cut c.args.len)
+    let old = held c.index_mut-file.result.now in
+    slot_stepped _ _ c.index_mut-file.result.now c.cut.new.self c.requires.slot c.index_mut-file.ensures.value (Cut c.args.len)
     (subst (Cut c.args.len old) (sym c.cut.ensures.cut) (cut_taken old c.args.len))
 
 pub returns-clause-crash : goal.returns-clause-crash
@@ -36,6 +36,6 @@ pub returns-clause-done : goal.returns-clause-done
 returns-clause-done c = record {
   calls = c.in_ok-spend.ensures.spent;
   failures = ap failures_in c.in_ok-spend.ensures.noted;
-  rooms = rooms_kept _ _ c.index_mut.result.now _ c.requires.slot c.index_mut.ensures.value c.cut.ensures.room;
+  rooms = rooms_kept _ _ c.index_mut-file.result.now _ c.requires.slot c.index_mut-file.ensures.value c.cut.ensures.room;
   reads = refl;
 }

@@ -1,14 +1,14 @@
 //! Plans whose calls are known from the start.
 ghost use Rattle.std.specs.Prelude.{◌≡◌, ◌↔◌, [], ◌∷◌, IsTrue, MatchOption};
 ghost use Rattle.sd_gate.specs.Calls.{call_of, bytes_of, IsSound};
-ghost use Rattle.sd_gate.specs.Steps.{calls_of_steps, AreSound};
+ghost use Rattle.sd_gate.specs.Sequences.{calls_of_sequence, AreSound};
 
 use crate::order::Order;
 use sd_image::Header;
 
 /// The calls that are left, by the next of them.
 #[derive(Debug, Drop)]
-pub enum Steps {
+pub enum CallSequence {
     /// The gate is closed: a 0 over it, a sync, and the cut.
     Close,
     SyncClosed,
@@ -39,35 +39,35 @@ pub enum Steps {
     Done,
 }
 
-impl Steps {
+impl CallSequence {
     /// The next call, and what is left after it.
-    pub fn split(self) -> Option<(Order, Steps)>
+    pub fn split(self) -> Option<(Order, Self)>
         requires { AreSound self }
-        ensures next { MatchOption result (calls_of_steps self ≡ []) (λ s. calls_of_steps self ≡ (call_of s.0, bytes_of s.0) ∷ calls_of_steps s.1) }
+        ensures next { MatchOption result (calls_of_sequence self ≡ []) (λ s. calls_of_sequence self ≡ (call_of s.0, bytes_of s.0) ∷ calls_of_sequence s.1) }
         ensures sound { MatchOption result (Unit {0}) (λ s. IsSound s.0 × AreSound s.1) }
     {
         match self {
-            Steps::Close => Some((Order::Close, Steps::SyncClosed)),
-            Steps::SyncClosed => Some((Order::Sync, Steps::Cut)),
-            Steps::Cut => Some((Order::Cut, Steps::Done)),
-            Steps::ReadPage { at, buffer } => Some((Order::Read { at, buffer }, Steps::Done)),
-            Steps::WritePage { at, buffer } => Some((Order::Write { at, buffer }, Steps::Done)),
-            Steps::Table { at, table, header } => Some((
+            Self::Close => Some((Order::Close, Self::SyncClosed)),
+            Self::SyncClosed => Some((Order::Sync, Self::Cut)),
+            Self::Cut => Some((Order::Cut, Self::Done)),
+            Self::ReadPage { at, buffer } => Some((Order::Read { at, buffer }, Self::Done)),
+            Self::WritePage { at, buffer } => Some((Order::Write { at, buffer }, Self::Done)),
+            Self::Table { at, table, header } => Some((
                 Order::Write { at, buffer: table },
-                Steps::Header { header },
+                Self::Header { header },
             )),
-            Steps::Header { header } => Some((Order::WriteHeader { header }, Steps::SyncBody)),
-            Steps::SyncBody => Some((Order::Sync, Steps::Open)),
-            Steps::Open => Some((Order::Open, Steps::SyncOpen)),
-            Steps::SyncOpen => Some((Order::Sync, Steps::Done)),
-            Steps::Done => None,
+            Self::Header { header } => Some((Order::WriteHeader { header }, Self::SyncBody)),
+            Self::SyncBody => Some((Order::Sync, Self::Open)),
+            Self::Open => Some((Order::Open, Self::SyncOpen)),
+            Self::SyncOpen => Some((Order::Sync, Self::Done)),
+            Self::Done => None,
         }
     }
 
     /// Whether no call is left.
-    pub fn are_done(&self) -> bool
-        ensures { IsTrue result ↔ calls_of_steps self.now ≡ [] }
+    pub fn is_done(&self) -> bool
+        ensures { IsTrue result ↔ calls_of_sequence self.now ≡ [] }
     {
-        matches!(self, Steps::Done)
+        matches!(self, Self::Done)
     }
 }

@@ -3,7 +3,7 @@ use crate::worker::Worker;
 
 /// What tells one request from every other.
 #[derive(Clone, Copy, Debug, PartialEq, Eq, Hash)]
-pub struct Note {
+pub struct RequestId {
     pub worker: Worker,
     /// The number that the worker gave it.
     pub ticket: u64,

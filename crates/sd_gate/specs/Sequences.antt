@@ -1,13 +1,13 @@
 -- The calls of each plan, in order.
-use Rattle.std.specs.Prelude.{◌≡◌, ℕ, ◌+◌, ◌*◌, ◌<◌, ◌≤◌, List, [], ◌∷◌, length}
+use Rattle.std.specs.Prelude.{◌≡◌, ℕ, ◌+◌, ◌*◌, ◌<◌, ◌≤◌, ◌^◌, List, [], ◌∷◌, length}
 use Rattle.sd_image.specs.declared.header.Header.{Header}
 use Rattle.sd_image.specs.Header.{header_text}
 use Rattle.sd_gate.specs.declared.call.Call.{Call}
 use Rattle.sd_gate.specs.declared.call.Call.TheVariants.{Len, Read, Write, WriteHeader, Close, Open, Cut, Sync}
 use Rattle.sd_gate.specs.declared.slot_state.SlotState.{SlotState}
 use Rattle.sd_gate.specs.declared.slot_state.SlotState.TheVariants.{Raw, Closed, Open as OpenSlot, Writing}
-use Rattle.sd_gate.specs.declared.steps.Steps.{Steps}
-use Rattle.sd_gate.specs.declared.steps.Steps.TheVariants.{Close as CloseStep, SyncClosed, Cut as CutStep, ReadPage, WritePage, Table, Header as HeaderStep, SyncBody, Open as OpenStep, SyncOpen, Done}
+use Rattle.sd_gate.specs.declared.call_sequence.CallSequence.{CallSequence}
+use Rattle.sd_gate.specs.declared.call_sequence.CallSequence.TheVariants.{Close as CloseStep, SyncClosed, Cut as CutStep, ReadPage, WritePage, Table, Header as HeaderStep, SyncBody, Open as OpenStep, SyncOpen, Done}
 
 -- calls with the bytes that they write or fill
 abbrev pub Calls : Type 0
@@ -34,7 +34,7 @@ data_place place = 4096 + 4096 * place
 
 -- the number and the bytes of a data page
 pub record IsPage (place : ℕ) (bytes : List ℕ) : Type 0 where
-  pub few : place < 65536
+  pub few : place < 2 ^ 39
   pub whole : length bytes ≡ 4096
 
 -- where the table goes: behind the data pages
@@ -43,7 +43,7 @@ table_place header = data_place header.pages
 
 -- a header and a table that an image may have
 pub record IsBody (header : Header) (table : List ℕ) : Type 0 where
-  pub few : header.pages ≤ 65536
+  pub few : header.pages ≤ 2 ^ 39
   pub some : 0 < length table
 
 -- the body is on the device before the gate is opened, and the open gate before the plan ends
@@ -56,21 +56,21 @@ abbrev pub first_looks : Calls
 first_looks = (Sync, []) ∷ (Len, []) ∷ []
 
 -- the calls that are left
-abbrev pub calls_of_steps : Steps → Calls
-calls_of_steps CloseStep = (Close, []) ∷ (Sync, []) ∷ (Cut, []) ∷ []
-calls_of_steps SyncClosed = (Sync, []) ∷ (Cut, []) ∷ []
-calls_of_steps CutStep = (Cut, []) ∷ []
-calls_of_steps (ReadPage at buffer) = (Read at, buffer.items) ∷ []
-calls_of_steps (WritePage at buffer) = (Write at, buffer.items) ∷ []
-calls_of_steps (Table at table header) = (Write at, table.items) ∷ (WriteHeader, header_text header) ∷ (Sync, []) ∷ (Open, []) ∷ (Sync, []) ∷ []
-calls_of_steps (HeaderStep header) = (WriteHeader, header_text header) ∷ (Sync, []) ∷ (Open, []) ∷ (Sync, []) ∷ []
-calls_of_steps SyncBody = (Sync, []) ∷ (Open, []) ∷ (Sync, []) ∷ []
-calls_of_steps OpenStep = (Open, []) ∷ (Sync, []) ∷ []
-calls_of_steps SyncOpen = (Sync, []) ∷ []
-calls_of_steps Done = []
+abbrev pub calls_of_sequence : CallSequence → Calls
+calls_of_sequence CloseStep = (Close, []) ∷ (Sync, []) ∷ (Cut, []) ∷ []
+calls_of_sequence SyncClosed = (Sync, []) ∷ (Cut, []) ∷ []
+calls_of_sequence CutStep = (Cut, []) ∷ []
+calls_of_sequence (ReadPage at buffer) = (Read at, buffer.items) ∷ []
+calls_of_sequence (WritePage at buffer) = (Write at, buffer.items) ∷ []
+calls_of_sequence (Table at table header) = (Write at, table.items) ∷ (WriteHeader, header_text header) ∷ (Sync, []) ∷ (Open, []) ∷ (Sync, []) ∷ []
+calls_of_sequence (HeaderStep header) = (WriteHeader, header_text header) ∷ (Sync, []) ∷ (Open, []) ∷ (Sync, []) ∷ []
+calls_of_sequence SyncBody = (Sync, []) ∷ (Open, []) ∷ (Sync, []) ∷ []
+calls_of_sequence OpenStep = (Open, []) ∷ (Sync, []) ∷ []
+calls_of_sequence SyncOpen = (Sync, []) ∷ []
+calls_of_sequence Done = []
 
 -- a buffer that is to be written has bytes, and goes behind the gate
-abbrev pub AreSound : Steps → Type 0
+abbrev pub AreSound : CallSequence → Type 0
 AreSound CloseStep = Unit {0}
 AreSound SyncClosed = Unit {0}
 AreSound CutStep = Unit {0}

@@ -1,6 +1,6 @@
 /// How far the inspection of a slot has come.
 #[derive(Clone, Copy, Debug, PartialEq, Eq)]
-pub enum Stage {
+pub enum InspectionStage {
     /// The sync is next.
     Sync,
     /// The question for the length is next.
