@@ -19,6 +19,3 @@ pub use laws::{closed_slot, empty_catalog, open_slot};
 pub use placed::PlacedTable;
 pub use trace::Trace;
 pub use way::Way;
-
-#[cfg(test)]
-mod tests;

@@ -1,9 +1,9 @@
 -- A whole file: an image is read as itself, and what is read is an image.
-use Rattle.std.proofs.Common.{◌≡◌, ◌⊎◌, ◌<◌, ◌≤◌, ◌+◌, ◌*◌, ℕ, zero, suc, true, false, nat_eq, List, [], ◌∷◌, ◌++◌, take, drop, length, slice_index_or, Contains, Result, Ok, Err, refl, sym, ◌∙◌, ap, subst, arith, inl, inr, append_assoc}
+use Rattle.std.proofs.Common.{◌≡◌, ◌⊎◌, ◌<◌, ◌≤◌, ◌+◌, ◌*◌, ◌&&◌, ℕ, zero, suc, true, false, nat_eq, List, [], ◌∷◌, ◌++◌, take, drop, length, slice_index_or, Contains, Result, Ok, Err, refl, sym, ◌∙◌, ap, subst, arith, inl, inr, append_assoc}
 use Rattle.std.specs.Prelude.{All, slice_range, slice_index, nat_le}
 use Rattle.std.specs.List.{concat, AllByRecursion}
 use Rattle.std.proofs.Math.Seq.{take-add}
-use Rattle.std.proofs.lemmas.Bool.{and_parts, eqb-true, leb-true}
+use Rattle.std.proofs.lemmas.Bool.{and_parts, eqb-true, leb-true, le-leb}
 use Rattle.std.proofs.lemmas.List.{length-append, take-append-drop, length-take-le, length-drop, drop-drop, take_at, drop_at, get_or_past}
 use Rattle.std.proofs.lemmas.Bool.{cases_lt}
 use Rattle.sd_image.specs.declared.header.Header.{Header}
@@ -12,7 +12,7 @@ use Rattle.sd_image.specs.Header.{header_text, IsHeader}
 use Rattle.sd_image.specs.Table.{Listed, table_text, IsTable}
 use Rattle.sd_image.specs.Image.{Image, IsImage, OpenImages, image_text, is_open}
 use Rattle.sd_image.specs.Reading.{◌>>=◌, header_in, table_in, file_in}
-use Rattle.sd_image.specs.Laws.{FileIsImage}
+use Rattle.sd_image.specs.Laws.{FileIsImage, HeaderFillsFile, TextIsImage}
 use Rattle.sd_image.specs.ReasonLaws.{GoodFileHasNoReason, GoodHeaderHasNoReason, GoodStoreHasNoReason, GoodTableHasNoReason, IsFaultyFor, IsReadAs, OneReason}
 use Rattle.sd_image.proofs.Steps.{IsBytes, IsBytes-take, IsBytes-drop, bind_ok}
 use Rattle.sd_image.proofs.HeaderRules.{header_again, header_length, header_takes}
@@ -190,3 +190,30 @@ judged file (Err r) fits opens e = inr (
 
 pub one_reason_lem : OneReason
 one_reason_lem file bytes opens = judged file (file_in file) (are_bytes file bytes) opens refl
+
+-- ---- the text of a complete image
+
+text_length : (i : Image) → AllByRecursion (λ page. length page ≡ 4096) i.pages
+    → length (165 ∷ image_text i) ≡ 4096 + 4096 * length i.pages + length (table_text i.spaces)
+text_length i whole =
+    let all = length-append (header_text i.header ++ concat i.pages) (table_text i.spaces) in
+    let front = length-append (header_text i.header) (concat i.pages) in
+    omega (arith, all, front, header_length i.header, length-pages i.pages whole)
+
+pub text_is_image_lem : TextIsImage
+text_is_image_lem i is =
+    let fills : 4096 + 4096 * i.header.pages + i.header.table_len ≡ length (165 ∷ image_text i) =
+    omega (arith, text_length i is.whole, is.table_len, is.stored) in
+    let long : 4096 ≤ length (165 ∷ image_text i) = omega (arith, fills) in (
+      record {
+        spelled = refl;
+        header = record { words = is.words; serial = is.serial; numbers = is.numbers; checkpoint = is.checkpoint; fills = fills };
+        table = is.table;
+        stored = is.stored;
+        whole = is.whole;
+      },
+      ap (λ b. b && true) (le-leb 4096 (length (165 ∷ image_text i)) long),
+    )
+
+pub header_fills_file_lem : HeaderFillsFile
+header_fills_file_lem bytes len h long all read = header_takes bytes len h long (are_bytes bytes all) read

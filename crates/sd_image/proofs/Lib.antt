@@ -17,6 +17,7 @@ pub mod OneImage
 pub mod OneRuns
 pub mod PagePlaces
 pub mod PageBytes
+pub mod GrownRuns
 pub mod OneMemory
 pub mod FirstImage
 pub mod FileLaws

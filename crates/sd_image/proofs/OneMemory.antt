@@ -1,5 +1,5 @@
 -- Contents show one memory: an image of a store holds one page's bytes at each page, and so stands for one memory.
-use Rattle.std.proofs.Common.{◌≡◌, ℕ, true, eqb, is_some, List, [], ◌∷◌, Contains, Option, Some, None, MatchOption, refl, sym, ◌∙◌, ap, subst, inl, inr}
+use Rattle.std.proofs.Common.{◌≡◌, ℕ, true, eqb, is_some, List, [], ◌∷◌, Contains, Option, Some, None, MatchOption, refl, sym, ◌∙◌, ap, subst, inl, inr, arith}
 use Rattle.std.specs.List.{list_any, slice_get}
 use Rattle.std.specs.FinMap as finmap
 use Rattle.std.specs.FinMap.{same_map, nat_cmp-IsAntisymmetric}
@@ -9,17 +9,15 @@ use Rattle.std.proofs.lemmas.Cmp.{nat_cmp_total}
 use Rattle.sd_areas.specs.Areas.{prot_in}
 use Rattle.sd_areas.specs.PlainMemory.{Page, Space, PlainMemory}
 use Rattle.sd_image.specs.declared.run.RunKind.TheVariants.{Data, Parent, Zero}
-use Rattle.sd_image.specs.Table.{Listed, AreSpaces}
+use Rattle.sd_image.specs.Table.{Listed}
 use Rattle.sd_image.specs.Image.{Image}
-use Rattle.sd_image.specs.Shows.{Holds, by_data, by_zero, by_parent, page_in, IsMemory, IsRestorable, IsStore, IsTip}
-use Rattle.sd_image.specs.Laws.{HeldOnce, ShownOnce}
-use Rattle.sd_image.proofs.OneImage.{image_of_file, named_once_lem, one_store_lem, tip_once_lem}
+use Rattle.sd_image.specs.Shows.{Holds, by_data, by_zero, by_parent, page_in, IsMemory, IsNamed, IsStore, ImagesShow}
+use Rattle.sd_image.specs.Laws.{HaveTables, HeldOnce, HeldOnceAmong, SerialsDiffer, ShownOnce}
+use Rattle.sd_image.proofs.OneImage.{image_of_file, one_store_lem, serial_once, tip_once_lem}
 use Rattle.sd_image.proofs.PagePlaces.{among_data, kind_once, place_once}
 use Rattle.sd_image.proofs.ShowsLemmas.{contains_front, contains_later}
 
--- the spaces of an image of a store rise
-spaces_rise : (contents : List (List ℕ)) (images : List Image) (i : Image) → IsStore contents images → Contains images i → AreSpaces i.header 0 i.spaces
-spaces_rise contents images i store among = (image_of_file contents images i store.slots among).1.table.each
+-- ---- at a page an image holds one page's bytes
 
 data_not_zero : Data ≡ Zero → ⊥
 data_not_zero e = cc
@@ -30,27 +28,43 @@ data_not_parent e = cc
 zero_not_parent : Zero ≡ Parent → ⊥
 zero_not_parent e = cc
 
-pub held_once_lem : HeldOnce
-held_once_lem contents images space page one other i store among (by_data _ p at is) (by_data _ q there was) =
-    let same : p ≡ q = place_once Data i.header i.spaces p q (space, page) (spaces_rise contents images i store among) at there in
+named_once_among : (images : List Image) (number : ℕ) (i j : Image) → SerialsDiffer images → IsNamed images number i → IsNamed images number j → i ≡ j
+named_once_among images number i j differ a b =
+    let low = a.greatest j b.member b.stands in
+    let high = b.greatest i a.member a.stands in
+    differ i j a.member b.member (omega arith)
+
+pub held_once_among : HeldOnceAmong
+held_once_among images space page one other i differ tables among (by_data _ p at is) (by_data _ q there was) =
+    let same : p ≡ q = place_once Data i.header i.spaces p q (space, page) (tables i among).each at there in
     let here : slice_get i.pages p ≡ slice_get i.pages q = ap (slice_get i.pages) same in
     cc
-held_once_lem contents images space page one other i store among (by_data _ p at is) (by_zero _ c was) =
-    absurd (data_not_zero (kind_once i.header 0 i.spaces Data Zero (space, page) (spaces_rise contents images i store among) (among_data i.spaces p (space, page) at) c))
-held_once_lem contents images space page one other i store among (by_data _ p at is) (by_parent _ parent c named holds) =
-    absurd (data_not_parent (kind_once i.header 0 i.spaces Data Parent (space, page) (spaces_rise contents images i store among) (among_data i.spaces p (space, page) at) c))
-held_once_lem contents images space page one other i store among (by_zero _ c is) (by_data _ p at was) =
-    absurd (data_not_zero (kind_once i.header 0 i.spaces Data Zero (space, page) (spaces_rise contents images i store among) (among_data i.spaces p (space, page) at) c))
-held_once_lem contents images space page one other i store among (by_zero _ c is) (by_zero _ d was) = is ∙ sym was
-held_once_lem contents images space page one other i store among (by_zero _ c is) (by_parent _ parent d named holds) =
-    absurd (zero_not_parent (kind_once i.header 0 i.spaces Zero Parent (space, page) (spaces_rise contents images i store among) c d))
-held_once_lem contents images space page one other i store among (by_parent _ parent c named holds) (by_data _ p at was) =
-    absurd (data_not_parent (kind_once i.header 0 i.spaces Data Parent (space, page) (spaces_rise contents images i store among) (among_data i.spaces p (space, page) at) c))
-held_once_lem contents images space page one other i store among (by_parent _ parent c named holds) (by_zero _ d was) =
-    absurd (zero_not_parent (kind_once i.header 0 i.spaces Zero Parent (space, page) (spaces_rise contents images i store among) d c))
-held_once_lem contents images space page one other i store among (by_parent _ parent c named holds) (by_parent _ parent' d named' holds') =
-    let same : parent' ≡ parent = named_once_lem contents images i.header.parent parent' parent store named' named in
-    held_once_lem contents images space page one other parent store named.member holds (subst (Holds images space page other) same holds')
+held_once_among images space page one other i differ tables among (by_data _ p at is) (by_zero _ c was) =
+    absurd (data_not_zero (kind_once i.header 0 i.spaces Data Zero (space, page) (tables i among).each (among_data i.spaces p (space, page) at) c))
+held_once_among images space page one other i differ tables among (by_data _ p at is) (by_parent _ parent c named holds) =
+    absurd (data_not_parent (kind_once i.header 0 i.spaces Data Parent (space, page) (tables i among).each (among_data i.spaces p (space, page) at) c))
+held_once_among images space page one other i differ tables among (by_zero _ c is) (by_data _ p at was) =
+    absurd (data_not_zero (kind_once i.header 0 i.spaces Data Zero (space, page) (tables i among).each (among_data i.spaces p (space, page) at) c))
+held_once_among images space page one other i differ tables among (by_zero _ c is) (by_zero _ d was) = is ∙ sym was
+held_once_among images space page one other i differ tables among (by_zero _ c is) (by_parent _ parent d named holds) =
+    absurd (zero_not_parent (kind_once i.header 0 i.spaces Zero Parent (space, page) (tables i among).each c d))
+held_once_among images space page one other i differ tables among (by_parent _ parent c named holds) (by_data _ p at was) =
+    absurd (data_not_parent (kind_once i.header 0 i.spaces Data Parent (space, page) (tables i among).each (among_data i.spaces p (space, page) at) c))
+held_once_among images space page one other i differ tables among (by_parent _ parent c named holds) (by_zero _ d was) =
+    absurd (zero_not_parent (kind_once i.header 0 i.spaces Zero Parent (space, page) (tables i among).each d c))
+held_once_among images space page one other i differ tables among (by_parent _ parent c named holds) (by_parent _ parent' d named' holds') =
+    let same : parent' ≡ parent = named_once_among images i.header.parent parent' parent differ named' named in
+    held_once_among images space page one other parent differ tables named.member holds (subst (Holds images space page other) same holds')
+
+store_serials : (contents : List (List ℕ)) (images : List Image) → IsStore contents images → SerialsDiffer images
+store_serials contents images store = λ i j a b e. serial_once images i j store.serials a b e
+
+store_tables : (contents : List (List ℕ)) (images : List Image) → IsStore contents images → HaveTables images
+store_tables contents images store = λ i among. (image_of_file contents images i store.slots among).1.table
+
+pub held_once_lem : HeldOnce
+held_once_lem contents images space page one other i store among =
+    held_once_among images space page one other i (store_serials contents images store) (store_tables contents images store) among
 
 -- ---- an image of a store stands for one memory
 
@@ -97,13 +111,7 @@ memory_once contents images i m n store among a b = same_map nat_cmp_total nat_c
 same_moment : (a b : ℕ × PlainMemory) → a.0 ≡ b.0 → a.1 ≡ b.1 → a ≡ b
 same_moment a b n m = rw (n, m) refl
 
-Newest : List Image → Option (ℕ × PlainMemory) → Type 0
-Newest images shown = MatchOption shown
-    ((i : Image) → Contains images i → IsRestorable i → ⊥)
-    (λ moment. (i : Image) × IsTip images i × (i.header.checkpoint ≡ moment.0) × IsMemory images i moment.1)
-
-newest_once : (contents : List (List ℕ)) (images : List Image) (one other : Option (ℕ × PlainMemory)) → IsStore contents images → Newest images one → Newest images other → one ≡ other
-unfolding Newest
+newest_once : (contents : List (List ℕ)) (images : List Image) (one other : Option (ℕ × PlainMemory)) → IsStore contents images → ImagesShow images one → ImagesShow images other → one ≡ other
 newest_once contents images None None store a b = refl
 newest_once contents images None (Some y) store a b = absurd (a b.0 b.1.member b.1.restorable)
 newest_once contents images (Some x) None store a b = absurd (b a.0 a.1.member a.1.restorable)
@@ -114,7 +122,6 @@ newest_once contents images (Some x) (Some y) store a b =
     ap Some (same_moment x y number (memory_once contents images a.0 x.1 y.1 store a.1.member a.3 stands))
 
 pub shown_once_lem : ShownOnce
-unfolding Newest
 shown_once_lem contents one other a b =
     let same : b.images ≡ a.images = one_store_lem contents b.images a.images b.store.slots a.store.slots in
-    newest_once contents a.images one other a.store a.newest (subst (λ (images : List Image). Newest images other) same b.newest)
+    newest_once contents a.images one other a.store a.newest (subst (λ (images : List Image). ImagesShow images other) same b.newest)

@@ -145,7 +145,7 @@ few_of_kind kind h spaces good =
 
 -- ---- a page has one kind
 
-kind_number_once : (a b : RunKind) → run_kind_number a ≡ run_kind_number b → a ≡ b
+pub kind_number_once : (a b : RunKind) → run_kind_number a ≡ run_kind_number b → a ≡ b
 kind_number_once Data Data e = refl
 kind_number_once Data Parent e = absurd (omega arith)
 kind_number_once Data Zero e = absurd (omega arith)

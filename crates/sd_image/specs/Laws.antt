@@ -1,5 +1,6 @@
 -- What the layers above use of images and of what contents show, each a law that a function with an empty body carries.
-use Rattle.std.specs.Prelude.{◌≡◌, ℕ, ◌+◌, ◌*◌, ◌<◌, ◌≤◌, ◌^◌, true, false, if◌then◌else◌, List, [], ◌∷◌, length, drop, take, All, Contains, slice_get, slice_index_or, slice_range, slice_set, Option, Some, None}
+use Rattle.std.specs.Prelude.{◌≡◌, ℕ, ◌+◌, ◌*◌, ◌<◌, ◌≤◌, ◌^◌, true, false, if◌then◌else◌, List, [], ◌∷◌, length, drop, take, All, Contains, slice_get, slice_index_or, slice_range, slice_set, Option, Some, None, Ok}
+use Rattle.std.specs.List.{AllByRecursion}
 use Rattle.std.specs.FinMap as finmap
 use Rattle.sd_areas.specs.declared.prot.Prot.{Prot}
 use Rattle.sd_areas.specs.Pages.{is_within}
@@ -9,7 +10,8 @@ use Rattle.sd_image.specs.declared.header.Kind.TheVariants.{Dump}
 use Rattle.sd_image.specs.declared.run.Run.{Run}
 use Rattle.sd_image.specs.declared.run.RunKind.{RunKind}
 use Rattle.sd_image.specs.declared.run.RunKind.TheVariants.{Data}
-use Rattle.sd_image.specs.Header.{IsHeader, header_text}
+use Rattle.sd_image.specs.Header.{AreNumbers, HasWords, IsHeader, header_text}
+use Rattle.sd_image.specs.Reading.{header_in}
 use Rattle.sd_image.specs.Table.{AreRuns, IsTable, Listed, table_text}
 use Rattle.sd_image.specs.Image.{Image, IsImage, OpenImages, gate, image_text, is_open}
 use Rattle.sd_image.specs.Shows.{Holds, IsMemory, IsNamed, IsRestorable, IsStore, IsTip, Shows, pages_of}
@@ -51,6 +53,19 @@ abbrev pub HeldOnce : Type 0
 HeldOnce = (contents : List (List ℕ)) (images : List Image) (space page : ℕ) (one other : List ℕ) (i : Image)
     → IsStore contents images → Contains images i → Holds images space page one i → Holds images space page other i → one ≡ other
 
+-- no two images have one serial
+abbrev pub SerialsDiffer : List Image → Type 0
+SerialsDiffer images = (i j : Image) → Contains images i → Contains images j → i.header.serial ≡ j.header.serial → i ≡ j
+
+-- the tables of images are tables
+abbrev pub HaveTables : List Image → Type 0
+HaveTables images = (i : Image) → Contains images i → IsTable i.header i.spaces
+
+-- Also without contents: where serials differ and tables are tables, an image holds at most one page's bytes at each page.
+abbrev pub HeldOnceAmong : Type 0
+HeldOnceAmong = (images : List Image) (space page : ℕ) (one other : List ℕ) (i : Image)
+    → SerialsDiffer images → HaveTables images → Contains images i → Holds images space page one i → Holds images space page other i → one ≡ other
+
 -- Contents show at most one thing.
 abbrev pub ShownOnce : Type 0
 ShownOnce = (contents : List (List ℕ)) (one other : Option (ℕ × PlainMemory)) → Shows contents one → Shows contents other → one ≡ other
@@ -75,6 +90,26 @@ FileIsImage = (file : List ℕ) (h : Header) (spaces : List Listed) → is_open 
     → drop 1 (take 4096 file) ≡ header_text h → IsHeader h (length file)
     → drop (4096 + 4096 * h.pages) file ≡ table_text spaces → IsTable h spaces
     → (i : Image) × IsImage file i × (i.header ≡ h) × (i.spaces ≡ spaces)
+
+-- what an image needs so that its text is its file: numbers that go together, a table, and the data pages that it counts
+pub record IsComplete (i : Image) : Type 0 where
+  pub words : HasWords i.header
+  pub serial : 0 < i.header.serial
+  pub numbers : AreNumbers i.header.kind i.header.serial i.header.stands_for i.header.parent
+  pub checkpoint : 0 < i.header.checkpoint
+  pub table : IsTable i.header i.spaces
+  pub stored : length i.pages ≡ i.header.pages
+  pub whole : AllByRecursion (λ page. length page ≡ 4096) i.pages
+  pub table_len : i.header.table_len ≡ length (table_text i.spaces)
+
+-- The text of a complete image, behind an open gate, is an open file, and is that image.
+abbrev pub TextIsImage : Type 0
+TextIsImage = (i : Image) → IsComplete i → IsImage (gate ∷ image_text i) i × (is_open (gate ∷ image_text i) ≡ true)
+
+-- A header that is read in the first 4,096 bytes of a file is spelled so, and its numbers fill the file.
+abbrev pub HeaderFillsFile : Type 0
+HeaderFillsFile = (bytes : List ℕ) (len : ℕ) (h : Header) → length bytes ≡ 4096 → All (λ byte. byte < 256) bytes → header_in bytes len ≡ Ok h
+    → (drop 1 bytes ≡ header_text h) × IsHeader h len
 
 -- A data page stands in its image's file behind the header and the data pages before it.
 abbrev pub PageInFile : Type 0

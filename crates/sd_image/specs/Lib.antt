@@ -4,6 +4,7 @@ pub mod Table
 pub mod Reading
 pub mod Coverage
 pub mod Image
+pub mod Runs
 pub mod Shows
 pub mod Laws
 pub mod ReasonLaws

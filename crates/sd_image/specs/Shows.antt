@@ -60,10 +60,14 @@ pub record IsStore (contents : List (List ℕ)) (images : List Image) : Type 0 w
   pub slots : OpenImages contents images
   pub serials : IsDistinct (λ a b. a == b) (map (λ (i : Image). i.header.serial) images)
 
+-- images show nothing saved, or the checkpoint and the memory of their tip
+abbrev pub ImagesShow : List Image → Option (ℕ × PlainMemory) → Type 0
+ImagesShow images shown = MatchOption shown
+    ((i : Image) → Contains images i → IsRestorable i → ⊥)
+    (λ moment. (i : Image) × IsTip images i × (i.header.checkpoint ≡ moment.0) × IsMemory images i moment.1)
+
 -- contents show nothing saved, or a checkpoint's number and memory
 pub record Shows (contents : List (List ℕ)) (shown : Option (ℕ × PlainMemory)) : Type 0 where
   pub images : List Image
   pub store : IsStore contents images
-  pub newest : MatchOption shown
-      ((i : Image) → Contains images i → IsRestorable i → ⊥)
-      (λ moment. (i : Image) × IsTip images i × (i.header.checkpoint ≡ moment.0) × IsMemory images i moment.1)
+  pub newest : ImagesShow images shown

@@ -1,4 +1,4 @@
-//! The numbers of the format, lowest byte first, and how long its items are.
+//! The numbers of the format, lowest byte first.
 
 ghost use Rattle.std.specs.Prelude.{◌≡◌, ◌+◌, ◌≤◌, ◌++◌, length, OnOk};
 ghost use Rattle.sd_image.specs.Reading.{number_at, are_zero};
@@ -6,15 +6,6 @@ ghost use Rattle.sd_image.specs.Words.{number_bytes};
 
 use byteorder::{ByteOrder, LittleEndian};
 use std::alloc::AllocError;
-
-/// How long the head of a table is.
-pub(crate) const TABLE_HEAD_LEN: usize = 8;
-
-/// How long the head of a space is.
-pub(crate) const SPACE_HEAD_LEN: usize = 16;
-
-/// How long an area or a run is.
-pub(crate) const RANGE_LEN: usize = 24;
 
 /// The number in the two bytes from a place on.
 #[tactic(auto, unfolding(crate::specs::Reading::number_at))]

@@ -8,14 +8,12 @@ ghost use Rattle.sd_image.specs.Reading.{Reads, number_at, kind_of, kind_in, fie
 
 use crate::fields::{are_zero, u16_at, u64_at};
 use crate::header::{Header, Kind};
+use crate::layout::HEADER_SIZE;
 use crate::reason::Reason;
 
 const MAGIC: &[u8; 7] = b"SDCHAIN";
 
 const VERSION: u16 = 1;
-
-/// Where the header ends, and the data pages begin.
-const HEADER_LEN: usize = 4096;
 
 /// The number by which a header names the kind.
 fn number_of(kind: Kind) -> u16
@@ -81,7 +79,7 @@ fn check_bytes(bytes: &[u8]) -> Result<Kind, Reason>
         return Err(Reason::Version);
     }
     let kind = kind_with(u16_at(bytes, 10)).ok_or(Reason::Kind)?;
-    if !are_zero(&bytes[12..16]) || !are_zero(&bytes[64..HEADER_LEN]) {
+    if !are_zero(&bytes[12..16]) || !are_zero(&bytes[64..HEADER_SIZE]) {
         return Err(Reason::Reserved);
     }
     Ok(kind)

@@ -1,5 +1,5 @@
 //! Laws about images and contents that the layers above use.
-ghost use Rattle.sd_image.specs.Laws.{FewPages, FileIsImage, FirstImageIsShown, HeldOnce, NamedOnce, NewestIsShown, OneImage, OneKind, OneListOfRuns, OnePlace, OneSpelling, OneStore, PageInFile, ReadyAbove, ReadyAgain, ReadyStill, ShownOnce, ShownStill, TipOnce};
+ghost use Rattle.sd_image.specs.Laws.{FewPages, FileIsImage, FirstImageIsShown, HeaderFillsFile, HeldOnce, HeldOnceAmong, NamedOnce, NewestIsShown, OneImage, OneKind, OneListOfRuns, OnePlace, OneSpelling, OneStore, PageInFile, ReadyAbove, ReadyAgain, ReadyStill, ShownOnce, ShownStill, TextIsImage, TipOnce};
 
 /// A whole image, written into a closed slot with numbers above all others, is what contents then show.
 pub fn newest_is_shown()
@@ -61,6 +61,16 @@ pub fn file_is_image()
     ensures { FileIsImage }
 {}
 
+/// The text of a complete image, behind an open gate, is an open file, and is that image.
+pub fn text_is_image()
+    ensures { TextIsImage }
+{}
+
+/// A header that is read in the first 4,096 bytes of a file is spelled so, and its numbers fill the file.
+pub fn header_fills_file()
+    ensures { HeaderFillsFile }
+{}
+
 /// A data page stands in its image's file behind the header and the data pages before it.
 pub fn page_in_file()
     ensures { PageInFile }
@@ -84,6 +94,11 @@ pub fn tip_once()
 /// An image of a store holds at most one page's bytes at each page.
 pub fn held_once()
     ensures { HeldOnce }
+{}
+
+/// Where serials differ and tables are tables, an image holds at most one page's bytes at each page.
+pub fn held_once_among()
+    ensures { HeldOnceAmong }
 {}
 
 /// Contents show at most one thing.

@@ -8,8 +8,9 @@ ghost use Rattle.sd_image.specs.Words.{run_kind_number};
 ghost use Rattle.sd_image.specs.Table.{Listed, listed, begins_behind, has_source, is_run_after, table_text, IsTable};
 
 use crate::coverage::have_same_pages;
-use crate::fields::{RANGE_LEN, SPACE_HEAD_LEN, TABLE_HEAD_LEN, u32_at, u64_at};
+use crate::fields::{u32_at, u64_at};
 use crate::header::{Header, Kind};
+use crate::layout::{RANGE_SIZE, SPACE_HEAD_SIZE, TABLE_HEAD_SIZE};
 use crate::reason::Reason;
 use crate::run::{Run, RunKind};
 use crate::space_head::SpaceHead;
@@ -44,7 +45,7 @@ fn item_of(bytes: &[u8], len: usize) -> Result<(&[u8], &[u8]), Reason>
 fn head_of(bytes: &[u8]) -> Result<(u32, &[u8]), Reason>
     ensures { Reads (λ x. (x.0, x.1.now)) result (head_at bytes.now) }
 {
-    let (item, rest) = item_of(bytes, TABLE_HEAD_LEN)?;
+    let (item, rest) = item_of(bytes, TABLE_HEAD_SIZE)?;
     let spaces = u32_at(item, 0);
     if spaces > SPACE_LIMIT {
         return Err(Reason::Space);
@@ -133,7 +134,7 @@ fn areas_of(alloc: Global, count: u32, bytes: &[u8]) -> Result<(Vec<Area>, &[u8]
     let mut areas = Vec::new(alloc);
     let mut rest = bytes;
     for _ in 0..count {
-        let (item, after) = item_of(rest, RANGE_LEN)?;
+        let (item, after) = item_of(rest, RANGE_SIZE)?;
         let area = area_from(areas.last(), item)?;
         areas.push(area)?;
         rest = after;
@@ -222,7 +223,7 @@ fn runs_of(
     let mut runs = Vec::new(alloc);
     let mut rest = bytes;
     for _ in 0..count {
-        let (item, after) = item_of(rest, RANGE_LEN)?;
+        let (item, after) = item_of(rest, RANGE_SIZE)?;
         let run = run_from(parent, runs.last(), item)?;
         runs.push(run)?;
         rest = after;
@@ -245,7 +246,7 @@ fn area_limit(kind: Kind) -> u32
 fn space_head_of(kind: Kind, before: u64, bytes: &[u8]) -> Result<(SpaceHead, &[u8]), Reason>
     ensures { Reads (λ x. (x.0, x.1.now)) result (space_head_at kind before bytes.now) }
 {
-    let (item, rest) = item_of(bytes, SPACE_HEAD_LEN)?;
+    let (item, rest) = item_of(bytes, SPACE_HEAD_SIZE)?;
     let head = SpaceHead {
         space: u32_at(item, 0),
         areas: u32_at(item, 4),

@@ -19,6 +19,3 @@ pub use report::Report;
 pub use restoring::restore;
 pub use slots::scan;
 pub use verifying::verify;
-
-#[cfg(test)]
-mod tests;

@@ -1,0 +1,161 @@
+//! Builders of headers, tables, files and stores.
+use sd_areas::{Area, PAGE_SIZE, PageNo, Prot, SpaceId};
+use sd_disk::{Disk, MemDisk};
+use sd_image::{Header, Kind, Run, RunKind, SpaceTable, Table, encode_header, encode_table};
+use std::alloc::{AllocError, Global};
+use std::process::Abort;
+use std::test::Fail;
+
+/// The space of most tables.
+pub(crate) const SPACE: u64 = 1;
+
+/// The permissions of all areas.
+pub(crate) const READ_WRITE: Prot = Prot {
+    read: true,
+    write: true,
+    execute: false,
+};
+
+pub(crate) fn page(number: u64) -> Result<PageNo, Fail> {
+    Ok(PageNo::new(number).ok_or("a page")?)
+}
+
+/// A dump that stands for itself.
+pub(crate) fn dump(serial: u64, checkpoint: u64, parent: u64) -> Header {
+    Header {
+        kind: Kind::Dump,
+        serial,
+        stands_for: serial,
+        parent,
+        checkpoint,
+        pages: 0,
+        table_len: 0,
+    }
+}
+
+pub(crate) fn pre_dump(serial: u64, checkpoint: u64, parent: u64) -> Header {
+    Header {
+        kind: Kind::PreDump,
+        ..dump(serial, checkpoint, parent)
+    }
+}
+
+/// The merged image of a dump.
+pub(crate) fn merged(serial: u64, stands_for: u64, checkpoint: u64) -> Header {
+    Header {
+        kind: Kind::Merged,
+        stands_for,
+        ..dump(serial, checkpoint, 0)
+    }
+}
+
+/// Runs with these first pages, counts and kinds.
+pub(crate) fn runs(alloc: Global, rows: &[(u64, u64, RunKind)]) -> Result<Vec<Run>, Fail> {
+    let mut runs = Vec::new(alloc);
+    for (first, count, kind) in rows {
+        runs.push(Run {
+            first: page(*first)?,
+            count: *count,
+            kind: *kind,
+        })?;
+    }
+    Ok(runs)
+}
+
+/// A space with these runs, and an area at each.
+fn space_table(alloc: Global, space: u64, runs: &[Run]) -> Result<SpaceTable, AllocError> {
+    let mut areas = Vec::new(alloc);
+    for run in runs {
+        areas.push(Area {
+            first: run.first,
+            count: run.count,
+            prot: READ_WRITE,
+        })?;
+    }
+    let space = SpaceId::new(space);
+    let runs = runs.to_vec(alloc)?;
+    Ok(SpaceTable { space, areas, runs })
+}
+
+/// A table of the spaces from 1 up to a number, each with these runs.
+pub(crate) fn table(alloc: Global, spaces: u64, runs: &[Run]) -> Result<Table, AllocError> {
+    let mut tables = Vec::new(alloc);
+    for space in 1..spaces.saturating_add(1) {
+        tables.push(space_table(alloc, space, runs)?)?;
+    }
+    Ok(Table { spaces: tables })
+}
+
+/// The file of an image with this table, whose data pages are filled with a byte.
+pub(crate) fn file_of(
+    alloc: Global,
+    header: Header,
+    table: &Table,
+    pages: u64,
+    byte: u8,
+) -> Result<Vec<u8>, Fail> {
+    let text = encode_table(alloc, table)?;
+    let header = Header {
+        pages,
+        table_len: text.len() as u64,
+        ..header
+    };
+    let mut file = vec![in alloc; 0xA5]?;
+    file.extend_from_slice(&encode_header(&header))?;
+    for _ in 0..pages {
+        file.extend_from_slice(&[byte; PAGE_SIZE])?;
+    }
+    file.extend_from_slice(&text)?;
+    Ok(file)
+}
+
+/// The file of an image with page 0x10 of space 1: a data page filled with this byte, or a page that its parent has.
+pub(crate) fn file(alloc: Global, header: Header, filled: Option<u8>) -> Result<Vec<u8>, Fail> {
+    match filled {
+        Some(byte) => {
+            let runs = runs(alloc, &[(0x10, 1, RunKind::Data)])?;
+            file_of(alloc, header, &table(alloc, 1, &runs)?, 1, byte)
+        }
+        None => {
+            let runs = runs(alloc, &[(0x10, 1, RunKind::Parent)])?;
+            file_of(alloc, header, &table(alloc, 1, &runs)?, 0, 0)
+        }
+    }
+}
+
+/// A dump of serial 1 with a data page filled with 7.
+pub(crate) fn first(alloc: Global) -> Result<Vec<u8>, Fail> {
+    file(alloc, dump(1, 1, 0), Some(7))
+}
+
+/// A dump of serial 2, whose page is in the first.
+pub(crate) fn second(alloc: Global) -> Result<Vec<u8>, Fail> {
+    file(alloc, dump(2, 2, 1), None)
+}
+
+/// A merged image of serial 3 that stands for the first, with a data page filled with 9.
+pub(crate) fn third_merged(alloc: Global) -> Result<Vec<u8>, Fail> {
+    file(alloc, merged(3, 1, 1), Some(9))
+}
+
+/// Writes some bytes into a slot's file.
+pub(crate) fn put<D: Disk>(
+    rt: &impl Abort,
+    disk: &mut D,
+    slot: usize,
+    at: usize,
+    bytes: &[u8],
+) -> Result<(), Fail> {
+    assert!(rt; slot < disk.slots() && !bytes.is_empty());
+    disk.write_at(slot, at, bytes)?;
+    Ok(())
+}
+
+/// A disk of four slots, the first of them with these files.
+pub(crate) fn store(rt: &(impl Abort + AllocGlobal), files: &[Vec<u8>]) -> Result<MemDisk, Fail> {
+    let mut disk = MemDisk::new(rt.alloc(), 4, 80_000, 64)?;
+    for (slot, file) in files.iter().enumerate() {
+        put(rt, &mut disk, slot, 0, file)?;
+    }
+    Ok(disk)
+}

@@ -1,0 +1,88 @@
+//! Headers and tables, written and read.
+use crate::builders::{dump, merged, pre_dump, runs, table};
+use crate::example::{HEADER, LEN, TABLE, example, first_bytes, hello_page};
+use sd_image::{
+    Header, Reason, RunKind, Table, TableError, decode_header, decode_table, encode_header,
+    encode_table,
+};
+use std::alloc::Global;
+use std::test::Fail;
+
+/// The table of the example file.
+fn example_table(alloc: Global) -> Result<Table, Fail> {
+    Ok(table(alloc, 1, &runs(alloc, &[(16, 1, RunKind::Data)])?)?)
+}
+
+#[test]
+fn the_header_is_read_and_written(rt: HostRuntime) {
+    let bytes = first_bytes();
+    assert_eq!(rt; decode_header(&bytes, LEN), Ok(HEADER));
+    assert_eq!(rt; encode_header(&HEADER).as_slice(), &bytes[1..4096]);
+}
+
+/// The file of one page that begins with `hello`: what is written around the page is the file's, byte for byte.
+#[test]
+fn the_example_file_is_written(rt: HostRuntime) -> Result<(), Fail> {
+    let alloc = rt.alloc();
+    let mut written = vec![in alloc; 0xa5]?;
+    written.extend_from_slice(&encode_header(&HEADER))?;
+    written.extend_from_slice(&hello_page())?;
+    written.extend_from_slice(&encode_table(alloc, &example_table(alloc)?)?)?;
+    assert_eq!(rt; written.len() as u64, LEN);
+    let file = example(alloc)?;
+    assert_eq!(rt; written.as_slice(), file.as_slice());
+    Ok(())
+}
+
+/// Each kind, with the greatest numbers that fit.
+#[test]
+fn each_kind_is_read_back(rt: HostRuntime) {
+    let most = Header {
+        pages: 3,
+        table_len: u64::MAX - 4096 * 4,
+        ..dump(u64::MAX, u64::MAX, u64::MAX - 1)
+    };
+    let (pages, table_len) = (most.pages, most.table_len);
+    let headers = [
+        most,
+        Header {
+            pages,
+            table_len,
+            ..pre_dump(u64::MAX, u64::MAX, u64::MAX - 1)
+        },
+        Header {
+            pages,
+            table_len,
+            ..merged(u64::MAX, u64::MAX - 1, u64::MAX)
+        },
+    ];
+    for header in &headers {
+        let mut bytes = [0; 4096];
+        bytes[1..].copy_from_slice(&encode_header(header));
+        assert_eq!(rt; decode_header(&bytes, u64::MAX), Ok(*header));
+    }
+}
+
+/// Where memory is refused the call reports that, and the next one succeeds: no allocation that fails makes bytes
+/// damaged, or damaged bytes whole.
+#[test]
+fn refused_memory_is_reported(rt: HostRuntime) -> Result<(), Fail> {
+    let mut read = decode_table(rt.alloc(), &HEADER, &TABLE);
+    if let Err(TableError::OutOfMemory) = &read {
+        read = decode_table(rt.alloc(), &HEADER, &TABLE);
+    }
+    let table = read.ok().ok_or("a table")?;
+    let written = match encode_table(rt.alloc(), &table) {
+        Ok(bytes) => bytes,
+        Err(_) => encode_table(rt.alloc(), &table)?,
+    };
+    assert_eq!(rt; written.as_slice(), TABLE.as_slice());
+    let more = Header { pages: 2, ..HEADER };
+    assert!(rt;
+        matches!(
+            decode_table(rt.alloc(), &more, &TABLE),
+            Err(TableError::OutOfMemory) | Err(TableError::Damaged(Reason::Total))
+        )
+    );
+    Ok(())
+}

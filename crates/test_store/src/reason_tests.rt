@@ -1,0 +1,483 @@
+//! Headers and tables with faults, and the reason that is found.
+use crate::example::{HEADER, LEN, TABLE, first_bytes};
+use sd_image::{Header, Kind, Reason, TableError, decode_header, decode_table, encode_table};
+use std::alloc::Global;
+use std::process::Abort;
+use std::test::Fail;
+
+/// Why bytes are no table, or none where they are one.
+fn reason_of(alloc: Global, header: &Header, table: &[u8]) -> Result<Option<Reason>, Fail> {
+    match decode_table(alloc, header, table) {
+        Ok(_) => Ok(None),
+        Err(TableError::Damaged(reason)) => Ok(Some(reason)),
+        Err(TableError::OutOfMemory) => Err("out of memory".into()),
+    }
+}
+
+/// Each rule of a header, also where a later one is broken too.
+#[test]
+fn a_header_has_its_least_reason(rt: HostRuntime) {
+    let rows: [(&[(usize, u8)], Reason); 28] = [
+        (&[(1, 0x00)], Reason::Magic),
+        (&[(7, 0x4f), (8, 0x02)], Reason::Magic),
+        (&[(7, 0x4f), (12, 0x01), (40, 0x00)], Reason::Magic),
+        (&[(8, 0x02)], Reason::Version),
+        (&[(9, 0x01), (10, 0x00)], Reason::Version),
+        (&[(10, 0x00)], Reason::Kind),
+        (&[(11, 0x01)], Reason::Kind),
+        (&[(10, 0x04), (64, 0x01), (16, 0x00)], Reason::Kind),
+        (&[(12, 0x01)], Reason::Reserved),
+        (&[(15, 0x80)], Reason::Reserved),
+        (&[(64, 0x01)], Reason::Reserved),
+        (&[(4095, 0x80), (16, 0x00)], Reason::Reserved),
+        (&[(16, 0x00)], Reason::Serial),
+        (&[(16, 0x00), (24, 0x00), (40, 0x00)], Reason::Serial),
+        (&[(24, 0x02), (32, 0x01)], Reason::StandsFor),
+        // A merged image stands for a lower number than its own, and not for 0.
+        (&[(10, 0x03)], Reason::StandsFor),
+        (&[(10, 0x03), (24, 0x00), (32, 0x01)], Reason::StandsFor),
+        (&[(32, 0x01), (40, 0x00)], Reason::Parent),
+        (&[(10, 0x01), (39, 0x01)], Reason::Parent),
+        // A merged image has no parent.
+        (&[(10, 0x03), (16, 0x02), (32, 0x01)], Reason::Parent),
+        (&[(40, 0x00), (48, 0x00)], Reason::Checkpoint),
+        (&[(48, 0x00)], Reason::Length),
+        (&[(48, 0x02)], Reason::Length),
+        // 2^52 pages more are 2^64 bytes more.
+        (&[(54, 0x10)], Reason::Length),
+        // Also where the table takes the place of the page.
+        (&[(48, 0x00), (54, 0x10), (57, 0x10)], Reason::Length),
+        (&[(56, 0x49)], Reason::Length),
+        (&[(56, 0x47)], Reason::Length),
+        (&[(63, 0x80)], Reason::Length),
+    ];
+    for (changes, reason) in &rows {
+        let mut bytes = first_bytes();
+        for (place, byte) in *changes {
+            assert!(rt; *place < bytes.len());
+            bytes[*place] = *byte;
+        }
+        assert_eq!(rt; decode_header(&bytes, LEN), Err(*reason));
+    }
+}
+
+/// An item of a table, by its fields.
+#[derive(Clone, Copy)]
+enum Item {
+    /// How many spaces, and a zero.
+    Head(u32, u32),
+    /// A space's number, and how many areas and runs it has.
+    Space(u32, u32, u64),
+    /// The first page, how many, their permissions or kind, and a zero.
+    Range(u64, u64, u32, u32),
+}
+
+use Item::{Head, Range, Space};
+
+/// Puts the bytes of a range behind the others.
+fn put_range(
+    bytes: &mut Vec<u8>,
+    first: u64,
+    count: u64,
+    what: u32,
+    zero: u32,
+) -> Result<(), Fail> {
+    bytes.extend_from_slice(&first.to_le_bytes())?;
+    bytes.extend_from_slice(&count.to_le_bytes())?;
+    bytes.extend_from_slice(&what.to_le_bytes())?;
+    bytes.extend_from_slice(&zero.to_le_bytes())?;
+    Ok(())
+}
+
+/// The bytes of these items, one behind the other.
+fn text(alloc: Global, items: &[Item]) -> Result<Vec<u8>, Fail> {
+    let mut bytes = Vec::new(alloc);
+    for item in items {
+        match *item {
+            Item::Head(spaces, zero) => {
+                bytes.extend_from_slice(&spaces.to_le_bytes())?;
+                bytes.extend_from_slice(&zero.to_le_bytes())?;
+            }
+            Item::Space(number, areas, runs) => {
+                bytes.extend_from_slice(&number.to_le_bytes())?;
+                bytes.extend_from_slice(&areas.to_le_bytes())?;
+                bytes.extend_from_slice(&runs.to_le_bytes())?;
+            }
+            Item::Range(first, count, what, zero) => {
+                put_range(&mut bytes, first, count, what, zero)?;
+            }
+        }
+    }
+    Ok(bytes)
+}
+
+/// The first page behind the last of a space.
+const END: u64 = 1 << 35;
+
+const DATA: u32 = 1;
+
+const PARENT: u32 = 2;
+
+const ZERO: u32 = 3;
+
+const PRE_DUMP: Header = Header {
+    kind: Kind::PreDump,
+    serial: 2,
+    stands_for: 2,
+    parent: 1,
+    checkpoint: 2,
+    pages: 0,
+    table_len: 0,
+};
+
+const DUMP: Header = Header {
+    kind: Kind::Dump,
+    ..PRE_DUMP
+};
+
+const WHOLE: Header = Header { parent: 0, ..DUMP };
+
+const MERGED: Header = Header {
+    kind: Kind::Merged,
+    stands_for: 1,
+    ..WHOLE
+};
+
+/// Checks that the items, behind the header, have this reason against them.
+fn check(
+    rt: &(impl Abort + AllocGlobal),
+    header: &Header,
+    items: &[Item],
+    reason: Option<Reason>,
+) -> Result<(), Fail> {
+    let table = text(rt.alloc(), items)?;
+    assert_eq!(rt; reason_of(rt.alloc(), header, &table)?, reason);
+    Ok(())
+}
+
+/// Each proper front of a table goes past its end.
+#[test]
+fn a_front_of_a_table_goes_past_its_end(rt: HostRuntime) -> Result<(), Fail> {
+    for len in 0..72 {
+        let front = TABLE.get(..len).ok_or("a front")?;
+        assert_eq!(rt;
+            reason_of(rt.alloc(), &HEADER, front)?,
+            Some(Reason::PastEnd)
+        );
+    }
+    Ok(())
+}
+
+#[test]
+fn a_table_head_has_its_reason(rt: HostRuntime) -> Result<(), Fail> {
+    let rows = [
+        (Head(17, 0), Some(Reason::Space)),
+        (Head(17, 1), Some(Reason::Space)),
+        (Head(u32::MAX, 0), Some(Reason::Space)),
+        (Head(0, 1), Some(Reason::Zero)),
+        (Head(16, 1 << 31), Some(Reason::Zero)),
+        (Head(0, 0), None),
+    ];
+    for (head, reason) in &rows {
+        check(&rt, &DUMP, &[*head], *reason)?;
+    }
+    Ok(())
+}
+
+#[test]
+fn a_space_head_has_its_reason(rt: HostRuntime) -> Result<(), Fail> {
+    let rows = [
+        (DUMP, Space(0, 0, 0), Reason::Space),
+        (DUMP, Space(17, 0, 0), Reason::Space),
+        (DUMP, Space(17, 1025, 0), Reason::Space),
+        (DUMP, Space(1, 1025, 0), Reason::Area),
+        (MERGED, Space(1, 1025, 0), Reason::Area),
+        (PRE_DUMP, Space(1, 1, 1), Reason::Area),
+        // 1,024 areas and any number of runs may come: they are missed where they aren't there.
+        (DUMP, Space(1, 1024, 0), Reason::PastEnd),
+        (DUMP, Space(1, 0, u64::MAX), Reason::PastEnd),
+    ];
+    for (header, space, reason) in &rows {
+        check(&rt, header, &[Head(1, 0), *space], Some(*reason))?;
+    }
+    // The numbers of spaces rise.
+    for (second, reason) in [
+        (3, Some(Reason::Space)),
+        (2, Some(Reason::Space)),
+        (4, None),
+    ] {
+        let items = [Head(2, 0), Space(3, 0, 0), Space(second, 0, 0)];
+        check(&rt, &DUMP, &items, reason)?;
+    }
+    Ok(())
+}
+
+/// The first area of a dump of one space, behind which one run would come.
+#[test]
+fn an_area_has_its_reason(rt: HostRuntime) -> Result<(), Fail> {
+    let rows = [
+        (Range(16, 0, 3, 0), Reason::Area),
+        (Range(END, 1, 3, 0), Reason::Area),
+        (Range(END - 1, 2, 3, 0), Reason::Area),
+        (Range(1, END, 3, 0), Reason::Area),
+        (Range(1, u64::MAX, 3, 0), Reason::Area),
+        (Range(u64::MAX, 1, 3, 0), Reason::Area),
+        (Range(16, 1, 8, 0), Reason::Area),
+        (Range(16, 1, 0x103, 0), Reason::Area),
+        (Range(16, 0, 8, 1), Reason::Area),
+        (Range(16, 1, 3, 1), Reason::Zero),
+        (Range(16, 1, 3, 1 << 31), Reason::Zero),
+        // What may stand there lets the next item be missed.
+        (Range(0, END, 7, 0), Reason::PastEnd),
+        (Range(END - 1, 1, 0, 0), Reason::PastEnd),
+    ];
+    for (area, reason) in &rows {
+        check(
+            &rt,
+            &DUMP,
+            &[Head(1, 0), Space(1, 1, 1), *area],
+            Some(*reason),
+        )?;
+    }
+    Ok(())
+}
+
+/// An area behind one of pages 16 and 17 with permissions 3.
+#[test]
+fn a_second_area_has_its_reason(rt: HostRuntime) -> Result<(), Fail> {
+    let rows = [
+        (Range(17, 1, 1, 0), Reason::Area),
+        (Range(2, 1, 1, 0), Reason::Area),
+        (Range(18, 1, 3, 0), Reason::Area),
+        (Range(18, 1, 3, 1), Reason::Area),
+        (Range(18, 1, 1, 1), Reason::Zero),
+        (Range(18, 1, 1, 0), Reason::PastEnd),
+        (Range(19, 1, 3, 0), Reason::PastEnd),
+    ];
+    for (area, reason) in &rows {
+        let items = [Head(1, 0), Space(1, 2, 1), Range(16, 2, 3, 0), *area];
+        check(&rt, &DUMP, &items, Some(*reason))?;
+    }
+    Ok(())
+}
+
+/// The first run of a pre-dump of one space that would have two.
+#[test]
+fn a_run_has_its_reason(rt: HostRuntime) -> Result<(), Fail> {
+    let rows = [
+        (Range(16, 0, DATA, 0), Reason::Run),
+        (Range(END, 1, DATA, 0), Reason::Run),
+        (Range(END - 1, 2, ZERO, 0), Reason::Run),
+        (Range(1, u64::MAX, ZERO, 0), Reason::Run),
+        (Range(16, 1, 0, 0), Reason::Run),
+        (Range(16, 1, 4, 0), Reason::Run),
+        (Range(16, 1, 0x101, 0), Reason::Run),
+        (Range(16, 0, 4, 1), Reason::Run),
+        (Range(16, 1, DATA, 1), Reason::Zero),
+        (Range(16, 1, DATA, 1 << 31), Reason::Zero),
+        (Range(0, END, PARENT, 0), Reason::PastEnd),
+        (Range(END - 1, 1, ZERO, 0), Reason::PastEnd),
+    ];
+    for (run, reason) in &rows {
+        check(
+            &rt,
+            &PRE_DUMP,
+            &[Head(1, 0), Space(1, 0, 2), *run],
+            Some(*reason),
+        )?;
+    }
+    Ok(())
+}
+
+/// A run behind one of data pages 16 and 17; a third would come.
+#[test]
+fn a_second_run_has_its_reason(rt: HostRuntime) -> Result<(), Fail> {
+    let rows = [
+        (Range(17, 1, ZERO, 0), Reason::Run),
+        (Range(2, 1, ZERO, 0), Reason::Run),
+        (Range(18, 1, DATA, 0), Reason::Run),
+        (Range(18, 1, DATA, 1), Reason::Run),
+        (Range(18, 1, ZERO, 1), Reason::Zero),
+        (Range(18, 1, PARENT, 0), Reason::PastEnd),
+        (Range(19, 1, DATA, 0), Reason::PastEnd),
+    ];
+    for (run, reason) in &rows {
+        let items = [Head(1, 0), Space(1, 0, 3), Range(16, 2, DATA, 0), *run];
+        check(&rt, &PRE_DUMP, &items, Some(*reason))?;
+    }
+    Ok(())
+}
+
+/// Where there is no parent, no page is in it.
+#[test]
+fn a_parent_run_needs_a_parent(rt: HostRuntime) -> Result<(), Fail> {
+    let items = [
+        Head(1, 0),
+        Space(1, 1, 1),
+        Range(16, 1, 3, 0),
+        Range(16, 1, PARENT, 0),
+    ];
+    check(&rt, &WHOLE, &items, Some(Reason::Run))?;
+    check(&rt, &MERGED, &items, Some(Reason::Run))?;
+    check(&rt, &DUMP, &items, None)
+}
+
+/// Two runs in a space with an area of pages 16 to 19: they are not its pages.
+#[test]
+fn the_end_of_a_space_has_its_reason(rt: HostRuntime) -> Result<(), Fail> {
+    let wrong = Some(Reason::Coverage);
+    let rows = [
+        (Range(16, 1, ZERO, 0), Range(18, 2, ZERO, 0)),
+        (Range(17, 1, ZERO, 0), Range(19, 1, ZERO, 0)),
+        (Range(16, 3, ZERO, 0), Range(20, 1, ZERO, 0)),
+        (Range(15, 1, ZERO, 0), Range(17, 3, ZERO, 0)),
+        (Range(16, 4, ZERO, 0), Range(20, 1, DATA, 0)),
+        (Range(15, 1, DATA, 0), Range(16, 4, ZERO, 0)),
+    ];
+    for (one, other) in &rows {
+        let items = [Head(1, 0), Space(1, 1, 2), Range(16, 4, 3, 0), *one, *other];
+        check(&rt, &DUMP, &items, wrong)?;
+        check(&rt, &MERGED, &items, wrong)?;
+    }
+    check(&rt, &PRE_DUMP, &[Head(1, 0), Space(1, 0, 0)], wrong)?;
+    // A run may go over the border of two areas.
+    let border = [
+        Head(1, 0),
+        Space(1, 2, 1),
+        Range(16, 1, 3, 0),
+        Range(17, 3, 1, 0),
+        Range(16, 4, ZERO, 0),
+    ];
+    check(&rt, &DUMP, &border, None)
+}
+
+/// Bytes behind the table, and other numbers of data pages than the header's.
+#[test]
+fn the_end_of_a_table_has_its_reason(rt: HostRuntime) -> Result<(), Fail> {
+    let wrong = Some(Reason::Total);
+    let mut more = text(rt.alloc(), &[Head(0, 0)])?;
+    more.push(0)?;
+    assert_eq!(rt; reason_of(rt.alloc(), &DUMP, &more)?, wrong);
+    let two = [
+        Head(1, 0),
+        Space(1, 1, 1),
+        Range(16, 2, 3, 0),
+        Range(16, 2, DATA, 0),
+    ];
+    for pages in 0..5 {
+        let header = Header { pages, ..DUMP };
+        check(&rt, &header, &two, if pages == 2 { None } else { wrong })?;
+    }
+    Ok(())
+}
+
+/// At most 65,536 pages are mapped, in all spaces together. A pre-dump maps none.
+#[test]
+fn too_many_pages_have_their_reason(rt: HostRuntime) -> Result<(), Fail> {
+    for (here, there, reason) in [
+        (65_535, 1, None),
+        (65_536, 1, Some(Reason::Total)),
+        (1, 65_536, Some(Reason::Total)),
+    ] {
+        let items = [
+            Head(2, 0),
+            Space(1, 1, 1),
+            Range(0, here, 3, 0),
+            Range(0, here, ZERO, 0),
+            Space(2, 1, 1),
+            Range(0, there, 3, 0),
+            Range(0, there, ZERO, 0),
+        ];
+        check(&rt, &DUMP, &items, reason)?;
+        check(&rt, &MERGED, &items, reason)?;
+    }
+    let all = [Head(1, 0), Space(1, 0, 1), Range(0, END, PARENT, 0)];
+    check(&rt, &PRE_DUMP, &all, None)
+}
+
+/// An item with a greater number before one with a less.
+#[test]
+fn the_first_item_at_fault_has_its_reason(rt: HostRuntime) -> Result<(), Fail> {
+    let rows: [(&[Item], Reason); 5] = [
+        (&[Head(0, 1), Space(17, 1025, 0)], Reason::Zero),
+        (
+            &[
+                Head(1, 0),
+                Space(1, 2, 1),
+                Range(16, 1, 3, 1),
+                Range(1, 1, 3, 0),
+            ],
+            Reason::Zero,
+        ),
+        (
+            &[
+                Head(2, 0),
+                Space(1, 1, 0),
+                Range(16, 0, 3, 0),
+                Space(17, 0, 0),
+            ],
+            Reason::Area,
+        ),
+        (
+            &[
+                Head(2, 0),
+                Space(1, 0, 1),
+                Range(16, 1, 4, 0),
+                Space(17, 1025, 0),
+            ],
+            Reason::Run,
+        ),
+        (
+            &[
+                Head(2, 0),
+                Space(1, 1, 0),
+                Range(16, 1, 3, 0),
+                Space(17, 0, 0),
+            ],
+            Reason::Coverage,
+        ),
+    ];
+    for (items, reason) in &rows {
+        check(&rt, &DUMP, items, Some(*reason))?;
+    }
+    Ok(())
+}
+
+/// The greatest table of one space: 1,024 areas, and as many runs.
+#[test]
+fn the_limit_of_areas_is_taken(rt: HostRuntime) -> Result<(), Fail> {
+    let mut items = vec![in rt.alloc(); Head(1, 0), Space(16, 1024, 1024)]?;
+    for page in 0..1024 {
+        items.push(Range(page, 1, (page % 2) as u32, 0))?;
+    }
+    for page in 0..1024 {
+        items.push(Range(page, 1, DATA + (page % 2) as u32, 0))?;
+    }
+    let header = Header { pages: 512, ..DUMP };
+    check(&rt, &header, &items, None)
+}
+
+/// What is read of a table with every kind of run is written as it was.
+#[test]
+fn a_table_of_each_kind_of_run_is_read_back(rt: HostRuntime) -> Result<(), Fail> {
+    let items = [
+        Head(2, 0),
+        Space(2, 2, 3),
+        Range(1, 2, 7, 0),
+        Range(3, 2, 4, 0),
+        Range(1, 1, PARENT, 0),
+        Range(2, 2, DATA, 0),
+        Range(4, 1, ZERO, 0),
+        Space(16, 1, 1),
+        Range(END - 1, 1, 0, 0),
+        Range(END - 1, 1, PARENT, 0),
+    ];
+    let bytes = text(rt.alloc(), &items)?;
+    let header = Header { pages: 2, ..DUMP };
+    let table = decode_table(rt.alloc(), &header, &bytes)
+        .ok()
+        .ok_or("a table")?;
+    let again = encode_table(rt.alloc(), &table)?;
+    assert_eq!(rt; again.as_slice(), bytes.as_slice());
+    Ok(())
+}
