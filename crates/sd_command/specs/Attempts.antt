@@ -59,7 +59,7 @@ Does (command.Exit space) answer old new = (answer ≡ reply.Done) × Step old (
 Does (command.Load space address count) answer old new = (new ≡ old) × IsLoaded old space address count answer
 Does (command.TryStore space address bytes) answer old new =
     ((answer ≡ reply.Done) × (try_outcome old space address (length bytes) ≡ Ok outcome.Done)
-        × Step old (Tried space (page_of address) (address % 4096) bytes) new)
+    × Step old (Tried space (page_of address) (address % 4096) bytes) new)
     ⊎ ((answer ≡ reply.NeedsFault) × (try_outcome old space address (length bytes) ≡ Ok outcome.NeedsFault) × (new ≡ old))
 Does (command.Fault space address) answer old new = (answer ≡ reply.Done) × Step old (Faulted space (page_of address)) new
 Does (command.Store space address bytes) answer old new =

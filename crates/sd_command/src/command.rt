@@ -25,9 +25,13 @@ pub enum Command {
         prot: Prot,
     },
     /// Makes a child space with a copy of the memory.
-    Fork { space: SpaceId },
+    Fork {
+        space: SpaceId,
+    },
     /// Ends a space.
-    Exit { space: SpaceId },
+    Exit {
+        space: SpaceId,
+    },
     /// Reads 1 to 64 bytes within a page.
     Load {
         space: SpaceId,
@@ -41,7 +45,10 @@ pub enum Command {
         bytes: Bytes,
     },
     /// Takes a write fault at an address.
-    Fault { space: SpaceId, address: u64 },
+    Fault {
+        space: SpaceId,
+        address: u64,
+    },
     /// Stores 1 to 64 bytes within a page, with the fault that it may need.
     Store {
         space: SpaceId,

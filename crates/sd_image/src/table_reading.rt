@@ -17,7 +17,7 @@ use crate::space_head::SpaceHead;
 use crate::table::{SpaceTable, Table};
 use crate::table_error::TableError;
 use crate::totals::{left_by_data, left_by_mapped};
-use sd_areas::{Area, PAGE_LIMIT, PageNo, Prot, SpaceId};
+use sd_areas::{Area, PAGE_NUMBER_LIMIT, PageNo, Prot, SpaceId};
 use std::alloc::Global;
 
 /// How many spaces there can be, and the highest number of one.
@@ -67,7 +67,7 @@ fn end_of(first: PageNo, count: u64) -> u128
 fn is_range(first: PageNo, count: u64) -> bool
     ensures { result ≡ (nat_lt 0 count && nat_le (first + count) (2 ^ 35)) }
 {
-    0 < count && end_of(first, count) <= u128::from(PAGE_LIMIT)
+    0 < count && end_of(first, count) <= u128::from(PAGE_NUMBER_LIMIT)
 }
 
 /// Whether an area begins behind the one before it, or at its end with other permissions.
