@@ -1,0 +1,5 @@
+pub mod Allowed
+pub mod History
+pub mod Laws
+pub mod Legal
+pub mod Worked
