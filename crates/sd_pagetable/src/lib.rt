@@ -24,7 +24,9 @@ mod tables;
 
 pub use access::Access;
 pub use access_error::AccessError;
-pub use law::{clear_law, count_law, plain_law, tracking_law};
+pub use law::{
+    clean_law, clear_law, count_law, effect_law, page_law, plain_law, tracking_law, tracks_law,
+};
 pub use limits::{ACCESS_LIMIT, FRAME_LIMIT, SECTOR_SIZE, SECTORS};
 pub use memory::Memory;
 pub use memory_error::MemoryError;

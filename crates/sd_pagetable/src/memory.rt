@@ -71,6 +71,7 @@ impl Memory {
         requires greatest { frames ≤ 65536 }
         ensures empty { IfOk result (λ memory. memory ≡ record { pool = frames; spaces = finmap.insert finmap.empty 1 finmap.empty }) }
         ensures memory { IfOk result (λ memory. plain_of memory ≡ finmap.insert finmap.empty 1 finmap.empty) }
+        ensures begins { IfOk result IsBeginning }
     {
         let space = SpaceId::new(1);
         let mut paging = Paging::new(alloc, frames);
