@@ -13,8 +13,6 @@ mod runs;
 mod snapshot;
 mod snapshot_page;
 mod space_id;
-#[cfg(test)]
-mod tests;
 
 pub use area::Area;
 pub use area_map::AreaMap;

@@ -11,25 +11,9 @@ use Rattle.sd_pagetable.specs.Nested.{Table, Nested, map_values, inside, value_a
 use Rattle.sd_pagetable.specs.Page.{Page, fresh_page, protected_page, shared_page, inherited_page, writable_page}
 use Rattle.sd_pagetable.specs.Contents.{Contents, page_at, put_page}
 use Rattle.sd_pagetable.specs.Tracking.{Event, Mapped, Unmapped, Protected, Forked, Exited, Faulted, Tried, Stored, Cleared, Passed, Step, with_space, touches, clears, makes_writable, write_protects}
+use Rattle.sd_pagetable.specs.PageLaw.{IsChangedBy, IsMadeBy, ComesFrom, PageLaw}
 use Rattle.sd_pagetable.proofs.TableLemmas.{get_removed, get-map_values, get-set_within, get-remove_within, get-change_within}
 use Rattle.sd_pagetable.proofs.NestedLemmas.{tests, value_at-insert, value_at-put}
-
--- the page was there, and its bits are those before but where the event is one that changes them
-pub record IsKept (event : Event) (space number : ℕ) (before after : Page) : Type 0 where
-  pub soft_dirty : after.soft_dirty ≡ cond (clears space number event) false (touches space number event || before.soft_dirty)
-  pub writable : after.writable ≡ cond (write_protects space number event) false (makes_writable space number event || before.writable)
-
--- the event made the page
-pub record IsMade (event : Event) (space number : ℕ) (after : Page) : Type 0 where
-  pub touched : touches space number event ≡ true
-  pub uncleared : clears space number event ≡ false
-  pub protected : write_protects space number event ≡ true
-  pub soft_dirty : after.soft_dirty ≡ true
-  pub writable : after.writable ≡ false
-
--- where a page comes from
-abbrev pub Comes : Contents → Event → ℕ → ℕ → Page → Type 0
-Comes old event space number after = ((before : Page) × (page_at old space number ≡ Some before) × IsKept event space number before after) ⊎ IsMade event space number after
 
 pub turned : (a b : ℕ) → nat_eq a b ≡ nat_eq b a
 turned a b = grind (arith, nat_tests)
@@ -41,6 +25,10 @@ cases_bool false = inr refl
 same : {A : Type 0} (x y : A) → Some x ≡ Some y → x ≡ y
 same x y e = (let f : Some x ≡ Some y = e in cc)
 
+-- a test that is both true and false
+both_tests : (b : Bool) → b ≡ true → b ≡ false → ⊥
+both_tests b t f = (let e : true ≡ false = sym t ∙ f in cc)
+
 gone : {A : Type 0} (x : A) → None ≡ Some x → {B : Type 0} → B
 gone x e = absurd (let f : None ≡ Some x = e in cc)
 
@@ -48,13 +36,14 @@ gone x e = absurd (let f : None ≡ Some x = e in cc)
 abbrev IsIdle : Event → ℕ → ℕ → Type 0
 IsIdle event space number = (touches space number event ≡ false) × (clears space number event ≡ false) × (makes_writable space number event ≡ false) × (write_protects space number event ≡ false)
 
-idle : (event : Event) (space number : ℕ) (page : Page) → IsIdle event space number → IsKept event space number page page
+idle : (event : Event) (space number : ℕ) (page : Page) → IsIdle event space number → IsChangedBy event space number page page
 idle event space number page is = record {
   soft_dirty = sym (ap (λ c. cond c false (touches space number event || page.soft_dirty)) is.1 ∙ ap (λ t. t || page.soft_dirty) is.0);
   writable = sym (ap (λ c. cond c false (makes_writable space number event || page.writable)) is.3 ∙ ap (λ o. o || page.writable) is.2);
+  bytes = λ _. refl;
 }
 
-kept : (old : Contents) (event : Event) (space number : ℕ) (after : Page) → page_at old space number ≡ Some after → IsIdle event space number → Comes old event space number after
+kept : (old : Contents) (event : Event) (space number : ℕ) (after : Page) → page_at old space number ≡ Some after → IsIdle event space number → ComesFrom old event space number after
 kept old event space number after there is = inl (after, there, idle event space number after is)
 
 -- what a space that has other pages has at a page
@@ -67,7 +56,7 @@ in_other s space number nested e = ap (λ k. finmap.get (inside nested k) number
 -- `mmap`
 mapped : (old : Contents) (s first count : ℕ) (prot : Prot) (space number : ℕ) (after : Page) (here within : Bool) → nat_eq s space ≡ here → is_within first count number ≡ within
     → cond here (cond within (Some (fresh_page prot)) (finmap.get (inside old.spaces s) number)) (page_at old space number) ≡ Some after
-    → Comes old (Mapped s first count prot) space number after
+    → ComesFrom old (Mapped s first count prot) space number after
 mapped old s first count prot space number after false within e f is = kept old _ space number after is (ap (λ h. h && is_within first count number) e, refl, refl, ap (λ h. h && is_within first count number) e)
 mapped old s first count prot space number after true false e f is = kept old _ space number after (sym (in_other s space number old.spaces e) ∙ is)
     (ap (λ h. h && is_within first count number) e ∙ f, refl, refl, ap (λ h. h && is_within first count number) e ∙ f)
@@ -82,7 +71,7 @@ mapped old s first count prot space number after true true e f is = inr (record 
 -- `munmap`
 unmapped : (old : Contents) (s first count : ℕ) (space number : ℕ) (after : Page) (here within : Bool) → nat_eq s space ≡ here → is_within first count number ≡ within
     → cond here (cond within None (finmap.get (inside old.spaces s) number)) (page_at old space number) ≡ Some after
-    → Comes old (Unmapped s first count) space number after
+    → ComesFrom old (Unmapped s first count) space number after
 unmapped old s first count space number after false within e f is = kept old _ space number after is (refl, refl, refl, ap (λ h. h && is_within first count number) e)
 unmapped old s first count space number after true false e f is = kept old _ space number after (sym (in_other s space number old.spaces e) ∙ is)
     (refl, refl, refl, ap (λ h. h && is_within first count number) e ∙ f)
@@ -95,7 +84,7 @@ changed f (Some x) y e = (x, refl, sym (same _ _ e))
 
 protected : (old : Contents) (s first count : ℕ) (prot : Prot) (space number : ℕ) (after : Page) (here within : Bool) → nat_eq s space ≡ here → is_within first count number ≡ within
     → cond here (option_map (λ (p : Page). cond within (protected_page prot p) p) (finmap.get (inside old.spaces s) number)) (page_at old space number) ≡ Some after
-    → Comes old (Protected s first count prot) space number after
+    → ComesFrom old (Protected s first count prot) space number after
 protected old s first count prot space number after false within e f is = kept old _ space number after is (refl, refl, refl, ap (λ h. h && is_within first count number) e)
 protected old s first count prot space number after true false e f is =
     let was = changed (λ (p : Page). p) _ after is in
@@ -109,6 +98,7 @@ protected old s first count prot space number after true true e f is =
       record {
         soft_dirty = ap (λ (p : Page). p.soft_dirty) was.2;
         writable = ap (λ (p : Page). p.writable) was.2 ∙ sym (ap (λ c. cond c false was.0.writable) (ap (λ h. h && is_within first count number) e ∙ f));
+        bytes = λ _. ap (λ (p : Page). p.bytes) was.2;
       },
     )
 
@@ -116,7 +106,7 @@ protected old s first count prot space number after true true e f is =
 forked_page : (old : Contents) (parent child : ℕ) (space number : ℕ) (after : Page) (is_child is_parent : Bool) → nat_eq child space ≡ is_child → nat_eq parent space ≡ is_parent
     → cond is_child (option_map inherited_page (finmap.get (inside old.spaces parent) number))
     (cond is_parent (option_map shared_page (finmap.get (inside old.spaces parent) number)) (page_at old space number)) ≡ Some after
-    → Comes old (Forked parent child) space number after
+    → ComesFrom old (Forked parent child) space number after
 forked_page old parent child space number after true is_parent e f is =
     let was = changed inherited_page _ after is in
     inr (record {
@@ -138,13 +128,14 @@ forked_page old parent child space number after false true e f is =
       record {
         soft_dirty = ap (λ (p : Page). p.soft_dirty) was.2 ∙ sym (ap (λ t. t || was.0.soft_dirty) e);
         writable = ap (λ (p : Page). p.writable) was.2 ∙ sym (ap (λ c. cond (c || nat_eq child space) false was.0.writable) f);
+        bytes = λ _. ap (λ (p : Page). p.bytes) was.2;
       },
     )
 forked_page old parent child space number after false false e f is = kept old _ space number after is (e, refl, refl, ap (λ a. a || nat_eq child space) f ∙ e)
 
 -- `exit`
 exited : (old : Contents) (s : ℕ) (space number : ℕ) (after : Page) (here : Bool) → nat_eq s space ≡ here
-    → cond here None (page_at old space number) ≡ Some after → Comes old (Exited s) space number after
+    → cond here None (page_at old space number) ≡ Some after → ComesFrom old (Exited s) space number after
 exited old s space number after true e is = gone after is
 exited old s space number after false e is = kept old _ space number after is (refl, refl, refl, refl)
 
@@ -153,7 +144,7 @@ opened : (old : Contents) (s p : ℕ) (event : Event) (bytes : List ℕ) (class 
     → touches space number event ≡ (nat_eq s space && nat_eq p number) → makes_writable space number event ≡ (nat_eq s space && nat_eq p number)
     → clears space number event ≡ false → write_protects space number event ≡ false
     → page_at old s p ≡ Some before → (nat_eq s space && nat_eq p number) ≡ here
-    → cond here (Some (writable_page before class bytes)) (page_at old space number) ≡ Some after → Comes old event space number after
+    → cond here (Some (writable_page before class bytes)) (page_at old space number) ≡ Some after → ComesFrom old event space number after
 opened old s p event bytes class space number before after false t o c d there e is = kept old event space number after is (t ∙ e, c, o ∙ e, d)
 opened old s p event bytes class space number before after true t o c d there e is =
     inl (
@@ -162,6 +153,7 @@ opened old s p event bytes class space number before after true t o c d there e 
       record {
         soft_dirty = ap (λ (q : Page). q.soft_dirty) (sym (same _ _ is)) ∙ sym (ap (λ b. cond b false (touches space number event || before.soft_dirty)) c ∙ ap (λ b. b || before.soft_dirty) (t ∙ e));
         writable = ap (λ (q : Page). q.writable) (sym (same _ _ is)) ∙ sym (ap (λ b. cond b false (makes_writable space number event || before.writable)) d ∙ ap (λ b. b || before.writable) (o ∙ e));
+        bytes = λ untouched. absurd (both_tests _ (t ∙ e) untouched);
       },
     )
   where
@@ -180,12 +172,12 @@ opened old s p event bytes class space number before after true t o c d there e 
 
 -- a store to a writable page, and a clear
 replaced : (old : Contents) (s p : ℕ) (event : Event) (space number : ℕ) (before page after : Page) (here : Bool)
-    → ((nat_eq s space && nat_eq p number) ≡ true → IsKept event space number before page) → ((nat_eq s space && nat_eq p number) ≡ false → IsIdle event space number)
+    → ((nat_eq s space && nat_eq p number) ≡ true → IsChangedBy event space number before page) → ((nat_eq s space && nat_eq p number) ≡ false → IsIdle event space number)
     → page_at old s p ≡ Some before → (nat_eq s space && nat_eq p number) ≡ here
-    → cond here (Some page) (page_at old space number) ≡ Some after → Comes old event space number after
+    → cond here (Some page) (page_at old space number) ≡ Some after → ComesFrom old event space number after
 replaced old s p event space number before page after false k i there e is = kept old event space number after is (i e)
 replaced old s p event space number before page after true k i there e is =
-    inl (before, at_page s p space number e ∙ there, subst (IsKept event space number before) (same _ _ is) (k e))
+    inl (before, at_page s p space number e ∙ there, subst (IsChangedBy event space number before) (same _ _ is) (k e))
   where
     left_of : (a b : Bool) → (a && b) ≡ true → a ≡ true
     left_of true b e = refl
@@ -208,7 +200,7 @@ put old s p page space number = value_at-put old.spaces s p page space number
 -- where a page of a memory comes from, by the event that led there; before it, what is writable has to be soft-dirty
 pub comes : (old new : Contents) (event : Event) (space number : ℕ) (after : Page)
     → ((s p : ℕ) (page : Page) → page_at old s p ≡ Some page → page.writable ≡ true → page.soft_dirty ≡ true)
-    → Step old event new → page_at new space number ≡ Some after → Comes old event space number after
+    → Step old event new → page_at new space number ≡ Some after → ComesFrom old event space number after
 comes old new (Mapped s first count prot) space number after dirty step there =
     mapped old s first count prot space number after _ _ refl refl
     (sym (other old s space number _ ∙ ap (λ o. cond (nat_eq s space) o (page_at old space number)) (get-set_within (inside old.spaces s) first count (fresh_page prot) number))
@@ -227,7 +219,7 @@ comes old new (Forked parent child) space number after dirty step there =
     ∙ ap (λ o. cond (nat_eq child space) o (page_at (with_space old parent (map_values shared_page (inside old.spaces parent))) space number)) (get-map_values inherited_page (inside old.spaces parent) number)
     ∙ ap (cond (nat_eq child space) (option_map inherited_page (finmap.get (inside old.spaces parent) number)))
     (other old parent space number _ ∙ ap (λ o. cond (nat_eq parent space) o (page_at old space number)) (get-map_values shared_page (inside old.spaces parent) number)))
-    ∙ ap (λ c. page_at c space number) (sym step.1) ∙ there)
+    ∙ ap (λ c. page_at c space number) (sym step.2) ∙ there)
 comes old new (Exited s) space number after dirty step there =
     exited old s space number after _ refl (sym (removed s space number) ∙ ap (λ c. page_at c space number) (sym step) ∙ there)
   where
@@ -245,12 +237,15 @@ comes old new (Stored s p offset bytes) space number after dirty step there =
     (sym (put old s p _ space number) ∙ ap (λ c. page_at c space number) (sym step.4) ∙ there)
 comes old new (Tried s p offset bytes) space number after dirty step there =
     replaced old s p (Tried s p offset bytes) space number step.0 _ after _
-    (λ e. record { soft_dirty = dirty s p step.0 step.1 step.2 ∙ sym (ap (λ b. b || step.0.soft_dirty) e); writable = refl })
+    (λ e. record { soft_dirty = dirty s p step.0 step.1 step.2 ∙ sym (ap (λ b. b || step.0.soft_dirty) e); writable = refl; bytes = λ untouched. absurd (both_tests _ e untouched) })
     (λ e. (e, refl, refl, refl)) step.1 refl
     (sym (put old s p _ space number) ∙ ap (λ c. page_at c space number) (sym step.3) ∙ there)
 comes old new (Cleared s p) space number after dirty step there =
     replaced old s p (Cleared s p) space number step.0 _ after _
-    (λ e. record { soft_dirty = sym (ap (λ b. cond b false step.0.soft_dirty) e); writable = sym (ap (λ b. cond b false step.0.writable) e) })
+    (λ e. record { soft_dirty = sym (ap (λ b. cond b false step.0.soft_dirty) e); writable = sym (ap (λ b. cond b false step.0.writable) e); bytes = λ _. refl })
     (λ e. (refl, e, refl, e)) step.1 refl
     (sym (put old s p _ space number) ∙ ap (λ c. page_at c space number) (sym step.2) ∙ there)
 comes old new Passed space number after dirty step there = kept old Passed space number after (ap (λ c. page_at c space number) (sym step) ∙ there) (refl, refl, refl, refl)
+
+pub page_law : PageLaw
+page_law old new event space number after sound step there = comes old new event space number after (λ s p page at w. (sound.writable s p page at w).soft_dirty) step there

@@ -1,10 +1,10 @@
 -- The tracking law over whole histories.
-use Rattle.std.proofs.Common.{◌≡◌, ℕ, Bool, true, false, cond, ◌||◌, List, [], ◌∷◌, Option, Some, None, Ok, refl, sym, ◌∙◌, ap, inl, inr}
+use Rattle.std.proofs.Common.{◌≡◌, ℕ, Bool, true, false, cond, ◌||◌, List, [], ◌∷◌, Option, Some, None, Ok, refl, sym, ◌∙◌, ap, subst, inl, inr}
 use Rattle.std.specs.Option.{option_map_or}
 use Rattle.sd_areas.specs.Pages.{page_of}
 use Rattle.sd_pagetable.specs.Page.{Page, plain_page}
 use Rattle.sd_pagetable.specs.Contents.{Contents, page_at, plain_of}
-use Rattle.sd_pagetable.specs.Tracking.{Event, Step, Tracks, BitsLaw, TryLaw, touches, clears, makes_writable, write_protects, is_dirty, is_writable}
+use Rattle.sd_pagetable.specs.Tracking.{Event, Step, Tracks, TracksLaw, IsBeginning, BitsLaw, TryLaw, touches, clears, makes_writable, write_protects, is_dirty, is_writable}
 use Rattle.std.specs.Prelude.{Result}
 use Rattle.sd_areas.specs.PlainMemory as plain
 use Rattle.sd_pagetable.specs.declared.access_error.AccessError.{AccessError}
@@ -15,12 +15,13 @@ use Rattle.sd_pagetable.specs.declared.store_outcome.StoreOutcome.{StoreOutcome}
 use Rattle.sd_pagetable.specs.declared.store_outcome.StoreOutcome.TheVariants.{Done, NeedsFault}
 use Rattle.sd_pagetable.specs.Nested.{value_at}
 use Rattle.sd_pagetable.specs.Due.{access_due, answer, page_due, try_outcome, try_answer}
-use Rattle.sd_pagetable.proofs.LawEvents.{Comes, comes, changed}
+use Rattle.sd_pagetable.specs.PageLaw.{ComesFrom}
+use Rattle.sd_pagetable.proofs.LawEvents.{comes, changed}
 use Rattle.sd_pagetable.proofs.NestedLemmas.{value_at-map}
 use Rattle.sd_pagetable.proofs.LawTests.{dirty_more, writable_more, writable_is_dirty}
 
-step_tracks : (history : List Event) (event : Event) (old new : Contents) → Tracks history old → Step old event new → Tracks (event ∷ history) new
-step_tracks history event old new tracks step = record {
+pub tracks_more : (history : List Event) (event : Event) (old new : Contents) → Tracks history old → Step old event new → Tracks (event ∷ history) new
+tracks_more history event old new tracks step = record {
   soft_dirty = λ space number page there. dirty_then space number page (comes old new event space number page dirty step there);
   writable = λ space number page there. writable_then space number page (comes old new event space number page dirty step there);
 }
@@ -28,24 +29,30 @@ step_tracks history event old new tracks step = record {
     dirty : (s p : ℕ) (page : Page) → page_at old s p ≡ Some page → page.writable ≡ true → page.soft_dirty ≡ true
     dirty s p page there is = tracks.soft_dirty s p page there ∙ writable_is_dirty history s p (sym (tracks.writable s p page there) ∙ is)
 
-    dirty_then : (space number : ℕ) (page : Page) → Comes old event space number page → page.soft_dirty ≡ is_dirty (event ∷ history) space number
+    dirty_then : (space number : ℕ) (page : Page) → ComesFrom old event space number page → page.soft_dirty ≡ is_dirty (event ∷ history) space number
     dirty_then space number page (inl k) = k.2.soft_dirty
         ∙ ap (λ b. cond (clears space number event) false (touches space number event || b)) (tracks.soft_dirty space number k.0 k.1) ∙ sym (dirty_more event history space number)
     dirty_then space number page (inr m) = m.soft_dirty
         ∙ sym (dirty_more event history space number ∙ ap (λ c. cond c false (touches space number event || is_dirty history space number)) m.uncleared ∙ ap (λ t. t || is_dirty history space number) m.touched)
 
-    writable_then : (space number : ℕ) (page : Page) → Comes old event space number page → page.writable ≡ is_writable (event ∷ history) space number
+    writable_then : (space number : ℕ) (page : Page) → ComesFrom old event space number page → page.writable ≡ is_writable (event ∷ history) space number
     writable_then space number page (inl k) = k.2.writable
         ∙ ap (λ b. cond (write_protects space number event) false (makes_writable space number event || b)) (tracks.writable space number k.0 k.1) ∙ sym (writable_more event history space number)
     writable_then space number page (inr m) = m.writable
         ∙ sym (writable_more event history space number ∙ ap (λ c. cond c false (makes_writable space number event || is_writable history space number)) m.protected)
 
-pub bits_law : BitsLaw
-bits_law start end [] beginning run = record {
-  soft_dirty = λ space number page there. (beginning space number page (ap (λ c. page_at c space number) (sym run) ∙ there)).0;
-  writable = λ space number page there. (beginning space number page (ap (λ c. page_at c space number) (sym run) ∙ there)).1;
+tracks_none : (contents : Contents) → IsBeginning contents → Tracks [] contents
+tracks_none contents beginning = record {
+  soft_dirty = λ space number page there. (beginning space number page there).0;
+  writable = λ space number page there. (beginning space number page there).1;
 }
-bits_law start end (event ∷ history) beginning run = step_tracks history event run.0 end (bits_law start run.0 history beginning run.1) run.2
+
+pub tracks_law : TracksLaw
+tracks_law = record { begins = tracks_none; more = tracks_more }
+
+pub bits_law : BitsLaw
+bits_law start end [] beginning run = subst (Tracks []) (sym run) (tracks_none start beginning)
+bits_law start end (event ∷ history) beginning run = tracks_more history event run.0 end (bits_law start run.0 history beginning run.1) run.2
 
 -- a permitted page is mapped
 permitted : (alive bad : Bool) (found : Option plain.Page) → cond alive (cond bad (Some (Refused Einval)) (page_due Write found)) (Some (Refused NoSuchSpace)) ≡ None → (page : plain.Page) × (found ≡ Some page)

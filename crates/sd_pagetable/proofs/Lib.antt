@@ -4,6 +4,8 @@ pub mod TotalLemmas
 pub mod FrameLemmas
 pub mod LawTests
 pub mod LawEvents
+pub mod CleanLemmas
+pub mod EffectLemmas
 pub mod LawLemmas
 pub mod ViewLemmas
 pub mod KeptLemmas

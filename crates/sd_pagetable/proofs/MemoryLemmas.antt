@@ -27,13 +27,13 @@ use Rattle.sd_pagetable.specs.Access.{allows, stored_at, is_bad_access}
 use Rattle.sd_pagetable.specs.declared.memory_refusal.MemoryRefusal.TheVariants.{NoSuchSpace, Einval}
 use Rattle.sd_pagetable.specs.Effects.{after_store}
 use Rattle.sd_pagetable.specs.Due.{page_due, access_due, fault_due, frame_due, or_else, Answers}
-use Rattle.sd_pagetable.specs.Tracking.{MakesWritable}
+use Rattle.sd_pagetable.specs.Tracking.{MakesWritable, IsBeginning}
 use Rattle.std.specs.Prelude.{Result, Ok, Err, OnOk, OnErr, IfSome}
 use Rattle.sd_pagetable.specs.declared.memory_error.MemoryError.{MemoryError}
 use Rattle.sd_pagetable.specs.declared.memory_error.MemoryError.TheVariants.{Denied as DeniedError}
 use Rattle.sd_pagetable.specs.Kept.{prots_of, HasAreas}
 use Rattle.sd_pagetable.proofs.TableLemmas.{turned_test, map_values-empty, get_put, map_values-insert, same_again, turned_in, some_of, get-map_values}
-use Rattle.sd_pagetable.proofs.NestedLemmas.{same_nested, value_at-put, alive-put, alive-put_same, value_at-map, alive-map, alive_at, tests}
+use Rattle.sd_pagetable.proofs.NestedLemmas.{same_nested, value_at-insert, value_at-put, alive-put, alive-put_same, value_at-map, alive-map, alive_at, tests}
 
 pub plain_alive : (m : Contents) (s : ℕ) → is_alive (plain_of m) s ≡ is_alive m.spaces s
 unfolding plain_of
@@ -237,3 +237,20 @@ plain_of_one c one space more none is =
     ∙ map_values-insert (map_values plain_page) finmap.empty 1 finmap.empty
     ∙ ap (λ (t : plain.PlainMemory). finmap.insert t 1 (map_values plain_page finmap.empty)) (map_values-empty (map_values plain_page))
     ∙ ap (finmap.insert finmap.empty 1) (map_values-empty plain_page)
+
+-- a space without pages begins
+pub alone_begins : (c one : Contents) (space : ℕ) → one.spaces ≡ finmap.insert c.spaces space finmap.empty → c.spaces ≡ finmap.empty → IsBeginning one
+alone_begins c one space more none s p page there = absurd (let f : ◌≡◌ {A = Option Page} None (Some page) = sym (nothing s p) ∙ there in cc)
+  where
+    each : (b : Bool) (o : Option Page) → o ≡ None → cond b None o ≡ None
+    each true o e = refl
+    each false o e = e
+
+    empty_at : (s p : ℕ) → value_at {X = Page} finmap.empty s p ≡ None
+    empty_at s p = ap (λ (o : Option (Table Page)). finmap.get (unwrap_or o finmap.empty) p) (get-empty nat_cmp s) ∙ get-empty nat_cmp p
+
+    nothing : (s p : ℕ) → page_at one s p ≡ None
+    nothing s p = ap (λ (n : Nested Page). value_at n s p) (more ∙ ap (λ (n : Nested Page). finmap.insert n space finmap.empty) none)
+        ∙ value_at-insert {X = Page} finmap.empty space finmap.empty s p
+        ∙ ap (λ (o : Option Page). cond (nat_eq s space) o (value_at {X = Page} finmap.empty s p)) (get-empty nat_cmp p)
+        ∙ each (nat_eq s space) (value_at {X = Page} finmap.empty s p) (empty_at s p)

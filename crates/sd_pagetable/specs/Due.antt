@@ -30,12 +30,12 @@ abbrev pub or_else : Option AccessError → Option AccessError → Option Access
 or_else None second = second
 or_else (Some denied) second = Some denied
 
--- a call that takes no memory answers what is due
+-- a call that takes no memory returns what is due
 abbrev pub answer : {T : Type 0} → Option AccessError → T → Result T AccessError
 answer None value = Ok value
 answer (Some denied) value = Err denied
 
--- a call that takes memory answers what is due; want of memory says nothing of the call
+-- a call that takes memory returns what is due; out of memory says nothing of the call
 abbrev pub Answers : {T : Type 0} → Option AccessError → Result T MemoryError → Type 0
 Answers due (Ok value) = due ≡ None
 Answers due (Err (DeniedError denied)) = due ≡ Some denied
@@ -54,7 +54,12 @@ page_due need (Some page) = if allows need page.prot then None else Some (Stoppe
 abbrev pub access_due : PlainMemory → ℕ → ℕ → ℕ → Access → Option AccessError
 access_due memory space address bytes need = in_space memory space (if is_bad_access address bytes then Some (Refused Einval) else page_due need (value_at memory space (page_of address)))
 
--- a frame has to be left where the page isn't alone in a class
+-- a page that isn't alone in a class needs a frame
+abbrev pub needs_frame : Contents → Option full.Page → Bool
+needs_frame contents None = false
+needs_frame contents (Some page) = not (is_alone contents page)
+
+-- and then a frame has to be left
 abbrev pub frame_due : Contents → Option full.Page → Option AccessError
 frame_due contents None = None
 frame_due contents (Some page) = if not (is_alone contents page) && is_full contents then Some (Refused NoFrame) else None

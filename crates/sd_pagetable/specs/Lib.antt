@@ -6,6 +6,8 @@ pub mod Refusals
 pub mod Effects
 pub mod Due
 pub mod Tracking
+pub mod PageLaw
+pub mod EventEffects
 pub mod Frames
 pub mod FrameCells
 pub mod View

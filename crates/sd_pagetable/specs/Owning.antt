@@ -1,7 +1,11 @@
 -- The frame that an entry has to itself after a fault.
 use Rattle.std.specs.Prelude.{◌≡◌, ◌≢◌, ◌⊎◌, ℕ, ◌+◌, ◌<◌, Bool, true, false, ◌==◌, Option, Some, None}
 use Rattle.std.specs.Option.{option_map_or}
-use Rattle.sd_pagetable.specs.Frames.{Pool, Cell, cell_at, count_at, bytes_at}
+use Rattle.sd_pagetable.specs.declared.memory_refusal.MemoryRefusal.TheVariants.{NoFrame}
+use Rattle.sd_pagetable.specs.declared.access_error.AccessError.TheVariants.{Refused}
+use Rattle.sd_pagetable.specs.declared.memory_error.MemoryError.{MemoryError}
+use Rattle.sd_pagetable.specs.declared.memory_error.MemoryError.TheVariants.{Denied as DeniedError, OutOfMemory}
+use Rattle.sd_pagetable.specs.Frames.{Pool, Cell, cell_at, count_at, bytes_at, IsExhausted, HasFree}
 use Rattle.sd_pagetable.specs.View.{frame_bytes}
 
 -- no other entry has the frame
@@ -21,6 +25,10 @@ pub record TakesFrame (old new : Pool) (frame : Option ℕ) (own : ℕ) : Type 0
 -- the entry keeps its frame, or takes a free one
 abbrev pub OwnsFrame : Pool → Pool → Option ℕ → ℕ → Type 0
 OwnsFrame old new frame own = ((is_own old frame ≡ true) × (frame ≡ Some own) × (new ≡ old)) ⊎ ((is_own old frame ≡ false) × TakesFrame old new frame own)
+
+-- why no new frame was made: there is no memory for a free one, or none is free
+abbrev pub FailsToTake : Pool → MemoryError → Type 0
+FailsToTake pool error = ((error ≡ OutOfMemory) × HasFree pool) ⊎ ((error ≡ DeniedError (Refused NoFrame)) × IsExhausted pool)
 
 -- one entry less has a frame, if there is one
 pub record ReleasesFrame (old new : Pool) (frame : Option ℕ) : Type 0 where

@@ -53,7 +53,8 @@ abbrev pub Step : Contents → Event → Contents → Type 0
 Step old (Mapped space first count prot) new = new ≡ with_space old space (set_within (inside old.spaces space) first count (fresh_page prot))
 Step old (Unmapped space first count) new = new ≡ with_space old space (remove_within (inside old.spaces space) first count)
 Step old (Protected space first count prot) new = new ≡ with_space old space (change_within (protected_page prot) (inside old.spaces space) first count)
-Step old (Forked parent child) new = (is_alive old.spaces child ≡ false) × (new ≡ contents_after_fork old parent child)
+Step old (Forked parent child) new = (is_alive old.spaces parent ≡ true) × (is_alive old.spaces child ≡ false)
+    × (new ≡ contents_after_fork old parent child)
 Step old (Exited space) new = new ≡ record { pool = old.pool; spaces = finmap.remove old.spaces space }
 Step old (Faulted space page) new = MakesWritable old space page (λ bytes. bytes) new
 Step old (Tried space number offset bytes) new = (page : Page) × (page_at old space number ≡ Some page) × (page.writable ≡ true)
@@ -122,9 +123,15 @@ abbrev pub IsBeginning : Contents → Type 0
 IsBeginning contents = (space number : ℕ) (page : Page) → page_at contents space number ≡ Some page → (page.soft_dirty ≡ true) × (page.writable ≡ false)
 
 -- After every list of calls and clears a mapped page is soft-dirty exactly where something since its last clear touched it or it
--- was never cleared, and writable exactly where a fault or store was accepted at it and nothing since closed it.
+-- was never cleared, and writable exactly where a fault or store was accepted at it and nothing since write-protected it.
 abbrev pub BitsLaw : Type 0
 BitsLaw = (start end : Contents) (history : List Event) → IsBeginning start → Run start history end → Tracks history end
+
+-- The law by one event more, from a beginning on: a memory stays tracked.
+pub record TracksLaw : Type 0 where
+  pub begins : (contents : Contents) → IsBeginning contents → Tracks [] contents
+  pub more : (history : List Event) (event : Event) (old new : Contents) → Tracks history old → Step old event new
+      → Tracks (event ∷ history) new
 
 -- And a try of a store on a permitted page needs a fault exactly where the page isn't writable.
 abbrev pub TryLaw : Type 0

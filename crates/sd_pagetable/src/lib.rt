@@ -8,19 +8,9 @@ mod fork_calls;
 mod frame;
 mod frame_cell;
 mod frames;
-#[cfg(test)]
-mod growth_tests;
-#[cfg(test)]
-mod kernel_line;
-#[cfg(test)]
-mod kernel_scripts;
-#[cfg(test)]
-mod kernel_tests;
 mod law;
 mod limits;
 mod loading;
-#[cfg(test)]
-mod loading_tests;
 mod memory;
 mod memory_error;
 mod memory_refusal;
@@ -31,12 +21,12 @@ mod ranges;
 mod segv;
 mod store_outcome;
 mod tables;
-#[cfg(test)]
-mod tests;
 
 pub use access::Access;
 pub use access_error::AccessError;
-pub use law::{clear_law, count_law, plain_law, tracking_law};
+pub use law::{
+    clean_law, clear_law, count_law, effect_law, page_law, plain_law, tracking_law, tracks_law,
+};
 pub use limits::{ACCESS_LIMIT, FRAME_LIMIT, SECTOR_SIZE, SECTORS};
 pub use memory::Memory;
 pub use memory_error::MemoryError;

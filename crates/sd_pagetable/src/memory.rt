@@ -1,5 +1,5 @@
 ghost use Rattle.sd_pagetable.specs.Access.{allows, is_bad_access};
-ghost use Rattle.std.specs.Prelude.{◌≡◌, ◌%◌, ◌+◌, ◌*◌, ◌<◌, ◌≤◌, ℕ, true, false, None, Some, Ok, length, slice_range, is_some, IsSome, OnOk, OnErr, IfOk, IfSome, IfErr};
+ghost use Rattle.std.specs.Prelude.{◌≡◌, ◌%◌, ◌+◌, ◌*◌, ◌<◌, ◌≤◌, ℕ, true, false, None, Some, Ok, Err, length, slice_range, is_some, IsSome, OnOk, OnErr, IfOk, IfSome, IfErr};
 
 use crate::access::Access;
 use crate::access_error::AccessError;
@@ -52,11 +52,12 @@ impl Memory {
     ghost use Rattle.sd_pagetable.specs.Page.{Page};
     ghost use Rattle.sd_pagetable.specs.Contents.{page_at, plain_of, word_at, IsSound};
     ghost use Rattle.sd_pagetable.specs.Effects.{after_mmap, after_munmap, after_mprotect, after_fork, after_exit, after_store, IsLeastFree};
-    ghost use Rattle.sd_pagetable.specs.Due.{answer, Answers, page_due, access_due, fault_due, store_due, try_outcome, mmap_due, munmap_due, mprotect_due, fork_due, exit_due};
+    ghost use Rattle.sd_pagetable.specs.Due.{answer, Answers, needs_frame, page_due, access_due, fault_due, store_due, try_outcome, mmap_due, munmap_due, mprotect_due, fork_due, exit_due};
     ghost use Rattle.sd_pagetable.specs.Tracking.{Step, IsBeginning, Mapped, Unmapped, Protected, Forked, Exited, Faulted, Tried as TriedEvent, Stored, Cleared};
     ghost use Rattle.sd_pagetable.specs.Order.{IsNextPage, IsFirstPage, IsFirstIn};
     ghost use Rattle.sd_pagetable.specs.Kept.{prots_of};
     ghost use Rattle.sd_pagetable.specs.Loaded.{snapshot_due, IsLoaded};
+    ghost use Rattle.sd_pagetable.specs.declared.memory_error.MemoryError.TheVariants.{OutOfMemory};
     ghost use Rattle.sd_pagetable.specs.declared.access.Access.TheVariants.{Read, Write};
     ghost use Rattle.sd_pagetable.specs.declared.store_outcome.StoreOutcome.TheVariants.{Done, NeedsFault};
 
@@ -70,6 +71,7 @@ impl Memory {
         requires greatest { frames ≤ 65536 }
         ensures empty { IfOk result (λ memory. memory ≡ record { pool = frames; spaces = finmap.insert finmap.empty 1 finmap.empty }) }
         ensures memory { IfOk result (λ memory. plain_of memory ≡ finmap.insert finmap.empty 1 finmap.empty) }
+        ensures begins { IfOk result IsBeginning }
     {
         let space = SpaceId::new(1);
         let mut paging = Paging::new(alloc, frames);
@@ -312,9 +314,13 @@ impl Memory {
     ///
     /// In this order: no-such-space; maperr where the page isn't mapped; accerr where it can't be
     /// written; no-frame where a frame is needed and every frame of the pool is used. Out of memory
-    /// where the frame can't be allocated. An error changes nothing.
+    /// where a needed frame can't be allocated: only a page that isn't alone in a frame needs one.
+    /// An error changes nothing.
     pub fn fault(&mut self, space: SpaceId, address: u64) -> Result<(), MemoryError>
         ensures due { Answers (fault_due self.old space address) result }
+        ensures needed { result ≡ Err OutOfMemory
+            → needs_frame self.old (page_at self.old space (page_of address)) ≡ true }
+        ensures tested { result ≡ Err OutOfMemory → fault_due self.old space address ≡ None }
         ensures step { OnOk result (Step self.old (Faulted space (page_of address)) self.new) }
         ensures memory { plain_of self.new ≡ plain_of self.old }
         ensures err { OnErr result (self.new ≡ self.old) }
@@ -338,6 +344,10 @@ impl Memory {
         bytes: &[u8],
     ) -> Result<(), MemoryError>
         ensures due { Answers (store_due self.old space address (length bytes.now)) result }
+        ensures needed { result ≡ Err OutOfMemory
+            → needs_frame self.old (page_at self.old space (page_of address)) ≡ true }
+        ensures tested { result ≡ Err OutOfMemory
+            → store_due self.old space address (length bytes.now) ≡ None }
         ensures step { OnOk result (Step self.old (Stored space (page_of address) (address % 4096) bytes.now) self.new) }
         ensures memory { OnOk result (plain_of self.new ≡ after_store (plain_of self.old) space address bytes.now) }
         ensures err { OnErr result (self.new ≡ self.old) }

@@ -8,14 +8,12 @@ ghost use Rattle.sd_pagetable.specs.Page.{Page, fresh_page, shared_page, inherit
 ghost use Rattle.sd_pagetable.specs.Contents.{page_at, put_page, remove_page, is_alone, is_full, page_count, word_at, IsSound};
 ghost use Rattle.sd_pagetable.specs.Access.{stored_at};
 ghost use Rattle.sd_pagetable.specs.Firsts.{IsFirstFrom};
-ghost use Rattle.std.specs.Prelude.{◌⊎◌, IfErr};
+ghost use Rattle.std.specs.Prelude.{◌⊎◌, Err, IfErr};
 ghost use Rattle.std.specs.Option.{ForSome};
-ghost use Rattle.sd_pagetable.specs.Frames.{count_at, IsExhausted, HasFree};
-ghost use Rattle.sd_pagetable.specs.Owning.{ReleasesFrame, SharesFrame, is_own, TakesFrame, OwnsFrame};
-ghost use Rattle.sd_pagetable.specs.declared.memory_refusal.MemoryRefusal.TheVariants.{NoFrame};
-ghost use Rattle.sd_pagetable.specs.declared.access_error.AccessError.TheVariants.{Refused};
-ghost use Rattle.sd_pagetable.specs.declared.memory_error.MemoryError.TheVariants.{Denied as DeniedError, OutOfMemory};
-ghost use Rattle.sd_pagetable.specs.Due.{Answers, frame_due};
+ghost use Rattle.sd_pagetable.specs.Frames.{count_at, HasFree};
+ghost use Rattle.sd_pagetable.specs.Owning.{ReleasesFrame, SharesFrame, is_own, TakesFrame, OwnsFrame, FailsToTake};
+ghost use Rattle.sd_pagetable.specs.declared.memory_error.MemoryError.TheVariants.{OutOfMemory};
+ghost use Rattle.sd_pagetable.specs.Due.{Answers, frame_due, needs_frame};
 ghost use Rattle.sd_pagetable.specs.Tracking.{MakesWritable};
 ghost use Rattle.sd_pagetable.specs.View.{entry_of};
 ghost use Rattle.sd_areas.specs.Memory.{page_of_snapshot};
@@ -345,6 +343,10 @@ impl Paging {
         requires there { IsSome (page_at self.old space page) }
         ensures writable { OnOk result (MakesWritable self.old space page (λ bytes. bytes) self.new) }
         ensures due { Answers (frame_due self.old (page_at self.old space page)) result }
+        ensures needed { result ≡ Err OutOfMemory
+            → needs_frame self.old (page_at self.old space page) ≡ true }
+        ensures tested { result ≡ Err OutOfMemory
+            → frame_due self.old (page_at self.old space page) ≡ None }
         ensures err { OnErr result (self.new ≡ self.old) }
     {
         let Some(entry) = self.tables.get(space, page) else {
@@ -412,7 +414,8 @@ fn share(frames: &mut Frames, frame: Option<usize>)
 fn own_frame(frames: &mut Frames, frame: Option<usize>) -> Result<usize, MemoryError>
     requires { ForSome frame (λ number. 0 < count_at frames.old number) }
     ensures owns { IfOk result (λ own. OwnsFrame frames.old frames.new frame own) }
-    ensures refused { IfErr result (λ error. (error ≡ OutOfMemory) ⊎ ((error ≡ DeniedError (Refused NoFrame)) × (is_own frames.old frame ≡ false) × IsExhausted frames.old)) }
+    ensures shared { IfErr result (λ _. is_own frames.old frame ≡ false) }
+    ensures refused { IfErr result (FailsToTake frames.old) }
     ensures room { IfOk result (λ _. (is_own frames.old frame ≡ true) ⊎ HasFree frames.old) }
     ensures err { OnErr result (frames.new ≡ frames.old) }
 {
@@ -428,7 +431,7 @@ fn own_frame(frames: &mut Frames, frame: Option<usize>) -> Result<usize, MemoryE
 /// A new frame of zeros.
 fn zero_frame(frames: &mut Frames) -> Result<usize, MemoryError>
     ensures owns { IfOk result (λ own. TakesFrame frames.old frames.new None own) }
-    ensures refused { IfErr result (λ error. (error ≡ OutOfMemory) ⊎ ((error ≡ DeniedError (Refused NoFrame)) × IsExhausted frames.old)) }
+    ensures refused { IfErr result (FailsToTake frames.old) }
     ensures room { OnOk result (HasFree frames.old) }
     ensures err { OnErr result (frames.new ≡ frames.old) }
 {
@@ -443,7 +446,7 @@ fn copy_of(frames: &mut Frames, shared: usize) -> Result<usize, MemoryError>
     requires some { 0 < count_at frames.old shared }
     requires more { count_at frames.old shared ≡ 1 → ⊥ }
     ensures owns { IfOk result (λ own. TakesFrame frames.old frames.new (Some shared) own) }
-    ensures refused { IfErr result (λ error. (error ≡ OutOfMemory) ⊎ ((error ≡ DeniedError (Refused NoFrame)) × IsExhausted frames.old)) }
+    ensures refused { IfErr result (FailsToTake frames.old) }
     ensures room { OnOk result (HasFree frames.old) }
     ensures err { OnErr result (frames.new ≡ frames.old) }
 {

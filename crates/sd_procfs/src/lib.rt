@@ -5,8 +5,6 @@ mod area_lines;
 mod clear_error;
 mod clearing;
 mod no_such_space;
-#[cfg(test)]
-mod tests;
 mod words;
 
 pub use area_lines::listing;

@@ -54,7 +54,7 @@ returns-clause-due c =
     fork_alive c.args.paging.now c.args.space false false (sym c.if-not-is_alive.ensures) (is_fewer _ c.in-Some.ensures.1) (few_pages _ few)
 
 pub returns-clause-step : goal.returns-clause-step
-returns-clause-step c = (sym (plain_alive c.args.paging.now c.in-Some.child) ∙ c.in-Some.ensures.0.free, c.in_default-copy_space.ensures.ok)
+returns-clause-step c = (sym c.if-not-is_alive.ensures, sym (plain_alive c.args.paging.now c.in-Some.child) ∙ c.in-Some.ensures.0.free, c.in_default-copy_space.ensures.ok)
 
 pub returns-clause-memory : goal.returns-clause-memory
 returns-clause-memory c =

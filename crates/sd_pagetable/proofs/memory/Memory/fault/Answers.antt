@@ -1,4 +1,4 @@
-use Rattle.std.proofs.Common.{ap, ◌∙◌, sym, subst, refl}
+use Rattle.std.proofs.Common.{◌≡◌, ap, ◌∙◌, sym, subst, refl}
 use Rattle.sd_areas.specs.Pages.{page_of}
 use Rattle.sd_pagetable.specs.Nested.{is_alive}
 use Rattle.sd_pagetable.specs.Contents.{Contents, page_at, plain_of}
@@ -24,12 +24,18 @@ make_writable-requires-clause-permitted c = let x = write_there c.args.self.now 
 pub make_writable-requires-clause-there : goal.make_writable-requires-clause-there
 make_writable-requires-clause-there c = let x = write_there c.args.self.now c.self.inside.paging c.args.space (page_of c.args.address) c.in_ok-page.page c.self.view_is c.in_ok-page.ensures.page c.in_ok-page.ensures.ok in rw x.1 refl
 
-pub returns-clause-due : goal.returns-clause-due
-returns-clause-due c = subst (λ due. Answers due c.make_writable.result)
-    (ap (λ p. frame_due c.self.inside.paging (page_at c.self.inside.paging c.args.space p)) c.in_ok-page.ensures.page
+-- what is due at the page is all that is due
+page_alone : (c : goal.After-make_writable) → frame_due c.self.inside.paging (page_at c.self.inside.paging c.args.space c.in_ok-page.page) ≡ fault_due c.args.self.now c.args.space c.args.address
+page_alone c =
+    ap (λ p. frame_due c.self.inside.paging (page_at c.self.inside.paging c.args.space p)) c.in_ok-page.ensures.page
     ∙ ap (λ (m : Contents). frame_due m (page_at m c.args.space (page_of c.args.address))) c.self.view_is
-    ∙ sym (fault_goes c.args.self.now c.args.space c.args.address (ap (λ (m : Contents). is_alive m.spaces c.args.space) (sym c.self.view_is) ∙ sym c.is_alive.ensures ∙ c.if-not-is_alive.false) c.in_ok-page.ensures.ok))
-    c.make_writable.ensures.due
+    ∙ sym (fault_goes c.args.self.now c.args.space c.args.address (ap (λ (m : Contents). is_alive m.spaces c.args.space) (sym c.self.view_is) ∙ sym c.is_alive.ensures ∙ c.if-not-is_alive.false) c.in_ok-page.ensures.ok)
+
+pub returns-clause-due : goal.returns-clause-due
+returns-clause-due c = subst (λ due. Answers due c.make_writable.result) (page_alone c) c.make_writable.ensures.due
+
+pub returns-clause-tested : goal.returns-clause-tested
+returns-clause-tested c = λ is. sym (page_alone c) ∙ c.make_writable.ensures.tested is
 
 pub returns-clause-memory : goal.returns-clause-memory
 returns-clause-memory c = either_result c.make_writable.result _ _ _ c.make_writable.ensures.writable c.make_writable.ensures.err

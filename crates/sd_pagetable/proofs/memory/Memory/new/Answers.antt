@@ -2,7 +2,7 @@ use Rattle.std.proofs.Common.{ap, ◌∙◌, is_some}
 use Rattle.std.specs.FinMap as finmap
 use Rattle.sd_pagetable.specs.Nested.{is_alive}
 use Rattle.sd_pagetable.specs.Contents.{Contents}
-use Rattle.sd_pagetable.proofs.MemoryLemmas.{areas_of_one, plain_of_one}
+use Rattle.sd_pagetable.proofs.MemoryLemmas.{areas_of_one, plain_of_one, alone_begins}
 use Rattle.sd_pagetable.proofs.memory.Memory.new.Goals as goal
 use Rattle.std.specs.FinMap.{get-empty}
 use Rattle.std.specs.Ordering.{nat_cmp}
@@ -17,3 +17,7 @@ invariant_of-result c = areas_of_one c.new-areas.result c.insert.new.self c.add_
 pub returns-clause-memory : goal.returns-clause-memory
 returns-clause-memory c = plain_of_one c.new-paging.result c.add_space.new.self c.new-space.result (ap (λ (m : Contents). m.spaces) c.in_ok-add_space.ensures.ok)
     (ap (λ (m : Contents). m.spaces) c.new-paging.ensures) c.new-space.ensures
+
+pub returns-clause-begins : goal.returns-clause-begins
+returns-clause-begins c = alone_begins c.new-paging.result c.add_space.new.self c.new-space.result (ap (λ (m : Contents). m.spaces) c.in_ok-add_space.ensures.ok)
+    (ap (λ (m : Contents). m.spaces) c.new-paging.ensures)

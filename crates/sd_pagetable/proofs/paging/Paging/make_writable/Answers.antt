@@ -18,10 +18,10 @@ use Rattle.sd_pagetable.specs.declared.access_error.AccessError.{AccessError}
 use Rattle.sd_pagetable.specs.declared.access_error.AccessError.TheVariants.{Refused}
 use Rattle.sd_pagetable.specs.declared.memory_refusal.MemoryRefusal.TheVariants.{NoFrame}
 use Rattle.sd_pagetable.specs.Due.{Answers}
-use Rattle.sd_pagetable.specs.Frames.{IsExhausted}
-use Rattle.sd_pagetable.specs.Owning.{is_own}
+use Rattle.sd_pagetable.specs.Frames.{IsExhausted, HasFree}
+use Rattle.sd_pagetable.specs.Owning.{FailsToTake}
 use Rattle.sd_pagetable.specs.Tracking.{MakesWritable}
-use Rattle.sd_pagetable.proofs.FullLemmas.{due_room, due_full, makes_page_writable}
+use Rattle.sd_pagetable.proofs.FullLemmas.{due_room, due_full, needs_is, makes_page_writable}
 use Rattle.sd_pagetable.proofs.paging.Paging.make_writable.Goals as goal
 
 pub returns-in_default-clause-writable : goal.returns-in_default-clause-writable
@@ -33,18 +33,31 @@ returns-in_default-clause-due c = absurd (not_none _ (none_there c.self.inside.f
 pub own_frame-requires : goal.own_frame-requires
 own_frame-requires c = λ frame is. frame_counted c.self.inside.frames c.self.inside.tables c.self.inside.mapped c.args.space c.args.page c.in-Some.entry frame c.self.invariant (sym c.in-Some.ensures) is
 
-refused : (due : Option AccessError) (error : MemoryError) (r : Result (Unit {0}) MemoryError) → r ≡ Err error → (error ≡ OutOfMemory) ⊎ ((error ≡ DeniedError (Refused NoFrame)) × (due ≡ Some (Refused NoFrame))) → Answers due r
-refused due error r e (inl memory) = subst (λ (x : Result (Unit {0}) MemoryError). Answers due x) (sym (e ∙ ap Err memory)) tt
-refused due error r e (inr full) = subst (λ (x : Result (Unit {0}) MemoryError). Answers due x) (sym (e ∙ ap Err full.0)) full.1
+refused : (due : Option AccessError) (error : MemoryError) (pool : Pool) (r : Result (Unit {0}) MemoryError) → r ≡ Err error → (IsExhausted pool → due ≡ Some (Refused NoFrame)) → FailsToTake pool error → Answers due r
+refused due error pool r e h (inl memory) = subst (λ (x : Result (Unit {0}) MemoryError). Answers due x) (sym (e ∙ ap Err memory.0)) tt
+refused due error pool r e h (inr full) = subst (λ (x : Result (Unit {0}) MemoryError). Answers due x) (sym (e ∙ ap Err full.0)) (h full.1)
 
-refused_so : (error : MemoryError) (due : Option AccessError) (pool : Pool) (frame : Option ℕ) → (is_own pool frame ≡ false → IsExhausted pool → due ≡ Some (Refused NoFrame)) → (error ≡ OutOfMemory) ⊎ ((error ≡ DeniedError (Refused NoFrame)) × (is_own pool frame ≡ false) × IsExhausted pool) → (error ≡ OutOfMemory) ⊎ ((error ≡ DeniedError (Refused NoFrame)) × (due ≡ Some (Refused NoFrame)))
-refused_so error due pool frame h (inl memory) = inl memory
-refused_so error due pool frame h (inr full) = inr (full.0, h full.1 full.2)
+-- no memory for a free frame
+left : (error : MemoryError) (pool : Pool) (r : Result (Unit {0}) MemoryError) → r ≡ Err error → r ≡ Err OutOfMemory → FailsToTake pool error → HasFree pool
+left error pool r e is (inl memory) = memory.1
+left error pool r e is (inr full) = absurd (let f : ◌≡◌ {A = Result (Unit {0}) MemoryError} (Err (DeniedError (Refused NoFrame))) (Err OutOfMemory) = sym (e ∙ ap Err full.0) ∙ is in cc)
 
 pub returns-in_err-frame-clause-due : goal.returns-in_err-frame-clause-due
 returns-in_err-frame-clause-due c =
     let p = err_from_is_err_and c.from_residual.result c.from_residual.ensures.1 in
-    refused _ p.0 c.from_residual.result p.1 (rw p.2 (refused_so _ _ c.self.inside.frames c.in-Some.entry.frame (due_full c.self.inside.frames c.self.inside.tables c.self.inside.mapped c.self.invariant c.args.space c.args.page c.in-Some.entry (sym c.in-Some.ensures) c.args.self.now c.self.view_is) c.in_err-frame.ensures.refused))
+    refused _ p.0 c.self.inside.frames c.from_residual.result p.1
+    (due_full c.self.inside.frames c.self.inside.tables c.self.inside.mapped c.self.invariant c.args.space c.args.page c.in-Some.entry (sym c.in-Some.ensures) c.args.self.now c.self.view_is c.in_err-frame.ensures.shared)
+    (rw p.2 c.in_err-frame.ensures.refused)
+
+pub returns-in_err-frame-clause-needed : goal.returns-in_err-frame-clause-needed
+returns-in_err-frame-clause-needed c = λ _.
+    needs_is c.self.inside.frames c.self.inside.tables c.self.inside.mapped c.self.invariant c.args.space c.args.page c.in-Some.entry (sym c.in-Some.ensures) c.args.self.now c.self.view_is c.in_err-frame.ensures.shared
+
+pub returns-in_err-frame-clause-tested : goal.returns-in_err-frame-clause-tested
+returns-in_err-frame-clause-tested c = λ is.
+    let p = err_from_is_err_and c.from_residual.result c.from_residual.ensures.1 in
+    due_room c.self.inside.frames c.self.inside.tables c.self.inside.mapped c.self.invariant c.args.space c.args.page c.in-Some.entry (sym c.in-Some.ensures) c.args.self.now c.self.view_is
+    (inr (left p.0 c.self.inside.frames c.from_residual.result p.1 is (rw p.2 c.in_err-frame.ensures.refused)))
 
 write_here : (pool : Pool) (tables : Nested Entry) (m : Contents) (s p : ℕ) (e : Entry) → contents_of pool tables ≡ m → value_at tables s p ≡ Some e → IfSome (page_at m s p) (λ (before : Page). before.prot.write ≡ true) → e.prot.write ≡ true
 write_here pool tables m s p e v h w = rw (entry_there pool tables s p e h) at (subst (λ (n : Contents). IfSome (page_at n s p) (λ (before : Page). before.prot.write ≡ true)) (sym v) w)

@@ -1,61 +1,23 @@
 //! Scripts that were run on a Linux kernel with soft-dirty bits (6.1.192 and 6.12.117, x86-64), one process for each space:
 //! private anonymous paging at fixed addresses, a clear being a write of `4` to `clear_refs`. The words are those of
 //! `pagemap` without the frame's number and bits 57 to 62; a store's fault is a minor fault.
-use crate::kernel_line::Line;
-use crate::memory_refusal::MemoryRefusal;
-use crate::segv::Segv;
-use sd_areas::Prot;
-
-const NONE: Prot = Prot {
-    read: false,
-    write: false,
-    execute: false,
+use crate::line::{Line, first_difference};
+use crate::support::{
+    ALL, CLEAN_ALONE, CLEAN_SHARED, DIRTY_ALONE, DIRTY_SHARED, FRESH, NONE, READ, READ_EXECUTE,
+    READ_WRITE,
 };
-
-const READ: Prot = Prot {
-    read: true,
-    write: false,
-    execute: false,
-};
-
-const READ_WRITE: Prot = Prot {
-    read: true,
-    write: true,
-    execute: false,
-};
-
-const READ_EXECUTE: Prot = Prot {
-    read: true,
-    write: false,
-    execute: true,
-};
-
-const ALL: Prot = Prot {
-    read: true,
-    write: true,
-    execute: true,
-};
-
-/// Soft-dirty alone.
-const FRESH: u64 = 0x0080_0000_0000_0000;
-
-const CLEAN_SHARED: u64 = 0x8000_0000_0000_0000;
-
-const DIRTY_SHARED: u64 = 0x8080_0000_0000_0000;
-
-const CLEAN_ALONE: u64 = 0x8100_0000_0000_0000;
-
-const DIRTY_ALONE: u64 = 0x8180_0000_0000_0000;
+use sd_pagetable::{MemoryRefusal, Segv};
+use std::test::Fail;
 
 /// A page just mapped reads soft-dirty, not present; an unmapped one 0.
-pub(crate) const FRESH_WORD: [Line; 3] = [
+const FRESH_WORD: [Line; 3] = [
     Line::Mmap(1, 0x1_0000_0000, 4096, READ_WRITE),
     Line::Words(1, 0x1_0000_0000, &[FRESH, 0]),
     Line::Words(1, 0x1_0000_5000, &[0]),
 ];
 
 /// Every permission starts soft-dirty.
-pub(crate) const FRESH_WORD_OF_EACH_PROT: [Line; 6] = [
+const FRESH_WORD_OF_EACH_PROT: [Line; 6] = [
     Line::Mmap(1, 0x1_0000_0000, 4096, NONE),
     Line::Mmap(1, 0x1_0000_2000, 4096, READ),
     Line::Mmap(1, 0x1_0000_4000, 4096, READ_WRITE),
@@ -69,7 +31,7 @@ pub(crate) const FRESH_WORD_OF_EACH_PROT: [Line; 6] = [
 ];
 
 /// A store gives bits 63, 56, 55.
-pub(crate) const STORE_SETS_BITS: [Line; 4] = [
+const STORE_SETS_BITS: [Line; 4] = [
     Line::Mmap(1, 0x1_0000_0000, 4096, READ_WRITE),
     Line::Store(1, 0x1_0000_0000, &[0x61], true),
     Line::Words(1, 0x1_0000_0000, &[DIRTY_ALONE]),
@@ -77,7 +39,7 @@ pub(crate) const STORE_SETS_BITS: [Line; 4] = [
 ];
 
 /// A clear takes bit 55 and leaves 63 and 56.
-pub(crate) const CLEAR_TAKES_55: [Line; 6] = [
+const CLEAR_TAKES_55: [Line; 6] = [
     Line::Mmap(1, 0x1_0000_0000, 4096, READ_WRITE),
     Line::Store(1, 0x1_0000_0000, &[0x61], true),
     Line::Clear(1),
@@ -87,7 +49,7 @@ pub(crate) const CLEAR_TAKES_55: [Line; 6] = [
 ];
 
 /// Clear of a page never touched: word 0 though mapped.
-pub(crate) const CLEAR_FRESH_PAGE: [Line; 5] = [
+const CLEAR_FRESH_PAGE: [Line; 5] = [
     Line::Mmap(1, 0x1_0000_0000, 8192, READ_WRITE),
     Line::Clear(1),
     Line::Words(1, 0x1_0000_0000, &[0, 0]),
@@ -96,7 +58,7 @@ pub(crate) const CLEAR_FRESH_PAGE: [Line; 5] = [
 ];
 
 /// The next store sets bit 55 again; a second one changes nothing.
-pub(crate) const STORE_AFTER_CLEAR: [Line; 8] = [
+const STORE_AFTER_CLEAR: [Line; 8] = [
     Line::Mmap(1, 0x1_0000_0000, 4096, READ_WRITE),
     Line::Store(1, 0x1_0000_0000, &[0x61], true),
     Line::Clear(1),
@@ -115,7 +77,7 @@ pub(crate) const STORE_AFTER_CLEAR: [Line; 8] = [
 ];
 
 /// A store of equal bytes is a store.
-pub(crate) const STORE_SAME_BYTES: [Line; 5] = [
+const STORE_SAME_BYTES: [Line; 5] = [
     Line::Mmap(1, 0x1_0000_0000, 4096, READ_WRITE),
     Line::Store(1, 0x1_0000_0000, &[0x61], true),
     Line::Clear(1),
@@ -124,7 +86,7 @@ pub(crate) const STORE_SAME_BYTES: [Line; 5] = [
 ];
 
 /// A store of zeros is a store.
-pub(crate) const STORE_ZERO_BYTES: [Line; 4] = [
+const STORE_ZERO_BYTES: [Line; 4] = [
     Line::Mmap(1, 0x1_0000_0000, 4096, READ_WRITE),
     Line::Clear(1),
     Line::Store(1, 0x1_0000_0000, &[0x00], true),
@@ -132,7 +94,7 @@ pub(crate) const STORE_ZERO_BYTES: [Line; 4] = [
 ];
 
 /// A load of a page with a frame sets nothing.
-pub(crate) const LOAD_AFTER_CLEAR: [Line; 6] = [
+const LOAD_AFTER_CLEAR: [Line; 6] = [
     Line::Mmap(1, 0x1_0000_0000, 4096, READ_WRITE),
     Line::Store(1, 0x1_0000_0000, &[0x61, 0x62], true),
     Line::Clear(1),
@@ -142,7 +104,7 @@ pub(crate) const LOAD_AFTER_CLEAR: [Line; 6] = [
 ];
 
 /// The middle gets other permissions, so no area can grow together.
-pub(crate) const MMAP_OVER_MIDDLE_PROT: [Line; 10] = [
+const MMAP_OVER_MIDDLE_PROT: [Line; 10] = [
     Line::Mmap(1, 0x1_0000_0000, 12288, READ_WRITE),
     Line::Store(1, 0x1_0000_0000, &[0x61], true),
     Line::Store(1, 0x1_0000_1000, &[0x62], true),
@@ -156,7 +118,7 @@ pub(crate) const MMAP_OVER_MIDDLE_PROT: [Line; 10] = [
 ];
 
 /// A new mapping beside a clean one with other permissions.
-pub(crate) const MMAP_BESIDE_CLEAN_OTHER_PROT: [Line; 5] = [
+const MMAP_BESIDE_CLEAN_OTHER_PROT: [Line; 5] = [
     Line::Mmap(1, 0x1_0000_0000, 8192, READ_WRITE),
     Line::Store(1, 0x1_0000_0000, &[0x61], true),
     Line::Clear(1),
@@ -165,7 +127,7 @@ pub(crate) const MMAP_BESIDE_CLEAN_OTHER_PROT: [Line; 5] = [
 ];
 
 /// A new mapping with a gap of one page.
-pub(crate) const MMAP_BESIDE_CLEAN_GAP: [Line; 5] = [
+const MMAP_BESIDE_CLEAN_GAP: [Line; 5] = [
     Line::Mmap(1, 0x1_0000_0000, 8192, READ_WRITE),
     Line::Store(1, 0x1_0000_0000, &[0x61], true),
     Line::Clear(1),
@@ -174,7 +136,7 @@ pub(crate) const MMAP_BESIDE_CLEAN_GAP: [Line; 5] = [
 ];
 
 /// Bytes and bits stay over none and back; load of none is accerr.
-pub(crate) const MPROTECT_NONE_AND_BACK: [Line; 9] = [
+const MPROTECT_NONE_AND_BACK: [Line; 9] = [
     Line::Mmap(1, 0x1_0000_0000, 4096, READ_WRITE),
     Line::Store(1, 0x1_0000_0000, &[0x61, 0x62, 0x63], true),
     Line::Mprotect(1, 0x1_0000_0000, 4096, NONE),
@@ -187,7 +149,7 @@ pub(crate) const MPROTECT_NONE_AND_BACK: [Line; 9] = [
 ];
 
 /// Cleared while none.
-pub(crate) const MPROTECT_NONE_CLEAR_BACK: [Line; 9] = [
+const MPROTECT_NONE_CLEAR_BACK: [Line; 9] = [
     Line::Mmap(1, 0x1_0000_0000, 4096, READ_WRITE),
     Line::Store(1, 0x1_0000_0000, &[0x61], true),
     Line::Mprotect(1, 0x1_0000_0000, 4096, NONE),
@@ -200,7 +162,7 @@ pub(crate) const MPROTECT_NONE_CLEAR_BACK: [Line; 9] = [
 ];
 
 /// An mprotect sets no bit 55; the next store is tracked.
-pub(crate) const MPROTECT_AFTER_CLEAR: [Line; 9] = [
+const MPROTECT_AFTER_CLEAR: [Line; 9] = [
     Line::Mmap(1, 0x1_0000_0000, 4096, READ_WRITE),
     Line::Store(1, 0x1_0000_0000, &[0x61], true),
     Line::Clear(1),
@@ -213,7 +175,7 @@ pub(crate) const MPROTECT_AFTER_CLEAR: [Line; 9] = [
 ];
 
 /// Read-only, cleared, writable again: the store is tracked.
-pub(crate) const MPROTECT_THEN_CLEAR_THEN_RW: [Line; 8] = [
+const MPROTECT_THEN_CLEAR_THEN_RW: [Line; 8] = [
     Line::Mmap(1, 0x1_0000_0000, 4096, READ_WRITE),
     Line::Store(1, 0x1_0000_0000, &[0x61], true),
     Line::Mprotect(1, 0x1_0000_0000, 4096, READ),
@@ -225,7 +187,7 @@ pub(crate) const MPROTECT_THEN_CLEAR_THEN_RW: [Line; 8] = [
 ];
 
 /// An mprotect to the same permissions.
-pub(crate) const MPROTECT_SAME: [Line; 7] = [
+const MPROTECT_SAME: [Line; 7] = [
     Line::Mmap(1, 0x1_0000_0000, 4096, READ_WRITE),
     Line::Store(1, 0x1_0000_0000, &[0x61], true),
     Line::Clear(1),
@@ -236,7 +198,7 @@ pub(crate) const MPROTECT_SAME: [Line; 7] = [
 ];
 
 /// An mprotect of pages never touched.
-pub(crate) const MPROTECT_FRESH: [Line; 6] = [
+const MPROTECT_FRESH: [Line; 6] = [
     Line::Mmap(1, 0x1_0000_0000, 8192, READ),
     Line::Mprotect(1, 0x1_0000_0000, 8192, READ_WRITE),
     Line::Words(1, 0x1_0000_0000, &[FRESH, FRESH]),
@@ -246,7 +208,7 @@ pub(crate) const MPROTECT_FRESH: [Line; 6] = [
 ];
 
 /// A hole at the start of the range.
-pub(crate) const MPROTECT_HOLE_FIRST: [Line; 4] = [
+const MPROTECT_HOLE_FIRST: [Line; 4] = [
     Line::Mmap(1, 0x1_0000_1000, 4096, READ_WRITE),
     Line::MprotectRefused(1, 0x1_0000_0000, 8192, READ, MemoryRefusal::Enomem),
     Line::Store(1, 0x1_0000_1000, &[0x61], true),
@@ -254,14 +216,14 @@ pub(crate) const MPROTECT_HOLE_FIRST: [Line; 4] = [
 ];
 
 /// Nothing mapped at all.
-pub(crate) const MPROTECT_ONLY_HOLE: [Line; 3] = [
+const MPROTECT_ONLY_HOLE: [Line; 3] = [
     Line::MprotectRefused(1, 0x1_0000_0000, 4096, READ_WRITE, MemoryRefusal::Enomem),
     Line::MprotectRefused(1, 0x1_0000_0000, 4096, NONE, MemoryRefusal::Enomem),
     Line::Words(1, 0x1_0000_0000, &[0]),
 ];
 
 /// Length 0 is fine wherever it points, unaligned is not.
-pub(crate) const MPROTECT_LENGTH_0: [Line; 7] = [
+const MPROTECT_LENGTH_0: [Line; 7] = [
     Line::Mprotect(1, 0x1_0000_0000, 0, READ_WRITE),
     Line::Mprotect(1, 0x7FFF_FFFF_F000, 0, READ_WRITE),
     Line::Mprotect(1, 0xFFFF_FFFF_FFFF_F000, 0, READ),
@@ -272,7 +234,7 @@ pub(crate) const MPROTECT_LENGTH_0: [Line; 7] = [
 ];
 
 /// Unaligned EINVAL, outside ENOMEM.
-pub(crate) const MPROTECT_BAD: [Line; 9] = [
+const MPROTECT_BAD: [Line; 9] = [
     Line::Mmap(1, 0x1_0000_0000, 4096, READ_WRITE),
     Line::MprotectRefused(1, 0x1_0000_0001, 4096, READ, MemoryRefusal::Einval),
     Line::MprotectRefused(
@@ -297,7 +259,7 @@ pub(crate) const MPROTECT_BAD: [Line; 9] = [
 ];
 
 /// A length of one byte is one page, 4097 is two.
-pub(crate) const MPROTECT_ROUNDS_UP: [Line; 6] = [
+const MPROTECT_ROUNDS_UP: [Line; 6] = [
     Line::Mmap(1, 0x1_0000_0000, 12288, READ_WRITE),
     Line::Mprotect(1, 0x1_0000_0000, 4097, READ),
     Line::StoreStopped(1, 0x1_0000_1000, &[0x61], Segv::Accerr),
@@ -307,7 +269,7 @@ pub(crate) const MPROTECT_ROUNDS_UP: [Line; 6] = [
 ];
 
 /// Length 0 and unaligned EINVAL, outside ENOMEM.
-pub(crate) const MMAP_BAD: [Line; 9] = [
+const MMAP_BAD: [Line; 9] = [
     Line::MmapRefused(1, 0x1_0000_0000, 0, READ_WRITE, MemoryRefusal::Einval),
     Line::MmapRefused(1, 0x1_0000_0001, 4096, READ_WRITE, MemoryRefusal::Einval),
     Line::MmapRefused(1, 0x1_0000_0FFF, 4096, READ_WRITE, MemoryRefusal::Einval),
@@ -338,7 +300,7 @@ pub(crate) const MMAP_BAD: [Line; 9] = [
 ];
 
 /// A refused mmap over an area changes nothing.
-pub(crate) const MMAP_BAD_KEEPS: [Line; 9] = [
+const MMAP_BAD_KEEPS: [Line; 9] = [
     Line::Mmap(1, 0x1_0000_0000, 4096, READ_WRITE),
     Line::Store(1, 0x1_0000_0000, &[0x61], true),
     Line::Clear(1),
@@ -357,7 +319,7 @@ pub(crate) const MMAP_BAD_KEEPS: [Line; 9] = [
 ];
 
 /// A length of one byte is one page, 4097 is two.
-pub(crate) const MMAP_ROUNDS_UP: [Line; 4] = [
+const MMAP_ROUNDS_UP: [Line; 4] = [
     Line::Mmap(1, 0x1_0000_0000, 1, READ_WRITE),
     Line::Mmap(1, 0x1_0000_2000, 4097, READ_WRITE),
     Line::Words(1, 0x1_0000_0000, &[FRESH, 0, FRESH, FRESH, 0]),
@@ -365,7 +327,7 @@ pub(crate) const MMAP_ROUNDS_UP: [Line; 4] = [
 ];
 
 /// Page 0.
-pub(crate) const MMAP_LOW: [Line; 4] = [
+const MMAP_LOW: [Line; 4] = [
     Line::Mmap(1, 0, 4096, READ_WRITE),
     Line::Store(1, 0, &[0x61], true),
     Line::Load(1, 0, &[0x61]),
@@ -373,7 +335,7 @@ pub(crate) const MMAP_LOW: [Line; 4] = [
 ];
 
 /// Holes have no effect.
-pub(crate) const MUNMAP_HOLES: [Line; 8] = [
+const MUNMAP_HOLES: [Line; 8] = [
     Line::Munmap(1, 0x1_0000_0000, 16384),
     Line::Mmap(1, 0x1_0000_1000, 4096, READ_WRITE),
     Line::Mmap(1, 0x1_0000_3000, 4096, READ_WRITE),
@@ -385,7 +347,7 @@ pub(crate) const MUNMAP_HOLES: [Line; 8] = [
 ];
 
 /// Each whole page that contains part of the range.
-pub(crate) const MUNMAP_ROUNDS_UP: [Line; 5] = [
+const MUNMAP_ROUNDS_UP: [Line; 5] = [
     Line::Mmap(1, 0x1_0000_0000, 12288, READ_WRITE),
     Line::Munmap(1, 0x1_0000_0000, 4097),
     Line::Words(1, 0x1_0000_0000, &[0, 0, FRESH]),
@@ -394,7 +356,7 @@ pub(crate) const MUNMAP_ROUNDS_UP: [Line; 5] = [
 ];
 
 /// A refused store to a clean read-only page leaves its word.
-pub(crate) const SEGV_KEEPS: [Line; 7] = [
+const SEGV_KEEPS: [Line; 7] = [
     Line::Mmap(1, 0x1_0000_0000, 4096, READ_WRITE),
     Line::Store(1, 0x1_0000_0000, &[0x61], true),
     Line::Mprotect(1, 0x1_0000_0000, 4096, READ),
@@ -405,7 +367,7 @@ pub(crate) const SEGV_KEEPS: [Line; 7] = [
 ];
 
 /// Stores to one page don't dirty its neighbours.
-pub(crate) const NEIGHBOURS: [Line; 9] = [
+const NEIGHBOURS: [Line; 9] = [
     Line::Mmap(1, 0x1_0000_0000, 20480, READ_WRITE),
     Line::Store(1, 0x1_0000_0000, &[0x61], true),
     Line::Store(1, 0x1_0000_1000, &[0x61], true),
@@ -422,7 +384,7 @@ pub(crate) const NEIGHBOURS: [Line; 9] = [
 ];
 
 /// First and last byte of a page.
-pub(crate) const PAGE_ENDS: [Line; 10] = [
+const PAGE_ENDS: [Line; 10] = [
     Line::Mmap(1, 0x1_0000_0000, 12288, READ_WRITE),
     Line::Clear(1),
     Line::Store(1, 0x1_0000_1000, &[0x61], true),
@@ -443,7 +405,7 @@ pub(crate) const PAGE_ENDS: [Line; 10] = [
 ];
 
 /// Clear twice, store between.
-pub(crate) const TWO_CLEARS: [Line; 9] = [
+const TWO_CLEARS: [Line; 9] = [
     Line::Mmap(1, 0x1_0000_0000, 8192, READ_WRITE),
     Line::Store(1, 0x1_0000_0000, &[0x61], true),
     Line::Clear(1),
@@ -456,7 +418,7 @@ pub(crate) const TWO_CLEARS: [Line; 9] = [
 ];
 
 /// The parent stores first.
-pub(crate) const FORK_PARENT_STORES: [Line; 11] = [
+const FORK_PARENT_STORES: [Line; 11] = [
     Line::Mmap(1, 0x1_0000_0000, 4096, READ_WRITE),
     Line::Store(1, 0x1_0000_0000, &[0x61], true),
     Line::Fork(1, 2),
@@ -471,7 +433,7 @@ pub(crate) const FORK_PARENT_STORES: [Line; 11] = [
 ];
 
 /// The child stores first.
-pub(crate) const FORK_CHILD_STORES: [Line; 9] = [
+const FORK_CHILD_STORES: [Line; 9] = [
     Line::Mmap(1, 0x1_0000_0000, 4096, READ_WRITE),
     Line::Store(1, 0x1_0000_0000, &[0x61], true),
     Line::Fork(1, 2),
@@ -484,7 +446,7 @@ pub(crate) const FORK_CHILD_STORES: [Line; 9] = [
 ];
 
 /// A clear of one side leaves the other.
-pub(crate) const CLEAR_AFTER_FORK: [Line; 8] = [
+const CLEAR_AFTER_FORK: [Line; 8] = [
     Line::Mmap(1, 0x1_0000_0000, 8192, READ_WRITE),
     Line::Store(1, 0x1_0000_0000, &[0x61], true),
     Line::Fork(1, 2),
@@ -496,7 +458,7 @@ pub(crate) const CLEAR_AFTER_FORK: [Line; 8] = [
 ];
 
 /// Clears after the fork, then stores.
-pub(crate) const CLEAR_AFTER_FORK_STORE: [Line; 11] = [
+const CLEAR_AFTER_FORK_STORE: [Line; 11] = [
     Line::Mmap(1, 0x1_0000_0000, 4096, READ_WRITE),
     Line::Store(1, 0x1_0000_0000, &[0x61], true),
     Line::Fork(1, 2),
@@ -511,7 +473,7 @@ pub(crate) const CLEAR_AFTER_FORK_STORE: [Line; 11] = [
 ];
 
 /// The child cleared, the parent stores.
-pub(crate) const CLEAR_CHILD_ONLY: [Line; 7] = [
+const CLEAR_CHILD_ONLY: [Line; 7] = [
     Line::Mmap(1, 0x1_0000_0000, 4096, READ_WRITE),
     Line::Store(1, 0x1_0000_0000, &[0x61], true),
     Line::Fork(1, 2),
@@ -522,7 +484,7 @@ pub(crate) const CLEAR_CHILD_ONLY: [Line; 7] = [
 ];
 
 /// Which store takes a fault after a fork.
-pub(crate) const FORK_FAULTS: [Line; 8] = [
+const FORK_FAULTS: [Line; 8] = [
     Line::Mmap(1, 0x1_0000_0000, 4096, READ_WRITE),
     Line::Store(1, 0x1_0000_0000, &[0x61], true),
     Line::Store(1, 0x1_0000_0000, &[0x62], false),
@@ -534,7 +496,7 @@ pub(crate) const FORK_FAULTS: [Line; 8] = [
 ];
 
 /// The child's exit leaves the parent's page alone in its frame.
-pub(crate) const FORK_EXIT_EXCLUSIVE: [Line; 8] = [
+const FORK_EXIT_EXCLUSIVE: [Line; 8] = [
     Line::Mmap(1, 0x1_0000_0000, 4096, READ_WRITE),
     Line::Store(1, 0x1_0000_0000, &[0x61], true),
     Line::Fork(1, 2),
@@ -546,7 +508,7 @@ pub(crate) const FORK_EXIT_EXCLUSIVE: [Line; 8] = [
 ];
 
 /// A munmap in the child leaves the parent's page alone in its frame.
-pub(crate) const FORK_MUNMAP_EXCLUSIVE: [Line; 7] = [
+const FORK_MUNMAP_EXCLUSIVE: [Line; 7] = [
     Line::Mmap(1, 0x1_0000_0000, 4096, READ_WRITE),
     Line::Store(1, 0x1_0000_0000, &[0x61], true),
     Line::Fork(1, 2),
@@ -557,7 +519,7 @@ pub(crate) const FORK_MUNMAP_EXCLUSIVE: [Line; 7] = [
 ];
 
 /// Three sharers; one leaves, then another.
-pub(crate) const FORK_THREE: [Line; 13] = [
+const FORK_THREE: [Line; 13] = [
     Line::Mmap(1, 0x1_0000_0000, 4096, READ_WRITE),
     Line::Store(1, 0x1_0000_0000, &[0x61], true),
     Line::Fork(1, 2),
@@ -574,7 +536,7 @@ pub(crate) const FORK_THREE: [Line; 13] = [
 ];
 
 /// A child takes the least number; the parent may go.
-pub(crate) const FORK_NUMBERS: [Line; 11] = [
+const FORK_NUMBERS: [Line; 11] = [
     Line::Mmap(1, 0x1_0000_0000, 4096, READ_WRITE),
     Line::Store(1, 0x1_0000_0000, &[0x61], true),
     Line::Fork(1, 2),
@@ -589,7 +551,7 @@ pub(crate) const FORK_NUMBERS: [Line; 11] = [
 ];
 
 /// A mapping of the child isn't the parent's.
-pub(crate) const FORK_CHILD_MAPS: [Line; 6] = [
+const FORK_CHILD_MAPS: [Line; 6] = [
     Line::Fork(1, 2),
     Line::Mmap(2, 0x1_0000_0000, 4096, READ_WRITE),
     Line::Store(2, 0x1_0000_0000, &[0x61], true),
@@ -599,7 +561,7 @@ pub(crate) const FORK_CHILD_MAPS: [Line; 6] = [
 ];
 
 /// An mprotect of one sharer leaves sharing and bits.
-pub(crate) const FORK_MPROTECT_SHARE: [Line; 11] = [
+const FORK_MPROTECT_SHARE: [Line; 11] = [
     Line::Mmap(1, 0x1_0000_0000, 4096, READ_WRITE),
     Line::Store(1, 0x1_0000_0000, &[0x61], true),
     Line::Fork(1, 2),
@@ -614,7 +576,7 @@ pub(crate) const FORK_MPROTECT_SHARE: [Line; 11] = [
 ];
 
 /// The child stores first, at another address.
-pub(crate) const FORK_CHILD_STORES_LOW: [Line; 7] = [
+const FORK_CHILD_STORES_LOW: [Line; 7] = [
     Line::Mmap(1, 0x1_0000, 4096, READ_WRITE),
     Line::Store(1, 0x1_0000, &[0x61], true),
     Line::Fork(1, 2),
@@ -625,7 +587,7 @@ pub(crate) const FORK_CHILD_STORES_LOW: [Line; 7] = [
 ];
 
 /// A fresh, a stored and a cleared page.
-pub(crate) const STORE_THEN_CLEAR: [Line; 6] = [
+const STORE_THEN_CLEAR: [Line; 6] = [
     Line::Mmap(1, 0x1_0000, 4096, READ_WRITE),
     Line::Words(1, 0x1_0000, &[FRESH, 0]),
     Line::Store(1, 0x1_0000, &[0x61], true),
@@ -635,7 +597,7 @@ pub(crate) const STORE_THEN_CLEAR: [Line; 6] = [
 ];
 
 /// Areas that join: the store is tracked.
-pub(crate) const AREAS_JOIN: [Line; 9] = [
+const AREAS_JOIN: [Line; 9] = [
     Line::Mmap(1, 0x1_0000_0000, 4096, READ),
     Line::Mmap(1, 0x1_0000_1000, 4096, READ_WRITE),
     Line::Store(1, 0x1_0000_1000, &[0x61], true),
@@ -646,3 +608,70 @@ pub(crate) const AREAS_JOIN: [Line; 9] = [
     Line::Store(1, 0x1_0000_1000, &[0x62], true),
     Line::Words(1, 0x1_0000_0000, &[0, DIRTY_ALONE, 0]),
 ];
+
+const SCRIPTS: [(&str, &[Line]); 48] = [
+    ("fresh_word", &FRESH_WORD),
+    ("fresh_word_of_each_prot", &FRESH_WORD_OF_EACH_PROT),
+    ("store_sets_bits", &STORE_SETS_BITS),
+    ("clear_takes_55", &CLEAR_TAKES_55),
+    ("clear_fresh_page", &CLEAR_FRESH_PAGE),
+    ("store_after_clear", &STORE_AFTER_CLEAR),
+    ("store_same_bytes", &STORE_SAME_BYTES),
+    ("store_zero_bytes", &STORE_ZERO_BYTES),
+    ("load_after_clear", &LOAD_AFTER_CLEAR),
+    ("mmap_over_middle_prot", &MMAP_OVER_MIDDLE_PROT),
+    (
+        "mmap_beside_clean_other_prot",
+        &MMAP_BESIDE_CLEAN_OTHER_PROT,
+    ),
+    ("mmap_beside_clean_gap", &MMAP_BESIDE_CLEAN_GAP),
+    ("mprotect_none_and_back", &MPROTECT_NONE_AND_BACK),
+    ("mprotect_none_clear_back", &MPROTECT_NONE_CLEAR_BACK),
+    ("mprotect_after_clear", &MPROTECT_AFTER_CLEAR),
+    ("mprotect_then_clear_then_rw", &MPROTECT_THEN_CLEAR_THEN_RW),
+    ("mprotect_same", &MPROTECT_SAME),
+    ("mprotect_fresh", &MPROTECT_FRESH),
+    ("mprotect_hole_first", &MPROTECT_HOLE_FIRST),
+    ("mprotect_only_hole", &MPROTECT_ONLY_HOLE),
+    ("mprotect_length_0", &MPROTECT_LENGTH_0),
+    ("mprotect_bad", &MPROTECT_BAD),
+    ("mprotect_rounds_up", &MPROTECT_ROUNDS_UP),
+    ("mmap_bad", &MMAP_BAD),
+    ("mmap_bad_keeps", &MMAP_BAD_KEEPS),
+    ("mmap_rounds_up", &MMAP_ROUNDS_UP),
+    ("mmap_low", &MMAP_LOW),
+    ("munmap_holes", &MUNMAP_HOLES),
+    ("munmap_rounds_up", &MUNMAP_ROUNDS_UP),
+    ("segv_keeps", &SEGV_KEEPS),
+    ("neighbours", &NEIGHBOURS),
+    ("page_ends", &PAGE_ENDS),
+    ("two_clears", &TWO_CLEARS),
+    ("fork_parent_stores", &FORK_PARENT_STORES),
+    ("fork_child_stores", &FORK_CHILD_STORES),
+    ("clear_after_fork", &CLEAR_AFTER_FORK),
+    ("clear_after_fork_store", &CLEAR_AFTER_FORK_STORE),
+    ("clear_child_only", &CLEAR_CHILD_ONLY),
+    ("fork_faults", &FORK_FAULTS),
+    ("fork_exit_exclusive", &FORK_EXIT_EXCLUSIVE),
+    ("fork_munmap_exclusive", &FORK_MUNMAP_EXCLUSIVE),
+    ("fork_three", &FORK_THREE),
+    ("fork_numbers", &FORK_NUMBERS),
+    ("fork_child_maps", &FORK_CHILD_MAPS),
+    ("fork_mprotect_share", &FORK_MPROTECT_SHARE),
+    ("fork_child_stores_low", &FORK_CHILD_STORES_LOW),
+    ("store_then_clear", &STORE_THEN_CLEAR),
+    ("areas_join", &AREAS_JOIN),
+];
+
+/// A memory returns what the kernel returned, line by line.
+#[test]
+fn kernel_scripts(rt: HostRuntime) -> Result<(), Fail> {
+    for (name, script) in SCRIPTS {
+        assert_eq!(rt;
+            first_difference(rt.alloc(), 65_536, script)?,
+            None,
+            "{name}"
+        );
+    }
+    Ok(())
+}

@@ -1,44 +1,8 @@
-use super::{AccessError, Memory, MemoryError, MemoryRefusal, StoreOutcome};
-use sd_areas::{PAGE_SIZE, PageNo, Prot, Snapshot, SpaceId};
-use std::alloc::Global;
+//! Memories that begin with a snapshot.
+use crate::support::{DIRTY_ALONE, ENOMEM, FRESH, NO_FRAME, READ, READ_WRITE, page, snapshot_of};
+use sd_areas::SpaceId;
+use sd_pagetable::{Memory, StoreOutcome};
 use std::test::Fail;
-
-const READ: Prot = Prot {
-    read: true,
-    write: false,
-    execute: false,
-};
-
-const READ_WRITE: Prot = Prot {
-    read: true,
-    write: true,
-    execute: false,
-};
-
-const NO_FRAME: MemoryError = MemoryError::Denied(AccessError::Refused(MemoryRefusal::NoFrame));
-
-const ENOMEM: MemoryError = MemoryError::Denied(AccessError::Refused(MemoryRefusal::Enomem));
-
-/// A snapshot of spaces whose pages are given by space, number, permissions and first byte.
-fn snapshot_of(
-    alloc: Global,
-    spaces: &[u64],
-    pages: &[(u64, u64, Prot, u8)],
-) -> Result<Snapshot, Fail> {
-    let mut snapshot = Snapshot::new(alloc, 7);
-    for space in spaces {
-        snapshot.add_space(alloc, SpaceId::new(*space))?;
-    }
-    for (space, number, prot, byte) in pages {
-        let page = PageNo::new(*number).ok_or("no page")?;
-        let mut bytes = Box::new(alloc, [0; PAGE_SIZE])?;
-        bytes[0] = *byte;
-        if let Some(found) = snapshot.spaces.get_mut(&SpaceId::new(*space)) {
-            found.insert(page, sd_areas::SnapshotPage { prot: *prot, bytes })?;
-        }
-    }
-    Ok(snapshot)
-}
 
 /// Each page is soft-dirty and not writable, and only one that isn't all zeros has a frame.
 #[test]
@@ -51,11 +15,10 @@ fn begins_with_a_snapshot(rt: HostRuntime) -> Result<(), Fail> {
     let snapshot = snapshot_of(rt.alloc(), &[1, 3], &pages)?;
     let mut memory = Memory::from_snapshot(rt.alloc(), 2, snapshot)?;
     let (one, three) = (SpaceId::new(1), SpaceId::new(3));
-    let page = PageNo::new(16).ok_or("no page")?;
-    let next = PageNo::new(17).ok_or("no page")?;
-    assert_eq!(rt; memory.word(one, page), 0x8180_0000_0000_0000);
-    assert_eq!(rt; memory.word(one, next), 0x0080_0000_0000_0000);
-    assert_eq!(rt; memory.word(three, page), 0x8180_0000_0000_0000);
+    let (page, next) = (page(&rt, 16), page(&rt, 17));
+    assert_eq!(rt; memory.word(one, page), DIRTY_ALONE);
+    assert_eq!(rt; memory.word(one, next), FRESH);
+    assert_eq!(rt; memory.word(three, page), DIRTY_ALONE);
     assert_eq!(rt; memory.next_page(Some((one, next))), Some((three, page)));
     let mut byte = [9];
     assert_eq!(rt; memory.load(three, 0x10000, &mut byte), Ok(()));

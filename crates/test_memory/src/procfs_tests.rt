@@ -1,13 +1,9 @@
-use super::{ClearError, NoSuchSpace, clear_refs, listing, pagemap};
-use sd_areas::{PageNo, Prot, SpaceId};
+//! What `/proc` shows of a memory.
+use crate::support::{READ_EXECUTE, READ_WRITE, page};
+use sd_areas::SpaceId;
 use sd_pagetable::{Memory, StoreOutcome};
+use sd_procfs::{ClearError, NoSuchSpace, clear_refs, listing, pagemap};
 use std::test::Fail;
-
-const READ_WRITE: Prot = Prot {
-    read: true,
-    write: true,
-    execute: false,
-};
 
 /// A memory with one page stored to, and a fresh one two pages behind it.
 fn two_pages(rt: &HostRuntime) -> Result<Memory, Fail> {
@@ -24,13 +20,13 @@ fn two_pages(rt: &HostRuntime) -> Result<Memory, Fail> {
 fn exact_bits(rt: HostRuntime) -> Result<(), Fail> {
     let memory = two_pages(&rt)?;
     let space = SpaceId::new(1);
-    let first = PageNo::new(16).ok_or("no page")?;
+    let first = page(&rt, 16);
     let mut words = [7; 24];
     assert_eq!(rt; pagemap(&memory, space, first, 3, &mut words), Ok(()));
     assert_eq!(rt; &words[..8], [0, 0, 0, 0, 0, 0, 0x80, 0x81].as_slice());
     assert_eq!(rt; &words[8..16], [0, 0, 0, 0, 0, 0, 0, 0].as_slice());
     assert_eq!(rt; &words[16..], [0, 0, 0, 0, 0, 0, 0x80, 0].as_slice());
-    let last = PageNo::new((1 << 35) - 1).ok_or("no page")?;
+    let last = page(&rt, 0x7_FFFF_FFFF);
     let mut behind = [7; 16];
     assert_eq!(rt; pagemap(&memory, space, last, 2, &mut behind), Ok(()));
     assert_eq!(rt; behind, [0; 16]);
@@ -53,7 +49,7 @@ fn clears_past_holes(rt: HostRuntime) -> Result<(), Fail> {
         Ok(StoreOutcome::Done)
     );
     assert_eq!(rt; clear_refs(&mut memory, space, b"4\n"), Ok(()));
-    let first = PageNo::new(16).ok_or("no page")?;
+    let first = page(&rt, 16);
     let mut words = [7; 24];
     assert_eq!(rt; pagemap(&memory, space, first, 3, &mut words), Ok(()));
     assert_eq!(rt; &words[..8], [0, 0, 0, 0, 0, 0, 0, 0x81].as_slice());
@@ -80,7 +76,7 @@ fn refused_clears(rt: HostRuntime) -> Result<(), Fail> {
             Err(ClearError::UnsupportedValue)
         );
     }
-    let page = PageNo::new(16).ok_or("no page")?;
+    let page = page(&rt, 16);
     assert_eq!(rt; memory.word(space, page), 0x8180_0000_0000_0000);
     assert_eq!(rt; clear_refs(&mut memory, space, b"4"), Ok(()));
     assert_eq!(rt; memory.word(space, page), 0x8100_0000_0000_0000);
@@ -99,20 +95,27 @@ fn areas_as_lines(rt: HostRuntime) -> Result<(), Fail> {
         "area 0x10000 0x11000 rw-\n"
     );
     memory.mmap(space, 0, 1, READ_WRITE)?;
-    memory.mprotect(
-        space,
-        0x10000,
-        1,
-        Prot {
-            read: true,
-            write: false,
-            execute: true,
-        },
-    )?;
+    memory.mprotect(space, 0x10000, 1, READ_EXECUTE)?;
     let areas = memory.areas(space).ok_or("no space")?;
     assert_eq!(rt;
         listing(rt.alloc(), areas)?.as_str(),
         "area 0x0 0x1000 rw-\narea 0x10000 0x11000 r-x\n"
+    );
+    Ok(())
+}
+
+/// What refusals print.
+#[test]
+fn prints_clear_errors(rt: HostRuntime) -> Result<(), Fail> {
+    for (error, text) in [
+        (ClearError::NoSuchSpace, "3 no-such-space"),
+        (ClearError::UnsupportedValue, "9 unsupported-value"),
+    ] {
+        assert_eq!(rt; format!(in rt.alloc(); "{error}")?.as_str(), text);
+    }
+    assert_eq!(rt;
+        format!(in rt.alloc(); "{NoSuchSpace}")?.as_str(),
+        "3 no-such-space"
     );
     Ok(())
 }

@@ -1,25 +1,12 @@
+//! Calls on the areas of one space, and snapshots.
 ghost use Rattle.std.specs.Prelude.{◌≡◌, IfOk};
 
-use super::{
-    Area, AreaError, AreaMap, Errno, PAGE_SIZE, PageNo, Prot, Snapshot, SnapshotPage, SpaceId,
-    areas_in,
-};
+use crate::support::{READ, READ_WRITE, page, snapshot_of};
+use sd_areas::{Area, AreaError, AreaMap, Errno, PAGE_SIZE, Prot, SnapshotPage, SpaceId, areas_in};
 use std::alloc::{AllocError, Global};
 use std::collections::BTreeMap;
 use std::process::Abort;
 use std::test::Fail;
-
-const READ: Prot = Prot {
-    read: true,
-    write: false,
-    execute: false,
-};
-
-const READ_WRITE: Prot = Prot {
-    read: true,
-    write: true,
-    execute: false,
-};
 
 const EINVAL: AreaError = AreaError::Refused(Errno::Einval);
 
@@ -45,16 +32,12 @@ enum Call {
     Protect(u64, u64, Prot),
 }
 
-fn answer(map: &mut AreaMap, call: Call) -> Result<(), AreaError> {
+fn made(map: &mut AreaMap, call: Call) -> Result<(), AreaError> {
     match call {
         Call::Map(address, bytes, prot) => map.map(address, bytes, prot),
         Call::Unmap(address, bytes) => map.unmap(address, bytes),
         Call::Protect(address, bytes, prot) => map.protect(address, bytes, prot),
     }
-}
-
-fn page(rt: &impl Abort, number: u64) -> PageNo {
-    PageNo::new(number).expect(rt, "a page number")
 }
 
 fn area(rt: &impl Abort, first: u64, count: u64, prot: Prot) -> Area {
@@ -130,15 +113,15 @@ fn reaches_the_last_page(rt: HostRuntime) {
     }
 }
 
-/// Makes a call that leaves the two areas of `answers_each` as they are.
+/// Makes a call that leaves the two areas of `returns_each` as they are.
 fn keeps(rt: &impl Abort, map: &mut AreaMap, call: Call, wanted: Result<(), AreaError>) {
-    assert_eq!(rt; answer(map, call), wanted, "{call:?}");
+    assert_eq!(rt; made(map, call), wanted, "{call:?}");
     let kept = [(16, 1, READ), (0x7_FFFF_FFFF, 1, READ)];
     assert!(rt; has_areas(map, &kept), "after {call:?}");
 }
 
-/// Makes each call on two areas over each of these ranges: all answer so, and the areas stay.
-fn answers_each(
+/// Makes each call on two areas over each of these ranges: each returns so, and the areas stay.
+fn returns_each(
     rt: &impl Abort,
     alloc: Global,
     ranges: &[(u64, u64)],
@@ -175,7 +158,7 @@ fn refuses_length_zero_but_to_protect(rt: HostRuntime) {
         (END, 0),
         (LAST_MULTIPLE, 0),
     ];
-    answers_each(&rt, rt.alloc(), &ranges, Err(EINVAL), Err(EINVAL), Ok(()));
+    returns_each(&rt, rt.alloc(), &ranges, Err(EINVAL), Err(EINVAL), Ok(()));
 }
 
 #[test]
@@ -191,7 +174,7 @@ fn refuses_addresses_between_pages(rt: HostRuntime) {
         (u64::MAX, 1),
         (u64::MAX, u64::MAX),
     ];
-    answers_each(
+    returns_each(
         &rt,
         rt.alloc(),
         &ranges,
@@ -218,7 +201,7 @@ fn refuses_pages_past_the_last(rt: HostRuntime) {
         (LAST_MULTIPLE, 4097),
         (LAST_MULTIPLE, u64::MAX),
     ];
-    answers_each(
+    returns_each(
         &rt,
         rt.alloc(),
         &ranges,
@@ -229,15 +212,15 @@ fn refuses_pages_past_the_last(rt: HostRuntime) {
 }
 
 /// Makes calls in turn, each with the areas after it.
-/// A call that wants for memory changes nothing, and is made again.
+/// A call that is out of memory changes nothing, and is made again.
 fn follows(rt: &impl Abort, alloc: Global, steps: &[(Call, &[Run])]) {
     let mut map = AreaMap::new(alloc);
     let mut before: &[Run] = &[];
     for (call, after) in steps {
-        let mut given = answer(&mut map, *call);
+        let mut given = made(&mut map, *call);
         if given == Err(AreaError::OutOfMemory) {
             assert!(rt; has_areas(&map, before), "unchanged by {call:?}");
-            given = answer(&mut map, *call);
+            given = made(&mut map, *call);
         }
         assert_eq!(rt; given, Ok(()), "{call:?}");
         assert!(rt; has_areas(&map, after), "after {call:?}");
@@ -391,7 +374,7 @@ fn holds_1024_areas(rt: HostRuntime) -> Result<(), Fail> {
         (Call::Protect(0x4000, 0x3000, READ_WRITE), Ok(()), 1024),
     ] {
         let mut map = copied(&full)?;
-        assert_eq!(rt; answer(&mut map, call), wanted, "{call:?}");
+        assert_eq!(rt; made(&mut map, call), wanted, "{call:?}");
         assert_eq!(rt; map.areas().len(), count, "{call:?}");
         if wanted.is_err() {
             assert!(rt; map.areas() == full.areas(), "unchanged by {call:?}");
@@ -411,38 +394,22 @@ fn frees_an_area(rt: HostRuntime) {
         (Call::Unmap(0x5000, 1), Ok(()), 1024),
         (Call::Unmap(0x9000, 1), Err(ENOMEM), 1024),
     ] {
-        assert_eq!(rt; answer(&mut map, call), wanted, "{call:?}");
+        assert_eq!(rt; made(&mut map, call), wanted, "{call:?}");
         assert_eq!(rt; map.areas().len(), count, "{call:?}");
     }
 }
 
 #[test]
 fn keeps_a_snapshot(rt: HostRuntime) -> Result<(), Fail> {
-    let space = SpaceId::new(3);
-    let mut snapshot = Snapshot::new(rt.alloc(), 7);
-    snapshot.add_space(rt.alloc(), space)?;
-    snapshot.put_page(
-        space,
-        page(&rt, 5),
-        READ,
-        Box::new(rt.alloc(), [1; PAGE_SIZE])?,
-    )?;
-    snapshot.put_page(
-        space,
-        page(&rt, 4),
-        READ,
-        Box::new(rt.alloc(), [2; PAGE_SIZE])?,
-    )?;
-    snapshot.put_page(
-        space,
-        page(&rt, 6),
-        READ_WRITE,
-        Box::new(rt.alloc(), [3; PAGE_SIZE])?,
-    )?;
+    let pages = [(3, 5, READ, 1), (3, 4, READ, 2), (3, 6, READ_WRITE, 3)];
+    let snapshot = snapshot_of(rt.alloc(), &[3], &pages)?;
     assert_eq!(rt; snapshot.checkpoint, 7);
-    let pages = snapshot.spaces.get(&space).expect(&rt, "the space");
+    let pages = snapshot
+        .spaces
+        .get(&SpaceId::new(3))
+        .expect(&rt, "the space");
     let found = pages.get(&page(&rt, 5)).expect(&rt, "the page");
-    assert_eq!(rt; found.bytes[4095], 1);
+    assert_eq!(rt; (found.bytes[0], found.bytes[4095]), (1, 0));
     let areas = areas_in(rt.alloc(), pages)?;
     assert_eq!(rt;
         areas.as_slice(),
@@ -486,8 +453,8 @@ fn prints_permissions(rt: HostRuntime) -> Result<(), Fail> {
     }
     assert_eq!(rt; Prot::from_bits(8), None);
     for (error, text) in [
-        (EINVAL, "EINVAL"),
-        (ENOMEM, "ENOMEM"),
+        (EINVAL, "1 EINVAL"),
+        (ENOMEM, "2 ENOMEM"),
         (AreaError::OutOfMemory, "out-of-memory"),
     ] {
         assert_eq!(rt; format!(in rt.alloc(); "{error}")?.as_str(), text);

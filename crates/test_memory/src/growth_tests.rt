@@ -1,20 +1,9 @@
 //! Calls that are refused a growth, and made again.
-use super::{Memory, MemoryError};
-use sd_areas::{PAGE_SIZE, PageNo, Prot, Snapshot, SnapshotPage, SpaceId};
+use crate::support::{DIRTY_ALONE, FirstByte, READ, READ_WRITE, page, snapshot_of};
+use sd_areas::{Snapshot, SpaceId};
+use sd_pagetable::{Memory, MemoryError};
 use std::alloc::{AllocError, Global};
 use std::test::Fail;
-
-const READ: Prot = Prot {
-    read: true,
-    write: false,
-    execute: false,
-};
-
-const READ_WRITE: Prot = Prot {
-    read: true,
-    write: true,
-    execute: false,
-};
 
 /// A call that may grow a memory: the space first, and then the address and the bytes.
 #[derive(Clone, Copy, Debug)]
@@ -72,8 +61,7 @@ fn begun(alloc: Global) -> Result<Memory, MemoryError> {
     Ok(Memory::new(alloc, 64)?)
 }
 
-/// Where memory is refused, that is the answer and nothing has changed: the same call, made once
-/// more, is done.
+/// A call that is refused memory returns that and changes nothing, and a second try is done.
 #[test]
 fn refused_growth_changes_nothing(rt: HostRuntime) -> Result<(), Fail> {
     let mut memory = match begun(rt.alloc()) {
@@ -84,6 +72,7 @@ fn refused_growth_changes_nothing(rt: HostRuntime) -> Result<(), Fail> {
         Step::Mmap(1, 0x10000, 0x8000),
         Step::Store(1, 0x10000),
         Step::Fault(1, 0x11000),
+        Step::Store(1, 0x11000),
         Step::Mprotect(1, 0x12000, 0x1000),
         Step::Munmap(1, 0x13000, 0x1000),
         Step::Mmap(1, 0x10000, 0x10000),
@@ -106,27 +95,20 @@ fn refused_growth_changes_nothing(rt: HostRuntime) -> Result<(), Fail> {
     Ok(())
 }
 
-/// A snapshot of two spaces, with a page of zeros and two others.
+/// Two spaces, with a page of zeros and two others.
+const SAVED: [FirstByte; 3] = [
+    (1, 16, READ_WRITE, 0),
+    (1, 17, READ_WRITE, 0x61),
+    (3, 16, READ_WRITE, 0x62),
+];
+
 fn snapshot(alloc: Global) -> Result<Snapshot, AllocError> {
-    let mut snapshot = Snapshot::new(alloc, 7);
-    snapshot.add_space(alloc, SpaceId::new(1))?;
-    snapshot.add_space(alloc, SpaceId::new(3))?;
-    for (space, number, byte) in [(1, 16, 0), (1, 17, 0x61), (3, 16, 0x62)] {
-        let mut bytes = Box::new(alloc, [0; PAGE_SIZE])?;
-        bytes[0] = byte;
-        let prot = READ_WRITE;
-        if let Some(page) = PageNo::new(number)
-            && let Some(pages) = snapshot.spaces.get_mut(&SpaceId::new(space))
-        {
-            pages.insert(page, SnapshotPage { prot, bytes })?;
-        }
-    }
-    Ok(snapshot)
+    snapshot_of(alloc, &[1, 3], &SAVED)
 }
 
-/// A snapshot whose loading is refused memory loads once more, from a copy.
+/// A snapshot whose loading is refused memory is loaded from a copy.
 #[test]
-fn refused_loading_is_answered_so(rt: HostRuntime) -> Result<(), Fail> {
+fn refused_loading(rt: HostRuntime) -> Result<(), Fail> {
     let first = match snapshot(rt.alloc()) {
         Ok(snapshot) => snapshot,
         Err(_) => snapshot(rt.alloc())?,
@@ -142,7 +124,6 @@ fn refused_loading_is_answered_so(rt: HostRuntime) -> Result<(), Fail> {
             Memory::from_snapshot(rt.alloc(), 2, again)?
         }
     };
-    let page = PageNo::new(17).ok_or("no page")?;
-    assert_eq!(rt; memory.word(SpaceId::new(1), page), 0x8180_0000_0000_0000);
+    assert_eq!(rt; memory.word(SpaceId::new(1), page(&rt, 17)), DIRTY_ALONE);
     Ok(())
 }

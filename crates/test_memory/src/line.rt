@@ -1,0 +1,177 @@
+//! Scripts of calls on a memory, each with what it returns.
+use sd_areas::{PageNo, Prot, SpaceId};
+use sd_pagetable::{AccessError, Memory, MemoryError, MemoryRefusal, Segv, StoreOutcome};
+use sd_procfs::clear_refs;
+use std::alloc::Global;
+use std::test::Fail;
+
+/// A line of a script, with what it returns. First comes the number of the space, and then the
+/// address.
+#[derive(Clone, Copy, Debug)]
+pub(crate) enum Line {
+    /// Maps so many bytes with these permissions.
+    Mmap(u64, u64, u64, Prot),
+    MmapRefused(u64, u64, u64, Prot, MemoryRefusal),
+    /// Unmaps so many bytes.
+    Munmap(u64, u64, u64),
+    MunmapRefused(u64, u64, u64, MemoryRefusal),
+    /// Gives so many bytes these permissions.
+    Mprotect(u64, u64, u64, Prot),
+    MprotectRefused(u64, u64, u64, Prot, MemoryRefusal),
+    /// Makes a child with this number.
+    Fork(u64, u64),
+    ForkRefused(u64, MemoryRefusal),
+    Exit(u64),
+    ExitRefused(u64, MemoryRefusal),
+    /// Clears the soft-dirty bits of the space's pages.
+    Clear(u64),
+    /// Stores bytes, with or without a fault.
+    Store(u64, u64, &'static [u8], bool),
+    StoreStopped(u64, u64, &'static [u8], Segv),
+    /// Stores bytes, with a fault where one is needed.
+    StoreNow(u64, u64, &'static [u8]),
+    StoreNowRefused(u64, u64, &'static [u8], MemoryRefusal),
+    /// Takes a fault.
+    Fault(u64, u64),
+    FaultRefused(u64, u64, MemoryRefusal),
+    FaultStopped(u64, u64, Segv),
+    /// Loads bytes.
+    Load(u64, u64, &'static [u8]),
+    /// Would load so many bytes.
+    LoadStopped(u64, u64, usize, Segv),
+    LoadRefused(u64, u64, usize, MemoryRefusal),
+    /// The words of the pages from an address on.
+    Words(u64, u64, &'static [u64]),
+}
+
+fn refused<T>(refusal: MemoryRefusal) -> Result<T, MemoryError> {
+    Err(MemoryError::Denied(AccessError::Refused(refusal)))
+}
+
+/// Whether a store is done, with a fault exactly where one is wanted.
+fn stores(memory: &mut Memory, space: SpaceId, address: u64, bytes: &[u8], faults: bool) -> bool {
+    let tried = memory.try_store(space, address, bytes);
+    if !faults {
+        return tried == Ok(StoreOutcome::Done);
+    }
+    tried == Ok(StoreOutcome::NeedsFault)
+        && memory.fault(space, address) == Ok(())
+        && memory.try_store(space, address, bytes) == Ok(StoreOutcome::Done)
+}
+
+/// Whether a load gives these bytes.
+fn loads(memory: &Memory, space: SpaceId, address: u64, bytes: &[u8]) -> bool {
+    let mut buffer = [0; 64];
+    let count = bytes.len().min(64);
+    memory.load(space, address, &mut buffer[..count]) == Ok(()) && &buffer[..count] == bytes
+}
+
+/// Whether a load of so many bytes is an error.
+fn load_fails(memory: &Memory, space: SpaceId, address: u64, count: usize, e: AccessError) -> bool {
+    let mut buffer = [7; 64];
+    let count = count.min(64);
+    memory.load(space, address, &mut buffer[..count]) == Err(e) && buffer == [7; 64]
+}
+
+/// Whether the pages from an address on have these words.
+fn shows(memory: &Memory, space: SpaceId, address: u64, words: &[u64]) -> bool {
+    (address / 4096..).zip(words).all(|(number, word)| {
+        PageNo::new(number).is_some_and(|page| memory.word(space, page) == *word)
+    })
+}
+
+/// Whether a call over a range, a fork or an exit returns what its line says. None of another line.
+fn range_returns(memory: &mut Memory, line: Line) -> Option<bool> {
+    Some(match line {
+        Line::Mmap(space, address, bytes, prot) => {
+            memory.mmap(SpaceId::new(space), address, bytes, prot) == Ok(())
+        }
+        Line::MmapRefused(space, address, bytes, prot, refusal) => {
+            memory.mmap(SpaceId::new(space), address, bytes, prot) == refused(refusal)
+        }
+        Line::Munmap(space, address, bytes) => {
+            memory.munmap(SpaceId::new(space), address, bytes) == Ok(())
+        }
+        Line::MunmapRefused(space, address, bytes, refusal) => {
+            memory.munmap(SpaceId::new(space), address, bytes) == refused(refusal)
+        }
+        Line::Mprotect(space, address, bytes, prot) => {
+            memory.mprotect(SpaceId::new(space), address, bytes, prot) == Ok(())
+        }
+        Line::MprotectRefused(space, address, bytes, prot, refusal) => {
+            memory.mprotect(SpaceId::new(space), address, bytes, prot) == refused(refusal)
+        }
+        Line::Fork(space, child) => memory.fork(SpaceId::new(space)) == Ok(SpaceId::new(child)),
+        Line::ForkRefused(space, refusal) => memory.fork(SpaceId::new(space)) == refused(refusal),
+        Line::Exit(space) => memory.exit(SpaceId::new(space)) == Ok(()),
+        Line::ExitRefused(space, refusal) => {
+            memory.exit(SpaceId::new(space)) == Err(AccessError::Refused(refusal))
+        }
+        Line::Clear(space) => clear_refs(memory, SpaceId::new(space), b"4") == Ok(()),
+        _ => return None,
+    })
+}
+
+/// Whether a call on one page returns what its line says. Any other line doesn't.
+fn page_returns(memory: &mut Memory, line: Line) -> bool {
+    match line {
+        Line::Store(space, address, bytes, faults) => {
+            stores(memory, SpaceId::new(space), address, bytes, faults)
+        }
+        Line::StoreStopped(space, address, bytes, segv) => {
+            memory.try_store(SpaceId::new(space), address, bytes) == Err(AccessError::Segv(segv))
+        }
+        Line::StoreNow(space, address, bytes) => {
+            memory.store_now(SpaceId::new(space), address, bytes) == Ok(())
+        }
+        Line::StoreNowRefused(space, address, bytes, refusal) => {
+            memory.store_now(SpaceId::new(space), address, bytes) == refused(refusal)
+        }
+        Line::Fault(space, address) => memory.fault(SpaceId::new(space), address) == Ok(()),
+        Line::FaultRefused(space, address, refusal) => {
+            memory.fault(SpaceId::new(space), address) == refused(refusal)
+        }
+        Line::FaultStopped(space, address, segv) => {
+            memory.fault(SpaceId::new(space), address)
+                == Err(MemoryError::Denied(AccessError::Segv(segv)))
+        }
+        Line::Load(space, address, bytes) => loads(memory, SpaceId::new(space), address, bytes),
+        Line::LoadStopped(space, address, count, segv) => {
+            load_fails(
+                memory,
+                SpaceId::new(space),
+                address,
+                count,
+                AccessError::Segv(segv),
+            )
+        }
+        Line::LoadRefused(space, address, count, refusal) => load_fails(
+            memory,
+            SpaceId::new(space),
+            address,
+            count,
+            AccessError::Refused(refusal),
+        ),
+        Line::Words(space, address, words) => shows(memory, SpaceId::new(space), address, words),
+        _ => false,
+    }
+}
+
+/// The first line of a script that returns something else from a memory over so many frames.
+pub(crate) fn first_difference(
+    alloc: Global,
+    frames: usize,
+    script: &[Line],
+) -> Result<Option<usize>, Fail> {
+    let mut memory = Memory::new(alloc, frames.clamp(1, 65_536))?;
+    for (index, line) in script.iter().enumerate() {
+        let returns = match range_returns(&mut memory, *line) {
+            Some(returns) => returns,
+            None => page_returns(&mut memory, *line),
+        };
+        if !returns {
+            return Ok(Some(index));
+        }
+    }
+    Ok(None)
+}

@@ -1,0 +1,85 @@
+//! What several tests use: permissions, words, errors and a page of bytes.
+use sd_areas::{PAGE_SIZE, PageNo, Prot, Snapshot, SnapshotPage, SpaceId};
+use sd_pagetable::{AccessError, MemoryError, MemoryRefusal};
+use std::alloc::{AllocError, Global};
+use std::process::Abort;
+
+pub(crate) const NONE: Prot = Prot {
+    read: false,
+    write: false,
+    execute: false,
+};
+
+pub(crate) const READ: Prot = Prot {
+    read: true,
+    write: false,
+    execute: false,
+};
+
+pub(crate) const READ_WRITE: Prot = Prot {
+    read: true,
+    write: true,
+    execute: false,
+};
+
+pub(crate) const READ_EXECUTE: Prot = Prot {
+    read: true,
+    write: false,
+    execute: true,
+};
+
+pub(crate) const ALL: Prot = Prot {
+    read: true,
+    write: true,
+    execute: true,
+};
+
+/// The word of a page that was mapped, and not stored to.
+pub(crate) const FRESH: u64 = 0x0080_0000_0000_0000;
+
+/// The words of a page with a frame, by its soft-dirty bit and by whether others have the frame.
+pub(crate) const CLEAN_SHARED: u64 = 0x8000_0000_0000_0000;
+
+pub(crate) const DIRTY_SHARED: u64 = 0x8080_0000_0000_0000;
+
+pub(crate) const CLEAN_ALONE: u64 = 0x8100_0000_0000_0000;
+
+pub(crate) const DIRTY_ALONE: u64 = 0x8180_0000_0000_0000;
+
+pub(crate) const ENOMEM: MemoryError = MemoryError::Denied(AccessError::Refused(
+    MemoryRefusal::Enomem,
+));
+
+pub(crate) const NO_FRAME: MemoryError = MemoryError::Denied(AccessError::Refused(
+    MemoryRefusal::NoFrame,
+));
+
+pub(crate) fn page(rt: &impl Abort, number: u64) -> PageNo {
+    PageNo::new(number).expect(rt, "a page number")
+}
+
+/// A page of a snapshot, by its space, its number, its permissions and its first byte.
+pub(crate) type FirstByte = (u64, u64, Prot, u8);
+
+/// A snapshot of these spaces with these pages, whose other bytes are 0.
+pub(crate) fn snapshot_of(
+    alloc: Global,
+    spaces: &[u64],
+    pages: &[FirstByte],
+) -> Result<Snapshot, AllocError> {
+    let mut snapshot = Snapshot::new(alloc, 7);
+    for space in spaces {
+        snapshot.add_space(alloc, SpaceId::new(*space))?;
+    }
+    for (space, number, prot, byte) in pages {
+        let mut bytes = Box::new(alloc, [0; PAGE_SIZE])?;
+        bytes[0] = *byte;
+        let prot = *prot;
+        if let Some(page) = PageNo::new(*number)
+            && let Some(found) = snapshot.spaces.get_mut(&SpaceId::new(*space))
+        {
+            found.insert(page, SnapshotPage { prot, bytes })?;
+        }
+    }
+    Ok(snapshot)
+}
