@@ -19,6 +19,12 @@ pub data Awaits : Type 0 where
   -- of a file of so many bytes
   the_header : ℕ → Awaits
 
+-- how many calls may follow those that are known
+abbrev pub calls_awaited : Awaits → ℕ
+calls_awaited nothing = 0
+calls_awaited the_length = 2
+calls_awaited (the_header len) = 1
+
 -- the calls that are known
 abbrev pub calls_of_stage : InspectionStage → Calls
 calls_of_stage SyncStage = (Sync, []) ∷ (Len, []) ∷ []

@@ -1,8 +1,8 @@
 //! The inspection of a slot, whose calls depend on what is found.
-ghost use Rattle.std.specs.Prelude.{◌≡◌, ◌↔◌, ◌∷◌, [], IsTrue, IfOk, IsErr, MatchOption};
+ghost use Rattle.std.specs.Prelude.{◌≡◌, ◌↔◌, ◌+◌, ◌≤◌, ◌∷◌, [], length, IsTrue, IfOk, IsErr, MatchOption};
 ghost use Rattle.sd_image.specs.Words.{zeros};
 ghost use Rattle.sd_gate.specs.Calls.{call_of, bytes_of, IsSound};
-ghost use Rattle.sd_gate.specs.Inspections.{calls_of_stage, awaits_of, IsReadNext, after_length, after_first, calls_then};
+ghost use Rattle.sd_gate.specs.Inspections.{calls_awaited, calls_of_stage, awaits_of, IsReadNext, after_length, after_first, calls_then};
 ghost use Rattle.std.specs.Option.{option_map};
 
 use crate::answer::Answer;
@@ -54,7 +54,7 @@ fn after_first(bytes: &[u8], len: usize) -> InspectionStage
 }
 
 impl Inspection {
-    /// Takes the next call. Memory is wanted for its buffer.
+    /// Takes the next call, with memory for its buffer.
     pub fn take(&mut self) -> Result<Option<Order>, AllocError>
         ensures next { IfOk result (λ taken. MatchOption taken
             (calls_of_stage self.old.stage ≡ [])
@@ -102,6 +102,20 @@ impl Inspection {
             | InspectionStage::First { .. }
             | InspectionStage::Table { .. }
             | InspectionStage::Done => {}
+        }
+    }
+
+    /// How many calls are left at most.
+    pub fn calls_left(&self) -> usize
+        ensures count { result ≡ length (calls_of_stage self.now.stage) + calls_awaited (awaits_of self.now.stage) }
+        ensures few { result ≤ 4 }
+    {
+        match self.stage {
+            InspectionStage::Sync => 4,
+            InspectionStage::Len => 3,
+            InspectionStage::AwaitLen | InspectionStage::First { .. } => 2,
+            InspectionStage::AwaitFirst { .. } | InspectionStage::Table { .. } => 1,
+            InspectionStage::Done => 0,
         }
     }
 

@@ -1,8 +1,8 @@
 //! What a plan has still to do.
-ghost use Rattle.std.specs.Prelude.{◌≡◌, ◌↔◌, ◌∷◌, [], IsTrue, IfOk, IsErr, MatchOption};
+ghost use Rattle.std.specs.Prelude.{◌≡◌, ◌↔◌, ◌+◌, ◌≤◌, ◌∷◌, [], length, IsTrue, IfOk, IsErr, MatchOption};
 ghost use Rattle.std.specs.Option.{option_map};
 ghost use Rattle.sd_gate.specs.Calls.{call_of, bytes_of, IsSound};
-ghost use Rattle.sd_gate.specs.Inspections.{IsReadNext, calls_then};
+ghost use Rattle.sd_gate.specs.Inspections.{IsReadNext, calls_awaited, calls_then};
 ghost use Rattle.sd_gate.specs.Plans.{calls_of, awaited_by, IsSoundJob};
 
 use crate::answer::Answer;
@@ -49,6 +49,17 @@ impl Job {
     {
         if let Job::Inspection(inspection) = self {
             inspection.resume(answer, buffer);
+        }
+    }
+
+    /// How many calls are left at most.
+    pub fn calls_left(&self) -> usize
+        ensures count { result ≡ length (calls_of self.now) + calls_awaited (awaited_by self.now) }
+        ensures few { result ≤ 5 }
+    {
+        match self {
+            Job::Sequence(sequence) => sequence.calls_left(),
+            Job::Inspection(inspection) => inspection.calls_left(),
         }
     }
 

@@ -1,5 +1,5 @@
 //! Laws of the phases, each the contract of a function that does nothing.
-ghost use Rattle.sd_gate.specs.Laws.{ImageWholeOrClosed, GivenUpFits, FoundFits, InspectionTells, PlansLead, BodiesFill, CutsFit};
+ghost use Rattle.sd_gate.specs.Laws.{ImageWholeOrClosed, GivenUpFits, FoundFits, AllFoundFit, InspectionTells, PlansLead, BodiesFill, CutsFit};
 
 use sd_disk::Disk;
 
@@ -19,13 +19,18 @@ pub fn found_fits<D: Disk>(disk: &D)
     ensures { FoundFits (D.contents disk.now) (D.may_leave disk.now) }
 {}
 
+/// A disk of which every slot was synced is in the phases that its files tell, with the bodies that they have.
+pub fn all_found_fit<D: Disk>(disk: &D)
+    ensures { AllFoundFit (D.contents disk.now) (D.may_leave disk.now) }
+{}
+
 /// The length and the first bytes that an inspection brings back tell that phase.
 pub fn inspection_tells()
     ensures { InspectionTells }
 {}
 
-/// The calls of each plan that writes find their slot ready, one after the other. A format leaves one closed byte,
-/// also the calls that retire an image; the calls that close a body leave the image.
+/// The calls of each plan that writes find their slot ready, one after the other, from each phase in which the first is
+/// ready. A format and the calls that retire an image leave one closed byte; those that close a body leave the image.
 pub fn plans_lead()
     ensures { PlansLead }
 {}

@@ -26,8 +26,8 @@ pub use call::Call;
 pub use device_call::perform;
 pub use found::Found;
 pub use laws::{
-    bodies_fill, cuts_fit, found_fits, given_up_fits, image_whole_or_closed, inspection_tells,
-    plans_lead,
+    all_found_fit, bodies_fill, cuts_fit, found_fits, given_up_fits, image_whole_or_closed,
+    inspection_tells, plans_lead,
 };
 pub use outcome::Outcome;
 pub use phase::Phase;
@@ -37,6 +37,3 @@ pub use request_id::RequestId;
 pub use settled::Settled;
 pub use slot_state::SlotState;
 pub use worker::Worker;
-
-#[cfg(test)]
-mod tests;
