@@ -1,34 +1,59 @@
 -- The file of an open slot is the image that was read from it.
-use Rattle.std.proofs.Common.{◌≡◌, ◌<◌, ◌≤◌, ◌+◌, ◌*◌, ℕ, Bool, true, false, nat_eq, ◌&&◌, List, [], ◌∷◌, ◌++◌, map, drop, length, refl, sym, ◌∙◌, ap, arith, inl, inr}
+use Rattle.std.proofs.Common.{◌≡◌, ◌<◌, ◌≤◌, ◌+◌, ◌-◌, ◌*◌, ℕ, Bool, true, false, nat_eq, ◌&&◌, List, [], ◌∷◌, ◌++◌, map, drop, take, length, Ok, Err, refl, sym, ◌∙◌, ap, arith, inl, inr}
 use Rattle.std.specs.Prelude.{slice_range, slice_index, nat_le}
 use Rattle.std.proofs.lemmas.Bool.{le-leb, lt-leb, ne_eqb}
 use Rattle.sd_image.specs.Header.{header_text, IsHeader}
 use Rattle.sd_image.specs.Table.{listed, table_text, IsTable}
 use Rattle.sd_image.specs.Image.{Image, IsImage, OpenImages, is_open}
+use Rattle.std.proofs.lemmas.List.{length-drop, length-take-le}
+use Rattle.sd_image.specs.declared.header.Header.{Header}
+use Rattle.sd_image.specs.declared.reason.Reason.{Reason}
 use Rattle.sd_image.specs.Laws.{FileIsImage}
+use Rattle.sd_image.specs.Reading.{header_in, table_in}
+use Rattle.sd_image.specs.ReasonLaws.{GoodHeaderHasNoReason}
 use Rattle.sd_restore.specs.declared.decoded.Decoded.{Decoded}
-use Rattle.sd_restore.specs.Reading.{IsDecodedAs}
+use Rattle.sd_restore.specs.Faulty.{IsFaulty}
+use Rattle.sd_restore.specs.Reading.{HasHeader, IsDecodedAs, table_bytes}
+use Rattle.sd_restore.proofs.TakeLemmas.{taken_all}
 
 index_of_first : (file : List ℕ) → slice_index (slice_range file 0 4096) 0 ≡ slice_index file 0
 index_of_first [] = refl
 index_of_first (x ∷ file) = refl
 
--- what was read of a file: its header, and behind the data pages its table
-pub record WasRead (file : List ℕ) (decoded : Decoded) : Type 0 where
-  pub gate : slice_index (slice_range file 0 4096) 0 ≡ 165
-  pub header : drop 1 (slice_range file 0 4096) ≡ header_text decoded.header
-  pub is_header : IsHeader decoded.header (length file)
-  pub spelled : drop (4096 + 4096 * decoded.header.pages) file ≡ table_text (map listed decoded.table.spaces.items)
-  pub table : IsTable decoded.header (map listed decoded.table.spaces.items)
+-- a file with such a header behind its gate is open
+pub has_header : (file : List ℕ) (h : Header) → slice_index (slice_range file 0 4096) 0 ≡ 165 → drop 1 (slice_range file 0 4096) ≡ header_text h
+    → IsHeader h (length file) → HasHeader file h
+has_header file h gate spelled is =
+    let long : 4096 ≤ length file = omega (arith, is.fills) in
+    record {
+      opens = ap (λ b. b && nat_eq (slice_index file 0) 165) (le-leb 4096 (length file) long) ∙ ap (λ k. nat_eq k 165) (sym (index_of_first file) ∙ gate);
+      spelled = spelled;
+      is = is;
+    }
 
--- such a file is open, and is an image with them
-pub is_reading : FileIsImage → (file : List ℕ) (decoded : Decoded) → WasRead file decoded → IsDecodedAs file decoded
-is_reading law file decoded was =
-    let long : 4096 ≤ length file = omega (arith, was.is_header.fills) in
-    let opens : is_open file ≡ true =
-    ap (λ b. b && nat_eq (slice_index file 0) 165) (le-leb 4096 (length file) long) ∙ ap (λ k. nat_eq k 165) (sym (index_of_first file) ∙ was.gate) in
-    let image = law file decoded.header (map listed decoded.table.spaces.items) opens was.header was.is_header was.spelled was.table in
-    record { opens = opens; image = image.0; spelled = image.1; header = image.2; spaces = image.3 }
+-- the table is all that stands behind the data pages
+table_is_rest : (file : List ℕ) (h : Header) → IsHeader h (length file) → table_bytes h file ≡ drop (4096 + 4096 * h.pages) file
+table_is_rest file h is =
+    let place : ℕ = 4096 + 4096 * h.pages in
+    let count : place + h.table_len - place ≡ h.table_len = omega arith in
+    ap (λ n. take n (drop place file)) count ∙ taken_all (drop place file) h.table_len (omega (arith, length-drop place file, is.fills))
+
+-- such a file is the image that its header and its table say
+pub is_decoded : FileIsImage → (file : List ℕ) (decoded : Decoded) → HasHeader file decoded.header
+    → table_bytes decoded.header file ≡ table_text (map listed decoded.table.spaces.items) → IsTable decoded.header (map listed decoded.table.spaces.items)
+    → IsDecodedAs file decoded
+is_decoded law file decoded has spelled table =
+    let image = law file decoded.header (map listed decoded.table.spaces.items) has.opens has.spelled has.is (sym (table_is_rest file decoded.header has.is) ∙ spelled) table in
+    record { opens = has.opens; image = image.0; spelled = image.1; header = image.2; spaces = image.3 }
+
+-- and where its table breaks a rule, so does it
+pub table_is_faulty : GoodHeaderHasNoReason → (file : List ℕ) (h : Header) (reason : Reason) → HasHeader file h → table_in h (table_bytes h file) ≡ Err reason
+    → IsFaulty file reason
+table_is_faulty law file h reason has breaks =
+    let long : 4096 ≤ length file = omega (arith, has.is.fills) in
+    let read : header_in (slice_range file 0 4096) (length file) ≡ Ok h = law (slice_range file 0 4096) (length file) h (length-take-le 4096 file long) has.spelled has.is in
+    let table : table_in h (drop (4096 + 4096 * h.pages) file) ≡ Err reason = ap (table_in h) (sym (table_is_rest file h has.is)) ∙ breaks in
+    record { opens = has.opens; breaks = rw (read, table) refl }
 
 -- a short file is closed, and one with another gate
 pub short_is_closed : (file : List ℕ) → length file < 4096 → is_open file ≡ false

@@ -1,4 +1,3 @@
-pub mod OutcomeLemmas
 pub mod TakeLemmas
 pub mod FileLemmas
 pub mod ScanLemmas

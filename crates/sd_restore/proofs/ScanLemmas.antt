@@ -123,7 +123,7 @@ count_closed contents slot less closed = count_more contents slot false less clo
 -- What was read of any device, one image more.
 
 pub none_read : (count : ℕ) → AreRead count []
-none_read count = record { slots = λ k d less. absurd (omega (arith, less)); are = record { tables = λ k d less. absurd (omega (arith, less)); fall = λ k d less. absurd (omega (arith, less)) } }
+none_read count = record { none_held = λ serial held. absurd (let no : None ≡ Some None = held in cc); slots = λ k d less. absurd (omega (arith, less)); are = record { tables = λ k d less. absurd (omega (arith, less)); fall = λ k d less. absurd (omega (arith, less)) } }
 
 all_more : (P : Opened → Type 0) (old new : Places) (i : Opened) → ((j : Opened) → Contains (images new) j → Contains (images old) j ⊎ (j ≡ i)) → P i → All P (images old) → All P (images new)
 all_more P old new i others here all k d less = elim (others (slice_index_or (images new) k d) (Contains-get_or (images new) k d less)) [
@@ -131,9 +131,14 @@ all_more P old new i others here all k d less = elim (others (slice_index_or (im
   | inr is ↦ subst P (sym is) here
 ]
 
-pub one_more_read : (count : ℕ) (old new : Places) (i : Opened) → ((j : Opened) → Contains (images new) j → Contains (images old) j ⊎ (j ≡ i)) → i.slot < count
+held_stays : (b : Bool) (x : Option (Option Opened)) (i : Opened) → cond b (Some (Some i)) x ≡ Some None → x ≡ Some None
+held_stays true x i e = absurd (let no : Some (Some i) ≡ Some None = e in cc)
+held_stays false x i e = e
+
+pub one_more_read : (count : ℕ) (old new : Places) (i : Opened) → Changes old new i.header.serial (Some (Some i)) → ((j : Opened) → Contains (images new) j → Contains (images old) j ⊎ (j ≡ i)) → i.slot < count
     → IsTable i.header i.spaces → i.header.parent < i.header.stands_for → AreRead count old → AreRead count new
-one_more_read count old new i others within table falls was = record {
+one_more_read count old new i changes others within table falls was = record {
+  none_held = λ serial held. was.none_held serial (held_stays (nat_eq i.header.serial serial) (place_of old serial) i (sym (changes serial) ∙ held));
   slots = all_more (λ (j : Opened). j.slot < count) old new i others within was.slots;
   are = record {
     tables = all_more (λ (j : Opened). IsTable j.header j.spaces) old new i others table was.are.tables;

@@ -3,4 +3,3 @@ pub mod Faulty
 pub mod Scanned
 pub mod Reading
 pub mod Placed
-pub mod Outcomes

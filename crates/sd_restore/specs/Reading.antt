@@ -1,8 +1,20 @@
 -- What was read of a slot.
-use Rattle.std.specs.Prelude.{◌≡◌, ℕ, ◌<◌, true, false, List, map, Option, MatchOption}
+use Rattle.std.specs.Prelude.{◌≡◌, ℕ, ◌<◌, ◌+◌, ◌*◌, true, false, List, length, map, drop, Option, MatchOption, slice_range}
+use Rattle.sd_image.specs.declared.header.Header.{Header}
+use Rattle.sd_image.specs.Header.{header_text, IsHeader}
 use Rattle.sd_image.specs.Table.{listed, IsTable}
 use Rattle.sd_image.specs.Image.{Image, IsImage, is_open}
 use Rattle.sd_restore.specs.declared.decoded.Decoded.{Decoded}
+
+-- an open file begins with this header
+pub record HasHeader (file : List ℕ) (h : Header) : Type 0 where
+  pub opens : is_open file ≡ true
+  pub spelled : drop 1 (slice_range file 0 4096) ≡ header_text h
+  pub is : IsHeader h (length file)
+
+-- the bytes of a file's table, behind a header and its data pages
+abbrev pub table_bytes : Header → List ℕ → List ℕ
+table_bytes h file = slice_range file (4096 + 4096 * h.pages) (4096 + 4096 * h.pages + h.table_len)
 
 -- a file is an image with this header and this table
 pub record IsDecodedAs (file : List ℕ) (decoded : Decoded) : Type 0 where

@@ -3,7 +3,7 @@ use Rattle.std.specs.Prelude.{◌≡◌, ◌==◌, ℕ, ◌<◌, Bool, true, fal
 use Rattle.std.specs.List.{list_any}
 use Rattle.sd_image.specs.Image.{Image, is_open}
 use Rattle.sd_image.specs.Shows.{IsStore}
-use Rattle.sd_chain.specs.Catalog.{Opened, Places, place_of, images}
+use Rattle.sd_chain.specs.Catalog.{IsHeld, Opened, Places, place_of, images}
 use Rattle.sd_chain.specs.Store.{IsCatalogOf}
 use Rattle.sd_chain.specs.Ways.{AreImages}
 use Rattle.sd_restore.specs.declared.scanned.Scanned.{Scanned}
@@ -22,8 +22,10 @@ pub record IsScan (files : List (List ℕ)) (places : Places) : Type 0 where
   pub store : IsStore files images
   pub serials : (serial : ℕ) → has_image (place_of places serial) ≡ list_any (λ other. serial == other) (map (λ (i : Image). i.header.serial) images)
 
--- what was read, also of a device that lied: the images are in so many slots, their tables are tables, and their parents fall
+-- what was read, also of a device that lied: the images are in so many slots, their tables are tables, and their parents fall; no
+-- place is held
 pub record AreRead (count : ℕ) (places : Places) : Type 0 where
+  pub none_held : (serial : ℕ) → IsHeld places serial → ⊥
   pub slots : All (λ i. i.slot < count) (images places)
   pub are : AreImages places
 

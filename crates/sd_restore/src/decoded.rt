@@ -1,8 +1,47 @@
-use sd_image::{Header, Table};
+//! What a slot says of its image.
+ghost use Rattle.std.specs.Prelude.{◌≡◌, ◌≢◌, List, ℕ, IfOk, IfErr};
+ghost use Rattle.sd_image.specs.Header.{IsHeader};
+ghost use Rattle.sd_restore.specs.Faulty.{Names, IsFaulty};
+ghost use Rattle.sd_restore.specs.Reading.{HasHeader, IsDecodedAs, IsSound, table_bytes};
+
+use crate::fault::Fault;
+use sd_image::{Header, Table, TableError, decode_table, file_is_image, good_header_has_no_reason};
+use std::alloc::Global;
 
 /// What an open slot says of its image.
 #[derive(Drop)]
 pub struct Decoded {
     pub header: Header,
     pub table: Table,
+}
+
+/// What an open slot says of its image, from its header and from the bytes of its table, which were read already.
+///
+/// # Errors
+///
+/// `Damaged` names the slot and the reason why the bytes are no table behind this header. `OutOfMemory` where the
+/// table finds no room.
+pub fn decode_slot(
+    alloc: Global,
+    slot: usize,
+    header: Header,
+    table: &[u8],
+) -> Result<Decoded, Fault>
+    // Where they are those of an open file, that file is an image, and this is what it says; or it is faulty.
+    ensures decoded { (file : List ℕ) → HasHeader file header → table.now ≡ table_bytes header file
+        → IfOk result (IsDecodedAs file) }
+    ensures faulty { (file : List ℕ) → HasHeader file header → table.now ≡ table_bytes header file
+        → IfErr result (Names (λ s reason. (s ≡ slot) × IsFaulty file reason)) }
+    // Also of a device that lies.
+    ensures sound { (len : ℕ) → IsHeader header len → IfOk result IsSound }
+    ensures empty { result ≢ Err Fault.EmptyChain }
+    ensures device { result ≢ Err Fault.Device }
+{
+    file_is_image();
+    good_header_has_no_reason();
+    match decode_table(alloc, &header, table) {
+        Ok(table) => Ok(Decoded { header, table }),
+        Err(TableError::Damaged(reason)) => Err(Fault::Damaged { slot, reason }),
+        Err(TableError::OutOfMemory) => Err(Fault::OutOfMemory),
+    }
 }

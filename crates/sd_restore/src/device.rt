@@ -1,9 +1,8 @@
 //! The calls of a device that change nothing.
 ghost use Rattle.std.specs.Prelude.{◌≡◌, ◌+◌, ◌<◌, ◌≤◌, length, IfOk, OnOk, slice_range};
 ghost use Rattle.sd_disk.specs.Contents.{file_at};
-ghost use Rattle.sd_disk.specs.Crash.{Within};
+ghost use Rattle.sd_disk.specs.Reads.{OnlyReads};
 ghost use Rattle.sd_disk.specs.Failures.{HasCause};
-ghost use Rattle.sd_restore.specs.Outcomes.{LeavesNoMore};
 
 use sd_disk::{DeviceError, Disk};
 
@@ -11,11 +10,7 @@ use sd_disk::{DeviceError, Disk};
 pub fn file_len<D: Disk>(disk: &mut D, slot: usize) -> Result<usize, DeviceError>
     requires { slot < length (D.contents disk.old) }
     ensures length { D.is_honest disk.new → IfOk result (λ n. n ≡ length (file_at (D.contents disk.old) slot)) }
-    ensures same { D.contents disk.new ≡ D.contents disk.old }
-    ensures crash { Within (D.may_leave disk.new) (D.may_leave disk.old) }
-    ensures moment { D.moment disk.old ≤ D.moment disk.new }
-    ensures left { LeavesNoMore (D.moment disk.old) (D.left_since disk.old) (D.left_since disk.new) }
-    ensures honest { D.is_honest disk.new → D.is_honest disk.old }
+    ensures reads { OnlyReads D.Disk disk.old disk.new }
     ensures cause { HasCause (D.failed disk.old) (D.failed disk.new) result }
 {
     disk.len(slot)
@@ -28,14 +23,9 @@ pub fn read_file<D: Disk>(
     at: usize,
     buffer: &mut [u8],
 ) -> Result<(), DeviceError>
-    requires slot { slot < length (D.contents disk.old) }
-    requires inside { D.is_honest disk.old → at + length buffer.old ≤ length (file_at (D.contents disk.old) slot) }
+    requires { slot < length (D.contents disk.old) }
     ensures bytes { D.is_honest disk.new → OnOk result (buffer.new ≡ slice_range (file_at (D.contents disk.old) slot) at (at + length buffer.old)) }
-    ensures same { D.contents disk.new ≡ D.contents disk.old }
-    ensures crash { Within (D.may_leave disk.new) (D.may_leave disk.old) }
-    ensures moment { D.moment disk.old ≤ D.moment disk.new }
-    ensures left { LeavesNoMore (D.moment disk.old) (D.left_since disk.old) (D.left_since disk.new) }
-    ensures honest { D.is_honest disk.new → D.is_honest disk.old }
+    ensures reads { OnlyReads D.Disk disk.old disk.new }
     ensures cause { HasCause (D.failed disk.old) (D.failed disk.new) result }
 {
     disk.read(slot, at, buffer)

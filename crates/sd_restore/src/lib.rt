@@ -14,8 +14,10 @@ mod slot_reader;
 mod slots;
 mod verifying;
 
+pub use decoded::{Decoded, decode_slot};
 pub use fault::Fault;
 pub use report::Report;
-pub use restoring::restore;
+pub use restoring::{restore, restore_from};
+pub use scanned::Scanned;
 pub use slots::scan;
 pub use verifying::verify;

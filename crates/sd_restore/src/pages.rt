@@ -2,10 +2,9 @@
 ghost use Rattle.std.specs.Prelude.{◌≡◌, ◌≢◌, ◌<◌, ◌≤◌, length, All, IsTrue, IfOk, IfErr, OnOk, IsErrOf};
 ghost use Rattle.std.specs.FinMap as finmap;
 ghost use Rattle.sd_areas.specs.Memory.{memory_of};
-ghost use Rattle.sd_disk.specs.Crash.{Within};
+ghost use Rattle.sd_disk.specs.Reads.{OnlyReads};
 ghost use Rattle.sd_chain.specs.Store.{IsInFile, bytes_at};
 ghost use Rattle.sd_restore.specs.Faulty.{Names};
-ghost use Rattle.sd_restore.specs.Outcomes.{LeavesNoMore};
 ghost use Rattle.sd_restore.specs.Placed.{IsInSlots, with_spaces, with_pages};
 
 use crate::device::read_file;
@@ -34,16 +33,10 @@ fn read_page<D: Disk>(
     disk: &mut D,
     there: Found,
 ) -> Result<Box<[u8; PAGE_SIZE]>, Fault>
-    requires slot { IsInSlots (length (D.contents disk.old)) there }
-    requires inside { D.is_honest disk.old → IsInFile (D.contents disk.old) there }
+    requires { IsInSlots (length (D.contents disk.old)) there }
     ensures bytes { D.is_honest disk.new → IfOk result (λ bytes. bytes.value ≡ bytes_at (D.contents disk.old) there) }
     ensures unnamed { IfErr result (Names (λ _ _. ⊥)) }
-    ensures same { D.contents disk.new ≡ D.contents disk.old }
-    ensures crash { Within (D.may_leave disk.new) (D.may_leave disk.old) }
-    ensures moment { D.moment disk.old ≤ D.moment disk.new }
-    ensures left { LeavesNoMore (D.moment disk.old) (D.left_since disk.old) (D.left_since disk.new) }
-    ensures honest { D.is_honest disk.new → D.is_honest disk.old }
-    ensures later { D.failed disk.old ≤ D.failed disk.new }
+    ensures reads { OnlyReads D.Disk disk.old disk.new }
     ensures device { IsErrOf result Fault.Device → D.failed disk.old < D.failed disk.new }
     ensures empty { result ≢ Err Fault.EmptyChain }
 {
@@ -63,16 +56,10 @@ pub fn read_pages<D: Disk>(
 ) -> Result<(), Fault>
     requires alive { All (λ p. IsTrue (finmap.contains_key (memory_of snapshot.old) p.space)) pages.now }
     requires slots { All (λ p. IsInSlots (length (D.contents disk.old)) p.there) pages.now }
-    requires inside { D.is_honest disk.old → All (λ p. IsInFile (D.contents disk.old) p.there) pages.now }
     ensures memory { D.is_honest disk.new → OnOk result (memory_of snapshot.new ≡ with_pages (D.contents disk.old) (memory_of snapshot.old) pages.now) }
     ensures checkpoint { snapshot.new.checkpoint ≡ snapshot.old.checkpoint }
     ensures unnamed { IfErr result (Names (λ _ _. ⊥)) }
-    ensures same { D.contents disk.new ≡ D.contents disk.old }
-    ensures crash { Within (D.may_leave disk.new) (D.may_leave disk.old) }
-    ensures moment { D.moment disk.old ≤ D.moment disk.new }
-    ensures left { LeavesNoMore (D.moment disk.old) (D.left_since disk.old) (D.left_since disk.new) }
-    ensures honest { D.is_honest disk.new → D.is_honest disk.old }
-    ensures later { D.failed disk.old ≤ D.failed disk.new }
+    ensures reads { OnlyReads D.Disk disk.old disk.new }
     ensures device { IsErrOf result Fault.Device → D.failed disk.old < D.failed disk.new }
     ensures empty { result ≢ Err Fault.EmptyChain }
 {

@@ -1,20 +1,65 @@
 //! Reading a store back.
-ghost use Rattle.std.specs.Prelude.{◌≡◌, ◌≢◌, ◌⊎◌, ◌<◌, ◌≤◌, ℕ, Option, Some, None, IfOk, IfErr, IsErrOf};
+ghost use Rattle.std.specs.Prelude.{◌≡◌, ◌≢◌, ◌⊎◌, ◌<◌, ℕ, Option, Some, None, All, length, IfOk, IfErr, IsErrOf};
 ghost use Rattle.sd_areas.specs.Memory.{memory_of};
 ghost use Rattle.sd_areas.specs.PlainMemory.{PlainMemory};
-ghost use Rattle.sd_disk.specs.Crash.{Within};
+ghost use Rattle.sd_disk.specs.Reads.{OnlyReads};
 ghost use Rattle.sd_image.specs.Shows.{Shows};
+ghost use Rattle.sd_chain.specs.Catalog.{images};
+ghost use Rattle.sd_chain.specs.Store.{IsCatalogOf};
+ghost use Rattle.sd_chain.specs.Ways.{AreImages};
 ghost use Rattle.sd_restore.specs.Faulty.{Names, IsDamage, IsBrokenChain};
-ghost use Rattle.sd_restore.specs.Outcomes.{LeavesNoMore};
 
 use crate::chain::place_pages;
 use crate::fault::Fault;
 use crate::pages::{living_spaces, read_pages};
 use crate::slots::scan;
 use sd_areas::Snapshot;
+use sd_chain::Catalog;
 use sd_disk::Disk;
 use sd_image::{one_store, shown_once, tip_once};
 use std::alloc::Global;
+
+/// The memory that the newest dump or merged image of a catalog stands for. It reads each data page of the result once.
+/// Its time grows with the pages, and with the images that it passes for pages that lie in parents.
+///
+/// # Errors
+///
+/// `EmptyChain` where the catalog has no dump and no merged image. `Damaged` names, of the newest image's pages, rising
+/// by space and page, the first whose chain breaks, by the slot of the image that has the page in its parent. `Device`
+/// and `OutOfMemory` end it at once.
+pub fn restore_from<D: Disk>(
+    alloc: Global,
+    disk: &mut D,
+    catalog: &Catalog,
+) -> Result<Snapshot, Fault>
+    requires images { AreImages catalog.now }
+    requires slots { All (λ i. i.slot < length (D.contents disk.old)) (images catalog.now) }
+    // Where it is the catalog of the contents, what is restored is what they show.
+    ensures shown { D.is_honest disk.new → IsCatalogOf (D.contents disk.old) catalog.now → IfOk result (λ snapshot.
+        Shows (D.contents disk.old) (Some (snapshot.checkpoint, memory_of snapshot))) }
+    ensures empty { IsCatalogOf (D.contents disk.old) catalog.now → IsErrOf result Fault.EmptyChain
+        → Shows (D.contents disk.old) None }
+    ensures broken { IsCatalogOf (D.contents disk.old) catalog.now
+        → IfErr result (Names (IsBrokenChain (D.contents disk.old))) }
+    // Contents that show something are never called damaged, and those that show a memory are never called empty.
+    ensures good { (shown : Option (ℕ × PlainMemory)) → IsCatalogOf (D.contents disk.old) catalog.now
+        → Shows (D.contents disk.old) shown → IfErr result (Names (λ _ _. ⊥)) }
+    ensures saved { (moment : ℕ × PlainMemory) → IsCatalogOf (D.contents disk.old) catalog.now
+        → Shows (D.contents disk.old) (Some moment) → result ≢ Err Fault.EmptyChain }
+    ensures reads { OnlyReads D.Disk disk.old disk.new }
+    ensures device { IsErrOf result Fault.Device → D.failed disk.old < D.failed disk.new }
+{
+    one_store();
+    shown_once();
+    tip_once();
+    let Some(tip) = catalog.tip() else {
+        return Err(Fault::EmptyChain);
+    };
+    let pages = place_pages(alloc, catalog, tip)?;
+    let mut snapshot = living_spaces(alloc, tip)?;
+    read_pages(alloc, disk, &pages, &mut snapshot)?;
+    Ok(snapshot)
+}
 
 /// The memory that a store shows: that of its newest dump or merged image. It only reads: the header and the table of
 /// each open slot once, and each data page of the result once. Its time grows with the pages, and with the images that
@@ -34,25 +79,10 @@ pub fn restore<D: Disk>(alloc: Global, disk: &mut D) -> Result<Snapshot, Fault>
     // A store that shows something is never called damaged, and one that shows a memory is never called empty.
     ensures good { D.is_honest disk.new → (shown : Option (ℕ × PlainMemory)) → Shows (D.contents disk.old) shown → IfErr result (Names (λ _ _. ⊥)) }
     ensures saved { D.is_honest disk.new → (moment : ℕ × PlainMemory) → Shows (D.contents disk.old) (Some moment) → result ≢ Err Fault.EmptyChain }
-    // It only reads.
-    ensures same { D.contents disk.new ≡ D.contents disk.old }
-    ensures crash { Within (D.may_leave disk.new) (D.may_leave disk.old) }
-    // A crash at any moment within it leaves nothing more than one before it.
-    ensures moment { D.moment disk.old ≤ D.moment disk.new }
-    ensures left { LeavesNoMore (D.moment disk.old) (D.left_since disk.old) (D.left_since disk.new) }
-    ensures honest { D.is_honest disk.new → D.is_honest disk.old }
-    ensures later { D.failed disk.old ≤ D.failed disk.new }
+    // It only reads: the contents stay, and no crash, afterwards or within it, leaves more than one before it.
+    ensures reads { OnlyReads D.Disk disk.old disk.new }
     ensures device { IsErrOf result Fault.Device → D.failed disk.old < D.failed disk.new }
 {
-    one_store();
-    shown_once();
-    tip_once();
     let catalog = scan(alloc, disk)?;
-    let Some(tip) = catalog.tip() else {
-        return Err(Fault::EmptyChain);
-    };
-    let pages = place_pages(alloc, &catalog, tip)?;
-    let mut snapshot = living_spaces(alloc, tip)?;
-    read_pages(alloc, disk, &pages, &mut snapshot)?;
-    Ok(snapshot)
+    restore_from(alloc, disk, &catalog)
 }

@@ -1,13 +1,18 @@
 //! What was found in the slots so far.
-ghost use Rattle.std.specs.Prelude.{◌≡◌, ◌<◌, ◌≤◌, ◌+◌, ◌-◌, ◌^◌, ℕ, List, true, false, [], None, map, length, OnOk};
+ghost use Rattle.std.specs.Prelude.{◌≡◌, ◌≢◌, ◌<◌, ◌≤◌, ◌+◌, ◌-◌, ◌^◌, ℕ, List, true, false, map, filter, length, IfErr, IfOk, IfSome, OnOk};
 ghost use Rattle.sd_disk.specs.Contents.{file_at};
 ghost use Rattle.sd_image.specs.Image.{Image, IsImage, is_open};
 ghost use Rattle.sd_image.specs.Table.{listed};
-ghost use Rattle.sd_restore.specs.Reading.{IsSound};
+ghost use Rattle.sd_image.specs.Shows.{IsStore};
+ghost use Rattle.sd_chain.specs.Store.{IsCatalogOf};
+ghost use Rattle.sd_restore.specs.Faulty.{IsDamage, Names};
+ghost use Rattle.sd_restore.specs.Reading.{IsReading, IsSound};
 ghost use Rattle.sd_restore.specs.Scanned.{IsScanned, AreRead};
 
 use crate::decoded::Decoded;
+use crate::fault::Fault;
 use sd_chain::{Catalog, CatalogError, PlacedTable, closed_slot, empty_catalog, open_slot};
+use sd_image::{Reason, good_store_has_no_reason, one_image};
 use std::alloc::{AllocError, Global};
 
 /// The images of the slots so far, how many of these are open, and the first of them whose serial an earlier one has.
@@ -34,7 +39,7 @@ impl Scanned {
     }
 
     /// Passes a closed slot.
-    pub fn skip(&self, slot: usize)
+    fn skip(&self, slot: usize)
         ensures { (contents : List (List ℕ)) → slot < length contents → is_open (file_at contents slot) ≡ false
             → IsScanned contents slot self.now → IsScanned contents (slot + 1) self.now }
     {
@@ -42,7 +47,7 @@ impl Scanned {
     }
 
     /// Takes in the image of the next slot.
-    pub fn add(&mut self, alloc: Global, slot: usize, decoded: Decoded) -> Result<(), AllocError>
+    fn add(&mut self, alloc: Global, slot: usize, decoded: Decoded) -> Result<(), AllocError>
         requires { self.old.images < 2 ^ 64 - 1 }
         ensures scanned { OnOk result ((contents : List (List ℕ)) (image : Image) → slot < length contents
             → is_open (file_at contents slot) ≡ true → IsImage (file_at contents slot) image
@@ -66,4 +71,67 @@ impl Scanned {
             Err(CatalogError::OutOfMemory) => Err(AllocError),
         }
     }
+
+    /// Takes in the next slot: what it says of its image, or none where it is closed.
+    ///
+    /// # Errors
+    ///
+    /// Out of memory where the image finds no room; nothing is said of the images so far then.
+    pub fn take_in(
+        &mut self,
+        alloc: Global,
+        slot: usize,
+        opened: Option<Decoded>,
+    ) -> Result<(), AllocError>
+        requires { self.old.images < 2 ^ 64 - 1 }
+        // One slot more was scanned.
+        ensures scanned { OnOk result ((contents : List (List ℕ)) → slot < length contents
+            → IsReading (file_at contents slot) opened
+            → IsScanned contents slot self.old → IsScanned contents (slot + 1) self.new) }
+        // Also of a device that lied.
+        ensures read { (count : ℕ) → slot < count → IfSome opened IsSound → AreRead count self.old.catalog
+            → OnOk result (AreRead count self.new.catalog) }
+        ensures counted { OnOk result (self.new.images ≤ self.old.images + 1) }
+    {
+        match opened {
+            Some(decoded) => self.add(alloc, slot, decoded)?,
+            None => self.skip(slot),
+        }
+        Ok(())
+    }
+
+    /// Checks that no serial stands twice.
+    ///
+    /// # Errors
+    ///
+    /// `Damaged` names the least slot whose serial stands in an earlier open one.
+    pub fn check(&self) -> Result<(), Fault>
+        // Once all slots were scanned, these are the images of the contents, which are a store; or a serial stands twice.
+        ensures catalog { (contents : List (List ℕ)) → IsScanned contents (length contents) self.now
+            → OnOk result (IsCatalogOf contents self.now.catalog) }
+        ensures store { (contents : List (List ℕ)) → IsScanned contents (length contents) self.now
+            → IfOk result (λ _. (images : List Image) × IsStore contents images) }
+        ensures damaged { (contents : List (List ℕ)) → IsScanned contents (length contents) self.now
+            → IfErr result (Names (IsDamage contents)) }
+        ensures good { (contents : List (List ℕ)) (images : List Image) → IsScanned contents (length contents) self.now
+            → IsStore contents images → IfErr result (Names (λ _ _. ⊥)) }
+        ensures empty { result ≢ Err Fault.EmptyChain }
+        ensures device { result ≢ Err Fault.Device }
+    {
+        good_store_has_no_reason();
+        one_image();
+        match self.double {
+            Some(slot) => Err(Fault::Damaged {
+                slot,
+                reason: Reason::DoubleSerial,
+            }),
+            None => Ok(()),
+        }
+    }
+
+    /// A law: how many slots are open, once all were scanned.
+    pub fn counts(&self)
+        ensures { (contents : List (List ℕ)) → IsScanned contents (length contents) self.now
+            → self.now.images ≡ length (filter is_open contents) }
+    {}
 }

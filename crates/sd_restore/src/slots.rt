@@ -1,14 +1,13 @@
 //! The open images of a store.
-ghost use Rattle.std.specs.Prelude.{◌≡◌, ◌≢◌, ◌+◌, ◌-◌, ◌^◌, ◌<◌, ◌≤◌, List, length, filter, All, IfOk, IfErr, OnOk, IsErrOf};
+ghost use Rattle.std.specs.Prelude.{◌≡◌, ◌≢◌, ◌+◌, ◌-◌, ◌^◌, ◌<◌, ◌≤◌, ℕ, List, length, filter, All, IfOk, IfErr, OnOk, IsErrOf};
 ghost use Rattle.sd_disk.specs.Contents.{file_at};
-ghost use Rattle.sd_disk.specs.Crash.{Within};
+ghost use Rattle.sd_disk.specs.Reads.{OnlyReads};
 ghost use Rattle.sd_image.specs.Image.{Image, is_open};
 ghost use Rattle.sd_image.specs.Shows.{IsStore};
-ghost use Rattle.sd_chain.specs.Catalog.{images};
+ghost use Rattle.sd_chain.specs.Catalog.{IsHeld, images};
 ghost use Rattle.sd_chain.specs.Store.{IsCatalogOf};
 ghost use Rattle.sd_chain.specs.Ways.{AreImages};
 ghost use Rattle.sd_restore.specs.Faulty.{Names, IsFaulty, IsFirstFaulty, IsDamage};
-ghost use Rattle.sd_restore.specs.Outcomes.{LeavesNoMore};
 ghost use Rattle.sd_restore.specs.Scanned.{AreRead, IsScanned};
 
 use crate::fault::Fault;
@@ -16,7 +15,7 @@ use crate::scanned::Scanned;
 use crate::slot_reader::read_slot;
 use sd_chain::Catalog;
 use sd_disk::Disk;
-use sd_image::{Reason, good_store_has_no_reason, one_image};
+use sd_image::{good_store_has_no_reason, one_image};
 use std::alloc::Global;
 
 /// Reads the next slot, and takes in what is in it.
@@ -33,19 +32,12 @@ fn scan_slot<D: Disk>(
     ensures read { AreRead (length (D.contents disk.old)) scanned.old.catalog → OnOk result (AreRead (length (D.contents disk.old)) scanned.new.catalog) }
     ensures room { OnOk result (scanned.new.images ≤ slot + 1) }
     ensures faulty { D.is_honest disk.new → IfErr result (Names (λ s reason. (s ≡ slot) × IsFaulty (file_at (D.contents disk.old) slot) reason)) }
-    ensures same { D.contents disk.new ≡ D.contents disk.old }
-    ensures crash { Within (D.may_leave disk.new) (D.may_leave disk.old) }
-    ensures moment { D.moment disk.old ≤ D.moment disk.new }
-    ensures left { LeavesNoMore (D.moment disk.old) (D.left_since disk.old) (D.left_since disk.new) }
-    ensures honest { D.is_honest disk.new → D.is_honest disk.old }
-    ensures later { D.failed disk.old ≤ D.failed disk.new }
+    ensures reads { OnlyReads D.Disk disk.old disk.new }
     ensures device { IsErrOf result Fault.Device → D.failed disk.old < D.failed disk.new }
     ensures empty { result ≢ Err Fault.EmptyChain }
 {
-    match read_slot(alloc, disk, slot)? {
-        Some(decoded) => scanned.add(alloc, slot, decoded)?,
-        None => scanned.skip(slot),
-    }
+    let opened = read_slot(alloc, disk, slot)?;
+    scanned.take_in(alloc, slot, opened)?;
     Ok(())
 }
 
@@ -54,12 +46,7 @@ fn scan_slots<D: Disk>(alloc: Global, disk: &mut D) -> Result<Scanned, Fault>
     ensures scanned { D.is_honest disk.new → IfOk result (IsScanned (D.contents disk.old) (length (D.contents disk.old))) }
     ensures read { IfOk result (λ scanned. AreRead (length (D.contents disk.old)) scanned.catalog) }
     ensures faulty { D.is_honest disk.new → IfErr result (Names (IsFirstFaulty (D.contents disk.old))) }
-    ensures same { D.contents disk.new ≡ D.contents disk.old }
-    ensures crash { Within (D.may_leave disk.new) (D.may_leave disk.old) }
-    ensures moment { D.moment disk.old ≤ D.moment disk.new }
-    ensures left { LeavesNoMore (D.moment disk.old) (D.left_since disk.old) (D.left_since disk.new) }
-    ensures honest { D.is_honest disk.new → D.is_honest disk.old }
-    ensures later { D.failed disk.old ≤ D.failed disk.new }
+    ensures reads { OnlyReads D.Disk disk.old disk.new }
     ensures device { IsErrOf result Fault.Device → D.failed disk.old < D.failed disk.new }
     ensures empty { result ≢ Err Fault.EmptyChain }
 {
@@ -78,25 +65,16 @@ pub fn scan_store<D: Disk>(alloc: Global, disk: &mut D) -> Result<Scanned, Fault
     ensures damaged { D.is_honest disk.new → IfErr result (Names (IsDamage (D.contents disk.old))) }
     ensures store { D.is_honest disk.new → IfOk result (λ _. (images : List Image) × IsStore (D.contents disk.old) images) }
     ensures good { D.is_honest disk.new → (images : List Image) → IsStore (D.contents disk.old) images → IfErr result (Names (λ _ _. ⊥)) }
-    ensures same { D.contents disk.new ≡ D.contents disk.old }
-    ensures crash { Within (D.may_leave disk.new) (D.may_leave disk.old) }
-    ensures moment { D.moment disk.old ≤ D.moment disk.new }
-    ensures left { LeavesNoMore (D.moment disk.old) (D.left_since disk.old) (D.left_since disk.new) }
-    ensures honest { D.is_honest disk.new → D.is_honest disk.old }
-    ensures later { D.failed disk.old ≤ D.failed disk.new }
+    ensures reads { OnlyReads D.Disk disk.old disk.new }
     ensures device { IsErrOf result Fault.Device → D.failed disk.old < D.failed disk.new }
     ensures empty { result ≢ Err Fault.EmptyChain }
 {
     good_store_has_no_reason();
     one_image();
     let scanned = scan_slots(alloc, disk)?;
-    match scanned.double {
-        Some(slot) => Err(Fault::Damaged {
-            slot,
-            reason: Reason::DoubleSerial,
-        }),
-        None => Ok(scanned),
-    }
+    scanned.check()?;
+    scanned.counts();
+    Ok(scanned)
 }
 
 /// The catalog of a store: exactly its open images. It only reads, the header and the table of each open slot once.
@@ -115,14 +93,9 @@ pub fn scan<D: Disk>(alloc: Global, disk: &mut D) -> Result<Catalog, Fault>
     // Also of a device that lies: the images are in its slots, their tables are tables, and their parents fall.
     ensures slots { IfOk result (λ catalog. All (λ i. i.slot < length (D.contents disk.old)) (images catalog)) }
     ensures images { IfOk result (λ catalog. AreImages catalog) }
-    // It only reads.
-    ensures same { D.contents disk.new ≡ D.contents disk.old }
-    ensures crash { Within (D.may_leave disk.new) (D.may_leave disk.old) }
-    // A crash at any moment within it leaves nothing more than one before it.
-    ensures moment { D.moment disk.old ≤ D.moment disk.new }
-    ensures left { LeavesNoMore (D.moment disk.old) (D.left_since disk.old) (D.left_since disk.new) }
-    ensures honest { D.is_honest disk.new → D.is_honest disk.old }
-    ensures later { D.failed disk.old ≤ D.failed disk.new }
+    ensures none_held { IfOk result (λ catalog. (serial : ℕ) → IsHeld catalog serial → ⊥) }
+    // It only reads: the contents stay, and no crash, afterwards or within it, leaves more than one before it.
+    ensures reads { OnlyReads D.Disk disk.old disk.new }
     ensures device { IsErrOf result Fault.Device → D.failed disk.old < D.failed disk.new }
     ensures empty { result ≢ Err Fault.EmptyChain }
 {

@@ -2,13 +2,12 @@
 ghost use Rattle.std.specs.Prelude.{◌≡◌, ◌≢◌, ◌⊎◌, ◌<◌, ◌≤◌, ℕ, List, Option, length, filter, IfOk, IfErr, IsErrOf};
 ghost use Rattle.std.specs.Option.{option_map};
 ghost use Rattle.sd_areas.specs.PlainMemory.{PlainMemory};
-ghost use Rattle.sd_disk.specs.Crash.{Within};
+ghost use Rattle.sd_disk.specs.Reads.{OnlyReads};
 ghost use Rattle.sd_image.specs.Image.{is_open};
 ghost use Rattle.sd_image.specs.Shows.{Shows};
 ghost use Rattle.sd_chain.specs.Store.{IsCatalogOf};
 ghost use Rattle.sd_chain.specs.Ways.{AreImages};
 ghost use Rattle.sd_restore.specs.Faulty.{Names, IsDamage, IsBrokenChain};
-ghost use Rattle.sd_restore.specs.Outcomes.{LeavesNoMore};
 
 use crate::chain::place_pages;
 use crate::fault::Fault;
@@ -54,14 +53,8 @@ pub fn verify<D: Disk>(alloc: Global, disk: &mut D) -> Result<Report, Fault>
     // A store that shows something is never called damaged.
     ensures good { D.is_honest disk.new → (shown : Option (ℕ × PlainMemory)) → Shows (D.contents disk.old) shown → IfErr result (Names (λ _ _. ⊥)) }
     ensures never_empty { result ≢ Err Fault.EmptyChain }
-    // It only reads.
-    ensures same { D.contents disk.new ≡ D.contents disk.old }
-    ensures crash { Within (D.may_leave disk.new) (D.may_leave disk.old) }
-    // A crash at any moment within it leaves nothing more than one before it.
-    ensures moment { D.moment disk.old ≤ D.moment disk.new }
-    ensures left { LeavesNoMore (D.moment disk.old) (D.left_since disk.old) (D.left_since disk.new) }
-    ensures honest { D.is_honest disk.new → D.is_honest disk.old }
-    ensures later { D.failed disk.old ≤ D.failed disk.new }
+    // It only reads: the contents stay, and no crash, afterwards or within it, leaves more than one before it.
+    ensures reads { OnlyReads D.Disk disk.old disk.new }
     ensures device { IsErrOf result Fault.Device → D.failed disk.old < D.failed disk.new }
 {
     let Scanned {

@@ -1,7 +1,7 @@
-use Rattle.sd_restore.proofs.OutcomeLemmas.{leaves_no_more}
+use Rattle.sd_disk.specs.Reads.{one_read}
 use Rattle.sd_restore.proofs.device.read_file.Goals as goal
 
-pub returns-clause-left : goal.returns-clause-left
-returns-clause-left g c =
-    leaves_no_more (g.D.Disk.moment c.args.disk.now) (g.D.Disk.moment c.read.new.self) (g.D.Disk.left_since c.args.disk.now) (g.D.Disk.left_since c.read.new.self)
-    (g.D.Disk.may_leave c.args.disk.now) (g.D.Disk.may_leave c.read.new.self) c.read.ensures.time c.read.ensures.crash (g.met.D.Disk.counts_now c.args.disk.now)
+pub returns-clause-reads : goal.returns-clause-reads
+returns-clause-reads g c =
+    one_read g.D.Disk c.args.disk.now c.read.new.self (g.met.D.Disk.counts_now c.args.disk.now) c.read.ensures.same c.read.ensures.crash c.read.ensures.time
+    c.read.ensures.honest c.read.ensures.cause.later

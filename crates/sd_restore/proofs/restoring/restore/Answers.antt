@@ -1,75 +1,12 @@
-use Rattle.std.proofs.Common.{rules, ◌≡◌, ◌∙◌, ℕ, List, None, Some, length, ap, sym, subst}
-use Rattle.std.proofs.lemmas.List.Elements.{All-contains}
-use Rattle.std.specs.Prelude.{All}
-use Rattle.sd_areas.specs.Memory.{memory_of}
+use Rattle.std.proofs.Common.{◌≡◌, Some, sym, subst}
 use Rattle.sd_image.specs.Shows.{Shows}
-use Rattle.sd_image.specs.Table.{IsTable}
-use Rattle.sd_chain.specs.Catalog.{Opened, images}
-use Rattle.sd_chain.specs.Store.{FindsTip, IsInFile}
-use Rattle.sd_restore.specs.declared.placed_page.PlacedPage.{PlacedPage}
-use Rattle.sd_restore.specs.Faulty.{Names}
-use Rattle.sd_restore.specs.Mapped.{mapped_pages}
-use Rattle.sd_restore.specs.Placed.{IsInSlots, MeetsBreak, with_pages, memory_at}
-use Rattle.sd_restore.proofs.MemoryLemmas.{AreAlive}
-use Rattle.sd_restore.proofs.ScanLemmas.{names_more}
-use Rattle.sd_restore.proofs.ShowLemmas.{no_break, none_is_no_moment, pages_in_slots, pages_inside, pages_live, shows_none, shows_tip}
+use Rattle.sd_chain.specs.Store.{IsCatalogOf}
 use Rattle.sd_restore.proofs.restoring.restore.Goals as goal
 
-pub returns-in_default-clause-saved : goal.returns-in_default-clause-saved
-returns-in_default-clause-saved g c = λ honest moment shows _.
-    let contents : List (List ℕ) = g.D.Disk.contents c.args.disk.now in
-    let finds : FindsTip contents None = subst (FindsTip contents) c.in_default.is (c.tip.ensures.store contents (c.in_ok-catalog.ensures.catalog honest)) in
-    none_is_no_moment moment (c.shown_once.ensures contents None (Some moment) (shows_none contents finds) shows)
-
-pub returns-in_err-pages-clause-good : goal.returns-in_err-pages-clause-good
-returns-in_err-pages-clause-good g c = λ honest shown shows.
-    let contents : List (List ℕ) = g.D.Disk.contents c.args.disk.now in
-    let catalog = c.in_ok-catalog.ensures.catalog honest in
-    let finds : FindsTip contents (Some c.in-Some.tip) = subst (FindsTip contents) c.in-Some.is (c.tip.ensures.store contents catalog) in
-    let named : Names (λ slot reason. ⊥) c.in_err-pages.field-0.0 =
-    names_more (MeetsBreak c.in_ok-catalog.catalog c.in-Some.tip.now.header.serial (mapped_pages c.in-Some.tip.now.spaces)) (λ slot reason. ⊥) c.in_err-pages.field-0.0
-    (λ slot reason met. no_break c.one_store.ensures c.tip_once.ensures contents c.in_ok-catalog.catalog c.in-Some.tip slot reason shown catalog finds met shows)
-    c.in_err-pages.ensures.broken in
-    search rules
-
-pub read_pages-requires-clause-alive : goal.read_pages-requires-clause-alive
-read_pages-requires-clause-alive g c =
-    let tip = c.in-Some.tip.now in
-    let table = All-contains (λ (i : Opened). IsTable i.header i.spaces) (images c.in_ok-catalog.catalog) tip c.in_ok-catalog.ensures.images.tables c.in-Some.ensures.newest.member in
-    let live = pages_live tip.header c.in_ok-catalog.catalog tip c.in_ok-pages.pages.items table.each c.in_ok-pages.ensures.placed in
-    subst (AreAlive (memory_of c.in_ok-snapshot.snapshot)) (sym c.deref.ensures.value)
-    (subst (λ m. AreAlive m c.in_ok-pages.pages.items) (sym c.in_ok-snapshot.ensures.spaces) live)
-
-pub read_pages-requires-clause-slots : goal.read_pages-requires-clause-slots
-read_pages-requires-clause-slots g c =
-    let tip = c.in-Some.tip.now in
-    let count : ℕ = length (g.D.Disk.contents c.args.disk.now) in
-    let same : g.D.Disk.contents c.scan.new.disk ≡ g.D.Disk.contents c.args.disk.now = c.in_ok-catalog.ensures.same in
-    let inside = pages_in_slots count c.in_ok-catalog.catalog tip c.in_ok-pages.pages.items c.in_ok-catalog.ensures.slots c.in-Some.ensures.own c.in-Some.ensures.newest c.in_ok-pages.ensures.placed in
-    subst (All (λ (p : PlacedPage). IsInSlots (length (g.D.Disk.contents c.scan.new.disk)) p.there)) (sym c.deref.ensures.value)
-    (subst (λ contents. All (λ (p : PlacedPage). IsInSlots (length contents) p.there) c.in_ok-pages.pages.items) (sym same) inside)
-
-pub read_pages-requires-clause-inside : goal.read_pages-requires-clause-inside
-read_pages-requires-clause-inside g c = λ honest.
-    let tip = c.in-Some.tip.now in
-    let same : g.D.Disk.contents c.scan.new.disk ≡ g.D.Disk.contents c.args.disk.now = c.in_ok-catalog.ensures.same in
-    let inside = pages_inside (g.D.Disk.contents c.args.disk.now) c.in_ok-catalog.catalog tip c.in_ok-pages.pages.items (c.in_ok-catalog.ensures.catalog honest) c.in_ok-pages.ensures.placed in
-    subst (All (λ (p : PlacedPage). IsInFile (g.D.Disk.contents c.scan.new.disk) p.there)) (sym c.deref.ensures.value)
-    (subst (λ contents. All (λ (p : PlacedPage). IsInFile contents p.there) c.in_ok-pages.pages.items) (sym same) inside)
-
-pub returns-clause-shown : goal.returns-clause-shown
-returns-clause-shown g c = λ honest.
-    let contents : List (List ℕ) = g.D.Disk.contents c.args.disk.now in
-    let tip = c.in-Some.tip.now in
-    let scanned = c.in_ok-read_pages.ensures.honest honest in
-    let catalog = c.in_ok-catalog.ensures.catalog scanned in
-    let finds : FindsTip contents (Some c.in-Some.tip) = subst (FindsTip contents) c.in-Some.is (c.tip.ensures.store contents catalog) in
-    let memory : memory_of c.read_pages.new.snapshot ≡ memory_at contents tip.spaces c.in_ok-pages.pages.items =
-    c.in_ok-read_pages.ensures.memory honest
-    ∙ ap (λ contents. with_pages contents (memory_of c.in_ok-snapshot.snapshot) c.deref.result.now) c.in_ok-catalog.ensures.same
-    ∙ ap (with_pages contents (memory_of c.in_ok-snapshot.snapshot)) c.deref.ensures.value
-    ∙ ap (λ m. with_pages contents m c.in_ok-pages.pages.items) c.in_ok-snapshot.ensures.spaces in
-    let number : c.read_pages.new.snapshot.checkpoint ≡ tip.header.checkpoint = c.in_ok-read_pages.ensures.checkpoint ∙ c.in_ok-snapshot.ensures.checkpoint in
-    subst (λ n. Shows contents (Some (n, memory_of c.read_pages.new.snapshot))) (sym number)
-    (subst (λ m. Shows contents (Some (tip.header.checkpoint, m))) (sym memory)
-    (shows_tip contents c.in_ok-catalog.catalog c.in-Some.tip c.in_ok-pages.pages.items catalog finds c.in_ok-pages.ensures.placed))
+pub returns-clause-saved : goal.returns-clause-saved
+returns-clause-saved g c = λ honest moment shows.
+    let same : g.D.Disk.contents c.scan.new.disk ≡ g.D.Disk.contents c.args.disk.now = c.in_ok-catalog.ensures.reads.same in
+    let scanned = c.restore_from.ensures.reads.honest honest in
+    c.restore_from.ensures.saved moment
+    (subst (λ contents. IsCatalogOf contents c.in_ok-catalog.catalog) (sym same) (c.in_ok-catalog.ensures.catalog scanned))
+    (subst (λ contents. Shows contents (Some moment)) (sym same) shows)

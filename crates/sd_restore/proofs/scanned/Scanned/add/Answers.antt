@@ -23,5 +23,5 @@ returns-else-is_none-clause-scanned c = λ contents image less opens is header s
 pub returns-in-Ok-clause-read : goal.returns-in-Ok-clause-read
 returns-in-Ok-clause-read c = λ count within sound.
     one_more_read count c.args.self.now.catalog c.add.new.self
-    (record { slot = c.args.slot; header = c.args.decoded.header; spaces = c.in_ok-placed.placed }) c.in-Ok.ensures.no_others within
+    (record { slot = c.args.slot; header = c.args.decoded.header; spaces = c.in_ok-placed.placed }) c.in-Ok.ensures.added c.in-Ok.ensures.no_others within
     (subst (IsTable c.args.decoded.header) (sym c.in_ok-placed.ensures) sound.table) sound.falls
