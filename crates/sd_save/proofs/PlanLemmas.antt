@@ -9,7 +9,7 @@ use Rattle.sd_gate.specs.declared.answer.Answer.TheVariants.{Done}
 use Rattle.sd_gate.specs.declared.call.Call.{Call}
 use Rattle.sd_gate.specs.declared.call.Call.TheVariants.{Len, Read, Write, WriteHeader, Close, Open, Cut, Sync}
 use Rattle.sd_gate.specs.declared.phase.Phase.{Phase}
-use Rattle.sd_gate.specs.declared.note.Note.{Note}
+use Rattle.sd_gate.specs.declared.request_id.RequestId.{RequestId}
 use Rattle.sd_gate.specs.declared.settled.Settled.{Settled}
 use Rattle.sd_gate.specs.declared.settled.Settled.TheVariants.{More, Finished, Failed, Strange}
 use Rattle.sd_gate.specs.Calls.{AreKept, IsAnswerTo, Makes, buffer_back, contents_after, is_done}
@@ -18,7 +18,7 @@ use Rattle.sd_gate.specs.Inspections.{IsReadNext, calls_then, nothing, Following
 use Rattle.sd_gate.specs.Phases.{after, body_after, is_ready}
 use Rattle.sd_gate.specs.Plans.{Back, Gives, Planned, calls_after, found_after, plan_after, settled}
 use Rattle.sd_gate.specs.Requests.{Asked, Made}
-use Rattle.sd_gate.specs.Steps.{Calls}
+use Rattle.sd_gate.specs.Sequences.{Calls}
 use Rattle.sd_save.specs.AfterCrash.{ChangesAlone, FollowsAt, IsLeft}
 use Rattle.sd_save.specs.PlanRun.{AreChanges, IsChange, LeavesAtMost, Takes, back_after, contents_done}
 use Rattle.sd_save.proofs.CrashLemmas.{follows_itself, left_so}
@@ -73,9 +73,9 @@ known_calls (call ∷ calls) answer buffer = refl
 
 calls_are : (plan : Planned) (made : Made) → is_done made.answer ≡ true → plan.awaits ≡ nothing → calls_after plan made ≡ (plan.calls, nothing)
 calls_are plan made done known =
-    ap (λ b. cond b (calls_then plan.calls plan.awaits made.answer (buffer_back made.note.call made.bytes)) ([], nothing)) done
-    ∙ ap (λ a. calls_then plan.calls a made.answer (buffer_back made.note.call made.bytes)) known
-    ∙ known_calls plan.calls made.answer (buffer_back made.note.call made.bytes)
+    ap (λ b. cond b (calls_then plan.calls plan.awaits made.answer (buffer_back made.request.id.call made.request.bytes)) ([], nothing)) done
+    ∙ ap (λ a. calls_then plan.calls a made.answer (buffer_back made.request.id.call made.request.bytes)) known
+    ∙ known_calls plan.calls made.answer (buffer_back made.request.id.call made.request.bytes)
 
 pub not_failed : (result : Settled) → (result ≡ More) ⊎ (result ≡ Finished) ⊎ (result ≡ Strange) → result ≡ Failed → ⊥
 not_failed result other failed = elim other [
@@ -191,25 +191,25 @@ module _ {D : Type 0} (g : Ghosts D) where
   }
 
   module _ (start plan given : Planned) (request : Asked) (first old new : D) (running : Running start plan first old) (gives : Gives plan given request) where
-    slot_is : request.note.slot ≡ start.slot
+    slot_is : request.id.slot ≡ start.slot
     slot_is = gives.slot ∙ running.same_slot
 
-    next_changes : AreChanges ((request.note.call, request.bytes) ∷ given.calls) start.slot (g.contents old)
+    next_changes : AreChanges ((request.id.call, request.bytes) ∷ given.calls) start.slot (g.contents old)
     next_changes = subst (λ calls. AreChanges calls start.slot (g.contents old)) gives.next running.changes
 
     next_stage : (image body final : List ℕ) (phase last : Phase) → Takes image phase body start.calls last final
-        → SlotFits phase body start.slot (g.contents first) (g.may_leave first) → Stage image start.slot ((request.note.call, request.bytes) ∷ given.calls) last final first old
+        → SlotFits phase body start.slot (g.contents first) (g.may_leave first) → Stage image start.slot ((request.id.call, request.bytes) ∷ given.calls) last final first old
     next_stage image body final phase last takes fits =
         subst (λ calls. Stage image start.slot calls last final first old) gives.next (running.stage image body final phase last takes fits)
 
-    module _ (done : Bool) (was_made : WasMade request.note.slot request.note.call request.bytes done old new) where
-      here : WasMade start.slot request.note.call request.bytes done old new
-      here = subst (λ slot. WasMade slot request.note.call request.bytes done old new) slot_is was_made
+    module _ (done : Bool) (was_made : WasMade request.id.slot request.id.call request.bytes done old new) where
+      here : WasMade start.slot request.id.call request.bytes done old new
+      here = subst (λ slot. WasMade slot request.id.call request.bytes done old new) slot_is was_made
 
       pub follows : FollowsAt start.slot (g.may_leave first) (g.may_leave new)
       follows c has =
           let before = here.crash c has in
-          let alone = makes_alone request.note.call request.bytes start.slot before.0 c before.2 in
+          let alone = makes_alone request.id.call request.bytes start.slot before.0 c before.2 in
           let earlier = running.crash before.0 before.1 in (
             earlier.0,
             earlier.1,
@@ -217,29 +217,29 @@ module _ {D : Type 0} (g : Ghosts D) where
           )
 
     -- after a call that failed
-    pub fails : WasMade request.note.slot request.note.call request.bytes false old new → (image body final : List ℕ) (phase last : Phase)
+    pub fails : WasMade request.id.slot request.id.call request.bytes false old new → (image body final : List ℕ) (phase last : Phase)
         → Takes image phase body start.calls last final → SlotFits phase body start.slot (g.contents first) (g.may_leave first)
         → LeavesOnly g first new (IsLeft start.slot image (g.may_leave first))
     fails made image body final phase last takes fits =
-        left_failed image start.slot request.note.call request.bytes given.calls last final first old new (follows false made) (here false made)
+        left_failed image start.slot request.id.call request.bytes given.calls last final first old new (follows false made) (here false made)
         (next_stage image body final phase last takes fits)
 
-    module _ (outcome : Made) (same_note : outcome.note ≡ request.note) (kept : AreKept request.note.call request.bytes outcome.bytes)
-        (answers : IsAnswerTo request.note.call outcome.answer) (ok : is_done outcome.answer ≡ true)
-        (made : WasMade request.note.slot request.note.call request.bytes true old new) where
+    module _ (outcome : Made) (same_note : outcome.request.id ≡ request.id) (kept : AreKept request.id.call request.bytes outcome.request.bytes)
+        (answers : IsAnswerTo request.id.call outcome.answer) (ok : is_done outcome.answer ≡ true)
+        (made : WasMade request.id.slot request.id.call request.bytes true old new) where
       found : Back
-      found = found_after plan.found Done (buffer_back request.note.call request.bytes)
+      found = found_after plan.found Done (buffer_back request.id.call request.bytes)
 
       next : Planned
       next = record { slot = given.slot; calls = given.calls; awaits = nothing; out = None; found = found }
 
-      found_is : found_after given.found outcome.answer (buffer_back outcome.note.call outcome.bytes) ≡ found
+      found_is : found_after given.found outcome.answer (buffer_back outcome.request.id.call outcome.request.bytes) ≡ found
       unfolding found
       found_is =
-          ap (λ (f : Back). found_after f outcome.answer (buffer_back outcome.note.call outcome.bytes)) gives.same_found
-          ∙ ap (λ (a : Answer). found_after plan.found a (buffer_back outcome.note.call outcome.bytes)) (done_so request.note.call outcome.answer next_changes.0 answers)
-          ∙ ap (λ (n : Note). found_after plan.found Done (buffer_back n.call outcome.bytes)) same_note
-          ∙ ap (λ (bytes : List ℕ). found_after plan.found Done (buffer_back request.note.call bytes)) (kept_so request.note.call request.bytes outcome.bytes next_changes.0 kept)
+          ap (λ (f : Back). found_after f outcome.answer (buffer_back outcome.request.id.call outcome.request.bytes)) gives.same_found
+          ∙ ap (λ (a : Answer). found_after plan.found a (buffer_back outcome.request.id.call outcome.request.bytes)) (done_so request.id.call outcome.answer next_changes.0 answers)
+          ∙ ap (λ (n : RequestId). found_after plan.found Done (buffer_back n.call outcome.request.bytes)) same_note
+          ∙ ap (λ (bytes : List ℕ). found_after plan.found Done (buffer_back request.id.call bytes)) (kept_so request.id.call request.bytes outcome.request.bytes next_changes.0 kept)
 
       plan_is : plan_after given outcome ≡ next
       unfolding next
@@ -249,11 +249,11 @@ module _ {D : Type 0} (g : Ghosts D) where
             calls = f.0;
             awaits = f.1;
             out = None;
-            found = found_after given.found outcome.answer (buffer_back outcome.note.call outcome.bytes);
+            found = found_after given.found outcome.answer (buffer_back outcome.request.id.call outcome.request.bytes);
           }) (calls_are given outcome ok (gives.same_awaits ∙ running.awaits))
           ∙ ap (λ (f : Back). record { slot = given.slot; calls = given.calls; awaits = nothing; out = None; found = f }) found_is
 
-      whole : g.contents new ≡ contents_after request.note.call request.bytes start.slot (g.contents old)
+      whole : g.contents new ≡ contents_after request.id.call request.bytes start.slot (g.contents old)
       whole = (here true made).whole refl
 
       runs_next : Running start next first new
@@ -262,14 +262,14 @@ module _ {D : Type 0} (g : Ghosts D) where
         same_slot = gives.same_slot ∙ running.same_slot;
         out = refl;
         awaits = refl;
-        within = subst (λ n. start.slot < n) (sym (makes_alone request.note.call request.bytes start.slot (g.contents old) (g.contents new) (here true made).torn).count) running.within;
+        within = subst (λ n. start.slot < n) (sym (makes_alone request.id.call request.bytes start.slot (g.contents old) (g.contents new) (here true made).torn).count) running.within;
         changes = subst (λ c. AreChanges given.calls start.slot c) (sym whole) next_changes.2;
         done = ap (contents_done given.calls start.slot) whole
             ∙ sym (ap (λ calls. contents_done calls start.slot (g.contents old)) gives.next) ∙ running.done;
         back = sym (ap (λ calls. back_after calls plan.found) gives.next) ∙ running.back;
         crash = follows true made;
         stage = λ image body final phase last takes fits.
-            stage_done image start.slot request.note.call request.bytes given.calls last final first old new (follows true made) (here true made)
+            stage_done image start.slot request.id.call request.bytes given.calls last final first old new (follows true made) (here true made)
             (next_stage image body final phase last takes fits);
       }
 

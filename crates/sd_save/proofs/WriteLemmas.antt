@@ -8,7 +8,7 @@ use Rattle.sd_gate.specs.declared.call.Call.TheVariants.{Write, WriteHeader, Ope
 use Rattle.sd_gate.specs.declared.phase.Phase.TheVariants.{Raw, RawClosing, Whole, Shut, Bare, Writing, Ready, Opening, Doubt}
 use Rattle.sd_gate.specs.Laws.{BodiesFill, ImageWholeOrClosed, pages_body}
 use Rattle.sd_gate.specs.Phases.{body_after}
-use Rattle.sd_gate.specs.Steps.{body_calls, closing_calls, data_place, table_place}
+use Rattle.sd_gate.specs.Sequences.{body_calls, closing_calls, data_place, table_place}
 use Rattle.sd_save.specs.PlanRun.{LeavesAtMost, Takes, contents_done, pages_phase}
 use Rattle.sd_save.specs.SlotFile.{AreWhole, closed_file}
 use Rattle.sd_save.proofs.SlotLemmas.{step, cut_to_first, body_closed}

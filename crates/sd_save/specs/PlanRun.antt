@@ -11,7 +11,7 @@ use Rattle.sd_gate.specs.Fits.{Leaves}
 use Rattle.sd_gate.specs.Laws.{IsClosedOrWhole}
 use Rattle.sd_gate.specs.Phases.{after, body_after, is_ready}
 use Rattle.sd_gate.specs.Plans.{Back, found_after}
-use Rattle.sd_gate.specs.Steps.{Calls}
+use Rattle.sd_gate.specs.Sequences.{Calls}
 
 -- a call that asks for nothing
 abbrev pub IsChange : Call → Type 0

@@ -10,7 +10,7 @@ ghost use Rattle.sd_save.specs.Beginning.{Begins};
 
 use crate::greatest::greatest_number;
 use crate::page_words;
-use crate::save::save;
+use crate::saving::save;
 use crate::save_error::SaveError;
 use sd_areas::Snapshot;
 use sd_command::{Command, Refusal, Reply, apply_to};

@@ -10,7 +10,7 @@ ghost use Rattle.sd_gate.specs.Fits.{SlotFits};
 ghost use Rattle.sd_gate.specs.Inspections.{IsReadNext, nothing};
 ghost use Rattle.sd_gate.specs.Laws.{pages_body};
 ghost use Rattle.sd_gate.specs.Plans.{Gives, begun, found_of};
-ghost use Rattle.sd_gate.specs.Steps.{IsBody, IsPage, data_place};
+ghost use Rattle.sd_gate.specs.Sequences.{IsBody, IsPage, data_place};
 ghost use Rattle.sd_image.specs.Header.{header_text};
 ghost use Rattle.sd_image.specs.Image.{gate};
 ghost use Rattle.sd_pagetable.specs.Contents.{plain_of};
@@ -23,7 +23,7 @@ use crate::page_copy::copy_page;
 use sd_areas::{PageNo, SpaceId};
 use sd_disk::{DeviceError, Disk};
 use sd_gate::{
-    Found, Plan, Refusal, Request, Settled, SlotState, Worker, bodies_fill, image_whole_or_closed,
+    Found, Plan, Request, Settled, SlotState, Worker, bodies_fill, image_whole_or_closed,
     perform,
 };
 use sd_image::Header;
@@ -37,7 +37,7 @@ fn next_request(plan: &mut Plan, ticket: u64) -> Option<Request>
 {
     match plan.take(Worker::Dumper, ticket) {
         Ok(request) => request,
-        Err(Refusal::OutOfMemory) => unreachable!(),
+        Err(_) => unreachable!(),
     }
 }
 

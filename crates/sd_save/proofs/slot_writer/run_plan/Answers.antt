@@ -19,16 +19,16 @@ loop-request-preserved g c =
     let made = c.perform-outcome.ensures in
     let outcome = c.perform-outcome.result in
     let gives = c.in-Some.ensures in
-    let settles = c.settle.ensures.settled (gives.out ∙ ap Some (sym made.note)) in
+    let settles = c.settle.ensures.settled (gives.out ∙ ap Some (sym made.id)) in
     let ok : is_done outcome.answer ≡ true = done_if (is_done outcome.answer) (calls_after c.next_request.new.plan outcome).0 (λ failed. not_failed c.settle.result c.in-More.is (settles.1 ∙ failed)) in
-    let was_made : WasMade D c.in-Some.request.note.slot c.in-Some.request.note.call c.in-Some.request.bytes true c.loop-request.disk c.perform-outcome.new.disk =
-    subst (λ done. WasMade D c.in-Some.request.note.slot c.in-Some.request.note.call c.in-Some.request.bytes done c.loop-request.disk c.perform-outcome.new.disk) ok
-    (record { torn = made.torn; crash = made.crash; whole = made.done; fits = made.fits; time = made.time }) in
+    let was_made : WasMade D c.in-Some.request.id.slot c.in-Some.request.id.call c.in-Some.request.bytes true c.loop-request.disk c.perform-outcome.new.disk =
+    subst (λ done. WasMade D c.in-Some.request.id.slot c.in-Some.request.id.call c.in-Some.request.bytes done c.loop-request.disk c.perform-outcome.new.disk) ok
+    (record { torn = made.torn; crash = made.crash; whole = made.done; fits = made.fits; time = made.one_call.time }) in
     record {
       running = subst (λ p. Running D c.args.plan p c.args.disk.now c.perform-outcome.new.disk) (sym settles.0)
           (goes_on D c.args.plan c.loop-request.plan c.next_request.new.plan c.in-Some.request c.args.disk.now c.loop-request.disk c.perform-outcome.new.disk
-          c.loop-request.invariant.running gives outcome made.note made.bytes (made.answer ok) ok was_made);
-      honest = λ h. c.loop-request.invariant.honest (made.honest h);
+          c.loop-request.invariant.running gives outcome made.id made.bytes (made.answer ok) ok was_made);
+      honest = λ h. c.loop-request.invariant.honest (made.one_call.honest h);
       later = omega (arith, c.loop-request.invariant.later, made.cause.later);
     }
 
@@ -38,14 +38,14 @@ loop-request-smaller g c =
     let made = c.perform-outcome.ensures in
     let outcome = c.perform-outcome.result in
     let gives = c.in-Some.ensures in
-    let settles = c.settle.ensures.settled (gives.out ∙ ap Some (sym made.note)) in
+    let settles = c.settle.ensures.settled (gives.out ∙ ap Some (sym made.id)) in
     let ok : is_done outcome.answer ≡ true = done_if (is_done outcome.answer) (calls_after c.next_request.new.plan outcome).0 (λ failed. not_failed c.settle.result c.in-More.is (settles.1 ∙ failed)) in
-    let was_made : WasMade D c.in-Some.request.note.slot c.in-Some.request.note.call c.in-Some.request.bytes true c.loop-request.disk c.perform-outcome.new.disk =
-    subst (λ done. WasMade D c.in-Some.request.note.slot c.in-Some.request.note.call c.in-Some.request.bytes done c.loop-request.disk c.perform-outcome.new.disk) ok
-    (record { torn = made.torn; crash = made.crash; whole = made.done; fits = made.fits; time = made.time }) in
+    let was_made : WasMade D c.in-Some.request.id.slot c.in-Some.request.id.call c.in-Some.request.bytes true c.loop-request.disk c.perform-outcome.new.disk =
+    subst (λ done. WasMade D c.in-Some.request.id.slot c.in-Some.request.id.call c.in-Some.request.bytes done c.loop-request.disk c.perform-outcome.new.disk) ok
+    (record { torn = made.torn; crash = made.crash; whole = made.done; fits = made.fits; time = made.one_call.time }) in
     subst (λ (p : Planned). length p.calls < length c.loop-request.plan.calls) (sym settles.0)
     (fewer D c.args.plan c.loop-request.plan c.next_request.new.plan c.in-Some.request c.args.disk.now c.loop-request.disk c.perform-outcome.new.disk
-    c.loop-request.invariant.running gives outcome made.note made.bytes (made.answer ok) ok was_made)
+    c.loop-request.invariant.running gives outcome made.id made.bytes (made.answer ok) ok was_made)
 
 pub returns-in-Failed-clause-crash : goal.returns-in-Failed-clause-crash
 returns-in-Failed-clause-crash g c =
@@ -54,7 +54,7 @@ returns-in-Failed-clause-crash g c =
     let gives = c.in-Some.ensures in
     follows D c.args.plan c.loop-request.plan c.next_request.new.plan c.in-Some.request c.args.disk.now c.loop-request.disk c.perform-outcome.new.disk
     c.loop-request.invariant.running gives (is_done c.perform-outcome.result.answer)
-    (record { torn = made.torn; crash = made.crash; whole = made.done; fits = made.fits; time = made.time })
+    (record { torn = made.torn; crash = made.crash; whole = made.done; fits = made.fits; time = made.one_call.time })
 
 pub returns-in-Failed-clause-any_moment : goal.returns-in-Failed-clause-any_moment
 returns-in-Failed-clause-any_moment g c =
@@ -62,11 +62,11 @@ returns-in-Failed-clause-any_moment g c =
     let made = c.perform-outcome.ensures in
     let outcome = c.perform-outcome.result in
     let gives = c.in-Some.ensures in
-    let settles = c.settle.ensures.settled (gives.out ∙ ap Some (sym made.note)) in
+    let settles = c.settle.ensures.settled (gives.out ∙ ap Some (sym made.id)) in
     let no : is_done outcome.answer ≡ false = failed_if (is_done outcome.answer) (calls_after c.next_request.new.plan outcome).0 (sym settles.1 ∙ c.in-Failed.is) in
-    let was_made : WasMade D c.in-Some.request.note.slot c.in-Some.request.note.call c.in-Some.request.bytes false c.loop-request.disk c.perform-outcome.new.disk =
-    subst (λ done. WasMade D c.in-Some.request.note.slot c.in-Some.request.note.call c.in-Some.request.bytes done c.loop-request.disk c.perform-outcome.new.disk) no
-    (record { torn = made.torn; crash = made.crash; whole = made.done; fits = made.fits; time = made.time }) in
+    let was_made : WasMade D c.in-Some.request.id.slot c.in-Some.request.id.call c.in-Some.request.bytes false c.loop-request.disk c.perform-outcome.new.disk =
+    subst (λ done. WasMade D c.in-Some.request.id.slot c.in-Some.request.id.call c.in-Some.request.bytes done c.loop-request.disk c.perform-outcome.new.disk) no
+    (record { torn = made.torn; crash = made.crash; whole = made.done; fits = made.fits; time = made.one_call.time }) in
     fails D c.args.plan c.loop-request.plan c.next_request.new.plan c.in-Some.request c.args.disk.now c.loop-request.disk c.perform-outcome.new.disk
     c.loop-request.invariant.running gives was_made
 

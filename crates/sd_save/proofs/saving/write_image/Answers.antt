@@ -7,7 +7,7 @@ use Rattle.sd_save.specs.Pages.{bytes_at}
 use Rattle.sd_save.specs.SlotFile.{closed_file}
 use Rattle.sd_save.proofs.CrashLemmas.{follows_join, left_join}
 use Rattle.sd_save.proofs.SlotLemmas.{body_filled, image_written}
-use Rattle.sd_save.proofs.save.write_image.Goals as goal
+use Rattle.sd_save.proofs.saving.write_image.Goals as goal
 
 pub returns-in_err-format-clause-any_moment : goal.returns-in_err-format-clause-any_moment
 returns-in_err-format-clause-any_moment g c = c.format.ensures.any_moment (body_of (plain_of c.args.memory.now) c.args.text)

@@ -10,7 +10,7 @@ use Rattle.sd_save.proofs.CrashLemmas.{left_shows, one_slot_later, raw_fits, sho
 use Rattle.sd_save.proofs.FileLemmas.{short_is_closed}
 use Rattle.sd_save.proofs.RawLemmas.{first_is_closed, first_is_free}
 use Rattle.sd_disk.specs.Contents.{file_at}
-use Rattle.sd_save.proofs.save.save.Goals as goal
+use Rattle.sd_save.proofs.saving.save.Goals as goal
 
 pub returns-clause-shown : goal.returns-clause-shown
 returns-clause-shown g c = λ honest ready.
