@@ -1,6 +1,6 @@
-ghost use Rattle.std.specs.Prelude.{◌≡◌, ◌==◌, ◌%◌, ◌≤◌, IsTrue, IsFalse, length, None, Ok, Err, IfOk, IfErr, OnOk, OnErr};
+ghost use Rattle.std.specs.Prelude.{◌≡◌, ◌≢◌, ◌==◌, ◌%◌, ◌≤◌, IsTrue, IsFalse, length, None, Ok, Err, IfOk, IfErr, OnOk, OnErr};
 ghost use Rattle.std.specs.FinMap as finmap;
-ghost use Rattle.sd_areas.specs.Pages.{is_invalid, is_outside};
+ghost use Rattle.sd_areas.specs.Pages.{is_invalid, is_outside, page_of, pages_for};
 
 use crate::area::Area;
 use crate::errno::{AreaError, Errno};
@@ -43,7 +43,7 @@ impl Model for AreaMap {
 
 impl AreaMap {
     ghost use Rattle.sd_areas.specs.Areas.{AreAreasOf, AreMaximal, areas_of, pages_of};
-    ghost use Rattle.sd_areas.specs.Calls.{map_result, unmap_result, protect_result, within_areas, Answers};
+    ghost use Rattle.sd_areas.specs.Calls.{map_result, unmap_result, protect_result, within_areas, has_hole, Answers};
     ghost use Rattle.sd_areas.specs.Memory.{prots_of};
     ghost use Rattle.sd_areas.specs.declared.errno.AreaError.TheVariants.{Refused};
     ghost use Rattle.sd_areas.specs.declared.errno.Errno.TheVariants.{Einval, Enomem};
@@ -72,9 +72,7 @@ impl AreaMap {
         ensures refused { IfErr result (Answers (within_areas (prots_of pages.now.entries))) }
     {
         let areas = areas_in(alloc, pages)?;
-        let mut map = AreaMap::new(alloc);
-        map.replace(areas)?;
-        Ok(map)
+        AreaMap::from_areas(alloc, areas)
     }
 
     /// The maximal runs of pages with equal permissions, in the order of their addresses.
@@ -112,6 +110,22 @@ impl AreaMap {
             → result ≡ Err (Refused Enomem) }
         ensures err { OnErr result (self.new ≡ self.old) }
     {
+        *self = self.after_map(address, bytes, prot)?;
+        Ok(())
+    }
+
+    /// The space after `map`, which this one is left out of.
+    ///
+    /// # Errors
+    ///
+    /// As of `map`, in the same order. Out of memory only where the range is one.
+    pub fn after_map(&self, address: u64, bytes: u64, prot: Prot) -> Result<Self, AreaError>
+        ensures ok { IfOk result (λ map. map_result self.now address bytes prot ≡ Ok map) }
+        ensures refused { IfErr result (Answers (map_result self.now address bytes prot)) }
+        ensures invalid { IsTrue (is_invalid address bytes) → result ≡ Err (Refused Einval) }
+        ensures outside { IsFalse (is_invalid address bytes) → IsTrue (is_outside address bytes)
+            → result ≡ Err (Refused Enomem) }
+    {
         if !is_range(address, bytes) {
             return Err(AreaError::Refused(Errno::Einval));
         }
@@ -119,7 +133,7 @@ impl AreaMap {
             return Err(AreaError::Refused(Errno::Enomem));
         };
         let areas = with_area(self.alloc, &self.areas, range.with(prot))?;
-        self.replace(areas)
+        AreaMap::from_areas(self.alloc, areas)
     }
 
     /// Unmaps each whole page that contains a part of a range, as `munmap` of POSIX.1-2017 does.
@@ -139,6 +153,22 @@ impl AreaMap {
             → result ≡ Err (Refused Einval) }
         ensures err { OnErr result (self.new ≡ self.old) }
     {
+        *self = self.after_unmap(address, bytes)?;
+        Ok(())
+    }
+
+    /// The space after `unmap`, which this one is left out of.
+    ///
+    /// # Errors
+    ///
+    /// As of `unmap`, in the same order. Out of memory only where the range is one.
+    pub fn after_unmap(&self, address: u64, bytes: u64) -> Result<Self, AreaError>
+        ensures ok { IfOk result (λ map. unmap_result self.now address bytes ≡ Ok map) }
+        ensures refused { IfErr result (Answers (unmap_result self.now address bytes)) }
+        ensures invalid { IsTrue (is_invalid address bytes) → result ≡ Err (Refused Einval) }
+        ensures outside { IsFalse (is_invalid address bytes) → IsTrue (is_outside address bytes)
+            → result ≡ Err (Refused Einval) }
+    {
         if !is_range(address, bytes) {
             return Err(AreaError::Refused(Errno::Einval));
         }
@@ -146,7 +176,7 @@ impl AreaMap {
             return Err(AreaError::Refused(Errno::Einval));
         };
         let areas = without_pages(self.alloc, &self.areas, range)?;
-        self.replace(areas)
+        AreaMap::from_areas(self.alloc, areas)
     }
 
     /// Gives the whole pages of a range these permissions, as `mprotect` of POSIX.1-2017 does.
@@ -173,6 +203,29 @@ impl AreaMap {
         if bytes == 0 {
             return Ok(());
         }
+        *self = self.after_protect(address, bytes, prot)?;
+        Ok(())
+    }
+
+    /// The space after `protect` of some bytes, which this one is left out of.
+    ///
+    /// # Errors
+    ///
+    /// As of `protect`, in the same order. Out of memory only where each page of the range is
+    /// mapped.
+    pub fn after_protect(&self, address: u64, bytes: u64, prot: Prot) -> Result<Self, AreaError>
+        requires { bytes ≢ 0 }
+        ensures ok { IfOk result (λ map. protect_result self.now address bytes prot ≡ Ok map) }
+        ensures refused { IfErr result (Answers (protect_result self.now address bytes prot)) }
+        ensures invalid { IsFalse (address % 4096 == 0) → result ≡ Err (Refused Einval) }
+        ensures outside { IsTrue (address % 4096 == 0) → IsTrue (is_outside address bytes)
+            → result ≡ Err (Refused Enomem) }
+        ensures hole { IsTrue (address % 4096 == 0) → IsFalse (is_outside address bytes)
+            → IsTrue (has_hole self.now (page_of address) (pages_for bytes)) → result ≡ Err (Refused Enomem) }
+    {
+        if !is_page_start(address) {
+            return Err(AreaError::Refused(Errno::Einval));
+        }
         let Some(range) = PageRange::new(address, bytes) else {
             return Err(AreaError::Refused(Errno::Enomem));
         };
@@ -180,24 +233,22 @@ impl AreaMap {
             return Err(AreaError::Refused(Errno::Enomem));
         }
         let areas = with_area(self.alloc, &self.areas, range.with(prot))?;
-        self.replace(areas)
+        AreaMap::from_areas(self.alloc, areas)
     }
 
-    /// Replaces the space's areas.
+    /// The space that has these areas.
     ///
     /// # Errors
     ///
-    /// ENOMEM where the new areas are over 1,024: nothing changes.
-    fn replace(&mut self, areas: Vec<Area>) -> Result<(), AreaError>
+    /// ENOMEM where they are over 1,024.
+    fn from_areas(alloc: Global, areas: Vec<Area>) -> Result<Self, AreaError>
         requires { AreMaximal None areas.items }
-        ensures ok { OnOk result (within_areas (pages_of areas.items) ≡ Ok self.new) }
+        ensures ok { IfOk result (λ map. within_areas (pages_of areas.items) ≡ Ok map) }
         ensures refused { IfErr result (Answers (within_areas (pages_of areas.items))) }
-        ensures err { OnErr result (self.new ≡ self.old) }
     {
         if AREA_LIMIT < areas.len() {
             return Err(AreaError::Refused(Errno::Enomem));
         }
-        self.areas = areas;
-        Ok(())
+        Ok(AreaMap { alloc, areas })
     }
 }

@@ -1,6 +1,9 @@
 -- Which refusal a call over a range is due, and the areas after it.
 use Rattle.std.proofs.Common.{◌≡◌, ◌⊎◌, ℕ, ◌+◌, ◌-◌, ◌%◌, ◌<◌, ◌≤◌, ◌^◌, Bool, true, false, not, cond, nat_eq, nat_lt, ◌&&◌, ◌||◌, is_some, IsSome, List, Option, Some, None, Result, Ok, Err, refl, sym, ◌∙◌, ap, subst, inl, inr, arith}
 use Rattle.std.proofs.lemmas.Bool.Decides.{nat_tests}
+use Rattle.std.proofs.lemmas.Bool.{eq-eqb, ne_eqb, cond-true, cond-false}
+use Rattle.std.specs.Ordering.{nat_cmp}
+use Rattle.std.specs.BTreeMap.{BTreeMap, get}
 use Rattle.std.specs.Option.{option_map, option_or}
 use Rattle.std.specs.FinMap as finmap
 use Rattle.sd_areas.specs.declared.prot.Prot.{Prot}
@@ -11,15 +14,15 @@ use Rattle.sd_areas.specs.Calls.{map_result, unmap_result, protect_result}
 use Rattle.sd_areas.specs.Pages.{is_within, is_invalid, is_outside, page_of, pages_for}
 use Rattle.sd_pagetable.specs.declared.access_error.AccessError.{AccessError}
 use Rattle.sd_pagetable.specs.declared.access_error.AccessError.TheVariants.{Refused}
-use Rattle.sd_pagetable.specs.declared.memory_refusal.MemoryRefusal.TheVariants.{NoSuchSpace, Enomem as NoMemory}
+use Rattle.sd_pagetable.specs.declared.memory_refusal.MemoryRefusal.TheVariants.{NoSuchSpace, Einval as BadRange, Enomem as NoMemory}
 use Rattle.sd_pagetable.specs.Nested.{Table, inside, is_alive, set_within, remove_within, change_within, fill_within}
 use Rattle.sd_pagetable.specs.Page.{Page, fresh_page, protected_page}
 use Rattle.sd_pagetable.specs.Contents.{Contents, plain_of, page_count}
-use Rattle.sd_pagetable.specs.Due.{area_due, in_space, or_else, mmap_due, munmap_due, mprotect_due}
+use Rattle.sd_pagetable.specs.Due.{answer, area_due, in_space, or_else, mmap_due, munmap_due, mprotect_due}
 use Rattle.sd_pagetable.specs.Effects.{after_mmap}
 use Rattle.sd_pagetable.specs.declared.memory_error.MemoryError.{MemoryError}
 use Rattle.sd_pagetable.specs.declared.memory_error.MemoryError.TheVariants.{Denied as DeniedError, OutOfMemory}
-use Rattle.sd_pagetable.specs.Kept.{prots_of}
+use Rattle.sd_pagetable.specs.Kept.{prots_of, HasAreas}
 use Rattle.sd_pagetable.specs.RangeCalls.{Refuses}
 use Rattle.sd_pagetable.specs.Ranges.{IsCleared}
 use Rattle.sd_pagetable.specs.Tracking.{with_space}
@@ -235,3 +238,39 @@ is_at_most n e = grind (arith, nat_tests)
 
 pub is_above : (n : ℕ) → nat_le n 65536 ≡ false → 65536 < n
 is_above n e = grind (arith, nat_tests)
+
+-- ---- what is tested before memory is taken
+tested_first : {own : PageMap} (invalid outside : Bool) (past : Errno) (r : Result PageMap Errno) → cond invalid (Err Einval) (cond outside (Err past) r) ≡ Ok own → (invalid ≡ false) × (outside ≡ false)
+tested_first {own} true outside past r e = absurd (let f : ◌≡◌ {A = Result PageMap Errno} (Err Einval) (Ok own) = e in cc)
+tested_first {own} false true past r e = absurd (let f : ◌≡◌ {A = Result PageMap Errno} (Err past) (Ok own) = e in cc)
+tested_first {own} false false past r e = (refl, refl)
+
+pub mapped_range : (pages : PageMap) (address bytes : ℕ) (prot : Prot) (own : PageMap) → map_result pages address bytes prot ≡ Ok own → (is_invalid address bytes ≡ false) × (is_outside address bytes ≡ false)
+unfolding map_result
+mapped_range pages address bytes prot own is = tested_first _ _ Enomem _ is
+
+-- `mprotect` of no bytes
+still_some : (o : Option (Table Page)) → is_some (option_map prots_of o) ≡ is_some o
+still_some None = refl
+still_some (Some t) = refl
+
+pub alive_areas : (areas : BTreeMap ℕ PageMap) (c : Contents) (s : ℕ) (found : Bool) → HasAreas areas c → is_some (get nat_cmp areas s) ≡ found → is_alive c.spaces s ≡ found
+alive_areas areas c s found kept is = sym (still_some (finmap.get c.spaces s)) ∙ ap is_some (sym (kept s)) ∙ is
+
+pub nothing_dead : (c : Contents) (s address : ℕ) (prot : Prot) → is_alive c.spaces s ≡ false → mprotect_due (plain_of c) s address 0 prot ≡ Some (Refused NoSuchSpace)
+nothing_dead c s address prot dead = mprotect_seen c s address 0 prot ∙ cond-false _ _ _ dead
+
+pub nothing_between : (c : Contents) (s address : ℕ) (prot : Prot) → is_alive c.spaces s ≡ true → (address % 4096 ≡ 0 → ⊥) → mprotect_due (plain_of c) s address 0 prot ≡ Some (Refused BadRange)
+unfolding protect_result
+nothing_between c s address prot alive between = mprotect_seen c s address 0 prot ∙ cond-true _ _ _ alive ∙ ap area_due (cond-true _ _ _ (ap not (ne_eqb _ _ between)))
+
+pub nothing_refused : (c : Contents) (s address : ℕ) (prot : Prot) → is_alive c.spaces s ≡ true → address % 4096 ≡ 0 → mprotect_due (plain_of c) s address 0 prot ≡ None
+unfolding protect_result
+nothing_refused c s address prot alive starts = mprotect_seen c s address 0 prot ∙ cond-true _ _ _ alive ∙ ap area_due (cond-false _ _ _ (ap not (eq-eqb _ _ starts)))
+
+pub accepted_alive : (c : Contents) (s address : ℕ) (prot : Prot) → ◌≡◌ {A = Result (Unit {0}) AccessError} (Ok tt) (answer (mprotect_due (plain_of c) s address 0 prot) tt) → is_alive c.spaces s ≡ true
+accepted_alive c s address prot e = by (is_alive c.spaces s) refl
+  where
+    by : (b : Bool) → is_alive c.spaces s ≡ b → is_alive c.spaces s ≡ true
+    by true is = is
+    by false is = absurd (let f : ◌≡◌ {A = Result (Unit {0}) AccessError} (Ok tt) (Err (Refused NoSuchSpace)) = e ∙ ap (λ (due : Option AccessError). answer due (tt {0})) (nothing_dead c s address prot is) in cc)

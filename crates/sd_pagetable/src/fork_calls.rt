@@ -9,6 +9,7 @@ ghost use Rattle.sd_pagetable.specs.Due.{Answers, answer, exit_due, fork_due};
 ghost use Rattle.sd_pagetable.specs.Effects.{after_exit, after_fork, IsLeastFree};
 ghost use Rattle.sd_pagetable.specs.Kept.{HasAreas};
 ghost use Rattle.sd_pagetable.specs.Tracking.{Step, Exited, Forked, contents_after_fork};
+ghost use Rattle.sd_pagetable.specs.declared.memory_error.MemoryError.TheVariants.{OutOfMemory};
 
 use crate::access_error::AccessError;
 use crate::memory_error::MemoryError;
@@ -120,6 +121,7 @@ pub(crate) fn fork(
     requires kept { HasAreas areas.old paging.old }
     ensures kept { HasAreas areas.new paging.new }
     ensures due { Answers (fork_due (plain_of paging.old) space) result }
+    ensures tested { result ≡ Err OutOfMemory → fork_due (plain_of paging.old) space ≡ None }
     ensures child { IfOk result (λ child. IsLeastFree (plain_of paging.old) child) }
     ensures step { IfOk result (λ child. Step paging.old (Forked space child) paging.new) }
     ensures memory { IfOk result (λ child. plain_of paging.new ≡ after_fork (plain_of paging.old) space child) }

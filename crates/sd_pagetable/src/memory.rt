@@ -55,6 +55,7 @@ impl Memory {
     ghost use Rattle.sd_pagetable.specs.Due.{answer, Answers, needs_frame, page_due, access_due, fault_due, store_due, try_outcome, mmap_due, munmap_due, mprotect_due, fork_due, exit_due};
     ghost use Rattle.sd_pagetable.specs.Tracking.{Step, IsBeginning, Mapped, Unmapped, Protected, Forked, Exited, Faulted, Tried as TriedEvent, Stored, Cleared};
     ghost use Rattle.sd_pagetable.specs.Order.{IsNextPage, IsFirstPage, IsFirstIn};
+    ghost use Rattle.sd_pagetable.specs.RangeCalls.{IsRangeIn};
     ghost use Rattle.sd_pagetable.specs.Kept.{prots_of};
     ghost use Rattle.sd_pagetable.specs.Loaded.{snapshot_due, IsLoaded};
     ghost use Rattle.sd_pagetable.specs.declared.memory_error.MemoryError.TheVariants.{OutOfMemory};
@@ -124,6 +125,8 @@ impl Memory {
         prot: Prot,
     ) -> Result<(), MemoryError>
         ensures due { Answers (mmap_due (plain_of self.old) space address bytes prot) result }
+        ensures tested { result ≡ Err OutOfMemory
+            → IsRangeIn (is_alive self.old.spaces space ≡ true) address bytes }
         ensures step { OnOk result (Step self.old (Mapped space (page_of address) (pages_for bytes) prot) self.new) }
         ensures memory { OnOk result (plain_of self.new ≡ after_mmap (plain_of self.old) space address bytes prot) }
         ensures err { OnErr result (self.new ≡ self.old) }
@@ -148,6 +151,8 @@ impl Memory {
     /// space. Out of memory where a growth was refused. An error changes nothing.
     pub fn munmap(&mut self, space: SpaceId, address: u64, bytes: u64) -> Result<(), MemoryError>
         ensures due { Answers (munmap_due (plain_of self.old) space address bytes) result }
+        ensures tested { result ≡ Err OutOfMemory
+            → IsRangeIn (is_alive self.old.spaces space ≡ true) address bytes }
         ensures step { OnOk result (Step self.old (Unmapped space (page_of address) (pages_for bytes)) self.new) }
         ensures memory { OnOk result (plain_of self.new ≡ after_munmap (plain_of self.old) space address bytes) }
         ensures err { OnErr result (self.new ≡ self.old) }
@@ -172,6 +177,8 @@ impl Memory {
         prot: Prot,
     ) -> Result<(), MemoryError>
         ensures due { Answers (mprotect_due (plain_of self.old) space address bytes prot) result }
+        ensures tested { result ≡ Err OutOfMemory
+            → IsRangeIn (is_alive self.old.spaces space ≡ true) address bytes }
         ensures step { OnOk result (Step self.old (Protected space (page_of address) (pages_for bytes) prot) self.new) }
         ensures memory { OnOk result (plain_of self.new ≡ after_mprotect (plain_of self.old) space address bytes prot) }
         ensures err { OnErr result (self.new ≡ self.old) }
@@ -195,6 +202,7 @@ impl Memory {
     /// be over 65,536 pages. Out of memory where a growth was refused. An error changes nothing.
     pub fn fork(&mut self, space: SpaceId) -> Result<SpaceId, MemoryError>
         ensures due { Answers (fork_due (plain_of self.old) space) result }
+        ensures tested { result ≡ Err OutOfMemory → fork_due (plain_of self.old) space ≡ None }
         ensures child { IfOk result (λ child. IsLeastFree (plain_of self.old) child) }
         ensures step { IfOk result (λ child. Step self.old (Forked space child) self.new) }
         ensures memory { IfOk result (λ child. plain_of self.new ≡ after_fork (plain_of self.old) space child) }

@@ -10,14 +10,15 @@ ghost use Rattle.sd_pagetable.specs.declared.memory_refusal.MemoryRefusal.TheVar
 ghost use Rattle.sd_pagetable.specs.Nested.{inside, is_alive, set_within, change_within};
 ghost use Rattle.sd_pagetable.specs.Page.{Page, fresh_page, protected_page};
 ghost use Rattle.sd_pagetable.specs.Contents.{Contents, page_at, page_count, plain_of};
-ghost use Rattle.sd_pagetable.specs.Due.{Answers, area_due, in_space, mmap_due, munmap_due, mprotect_due};
+ghost use Rattle.sd_pagetable.specs.Due.{Answers, answer, area_due, in_space, mmap_due, munmap_due, mprotect_due};
 ghost use Rattle.sd_pagetable.specs.Effects.{after_mmap, after_munmap, after_mprotect};
 ghost use Rattle.sd_pagetable.specs.Kept.{HasAreas, prots_of};
-ghost use Rattle.sd_pagetable.specs.RangeCalls.{Refuses};
+ghost use Rattle.sd_pagetable.specs.RangeCalls.{IsRangeIn, Refuses};
 ghost use Rattle.sd_pagetable.specs.Tracking.{Step, Mapped, Unmapped, Protected, with_space};
 
 use crate::memory_error::MemoryError;
 use crate::memory_refusal::MemoryRefusal;
+use crate::access_error::AccessError;
 use crate::paging::Paging;
 use crate::ranges::{fill, holes, protect, renew, unfill, unmap};
 use sd_areas::{
@@ -69,10 +70,12 @@ fn with_mapped(
         × (map_result (prots_of (inside contents.spaces space)) address bytes prot ≡ Ok own)) }
     ensures due { IfErr result (λ e. (contents : Contents) → HasAreas areas.now contents
         → Refuses e (in_space contents.spaces space (area_due (map_result (prots_of (inside contents.spaces space)) address bytes prot)))) }
+    ensures tested { result ≡ Err OutOfMemory → IsRangeIn (IsSome (get nat_cmp areas.now space)) address bytes }
 {
-    let mut own = copy_in(areas, space)?;
-    own.map(address, bytes, prot)?;
-    Ok(own)
+    let Some(own) = areas.get(&space) else {
+        return Err(MemoryRefusal::NoSuchSpace.into());
+    };
+    Ok(own.after_map(address, bytes, prot)?)
 }
 
 /// A space's areas with a range unmapped.
@@ -86,10 +89,12 @@ fn with_unmapped(
         × (unmap_result (prots_of (inside contents.spaces space)) address bytes ≡ Ok own)) }
     ensures due { IfErr result (λ e. (contents : Contents) → HasAreas areas.now contents
         → Refuses e (in_space contents.spaces space (area_due (unmap_result (prots_of (inside contents.spaces space)) address bytes)))) }
+    ensures tested { result ≡ Err OutOfMemory → IsRangeIn (IsSome (get nat_cmp areas.now space)) address bytes }
 {
-    let mut own = copy_in(areas, space)?;
-    own.unmap(address, bytes)?;
-    Ok(own)
+    let Some(own) = areas.get(&space) else {
+        return Err(MemoryRefusal::NoSuchSpace.into());
+    };
+    Ok(own.after_unmap(address, bytes)?)
 }
 
 /// A space's areas with a range protected.
@@ -100,14 +105,17 @@ fn with_protected(
     bytes: u64,
     prot: Prot,
 ) -> Result<AreaMap, MemoryError>
+    requires { bytes ≢ 0 }
     ensures ok { IfOk result (λ own. (contents : Contents) → HasAreas areas.now contents → (is_alive contents.spaces space ≡ true)
         × (protect_result (prots_of (inside contents.spaces space)) address bytes prot ≡ Ok own)) }
     ensures due { IfErr result (λ e. (contents : Contents) → HasAreas areas.now contents
         → Refuses e (in_space contents.spaces space (area_due (protect_result (prots_of (inside contents.spaces space)) address bytes prot)))) }
+    ensures tested { result ≡ Err OutOfMemory → IsRangeIn (IsSome (get nat_cmp areas.now space)) address bytes }
 {
-    let mut own = copy_in(areas, space)?;
-    own.protect(address, bytes, prot)?;
-    Ok(own)
+    let Some(own) = areas.get(&space) else {
+        return Err(MemoryRefusal::NoSuchSpace.into());
+    };
+    Ok(own.after_protect(address, bytes, prot)?)
 }
 
 /// Whether a run can be mapped without passing the limit of pages.
@@ -169,6 +177,7 @@ pub(crate) fn munmap(
     requires kept { HasAreas areas.old paging.old }
     ensures kept { HasAreas areas.new paging.new }
     ensures due { Answers (munmap_due (plain_of paging.old) space address bytes) result }
+    ensures tested { result ≡ Err OutOfMemory → IsRangeIn (is_alive paging.old.spaces space ≡ true) address bytes }
     ensures step { OnOk result (Step paging.old (Unmapped space (page_of address) (pages_for bytes)) paging.new) }
     ensures memory { OnOk result (plain_of paging.new ≡ after_munmap (plain_of paging.old) space address bytes) }
     ensures err { OnErr result (paging.new ≡ paging.old) }
@@ -183,18 +192,54 @@ pub(crate) fn munmap(
     Ok(())
 }
 
-/// Gives the whole pages of a range permissions, and takes the writable bit of each. A range of no bytes has none.
+/// Gives the whole pages of a range permissions, and write-protects each.
 fn protect_range(paging: &mut Paging, space: SpaceId, address: u64, bytes: u64, prot: Prot)
     requires alive { is_alive paging.old.spaces space ≡ true }
-    requires within { bytes ≢ 0 → page_of address + pages_for bytes ≤ 2 ^ 35 }
+    requires within { page_of address + pages_for bytes ≤ 2 ^ 35 }
     ensures { paging.new ≡ with_space paging.old space (change_within (protected_page prot) (inside paging.old.spaces space) (page_of address) (pages_for bytes)) }
 {
-    if bytes == 0 {
-        return;
-    }
     let first = address / PAGE_BYTES;
     let end = first + bytes.div_ceil(PAGE_BYTES);
     protect(paging, space, first, end, prot);
+}
+
+/// What `mprotect` of no bytes returns. It changes nothing and takes no memory.
+fn protect_nothing(areas: &Areas, space: SpaceId, address: u64) -> Result<(), AccessError>
+    ensures { (contents : Contents) (prot : Prot) → HasAreas areas.now contents
+        → result ≡ answer (mprotect_due (plain_of contents) space address 0 prot) tt }
+{
+    let Some(_own) = areas.get(&space) else {
+        return Err(AccessError::Refused(MemoryRefusal::NoSuchSpace));
+    };
+    if address % PAGE_BYTES != 0 {
+        return Err(AccessError::Refused(MemoryRefusal::Einval));
+    }
+    Ok(())
+}
+
+/// `mprotect` of some bytes over the pages of all spaces and the areas beside them.
+fn protect_some(
+    paging: &mut Paging,
+    areas: &mut Areas,
+    space: SpaceId,
+    address: u64,
+    bytes: u64,
+    prot: Prot,
+) -> Result<(), MemoryError>
+    requires some { bytes ≢ 0 }
+    requires kept { HasAreas areas.old paging.old }
+    ensures kept { HasAreas areas.new paging.new }
+    ensures due { Answers (mprotect_due (plain_of paging.old) space address bytes prot) result }
+    ensures tested { result ≡ Err OutOfMemory → IsRangeIn (is_alive paging.old.spaces space ≡ true) address bytes }
+    ensures step { OnOk result (Step paging.old (Protected space (page_of address) (pages_for bytes) prot) paging.new) }
+    ensures memory { OnOk result (plain_of paging.new ≡ after_mprotect (plain_of paging.old) space address bytes prot) }
+    ensures err { OnErr result (paging.new ≡ paging.old) }
+{
+    protected_law();
+    let own = with_protected(areas, space, address, bytes, prot)?;
+    protect_range(paging, space, address, bytes, prot);
+    put_areas(areas, space, own);
+    Ok(())
 }
 
 /// `mprotect` over the pages of all spaces and the areas beside them.
@@ -209,15 +254,15 @@ pub(crate) fn mprotect(
     requires kept { HasAreas areas.old paging.old }
     ensures kept { HasAreas areas.new paging.new }
     ensures due { Answers (mprotect_due (plain_of paging.old) space address bytes prot) result }
+    ensures tested { result ≡ Err OutOfMemory → IsRangeIn (is_alive paging.old.spaces space ≡ true) address bytes }
     ensures step { OnOk result (Step paging.old (Protected space (page_of address) (pages_for bytes) prot) paging.new) }
     ensures memory { OnOk result (plain_of paging.new ≡ after_mprotect (plain_of paging.old) space address bytes prot) }
     ensures err { OnErr result (paging.new ≡ paging.old) }
 {
-    protected_law();
-    let own = with_protected(areas, space, address, bytes, prot)?;
-    protect_range(paging, space, address, bytes, prot);
-    put_areas(areas, space, own);
-    Ok(())
+    if bytes == 0 {
+        return Ok(protect_nothing(areas, space, address)?);
+    }
+    protect_some(paging, areas, space, address, bytes, prot)
 }
 
 /// `mmap` over the pages of all spaces and the areas beside them.
@@ -232,6 +277,7 @@ pub(crate) fn mmap(
     requires kept { HasAreas areas.old paging.old }
     ensures kept { HasAreas areas.new paging.new }
     ensures due { Answers (mmap_due (plain_of paging.old) space address bytes prot) result }
+    ensures tested { result ≡ Err OutOfMemory → IsRangeIn (is_alive paging.old.spaces space ≡ true) address bytes }
     ensures step { OnOk result (Step paging.old (Mapped space (page_of address) (pages_for bytes) prot) paging.new) }
     ensures memory { OnOk result (plain_of paging.new ≡ after_mmap (plain_of paging.old) space address bytes prot) }
     ensures err { OnErr result (paging.new ≡ paging.old) }

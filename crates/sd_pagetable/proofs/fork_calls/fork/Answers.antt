@@ -53,6 +53,21 @@ returns-clause-due c =
     let few : page_count c.args.paging.now.spaces + finmap.len (inside c.args.paging.now.spaces c.args.space) ≤ 65536 = omega (arith, c.pages_in.ensures, c.mapped-mapped.ensures.value, c.if-mapped-pages_in-gt-MAPPED_PAGE_LIMIT.false) in
     fork_alive c.args.paging.now c.args.space false false (sym c.if-not-is_alive.ensures) (is_fewer _ c.in-Some.ensures.1) (few_pages _ few)
 
+pub returns-in_err-own-clause-tested : goal.returns-in_err-own-clause-tested
+returns-in_err-own-clause-tested c = λ _.
+    let few : page_count c.args.paging.now.spaces + finmap.len (inside c.args.paging.now.spaces c.args.space) ≤ 65536 = omega (arith, c.pages_in.ensures, c.mapped-mapped.ensures.value, c.if-mapped-pages_in-gt-MAPPED_PAGE_LIMIT.false) in
+    fork_alive c.args.paging.now c.args.space false false (sym c.if-not-is_alive.ensures) (is_fewer _ c.in-Some.ensures.1) (few_pages _ few)
+
+pub returns-in_err-add_areas-clause-tested : goal.returns-in_err-add_areas-clause-tested
+returns-in_err-add_areas-clause-tested c = λ _.
+    let few : page_count c.args.paging.now.spaces + finmap.len (inside c.args.paging.now.spaces c.args.space) ≤ 65536 = omega (arith, c.pages_in.ensures, c.mapped-mapped.ensures.value, c.if-mapped-pages_in-gt-MAPPED_PAGE_LIMIT.false) in
+    fork_alive c.args.paging.now c.args.space false false (sym c.if-not-is_alive.ensures) (is_fewer _ c.in-Some.ensures.1) (few_pages _ few)
+
+pub returns-in-Err-clause-tested : goal.returns-in-Err-clause-tested
+returns-in-Err-clause-tested c = λ _.
+    let few : page_count c.args.paging.now.spaces + finmap.len (inside c.args.paging.now.spaces c.args.space) ≤ 65536 = omega (arith, c.pages_in.ensures, c.mapped-mapped.ensures.value, c.if-mapped-pages_in-gt-MAPPED_PAGE_LIMIT.false) in
+    fork_alive c.args.paging.now c.args.space false false (sym c.if-not-is_alive.ensures) (is_fewer _ c.in-Some.ensures.1) (few_pages _ few)
+
 pub returns-clause-step : goal.returns-clause-step
 returns-clause-step c = (sym c.if-not-is_alive.ensures, sym (plain_alive c.args.paging.now c.in-Some.child) ∙ c.in-Some.ensures.0.free, c.in_default-copy_space.ensures.ok)
 

@@ -8,7 +8,7 @@ use Rattle.sd_pagetable.specs.Kept.{HasAreas, prots_of}
 use Rattle.sd_pagetable.specs.RangeCalls.{Refuses}
 use Rattle.sd_pagetable.specs.Tracking.{with_space}
 use Rattle.sd_pagetable.proofs.PlainRanges.{areas_with, plain_mapped}
-use Rattle.sd_pagetable.proofs.RangeDue.{mmap_seen, mapped_due, mapped_within, own_mapped, few_pages, refuses_first, refuses_many}
+use Rattle.sd_pagetable.proofs.RangeDue.{mmap_seen, mapped_due, mapped_within, mapped_range, own_mapped, few_pages, refuses_first, refuses_many}
 use Rattle.sd_pagetable.proofs.range_calls.mmap.Goals as goal
 
 pub returns-in_err-own-clause-due : goal.returns-in_err-own-clause-due
@@ -35,6 +35,12 @@ returns-in_err-map_run-clause-due c =
     (refuses_many c.in_err-map_run.field-0.0 c.args.paging.now c.args.space _ c.in_ok-own.own _ ok.0 ok.1 c.in_err-map_run.ensures.errors (λ is.
     subst (λ n. 65536 < page_count (with_space c.args.paging.now c.args.space (set_within t (page_of c.args.address) n (fresh_page c.args.prot))).spaces) count (c.in_err-map_run.ensures.many (ap Err is)))) in
     search rules
+
+pub returns-in_err-map_run-clause-tested : goal.returns-in_err-map_run-clause-tested
+returns-in_err-map_run-clause-tested c = λ _.
+    let ok = c.in_ok-own.ensures.ok c.args.paging.now c.requires.kept in
+    let range = mapped_range (prots_of (inside c.args.paging.now.spaces c.args.space)) c.args.address c.args.bytes c.args.prot c.in_ok-own.own ok.1 in
+    (ok.0, range.0, range.1)
 
 pub returns-clause-kept : goal.returns-clause-kept
 returns-clause-kept c =
