@@ -5,3 +5,5 @@ mod LawLemmas
 mod LeftLemmas
 mod PhaseLemmas
 mod SlotsLemmas
+mod PlanLemmas
+mod TakeLemmas
