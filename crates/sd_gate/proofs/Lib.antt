@@ -7,3 +7,5 @@ mod PhaseLemmas
 mod SlotsLemmas
 mod PlanLemmas
 mod TakeLemmas
+mod LookLemmas
+mod CommuteLemmas

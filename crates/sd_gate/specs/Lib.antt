@@ -3,6 +3,7 @@ pub mod Fits
 pub mod Inspections
 pub mod Laws
 pub mod Phases
+pub mod Looks
 pub mod PlanRuns
 pub mod Plans
 pub mod Sequences

@@ -28,7 +28,7 @@ pub use device_call::perform;
 pub use found::Found;
 pub use laws::{
     all_found_fit, bodies_fill, cuts_fit, found_fits, given_up_fits, image_whole_or_closed,
-    inspection_tells, plans_lead, plans_take,
+    inspection_finds, inspection_tells, plans_lead, plans_take, writes_commute,
 };
 pub use outcome::Outcome;
 pub use phase::Phase;
