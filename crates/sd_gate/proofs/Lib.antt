@@ -5,3 +5,7 @@ mod LawLemmas
 mod LeftLemmas
 mod PhaseLemmas
 mod SlotsLemmas
+mod PlanLemmas
+mod TakeLemmas
+mod LookLemmas
+mod CommuteLemmas

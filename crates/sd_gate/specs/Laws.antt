@@ -1,5 +1,5 @@
 -- What the phases promise the layers above.
-use Rattle.std.specs.Prelude.{◌≡◌, ◌⊎◌, ℕ, ◌==◌, ◌+◌, ◌<◌, ◌≤◌, nat_lt, map, true, false, if◌then◌else◌, List, [], ◌∷◌, ◌++◌, length, drop, slice_index, slice_range, Option, Some, None}
+use Rattle.std.specs.Prelude.{◌≡◌, ◌≢◌, ◌⊎◌, ℕ, ◌==◌, ◌+◌, ◌<◌, ◌≤◌, nat_lt, map, true, false, if◌then◌else◌, List, [], ◌∷◌, ◌++◌, length, drop, slice_index, slice_range, Option, Some, None}
 use Rattle.std.specs.List.{concat, AllByRecursion}
 use Rattle.sd_disk.specs.Contents.{file_at}
 use Rattle.sd_disk.specs.Crash.{OnlyAt}
@@ -112,3 +112,14 @@ pub record BodiesFill : Type 0 where
 abbrev pub CutsFit : List (List ℕ) → (List (List ℕ) → Type 0) → Type 0
 CutsFit contents may_leave = (phase : Phase) (body : List ℕ) (slot : ℕ) → is_ready phase Cut ≡ true → SlotFits phase body slot contents may_leave
     → 1 ≤ length (file_at contents slot)
+
+-- the bytes of two writes, at these places, don't overlap
+abbrev pub AreApart : ℕ → List ℕ → ℕ → List ℕ → Type 0
+AreApart i first j second = (i + length first ≤ j) ⊎ (j + length second ≤ i)
+
+-- two writes behind the gate that don't overlap leave one body in either order, and those of two data pages don't overlap
+pub record WritesCommute : Type 0 where
+  pub apart : (body : List ℕ) (i j : ℕ) (first second : List ℕ) → 0 < i → 0 < j → AreApart i first j second
+      → body_after (body_after body (Write i) first) (Write j) second ≡ body_after (body_after body (Write j) second) (Write i) first
+  pub pages : (i j : ℕ) (first second : List ℕ) → i ≢ j → length first ≡ 4096 → length second ≡ 4096
+      → AreApart (data_place i) first (data_place j) second

@@ -12,7 +12,7 @@ use Rattle.sd_gate.specs.declared.settled.Settled.TheVariants.{More, Finished, F
 use Rattle.sd_gate.specs.Calls.{is_done, buffer_back}
 use Rattle.sd_gate.specs.Requests.{Asked, Made}
 use Rattle.sd_gate.specs.Sequences.{Calls, calls_of_sequence, AreSound}
-use Rattle.sd_gate.specs.Inspections.{Awaits, nothing, calls_awaited, calls_of_stage, awaits_of, Following, calls_then}
+use Rattle.sd_gate.specs.Inspections.{KnowsLength, Awaits, nothing, calls_awaited, calls_of_stage, awaits_of, Following, calls_then}
 
 abbrev pub calls_of : Job → Calls
 calls_of (SequenceJob sequence) = calls_of_sequence sequence
@@ -25,6 +25,11 @@ awaited_by (InspectionJob inspection) = awaits_of inspection.stage
 abbrev pub IsSoundJob : Job → Type 0
 IsSoundJob (SequenceJob sequence) = AreSound sequence
 IsSoundJob (InspectionJob inspection) = Unit {0}
+
+-- an inspection that reads bytes knows the length
+abbrev pub KnowsItsLength : Job → Option ℕ → Type 0
+KnowsItsLength (SequenceJob sequence) len = Unit {0}
+KnowsItsLength (InspectionJob inspection) len = KnowsLength inspection.stage len
 
 -- what came back to a plan: the length that it asked for, and its buffers
 pub record Back : Type 0 where

@@ -1,5 +1,7 @@
 //! Laws of the phases, each the contract of a function that does nothing.
-ghost use Rattle.sd_gate.specs.Laws.{ImageWholeOrClosed, GivenUpFits, FoundFits, AllFoundFit, InspectionTells, PlansLead, BodiesFill, CutsFit};
+ghost use Rattle.sd_gate.specs.Laws.{ImageWholeOrClosed, GivenUpFits, FoundFits, AllFoundFit, InspectionTells, PlansLead, BodiesFill, CutsFit, WritesCommute};
+ghost use Rattle.sd_gate.specs.Looks.{InspectionFinds};
+ghost use Rattle.sd_gate.specs.PlanRuns.{PlansTake};
 
 use sd_disk::Disk;
 
@@ -33,6 +35,22 @@ pub fn inspection_tells()
 /// ready. A format and the calls that retire an image leave one closed byte; those that close a body leave the image.
 pub fn plans_lead()
     ensures { PlansLead }
+{}
+
+/// While a plan that writes makes its calls, done or failed, a crash leaves at most the image that was there before, or
+/// the one that is written.
+pub fn plans_take()
+    ensures { PlansTake }
+{}
+
+/// An inspection whose outcomes told its slot's file as it is finds the file's length, its first 4,096 bytes and its table.
+pub fn inspection_finds()
+    ensures { InspectionFinds }
+{}
+
+/// Two writes behind the gate that don't overlap, as those of two data pages, may be made in either order.
+pub fn writes_commute()
+    ensures { WritesCommute }
 {}
 
 /// The bytes that the plans write: data pages one behind the other, and then the table and the header, make the body of

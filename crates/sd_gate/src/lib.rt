@@ -15,6 +15,7 @@ mod order;
 mod outcome;
 mod phase;
 mod plan;
+mod plan_run;
 mod request;
 mod request_id;
 mod settled;
@@ -27,11 +28,12 @@ pub use device_call::perform;
 pub use found::Found;
 pub use laws::{
     all_found_fit, bodies_fill, cuts_fit, found_fits, given_up_fits, image_whole_or_closed,
-    inspection_tells, plans_lead,
+    inspection_finds, inspection_tells, plans_lead, plans_take, writes_commute,
 };
 pub use outcome::Outcome;
 pub use phase::Phase;
 pub use plan::Plan;
+pub use plan_run::run_plan;
 pub use request::Request;
 pub use request_id::RequestId;
 pub use settled::Settled;

@@ -4,7 +4,7 @@ ghost use Rattle.sd_gate.specs.declared.call.Call.TheVariants.{Read, Write};
 ghost use Rattle.sd_gate.specs.Calls.{is_done};
 ghost use Rattle.sd_gate.specs.Sequences.{format_calls, closing_calls, body_calls, data_place, first_looks, IsPage, IsBody};
 ghost use Rattle.sd_gate.specs.Inspections.{nothing, the_length, IsReadNext};
-ghost use Rattle.sd_gate.specs.Plans.{calls_of, awaited_by, IsSoundJob, found_of, begun, Gives, calls_after, settled, plan_after, steps_left};
+ghost use Rattle.sd_gate.specs.Plans.{calls_of, awaited_by, IsSoundJob, KnowsItsLength, found_of, begun, Gives, calls_after, settled, plan_after, steps_left};
 
 use crate::call_sequence::CallSequence;
 use crate::found::Found;
@@ -33,7 +33,7 @@ pub struct Plan {
 }
 
 impl Model for Plan {
-    ghost use Rattle.sd_gate.specs.Plans.{Planned, calls_of, awaited_by, found_of, IsSoundJob};
+    ghost use Rattle.sd_gate.specs.Plans.{Planned, calls_of, awaited_by, found_of, IsSoundJob, KnowsItsLength};
 
     ghost Value = { Planned };
 
@@ -45,7 +45,7 @@ impl Model for Plan {
       found = found_of p.found;
     } };
 
-    ghost invariant = { λ p. IsSoundJob p.job };
+    ghost invariant = { λ p. IsSoundJob p.job × KnowsItsLength p.job p.found.len };
 }
 
 /// Whether this is the place of a data page and a page's bytes.
@@ -83,7 +83,8 @@ fn settled(job: &Job) -> Settled
 
 impl Plan {
     fn new(slot: usize, job: Job) -> Self
-        requires { IsSoundJob job }
+        requires sound { IsSoundJob job }
+        requires begins { KnowsItsLength job None }
         ensures { result ≡ begun slot (calls_of job) (awaited_by job) }
     {
         Plan {
@@ -180,7 +181,8 @@ impl Plan {
         ensures given { IfOk result (λ given. MatchOption given
             ((self.new ≡ self.old) × (IsSome self.old.out ⊎ (self.old.calls ≡ [])))
             (λ request. Gives self.old self.new request × (request.id.worker ≡ worker) × (request.id.ticket ≡ ticket))) }
-        ensures refused { IsErr result → (self.new ≡ self.old) × IsReadNext self.old.calls }
+        // A plan that asks for no length is never refused.
+        ensures refused { IsErr result → (self.new ≡ self.old) × IsReadNext self.old.calls × IsSome self.old.found.len }
     {
         if self.out.is_some() {
             return Ok(None);

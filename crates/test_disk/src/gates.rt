@@ -6,8 +6,8 @@ use crate::picks::rules;
 use sd_disk::{Disk, Fused, MemDisk};
 use sd_gate::{
     Answer, Call, Found, Phase, Plan, Settled, SlotState, Worker, all_found_fit, bodies_fill,
-    cuts_fit, found_fits, given_up_fits, image_whole_or_closed, inspection_tells, perform,
-    plans_lead,
+    cuts_fit, found_fits, given_up_fits, image_whole_or_closed, inspection_finds, inspection_tells,
+    perform, plans_lead, plans_take, writes_commute,
 };
 use sd_image::{Header, Kind};
 use std::alloc::Global;
@@ -337,5 +337,8 @@ fn laws_are_called(rt: HostRuntime) -> Result<(), Fail> {
     all_found_fit(&disk);
     inspection_tells();
     plans_lead();
+    plans_take();
+    inspection_finds();
+    writes_commute();
     Ok(())
 }
