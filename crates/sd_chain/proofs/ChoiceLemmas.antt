@@ -1,9 +1,9 @@
 -- Choosing among the images that came so far.
-use Rattle.std.proofs.Common.{◌≡◌, ◌≢◌, ◌⊎◌, ◌≤◌, ℕ, List, [], ◌∷◌, ◌++◌, Option, Some, None, All, refl, sym, ◌∙◌, subst, arith, inl, inr, Bor}
+use Rattle.std.proofs.Common.{◌≡◌, ◌≢◌, ◌⊎◌, ◌≤◌, max, ℕ, List, [], ◌∷◌, ◌++◌, Option, Some, None, All, refl, sym, ◌∙◌, subst, arith, inl, inr, Bor}
 use Rattle.std.proofs.lemmas.Bool.{cases_lt}
 use Rattle.std.proofs.lemmas.List.{append-nil}
 use Rattle.std.proofs.lemmas.List.Elements.{Contains-push, Contains-push_cases, Contains-append_left, All-push, All-contains, filter_map-append}
-use Rattle.sd_chain.specs.Catalog.{Opened, Places, images, IsRestored, IsNotAfter, IsNewestAmong, IsNamedAmong, IsNewestChoice, IsNamedChoice}
+use Rattle.sd_chain.specs.Catalog.{Opened, Places, images, IsRestored, IsNotAfter, IsNewestAmong, IsNamedAmong, IsNewestChoice, IsNamedChoice, IsGreatest, number_at}
 
 not_after_step : (a b c : Opened) → IsNotAfter a b → IsNotAfter b c → IsNotAfter a c
 not_after_step a b c (inl x) (inl y) = inl (omega arith)
@@ -107,3 +107,34 @@ images_more before serial i = filter_map-append (λ (place : ℕ × Option Opene
 
 pub images_held : (before : Places) (serial : ℕ) → images (before ++ (serial, None) ∷ []) ≡ images before
 images_held before serial = filter_map-append (λ (place : ℕ × Option Opened). place.1) before ((serial, None) ∷ []) ∙ append-nil (images before)
+
+-- ---- the greatest number
+
+pub greatest_none : (number : Opened → ℕ) → IsGreatest number 0 []
+greatest_none number = record { bound = λ i c. absurd (omega (arith, c.1)); one = inl refl }
+
+greatest_next : (number : Opened → ℕ) (all : List Opened) (one : Opened) (n m : ℕ) → IsGreatest number n all → m ≡ max n (number one) → IsGreatest number m (all ++ one ∷ [])
+greatest_next number all one n m was is =
+    let least : n ≤ m = omega arith in
+    let own : number one ≤ m = omega arith in
+    record {
+      bound = λ i c. elim (Contains-push_cases all one i c) [
+        | inl d ↦ let below = was.bound i d in omega (arith, below, least)
+        | inr e ↦ subst (λ (f : Opened). number f ≤ m) e own
+      ];
+      one = elim (cases_lt n (number one)) [
+        | inl less ↦ inr (one, Contains-push all one, omega arith)
+        | inr most ↦ elim was.one [
+          | inl none ↦ inl (omega (arith, none))
+          | inr some ↦ inr (some.0, Contains-append_left all (one ∷ []) some.0 some.1, omega (arith, some.2))
+        ]
+      ];
+    }
+
+pub greatest_more : (number : Opened → ℕ) (before : Places) (serial : ℕ) (place : Option Opened) (n m : ℕ) → IsGreatest number n (images before) → m ≡ max n (number_at number place)
+    → IsGreatest number m (images (before ++ (serial, place) ∷ []))
+greatest_more number before serial None n m was is =
+    let same : n ≡ m = omega arith in
+    subst (IsGreatest number m) (sym (images_held before serial)) (subst (λ k. IsGreatest number k (images before)) same was)
+greatest_more number before serial (Some one) n m was is =
+    subst (IsGreatest number m) (sym (images_more before serial one)) (greatest_next number (images before) one n m was is)

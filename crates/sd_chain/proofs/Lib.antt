@@ -9,3 +9,4 @@ pub mod Lies
 pub mod Traces
 pub mod Stores
 pub mod Growth
+pub mod Agreement

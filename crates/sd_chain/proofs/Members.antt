@@ -9,7 +9,7 @@ use Rattle.std.proofs.lemmas.Cmp.{nat_eq_equiv}
 use Rattle.std.proofs.lemmas.List.Elements.{Contains-get_or, recursion_from_All}
 use Rattle.std.proofs.lemmas.List.Sorted.{IsNonDecreasingBy-from_sort}
 use Rattle.std.proofs.lemmas.Map.Views.{Contains-from_lookup, lookup-from_Contains}
-use Rattle.sd_chain.specs.Catalog.{Opened, Places, AreInOrder, Changes, IsNewestChoice, place_of, images, IsRising, Names}
+use Rattle.sd_chain.specs.Catalog.{Opened, Places, AreInOrder, Changes, IsNewestChoice, IsSound, IsTip, place_of, images, IsRising, Names}
 use Rattle.sd_chain.proofs.Places.{by_keys}
 
 contains_front : {X : Type 0} (x : X) (xs : List X) → Contains (x ∷ xs) x
@@ -144,3 +144,28 @@ no_others old new i was is changes j c = at (nat_eq i.header.serial j.header.ser
     at : (same : Bool) → cond same (Some (Some i)) (place_of old j.header.serial) ≡ Some (Some j) → Contains (images old) j ⊎ (j ≡ i)
     at true e = inr (let both : Some (Some i) ≡ Some (Some j) = e in cc)
     at false e = inl (contains_open old j.header.serial j (Contains-from_lookup eqb-true j.header.serial (Some j) old e))
+
+-- ---- what is so of every catalog
+
+tip_once : (es : Places) (a b : Opened) → AreInOrder es → IsTip es a → IsTip es b → a ≡ b
+tip_once es a b order ta tb = same_serial es a b order ta.member tb.member (
+    elim (ta.greatest b tb.member tb.restored) [
+      | inl low ↦ elim (tb.greatest a ta.member ta.restored) [
+        | inl high ↦ absurd (omega arith)
+        | inr high ↦ absurd (omega (arith, high.0))
+      ]
+      | inr low ↦ elim (tb.greatest a ta.member ta.restored) [
+        | inl high ↦ absurd (omega (arith, low.0))
+        | inr high ↦ omega (arith, low.1, high.1)
+      ]
+    ])
+
+pub is_sound : (es : Places) → AreInOrder es → IsSound es
+is_sound es order = record {
+  order = order;
+  rising = rising es order;
+  own = λ i c. open_place es i order c;
+  member = λ serial i e. contains_open es serial i (Contains-from_lookup eqb-true serial (Some i) es e);
+  named_once = λ number i j a b. named_once es number i j order a b;
+  newest_once = λ i j a b. tip_once es i j order a b;
+}

@@ -86,3 +86,31 @@ IsNewestChoice all chosen = MatchOption chosen (All (λ i. IsRestored i → ⊥)
 
 abbrev pub IsNamedChoice : ℕ → List Opened → Option (Bor Opened) → Type 0
 IsNamedChoice number all chosen = MatchOption chosen (All (λ i. i.header.stands_for ≢ number) all) (λ i. IsNamedAmong all number i.now)
+
+-- the numbers of an image
+abbrev pub serial_of : Opened → ℕ
+serial_of i = i.header.serial
+
+abbrev pub checkpoint_of : Opened → ℕ
+checkpoint_of i = i.header.checkpoint
+
+-- a number is the greatest of these images, or 0 where there are none
+pub record IsGreatest (number : Opened → ℕ) (n : ℕ) (all : List Opened) : Type 0 where
+  pub bound : (i : Opened) → Contains all i → number i ≤ n
+  pub one : (n ≡ 0) ⊎ ((i : Opened) × Contains all i × (n ≡ number i))
+
+-- the number of the image of a place, or 0 where it is held
+abbrev pub number_at : (Opened → ℕ) → Option Opened → ℕ
+number_at number None = 0
+number_at number (Some i) = number i
+
+-- What is so of every catalog.
+pub record IsSound (places : Places) : Type 0 where
+  pub order : AreInOrder places
+  pub rising : IsRising (images places)
+  -- an image stands at its serial, and nowhere else
+  pub own : (i : Opened) → Contains (images places) i → place_of places i.header.serial ≡ Some (Some i)
+  pub member : (serial : ℕ) (i : Opened) → place_of places serial ≡ Some (Some i) → Contains (images places) i
+  -- a number names at most one image, and at most one is the newest
+  pub named_once : (number : ℕ) (i j : Opened) → Names places number i → Names places number j → i ≡ j
+  pub newest_once : (i j : Opened) → IsTip places i → IsTip places j → i ≡ j

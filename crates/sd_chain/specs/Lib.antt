@@ -4,3 +4,4 @@ pub mod Reaches
 pub mod Ways
 pub mod Store
 pub mod Laws
+pub mod Tells

@@ -6,9 +6,10 @@ ghost use Rattle.sd_chain.specs.declared.found.Found.{Found};
 ghost use Rattle.sd_chain.specs.Reaches.{ReachesSerial, ParentsFall};
 ghost use Rattle.sd_chain.specs.Store.{IsCatalogOf, IsInFile, FindsHeld, FindsNamed, FindsTip, HasTheImages};
 ghost use Rattle.sd_chain.specs.Ways.{AreImages, LiesBySerial, BreaksBySerial, IsAbsent, IsTraceOf, found_in};
-ghost use Rattle.sd_chain.specs.Catalog.{Opened, AreInOrder, place_of, images, IsHeld, Changes, is_elsewhere, without_slot, Names, IsTip, IsRestored, IsRising};
+ghost use Rattle.sd_chain.specs.Catalog.{Opened, place_of, images, IsHeld, Changes, is_elsewhere, without_slot, Names, IsTip, IsRestored, IsGreatest, IsSound, serial_of, checkpoint_of};
+ghost use Rattle.sd_chain.specs.Tells.{Agrees, Tells};
 
-use crate::choice::{Places, images_of, named_of, newest_of};
+use crate::choice::{Places, greatest_checkpoint, greatest_serial, images_of, named_of, newest_of};
 use crate::error::CatalogError;
 use crate::found::Found;
 use crate::image::OpenImage;
@@ -156,7 +157,6 @@ impl Catalog {
         ensures found { MatchOption result
             (All (λ i. i.header.stands_for ≢ stands_for) (images self.now))
             (λ i. Names self.now stands_for i.now) }
-        ensures one { (i j : Opened) → Names self.now stands_for i → Names self.now stands_for j → i ≡ j }
         ensures named { (contents : List (List ℕ)) (images : List Image) → IsCatalogOf contents self.now
             → OpenImages contents images → FindsNamed contents images stands_for result }
     {
@@ -172,8 +172,6 @@ impl Catalog {
             (λ i. IsTip self.now i.now) }
         ensures store { (contents : List (List ℕ)) → IsCatalogOf contents self.now → FindsTip contents result }
         ensures own { IfSome result (λ i. place_of self.now i.now.header.serial ≡ Some (Some i.now)) }
-        // Whatever catalog it is, its places are in order.
-        ensures order { AreInOrder self.now }
     {
         one_image();
         newest_of(&self.places)
@@ -185,8 +183,7 @@ impl Catalog {
     ///
     /// Out of memory where the list finds no room.
     pub fn list(&self) -> Result<Vec<&OpenImage>, AllocError>
-        ensures images { IfOk result (λ list. map (λ i. i.now) list.items ≡ images self.now) }
-        ensures rising { IsRising (images self.now) }
+        ensures { IfOk result (λ list. map (λ i. i.now) list.items ≡ images self.now) }
     {
         images_of(self.alloc, &self.places)
     }
@@ -200,14 +197,42 @@ impl Catalog {
         let _places = &self.places;
     }
 
-    /// The image that an image's parent number names, if it stands for a lower number.
-    fn parent(&self, image: &OpenImage) -> Option<&OpenImage>
+    /// The greatest serial of the images, or 0 where there are none. It takes no memory.
+    pub fn greatest_serial(&self) -> u64
+        ensures { IsGreatest serial_of result (images self.now) }
+    {
+        greatest_serial(&self.places)
+    }
+
+    /// The greatest checkpoint of the images, or 0 where there are none. It takes no memory.
+    pub fn greatest_checkpoint(&self) -> u64
+        ensures { IsGreatest checkpoint_of result (images self.now) }
+    {
+        greatest_checkpoint(&self.places)
+    }
+
+    /// A law: what is so of every catalog.
+    pub fn sound(&self)
+        ensures { IsSound self.now }
+    {
+        let _places = &self.places;
+    }
+
+    /// A law: where each image of the catalog is one of some images, with its header and its table, and the other way
+    /// round, the tip, what a number names and where pages lie agree in both.
+    pub fn agrees(&self)
+        ensures { (all : List Image) → Tells self.now all → Agrees self.now all }
+    {
+        let _places = &self.places;
+    }
+
+    /// The image that an image's parent number names, if it stands for a lower number. It takes no memory, and makes
+    /// one pass over the images.
+    pub fn parent(&self, image: &OpenImage) -> Option<&OpenImage>
         ensures falls { IfSome result (λ p. p.now.header.stands_for < image.now.header.stands_for) }
         ensures named { IfSome result (λ p. Names self.now image.now.header.parent p.now) }
         ensures all { image.now.header.parent < image.now.header.stands_for → IsNone result
             → (p : Opened) → Names self.now image.now.header.parent p → ⊥ }
-        ensures one { (p q : Opened) → Names self.now image.now.header.parent p
-            → Names self.now image.now.header.parent q → p ≡ q }
     {
         let parent = self.find(image.header().parent)?;
         if parent.header().stands_for < image.header().stands_for {
@@ -223,6 +248,7 @@ impl Catalog {
             → IsTraceOf self.now (space, page) image.now result }
     {
         few_pages();
+        self.sound();
         let mut image = image;
         let mut unlisted = Trace::Absent;
         loop {

@@ -1,6 +1,6 @@
 //! Choosing among the open images of a catalog.
 ghost use Rattle.std.specs.Prelude.{◌≡◌, ◌≤◌, ◌↔◌, ℕ, List, [], ◌∷◌, ◌++◌, Option, IfOk, OnOk, IsTrue, map};
-ghost use Rattle.sd_chain.specs.Catalog.{Opened, images, IsRestored, IsNotAfter, IsNewestChoice, IsNamedChoice};
+ghost use Rattle.sd_chain.specs.Catalog.{Opened, images, IsGreatest, IsRestored, IsNotAfter, IsNewestChoice, IsNamedChoice, checkpoint_of, number_at, serial_of};
 
 use crate::image::OpenImage;
 use indexmap::IndexMap;
@@ -140,4 +140,46 @@ pub(crate) fn images_of(alloc: Global, places: &Places) -> Result<Vec<&OpenImage
         push_image(&mut list, place)?;
     }
     Ok(list)
+}
+
+/// The serial of the image of a place, or 0 where it is held.
+fn serial_at(place: &Option<OpenImage>) -> u64
+    ensures { result ≡ number_at serial_of place.now }
+{
+    match place {
+        Some(image) => image.header().serial,
+        None => 0,
+    }
+}
+
+/// The checkpoint of the image of a place, or 0 where it is held.
+fn checkpoint_at(place: &Option<OpenImage>) -> u64
+    ensures { result ≡ number_at checkpoint_of place.now }
+{
+    match place {
+        Some(image) => image.header().checkpoint,
+        None => 0,
+    }
+}
+
+/// The greatest serial of the images, or 0 where there are none.
+pub(crate) fn greatest_serial(places: &Places) -> u64
+    ensures { IsGreatest serial_of result (images places.now.entries) }
+{
+    let mut greatest = 0u64;
+    for (_, place) in places {
+        greatest = greatest.max(serial_at(place));
+    }
+    greatest
+}
+
+/// The greatest checkpoint of the images, or 0 where there are none.
+pub(crate) fn greatest_checkpoint(places: &Places) -> u64
+    ensures { IsGreatest checkpoint_of result (images places.now.entries) }
+{
+    let mut greatest = 0u64;
+    for (_, place) in places {
+        greatest = greatest.max(checkpoint_at(place));
+    }
+    greatest
 }

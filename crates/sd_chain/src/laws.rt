@@ -1,4 +1,5 @@
 //! Laws about the catalog of a store's slots that the layers above use.
+ghost use Rattle.sd_chain.specs.Tells.{AddedImageIsTold, HeldPlacesTellNothing, RemovedSlotIsUntold};
 ghost use Rattle.sd_chain.specs.Laws.{ClosedSlotAddsNothing, EmptyCatalog, OpenSlotAddsItsImage};
 
 /// The catalog of no slots has no images.
@@ -15,4 +16,19 @@ pub fn closed_slot()
 /// [`crate::Catalog::add`], one after the other.
 pub fn open_slot()
     ensures { OpenSlotAddsItsImage }
+{}
+
+/// Holding and releasing places leave the images of a catalog.
+pub fn held_places_tell_nothing()
+    ensures { HeldPlacesTellNothing }
+{}
+
+/// Adding an image to a catalog adds it to its images.
+pub fn added_image_is_told()
+    ensures { AddedImageIsTold }
+{}
+
+/// Removing a slot leaves the images that are in other slots.
+pub fn removed_slot_is_untold()
+    ensures { RemovedSlotIsUntold }
 {}

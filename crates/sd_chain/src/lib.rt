@@ -15,7 +15,10 @@ pub use catalog::Catalog;
 pub use error::CatalogError;
 pub use found::Found;
 pub use image::OpenImage;
-pub use laws::{closed_slot, empty_catalog, open_slot};
+pub use laws::{
+    added_image_is_told, closed_slot, empty_catalog, held_places_tell_nothing, open_slot,
+    removed_slot_is_untold,
+};
 pub use placed::PlacedTable;
 pub use trace::Trace;
 pub use way::Way;

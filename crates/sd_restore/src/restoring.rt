@@ -52,6 +52,7 @@ pub fn restore_from<D: Disk>(
     one_store();
     shown_once();
     tip_once();
+    catalog.sound();
     let Some(tip) = catalog.tip() else {
         return Err(Fault::EmptyChain);
     };

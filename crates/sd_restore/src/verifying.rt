@@ -31,6 +31,7 @@ fn shown_checkpoint(alloc: Global, catalog: &Catalog) -> Result<Option<u64>, Fau
 {
     one_store();
     tip_once();
+    catalog.sound();
     let Some(tip) = catalog.tip() else {
         return Ok(None);
     };

@@ -55,4 +55,4 @@ loop-way-preserved c = λ good member.
     let exact : IsExact c.loop-way.image.now.spaces (c.args.space, c.args.page) (Some way.Parent) = subst (IsExact c.loop-way.image.now.spaces (c.args.space, c.args.page)) is (c.way.ensures table) in
     let slot : c.slot-in-loop-way.result ≡ c.loop-way.image.now.slot = c.slot-in-loop-way.ensures in
     subst (λ n. IsWalked c.args.self.now (c.args.space, c.args.page) c.args.image.now c.in-Some-parent.parent.now (trace.Broken n)) (sym slot)
-    (walk_goes_on c.args.self.now (c.args.space, c.args.page) c.args.image.now c.loop-way.image.now c.in-Some-parent.parent.now c.loop-way.unlisted c.in-Some-parent.ensures.one walk exact c.in-Some-parent.ensures.named)
+    (walk_goes_on c.args.self.now (c.args.space, c.args.page) c.args.image.now c.loop-way.image.now c.in-Some-parent.parent.now c.loop-way.unlisted (c.sound.ensures.named_once c.loop-way.image.now.header.parent) walk exact c.in-Some-parent.ensures.named)

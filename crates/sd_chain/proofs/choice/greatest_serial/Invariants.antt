@@ -1,0 +1,7 @@
+use Rattle.std.proofs.Common.{map}
+use Rattle.std.specs.Map.Iter.{deref_pair}
+use Rattle.sd_chain.specs.Catalog.{images, IsGreatest, serial_of}
+use Rattle.sd_chain.proofs.choice.greatest_serial.Given as goal
+
+abbrev pub invariant-loop-place : goal.invariant-loop-place
+invariant-loop-place l = IsGreatest serial_of l.greatest (images (map deref_pair l.yielded))
