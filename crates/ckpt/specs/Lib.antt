@@ -1,14 +1,2 @@
-pub mod AfterCrash
-pub mod PlanRun
-pub mod Pages
-pub mod Runs
-pub mod SlotFile
-pub mod Dump
-pub mod Slots
-pub mod ImageText
-pub mod Cleared
-pub mod Answers
-pub mod Line
-pub mod Script
 pub mod Ending
 pub mod Listing

@@ -1,7 +1,7 @@
 //! Stores of chained images, read by the programs.
 
 use crate::list::list_to;
-use crate::show::restore_to;
+use crate::restore::restore_to;
 use crate::verify::verify_to;
 use sd_areas::{Area, PAGE_SIZE, PageNo, Prot, SpaceId};
 use sd_disk::{Disk, Fused, MemDisk};

@@ -2,7 +2,7 @@
 ghost use Rattle.std.specs.Prelude.{◌≤◌};
 
 use crate::run::run_script;
-use crate::show::restore_to;
+use crate::restore::restore_to;
 use sd_disk::{Disk, MemDisk};
 use std::alloc::{AllocError, Global};
 use std::process::Abort;

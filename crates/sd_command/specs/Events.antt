@@ -10,7 +10,7 @@ use Rattle.sd_command.specs.declared.command.Command.TheVariants as command
 use Rattle.sd_command.specs.declared.refusal.Refusal.TheVariants as refusal
 use Rattle.sd_command.specs.declared.reply.Reply.{Reply}
 use Rattle.sd_command.specs.declared.reply.Reply.TheVariants as reply
-use Rattle.sd_command.specs.Replies.{IsLegalReply, denial_in, effect}
+use Rattle.sd_command.specs.Replies.{denial_in, effect}
 
 -- the page table's event: it has passed by where nothing happened
 abbrev pub event_of : Command → Reply → Event
@@ -48,7 +48,7 @@ takes_memory (command.Exit space) = false
 takes_memory (command.TryStore space address bytes) = false
 takes_memory _ = true
 
--- a legal reply's event makes of the plain memory what the command makes of it
+-- the event of a command and its reply makes of the plain memory what the command makes of it
 abbrev pub EffectLaw : Type 0
-EffectLaw = (old new : Contents) (asked : Command) (answer : Reply) → IsLegalReply (plain_of old) false asked answer
+EffectLaw = (old new : Contents) (asked : Command) (answer : Reply)
     → Step old (event_of asked answer) new → plain_of new ≡ effect asked answer (plain_of old)

@@ -4,11 +4,13 @@
 mod apply;
 mod bytes;
 mod command;
+mod laws;
 mod refusal;
 mod reply;
 
 pub use apply::apply_to;
 pub use bytes::Bytes;
 pub use command::Command;
+pub use laws::effect_law;
 pub use refusal::Refusal;
 pub use reply::Reply;

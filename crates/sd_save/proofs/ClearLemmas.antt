@@ -1,6 +1,5 @@
 -- Clearing space by space.
-use Rattle.std.proofs.Common.{◌≡◌, ◌+◌, ℕ, Bool, true, false, Option, Some, None, Result, Ok, Err, OnOk, OnErr, cond, not, List, [], ◌∷◌, is_some, unwrap_or, refl, sym, ◌∙◌, ap, subst, arith, inl, inr}
-use Rattle.std.specs.List.{AllByRecursion}
+use Rattle.std.proofs.Common.{◌≡◌, ◌+◌, ℕ, Bool, true, false, Option, Some, None, Result, Ok, Err, OnOk, OnErr, cond, not, List, [], ◌∷◌, map, is_some, unwrap_or, refl, sym, ◌∙◌, ap, subst, arith, inl, inr}
 use Rattle.std.specs.Option.{option_map}
 use Rattle.std.specs.Ordering.{nat_cmp}
 use Rattle.std.specs.FinMap as finmap
@@ -11,8 +10,8 @@ use Rattle.sd_pagetable.specs.Page.{Page, cleared_page}
 use Rattle.sd_pagetable.specs.Contents.{Contents, page_at, IsSound}
 use Rattle.sd_procfs.specs.declared.clear_error.ClearError.{ClearError}
 use Rattle.sd_procfs.specs.declared.clear_error.ClearError.TheVariants.{NoSuchSpace}
-use Rattle.sd_pagetable.specs.Tracking.{Event, Run}
-use Rattle.sd_procfs.specs.Clears.{Clears, IsClearOf, IsHistory, answer_to}
+use Rattle.sd_pagetable.specs.Tracking.{Cleared, Run}
+use Rattle.sd_procfs.specs.Clears.{Clears, HasHistory, answer_to}
 use Rattle.sd_save.specs.Cleared.{IsCleared, IsClearedBelow, IsHistoryOfClears}
 
 in_table : (o : Option (Table Page)) (page : ℕ) → (is_some o ≡ true → ⊥) → finmap.get (unwrap_or o finmap.empty) page ≡ None
@@ -96,14 +95,14 @@ cleared_or_dead (Err error) start old new space due clears kept was =
 pub no_clears : (memory : Contents) → IsHistoryOfClears memory memory
 no_clears memory = ([], tt, refl)
 
-clears_and : (space : ℕ) (start old : Contents) → IsHistoryOfClears start old → (history : List Event) (new : Contents) → AllByRecursion (IsClearOf space) history → Run old history new
+clears_and : (space : ℕ) (start old : Contents) → IsHistoryOfClears start old → (pages : List ℕ) (new : Contents) → Run old (map (Cleared space) pages) new
     → IsHistoryOfClears start new
-clears_and space start old was [] new clears run = subst (IsHistoryOfClears start) (sym run) was
-clears_and space start old was (event ∷ history) new clears run =
-    let before = clears_and space start old was history run.0 clears.1 run.1 in
-    (event ∷ before.0, ((space, clears.0.0, clears.0.1), before.1), (run.0, before.2, run.2))
+clears_and space start old was [] new run = subst (IsHistoryOfClears start) (sym run) was
+clears_and space start old was (page ∷ pages) new run =
+    let before = clears_and space start old was pages run.0 run.1 in
+    (Cleared space page ∷ before.0, ((space, page, refl), before.1), (run.0, before.2, run.2))
 
-pub clears_more : (result : Result (Unit {0}) ClearError) (space : ℕ) (start old new : Contents) → OnOk result (IsHistory space old new) → OnErr result (new ≡ old)
+pub clears_more : (result : Result (Unit {0}) ClearError) (space : ℕ) (start old new : Contents) → OnOk result (HasHistory space old new) → OnErr result (new ≡ old)
     → IsHistoryOfClears start old → IsHistoryOfClears start new
-clears_more (Ok done) space start old new history same was = clears_and space start old was history.0 new history.1 history.2
+clears_more (Ok done) space start old new history same was = clears_and space start old was history.0 new history.1.run
 clears_more (Err error) space start old new history same was = subst (IsHistoryOfClears start) (sym same) was

@@ -7,7 +7,8 @@ use Rattle.sd_disk.specs.Contents.{file_at, AtSlot}
 use Rattle.sd_disk.specs.Crash.{Follows, OnlyAt, Within}
 use Rattle.sd_disk.specs.Spans.{LeavesOnly, span_widened, spans_join}
 use Rattle.sd_image.specs.Image.{is_open}
-use Rattle.sd_save.specs.AfterCrash.{ChangesAlone, FollowsAt, IsLeft, IsReadyAfterCrash, ShowsOnly}
+use Rattle.sd_gate.specs.PlanRuns.{ChangesAlone, FollowsAt, IsLeft}
+use Rattle.sd_save.specs.AfterCrash.{IsReadyAfterCrash, ShowsOnly}
 use Rattle.sd_areas.specs.PlainMemory.{PlainMemory}
 use Rattle.sd_image.specs.Laws.{AreBelow, IsReady, NewestIsShown, ShownStill}
 use Rattle.sd_image.specs.Shows.{Shows}
@@ -16,7 +17,7 @@ use Rattle.sd_gate.specs.declared.phase.Phase.TheVariants.{Raw}
 use Rattle.sd_save.specs.declared.image_text.ImageText.{ImageText}
 use Rattle.sd_save.specs.ImageText.{IsImageOf, body_of, file_of}
 use Rattle.sd_gate.specs.Fits.{SlotFits}
-use Rattle.sd_save.specs.PlanRun.{LeavesAtMost}
+use Rattle.sd_gate.specs.PlanRuns.{LeavesAtMost}
 use Rattle.sd_save.proofs.FileLemmas.{short_is_closed}
 
 -- no call

@@ -7,7 +7,6 @@ pub mod GreatestLemmas
 pub mod GrownRuns
 pub mod ImageLemmas
 pub mod PageBytes
-pub mod PlanLemmas
 pub mod RawLemmas
 pub mod ReadyLemmas
 pub mod SlotLemmas

@@ -9,7 +9,8 @@ use Rattle.sd_gate.specs.declared.phase.Phase.TheVariants.{Raw, RawClosing, Whol
 use Rattle.sd_gate.specs.Laws.{BodiesFill, ImageWholeOrClosed, pages_body}
 use Rattle.sd_gate.specs.Phases.{body_after}
 use Rattle.sd_gate.specs.Sequences.{body_calls, closing_calls, data_place, table_place}
-use Rattle.sd_save.specs.PlanRun.{LeavesAtMost, Takes, contents_done, pages_phase}
+use Rattle.sd_gate.specs.PlanRuns.{LeavesAtMost, Takes, contents_done}
+use Rattle.sd_save.specs.SlotFile.{pages_phase}
 use Rattle.sd_save.specs.SlotFile.{AreWhole, closed_file}
 use Rattle.sd_save.proofs.SlotLemmas.{step, cut_to_first, body_closed}
 use Rattle.sd_save.proofs.TextLemmas.{length_header}

@@ -5,7 +5,6 @@ pub mod Cleared
 pub mod Dump
 pub mod ImageText
 pub mod Pages
-pub mod PlanRun
 pub mod Runs
 pub mod SlotFile
 pub mod Slots

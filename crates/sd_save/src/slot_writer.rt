@@ -14,62 +14,17 @@ ghost use Rattle.sd_gate.specs.Sequences.{IsBody, IsPage, data_place};
 ghost use Rattle.sd_image.specs.Header.{header_text};
 ghost use Rattle.sd_image.specs.Image.{gate};
 ghost use Rattle.sd_pagetable.specs.Contents.{plain_of};
-ghost use Rattle.sd_save.specs.AfterCrash.{FollowsAt, IsLeft};
+ghost use Rattle.sd_gate.specs.PlanRuns.{FollowsAt, IsLeft};
 ghost use Rattle.sd_save.specs.Pages.{bytes_at};
-ghost use Rattle.sd_save.specs.PlanRun.{AreChanges, Takes, back_after, contents_done, pages_phase};
-ghost use Rattle.sd_save.specs.SlotFile.{AreWhole, closed_file};
+
+ghost use Rattle.sd_save.specs.SlotFile.{AreWhole, closed_file, pages_phase};
 
 use crate::page_copy::copy_page;
 use sd_areas::{PageNo, SpaceId};
 use sd_disk::{DeviceError, Disk};
-use sd_gate::{
-    Found, Plan, Request, Settled, SlotState, Worker, bodies_fill, image_whole_or_closed,
-    perform,
-};
+use sd_gate::{Found, Plan, SlotState, bodies_fill, image_whole_or_closed, run_plan};
 use sd_image::Header;
 use sd_pagetable::Memory;
-
-/// The next request of a plan that reads nothing, and so wants no memory.
-fn next_request(plan: &mut Plan, ticket: u64) -> Option<Request>
-    requires free { plan.old.out ≡ None }
-    requires no_read { IsReadNext plan.old.calls → ⊥ }
-    ensures { MatchOption result ((plan.new ≡ plan.old) × (plan.old.calls ≡ [])) (λ request. Gives plan.old plan.new request) }
-{
-    match plan.take(Worker::Dumper, ticket) {
-        Ok(request) => request,
-        Err(_) => unreachable!(),
-    }
-}
-
-/// Makes the calls of a plan that writes, one after the other, up to the first that fails. The answer has what came
-/// back with them.
-fn run_plan<D: Disk>(disk: &mut D, mut plan: Plan) -> Result<Found, DeviceError>
-    requires begins { plan ≡ begun plan.slot plan.calls nothing }
-    requires slot { plan.slot < length (D.contents disk.old) }
-    requires changes { AreChanges plan.calls plan.slot (D.contents disk.old) }
-    ensures done { OnOk result (D.contents disk.new ≡ contents_done plan.calls plan.slot (D.contents disk.old)) }
-    ensures back { IfOk result (λ found. found_of found ≡ back_after plan.calls plan.found) }
-    ensures crash { FollowsAt plan.slot (D.may_leave disk.old) (D.may_leave disk.new) }
-    ensures fits { (image body final : List ℕ) (phase last : Phase) → Takes image phase body plan.calls last final
-        → SlotFits phase body plan.slot (D.contents disk.old) (D.may_leave disk.old)
-        → OnOk result (SlotFits last final plan.slot (D.contents disk.new) (D.may_leave disk.new)) }
-    ensures any_moment { (image body final : List ℕ) (phase last : Phase) → Takes image phase body plan.calls last final
-        → SlotFits phase body plan.slot (D.contents disk.old) (D.may_leave disk.old)
-        → LeavesOnly D.Disk disk.old disk.new (IsLeft plan.slot image (D.may_leave disk.old)) }
-    ensures honest { D.is_honest disk.new → D.is_honest disk.old }
-    ensures cause { HasCause (D.failed disk.old) (D.failed disk.new) result }
-{
-    let mut ticket: u64 = 0;
-    while let Some(request) = next_request(&mut plan, ticket) {
-        ticket = ticket.wrapping_add(1);
-        let outcome = perform(disk, request);
-        match plan.settle(outcome) {
-            Settled::More | Settled::Finished | Settled::Strange => {}
-            Settled::Failed => return Err(DeviceError),
-        }
-    }
-    Ok(plan.into_found())
-}
 
 /// Makes a slot that is shorter than a header one closed byte.
 pub fn format<D: Disk>(disk: &mut D, slot: usize) -> Result<(), DeviceError>

@@ -1,11 +1,10 @@
 //! Saves whose disk fails or loses power at each call.
 
-use crate::save::save;
-use crate::save_error::SaveError;
 use sd_areas::{PageNo, Prot, SpaceId};
 use sd_disk::{Disk, Fused, MemDisk, Pick};
 use sd_pagetable::Memory;
 use sd_restore::{Fault, restore};
+use sd_save::{SaveError, save};
 use std::alloc::Global;
 use std::process::Abort;
 use std::test::Fail;

@@ -1,5 +1,6 @@
-use crate::script::Script;
-use crate::script_error::ScriptError;
+//! What lines ask for, and which scripts don't fit the language.
+
+use sd_script::{Script, ScriptError};
 use std::test::*;
 
 /// The requests of a script, as `Debug` writes them.
@@ -21,15 +22,15 @@ fn unfit_line(rt: &HostRuntime, script: &[u8]) -> Result<Option<usize>, Fail> {
 const LINES: [(&str, &str); 11] = [
     (
         "# a page\n\nmmap 1 0x10000 4096 rx\n",
-        "[Command(Mmap { space: SpaceId { number: 1 }, address: 65536, bytes: 4096, prot: Prot { read: true, write: false, execute: true } })]",
+        "[Command(Mmap { space: SpaceId { number: 1 }, address: 65536, length: 4096, prot: Prot { read: true, write: false, execute: true } })]",
     ),
     (
         "munmap 2 4096 0x1000",
-        "[Command(Munmap { space: SpaceId { number: 2 }, address: 4096, bytes: 4096 })]",
+        "[Command(Munmap { space: SpaceId { number: 2 }, address: 4096, length: 4096 })]",
     ),
     (
         "mprotect 1 0 1 none",
-        "[Command(Mprotect { space: SpaceId { number: 1 }, address: 0, bytes: 1, prot: Prot { read: false, write: false, execute: false } })]",
+        "[Command(Mprotect { space: SpaceId { number: 1 }, address: 0, length: 1, prot: Prot { read: false, write: false, execute: false } })]",
     ),
     ("fork 1", "[Command(Fork { space: SpaceId { number: 1 } })]"),
     (
@@ -42,7 +43,7 @@ const LINES: [(&str, &str); 11] = [
     ),
     (
         "try 1 2 00",
-        "[Command(TryStore { space: SpaceId { number: 1 }, address: 2, bytes: [0] })]",
+        "[Command(TryStore { space: SpaceId { number: 1 }, address: 2, bytes: Bytes { bytes: [0] } })]",
     ),
     (
         "fault 1 0xf",
@@ -50,7 +51,7 @@ const LINES: [(&str, &str); 11] = [
     ),
     (
         "store 0 0xfF 0aFf\n",
-        "[Command(Store { space: SpaceId { number: 0 }, address: 255, bytes: [10, 255] })]",
+        "[Command(Store { space: SpaceId { number: 0 }, address: 255, bytes: Bytes { bytes: [10, 255] } })]",
     ),
     (
         "words 1 0x10000 600",

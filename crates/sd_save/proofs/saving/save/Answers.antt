@@ -4,7 +4,7 @@ use Rattle.sd_image.specs.Laws.{AreBelow, IsReady}
 use Rattle.sd_save.specs.ImageText.{file_of}
 use Rattle.sd_pagetable.specs.Contents.{plain_of}
 use Rattle.sd_disk.specs.Spans.{span_widened, spans_join}
-use Rattle.sd_save.specs.AfterCrash.{IsLeft}
+use Rattle.sd_gate.specs.PlanRuns.{IsLeft}
 use Rattle.sd_save.specs.ImageText.{body_of}
 use Rattle.sd_save.proofs.CrashLemmas.{left_shows, one_slot_later, raw_fits, short_elsewhere}
 use Rattle.sd_save.proofs.FileLemmas.{short_is_closed}

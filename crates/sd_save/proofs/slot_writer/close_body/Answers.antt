@@ -3,7 +3,7 @@ use Rattle.std.specs.List.{concat}
 use Rattle.sd_gate.specs.declared.phase.Phase.TheVariants.{Whole}
 use Rattle.sd_gate.specs.Laws.{pages_body}
 use Rattle.sd_image.specs.Header.{header_text}
-use Rattle.sd_save.specs.PlanRun.{pages_phase}
+use Rattle.sd_save.specs.SlotFile.{pages_phase}
 use Rattle.sd_save.proofs.WriteLemmas.{body_done, close_takes}
 use Rattle.sd_save.proofs.slot_writer.close_body.Goals as goal
 

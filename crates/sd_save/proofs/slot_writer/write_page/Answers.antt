@@ -4,7 +4,7 @@ use Rattle.sd_gate.specs.declared.phase.Phase.TheVariants.{Writing}
 use Rattle.sd_gate.specs.Laws.{pages_body}
 use Rattle.sd_gate.specs.Phases.{body_after}
 use Rattle.sd_gate.specs.Sequences.{data_place}
-use Rattle.sd_save.specs.PlanRun.{pages_phase}
+use Rattle.sd_save.specs.SlotFile.{pages_phase}
 use Rattle.sd_save.proofs.WriteLemmas.{page_takes, page_takes_more}
 use Rattle.sd_save.proofs.slot_writer.write_page.Goals as goal
 

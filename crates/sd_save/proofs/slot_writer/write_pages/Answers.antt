@@ -1,13 +1,13 @@
-use Rattle.std.proofs.Common.{◌≡◌, ◌<◌, [], ◌++◌, length, map, take, drop, slice_set, arith, ap, sym, subst, ◌∙◌}
+use Rattle.std.proofs.Common.{◌≡◌, ◌<◌, [], ◌++◌, length, map, take, drop, slice_set, arith, ap, sym, subst, refl, ◌∙◌}
 use Rattle.std.proofs.lemmas.List.{length-set}
 use Rattle.sd_disk.specs.Spans.{nothing_called}
 use Rattle.sd_gate.specs.declared.phase.Phase.TheVariants.{Bare}
 use Rattle.sd_gate.specs.Fits.{SlotFits}
 use Rattle.sd_gate.specs.Laws.{pages_body}
 use Rattle.sd_pagetable.specs.Contents.{plain_of}
-use Rattle.sd_save.specs.AfterCrash.{IsLeft}
+use Rattle.sd_gate.specs.PlanRuns.{IsLeft}
 use Rattle.sd_save.specs.Pages.{bytes_at}
-use Rattle.sd_save.specs.PlanRun.{pages_phase}
+use Rattle.sd_save.specs.SlotFile.{pages_phase}
 use Rattle.sd_save.specs.SlotFile.{closed_file}
 use Rattle.sd_save.proofs.SlotLemmas.{buffer_is, length_front, page_added, set_itself, taken, whole_at, whole_front}
 use Rattle.sd_save.proofs.CrashLemmas.{follows_itself, follows_join, left_join, left_so}
@@ -29,7 +29,7 @@ loop-count-init g c =
           (λ left_c left. g.met.D.Disk.only_now c.args.disk.now left_c left)
           (left_so slot image [] Bare old leaves leaves (follows_itself slot leaves) (bare c.image_whole_or_closed.ensures image []) fits);
       honest = λ h. h;
-      later = omega arith;
+      calm = refl;
     }
 
 pub copy_page-requires-clause-page : goal.copy_page-requires-clause-page
@@ -82,5 +82,5 @@ loop-count-preserved g c =
       left = λ image fits. left_join D slot image c.args.disk.now c.loop-count.disk c.write_page.new.disk was.crash
           (was.left image fits) (c.write_page.ensures.any_moment image (map f (take count pages)) (was.fits fits));
       honest = λ h. was.honest (c.write_page.ensures.honest h);
-      later = omega (arith, was.later, c.write_page.ensures.cause.later);
+      calm = c.in_ok-buffer.ensures.cause.done refl ∙ was.calm;
     }

@@ -1,5 +1,0 @@
-use Rattle.ckpt.proofs.EndingLemmas.{on_ok}
-use Rattle.ckpt.proofs.show.show.Goals as goal
-
-pub returns-clause-shown : goal.returns-clause-shown
-returns-clause-shown g c = λ honest. on_ok c.show_snapshot.result ((c.in_ok-snapshot.snapshot.checkpoint, _), c.in_ok-snapshot.ensures.shown honest)
