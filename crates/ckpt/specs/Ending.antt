@@ -1,5 +1,5 @@
 -- How a program ends.
-use Rattle.std.specs.Prelude.{◌≡◌, ◌⊎◌, ℕ, List, Option, Some, Result, Ok, Err}
+use Rattle.std.specs.Prelude.{◌≡◌, ◌⊎◌, ℕ, List, Option, Some, Result, Ok, Err, IfErr}
 use Rattle.sd_areas.specs.PlainMemory.{PlainMemory}
 use Rattle.sd_image.specs.Image.{Image}
 use Rattle.sd_image.specs.Shows.{IsStore, Shows}
@@ -25,6 +25,10 @@ status_of (stop.Writer _) = 1
 abbrev pub Ends : Result Unit Stop → ℕ → Type 0
 Ends (Ok _) status = status ≡ 0
 Ends (Err why) status = (status ≡ status_of why) ⊎ (status ≡ 1)
+
+-- a program that is stopped ends with status 1
+abbrev pub EndsWithOne : {T : Type 0} → Result T Stop → Type 0
+EndsWithOne result = IfErr result (λ why. status_of why ≡ 1)
 
 -- how a script that can't be taken stops a program
 abbrev pub StopsFor : ScriptError → Stop → Type 0

@@ -1,9 +1,7 @@
 //! `ckpt list`: the images of a store.
-ghost use Rattle.std.specs.Prelude.{◌≡◌, ◌≢◌, ◌≤◌, Err, OnOk};
+ghost use Rattle.std.specs.Prelude.{◌≡◌, ◌≤◌, OnOk};
 ghost use Rattle.sd_disk.specs.Reads.{OnlyReads};
-ghost use Rattle.sd_restore.specs.declared.fault.Fault.TheVariants as fault;
-ghost use Rattle.ckpt.specs.declared.stop.Stop.TheVariants as stop;
-ghost use Rattle.ckpt.specs.Ending.{IsReadable};
+ghost use Rattle.ckpt.specs.Ending.{EndsWithOne, IsReadable};
 
 use crate::listing::list_text;
 use crate::stop::{Stop, status};
@@ -25,13 +23,9 @@ pub fn list_to<D: Disk, W: Write>(alloc: Global, disk: &mut D, out: &mut W) -> u
 }
 
 /// Prints the images of a store.
-pub fn print_list<D: Disk, W: Write>(
-    alloc: Global,
-    disk: &mut D,
-    out: &mut W,
-) -> Result<(), Stop>
+pub fn print_list<D: Disk, W: Write>(alloc: Global, disk: &mut D, out: &mut W) -> Result<(), Stop>
     ensures readable { D.is_honest disk.new → OnOk result (IsReadable (D.contents disk.old)) }
-    ensures empty { result ≢ Err (stop.Fault fault.EmptyChain) }
+    ensures stopped { EndsWithOne result }
     ensures reads { OnlyReads D.Disk disk.old disk.new }
 {
     let catalog = scan(alloc, disk)?;

@@ -35,10 +35,7 @@ fn open_store(
 }
 
 /// Reads and parses a script.
-fn read_script(
-    rt: &(impl Files<File = File> + AllocGlobal),
-    script: &str,
-) -> Result<Script, Stop> {
+fn read_script(rt: &(impl Files<File = File> + AllocGlobal), script: &str) -> Result<Script, Stop> {
     match std::fs::read(rt, script) {
         Ok(bytes) => Ok(Script::parse(rt.alloc(), &bytes)?),
         Err(_) => Err(Stop::CannotReadScript),

@@ -78,7 +78,7 @@ fn print_pages<W: Write>(pages: &BTreeMap<PageNo, SnapshotPage>, out: &mut W) ->
 }
 
 /// Prints the parts of a page that aren't all zeros.
-fn show_page<W: Write>(address: u64, bytes: &[u8], out: &mut W) -> io::Result<()> {
+fn print_page<W: Write>(address: u64, bytes: &[u8], out: &mut W) -> io::Result<()> {
     let mut at = address;
     for line in bytes.chunks(LINE_BYTES) {
         if line.iter().any(|byte| *byte != 0) {

@@ -1,6 +1,6 @@
 //! Runs over memories of several spaces.
-use crate::run::run_script;
 use crate::restore::restore_to;
+use crate::run::run_script;
 use sd_disk::MemDisk;
 use std::alloc::Global;
 use std::process::Abort;

@@ -1,8 +1,8 @@
 //! Whole runs, over disks in memory and in folders.
 ghost use Rattle.std.specs.Prelude.{◌≤◌};
 
-use crate::run::run_script;
 use crate::restore::restore_to;
+use crate::run::run_script;
 use sd_disk::{Disk, MemDisk};
 use std::alloc::{AllocError, Global};
 use std::process::Abort;

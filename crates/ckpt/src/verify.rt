@@ -1,9 +1,7 @@
 //! `ckpt verify`: checking that a store can be restored.
-ghost use Rattle.std.specs.Prelude.{◌≡◌, ◌≢◌, ◌≤◌, Err, OnOk};
+ghost use Rattle.std.specs.Prelude.{◌≡◌, ◌≤◌, OnOk};
 ghost use Rattle.sd_disk.specs.Reads.{OnlyReads};
-ghost use Rattle.sd_restore.specs.declared.fault.Fault.TheVariants as fault;
-ghost use Rattle.ckpt.specs.declared.stop.Stop.TheVariants as stop;
-ghost use Rattle.ckpt.specs.Ending.{IsShowing};
+ghost use Rattle.ckpt.specs.Ending.{EndsWithOne, IsShowing};
 
 use crate::stop::{Stop, status};
 use sd_disk::Disk;
@@ -24,13 +22,9 @@ pub fn verify_to<D: Disk, W: Write>(alloc: Global, disk: &mut D, out: &mut W) ->
 }
 
 /// Prints what a store shows.
-pub fn print_report<D: Disk, W: Write>(
-    alloc: Global,
-    disk: &mut D,
-    out: &mut W,
-) -> Result<(), Stop>
+pub fn print_report<D: Disk, W: Write>(alloc: Global, disk: &mut D, out: &mut W) -> Result<(), Stop>
     ensures showing { D.is_honest disk.new → OnOk result (IsShowing (D.contents disk.old)) }
-    ensures empty { result ≢ Err (stop.Fault fault.EmptyChain) }
+    ensures stopped { EndsWithOne result }
     ensures reads { OnlyReads D.Disk disk.old disk.new }
 {
     let report = verify(alloc, disk)?;

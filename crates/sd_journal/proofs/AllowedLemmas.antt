@@ -58,7 +58,7 @@ freeze_allows base history n shown legal = (
 pub acked_allows : (base : Base) (history : History) (n : ℕ) (shown : Shown) → IsLegal base (Acked n ∷ history)
     → IsAllowed base (Acked n ∷ history) shown ↔ IsPendingPair base history shown
 acked_allows base history n None legal = (
-  λ allowed. elim allowed [ | inl e ↦ some_is_none n e | inr never ↦ never ],
+  λ allowed. elim allowed [ inl e ↦ some_is_none n e | inr never ↦ never ],
   λ never. absurd never,
 )
 acked_allows base history n (Some pair) legal = (
@@ -80,11 +80,11 @@ none_left base history n k (inr none) e = none_is_some k (sym (ap (unless_it_is 
 pub cancelled_allows : (base : Base) (history : History) (n : ℕ) (shown : Shown) → IsLegal base (Cancelled n ∷ history)
     → IsAllowed base (Cancelled n ∷ history) shown ↔ IsLastPair base history shown
 cancelled_allows base history n None legal = (
-  λ allowed. elim allowed [ | inl e ↦ e | inr never ↦ absurd never ],
+  λ allowed. elim allowed [ inl e ↦ e | inr never ↦ absurd never ],
   λ e. inl e,
 )
 cancelled_allows base history n (Some pair) legal = (
-  λ allowed. elim allowed [ | inl was ↦ was | inr is ↦ none_left base history n pair.0 legal.0 is.0 ],
+  λ allowed. elim allowed [ inl was ↦ was | inr is ↦ none_left base history n pair.0 legal.0 is.0 ],
   λ was. inl was,
 )
 
@@ -103,7 +103,7 @@ nothing_before base history m (inr as_pending) is = absurd (as_pending.0 (sym as
 pub reopened_allows : (base : Base) (history : History) (m : Option ℕ) (shown : Shown) → IsLegal base (Reopened m ∷ history)
     → IsAllowed base (Reopened m ∷ history) shown ↔ (IsAllowed base history shown × (shown_number shown ≡ m))
 reopened_allows base history m None legal = (
-  λ allowed. elim allowed [ | inl e ↦ (nothing_before base history m legal.0 e, sym e) | inr never ↦ absurd never ],
+  λ allowed. elim allowed [ inl e ↦ (nothing_before base history m legal.0 e, sym e) | inr never ↦ absurd never ],
   λ both. inl (sym both.1),
 )
 reopened_allows base history m (Some pair) legal = (
@@ -111,5 +111,5 @@ reopened_allows base history m (Some pair) legal = (
     | inl is ↦ (found_before base history m pair legal.0 is.0 is.1, sym is.0)
     | inr is ↦ none_is_some pair.0 is.0
   ],
-  λ both. inl (sym both.1, elim both.0 [ | inl was ↦ was.1 | inr was ↦ was.1 ]),
+  λ both. inl (sym both.1, elim both.0 [ inl was ↦ was.1 | inr was ↦ was.1 ]),
 )

@@ -9,11 +9,11 @@ mod image_text;
 mod page_copy;
 mod page_words;
 mod runs;
-mod saving;
 mod save_error;
+mod saving;
 mod session;
 mod slot_writer;
 
-pub use saving::save;
 pub use save_error::SaveError;
+pub use saving::save;
 pub use session::Session;

@@ -10,8 +10,8 @@ ghost use Rattle.sd_save.specs.Beginning.{Begins};
 
 use crate::greatest::greatest_number;
 use crate::page_words;
-use crate::saving::save;
 use crate::save_error::SaveError;
+use crate::saving::save;
 use sd_areas::Snapshot;
 use sd_command::{Command, Refusal, Reply, apply_to};
 use sd_disk::Disk;

@@ -16,7 +16,6 @@ ghost use Rattle.sd_image.specs.Image.{gate};
 ghost use Rattle.sd_pagetable.specs.Contents.{plain_of};
 ghost use Rattle.sd_gate.specs.PlanRuns.{FollowsAt, IsLeft};
 ghost use Rattle.sd_save.specs.Pages.{bytes_at};
-
 ghost use Rattle.sd_save.specs.SlotFile.{AreWhole, closed_file, pages_phase};
 
 use crate::page_copy::copy_page;

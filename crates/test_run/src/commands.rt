@@ -19,17 +19,77 @@ fn commands(alloc: Global) -> Result<Vec<(Command, &'static str)>, Fail> {
     let bytes = Bytes::new(vec![in alloc; 0x61, 0x62]?);
     let more = Bytes::new(vec![in alloc; 0x63]?);
     Ok(vec![in alloc;
-        (Command::Mmap { space, address, length: 4096, prot: PROT }, "done"),
-        (Command::TryStore { space, address, bytes: more }, "needs-fault"),
-        (Command::Store { space, address, bytes }, "done"),
-        (Command::Load { space, address, count: 3 }, "bytes 616200"),
-        (Command::Fault { space, address: 0x20000 }, "segv maperr"),
+        (
+            Command::Mmap {
+                space,
+                address,
+                length: 4096,
+                prot: PROT
+            },
+            "done"
+        ),
+        (
+            Command::TryStore {
+                space,
+                address,
+                bytes: more
+            },
+            "needs-fault"
+        ),
+        (
+            Command::Store {
+                space,
+                address,
+                bytes
+            },
+            "done"
+        ),
+        (
+            Command::Load {
+                space,
+                address,
+                count: 3
+            },
+            "bytes 616200"
+        ),
+        (
+            Command::Fault {
+                space,
+                address: 0x20000
+            },
+            "segv maperr"
+        ),
         (Command::Fork { space }, "child 2"),
-        (Command::Mprotect { space, address, length: 8192, prot: PROT }, "refused 2 ENOMEM"),
-        (Command::Munmap { space, address, length: 0 }, "refused 1 EINVAL"),
-        (Command::Exit { space: SpaceId::new(2) }, "done"),
+        (
+            Command::Mprotect {
+                space,
+                address,
+                length: 8192,
+                prot: PROT
+            },
+            "refused 2 ENOMEM"
+        ),
+        (
+            Command::Munmap {
+                space,
+                address,
+                length: 0
+            },
+            "refused 1 EINVAL"
+        ),
+        (
+            Command::Exit {
+                space: SpaceId::new(2)
+            },
+            "done"
+        ),
         (Command::Exit { space }, "refused 15 last-space"),
-        (Command::Exit { space: SpaceId::new(9) }, "refused 3 no-such-space"),
+        (
+            Command::Exit {
+                space: SpaceId::new(9)
+            },
+            "refused 3 no-such-space"
+        ),
     ]?)
 }
 
