@@ -12,15 +12,15 @@ folder_slots folder = length folder.images.items
 
 -- the calls on it, the last first
 abbrev pub folder_events : DirDisk → List Event
-folder_events disk = disk.log.trace.events
+folder_events disk = disk.log.log.trace.events
 
 -- its files
 abbrev pub folder_files : DirDisk → List (List ℕ)
-folder_files disk = files_after disk.log.trace.outside (folder_events disk)
+folder_files disk = files_after disk.log.log.trace.outside (folder_events disk)
 
 -- what a crash now may leave of them
 abbrev pub folder_may_leave : DirDisk → List (List ℕ) → Type 0
-folder_may_leave disk = MayLeave disk.log.trace.outside (folder_events disk)
+folder_may_leave disk = MayLeave disk.log.log.trace.outside (folder_events disk)
 
 -- how many calls were made on it
 abbrev pub folder_called : DirDisk → ℕ
@@ -32,7 +32,7 @@ folder_moment disk = length (folder_events disk)
 
 -- what a crash since a moment might have left
 abbrev pub folder_left_since : DirDisk → ℕ → List (List ℕ) → Type 0
-folder_left_since disk = LeftSince disk.log.trace.outside (folder_events disk)
+folder_left_since disk = LeftSince disk.log.log.trace.outside (folder_events disk)
 
 -- how often it has failed
 abbrev pub folder_failures : DirDisk → ℕ
@@ -40,4 +40,4 @@ folder_failures disk = failures_in (folder_events disk)
 
 -- what came back so far was that of these files
 abbrev pub IsFolderHonest : DirDisk → Type 0
-IsFolderHonest disk = AreAnswers disk.log.trace.outside (folder_events disk)
+IsFolderHonest disk = AreAnswers disk.log.log.trace.outside (folder_events disk)

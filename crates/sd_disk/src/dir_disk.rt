@@ -2,22 +2,20 @@
 ghost use Rattle.std.specs.Prelude.{◌≡◌, length};
 ghost use Rattle.sd_disk.specs.Events.{Outside};
 
-use crate::call::Call;
-use crate::call_log::CallLog;
 use crate::disk::Disk;
 use crate::error::DeviceError;
-use crate::folder::{self, FOLDER_SLOTS, Folder};
+use crate::folder::{self, FOLDER_SLOTS, Folder, FolderLog};
 
 /// A disk over the slots' files in a folder. A file that is missing has length 0, and a write to it fails.
 ///
-/// Each method makes one call of the module `folder` and notes it in the log, with what came back: no contract says what
-/// a real file gives. So `is_honest` is a premise: each length and each byte that came back was that of the files by the
+/// Each method makes one call on a file and notes it in the log, which takes only calls that were made. No contract says
+/// what a real file gives. So `is_honest` is a premise: each length and each byte that came back was that of the files by the
 /// log, and no file was shorter than what it was cut to.
 #[derive(Drop)]
 pub struct DirDisk {
     folder: Folder,
-    log: CallLog,
-    ghost one_each: { length log.trace.outside.found ≡ length folder.images.items },
+    log: FolderLog,
+    ghost one_each: { length log.log.trace.outside.found ≡ length folder.images.items },
 }
 
 impl DirDisk {
@@ -32,13 +30,14 @@ impl DirDisk {
     {
         DirDisk {
             folder,
-            log: CallLog::new(),
+            log: FolderLog::new(),
         }
     }
 }
 
 impl Disk for DirDisk {
     ghost use Rattle.std.specs.Prelude.{◌+◌, ◌<◌, [], ◌∷◌, OnOk};
+    ghost use Rattle.sd_disk.specs.declared.call.Call.TheVariants.{Synced};
     ghost use Rattle.sd_disk.specs.Failures.{HasCause};
     ghost use Rattle.sd_disk.specs.Contents.{file_at};
     ghost use Rattle.sd_disk.specs.Crash.{Within, OnlyAt, Elapses};
@@ -59,13 +58,13 @@ impl Disk for DirDisk {
 
     ghost is_honest = { IsFolderHonest };
 
-    ghost as_read = { λ disk. disk.log.as_read };
+    ghost as_read = { λ disk. disk.log.log.as_read };
 
     ghost same_slots = { λ disk c left. left.count };
 
-    ghost counts_now = { λ disk t c since now. counts_now disk.log.trace.outside (folder_events disk) t c since now };
+    ghost counts_now = { λ disk t c since now. counts_now disk.log.log.trace.outside (folder_events disk) t c since now };
 
-    ghost only_now = { λ disk c left. only_now disk.log.trace.outside (folder_events disk) c left };
+    ghost only_now = { λ disk c left. only_now disk.log.log.trace.outside (folder_events disk) c left };
 
     #[tactic(auto, using(crate::proofs::FolderLemmas::length_files))]
     fn slots(&self) -> usize {
@@ -78,13 +77,13 @@ impl Disk for DirDisk {
 
     #[tactic(auto, using(crate::proofs::FolderLemmas::length_files))]
     fn len(&mut self, slot: usize) -> Result<usize, DeviceError> {
-        match folder::len(self.folder.image(slot)) {
-            Ok(len) => {
-                self.log.note(&Call::Measured { slot, len }, &[]);
+        match folder::len(&self.folder, slot) {
+            Ok((len, made)) => {
+                self.log.note(made, &[]);
                 Ok(len)
             }
-            Err(_) => {
-                self.log.note(&Call::Failed, &[]);
+            Err(made) => {
+                self.log.note(made, &[]);
                 Err(DeviceError)
             }
         }
@@ -92,13 +91,13 @@ impl Disk for DirDisk {
 
     #[tactic(auto, using(crate::proofs::FolderLemmas::length_files))]
     fn read(&mut self, slot: usize, at: usize, buffer: &mut [u8]) -> Result<(), DeviceError> {
-        match folder::read(self.folder.image(slot), at, buffer) {
-            Ok(()) => {
-                self.log.note(&Call::Read { slot, at }, buffer);
+        match folder::read(&self.folder, slot, at, buffer) {
+            Ok(made) => {
+                self.log.note(made, buffer);
                 Ok(())
             }
-            Err(_) => {
-                self.log.note(&Call::Failed, &[]);
+            Err(made) => {
+                self.log.note(made, &[]);
                 Err(DeviceError)
             }
         }
@@ -106,13 +105,13 @@ impl Disk for DirDisk {
 
     #[tactic(auto, using(crate::proofs::FolderLemmas::length_files))]
     fn write_at(&mut self, slot: usize, at: usize, bytes: &[u8]) -> Result<(), DeviceError> {
-        match folder::write(self.folder.image(slot), at, bytes) {
-            Ok(()) => {
-                self.log.note(&Call::Written { slot, at }, bytes);
+        match folder::write(&self.folder, slot, at, bytes) {
+            Ok(made) => {
+                self.log.note(made, bytes);
                 Ok(())
             }
-            Err(_) => {
-                self.log.note(&Call::WriteFailed { slot, at }, bytes);
+            Err(made) => {
+                self.log.note(made, bytes);
                 Err(DeviceError)
             }
         }
@@ -120,13 +119,13 @@ impl Disk for DirDisk {
 
     #[tactic(auto, using(crate::proofs::FolderLemmas::length_files))]
     fn cut(&mut self, slot: usize, len: usize) -> Result<(), DeviceError> {
-        match folder::cut(self.folder.image(slot), len) {
-            Ok(()) => {
-                self.log.note(&Call::Cut { slot, len }, &[]);
+        match folder::cut(&self.folder, slot, len) {
+            Ok(made) => {
+                self.log.note(made, &[]);
                 Ok(())
             }
-            Err(_) => {
-                self.log.note(&Call::CutFailed { slot, len }, &[]);
+            Err(made) => {
+                self.log.note(made, &[]);
                 Err(DeviceError)
             }
         }
@@ -135,7 +134,7 @@ impl Disk for DirDisk {
     #[tactic(auto, using(crate::proofs::FolderLemmas::length_files))]
     fn sync(&mut self, slot: usize) -> Result<(), DeviceError>
         requires { slot < length (folder_files self.old) }
-        ensures noted { OnOk result (folder_events self.new ≡ (Call.Synced slot, []) ∷ folder_events self.old) }
+        ensures noted { OnOk result (folder_events self.new ≡ (Synced slot, []) ∷ folder_events self.old) }
         ensures durable { OnOk result (OnlyAt slot (file_at (folder_files self.old) slot) (folder_may_leave self.new)) }
         ensures same { folder_files self.new ≡ folder_files self.old }
         ensures crash { Within (folder_may_leave self.new) (folder_may_leave self.old) }
@@ -144,13 +143,13 @@ impl Disk for DirDisk {
         ensures counted { folder_called self.new ≡ folder_called self.old + 1 }
         ensures cause { HasCause (folder_failures self.old) (folder_failures self.new) result }
     {
-        match folder::sync(self.folder.image(slot)) {
-            Ok(()) => {
-                self.log.note(&Call::Synced { slot }, &[]);
+        match folder::sync(&self.folder, slot) {
+            Ok(made) => {
+                self.log.note(made, &[]);
                 Ok(())
             }
-            Err(_) => {
-                self.log.note(&Call::Failed, &[]);
+            Err(made) => {
+                self.log.note(made, &[]);
                 Err(DeviceError)
             }
         }

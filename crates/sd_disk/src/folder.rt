@@ -1,7 +1,11 @@
-//! A slot's file in a folder: each function makes one call of the system. `None` is a file that is missing.
-ghost use Rattle.std.specs.Prelude.{◌≡◌, ◌<◌, length, slice_index_or};
+//! The slots' files of a folder, and the calls on them. `None` is a file that is missing.
+ghost use Rattle.std.specs.Prelude.{◌≡◌, ◌<◌, ◌-◌, ◌^◌, ◌∷◌, [], min, length, slice_index_or, MatchResult};
+ghost use Rattle.sd_disk.specs.Events.{Outside, failures_in};
+ghost use Rattle.sd_disk.specs.declared.call.Call.TheVariants.{Measured, Read, Written, Cut, Synced, Failed, WriteFailed, CutFailed};
 ghost use Rattle.sd_disk.specs.declared.folder.TheConstants.{FOLDER_SLOTS};
 
+use crate::call::Call;
+use crate::call_log::CallLog;
 use crate::open_error::OpenError;
 use std::fs::{File, OpenOptions};
 use std::os::unix::fs::FileExt;
@@ -53,7 +57,7 @@ impl Folder {
         self.images.len()
     }
 
-    pub(crate) fn image(&self, slot: usize) -> &Option<File>
+    fn image(&self, slot: usize) -> &Option<File>
         requires { slot < length self.now.images.items }
         ensures { result.now ≡ slice_index_or self.now.images.items slot result.now }
     {
@@ -98,14 +102,125 @@ fn open_found(rt: &impl Files<File = File>, path: &str) -> io::Result<File> {
     }
 }
 
-pub(crate) fn len(image: &Option<File>) -> io::Result<usize> {
+/// A call that was made on a slot's file, and how it ended. The five functions below alone make one.
+#[derive(Drop)]
+pub(crate) struct Made {
+    call: Call,
+}
+
+/// The record of the calls on a folder. It takes calls that were made, and no others.
+#[derive(Drop)]
+pub(crate) struct FolderLog {
+    log: CallLog,
+}
+
+impl FolderLog {
+    pub(crate) fn new() -> FolderLog
+        ghost outside: { Outside }
+        ensures outside { result.log.trace.outside ≡ outside }
+        ensures empty { result.log.trace.events ≡ [] }
+    {
+        FolderLog {
+            log: CallLog::new(),
+        }
+    }
+
+    /// The number of failed calls, as far as 64 bits hold it.
+    pub(crate) fn failures(&self) -> u64
+        ensures { result ≡ min (failures_in self.now.log.trace.events) (2 ^ 64 - 1) }
+    {
+        self.log.failures()
+    }
+
+    /// Notes a call that was made, with the bytes that it carried.
+    pub(crate) fn note(&mut self, made: Made, bytes: &[u8])
+        ensures outside { self.new.log.trace.outside ≡ self.old.log.trace.outside }
+        ensures events { self.new.log.trace.events ≡ (made.call, bytes.now) ∷ self.old.log.trace.events }
+    {
+        self.log.note(&made.call, bytes);
+    }
+}
+
+/// The length of a slot's file.
+pub(crate) fn len(folder: &Folder, slot: usize) -> Result<(usize, Made), Made>
+    requires { slot < length folder.now.images.items }
+    ensures { MatchResult result (λ told. told.1.call ≡ Measured slot told.0) (λ made. made.call ≡ Failed) }
+{
+    match len_of(folder.image(slot)) {
+        Ok(len) => Ok((
+            len,
+            Made {
+                call: Call::Measured { slot, len },
+            },
+        )),
+        Err(_) => Err(Made { call: Call::Failed }),
+    }
+}
+
+/// Fills the buffer from byte `at` of a slot's file on.
+pub(crate) fn read(folder: &Folder, slot: usize, at: usize, buffer: &mut [u8]) -> Result<Made, Made>
+    requires { slot < length folder.now.images.items }
+    ensures { MatchResult result (λ made. made.call ≡ Read slot at) (λ made. made.call ≡ Failed) }
+{
+    match read_from(folder.image(slot), at, buffer) {
+        Ok(()) => Ok(Made {
+            call: Call::Read { slot, at },
+        }),
+        Err(_) => Err(Made { call: Call::Failed }),
+    }
+}
+
+/// Writes the bytes at `at` of a slot's file.
+pub(crate) fn write(folder: &Folder, slot: usize, at: usize, bytes: &[u8]) -> Result<Made, Made>
+    requires { slot < length folder.now.images.items }
+    ensures { MatchResult result (λ made. made.call ≡ Written slot at) (λ made. made.call ≡ WriteFailed slot at) }
+{
+    match write_to(folder.image(slot), at, bytes) {
+        Ok(()) => Ok(Made {
+            call: Call::Written { slot, at },
+        }),
+        Err(_) => Err(Made {
+            call: Call::WriteFailed { slot, at },
+        }),
+    }
+}
+
+/// Cuts a slot's file to `len` bytes.
+pub(crate) fn cut(folder: &Folder, slot: usize, len: usize) -> Result<Made, Made>
+    requires { slot < length folder.now.images.items }
+    ensures { MatchResult result (λ made. made.call ≡ Cut slot len) (λ made. made.call ≡ CutFailed slot len) }
+{
+    match cut_to(folder.image(slot), len) {
+        Ok(()) => Ok(Made {
+            call: Call::Cut { slot, len },
+        }),
+        Err(_) => Err(Made {
+            call: Call::CutFailed { slot, len },
+        }),
+    }
+}
+
+/// Waits until a slot's file is on the device.
+pub(crate) fn sync(folder: &Folder, slot: usize) -> Result<Made, Made>
+    requires { slot < length folder.now.images.items }
+    ensures { MatchResult result (λ made. made.call ≡ Synced slot) (λ made. made.call ≡ Failed) }
+{
+    match sync_of(folder.image(slot)) {
+        Ok(()) => Ok(Made {
+            call: Call::Synced { slot },
+        }),
+        Err(_) => Err(Made { call: Call::Failed }),
+    }
+}
+
+fn len_of(image: &Option<File>) -> io::Result<usize> {
     match image {
         Some(file) => Ok(file.metadata()?.len() as usize),
         None => Ok(0),
     }
 }
 
-pub(crate) fn read(image: &Option<File>, at: usize, buffer: &mut [u8]) -> io::Result<()> {
+fn read_from(image: &Option<File>, at: usize, buffer: &mut [u8]) -> io::Result<()> {
     match image {
         Some(file) => file.read_exact_at(buffer, at as u64),
         None if buffer.is_empty() => Ok(()),
@@ -113,14 +228,14 @@ pub(crate) fn read(image: &Option<File>, at: usize, buffer: &mut [u8]) -> io::Re
     }
 }
 
-pub(crate) fn write(image: &Option<File>, at: usize, bytes: &[u8]) -> io::Result<()> {
+fn write_to(image: &Option<File>, at: usize, bytes: &[u8]) -> io::Result<()> {
     present(image)?.write_all_at(bytes, at as u64)
 }
 
 /// A file that is missing has been cut to 0 bytes already. The system would lengthen a shorter file by zeros, so its
 /// length is asked first.
-pub(crate) fn cut(image: &Option<File>, size: usize) -> io::Result<()> {
-    if size > len(image)? {
+fn cut_to(image: &Option<File>, size: usize) -> io::Result<()> {
+    if size > len_of(image)? {
         return Err(io::ErrorKind::InvalidInput.into());
     }
     match image {
@@ -129,7 +244,7 @@ pub(crate) fn cut(image: &Option<File>, size: usize) -> io::Result<()> {
     }
 }
 
-pub(crate) fn sync(image: &Option<File>) -> io::Result<()> {
+fn sync_of(image: &Option<File>) -> io::Result<()> {
     match image {
         Some(file) => file.sync_all(),
         None => Ok(()),

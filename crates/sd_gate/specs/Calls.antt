@@ -104,7 +104,7 @@ is_done Done = true
 is_done (LenIs len) = true
 is_done Failed = false
 
--- how a call is answered that is done: the question for the length with a length, and no other
+-- what comes back of a call that is done: a length where it was asked for, and else nothing
 abbrev pub IsAnswerTo : Call → Answer → Type 0
 IsAnswerTo Len answer = (n : ℕ) × (answer ≡ LenIs n)
 IsAnswerTo (Read at) answer = answer ≡ Done

@@ -182,7 +182,8 @@ impl Plan {
             ((self.new ≡ self.old) × (IsSome self.old.out ⊎ (self.old.calls ≡ [])))
             (λ request. Gives self.old self.new request × (request.id.worker ≡ worker) × (request.id.ticket ≡ ticket))) }
         // A plan that asks for no length is never refused.
-        ensures refused { IsErr result → (self.new ≡ self.old) × IsReadNext self.old.calls × IsSome self.old.found.len }
+        ensures refused { IsErr result → (self.new ≡ self.old) × IsReadNext self.old.calls
+            × IsSome self.old.found.len }
     {
         if self.out.is_some() {
             return Ok(None);
