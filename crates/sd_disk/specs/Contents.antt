@@ -9,14 +9,14 @@ file_at contents slot = slice_index_or contents slot []
 abbrev pub file_after_write : List ℕ → ℕ → List ℕ → List ℕ
 file_after_write file at bytes = take at (file ++ replicate (at - length file) 0) ++ bytes ++ drop (at + length bytes) file
 
--- what a write of n bytes may leave, done in part or whole: any bytes in its range and past the old end
+-- what a write of n bytes may leave, also one that failed: any bytes in its range and past the old end, and all others
 pub record Torn (at n : ℕ) (old new : List ℕ) : Type 0 where
   pub no_shorter : length old ≤ length new
   pub no_longer : length new ≤ max (length old) (at + n)
   pub below : (i : ℕ) → i < length old → i < at → slice_index new i ≡ slice_index old i
   pub above : (i : ℕ) → i < length old → at + n ≤ i → slice_index new i ≡ slice_index old i
 
--- what a cut to n bytes may leave, done in part or whole
+-- what a cut to n bytes may leave, also one that failed: the first n bytes, and behind them any bytes, no longer than before
 pub record Cut (n : ℕ) (old new : List ℕ) : Type 0 where
   pub no_shorter : min (length old) n ≤ length new
   pub no_longer : length new ≤ length old

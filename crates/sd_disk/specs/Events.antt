@@ -11,7 +11,7 @@ pub record Outside : Type 0 where
   pub found : List (List ℕ)
   pub left : List (List ℕ)
 
--- a call with its answer, and the bytes that it carried
+-- a call with what came back, and the bytes that it carried
 abbrev pub Event : Type 0
 Event = Call × List ℕ
 
@@ -59,7 +59,7 @@ abbrev pub files_after : Outside → List Event → List (List ℕ)
 files_after outside [] = outside.found
 files_after outside (event ∷ earlier) = after event.0 event.1 (file_at outside.left (failures_in earlier)) (files_after outside earlier)
 
--- the answer is that of these files
+-- what came back is that of these files, and a cut didn't lengthen
 abbrev pub IsAnswer : Call → List ℕ → List (List ℕ) → Type 0
 IsAnswer (Measured slot len) bytes files = len ≡ length (file_at files slot)
 IsAnswer (Read slot at) bytes files = bytes ≡ slice_range (file_at files slot) at (at + length bytes)
@@ -70,7 +70,7 @@ IsAnswer Failed bytes files = Unit {0}
 IsAnswer (WriteFailed slot at) bytes files = Unit {0}
 IsAnswer (CutFailed slot len) bytes files = Unit {0}
 
--- each answer was that of files which keep what they are given
+-- what came back was each time that of files which keep what they are given
 abbrev pub AreAnswers : Outside → List Event → Type 0
 AreAnswers outside [] = Unit {0}
 AreAnswers outside (event ∷ earlier) = IsAnswer event.0 event.1 (files_after outside earlier) × AreAnswers outside earlier

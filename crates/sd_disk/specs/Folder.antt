@@ -38,6 +38,6 @@ folder_left_since disk = LeftSince disk.log.trace.outside (folder_events disk)
 abbrev pub folder_failures : DirDisk → ℕ
 folder_failures disk = failures_in (folder_events disk)
 
--- each answer so far was that of these files
+-- what came back so far was that of these files
 abbrev pub IsFolderHonest : DirDisk → Type 0
 IsFolderHonest disk = AreAnswers disk.log.trace.outside (folder_events disk)

@@ -8,7 +8,7 @@ abbrev pub calls_before : Fuse → Option ℕ
 calls_before (Passes calls) = Some calls
 calls_before Blown = None
 
--- the same after a call
+-- how many pass after one call more
 abbrev pub burnt : Option ℕ → Option ℕ
 burnt (Some calls) = if calls == 0 then None else Some (calls - 1)
 burnt None = None

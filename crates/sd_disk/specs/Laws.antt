@@ -6,7 +6,7 @@ use Rattle.sd_disk.specs.Outcomes.{MayLeave}
 use Rattle.sd_disk.specs.declared.call.Call.{Call}
 use Rattle.sd_disk.specs.declared.call.Call.TheVariants.{Measured, Read, Written, Cut as Cuts, Synced, Failed, WriteFailed, CutFailed}
 
--- the outcomes after a call are those before it with the call done, in part or whole or not at all
+-- the outcomes after a call are those before it, with any bytes where it wrote or cut
 abbrev pub Leads : Call → List ℕ → List (List ℕ) → List (List ℕ) → List (List ℕ) → Type 0
 Leads (Measured slot len) bytes files before c = before ≡ c
 Leads (Read slot at) bytes files before c = before ≡ c

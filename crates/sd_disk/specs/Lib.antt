@@ -8,6 +8,7 @@ pub mod Fused
 pub mod Laws
 pub mod Memory
 pub mod Moments
+pub mod OneCall
 pub mod Outcomes
 pub mod Reads
 pub mod Slots

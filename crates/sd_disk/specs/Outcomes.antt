@@ -107,7 +107,7 @@ pub record AreSettled (files : List (List ℕ)) (count : ℕ) (outside : Outside
   pub resting : (slot : ℕ) → unsynced_after outside events slot ≡ at_rest (file_at files slot)
   pub failures : failures_in events ≡ 0
 
--- the same, where the files as read are named otherwise
+-- where the files as read are named otherwise
 pub read_as : (outside : Outside) (events : List Event) (files : List (List ℕ)) → files_after outside events ≡ files
     → MayLeave outside events (files_after outside events) → MayLeave outside events files
 read_as outside events files same left = subst (MayLeave outside events) same left

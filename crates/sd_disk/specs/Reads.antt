@@ -1,5 +1,5 @@
 -- What calls that only read leave of a disk, and of what a crash may leave.
-use Rattle.std.specs.Prelude.{◌≡◌, ◌⊎◌, ℕ, ◌≤◌, List, refl}
+use Rattle.std.specs.Prelude.{◌≡◌, ℕ, ◌≤◌, List, refl}
 use Rattle.std.proofs.Common.{⊎_elim, ◌∙◌}
 use Rattle.std.proofs.Math.Nat.{le_refl, le_trans}
 use Rattle.sd_disk.specs.Crash.{Within, Elapses}

@@ -1,6 +1,6 @@
 //! What a disk was asked, and how it ended.
 
-/// A call with its answer. The bytes that it carried stand beside it.
+/// A call with what came back. The bytes that it carried stand beside it.
 #[derive(Clone, Copy)]
 pub enum Call {
     /// A slot's file has this length.

@@ -17,6 +17,9 @@ impl Model for CallTrace {
     ghost also_owns = { λ _. ftrue };
 }
 
+// It owns nothing.
+unsafe impl Send for CallTrace {}
+
 impl CallTrace {
     pub(crate) fn new() -> CallTrace
         ghost outside: { Outside }

@@ -6,12 +6,13 @@ use crate::call::Call;
 use crate::call_log::CallLog;
 use crate::disk::Disk;
 use crate::error::DeviceError;
-use crate::folder::{self, Folder};
+use crate::folder::{self, FOLDER_SLOTS, Folder};
 
 /// A disk over the slots' files in a folder. A file that is missing has length 0, and a write to it fails.
 ///
-/// Each method makes one call of `image` and notes it, with its answer, in the log: no contract says what
-/// a real file gives, so `is_honest` is the premise that each answer was that of the files by the log.
+/// Each method makes one call of the module `folder` and notes it in the log, with what came back: no contract says what
+/// a real file gives. So `is_honest` is a premise: each length and each byte that came back was that of the files by the
+/// log, and no file was shorter than what it was cut to.
 #[derive(Drop)]
 pub struct DirDisk {
     folder: Folder,
@@ -25,7 +26,7 @@ impl DirDisk {
     /// `outside` stands for what the files hold, and for what each failed write and cut will leave of them.
     pub fn new(folder: Folder) -> DirDisk
         ghost outside: { Outside }
-        requires { length outside.found ≡ 64 }
+        requires { length outside.found ≡ FOLDER_SLOTS }
         ensures found { folder_files result ≡ outside.found }
         ensures failed { folder_failures result ≡ 0 }
     {

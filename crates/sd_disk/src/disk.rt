@@ -7,14 +7,13 @@ use crate::error::DeviceError;
 
 /// Slots numbered from 0, each a file of bytes.
 ///
-/// `contents` is what the slots hold. What `len` and `read` answer is tied to it under `is_honest` alone:
-/// each answer so far was that of a device which keeps what it was given. A device in memory is always honest;
-/// of a real file that is a premise.
+/// `contents` is what the slots hold. What `len` and `read` return is tied to it under `is_honest` alone: so far the
+/// device has reported what it was given. A device in memory is always honest; of a real file that is a premise.
 ///
 /// `may_leave` are the contents that a crash now may leave, and `left_since` those that a crash at some moment
 /// since another may have left, during a call or between two. Slots are independent. After a successful `sync` of
-/// a slot a crash leaves what a read of it gives. Until the next, each write and cut may be there whole, in part
-/// or not at all, and what lies past the end of a file may be anything. A call that failed may have been done.
+/// a slot a crash leaves what a read of it gives. Until the next, each range that was written or cut off, and what lies
+/// past the end of the synced file, may hold any bytes. A call that failed may have been done, in whole or in part.
 pub trait Disk {
     ghost contents: { Self → List (List ℕ) };
 
@@ -71,7 +70,7 @@ pub trait Disk {
         ensures cause { HasCause (failed self.old) (failed self.new) result };
 
     /// Writes all bytes at `at`, also past the file's end: the gap then reads as zeros.
-    /// On an error the range may hold anything.
+    /// On an error any bytes may stand in the range, and past the old end up to the range's.
     fn write_at(&mut self, slot: usize, at: usize, bytes: &[u8]) -> Result<(), DeviceError>
         requires slot { slot < length (contents self.old) }
         requires some { 0 < length bytes.now }
@@ -85,7 +84,7 @@ pub trait Disk {
         ensures cause { HasCause (failed self.old) (failed self.new) result };
 
     /// Cuts a slot's file to `len` bytes. A shorter file isn't lengthened: that is an error, counted as a failure.
-    /// On an error it may have cut.
+    /// On an error any bytes may stand behind the first `len`, up to the old end.
     fn cut(&mut self, slot: usize, len: usize) -> Result<(), DeviceError>
         requires slot { slot < length (contents self.old) }
         // A cut that would lengthen the file fails.

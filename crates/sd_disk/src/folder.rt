@@ -1,5 +1,6 @@
 //! A slot's file in a folder: each function makes one call of the system. `None` is a file that is missing.
 ghost use Rattle.std.specs.Prelude.{◌≡◌, ◌<◌, length, slice_index_or};
+ghost use Rattle.sd_disk.specs.declared.folder.TheConstants.{FOLDER_SLOTS};
 
 use crate::open_error::OpenError;
 use std::fs::{File, OpenOptions};
@@ -8,13 +9,13 @@ use std::rt::Files;
 use std::{fs, io};
 
 /// How many slots a folder has.
-const SLOTS: usize = 64;
+pub const FOLDER_SLOTS: usize = 64;
 
 /// The slots' files `img-000` to `img-063` in a folder, opened once.
 #[derive(Drop)]
 pub struct Folder {
     images: Vec<Option<File>>,
-    ghost count: { length images.items ≡ 64 },
+    ghost count: { length images.items ≡ FOLDER_SLOTS },
 }
 
 impl Folder {
@@ -28,11 +29,11 @@ impl Folder {
         path: &str,
         make: bool,
     ) -> Result<Folder, OpenError>
-        ensures { IfOk result (λ folder. folder_slots folder ≡ SLOTS) }
+        ensures { IfOk result (λ folder. folder_slots folder ≡ FOLDER_SLOTS) }
     {
         prepare(rt, path, make).map_err(|_| OpenError::Folder)?;
-        let mut images = Vec::with_capacity(rt.alloc(), SLOTS)?;
-        for slot in 0..SLOTS {
+        let mut images = Vec::with_capacity(rt.alloc(), FOLDER_SLOTS)?;
+        for slot in 0..FOLDER_SLOTS {
             let name = format!(in rt.alloc(); "{path}/img-{slot:03}").map_err(
                 |_| OpenError::OutOfMemory,
             )?;
@@ -47,7 +48,7 @@ impl Folder {
 
     pub(crate) fn slots(&self) -> usize
         ensures count { result ≡ folder_slots self.now }
-        ensures fixed { result ≡ SLOTS }
+        ensures fixed { result ≡ FOLDER_SLOTS }
     {
         self.images.len()
     }

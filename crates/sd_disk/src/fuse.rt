@@ -11,7 +11,7 @@ pub enum Fuse {
 impl Fuse {
     ghost use Rattle.sd_disk.specs.Fuses.{calls_before, burnt, blown};
 
-    /// Counts a call, and answers whether it is the one that fails.
+    /// Counts a call, and returns whether it is the one that fails.
     pub(crate) fn burn(&mut self) -> bool
         ensures blows { IsTrue result ↔ (calls_before self.old ≡ Some 0) }
         ensures burnt { calls_before self.new ≡ burnt (calls_before self.old) }

@@ -7,10 +7,10 @@ use crate::error::DeviceError;
 use crate::fuse::Fuse;
 
 /// A disk of which one call fails: so many calls of `len`, `read`, `write_at`, `cut` and `sync` pass, the next one
-/// is answered `DeviceError`, and all others pass again.
+/// returns `DeviceError`, and all others pass again.
 ///
 /// The call that fails is not made on the disk within, with one exception: a write or cut of a disk made by `new`
-/// is made, and answered as failed all the same.
+/// is made, and returns `DeviceError` all the same.
 #[derive(Drop)]
 pub struct Fused<D> {
     disk: D,

@@ -5,8 +5,6 @@ mod budget;
 mod call;
 mod call_log;
 mod call_trace;
-#[cfg(test)]
-mod crash_tests;
 mod dir_disk;
 mod disk;
 mod error;
@@ -19,13 +17,11 @@ mod open_error;
 mod pick;
 mod shadow;
 mod slot_file;
-#[cfg(test)]
-mod tests;
 
 pub use dir_disk::DirDisk;
 pub use disk::Disk;
 pub use error::DeviceError;
-pub use folder::Folder;
+pub use folder::{FOLDER_SLOTS, Folder};
 pub use fused::Fused;
 pub use laws::crash_outcomes;
 pub use mem_disk::MemDisk;

@@ -7,7 +7,7 @@ use Rattle.sd_gate.specs.declared.call.Call.{Call}
 use Rattle.sd_gate.specs.declared.call.Call.TheVariants.{Len, Read, Write, WriteHeader, Close, Open, Cut, Sync}
 use Rattle.sd_gate.specs.declared.phase.Phase.{Phase}
 use Rattle.sd_gate.specs.declared.phase.Phase.TheVariants.{Raw, RawClosing, Whole, Closing, Shut, ShutSynced, Bare, Writing, Ready, Opening, Doubt, DoubtSynced}
-use Rattle.sd_gate.specs.Calls.{contents_after, Makes, IsBehindGate, IsSound, call_of}
+use Rattle.sd_gate.specs.Calls.{contents_after, Makes, IsBehindGate, IsLook, IsSound, call_of}
 use Rattle.sd_gate.specs.declared.order.Order.{Order}
 use Rattle.sd_gate.specs.declared.order.Order.TheVariants.{Len as LenOrder, Read as ReadOrder, Write as WriteOrder, WriteHeader as HeaderOrder, Close as CloseOrder, Open as OpenOrder, Cut as CutOrder, Sync as SyncOrder}
 use Rattle.sd_gate.specs.Phases.{may_open, is_ready, after, body_after}
@@ -69,7 +69,7 @@ module _ (slot : ℕ) (bytes : List ℕ) (old new : List (List ℕ)) (before now
   follows Sync false phase body made ready fits = slot_kept slot old before made.now_read _ body new now made.torn made.crash (slot_given_up slot old before made.now_read phase body fits)
 
 -- a call changes one slot
-makes_elsewhere : (call : Call) (bytes : List ℕ) (slot : ℕ) (old new : List (List ℕ)) (other : ℕ) → other ≢ slot → Makes call bytes slot old new
+pub makes_elsewhere : (call : Call) (bytes : List ℕ) (slot : ℕ) (old new : List (List ℕ)) (other : ℕ) → other ≢ slot → Makes call bytes slot old new
     → file_at new other ≡ file_at old other
 makes_elsewhere Len bytes slot old new other apart makes = ap (λ c. file_at c other) makes
 makes_elsewhere (Read at) bytes slot old new other apart makes = ap (λ c. file_at c other) makes
@@ -79,6 +79,28 @@ makes_elsewhere Close bytes slot old new other apart makes = makes.others other 
 makes_elsewhere Open bytes slot old new other apart makes = makes.others other apart
 makes_elsewhere Cut bytes slot old new other apart makes = makes.others other apart
 makes_elsewhere Sync bytes slot old new other apart makes = ap (λ c. file_at c other) makes
+
+-- and no call changes how many there are
+pub makes_as_many : (call : Call) (bytes : List ℕ) (slot : ℕ) (old new : List (List ℕ)) → Makes call bytes slot old new → length new ≡ length old
+makes_as_many Len bytes slot old new makes = ap length makes
+makes_as_many (Read at) bytes slot old new makes = ap length makes
+makes_as_many (Write at) bytes slot old new makes = makes.count
+makes_as_many WriteHeader bytes slot old new makes = makes.count
+makes_as_many Close bytes slot old new makes = makes.count
+makes_as_many Open bytes slot old new makes = makes.count
+makes_as_many Cut bytes slot old new makes = makes.count
+makes_as_many Sync bytes slot old new makes = ap length makes
+
+-- one that only looks changes nothing
+pub makes_nothing : (call : Call) (bytes : List ℕ) (slot : ℕ) (old new : List (List ℕ)) → IsLook call → Makes call bytes slot old new → new ≡ old
+makes_nothing Len bytes slot old new looks makes = makes
+makes_nothing (Read at) bytes slot old new looks makes = makes
+makes_nothing (Write at) bytes slot old new looks makes = absurd looks
+makes_nothing WriteHeader bytes slot old new looks makes = absurd looks
+makes_nothing Close bytes slot old new looks makes = absurd looks
+makes_nothing Open bytes slot old new looks makes = absurd looks
+makes_nothing Cut bytes slot old new looks makes = absurd looks
+makes_nothing Sync bytes slot old new looks makes = makes
 
 pub kept_elsewhere : (call : Call) (bytes : List ℕ) (slot : ℕ) (old new : List (List ℕ)) (before now : List (List ℕ) → Type 0)
     → Makes call bytes slot old new → Follows (Makes call bytes slot) before now

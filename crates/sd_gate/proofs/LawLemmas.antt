@@ -1,7 +1,9 @@
 -- The laws of the phases.
-use Rattle.std.proofs.Common.{◌≡◌, ◌≢◌, ⊎_elim, inl, inr, ℕ, ◌<◌, ◌≤◌, true, false, List, [], ◌∷◌, length, drop, slice_index, slice_range, ◌+◌, refl, sym, ◌∙◌, ap, subst, arith}
-use Rattle.std.proofs.lemmas.Bool.{cases_eq, cases_lt}
+use Rattle.std.proofs.Common.{◌≡◌, ◌≢◌, ⊎_elim, inl, inr, ℕ, ◌<◌, ◌≤◌, true, false, List, [], ◌∷◌, length, drop, map, slice_get, slice_index, slice_range, Some, ◌+◌, refl, sym, ◌∙◌, ap, subst, arith}
+use Rattle.std.proofs.lemmas.Bool.{cases_eq, cases_lt, false≢true}
 use Rattle.std.proofs.lemmas.Bool.Decides.{nat_tests}
+use Rattle.std.proofs.lemmas.List.{get_or-map, length-map}
+use Rattle.std.proofs.lemmas.Option.{slice_get_within, get_or_from_slice_get}
 use Rattle.sd_disk.specs.Contents.{file_at}
 use Rattle.sd_disk.specs.Crash.{OnlyAt}
 use Rattle.sd_image.specs.declared.header.Header.{Header}
@@ -10,10 +12,9 @@ use Rattle.sd_image.specs.Image.{gate, is_open}
 use Rattle.sd_gate.specs.declared.call.Call.TheVariants.{Write, WriteHeader, Close, Open, Cut, Sync}
 use Rattle.sd_gate.specs.declared.phase.Phase.{Phase}
 use Rattle.sd_gate.specs.declared.phase.Phase.TheVariants.{Raw, RawClosing, Whole, Closing, Shut, ShutSynced, Bare, Writing, Ready, Opening, Doubt, DoubtSynced}
-use Rattle.sd_gate.specs.declared.slot_state.SlotState.{SlotState}
 use Rattle.sd_gate.specs.Fits.{IsClosed, IsBehind, IsShort, Leaves, Reads, SlotFits}
-use Rattle.sd_gate.specs.Laws.{IsClosedOrWhole, CrashLeaves, found_phase, phase_told, InspectionTells, Leads, no_call, one_call, MayFormat, raw, shut, bare, found_shut, whole, doubt, PlansLead}
-use Rattle.sd_gate.specs.Phases.{is_ready, after, body_after}
+use Rattle.sd_gate.specs.Laws.{IsClosedOrWhole, CrashLeaves, found_phase, phase_told, InspectionTells, Leads, no_call, one_call, PlansLead, AllFoundFit}
+use Rattle.sd_gate.specs.Phases.{may_close, may_write, closing, filled, body_after, state_of}
 use Rattle.sd_gate.specs.Sequences.{format_calls, closing_calls, body_calls, table_place}
 use Rattle.sd_gate.proofs.FitLemmas.{behind_is_closed}
 
@@ -43,27 +44,48 @@ leaves_whole_or_closed Opening body file is = behind_whole body file is
 leaves_whole_or_closed Doubt body file is = behind_whole body file is
 leaves_whole_or_closed DoubtSynced body file is = behind_whole body file is
 
-cut_leads : (body : List ℕ) → Leads Shut body ((Cut, []) ∷ []) Bare []
-cut_leads body = one_call Shut Bare body [] Cut [] [] refl (no_call Bare [])
+cut_leads : (phase : Phase) (body : List ℕ) → may_write phase ≡ true → Leads phase body ((Cut, []) ∷ []) Bare []
+cut_leads phase body ready = one_call phase Bare body [] Cut [] [] ready (no_call Bare [])
 
-closed_leads : (body : List ℕ) → Leads Closing body ((Sync, []) ∷ (Cut, []) ∷ []) Bare []
-closed_leads body = one_call Closing Bare body [] Sync [] ((Cut, []) ∷ []) refl (cut_leads body)
+-- a gate that may be open is closed
+open_leads : (phase : Phase) (body : List ℕ) → may_close phase ≡ true → closing phase ≡ Closing → Leads phase body closing_calls Bare []
+open_leads phase body ready is = one_call phase Bare body [] Close [] ((Sync, []) ∷ (Cut, []) ∷ []) ready
+    (subst (λ p. Leads p body ((Sync, []) ∷ (Cut, []) ∷ []) Bare []) (sym is)
+    (one_call Closing Bare body [] Sync [] ((Cut, []) ∷ []) refl (cut_leads Shut body refl)))
 
-close_leads : (phase : Phase) (body : List ℕ) → is_ready phase Close ≡ true → after phase Close true ≡ Closing → Leads phase body closing_calls Bare []
-close_leads phase body ready is = one_call phase Bare body [] Close [] ((Sync, []) ∷ (Cut, []) ∷ []) ready
-    (subst (λ p. Leads p body ((Sync, []) ∷ (Cut, []) ∷ []) Bare []) (sym is) (closed_leads body))
+-- and so is a file that is shorter than a header
+short_leads : (phase : Phase) (body : List ℕ) → may_close phase ≡ true → closing phase ≡ RawClosing → Leads phase body closing_calls Bare []
+short_leads phase body ready is = one_call phase Bare body [] Close [] ((Sync, []) ∷ (Cut, []) ∷ []) ready
+    (subst (λ p. Leads p body ((Sync, []) ∷ (Cut, []) ∷ []) Bare []) (sym is)
+    (one_call RawClosing Bare body [] Sync [] ((Cut, []) ∷ []) refl (cut_leads Shut body refl)))
 
-raw_leads : (body : List ℕ) → Leads Raw body closing_calls Bare []
-raw_leads body = one_call Raw Bare body [] Close [] ((Sync, []) ∷ (Cut, []) ∷ []) refl
-    (one_call RawClosing Bare body [] Sync [] ((Cut, []) ∷ []) refl (cut_leads body))
+pub close_leads : (phase : Phase) (body : List ℕ) → may_close phase ≡ true → Leads phase body closing_calls Bare []
+close_leads Raw body ready = short_leads Raw body refl refl
+close_leads RawClosing body ready = short_leads RawClosing body refl refl
+close_leads Whole body ready = open_leads Whole body refl refl
+close_leads Closing body ready = open_leads Closing body refl refl
+close_leads Shut body ready = absurd (false≢true ready)
+close_leads ShutSynced body ready = absurd (false≢true ready)
+close_leads Bare body ready = absurd (false≢true ready)
+close_leads Writing body ready = absurd (false≢true ready)
+close_leads Ready body ready = absurd (false≢true ready)
+close_leads Opening body ready = open_leads Opening body refl refl
+close_leads Doubt body ready = open_leads Doubt body refl refl
+close_leads DoubtSynced body ready = open_leads DoubtSynced body refl refl
 
-format_leads : (state : SlotState) (phase : Phase) (body : List ℕ) → MayFormat state phase → Leads phase body (format_calls state) Bare []
-format_leads _ _ body raw = raw_leads body
-format_leads _ _ body shut = cut_leads body
-format_leads _ _ body bare = one_call Bare Bare body [] Cut [] [] refl (no_call Bare [])
-format_leads _ _ body found_shut = one_call ShutSynced Bare body [] Cut [] [] refl (no_call Bare [])
-format_leads _ _ body whole = close_leads Whole body refl refl
-format_leads _ _ body doubt = close_leads Doubt body refl refl
+format_leads : (phase : Phase) (body : List ℕ) → Leads phase body (format_calls (state_of phase)) Bare []
+format_leads Raw body = close_leads Raw body refl
+format_leads RawClosing body = close_leads RawClosing body refl
+format_leads Whole body = close_leads Whole body refl
+format_leads Closing body = close_leads Closing body refl
+format_leads Shut body = cut_leads Shut body refl
+format_leads ShutSynced body = cut_leads ShutSynced body refl
+format_leads Bare body = cut_leads Bare body refl
+format_leads Writing body = cut_leads Writing body refl
+format_leads Ready body = cut_leads Ready body refl
+format_leads Opening body = close_leads Opening body refl
+format_leads Doubt body = close_leads Doubt body refl
+format_leads DoubtSynced body = close_leads DoubtSynced body refl
 
 opened_leads : (body : List ℕ) → Leads Writing body ((Sync, []) ∷ (Open, []) ∷ (Sync, []) ∷ []) Whole body
 opened_leads body = one_call Writing Whole body body Sync [] ((Open, []) ∷ (Sync, []) ∷ []) refl
@@ -75,8 +97,8 @@ headed_leads : (body : List ℕ) (header : Header)
 headed_leads body header = one_call Writing Whole body (body_after body WriteHeader (header_text header)) WriteHeader (header_text header)
     ((Sync, []) ∷ (Open, []) ∷ (Sync, []) ∷ []) refl (opened_leads (body_after body WriteHeader (header_text header)))
 
-body_leads : (phase : Phase) (body : List ℕ) (header : Header) (table : List ℕ) → is_ready phase (Write (table_place header)) ≡ true
-    → after phase (Write (table_place header)) true ≡ Writing → Leads phase body (body_calls header table) Whole
+body_leads : (phase : Phase) (body : List ℕ) (header : Header) (table : List ℕ) → may_write phase ≡ true → filled phase ≡ Writing
+    → Leads phase body (body_calls header table) Whole
     (body_after (body_after body (Write (table_place header)) table) WriteHeader (header_text header))
 body_leads phase body header table ready is =
     let tabled : List ℕ = body_after body (Write (table_place header)) table in
@@ -88,11 +110,10 @@ body_leads phase body header table ready is =
 pub plans_lead : PlansLead
 plans_lead = record {
   format = format_leads;
-  first_page = λ place page. one_call Bare Writing [] (body_after [] (Write place) page) (Write place) page [] refl (no_call Writing (body_after [] (Write place) page));
-  next_page = λ body place page. one_call Writing Writing body (body_after body (Write place) page) (Write place) page [] refl (no_call Writing (body_after body (Write place) page));
-  empty_body = λ header table. body_leads Bare [] header table refl refl;
-  filled_body = λ body header table. body_leads Writing body header table refl refl;
-  retire = λ body. close_leads Whole body refl refl;
+  retire = close_leads;
+  page = λ phase body place page ready. one_call phase (filled phase) body (body_after body (Write place) page) (Write place) page [] ready
+      (no_call (filled phase) (body_after body (Write place) page));
+  close_body = body_leads;
 }
 
 found_raw : (file : List ℕ) → length file < 4096 → found_phase file ≡ Raw
@@ -141,3 +162,24 @@ module _ (slot : ℕ) (contents : List (List ℕ)) (may_leave : List (List ℕ) 
       (λ other. let closed : IsClosed file = record { some = omega (arith, long); shut = other } in found_as Shut (found_closed file long other) closed closed)
       (cases_eq (slice_index file 0) gate))
       (cases_lt (length file) 4096)
+
+-- the phase and the body of a slot, by its file
+module _ (contents : List (List ℕ)) (slot : ℕ) (phase : Phase) (is : slice_get (map found_phase contents) slot ≡ Some phase) where
+  there : slot < length contents
+  there = subst (λ n. slot < n) (length-map contents found_phase) (slice_get_within (map found_phase contents) slot phase is)
+
+  phase_is : found_phase (file_at contents slot) ≡ phase
+  phase_is = sym (get_or-map found_phase contents slot [] Raw there) ∙ get_or_from_slice_get (map found_phase contents) slot phase Raw is
+
+  body_is : file_at (map (drop 1) contents) slot ≡ drop 1 (file_at contents slot)
+  body_is = get_or-map (drop 1) contents slot [] [] there
+
+pub all_found : (contents : List (List ℕ)) (may_leave : List (List ℕ) → Type 0) → AllFoundFit contents may_leave
+all_found contents may_leave synced = record {
+  count = length-map contents (drop 1) ∙ sym (length-map contents found_phase);
+  slots = sym (length-map contents found_phase);
+  each = λ slot phase is.
+      subst (λ p. SlotFits p (file_at (map (drop 1) contents) slot) slot contents may_leave) (phase_is contents slot phase is)
+      (subst (λ b. SlotFits (found_phase (file_at contents slot)) b slot contents may_leave) (sym (body_is contents slot phase is))
+      (found slot contents may_leave (synced slot (there contents slot phase is))));
+}

@@ -2,5 +2,10 @@ mod BodyLemmas
 mod CallLemmas
 mod FitLemmas
 mod LawLemmas
+mod LeftLemmas
 mod PhaseLemmas
 mod SlotsLemmas
+mod PlanLemmas
+mod TakeLemmas
+mod LookLemmas
+mod CommuteLemmas

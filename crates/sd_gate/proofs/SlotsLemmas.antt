@@ -12,15 +12,16 @@ use Rattle.sd_gate.specs.declared.phase.Phase.TheVariants.{Raw}
 use Rattle.sd_gate.specs.Fits.{SlotFits, DiskFits, DiskLeaves}
 
 module _ (phases : List Phase) (bodies old new : List (List ℕ)) (before now : List (List ℕ) → Type 0) (slot : ℕ) (phase next : Phase) (body : List ℕ) where
-  pub each_slot : DiskFits phases bodies old before → slice_get phases slot ≡ Some phase
+  pub each_slot : length new ≡ length old → DiskFits phases bodies old before → slice_get phases slot ≡ Some phase
       → (SlotFits phase (file_at bodies slot) slot old before → SlotFits next body slot new now)
       → ((other : ℕ) (p : Phase) (b : List ℕ) → other ≢ slot → SlotFits p b other old before → SlotFits p b other new now)
       → DiskFits (slice_set phases slot next) (slice_set bodies slot body) new now
-  each_slot fits is here elsewhere =
+  each_slot same_count fits is here elsewhere =
       let there : slot < length phases = slice_get_within phases slot phase is in
       let stored : slot < length bodies = omega (arith, there, fits.count) in
       record {
         count = length-set bodies slot body ∙ fits.count ∙ sym (length-set phases slot next);
+        slots = same_count ∙ fits.slots ∙ sym (length-set phases slot next);
         each = λ number p found. ⊎_elim
             (λ same.
             let now_next : next ≡ p = sym (get_or-set_same phases slot next Raw there) ∙ ap (λ n. get_or (slice_set phases slot next) n Raw) (sym same)
@@ -39,9 +40,10 @@ module _ (phases : List Phase) (bodies old new : List (List ℕ)) (before now : 
       }
 
 -- a crash leaves each slot as its phase says
-pub each_left : (phases : List Phase) (bodies contents : List (List ℕ)) (may_leave : List (List ℕ) → Type 0) → DiskFits phases bodies contents may_leave
+pub each_left : (phases : List Phase) (bodies contents : List (List ℕ)) (may_leave : List (List ℕ) → Type 0)
+    → ((c : List (List ℕ)) → may_leave c → length c ≡ length contents) → DiskFits phases bodies contents may_leave
     → Within may_leave (DiskLeaves phases bodies)
-each_left phases bodies contents may_leave fits = λ c may. record { each = λ slot phase is. (fits.each slot phase is).leaves c may }
+each_left phases bodies contents may_leave same_slots fits = λ c may. record { count = same_slots c may ∙ fits.slots; each = λ slot phase is. (fits.each slot phase is).leaves c may }
 
 module _ {D : Type 0} (g : Ghosts D) where
   -- a crash at any moment of a call leaves what it may leave before or after

@@ -54,6 +54,17 @@ IsSound OpenOrder = Unit {0}
 IsSound CutOrder = Unit {0}
 IsSound SyncOrder = Unit {0}
 
+-- a call that only looks: it asks for the length or for bytes, or waits for the device
+abbrev pub IsLook : Call → Type 0
+IsLook Len = Unit {0}
+IsLook (Read at) = Unit {0}
+IsLook (Write at) = ⊥
+IsLook WriteHeader = ⊥
+IsLook Close = ⊥
+IsLook Open = ⊥
+IsLook Cut = ⊥
+IsLook Sync = Unit {0}
+
 -- the bytes of a read stand in the file, and a cut doesn't lengthen it
 abbrev pub IsInside : Call → List ℕ → List ℕ → Type 0
 IsInside Len bytes file = Unit {0}
@@ -137,7 +148,8 @@ Tells Open file answer bytes = Unit {0}
 Tells Cut file answer bytes = Unit {0}
 Tells Sync file answer bytes = Unit {0}
 
--- a call that failed has a failure of the device as its cause
+-- the count of the device's failures rises in a call that failed, and in no other
 pub record HasCause (before now : ℕ) (answer : Answer) : Type 0 where
   pub later : before ≤ now
   pub failed : is_done answer ≡ false → before < now
+  pub done : is_done answer ≡ true → now ≡ before

@@ -80,8 +80,10 @@ pub record SlotFits (phase : Phase) (body : List ℕ) (slot : ℕ) (contents : L
 -- each slot of a disk is in its phase, with its body
 pub record DiskFits (phases : List Phase) (bodies : List (List ℕ)) (contents : List (List ℕ)) (may_leave : List (List ℕ) → Type 0) : Type 0 where
   pub count : length bodies ≡ length phases
+  pub slots : length contents ≡ length phases
   pub each : (slot : ℕ) (phase : Phase) → slice_get phases slot ≡ Some phase → SlotFits phase (file_at bodies slot) slot contents may_leave
 
 -- contents in which each slot is as a crash may leave it in its phase
 pub record DiskLeaves (phases : List Phase) (bodies c : List (List ℕ)) : Type 0 where
+  pub count : length c ≡ length phases
   pub each : (slot : ℕ) (phase : Phase) → slice_get phases slot ≡ Some phase → Leaves phase (file_at bodies slot) (file_at c slot)

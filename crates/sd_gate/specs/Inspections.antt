@@ -1,5 +1,5 @@
 -- The calls of an inspection: what is found decides what follows.
-use Rattle.std.specs.Prelude.{ℕ, ◌==◌, ◌&&◌, nat_le, if◌then◌else◌, List, [], ◌∷◌, length, slice_index, Result, Ok, Err, Option, Some, None}
+use Rattle.std.specs.Prelude.{ℕ, ◌==◌, ◌&&◌, nat_le, if◌then◌else◌, List, [], ◌∷◌, length, slice_index, Result, Ok, Err, Option, Some, None, IsSome}
 use Rattle.sd_image.specs.declared.header.Header.{Header}
 use Rattle.sd_image.specs.declared.reason.Reason.{Reason}
 use Rattle.sd_image.specs.Image.{gate}
@@ -19,6 +19,12 @@ pub data Awaits : Type 0 where
   -- of a file of so many bytes
   the_header : ℕ → Awaits
 
+-- how many calls may follow those that are known
+abbrev pub calls_awaited : Awaits → ℕ
+calls_awaited nothing = 0
+calls_awaited the_length = 2
+calls_awaited (the_header len) = 1
+
 -- the calls that are known
 abbrev pub calls_of_stage : InspectionStage → Calls
 calls_of_stage SyncStage = (Sync, []) ∷ (Len, []) ∷ []
@@ -37,6 +43,16 @@ awaits_of (First len) = the_header len
 awaits_of (AwaitFirst len) = the_header len
 awaits_of (Table at len) = nothing
 awaits_of Done = nothing
+
+-- the length is known where bytes are read
+abbrev pub KnowsLength : InspectionStage → Option ℕ → Type 0
+KnowsLength SyncStage len = Unit {0}
+KnowsLength LenStage len = Unit {0}
+KnowsLength AwaitLen len = Unit {0}
+KnowsLength (First size) len = IsSome len
+KnowsLength (AwaitFirst size) len = IsSome len
+KnowsLength (Table at size) len = IsSome len
+KnowsLength Done len = Unit {0}
 
 -- the next call is a read
 abbrev pub IsReadNext : Calls → Type 0

@@ -1,5 +1,5 @@
 -- What the phases promise the layers above.
-use Rattle.std.specs.Prelude.{◌≡◌, ◌⊎◌, ℕ, ◌==◌, ◌+◌, ◌≤◌, nat_lt, true, false, if◌then◌else◌, List, [], ◌∷◌, ◌++◌, length, drop, slice_index, slice_range}
+use Rattle.std.specs.Prelude.{◌≡◌, ◌≢◌, ◌⊎◌, ℕ, ◌==◌, ◌+◌, ◌<◌, ◌≤◌, nat_lt, map, true, false, if◌then◌else◌, List, [], ◌∷◌, ◌++◌, length, drop, slice_index, slice_range, Option, Some, None}
 use Rattle.std.specs.List.{concat, AllByRecursion}
 use Rattle.sd_disk.specs.Contents.{file_at}
 use Rattle.sd_disk.specs.Crash.{OnlyAt}
@@ -11,10 +11,8 @@ use Rattle.sd_gate.specs.declared.call.Call.{Call}
 use Rattle.sd_gate.specs.declared.call.Call.TheVariants.{Write, WriteHeader, Cut}
 use Rattle.sd_gate.specs.declared.phase.Phase.{Phase}
 use Rattle.sd_gate.specs.declared.phase.Phase.TheVariants.{Raw, RawClosing, Whole, Closing, Shut, ShutSynced, Bare, Writing, Ready, Opening, Doubt, DoubtSynced}
-use Rattle.sd_gate.specs.declared.slot_state.SlotState.{SlotState}
-use Rattle.sd_gate.specs.declared.slot_state.SlotState.TheVariants.{Raw as RawSlot, Closed, Open as OpenSlot}
-use Rattle.sd_gate.specs.Fits.{Leaves, SlotFits}
-use Rattle.sd_gate.specs.Phases.{is_ready, given_up, after, body_after}
+use Rattle.sd_gate.specs.Fits.{Leaves, SlotFits, DiskFits}
+use Rattle.sd_gate.specs.Phases.{is_ready, may_close, may_write, filled, given_up, after, body_after, state_of}
 use Rattle.sd_gate.specs.Sequences.{Calls, format_calls, closing_calls, body_calls, data_place, table_place}
 
 -- the slot holds no image, or this one
@@ -53,9 +51,20 @@ abbrev pub FoundFits : List (List ℕ) → (List (List ℕ) → Type 0) → Type
 FoundFits contents may_leave = (slot : ℕ) → OnlyAt slot (file_at contents slot) may_leave
     → SlotFits (found_phase (file_at contents slot)) (drop 1 (file_at contents slot)) slot contents may_leave
 
+-- where every slot was synced, so is the disk, with the bodies that its files have
+abbrev pub AllFoundFit : List (List ℕ) → (List (List ℕ) → Type 0) → Type 0
+AllFoundFit contents may_leave = ((slot : ℕ) → slot < length contents → OnlyAt slot (file_at contents slot) may_leave)
+    → DiskFits (map found_phase contents) (map (drop 1) contents) contents may_leave
+
 -- the phase that an inspection tells, by the length and the first bytes that came back
 abbrev pub phase_told : ℕ → List ℕ → Phase
 phase_told len first = if nat_lt len 4096 then Raw else (if slice_index first 0 == gate then Whole else Shut)
+
+-- the phase that is told by what came back of an inspection, as far as it came
+abbrev pub phase_found : Option ℕ → Option (List ℕ) → Option Phase
+phase_found None first = None
+phase_found (Some len) None = if nat_lt len 4096 then Some Raw else None
+phase_found (Some len) (Some first) = Some (phase_told len first)
 
 -- it is the phase of the file that was inspected
 abbrev pub InspectionTells : Type 0
@@ -67,25 +76,16 @@ pub data Leads : Phase → List ℕ → Calls → Phase → List ℕ → Type 0 
   one_call : (phase last : Phase) (body final : List ℕ) (call : Call) (bytes : List ℕ) (calls : Calls) → is_ready phase call ≡ true
       → Leads (after phase call true) (body_after body call bytes) calls last final → Leads phase body ((call, bytes) ∷ calls) last final
 
--- the states in which a slot may be formatted, by its phase
-pub data MayFormat : SlotState → Phase → Type 0 where
-  raw : MayFormat RawSlot Raw
-  shut : MayFormat Closed Shut
-  bare : MayFormat Closed Bare
-  found_shut : MayFormat Closed ShutSynced
-  whole : MayFormat OpenSlot Whole
-  doubt : MayFormat OpenSlot Doubt
-
--- each plan that writes takes its slot from one phase to the next
+-- each plan that writes takes its slot from each phase that is ready for it to the next
 pub record PlansLead : Type 0 where
-  pub format : (state : SlotState) (phase : Phase) (body : List ℕ) → MayFormat state phase → Leads phase body (format_calls state) Bare []
-  pub first_page : (place : ℕ) (page : List ℕ) → Leads Bare [] ((Write place, page) ∷ []) Writing (body_after [] (Write place) page)
-  pub next_page : (body : List ℕ) (place : ℕ) (page : List ℕ) → Leads Writing body ((Write place, page) ∷ []) Writing (body_after body (Write place) page)
-  pub empty_body : (header : Header) (table : List ℕ) → Leads Bare [] (body_calls header table) Whole
-      (body_after (body_after [] (Write (table_place header)) table) WriteHeader (header_text header))
-  pub filled_body : (body : List ℕ) (header : Header) (table : List ℕ) → Leads Writing body (body_calls header table) Whole
+  pub format : (phase : Phase) (body : List ℕ) → Leads phase body (format_calls (state_of phase)) Bare []
+  pub retire : (phase : Phase) (body : List ℕ) → may_close phase ≡ true → Leads phase body closing_calls Bare []
+  pub page : (phase : Phase) (body : List ℕ) (place : ℕ) (page : List ℕ) → may_write phase ≡ true
+      → Leads phase body ((Write place, page) ∷ []) (filled phase) (body_after body (Write place) page)
+  -- of a slot that is one closed byte, or that a job fills
+  pub close_body : (phase : Phase) (body : List ℕ) (header : Header) (table : List ℕ) → may_write phase ≡ true → filled phase ≡ Writing
+      → Leads phase body (body_calls header table) Whole
       (body_after (body_after body (Write (table_place header)) table) WriteHeader (header_text header))
-  pub retire : (body : List ℕ) → Leads Whole body closing_calls Bare []
 
 -- each has the bytes of a page
 abbrev pub AreWhole : List (List ℕ) → Type 0
@@ -112,3 +112,14 @@ pub record BodiesFill : Type 0 where
 abbrev pub CutsFit : List (List ℕ) → (List (List ℕ) → Type 0) → Type 0
 CutsFit contents may_leave = (phase : Phase) (body : List ℕ) (slot : ℕ) → is_ready phase Cut ≡ true → SlotFits phase body slot contents may_leave
     → 1 ≤ length (file_at contents slot)
+
+-- the bytes of two writes, at these places, don't overlap
+abbrev pub AreApart : ℕ → List ℕ → ℕ → List ℕ → Type 0
+AreApart i first j second = (i + length first ≤ j) ⊎ (j + length second ≤ i)
+
+-- two writes behind the gate that don't overlap leave one body in either order, and those of two data pages don't overlap
+pub record WritesCommute : Type 0 where
+  pub apart : (body : List ℕ) (i j : ℕ) (first second : List ℕ) → 0 < i → 0 < j → AreApart i first j second
+      → body_after (body_after body (Write i) first) (Write j) second ≡ body_after (body_after body (Write j) second) (Write i) first
+  pub pages : (i j : ℕ) (first second : List ℕ) → i ≢ j → length first ≡ 4096 → length second ≡ 4096
+      → AreApart (data_place i) first (data_place j) second

@@ -3,6 +3,8 @@ pub mod Fits
 pub mod Inspections
 pub mod Laws
 pub mod Phases
+pub mod Looks
+pub mod PlanRuns
 pub mod Plans
 pub mod Sequences
 pub mod Requests

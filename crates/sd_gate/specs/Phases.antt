@@ -4,8 +4,25 @@ use Rattle.sd_disk.specs.Contents.{file_at, file_after_write}
 use Rattle.sd_gate.specs.declared.call.Call.{Call}
 use Rattle.sd_gate.specs.declared.call.Call.TheVariants.{Len, Read, Write, WriteHeader, Close, Open, Cut, Sync}
 use Rattle.sd_gate.specs.declared.request_id.RequestId.{RequestId}
+use Rattle.sd_gate.specs.declared.slot_state.SlotState.{SlotState}
+use Rattle.sd_gate.specs.declared.slot_state.SlotState.TheVariants.{Raw as RawSlot, Closed, Open as OpenSlot, Writing as WritingSlot}
 use Rattle.sd_gate.specs.declared.phase.Phase.{Phase}
 use Rattle.sd_gate.specs.declared.phase.Phase.TheVariants.{Raw, RawClosing, Whole, Closing, Shut, ShutSynced, Bare, Writing, Ready, Opening, Doubt, DoubtSynced}
+
+-- what is known of a slot in this phase
+abbrev pub state_of : Phase → SlotState
+state_of Raw = RawSlot
+state_of RawClosing = RawSlot
+state_of Whole = OpenSlot
+state_of Closing = OpenSlot
+state_of Shut = Closed
+state_of ShutSynced = Closed
+state_of Bare = Closed
+state_of Writing = WritingSlot
+state_of Ready = WritingSlot
+state_of Opening = OpenSlot
+state_of Doubt = OpenSlot
+state_of DoubtSynced = OpenSlot
 
 -- a 0 may be written over the gate: nobody needs what stands behind it
 abbrev pub may_close : Phase → Bool

@@ -1,5 +1,5 @@
 -- A plan as it is seen, and what its calls do to it.
-use Rattle.std.specs.Prelude.{◌≡◌, ℕ, Bool, true, false, if◌then◌else◌, List, [], ◌∷◌, Option, None, Some}
+use Rattle.std.specs.Prelude.{◌≡◌, ℕ, ◌+◌, ◌*◌, Bool, true, false, if◌then◌else◌, List, [], ◌∷◌, length, Option, None, Some}
 use Rattle.std.specs.Option.{option_map}
 use Rattle.sd_gate.specs.declared.answer.Answer.{Answer}
 use Rattle.sd_gate.specs.declared.answer.Answer.TheVariants.{Done as DoneAnswer, Len as LenIs, Failed as FailedAnswer}
@@ -12,7 +12,7 @@ use Rattle.sd_gate.specs.declared.settled.Settled.TheVariants.{More, Finished, F
 use Rattle.sd_gate.specs.Calls.{is_done, buffer_back}
 use Rattle.sd_gate.specs.Requests.{Asked, Made}
 use Rattle.sd_gate.specs.Sequences.{Calls, calls_of_sequence, AreSound}
-use Rattle.sd_gate.specs.Inspections.{Awaits, nothing, calls_of_stage, awaits_of, Following, calls_then}
+use Rattle.sd_gate.specs.Inspections.{KnowsLength, Awaits, nothing, calls_awaited, calls_of_stage, awaits_of, Following, calls_then}
 
 abbrev pub calls_of : Job → Calls
 calls_of (SequenceJob sequence) = calls_of_sequence sequence
@@ -25,6 +25,11 @@ awaited_by (InspectionJob inspection) = awaits_of inspection.stage
 abbrev pub IsSoundJob : Job → Type 0
 IsSoundJob (SequenceJob sequence) = AreSound sequence
 IsSoundJob (InspectionJob inspection) = Unit {0}
+
+-- an inspection that reads bytes knows the length
+abbrev pub KnowsItsLength : Job → Option ℕ → Type 0
+KnowsItsLength (SequenceJob sequence) len = Unit {0}
+KnowsItsLength (InspectionJob inspection) len = KnowsLength inspection.stage len
 
 -- what came back to a plan: the length that it asked for, and its buffers
 pub record Back : Type 0 where
@@ -74,6 +79,14 @@ pub record Planned : Type 0 where
 -- a plan that begins with these calls
 abbrev pub begun : ℕ → Calls → Awaits → Planned
 begun slot calls awaits = record { slot = slot; calls = calls; awaits = awaits; out = None; found = nothing_back }
+
+abbrev pub is_one : Option RequestId → ℕ
+is_one None = 0
+is_one (Some id) = 1
+
+-- how many takes and settles a plan has at most before it
+abbrev pub steps_left : Planned → ℕ
+steps_left plan = 2 * (length plan.calls + calls_awaited plan.awaits) + is_one plan.out
 
 -- the plan gives out its next call, and waits for the outcome
 pub record Gives (old new : Planned) (request : Asked) : Type 0 where

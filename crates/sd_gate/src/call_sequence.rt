@@ -1,5 +1,5 @@
 //! Plans whose calls are known from the start.
-ghost use Rattle.std.specs.Prelude.{◌≡◌, ◌↔◌, [], ◌∷◌, IsTrue, MatchOption};
+ghost use Rattle.std.specs.Prelude.{◌≡◌, ◌↔◌, ◌≤◌, length, [], ◌∷◌, IsTrue, MatchOption};
 ghost use Rattle.sd_gate.specs.Calls.{call_of, bytes_of, IsSound};
 ghost use Rattle.sd_gate.specs.Sequences.{calls_of_sequence, AreSound};
 
@@ -61,6 +61,21 @@ impl CallSequence {
             Self::Open => Some((Order::Open, Self::SyncOpen)),
             Self::SyncOpen => Some((Order::Sync, Self::Done)),
             Self::Done => None,
+        }
+    }
+
+    /// How many calls are left.
+    pub fn calls_left(&self) -> usize
+        ensures count { result ≡ length (calls_of_sequence self.now) }
+        ensures few { result ≤ 5 }
+    {
+        match self {
+            Self::Table { .. } => 5,
+            Self::Header { .. } => 4,
+            Self::Close | Self::SyncBody => 3,
+            Self::SyncClosed | Self::Open => 2,
+            Self::Cut | Self::ReadPage { .. } | Self::WritePage { .. } | Self::SyncOpen => 1,
+            Self::Done => 0,
         }
     }
 

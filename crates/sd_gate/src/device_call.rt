@@ -1,9 +1,10 @@
 //! Making one device call.
-ghost use Rattle.std.specs.Prelude.{◌≡◌, ◌≢◌, ◌⊎◌, ◌+◌, ◌<◌, ℕ, true, List, length, MatchResult};
+ghost use Rattle.std.specs.Prelude.{◌≡◌, ◌≢◌, ◌⊎◌, ◌<◌, ℕ, true, List, length, MatchResult};
 ghost use Rattle.sd_disk.specs.Contents.{file_at};
-ghost use Rattle.sd_disk.specs.Crash.{Follows, OnlyAt, Elapses};
+ghost use Rattle.sd_disk.specs.Crash.{Follows, OnlyAt};
+ghost use Rattle.sd_disk.specs.OneCall.{IsOneCall};
 ghost use Rattle.sd_disk.specs.Spans.{LeavesOnly};
-ghost use Rattle.sd_gate.specs.Calls.{call_of, bytes_of, is_done, contents_after, Makes, IsInside, IsSound, IsAnswerTo, AreKept, Tells, HasCause};
+ghost use Rattle.sd_gate.specs.Calls.{call_of, bytes_of, is_done, contents_after, Makes, IsInside, IsSound, IsAnswerTo, IsLook, AreKept, Tells, HasCause};
 ghost use Rattle.sd_gate.specs.Phases.{is_ready, after, body_after, Waits, phases_after, bodies_after};
 ghost use Rattle.sd_gate.specs.Fits.{Leaves, SlotFits, DiskFits, DiskLeaves};
 ghost use Rattle.sd_gate.specs.declared.call.Call.TheVariants.{Sync};
@@ -51,9 +52,7 @@ fn make<D: Disk>(disk: &mut D, slot: usize, order: Order) -> (Order, Answer)
     ensures torn { Makes (call_of order) (bytes_of order) slot (D.contents disk.old) (D.contents disk.new) }
     ensures crash { Follows (Makes (call_of order) (bytes_of order) slot) (D.may_leave disk.old) (D.may_leave disk.new) }
     ensures durable { call_of order ≡ Sync → is_done result.1 ≡ true → OnlyAt slot (file_at (D.contents disk.old) slot) (D.may_leave disk.new) }
-    ensures time { Elapses (D.moment disk.old) (D.moment disk.new) (D.left_since disk.old) (D.left_since disk.new) (D.may_leave disk.new) }
-    ensures honest { D.is_honest disk.new → D.is_honest disk.old }
-    ensures one_call { D.calls disk.new ≡ D.calls disk.old + 1 }
+    ensures one_call { IsOneCall D.Disk disk.old disk.new }
     ensures cause { HasCause (D.failed disk.old) (D.failed disk.new) result.1 }
 {
     match order {
@@ -91,11 +90,13 @@ pub fn perform<D: Disk>(disk: &mut D, request: Request) -> Outcome
     ensures torn { Makes request.id.call request.bytes request.id.slot (D.contents disk.old) (D.contents disk.new) }
     ensures crash { Follows (Makes request.id.call request.bytes request.id.slot) (D.may_leave disk.old) (D.may_leave disk.new) }
     ensures durable { request.id.call ≡ Sync → is_done result.answer ≡ true → OnlyAt request.id.slot (file_at (D.contents disk.old) request.id.slot) (D.may_leave disk.new) }
-    ensures time { Elapses (D.moment disk.old) (D.moment disk.new) (D.left_since disk.old) (D.left_since disk.new) (D.may_leave disk.new) }
-    ensures honest { D.is_honest disk.new → D.is_honest disk.old }
-    // It is one call, and no other is made.
-    ensures one_call { D.calls disk.new ≡ D.calls disk.old + 1 }
+    // One call is made, and no other.
+    ensures one_call { IsOneCall D.Disk disk.old disk.new }
     ensures cause { HasCause (D.failed disk.old) (D.failed disk.new) result.answer }
+    // A call that only looks changes nothing, and every other slot keeps its file.
+    ensures looks { IsLook request.id.call → D.contents disk.new ≡ D.contents disk.old }
+    ensures others { (other : ℕ) → other ≢ request.id.slot
+        → file_at (D.contents disk.new) other ≡ file_at (D.contents disk.old) other }
     // A slot that waits for the call is afterwards in the phase that follows.
     ensures fits { (phase : Phase) (body : List ℕ) → is_ready phase request.id.call ≡ true
         → SlotFits phase body request.id.slot (D.contents disk.old) (D.may_leave disk.old)
@@ -109,7 +110,7 @@ pub fn perform<D: Disk>(disk: &mut D, request: Request) -> Outcome
         → SlotFits phase body request.id.slot (D.contents disk.old) (D.may_leave disk.old)
         → LeavesOnly D.Disk disk.old disk.new (λ c. Leaves phase body (file_at c request.id.slot)
         ⊎ Leaves (after phase request.id.call (is_done result.answer)) (body_after body request.id.call request.bytes) (file_at c request.id.slot)) }
-    // The same of all slots together.
+    // Of all slots together.
     ensures every_slot { (phases : List Phase) (bodies : List (List ℕ)) (phase : Phase) → Waits phases request.id phase
         → DiskFits phases bodies (D.contents disk.old) (D.may_leave disk.old)
         → DiskFits (phases_after phases request.id phase (is_done result.answer)) (bodies_after bodies request.id request.bytes) (D.contents disk.new) (D.may_leave disk.new) }

@@ -1,9 +1,12 @@
 //! What came back to a plan.
 ghost use Rattle.std.specs.Prelude.{◌≡◌};
 ghost use Rattle.std.specs.Option.{option_map};
+ghost use Rattle.sd_gate.specs.Laws.{phase_found};
 ghost use Rattle.sd_gate.specs.Plans.{found_of, found_after, length_told, nothing_back};
 
 use crate::answer::Answer;
+use crate::layout::{GATE, HEADER_SIZE};
+use crate::phase::Phase;
 
 /// What came back to a plan with the outcomes: of a page or a body its buffer, the first; of an inspection the length of
 /// the file, its first 4,096 bytes and its table, as far as the inspection came.
@@ -25,6 +28,19 @@ fn length_told(before: Option<usize>, answer: Answer) -> Option<usize>
 }
 
 impl Found {
+    /// The phase of a slot that was inspected, by the length and the first bytes of its file. None where the inspection
+    /// did not come so far.
+    pub fn phase(&self) -> Option<Phase>
+        ensures { result ≡ phase_found (found_of self.now).len (found_of self.now).first }
+    {
+        match (self.len, &self.first) {
+            (Some(len), _) if len < HEADER_SIZE => Some(Phase::Raw),
+            (Some(_), Some(first)) if !first.is_empty() && first[0] == GATE => Some(Phase::Whole),
+            (Some(_), Some(_)) => Some(Phase::Shut),
+            (Some(_), None) | (None, _) => None,
+        }
+    }
+
     pub(crate) fn new() -> Found
         ensures { found_of result ≡ nothing_back }
     {
@@ -35,7 +51,7 @@ impl Found {
         }
     }
 
-    /// The same with one outcome more.
+    /// With one outcome more.
     pub(crate) fn with(self, answer: Answer, buffer: Option<Vec<u8>>) -> Found
         ensures { found_of result ≡ found_after (found_of self) answer (option_map (λ b. b.items) buffer) }
     {

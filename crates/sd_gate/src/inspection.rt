@@ -1,8 +1,9 @@
 //! The inspection of a slot, whose calls depend on what is found.
-ghost use Rattle.std.specs.Prelude.{◌≡◌, ◌↔◌, ◌∷◌, [], IsTrue, IfOk, IsErr, MatchOption};
+ghost use Rattle.std.specs.Prelude.{◌≡◌, ◌↔◌, ◌+◌, ◌≤◌, ◌∷◌, [], ℕ, Option, length, IsSome, IsTrue, IfOk, IsErr, MatchOption};
 ghost use Rattle.sd_image.specs.Words.{zeros};
 ghost use Rattle.sd_gate.specs.Calls.{call_of, bytes_of, IsSound};
-ghost use Rattle.sd_gate.specs.Inspections.{calls_of_stage, awaits_of, IsReadNext, after_length, after_first, calls_then};
+ghost use Rattle.sd_gate.specs.Inspections.{KnowsLength, calls_awaited, calls_of_stage, awaits_of, IsReadNext, after_length, after_first, calls_then};
+ghost use Rattle.sd_gate.specs.Plans.{length_told};
 ghost use Rattle.std.specs.Option.{option_map};
 
 use crate::answer::Answer;
@@ -29,7 +30,8 @@ fn zeros(alloc: Global, len: usize) -> Result<Vec<u8>, AllocError>
 
 /// What follows the length.
 fn after_length(answer: Answer) -> InspectionStage
-    ensures { (calls_of_stage result, awaits_of result) ≡ after_length answer }
+    ensures calls { (calls_of_stage result, awaits_of result) ≡ after_length answer }
+    ensures told { (len : Option ℕ) → KnowsLength result (length_told len answer) }
 {
     match answer {
         Answer::Len(len) if len >= HEADER_SIZE => InspectionStage::First { len },
@@ -39,7 +41,8 @@ fn after_length(answer: Answer) -> InspectionStage
 
 /// What follows the first bytes of a file of this length.
 fn after_first(bytes: &[u8], len: usize) -> InspectionStage
-    ensures { (calls_of_stage result, awaits_of result) ≡ after_first bytes.now len }
+    ensures calls { (calls_of_stage result, awaits_of result) ≡ after_first bytes.now len }
+    ensures told { (known : Option ℕ) → IsSome known → KnowsLength result known }
 {
     if bytes.len() != HEADER_SIZE || bytes[0] != GATE {
         return InspectionStage::Done;
@@ -54,7 +57,7 @@ fn after_first(bytes: &[u8], len: usize) -> InspectionStage
 }
 
 impl Inspection {
-    /// Takes the next call. Memory is wanted for its buffer.
+    /// Takes the next call, with memory for its buffer.
     pub fn take(&mut self) -> Result<Option<Order>, AllocError>
         ensures next { IfOk result (λ taken. MatchOption taken
             (calls_of_stage self.old.stage ≡ [])
@@ -62,6 +65,8 @@ impl Inspection {
         ensures none { IfOk result (λ taken. MatchOption taken (self.new.stage ≡ self.old.stage) (λ order. IsSound order)) }
         ensures awaits { awaits_of self.new.stage ≡ awaits_of self.old.stage }
         ensures refused { IsErr result → (self.new.stage ≡ self.old.stage) × IsReadNext (calls_of_stage self.old.stage) }
+        ensures told { (len : Option ℕ) → KnowsLength self.old.stage len → KnowsLength self.new.stage len }
+        ensures knows { IsErr result → (len : Option ℕ) → KnowsLength self.old.stage len → IsSome len }
     {
         let (order, next) = match self.stage {
             InspectionStage::Sync => (Order::Sync, InspectionStage::Len),
@@ -87,7 +92,8 @@ impl Inspection {
 
     /// Goes on after an outcome.
     pub fn resume(&mut self, answer: Answer, buffer: &Option<Vec<u8>>)
-        ensures { (calls_of_stage self.new.stage, awaits_of self.new.stage) ≡ calls_then (calls_of_stage self.old.stage) (awaits_of self.old.stage) answer (option_map (λ b. b.items) buffer.now) }
+        ensures calls { (calls_of_stage self.new.stage, awaits_of self.new.stage) ≡ calls_then (calls_of_stage self.old.stage) (awaits_of self.old.stage) answer (option_map (λ b. b.items) buffer.now) }
+        ensures told { (len : Option ℕ) → KnowsLength self.old.stage len → KnowsLength self.new.stage (length_told len answer) }
     {
         match self.stage {
             InspectionStage::AwaitLen => self.stage = after_length(answer),
@@ -102,6 +108,20 @@ impl Inspection {
             | InspectionStage::First { .. }
             | InspectionStage::Table { .. }
             | InspectionStage::Done => {}
+        }
+    }
+
+    /// How many calls are left at most.
+    pub fn calls_left(&self) -> usize
+        ensures count { result ≡ length (calls_of_stage self.now.stage) + calls_awaited (awaits_of self.now.stage) }
+        ensures few { result ≤ 4 }
+    {
+        match self.stage {
+            InspectionStage::Sync => 4,
+            InspectionStage::Len => 3,
+            InspectionStage::AwaitLen | InspectionStage::First { .. } => 2,
+            InspectionStage::AwaitFirst { .. } | InspectionStage::Table { .. } => 1,
+            InspectionStage::Done => 0,
         }
     }
 

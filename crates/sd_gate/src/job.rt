@@ -1,9 +1,9 @@
 //! What a plan has still to do.
-ghost use Rattle.std.specs.Prelude.{◌≡◌, ◌↔◌, ◌∷◌, [], IsTrue, IfOk, IsErr, MatchOption};
+ghost use Rattle.std.specs.Prelude.{◌≡◌, ◌↔◌, ◌+◌, ◌≤◌, ◌∷◌, [], ℕ, Option, length, IsSome, IsTrue, IfOk, IsErr, MatchOption};
 ghost use Rattle.std.specs.Option.{option_map};
 ghost use Rattle.sd_gate.specs.Calls.{call_of, bytes_of, IsSound};
-ghost use Rattle.sd_gate.specs.Inspections.{IsReadNext, calls_then};
-ghost use Rattle.sd_gate.specs.Plans.{calls_of, awaited_by, IsSoundJob};
+ghost use Rattle.sd_gate.specs.Inspections.{IsReadNext, calls_awaited, calls_then};
+ghost use Rattle.sd_gate.specs.Plans.{calls_of, awaited_by, length_told, IsSoundJob, KnowsItsLength};
 
 use crate::answer::Answer;
 use crate::call_sequence::CallSequence;
@@ -29,6 +29,8 @@ impl Job {
         ensures sound { IsSoundJob self.new }
         ensures awaits { awaited_by self.new ≡ awaited_by self.old }
         ensures refused { IsErr result → (calls_of self.new ≡ calls_of self.old) × IsReadNext (calls_of self.old) }
+        ensures told { (len : Option ℕ) → KnowsItsLength self.old len → KnowsItsLength self.new len }
+        ensures knows { IsErr result → (len : Option ℕ) → KnowsItsLength self.old len → IsSome len }
     {
         match self {
             Job::Sequence(sequence) => {
@@ -46,9 +48,21 @@ impl Job {
     pub fn resume(&mut self, answer: Answer, buffer: &Option<Vec<u8>>)
         ensures calls { (calls_of self.new, awaited_by self.new) ≡ calls_then (calls_of self.old) (awaited_by self.old) answer (option_map (λ b. b.items) buffer.now) }
         ensures sound { IsSoundJob self.old → IsSoundJob self.new }
+        ensures told { (len : Option ℕ) → KnowsItsLength self.old len → KnowsItsLength self.new (length_told len answer) }
     {
         if let Job::Inspection(inspection) = self {
             inspection.resume(answer, buffer);
+        }
+    }
+
+    /// How many calls are left at most.
+    pub fn calls_left(&self) -> usize
+        ensures count { result ≡ length (calls_of self.now) + calls_awaited (awaited_by self.now) }
+        ensures few { result ≤ 5 }
+    {
+        match self {
+            Job::Sequence(sequence) => sequence.calls_left(),
+            Job::Inspection(inspection) => inspection.calls_left(),
         }
     }
 

@@ -1,5 +1,7 @@
 //! Laws of the phases, each the contract of a function that does nothing.
-ghost use Rattle.sd_gate.specs.Laws.{ImageWholeOrClosed, GivenUpFits, FoundFits, InspectionTells, PlansLead, BodiesFill, CutsFit};
+ghost use Rattle.sd_gate.specs.Laws.{ImageWholeOrClosed, GivenUpFits, FoundFits, AllFoundFit, InspectionTells, PlansLead, BodiesFill, CutsFit, WritesCommute};
+ghost use Rattle.sd_gate.specs.Looks.{InspectionFinds};
+ghost use Rattle.sd_gate.specs.PlanRuns.{PlansTake};
 
 use sd_disk::Disk;
 
@@ -19,15 +21,36 @@ pub fn found_fits<D: Disk>(disk: &D)
     ensures { FoundFits (D.contents disk.now) (D.may_leave disk.now) }
 {}
 
+/// A disk of which every slot was synced is in the phases that its files tell, with the bodies that they have.
+pub fn all_found_fit<D: Disk>(disk: &D)
+    ensures { AllFoundFit (D.contents disk.now) (D.may_leave disk.now) }
+{}
+
 /// The length and the first bytes that an inspection brings back tell that phase.
 pub fn inspection_tells()
     ensures { InspectionTells }
 {}
 
-/// The calls of each plan that writes find their slot ready, one after the other. A format leaves one closed byte,
-/// also the calls that retire an image; the calls that close a body leave the image.
+/// The calls of each plan that writes find their slot ready, one after the other, from each phase in which the first is
+/// ready. A format and the calls that retire an image leave one closed byte; those that close a body leave the image.
 pub fn plans_lead()
     ensures { PlansLead }
+{}
+
+/// While a plan that writes makes its calls, done or failed, a crash leaves at most the image that was there before, or
+/// the one that is written.
+pub fn plans_take()
+    ensures { PlansTake }
+{}
+
+/// An inspection whose outcomes told its slot's file as it is finds the file's length, its first 4,096 bytes and its table.
+pub fn inspection_finds()
+    ensures { InspectionFinds }
+{}
+
+/// Two writes behind the gate that don't overlap, as those of two data pages, may be made in either order.
+pub fn writes_commute()
+    ensures { WritesCommute }
 {}
 
 /// The bytes that the plans write: data pages one behind the other, and then the table and the header, make the body of

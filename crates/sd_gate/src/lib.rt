@@ -15,6 +15,7 @@ mod order;
 mod outcome;
 mod phase;
 mod plan;
+mod plan_run;
 mod request;
 mod request_id;
 mod settled;
@@ -26,17 +27,15 @@ pub use call::Call;
 pub use device_call::perform;
 pub use found::Found;
 pub use laws::{
-    bodies_fill, cuts_fit, found_fits, given_up_fits, image_whole_or_closed, inspection_tells,
-    plans_lead,
+    all_found_fit, bodies_fill, cuts_fit, found_fits, given_up_fits, image_whole_or_closed,
+    inspection_finds, inspection_tells, plans_lead, plans_take, writes_commute,
 };
 pub use outcome::Outcome;
 pub use phase::Phase;
 pub use plan::Plan;
+pub use plan_run::run_plan;
 pub use request::Request;
 pub use request_id::RequestId;
 pub use settled::Settled;
 pub use slot_state::SlotState;
 pub use worker::Worker;
-
-#[cfg(test)]
-mod tests;

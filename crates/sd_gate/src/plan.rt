@@ -1,10 +1,10 @@
 //! Plans of device calls.
-ghost use Rattle.std.specs.Prelude.{◌≡◌, ◌≢◌, ◌⊎◌, ◌↔◌, ◌≤◌, ◌^◌, [], ◌∷◌, true, None, Some, IsTrue, IsSome, IsErr, IfOk, MatchOption};
+ghost use Rattle.std.specs.Prelude.{◌≡◌, ◌≢◌, ◌⊎◌, ◌↔◌, ◌<◌, ◌≤◌, ◌^◌, [], ◌∷◌, true, None, Some, IsTrue, IsSome, IsErr, IfOk, MatchOption};
 ghost use Rattle.sd_gate.specs.declared.call.Call.TheVariants.{Read, Write};
 ghost use Rattle.sd_gate.specs.Calls.{is_done};
 ghost use Rattle.sd_gate.specs.Sequences.{format_calls, closing_calls, body_calls, data_place, first_looks, IsPage, IsBody};
 ghost use Rattle.sd_gate.specs.Inspections.{nothing, the_length, IsReadNext};
-ghost use Rattle.sd_gate.specs.Plans.{calls_of, awaited_by, IsSoundJob, found_of, begun, Gives, calls_after, settled, plan_after};
+ghost use Rattle.sd_gate.specs.Plans.{calls_of, awaited_by, IsSoundJob, KnowsItsLength, found_of, begun, Gives, calls_after, settled, plan_after, steps_left};
 
 use crate::call_sequence::CallSequence;
 use crate::found::Found;
@@ -33,7 +33,7 @@ pub struct Plan {
 }
 
 impl Model for Plan {
-    ghost use Rattle.sd_gate.specs.Plans.{Planned, calls_of, awaited_by, found_of, IsSoundJob};
+    ghost use Rattle.sd_gate.specs.Plans.{Planned, calls_of, awaited_by, found_of, IsSoundJob, KnowsItsLength};
 
     ghost Value = { Planned };
 
@@ -45,14 +45,7 @@ impl Model for Plan {
       found = found_of p.found;
     } };
 
-    ghost invariant = { λ p. IsSoundJob p.job };
-}
-
-/// Whether this is the request that is out.
-fn is_out(out: &Option<RequestId>, id: RequestId) -> bool
-    ensures { IsTrue result ↔ out.now ≡ Some id }
-{
-    *out == Some(id)
+    ghost invariant = { λ p. IsSoundJob p.job × KnowsItsLength p.job p.found.len };
 }
 
 /// Whether this is the place of a data page and a page's bytes.
@@ -90,7 +83,8 @@ fn settled(job: &Job) -> Settled
 
 impl Plan {
     fn new(slot: usize, job: Job) -> Self
-        requires { IsSoundJob job }
+        requires sound { IsSoundJob job }
+        requires begins { KnowsItsLength job None }
         ensures { result ≡ begun slot (calls_of job) (awaited_by job) }
     {
         Plan {
@@ -183,10 +177,12 @@ impl Plan {
     ///
     /// `AllocError` where an inspection finds no memory for a buffer: nothing changed.
     pub fn take(&mut self, worker: Worker, ticket: u64) -> Result<Option<Request>, AllocError>
+        ensures fewer { IfOk result (λ given. IsSome given → steps_left self.new < steps_left self.old) }
         ensures given { IfOk result (λ given. MatchOption given
             ((self.new ≡ self.old) × (IsSome self.old.out ⊎ (self.old.calls ≡ [])))
             (λ request. Gives self.old self.new request × (request.id.worker ≡ worker) × (request.id.ticket ≡ ticket))) }
-        ensures refused { IsErr result → (self.new ≡ self.old) × IsReadNext self.old.calls }
+        // A plan that asks for no length is never refused.
+        ensures refused { IsErr result → (self.new ≡ self.old) × IsReadNext self.old.calls × IsSome self.old.found.len }
     {
         if self.out.is_some() {
             return Ok(None);
@@ -204,14 +200,30 @@ impl Plan {
         Ok(Some(request))
     }
 
+    /// Whether this is the request that is out.
+    pub fn is_out(&self, id: &RequestId) -> bool
+        ensures { IsTrue result ↔ self.now.out ≡ Some id.now }
+    {
+        self.out == Some(*id)
+    }
+
+    /// How many takes and settles the plan has at most before it. Each that gives out a request, and each that isn't
+    /// strange, lowers it by at least one.
+    pub fn left(&self) -> usize
+        ensures { result ≡ steps_left self.now }
+    {
+        2 * self.job.calls_left() + usize::from(self.out.is_some())
+    }
+
     /// Takes the outcome of the request that is out. One of any other request is strange, and changes nothing.
     /// After one that failed no call is left.
     pub fn settle(&mut self, outcome: Outcome) -> Settled
+        ensures fewer { self.old.out ≡ Some outcome.request.id → steps_left self.new < steps_left self.old }
         ensures strange { self.old.out ≢ Some outcome.request.id → (self.new ≡ self.old) × (result ≡ Settled.Strange) }
         ensures settled { self.old.out ≡ Some outcome.request.id → (self.new ≡ plan_after self.old outcome)
             × (result ≡ settled (is_done outcome.answer) (calls_after self.old outcome).0) }
     {
-        if !is_out(&self.out, outcome.id()) {
+        if !self.is_out(&outcome.id()) {
             return Settled::Strange;
         }
         let Outcome { request, answer } = outcome;

@@ -1,11 +1,14 @@
 //! Plans over disks in memory, whole, failing and crashed.
 ghost use Rattle.std.specs.Prelude.{◌≡◌, length};
 
-use crate::{
-    Answer, Call, Found, Plan, Settled, SlotState, Worker, bodies_fill, cuts_fit, found_fits,
-    given_up_fits, image_whole_or_closed, inspection_tells, perform, plans_lead,
+use crate::builders::{file_of, put, roomy};
+use crate::picks::rules;
+use sd_disk::{Disk, Fused, MemDisk};
+use sd_gate::{
+    Answer, Call, Found, Phase, Plan, Settled, SlotState, Worker, all_found_fit, bodies_fill,
+    cuts_fit, found_fits, given_up_fits, image_whole_or_closed, inspection_finds, inspection_tells,
+    perform, plans_lead, plans_take, writes_commute,
 };
-use sd_disk::{Disk, Fused, MemDisk, Pick};
 use sd_image::{Header, Kind};
 use std::alloc::Global;
 use std::process::Abort;
@@ -51,7 +54,7 @@ fn run<D: Disk>(
         let Some(request) = plan.take(Worker::Dumper, ticket)? else {
             break;
         };
-        assert!(rt; request.slot < disk.slots());
+        assert!(rt; request.id().slot < disk.slots());
         calls.push(request.id().call)?;
         let outcome = perform(disk, request);
         let settled = plan.settle(outcome);
@@ -75,21 +78,6 @@ fn calls_of<D: Disk>(
     Ok(())
 }
 
-fn file<D: Disk>(rt: &(impl Abort + AllocGlobal), disk: &mut D) -> Result<Vec<u8>, Fail> {
-    assert!(rt; 0 < disk.slots());
-    let len = disk.len(0)?;
-    let mut bytes = vec![in rt.alloc(); 0; len]?;
-    disk.read(0, 0, &mut bytes)?;
-    Ok(bytes)
-}
-
-/// Writes over the front of the file.
-fn put<D: Disk>(rt: &impl Abort, disk: &mut D, bytes: &[u8]) -> Result<(), Fail> {
-    assert!(rt; 0 < disk.slots() && !bytes.is_empty());
-    disk.write_at(0, 0, bytes)?;
-    Ok(())
-}
-
 fn page(alloc: Global) -> Result<Vec<u8>, Fail>
     ensures { (v : _) → result ≡ Ok v → length v.items ≡ 4096 }
 {
@@ -109,14 +97,14 @@ const CLOSING: [Call; 3] = [Call::Close, Call::Sync, Call::Cut];
 #[test]
 fn plans_make_their_calls(rt: HostRuntime) -> Result<(), Fail> {
     let alloc = rt.alloc();
-    let mut disk = MemDisk::new(alloc, 1, 16_000, 64)?;
+    let mut disk = roomy(&rt)?;
     calls_of(
         &rt,
         &mut disk,
         &mut Plan::format(0, SlotState::Raw),
         &CLOSING,
     )?;
-    assert!(rt; file(&rt, &mut disk)?.as_slice() == [0].as_slice());
+    assert!(rt; file_of(&rt, &mut disk, 0)?.as_slice() == [0].as_slice());
 
     let mut writing = Plan::write_page(0, 0, page(alloc)?);
     calls_of(&rt, &mut disk, &mut writing, &[Call::Write { at: 4096 }])?;
@@ -132,7 +120,7 @@ fn plans_make_their_calls(rt: HostRuntime) -> Result<(), Fail> {
         Call::Sync,
     ];
     calls_of(&rt, &mut disk, &mut closing, &body)?;
-    let image = file(&rt, &mut disk)?;
+    let image = file_of(&rt, &mut disk, 0)?;
     assert_eq!(rt; image.len(), FILE_LEN);
     assert!(rt; image[0..64] == FIRST[..]);
     assert!(rt; image[64..4096].iter().all(|byte| *byte == 0));
@@ -177,7 +165,7 @@ fn what_is_no_part_of_an_image_has_no_call(rt: HostRuntime) -> Result<(), Fail> 
 
 /// A slot with the image.
 fn with_image(rt: &(impl Abort + AllocGlobal)) -> Result<MemDisk, Fail> {
-    let mut disk = MemDisk::new(rt.alloc(), 1, 16_000, 64)?;
+    let mut disk = roomy(rt)?;
     assert!(rt; write_image(rt, &mut disk, SlotState::Raw)? == Settled::Finished);
     Ok(disk)
 }
@@ -215,18 +203,20 @@ fn inspections_read_what_is_there(rt: HostRuntime) -> Result<(), Fail> {
     ];
     let mut inspecting = Plan::inspect(alloc, 0);
     calls_of(&rt, &mut disk, &mut inspecting, &looks)?;
-    let Found { len, first, second } = inspecting.into_found();
+    let found = inspecting.into_found();
+    assert!(rt; found.phase() == Some(Phase::Whole));
+    let Found { len, first, second } = found;
     assert!(rt; len == Some(FILE_LEN));
     assert!(rt; first.is_some_and(|first| first.starts_with(&FIRST)));
     assert!(rt; second.is_some_and(|table| table.as_slice() == TABLE.as_slice()));
 
-    put(&rt, &mut disk, &[0x3C])?;
+    put(&rt, &mut disk, 0, 0, &[0x3C])?;
     calls_of(&rt, &mut disk, &mut Plan::inspect(alloc, 0), &looks[0..3])?;
-    put(&rt, &mut disk, &[0xA5, 0])?;
+    put(&rt, &mut disk, 0, 0, &[0xA5, 0])?;
     calls_of(&rt, &mut disk, &mut Plan::inspect(alloc, 0), &looks[0..3])?;
 
     calls_of(&rt, &mut disk, &mut Plan::retire(0), &CLOSING)?;
-    assert!(rt; file(&rt, &mut disk)?.as_slice() == [0].as_slice());
+    assert!(rt; file_of(&rt, &mut disk, 0)?.as_slice() == [0].as_slice());
     calls_of(&rt, &mut disk, &mut Plan::inspect(alloc, 0), &looks[0..2])?;
     calls_of(
         &rt,
@@ -253,12 +243,22 @@ fn a_dropped_request_stays_out(rt: HostRuntime) -> Result<(), Fail> {
     let Some(request) = other.take(Worker::Merger, 2)? else {
         return Err(Fail::from("no request"));
     };
-    assert!(rt; request.slot < disk.slots());
+    assert!(rt; request.id().slot < disk.slots());
     let outcome = perform(&mut disk, request);
     assert!(rt; outcome.answer() == Answer::Done && outcome.id().ticket == 2);
     assert!(rt; plan.settle(outcome) == Settled::Strange);
     assert!(rt; plan.take(Worker::Merger, 3)?.is_none());
     assert!(rt; other.take(Worker::Merger, 3)?.is_none());
+    Ok(())
+}
+
+#[test]
+fn a_read_past_the_end_fails(rt: HostRuntime) -> Result<(), Fail> {
+    let mut disk = MemDisk::new(rt.alloc(), 1, 16, 16)?;
+    let mut plan = Plan::read_page(0, 0, page(rt.alloc())?);
+    let mut calls = Vec::new(rt.alloc());
+    assert!(rt; run(&rt, &mut disk, &mut plan, &mut calls)? == Settled::Failed);
+    assert_eq!(rt; disk.failures(), 1);
     Ok(())
 }
 
@@ -273,47 +273,6 @@ fn a_failed_plan_asks_for_nothing(rt: HostRuntime) -> Result<(), Fail> {
     Ok(())
 }
 
-/// One rule for all lengths and bytes.
-#[derive(Clone, Copy)]
-enum Rule {
-    Now,
-    Synced,
-    Least(u8),
-    Greatest(u8),
-}
-
-const RULES: [Rule; 8] = [
-    Rule::Now,
-    Rule::Synced,
-    Rule::Least(0),
-    Rule::Least(0xA5),
-    Rule::Least(0xFF),
-    Rule::Greatest(0),
-    Rule::Greatest(0xA5),
-    Rule::Greatest(0xFF),
-];
-
-impl Pick for Rule {
-    ghost aims = { λ _ _. ⊥ };
-
-    fn len(&mut self, _slot: usize, least: u64, greatest: u64, synced: u64, now: u64) -> u64 {
-        match self {
-            Rule::Now => now,
-            Rule::Synced => synced,
-            Rule::Least(_) => least,
-            Rule::Greatest(_) => greatest,
-        }
-    }
-
-    fn byte(&mut self, _slot: usize, _at: u64, synced: Option<u8>, now: Option<u8>) -> u8 {
-        match self {
-            Rule::Now => now.unwrap_or(0),
-            Rule::Synced => synced.unwrap_or(0),
-            Rule::Least(byte) | Rule::Greatest(byte) => *byte,
-        }
-    }
-}
-
 /// Whether a file holds no image.
 fn is_closed(file: &[u8]) -> bool {
     file.len() < 4096 || file[0] != 0xA5
@@ -326,9 +285,9 @@ fn is_whole_or_closed(
     image: &[u8],
     whole: bool,
 ) -> Result<(), Fail> {
-    for rule in RULES {
+    for rule in rules() {
         let mut crashed = disk.crash(rt.alloc(), &mut { rule })?;
-        let left = file(rt, &mut crashed)?;
+        let left = file_of(rt, &mut crashed, 0)?;
         assert!(rt; left.as_slice() == image || (!whole && is_closed(&left)));
     }
     Ok(())
@@ -336,12 +295,12 @@ fn is_whole_or_closed(
 
 #[test]
 fn each_call_fails_in_turn(rt: HostRuntime) -> Result<(), Fail> {
-    let image = file(&rt, &mut with_image(&rt)?)?;
+    let image = file_of(&rt, &mut with_image(&rt)?, 0)?;
     for state in [SlotState::Raw, SlotState::Open] {
         for calls in 0..12 {
             let old = match state {
                 SlotState::Open => with_image(&rt)?,
-                _ => MemDisk::new(rt.alloc(), 1, 16_000, 64)?,
+                _ => roomy(&rt)?,
             };
             let mut made = Fused::new(old, calls);
             let ended = write_image(&rt, &mut made, state)?;
@@ -355,9 +314,9 @@ fn each_call_fails_in_turn(rt: HostRuntime) -> Result<(), Fail> {
 
 #[test]
 fn each_call_is_dropped_in_turn(rt: HostRuntime) -> Result<(), Fail> {
-    let image = file(&rt, &mut with_image(&rt)?)?;
+    let image = file_of(&rt, &mut with_image(&rt)?, 0)?;
     for calls in 0..12 {
-        let empty = MemDisk::new(rt.alloc(), 1, 16_000, 64)?;
+        let empty = roomy(&rt)?;
         let mut dropped = Fused::dropping(empty, calls);
         let ended = write_image(&rt, &mut dropped, SlotState::Raw)?;
         let whole = ended == Settled::Finished;
@@ -375,7 +334,11 @@ fn laws_are_called(rt: HostRuntime) -> Result<(), Fail> {
     cuts_fit(&disk);
     given_up_fits(&disk);
     found_fits(&disk);
+    all_found_fit(&disk);
     inspection_tells();
     plans_lead();
+    plans_take();
+    inspection_finds();
+    writes_commute();
     Ok(())
 }

@@ -1,70 +1,10 @@
-ghost use Rattle.std.specs.Prelude.{◌≡◌, length, IfOk};
-ghost use Rattle.sd_disk.specs.Folder.{folder_files};
+//! The calls of each disk.
 
-use crate::{DeviceError, DirDisk, Disk, Folder, MemDisk, OpenError};
+use crate::builders::{flush, fresh, holds, open, put, shorten, synced};
+use sd_disk::{DeviceError, Disk, Folder, Fused, MemDisk, OpenError};
 use std::fs;
-use std::process::{self, Abort};
+use std::process::Abort;
 use std::test::Fail;
-
-/// A path in the system's folder for temporary files that no other process uses.
-fn fresh(rt: &HostRuntime, name: &str) -> Result<String, Fail> {
-    let id = process::id(rt.process());
-    let path = format!(in rt.alloc(); "/tmp/sd_disk-{id}-{name}")?;
-    let _ = fs::remove_dir_all(rt, path.as_str());
-    Ok(path)
-}
-
-fn open(rt: &HostRuntime, path: &str, make: bool) -> Result<DirDisk, OpenError>
-    ensures { IfOk result (λ disk. length (folder_files disk) ≡ 64) }
-{
-    Ok(DirDisk::new(Folder::open(rt, path, make)?))
-}
-
-fn all_of<D: Disk>(
-    rt: &(impl Abort + AllocGlobal),
-    disk: &mut D,
-    slot: usize,
-) -> Result<Vec<u8>, Fail> {
-    assert!(rt; slot < disk.slots());
-    let len = disk.len(slot)?;
-    let mut bytes = vec![in rt.alloc(); 0; len]?;
-    disk.read(slot, 0, &mut bytes)?;
-    Ok(bytes)
-}
-
-pub(crate) fn put<D: Disk>(
-    rt: &impl Abort,
-    disk: &mut D,
-    slot: usize,
-    at: usize,
-    bytes: &[u8],
-) -> Result<(), Fail> {
-    assert!(rt; slot < disk.slots() && !bytes.is_empty());
-    disk.write_at(slot, at, bytes)?;
-    Ok(())
-}
-
-pub(crate) fn shorten<D: Disk>(
-    rt: &impl Abort,
-    disk: &mut D,
-    slot: usize,
-    len: usize,
-) -> Result<(), Fail> {
-    assert!(rt; slot < disk.slots());
-    disk.cut(slot, len)?;
-    Ok(())
-}
-
-pub(crate) fn holds<D: Disk>(
-    rt: &(impl Abort + AllocGlobal),
-    disk: &mut D,
-    slot: usize,
-    want: &[u8],
-) -> Result<(), Fail> {
-    let bytes = all_of(rt, disk, slot)?;
-    assert!(rt; bytes.as_slice() == want);
-    Ok(())
-}
 
 /// Each call, with a write past the end and one over the end.
 fn exercise<D: Disk>(rt: &(impl Abort + AllocGlobal), disk: &mut D) -> Result<(), Fail> {
@@ -81,12 +21,12 @@ fn exercise<D: Disk>(rt: &(impl Abort + AllocGlobal), disk: &mut D) -> Result<()
     refuses_past_the_end(rt, disk)
 }
 
-/// Neither a read past the end nor a cut that would lengthen.
+/// A read past the end and a cut that would lengthen fail, and each is counted.
 fn refuses_past_the_end<D: Disk>(
     rt: &(impl Abort + AllocGlobal),
     disk: &mut D,
 ) -> Result<(), Fail> {
-    assert!(rt; disk.slots() > 3);
+    assert!(rt; 0 < disk.slots());
     let mut buffer = [0; 2];
     assert!(rt; matches!(disk.read(0, 3, &mut buffer), Err(DeviceError)));
     assert!(rt; matches!(disk.read(0, 9, &mut buffer), Err(DeviceError)));
@@ -114,8 +54,7 @@ fn a_call_without_room_is_counted(rt: HostRuntime) -> Result<(), Fail> {
     disk.sync(0)?;
     assert!(rt; matches!(disk.cut(0, 0), Err(DeviceError)));
     assert_eq!(rt; disk.failures(), 3);
-    holds(&rt, &mut disk, 0, b"abcd")?;
-    Ok(())
+    holds(&rt, &mut disk, 0, b"abcd")
 }
 
 #[test]
@@ -147,10 +86,19 @@ fn a_missing_file_is_empty(rt: HostRuntime) -> Result<(), Fail> {
     assert_eq!(rt; disk.len(63)?, 0);
     disk.sync(63)?;
     disk.cut(63, 0)?;
+    assert!(rt; matches!(disk.cut(63, 1), Err(DeviceError)));
+    assert!(rt; matches!(disk.read(63, 0, &mut [0]), Err(DeviceError)));
     assert!(rt; matches!(disk.write_at(63, 0, b"x"), Err(DeviceError)));
-    assert_eq!(rt; disk.failures(), 1);
+    assert_eq!(rt; disk.failures(), 3);
+    fs::remove_dir_all(&rt, path.as_str())?;
+    Ok(())
+}
+
+#[test]
+fn a_folder_in_place_of_a_file_is_not_opened(rt: HostRuntime) -> Result<(), Fail> {
+    let path = fresh(&rt, "folder")?;
     let name = format!(in rt.alloc(); "{}/img-007", path.as_str())?;
-    fs::create_dir(&rt, name.as_str())?;
+    fs::create_dir_all(&rt, name.as_str())?;
     assert!(rt;
         matches!(
             Folder::open(&rt, path.as_str(), true),
@@ -163,17 +111,55 @@ fn a_missing_file_is_empty(rt: HostRuntime) -> Result<(), Fail> {
 
 #[test]
 fn errors_have_their_texts(rt: HostRuntime) -> Result<(), Fail> {
-    assert_eq!(rt;
-        format!(in rt.alloc(); "{}", DeviceError)?.as_str(),
-        "device"
-    );
-    assert_eq!(rt;
-        format!(in rt.alloc(); "{}", OpenError::Folder)?.as_str(),
-        "cannot open DIR"
-    );
-    assert_eq!(rt;
-        format!(in rt.alloc(); "{}", OpenError::OutOfMemory)?.as_str(),
-        "out-of-memory"
-    );
+    let device = format!(in rt.alloc(); "{}", DeviceError)?;
+    assert_eq!(rt; device.as_str(), "device");
+    let texts = [
+        (OpenError::Folder, "cannot open DIR"),
+        (OpenError::OutOfMemory, "out-of-memory"),
+    ];
+    for (error, want) in texts {
+        let text = format!(in rt.alloc(); "{error}")?;
+        assert_eq!(rt; text.as_str(), want);
+    }
+    Ok(())
+}
+
+#[test]
+fn one_call_fails_and_the_others_pass(rt: HostRuntime) -> Result<(), Fail> {
+    let mut disk = Fused::new(synced(&rt, b"abcd")?, 2);
+    holds(&rt, &mut disk, 0, b"abcd")?;
+    assert!(rt; 0 < disk.slots());
+    assert!(rt; matches!(disk.len(0), Err(DeviceError)));
+    assert_eq!(rt; disk.failures(), 1);
+    holds(&rt, &mut disk, 0, b"abcd")?;
+    put(&rt, &mut disk, 0, 0, b"X")?;
+    flush(&rt, &mut disk, 0)?;
+    assert_eq!(rt; disk.failures(), 1);
+    let mut within = disk.into_inner();
+    assert_eq!(rt; within.failures(), 0);
+    holds(&rt, &mut within, 0, b"Xbcd")
+}
+
+#[test]
+fn a_failed_read_is_not_made(rt: HostRuntime) -> Result<(), Fail> {
+    let mut disk = Fused::dropping(synced(&rt, b"abcd")?, 0);
+    assert!(rt; 0 < disk.slots());
+    let mut buffer = [7; 4];
+    assert!(rt; matches!(disk.read(0, 0, &mut buffer), Err(DeviceError)));
+    assert_eq!(rt; disk.failures(), 1);
+    assert_eq!(rt; disk.into_inner().reads(), 0);
+    Ok(())
+}
+
+/// A value that can be handed to another thread.
+fn moves<T: Send>(_value: &T) {}
+
+#[test]
+fn a_disk_can_be_moved_to_another_thread(rt: HostRuntime) -> Result<(), Fail> {
+    let path = fresh(&rt, "moved")?;
+    moves(&open(&rt, path.as_str(), true)?);
+    moves(&synced(&rt, b"a")?);
+    moves(&Fused::new(synced(&rt, b"a")?, 1));
+    fs::remove_dir_all(&rt, path.as_str())?;
     Ok(())
 }

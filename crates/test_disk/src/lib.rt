@@ -1,0 +1,13 @@
+//! Tests of the disks and of the gate, by their public names alone.
+#![tactic(auto)]
+
+#[cfg(test)]
+mod builders;
+#[cfg(test)]
+mod crashes;
+#[cfg(test)]
+mod devices;
+#[cfg(test)]
+mod gates;
+#[cfg(test)]
+mod picks;
