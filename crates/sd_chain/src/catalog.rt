@@ -3,7 +3,7 @@ ghost use Rattle.std.specs.Prelude.{◌≡◌, ◌≢◌, ◌⊎◌, ◌==◌, �
 ghost use Rattle.sd_image.specs.Image.{Image, OpenImages};
 ghost use Rattle.sd_chain.specs.declared.error.CatalogError.TheVariants.{DoubleSerial};
 ghost use Rattle.sd_chain.specs.declared.found.Found.{Found};
-ghost use Rattle.sd_chain.specs.Reaches.{ReachesSerial, ParentsFall};
+ghost use Rattle.sd_chain.specs.Reaches.{IsChain, ReachesSerial, ParentsFall};
 ghost use Rattle.sd_chain.specs.Store.{IsCatalogOf, IsInFile, FindsHeld, FindsNamed, FindsTip, HasTheImages};
 ghost use Rattle.sd_chain.specs.Ways.{AreImages, LiesBySerial, BreaksBySerial, IsAbsent, IsTraceOf, found_in};
 ghost use Rattle.sd_chain.specs.Catalog.{Opened, place_of, images, IsHeld, Changes, is_elsewhere, without_slot, Names, IsTip, IsRestored, IsGreatest, IsSound, serial_of, checkpoint_of};
@@ -322,8 +322,10 @@ impl Catalog {
     ///
     /// Out of memory where the list finds no room.
     pub fn reachable(&self, serial: u64) -> Result<Vec<u64>, AllocError>
-        ensures { ParentsFall self.now → IfOk result (λ list. (reached : ℕ)
+        ensures reached { ParentsFall self.now → IfOk result (λ list. (reached : ℕ)
             → Contains list.items reached ↔ ReachesSerial self.now serial reached) }
+        // Each image is named by the parent number of the one before.
+        ensures chain { ParentsFall self.now → IfOk result (λ list. IsChain self.now serial list.items) }
     {
         let mut reached = Vec::new(self.alloc);
         let mut next = self.image(serial);
