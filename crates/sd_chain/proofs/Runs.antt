@@ -57,8 +57,8 @@ starts_rise parent before (run ∷ runs) zero (suc j) d h l m = let rest = later
 starts_rise parent before (run ∷ runs) (suc i) zero d h l m = absurd (omega arith)
 starts_rise parent before (run ∷ runs) (suc i) (suc j) d h l m = starts_rise parent (Some run) runs i j d h.1 (omega arith) (omega arith)
 
-pub parted : (parent page : ℕ) (runs : List Run) → AreRuns parent None runs → IsPartitionedBy (begins_by page) runs
-parted parent page runs h i j d l m e = le-leb _ _ (omega (arith, starts_rise parent None runs i j d h l m, leb-true _ _ e))
+pub are_partitioned : (parent page : ℕ) (runs : List Run) → AreRuns parent None runs → IsPartitionedBy (begins_by page) runs
+are_partitioned parent page runs h i j d l m e = le-leb _ _ (omega (arith, starts_rise parent None runs i j d h l m, leb-true _ _ e))
 
 abbrev pub IsPoint : ℕ → List Run → ℕ → Type 0
 IsPoint page = IsPartitionPoint (λ run. begins_by page run ≡ true) (λ run. begins_by page run ≡ false)

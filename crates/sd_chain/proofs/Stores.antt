@@ -225,7 +225,7 @@ has_the_images contents all places tied = record {
   fall = (are_images contents places tied.order tied.catalog).fall;
 }
 
--- ---- the answers about a catalog of contents
+-- ---- what is found in a catalog of contents
 
 pub held_by : PageInFile → (contents : List (List ℕ)) (all : List Image) (places : Places) (serial : ℕ) (page : ℕ × ℕ) (answer : Option Found) → IsTied contents all places
     → IsResolved places serial page answer → FindsHeld contents all serial page answer

@@ -13,7 +13,7 @@ use Rattle.sd_image.specs.declared.run.RunKind.{RunKind}
 use Rattle.sd_image.specs.declared.run.RunKind.TheVariants.{Data}
 use Rattle.sd_image.specs.declared.table.SpaceTable.{SpaceTable}
 use Rattle.sd_image.specs.Words.{run_kind_number}
-use Rattle.sd_image.specs.Table.{Listed, listed, is_data, run_pages}
+use Rattle.sd_image.specs.Table.{Listed, listing_of, is_data, run_pages}
 use Rattle.sd_image.specs.Shows.{pages_of}
 use Rattle.sd_chain.specs.Placed.{after_run, after_runs, places_of, all_places_of}
 use Rattle.sd_chain.proofs.Runs.{within_from, within_low, within_high}
@@ -201,29 +201,29 @@ place_in_runs space n (x ∷ runs) (suc at) r before page small there counted is
     (place_in_runs space (n + length (of_kind Data space x)) runs at r before page (omega (arith, small, parts)) there
     (subst (λ k. slice_get (places_of k runs) at ≡ Some before) first counted) is within)
 
-place_in_spaces : (n : ℕ) (items : List SpaceTable) (index at : ℕ) (s : SpaceTable) (r : Run) (row : List ℕ) (before page : ℕ) → n + length (pages_of Data (map listed items)) < 2 ^ 64
+place_in_spaces : (n : ℕ) (items : List SpaceTable) (index at : ℕ) (s : SpaceTable) (r : Run) (row : List ℕ) (before page : ℕ) → n + length (pages_of Data (map listing_of items)) < 2 ^ 64
     → slice_get items index ≡ Some s → slice_get (all_places_of n items) index ≡ Some row → slice_get s.runs.items at ≡ Some r → slice_get row at ≡ Some before
-    → r.kind ≡ Data → IsTrue (is_within r.first r.count page) → HasPlace (pages_of Data (map listed items)) n before (page - r.first) (s.space, page)
+    → r.kind ≡ Data → IsTrue (is_within r.first r.count page) → HasPlace (pages_of Data (map listing_of items)) n before (page - r.first) (s.space, page)
 place_in_spaces n [] index at s r row before page small there counted run places is within = absurd (none-some s there)
 place_in_spaces n (x ∷ items) zero at s r row before page small there counted run places is within =
     let this : x ≡ s = same_Some x s there in
     let of : places_of n x.runs.items ≡ row = same_Some _ row counted in
-    let parts = length-append (flat_map (of_kind Data x.space) x.runs.items) (pages_of Data (map listed items)) in
-    earlier_place (flat_map (of_kind Data x.space) x.runs.items) (pages_of Data (map listed items)) n before (page - r.first) (s.space, page)
+    let parts = length-append (flat_map (of_kind Data x.space) x.runs.items) (pages_of Data (map listing_of items)) in
+    earlier_place (flat_map (of_kind Data x.space) x.runs.items) (pages_of Data (map listing_of items)) n before (page - r.first) (s.space, page)
     (subst (λ space. HasPlace (flat_map (of_kind Data x.space) x.runs.items) n before (page - r.first) (space, page)) (ap (λ (y : SpaceTable). y.space) this)
     (place_in_runs x.space n x.runs.items at r before page (omega (arith, small, parts))
     (subst (λ (y : SpaceTable). slice_get y.runs.items at ≡ Some r) (sym this) run) (subst (λ (xs : List ℕ). slice_get xs at ≡ Some before) (sym of) places) is within))
 place_in_spaces n (x ∷ items) (suc index) at s r row before page small there counted run places is within =
-    let parts = length-append (flat_map (of_kind Data x.space) x.runs.items) (pages_of Data (map listed items)) in
+    let parts = length-append (flat_map (of_kind Data x.space) x.runs.items) (pages_of Data (map listing_of items)) in
     let first = afters_are x.space n x.runs.items (omega (arith, small, parts)) in
-    later_place (flat_map (of_kind Data x.space) x.runs.items) (pages_of Data (map listed items)) n before (page - r.first) (s.space, page)
+    later_place (flat_map (of_kind Data x.space) x.runs.items) (pages_of Data (map listing_of items)) n before (page - r.first) (s.space, page)
     (place_in_spaces (n + length (flat_map (of_kind Data x.space) x.runs.items)) items index at s r row before page (omega (arith, small, parts)) there
     (subst (λ k. slice_get (all_places_of k items) index ≡ Some row) first counted) run places is within)
 
 -- its place among all pages with data
-pub place_of_page : (items : List SpaceTable) (index at : ℕ) (s : SpaceTable) (r : Run) (row : List ℕ) (before page : ℕ) → length (pages_of Data (map listed items)) < 2 ^ 64
+pub place_of_page : (items : List SpaceTable) (index at : ℕ) (s : SpaceTable) (r : Run) (row : List ℕ) (before page : ℕ) → length (pages_of Data (map listing_of items)) < 2 ^ 64
     → slice_get items index ≡ Some s → slice_get (all_places_of 0 items) index ≡ Some row → slice_get s.runs.items at ≡ Some r → slice_get row at ≡ Some before
-    → r.kind ≡ Data → IsTrue (is_within r.first r.count page) → slice_get (pages_of Data (map listed items)) (before + (page - r.first)) ≡ Some (s.space, page)
+    → r.kind ≡ Data → IsTrue (is_within r.first r.count page) → slice_get (pages_of Data (map listing_of items)) (before + (page - r.first)) ≡ Some (s.space, page)
 place_of_page items index at s r row before page small there counted run places is within =
     let h = place_in_spaces 0 items index at s r row before page (omega arith) there counted run places is within in
-    subst (λ k. slice_get (pages_of Data (map listed items)) (k + (page - r.first)) ≡ Some (s.space, page)) (sym (h.1 ∙ omega arith)) h.2
+    subst (λ k. slice_get (pages_of Data (map listing_of items)) (k + (page - r.first)) ≡ Some (s.space, page)) (sym (h.1 ∙ omega arith)) h.2

@@ -5,7 +5,7 @@ use Rattle.std.proofs.lemmas.Bool.{eqb-true}
 use Rattle.std.proofs.lemmas.List.Elements.{Contains-push, Contains-push_cases, Contains-append_left, All-contains}
 use Rattle.std.proofs.lemmas.Map.Views.{Contains-from_lookup}
 use Rattle.sd_chain.specs.Catalog.{Opened, Places, AreInOrder, place_of, images, Names}
-use Rattle.sd_chain.specs.Reaches.{Reaches, ReachesSerial, ParentsFall}
+use Rattle.sd_chain.specs.Reaches.{IsChain, IsPath, Reaches, ReachesSerial, ParentsFall}
 use Rattle.sd_chain.proofs.Members.{open_place, contains_open, same_serial, named_once}
 
 -- the next image of the walk, if there is one, reaches this
@@ -96,3 +96,24 @@ walk_goes_on places serial list i next order fall walk is = record {
 
 pub walk_ends : (places : Places) (serial : ℕ) (list : List ℕ) → IsWalk places serial list None → (n : ℕ) → Contains list n ↔ ReachesSerial places serial n
 walk_ends places serial list walk n = (walk.said n, λ r. elim (walk.left n r) [ inl c ↦ c | inr x ↦ absurd x.1 ])
+
+-- ---- the order of a walk
+
+-- the walk has come from the image of a serial to the next one, or it is whole
+abbrev pub IsWayTo : Places → ℕ → List ℕ → Option (Bor Opened) → Type 0
+IsWayTo places serial list next = MatchOption next (IsChain places serial list) (λ j. (i : Opened) × (place_of places serial ≡ Some (Some i)) × IsPath places i list j.now)
+
+path_more : (places : Places) (i j p : Opened) (list : List ℕ) → IsPath places i list j → Names places j.header.parent p → IsPath places i (list ++ j.header.serial ∷ []) p
+path_more places i j p [] same names =
+    (ap (λ (k : Opened). k.header.serial) (sym same), (p, subst (λ (k : Opened). Names places k.header.parent p) (sym same) names, refl))
+path_more places i j p (serial ∷ list) path names = (path.0, (path.1.0, path.1.1, path_more places path.1.0 j p list path.1.2 names))
+
+pub way_begins : (places : Places) (serial : ℕ) (next : Option (Bor Opened)) → IsImageOf places serial next → IsWayTo places serial [] next
+way_begins places serial None none = inl (none, refl)
+way_begins places serial (Some i) found = (i.now, found.0, refl)
+
+pub way_goes_on : (places : Places) (serial : ℕ) (list : List ℕ) (i : Bor Opened) (next : Option (Bor Opened)) → i.now.header.parent < i.now.header.stands_for
+    → IsWayTo places serial list (Some i) → IsNext places i.now next → IsWayTo places serial (list ++ i.now.header.serial ∷ []) next
+way_goes_on places serial list i None falls to is =
+    inr (record { first = to.0; there = to.1; last = i.now; front = list; path = to.2; are = refl; ends = is.all falls refl })
+way_goes_on places serial list i (Some p) falls to is = (to.0, to.1, path_more places to.0 i.now p.now list to.2 is.named)

@@ -15,7 +15,7 @@ use Rattle.sd_image.specs.declared.run.RunKind.{RunKind}
 use Rattle.sd_image.specs.declared.run.RunKind.TheVariants.{Data, Parent, Zero}
 use Rattle.sd_image.specs.declared.table.SpaceTable.{SpaceTable}
 use Rattle.sd_image.specs.Laws.{FewPages, OneKind, OnePlace}
-use Rattle.sd_image.specs.Table.{Listed, listed, AreRuns, AreSpaces, IsTable}
+use Rattle.sd_image.specs.Table.{Listed, listing_of, AreRuns, AreSpaces, IsTable}
 use Rattle.sd_image.specs.Shows.{pages_of}
 use Rattle.sd_chain.specs.declared.way.Way.{Way}
 use Rattle.sd_chain.specs.declared.way.Way.TheVariants as way
@@ -98,34 +98,34 @@ runs_of h before (x ∷ spaces) s good c = elim (contains_cons_cases x s spaces 
   | inr later ↦ runs_of h x.space spaces s good.1 later
 ]
 
-contains_listed : (items : List SpaceTable) (index : ℕ) (s : SpaceTable) → slice_get items index ≡ Some s → Contains (map listed items) (listed s)
-contains_listed items index s there = contains_at (map listed items) index (listed s) (slice_get-map listed items index ∙ ap (option_map listed) there)
+contains_listed : (items : List SpaceTable) (index : ℕ) (s : SpaceTable) → slice_get items index ≡ Some s → Contains (map listing_of items) (listing_of s)
+contains_listed items index s there = contains_at (map listing_of items) index (listing_of s) (slice_get-map listing_of items index ∙ ap (option_map listing_of) there)
 
 -- no space has the number: no way
 pub no_space : (items : List SpaceTable) (space page : ℕ) (answer : Option Way) → answer ≡ None → position (λ (s : SpaceTable). nat_eq s.space space) items ≡ None
-    → IsExact (map listed items) (space, page) answer
-no_space items space page answer is none = exact_none (map listed items) (space, page) answer is (λ h. missing items h.listed none h.among (sym h.space))
+    → IsExact (map listing_of items) (space, page) answer
+no_space items space page answer is none = exact_none (map listing_of items) (space, page) answer is (λ h. missing items h.listed none h.among (sym h.space))
   where
-    missing : (items : List SpaceTable) (s : Listed) → position (λ (s : SpaceTable). nat_eq s.space space) items ≡ None → Contains (map listed items) s → s.space ≡ space → ⊥
+    missing : (items : List SpaceTable) (s : Listed) → position (λ (s : SpaceTable). nat_eq s.space space) items ≡ None → Contains (map listing_of items) s → s.space ≡ space → ⊥
     missing items s none c e =
         let from = back items s c in
         none_passes (λ (s : SpaceTable). nat_eq s.space space) items from.0 none from.1 (eq-eqb _ _ (ap (λ (l : Listed). l.space) from.2 ∙ e))
       where
-        back : (items : List SpaceTable) (s : Listed) → Contains (map listed items) s → (t : SpaceTable) × Contains items t × (listed t ≡ s)
+        back : (items : List SpaceTable) (s : Listed) → Contains (map listing_of items) s → (t : SpaceTable) × Contains items t × (listing_of t ≡ s)
         back [] s c = absurd (omega (arith, c.1))
-        back (t ∷ items) s c = elim (contains_cons_cases (listed t) s (map listed items) c) [
+        back (t ∷ items) s c = elim (contains_cons_cases (listing_of t) s (map listing_of items) c) [
           | inl e ↦ (t, contains_front t items, sym e)
           | inr later ↦ let rest = back items s later in (rest.0, contains_later t rest.0 items rest.1, rest.2)
         ]
 
 -- the space has no run with the page: no way
-pub no_run : (h : Header) (items : List SpaceTable) (index : ℕ) (s : SpaceTable) (space page : ℕ) (answer : Option Way) → answer ≡ None → IsTable h (map listed items)
+pub no_run : (h : Header) (items : List SpaceTable) (index : ℕ) (s : SpaceTable) (space page : ℕ) (answer : Option Way) → answer ≡ None → IsTable h (map listing_of items)
     → slice_get items index ≡ Some s → s.space ≡ space
     → ((parent : ℕ) → AreRuns parent None s.runs.items → All (λ run. IsTrue (is_within run.first run.count page) → ⊥) s.runs.items)
-    → IsExact (map listed items) (space, page) answer
-no_run h items index s space page answer is table there number none = exact_none (map listed items) (space, page) answer is (λ had.
-    let same : had.listed ≡ listed s = space_once h 0 (map listed items) had.listed (listed s) table.each had.among (contains_listed items index s there) (sym had.space ∙ sym number) in
-    let runs = runs_of h 0 (map listed items) (listed s) table.each (contains_listed items index s there) in
+    → IsExact (map listing_of items) (space, page) answer
+no_run h items index s space page answer is table there number none = exact_none (map listing_of items) (space, page) answer is (λ had.
+    let same : had.listed ≡ listing_of s = space_once h 0 (map listing_of items) had.listed (listing_of s) table.each had.among (contains_listed items index s there) (sym had.space ∙ sym number) in
+    let runs = runs_of h 0 (map listing_of items) (listing_of s) table.each (contains_listed items index s there) in
     All-contains (λ (run : Run). IsTrue (is_within run.first run.count page) → ⊥) s.runs.items had.run (none h.parent runs)
     (subst (λ (l : Listed). Contains l.runs had.run) same had.member) had.within)
 
@@ -152,22 +152,22 @@ run_at items index at s run space page found got low within is =
     record { there = found.0; number = found.1; run_there = there; within = within run there }
 
 pub has_by_run : (kind : RunKind) (items : List SpaceTable) (index at : ℕ) (s : SpaceTable) (run : Run) (space page : ℕ) → IsAt items index at s run space page → run.kind ≡ kind
-    → Contains (pages_of kind (map listed items)) (space, page)
+    → Contains (pages_of kind (map listing_of items)) (space, page)
 has_by_run kind items index at s run space page found is =
     let among = contains_at s.runs.items at run found.run_there in
-    subst (λ n. Contains (pages_of kind (map listed items)) (n, page)) found.number
-    (has_in_run kind (map listed items) (listed s) run page (contains_listed items index s found.there) among is found.within)
+    subst (λ n. Contains (pages_of kind (map listing_of items)) (n, page)) found.number
+    (has_in_run kind (map listing_of items) (listing_of s) run page (contains_listed items index s found.there) among is found.within)
 
-pub has_data : FewPages → (h : Header) (items : List SpaceTable) (index at : ℕ) (s : SpaceTable) (run : Run) (row : List ℕ) (before space page place : ℕ) → IsTable h (map listed items)
+pub has_data : FewPages → (h : Header) (items : List SpaceTable) (index at : ℕ) (s : SpaceTable) (run : Run) (row : List ℕ) (before space page place : ℕ) → IsTable h (map listing_of items)
     → IsAt items index at s run space page → run.kind ≡ Data → slice_get (all_places_of 0 items) index ≡ Some row → slice_get row at ≡ Some before
-    → place ≡ min (before + (page - run.first)) (2 ^ 64 - 1) → HasPage (map listed items) (space, page) (way.Data place)
+    → place ≡ min (before + (page - run.first)) (2 ^ 64 - 1) → HasPage (map listing_of items) (space, page) (way.Data place)
 has_data few h items index at s run row before space page place table found is counted places sum =
-    let room = few h (map listed items) Data table in
+    let room = few h (map listing_of items) Data table in
     let exact = place_of_page items index at s run row before page (omega (arith, room)) found.there counted found.run_there places is found.within in
-    let within = slice_get_within (pages_of Data (map listed items)) (before + (page - run.first)) (s.space, page) exact in
+    let within = slice_get_within (pages_of Data (map listing_of items)) (before + (page - run.first)) (s.space, page) exact in
     let plain : place ≡ before + (page - run.first) = omega (arith, sum, within, room) in
-    subst (λ k. slice_get (pages_of Data (map listed items)) k ≡ Some (space, page)) (sym plain)
-    (subst (λ n. slice_get (pages_of Data (map listed items)) (before + (page - run.first)) ≡ Some (n, page)) found.number exact)
+    subst (λ k. slice_get (pages_of Data (map listing_of items)) k ≡ Some (space, page)) (sym plain)
+    (subst (λ n. slice_get (pages_of Data (map listing_of items)) (before + (page - run.first)) ≡ Some (n, page)) found.number exact)
 
 -- ---- the counted places
 

@@ -17,7 +17,7 @@ abbrev pub places_of : ℕ → List Run → List ℕ
 places_of before [] = []
 places_of before (run ∷ runs) = before ∷ places_of (after_run before run) runs
 
--- the same of each space
+-- how many data pages stand before each run of each space
 abbrev pub all_places_of : ℕ → List SpaceTable → List (List ℕ)
 all_places_of before [] = []
 all_places_of before (space ∷ spaces) = places_of before space.runs.items ∷ all_places_of (after_runs before space.runs.items) spaces

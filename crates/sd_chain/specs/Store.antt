@@ -46,19 +46,19 @@ IsInFile contents (found.Data slot offset) = (slot < length contents) × (offset
 
 -- the image that a number names among these was found, or there is none
 abbrev pub FindsNamed : List (List ℕ) → List Image → ℕ → Option (Bor Opened) → Type 0
-FindsNamed contents images number answer = MatchOption answer
+FindsNamed contents images number chosen = MatchOption chosen
     ((image : Image) → IsNamed images number image → ⊥)
     (λ i. (image : Image) × IsOpenedAs contents i.now image × IsNamed images number image)
 
 -- the contents are a store, and its newest image was found, or it has none that is restored
-pub record FindsTip (contents : List (List ℕ)) (answer : Option (Bor Opened)) : Type 0 where
+pub record FindsTip (contents : List (List ℕ)) (chosen : Option (Bor Opened)) : Type 0 where
   pub images : List Image
   pub store : IsStore contents images
-  pub newest : MatchOption answer
+  pub newest : MatchOption chosen
       ((image : Image) → Contains images image → IsRestorable image → ⊥)
       (λ i. (image : Image) × IsOpenedAs contents i.now image × IsTip images image)
 
--- where a page of an image was found its bytes are those that the image holds, and else it holds none
+-- Where a page of an image was found, its bytes there are those that the image holds; where it was not, the image holds none.
 abbrev pub FindsHeld : List (List ℕ) → List Image → ℕ → ℕ × ℕ → Option Found → Type 0
-FindsHeld contents images serial page answer = (image : Image) → Contains images image → image.header.serial ≡ serial
-    → (bytes : List ℕ) → Holds images page.0 page.1 bytes image ↔ MatchOption answer ⊥ (λ there. bytes ≡ bytes_at contents there)
+FindsHeld contents images serial page place = (image : Image) → Contains images image → image.header.serial ≡ serial
+    → (bytes : List ℕ) → Holds images page.0 page.1 bytes image ↔ MatchOption place ⊥ (λ there. bytes ≡ bytes_at contents there)

@@ -53,10 +53,10 @@ found_in (trace.Broken slot) = None
 found_in trace.Absent = None
 
 -- what following a page from an image comes to
-pub record IsTraceOf (places : Places) (page : ℕ × ℕ) (i : Opened) (answer : Trace) : Type 0 where
-  pub found : (there : Found) → (answer ≡ trace.Found there) ↔ LiesAt places page there i
-  pub broken : (slot : ℕ) → (answer ≡ trace.Broken slot) ↔ BreaksAt places page slot i
-  pub absent : (answer ≡ trace.Absent) ↔ IsUnlisted page i
+pub record IsTraceOf (places : Places) (page : ℕ × ℕ) (i : Opened) (walk : Trace) : Type 0 where
+  pub found : (there : Found) → (walk ≡ trace.Found there) ↔ LiesAt places page there i
+  pub broken : (slot : ℕ) → (walk ≡ trace.Broken slot) ↔ BreaksAt places page slot i
+  pub absent : (walk ≡ trace.Absent) ↔ IsUnlisted page i
 
 -- the tables are such as image text has, and each image's parent number is below the number that it stands for
 pub record AreImages (places : Places) : Type 0 where

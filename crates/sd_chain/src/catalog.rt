@@ -3,7 +3,7 @@ ghost use Rattle.std.specs.Prelude.{◌≡◌, ◌≢◌, ◌⊎◌, ◌==◌, �
 ghost use Rattle.sd_image.specs.Image.{Image, OpenImages};
 ghost use Rattle.sd_chain.specs.declared.error.CatalogError.TheVariants.{DoubleSerial};
 ghost use Rattle.sd_chain.specs.declared.found.Found.{Found};
-ghost use Rattle.sd_chain.specs.Reaches.{ReachesSerial, ParentsFall};
+ghost use Rattle.sd_chain.specs.Reaches.{IsChain, ReachesSerial, ParentsFall};
 ghost use Rattle.sd_chain.specs.Store.{IsCatalogOf, IsInFile, FindsHeld, FindsNamed, FindsTip, HasTheImages};
 ghost use Rattle.sd_chain.specs.Ways.{AreImages, LiesBySerial, BreaksBySerial, IsAbsent, IsTraceOf, found_in};
 ghost use Rattle.sd_chain.specs.Catalog.{Opened, place_of, images, IsHeld, Changes, is_elsewhere, without_slot, Names, IsTip, IsRestored, IsGreatest, IsSound, serial_of, checkpoint_of};
@@ -60,11 +60,11 @@ impl Catalog {
         }
     }
 
-    /// Makes a place for a serial, that no answer shows.
+    /// Makes a place for a serial, which no other function shows, so that `add` takes no memory for it later.
     ///
     /// # Errors
     ///
-    /// The serial is there or held. Out of memory where the place finds no room. An error changes nothing.
+    /// `DoubleSerial` where the serial is there or held. `OutOfMemory` where the place finds no room. An error changes nothing.
     pub fn hold(&mut self, serial: u64) -> Result<(), CatalogError>
         ensures held { OnOk result (Changes self.old self.new serial (Some None)) }
         ensures double { IsErrOf result DoubleSerial ↔ IsSome (place_of self.old serial) }
@@ -95,8 +95,8 @@ impl Catalog {
     ///
     /// # Errors
     ///
-    /// An image with that serial is there. Out of memory where the serial isn't held and its place finds no room. An
-    /// error changes nothing.
+    /// `DoubleSerial` where an image with that serial is there. `OutOfMemory` where the serial isn't held and its place
+    /// finds no room. An error changes nothing.
     pub fn add(
         &mut self,
         slot: usize,
@@ -285,7 +285,7 @@ impl Catalog {
             → (result ≡ Trace.Broken slot) ↔ BreaksBySerial self.now serial (space, page) slot }
         ensures absent { AreImages self.now
             → (result ≡ Trace.Absent) ↔ IsAbsent self.now serial (space, page) }
-        // The same of whole files.
+        // Where it is the catalog of files, the page's bytes are those that the image holds.
         ensures held { (contents : List (List ℕ)) (images : List Image) → IsCatalogOf contents self.now
             → OpenImages contents images → FindsHeld contents images serial (space, page) (found_in result) }
         ensures inside { (contents : List (List ℕ)) → IsCatalogOf contents self.now
@@ -314,15 +314,18 @@ impl Catalog {
         self.trace(serial, space, page).found()
     }
 
-    /// The serials of the images that an image reaches: its own, that of the image that its parent number names, also
-    /// where it has no page there, and what that one reaches. None where no image has the serial.
+    /// The serials of the images that an image reaches, from the image on: its own, that of the image that its parent
+    /// number names, also where it has no page there, and what that one reaches. The list is empty where no image has
+    /// the serial.
     ///
     /// # Errors
     ///
     /// Out of memory where the list finds no room.
     pub fn reachable(&self, serial: u64) -> Result<Vec<u64>, AllocError>
-        ensures { ParentsFall self.now → IfOk result (λ list. (reached : ℕ)
+        ensures reached { ParentsFall self.now → IfOk result (λ list. (reached : ℕ)
             → Contains list.items reached ↔ ReachesSerial self.now serial reached) }
+        // Each image is named by the parent number of the one before.
+        ensures chain { ParentsFall self.now → IfOk result (λ list. IsChain self.now serial list.items) }
     {
         let mut reached = Vec::new(self.alloc);
         let mut next = self.image(serial);

@@ -1,6 +1,6 @@
 //! An open image of a catalog.
 ghost use Rattle.std.specs.Prelude.{◌≡◌, ◌↔◌, Some, map};
-ghost use Rattle.sd_image.specs.Table.{listed, IsTable};
+ghost use Rattle.sd_image.specs.Table.{listing_of, IsTable};
 ghost use Rattle.sd_chain.specs.declared.way.Way.{Way};
 ghost use Rattle.sd_chain.specs.Ways.{HasPage};
 
@@ -54,7 +54,7 @@ impl OpenImage {
 
     /// Its table.
     pub fn table(&self) -> &Table
-        ensures { map listed result.now.spaces.items ≡ self.now.spaces }
+        ensures { map listing_of result.now.spaces.items ≡ self.now.spaces }
     {
         self.table.table()
     }

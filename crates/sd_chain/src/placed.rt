@@ -3,7 +3,7 @@ ghost use Rattle.std.specs.Prelude.{◌≡◌, ◌==◌, ◌≤◌, ◌<◌, ◌
 ghost use Rattle.sd_areas.specs.Pages.{is_within};
 ghost use Rattle.sd_image.specs.declared.header.Header.{Header};
 ghost use Rattle.sd_image.specs.declared.run.Run.{Run};
-ghost use Rattle.sd_image.specs.Table.{listed, AreRuns, IsTable};
+ghost use Rattle.sd_image.specs.Table.{listing_of, AreRuns, IsTable};
 ghost use Rattle.sd_chain.specs.declared.way.Way.{Way};
 ghost use Rattle.sd_chain.specs.Placed.{after_run, after_runs, places_of, all_places_of};
 ghost use Rattle.sd_chain.specs.Ways.{HasPage};
@@ -24,12 +24,12 @@ pub struct PlacedTable {
 
 impl Model for PlacedTable {
     ghost use Rattle.std.specs.Prelude.{◌≡◌, List, map};
-    ghost use Rattle.sd_image.specs.Table.{Listed, listed};
+    ghost use Rattle.sd_image.specs.Table.{Listed, listing_of};
     ghost use Rattle.sd_chain.specs.Placed.{all_places_of};
 
     ghost Value = { List Listed };
 
-    ghost view = { λ t. map listed t.table.spaces.items };
+    ghost view = { λ t. map listing_of t.table.spaces.items };
 
     ghost invariant = { λ t. map (λ row. row.items) t.places.items ≡ all_places_of 0 t.table.spaces.items };
 }
@@ -96,7 +96,7 @@ impl PlacedTable {
     ///
     /// Out of memory where the counts find no room.
     pub fn new(alloc: Global, table: Table) -> Result<Self, AllocError>
-        ensures { IfOk result (λ placed. placed ≡ map listed table.spaces.items) }
+        ensures { IfOk result (λ placed. placed ≡ map listing_of table.spaces.items) }
     {
         let mut places = Vec::new(alloc);
         let mut before = 0;
@@ -110,7 +110,7 @@ impl PlacedTable {
 
     /// What it says of the spaces.
     pub fn table(&self) -> &Table
-        ensures { map listed result.now.spaces.items ≡ self.now }
+        ensures { map listing_of result.now.spaces.items ≡ self.now }
     {
         &self.table
     }

@@ -9,7 +9,7 @@ use Rattle.sd_image.specs.declared.reason.Reason.TheVariants as reason
 use Rattle.sd_image.specs.declared.run.Run.{Run}
 use Rattle.sd_image.specs.declared.space_head.SpaceHead.{SpaceHead}
 use Rattle.sd_image.specs.Table.{Listed}
-use Rattle.sd_image.specs.Reading.{◌>>=◌, number_at, spelled, many, head_at, space_head_of, space_head_at, area_limit, area_of, area_holds, area_from, area_at, run_of, run_holds, run_from, run_at, covers, space_at, ends_rightly, table_in}
+use Rattle.sd_image.specs.Reading.{◌>>=◌, number_at, item_value, many, head_at, space_head_of, space_head_at, area_limit, area_of, area_holds, area_from, area_at, run_of, run_holds, run_from, run_at, covers, space_at, ends_rightly, table_in}
 use Rattle.sd_image.specs.ReasonLaws.{reason_number, IsLeast}
 use Rattle.sd_image.specs.FirstFault.{applies, head_rules, space_head_rules, area_rules, run_rules, Reaches, here, later, IsSpaceFault, space_head_breaks, area_breaks, run_breaks, space_ends_wrongly, IsTableFault, table_head_breaks, space_breaks, table_ends_wrongly, FirstFaultIsNamed}
 use Rattle.sd_image.proofs.LeastReason.{number_once}
@@ -120,7 +120,7 @@ abbrev part : List ℕ → List ℕ → Result (List ℕ × List ℕ) Reason
 part item rest = Ok (item, rest)
 
 item_fails : {X : Type 0} (past : Bool) (item rest : List ℕ) (holds : List ℕ → Bool) (rule : Reason) (reserved : List ℕ → ℕ) (made : List ℕ → X)
-    → fails {A = X × List ℕ} (cond past (Err reason.PastEnd) (part item rest) >>= λ i. spelled (holds i.0) rule (reserved i.0) (made i.0) >>= λ y. Ok (y, i.1))
+    → fails {A = X × List ℕ} (cond past (Err reason.PastEnd) (part item rest) >>= λ i. item_value (holds i.0) rule (reserved i.0) (made i.0) >>= λ y. Ok (y, i.1))
     ≡ first_broken ((reason.PastEnd, past) ∷ (rule, not (holds item)) ∷ (reason.Zero, not (eqb (reserved item) 0)) ∷ [])
 item_fails true item rest holds rule reserved made = refl
 item_fails false item rest holds rule reserved made = spelled_fails (holds item) rule (eqb (reserved item) 0) (made item) rest

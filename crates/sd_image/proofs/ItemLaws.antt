@@ -14,7 +14,7 @@ use Rattle.sd_image.specs.declared.run.RunKind.{RunKind}
 use Rattle.sd_image.specs.declared.run.RunKind.TheVariants.{Data, Parent, Zero}
 use Rattle.sd_image.specs.Words.{run_kind_number, number_bytes, zeros}
 use Rattle.sd_image.specs.Table.{area_text, run_text, is_run_after}
-use Rattle.sd_image.specs.Reading.{◌>>=◌, number_at, item_at, spelled, prot_of, area_of, area_holds, area_from, area_at, run_kind_of, run_of, run_holds, run_from, run_at}
+use Rattle.sd_image.specs.Reading.{◌>>=◌, number_at, item_at, item_value, prot_of, area_of, area_holds, area_from, area_at, run_kind_of, run_of, run_holds, run_from, run_at}
 use Rattle.sd_image.proofs.Steps.{IsBytes, IsBytes-take, IsBytes-drop, bind_ok, guard_ok, ok_is, Takes, piece}
 use Rattle.sd_image.proofs.Numbers.{bytes_4, bytes_8}
 use Rattle.sd_image.proofs.Written.{zero_4}
@@ -45,7 +45,7 @@ item_again n item rest long =
     let enough : ltb (length (item ++ rest)) n ≡ false = le-ltb _ _ (omega (arith, length-append item rest)) in
     rw (enough, take_at item rest n long, drop_at item rest n long) refl
 
-pub spelled_ok : {X : Type 0} (holds : Bool) (rule : Reason) (reserved : ℕ) (x y : X) → spelled holds rule reserved x ≡ Ok y → (holds ≡ true) × (reserved ≡ 0) × (x ≡ y)
+pub spelled_ok : {X : Type 0} (holds : Bool) (rule : Reason) (reserved : ℕ) (x y : X) → item_value holds rule reserved x ≡ Ok y → (holds ≡ true) × (reserved ≡ 0) × (x ≡ y)
 spelled_ok {X} holds rule reserved x y e =
     let a = guard_ok (not holds) rule (cond (not (eqb reserved 0)) (Err reason.Zero) (Ok x)) y e in
     let b = guard_ok (not (eqb reserved 0)) reason.Zero (Ok x) y a.1 in

@@ -55,7 +55,7 @@ last_push (y ∷ z ∷ xs) x =
     let n : length (y ∷ z ∷ (xs ++ x ∷ [])) - 1 ≡ suc (length (z ∷ (xs ++ x ∷ [])) - 1) = omega arith in
     rw n (last_push (z ∷ xs) x)
 
--- the same, where the reader's caller sees what it read by a view, and memory may run out
+-- one more item, where the caller sees what was read by a view, and memory may run out
 pub ends_fails : {X S : Type 0} (read : S → List ℕ → Result (X × List ℕ) Reason) (after : X → S) (front : List X) (count i : ℕ) (state : S) (bytes : List ℕ) (e : TableError) (total : Result (List X × List ℕ) Reason)
     → i < count → Fails e (read state bytes) → with_front front (many read after (count - i) state bytes) ≡ total → Fails e total
 ends_fails read after front count i state bytes errors.OutOfMemory total lt h so_far = tt

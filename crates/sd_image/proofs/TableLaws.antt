@@ -11,8 +11,8 @@ use Rattle.sd_image.specs.declared.reason.Reason.TheVariants as reason
 use Rattle.sd_image.specs.declared.table.Table.{Table}
 use Rattle.sd_image.specs.declared.table_error.TableError.{TableError}
 use Rattle.sd_image.specs.Words.{number_bytes, zeros}
-use Rattle.sd_image.specs.Table.{Listed, listed, space_text, table_text, IsSpace, data_count, mapped_count, IsTable}
-use Rattle.sd_image.specs.Reading.{◌>>=◌, Gives, number_at, item_at, spelled, many, head_at, space_at, ends_rightly, table_in}
+use Rattle.sd_image.specs.Table.{Listed, listing_of, space_text, table_text, IsSpace, data_count, mapped_count, IsTable}
+use Rattle.sd_image.specs.Reading.{◌>>=◌, Gives, number_at, item_at, item_value, many, head_at, space_at, ends_rightly, table_in}
 use Rattle.sd_image.proofs.Steps.{IsBytes, bind_ok, guard_ends, ok_is, Takes, Takes-then, piece}
 use Rattle.sd_image.proofs.Numbers.{bytes_4}
 use Rattle.sd_image.proofs.ManyLaws.{many_take, many_again}
@@ -29,8 +29,8 @@ record IsHead (bytes : List ℕ) (n : ℕ) (rest : List ℕ) : Type 0 where
 head_takes : (bytes : List ℕ) (x : ℕ × List ℕ) → IsBytes bytes → head_at bytes ≡ Ok x → IsHead bytes x.0 x.1
 unfolding head_at
 head_takes bytes x fits e =
-    let a = bind_ok (item_at 8 bytes) (λ item. spelled (leb (number_at 4 0 item.0) 16) reason.Space (number_at 4 4 item.0) (number_at 4 0 item.0) >>= λ spaces. Ok (spaces, item.1)) x e in
-    let b = bind_ok (spelled (leb (number_at 4 0 a.0.0) 16) reason.Space (number_at 4 4 a.0.0) (number_at 4 0 a.0.0)) (λ spaces. Ok (spaces, a.0.1)) x a.2 in
+    let a = bind_ok (item_at 8 bytes) (λ item. item_value (leb (number_at 4 0 item.0) 16) reason.Space (number_at 4 4 item.0) (number_at 4 0 item.0) >>= λ spaces. Ok (spaces, item.1)) x e in
+    let b = bind_ok (item_value (leb (number_at 4 0 a.0.0) 16) reason.Space (number_at 4 4 a.0.0) (number_at 4 0 a.0.0)) (λ spaces. Ok (spaces, a.0.1)) x a.2 in
     let i = item_takes 8 bytes a.0 fits a.1 in
     let s = spelled_ok (leb (number_at 4 0 a.0.0) 16) reason.Space (number_at 4 4 a.0.0) (number_at 4 0 a.0.0) b.0 b.1 in
     let p4 = last_zero 4 8 a.0.0 i.fits refl i.long s.1 in
@@ -107,8 +107,8 @@ table_again h spaces good =
     let rest : many (space_at h) number_of (length spaces) 0 body ≡ Ok (spaces, []) = ap (many (space_at h) number_of (length spaces) 0) (sym (append-nil body)) ∙ many_again (space_at h) number_of space_text (IsSpace h) (space_again h) 0 spaces [] (from_spaces h 0 spaces good.each) in
     ap (table_in h) whole ∙ rw (head, rest, ends_again h spaces good.data good.mapped) refl
 
-pub is_found : (h : Header) (bytes : List ℕ) (r : Result Table TableError) → IsBytes bytes → Gives (λ t. map listed t.spaces.items) r (table_in h bytes) → IfOk r (λ t. (bytes ≡ table_text (map listed t.spaces.items)) × IsTable h (map listed t.spaces.items))
-is_found h bytes (Ok t) fits given = table_takes h bytes (map listed t.spaces.items) fits given
+pub is_found : (h : Header) (bytes : List ℕ) (r : Result Table TableError) → IsBytes bytes → Gives (λ t. map listing_of t.spaces.items) r (table_in h bytes) → IfOk r (λ t. (bytes ≡ table_text (map listing_of t.spaces.items)) × IsTable h (map listing_of t.spaces.items))
+is_found h bytes (Ok t) fits given = table_takes h bytes (map listing_of t.spaces.items) fits given
 is_found h bytes (Err e) fits given = tt
 
 -- one text has one table

@@ -31,7 +31,7 @@ abbrev pub Reads : {X Y : Type 0} → (X → Y) → Result X Reason → Result Y
 Reads view (Ok x) read = read ≡ Ok (view x)
 Reads view (Err e) read = read ≡ Err e
 
--- The same, unless memory ran out.
+-- A table is read as reading says, unless memory ran out.
 abbrev pub Fails : {Y : Type 0} → TableError → Result Y Reason → Type 0
 Fails errors.OutOfMemory read = Unit {0}
 Fails (errors.Damaged e) read = read ≡ Err e
@@ -118,9 +118,9 @@ header_in bytes len = do
 abbrev pub item_at : ℕ → List ℕ → Result (List ℕ × List ℕ) Reason
 item_at n bytes = if nat_lt (length bytes) n then Err reason.PastEnd else Ok (take n bytes, drop n bytes)
 
--- what is spelled, where two rules hold: the item's own, and that a number that has to be zero is
-abbrev pub spelled : {X : Type 0} → Bool → Reason → ℕ → X → Result X Reason
-spelled holds rule reserved x = if not holds then Err rule else if not (reserved == 0) then Err reason.Zero else Ok x
+-- the value of an item, where two rules hold: the item's own, and that the number that has to be zero is
+abbrev pub item_value : {X : Type 0} → Bool → Reason → ℕ → X → Result X Reason
+item_value holds rule reserved x = if not holds then Err rule else if not (reserved == 0) then Err reason.Zero else Ok x
 
 -- n items one after the other; of each, what the next one is read by
 unfoldable pub many : {X S : Type 0} → (S → List ℕ → Result (X × List ℕ) Reason) → (X → S) → ℕ → S → List ℕ → Result (List X × List ℕ) Reason
@@ -134,7 +134,7 @@ many read after (suc n) state bytes = do
 unfoldable pub head_at : List ℕ → Result (ℕ × List ℕ) Reason
 head_at bytes = do
   item ← item_at 8 bytes
-  spaces ← spelled (nat_le (number_at 4 0 item.0) 16) reason.Space (number_at 4 4 item.0) (number_at 4 0 item.0)
+  spaces ← item_value (nat_le (number_at 4 0 item.0) 16) reason.Space (number_at 4 4 item.0) (number_at 4 0 item.0)
   Ok (spaces, item.1)
 
 -- permissions from their number
@@ -149,7 +149,7 @@ unfoldable pub area_holds : Option Area → List ℕ → Bool
 area_holds before item = nat_le (number_at 4 16 item) 7 && is_area_after before (area_of item)
 
 unfoldable pub area_from : Option Area → List ℕ → Result Area Reason
-area_from before item = spelled (area_holds before item) reason.Area (number_at 4 20 item) (area_of item)
+area_from before item = item_value (area_holds before item) reason.Area (number_at 4 20 item) (area_of item)
 
 unfoldable pub area_at : Option Area → List ℕ → Result (Area × List ℕ) Reason
 area_at before bytes = do
@@ -168,7 +168,7 @@ unfoldable pub run_holds : ℕ → Option Run → List ℕ → Bool
 run_holds parent before item = nat_le 1 (number_at 4 16 item) && nat_le (number_at 4 16 item) 3 && is_run_after parent before (run_of item)
 
 unfoldable pub run_from : ℕ → Option Run → List ℕ → Result Run Reason
-run_from parent before item = spelled (run_holds parent before item) reason.Run (number_at 4 20 item) (run_of item)
+run_from parent before item = item_value (run_holds parent before item) reason.Run (number_at 4 20 item) (run_of item)
 
 unfoldable pub run_at : ℕ → Option Run → List ℕ → Result (Run × List ℕ) Reason
 run_at parent before bytes = do

@@ -18,8 +18,8 @@ pub record Listed : Type 0 where
   pub areas : List Area
   pub runs : List Run
 
-abbrev pub listed : SpaceTable → Listed
-listed t = record { space = t.space; areas = t.areas.items; runs = t.runs.items }
+abbrev pub listing_of : SpaceTable → Listed
+listing_of t = record { space = t.space; areas = t.areas.items; runs = t.runs.items }
 
 -- Its text.
 

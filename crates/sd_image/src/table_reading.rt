@@ -5,7 +5,7 @@ ghost use Rattle.sd_areas.specs.Areas.{begins_after, is_area_after};
 ghost use Rattle.sd_image.specs.declared.header.Header.{Header};
 ghost use Rattle.sd_image.specs.Reading.{Reads, Gives, number_at, prot_of, item_at, many, head_at, area_of, area_holds, area_from, area_at, run_kind_of, run_of, run_holds, run_from, run_at, area_limit, space_head_of, space_head_at, covers, space_at, ends_rightly, table_in};
 ghost use Rattle.sd_image.specs.Words.{run_kind_number};
-ghost use Rattle.sd_image.specs.Table.{Listed, listed, begins_behind, has_source, is_run_after, table_text, IsTable};
+ghost use Rattle.sd_image.specs.Table.{Listed, listing_of, begins_behind, has_source, is_run_after, table_text, IsTable};
 
 use crate::coverage::have_same_pages;
 use crate::fields::{u32_at, u64_at};
@@ -280,7 +280,7 @@ fn space_of<'a>(
     before: u64,
     bytes: &'a [u8],
 ) -> Result<(SpaceTable, &'a [u8]), TableError>
-    ensures { Gives (λ x. (listed x.0, x.1.now)) result (space_at header.now before bytes.now) }
+    ensures { Gives (λ x. (listing_of x.0, x.1.now)) result (space_at header.now before bytes.now) }
 {
     let (head, rest) = space_head_of(header.kind, before, bytes)?;
     let (areas, rest) = areas_of(alloc, head.areas, rest)?;
@@ -299,7 +299,7 @@ fn spaces_of<'a>(
     count: u32,
     bytes: &'a [u8],
 ) -> Result<(Vec<SpaceTable>, &'a [u8]), TableError>
-    ensures { Gives (λ x. (map listed x.0.items, x.1.now)) result (many (space_at header.now) (λ s. s.space) count 0 bytes.now) }
+    ensures { Gives (λ x. (map listing_of x.0.items, x.1.now)) result (many (space_at header.now) (λ s. s.space) count 0 bytes.now) }
 {
     let mut spaces = Vec::new(alloc);
     let mut before = 0;
@@ -316,7 +316,7 @@ fn spaces_of<'a>(
 /// Whether nothing is left, and the pages are as many as they have to be.
 #[tactic(auto, unfolding(crate::specs::Reading::ends_rightly))]
 fn ends_rightly(header: &Header, spaces: &[SpaceTable], rest: &[u8]) -> bool
-    ensures { result ≡ ends_rightly header.now (map listed spaces.now) rest.now }
+    ensures { result ≡ ends_rightly header.now (map listing_of spaces.now) rest.now }
 {
     rest.is_empty()
         && left_by_data(header.pages, spaces) == Some(0)
@@ -326,7 +326,7 @@ fn ends_rightly(header: &Header, spaces: &[SpaceTable], rest: &[u8]) -> bool
 /// The table that all of the bytes spell: the reading, and nothing else.
 #[tactic(auto, unfolding(crate::specs::Reading::table_in))]
 fn table_of(alloc: Global, header: &Header, bytes: &[u8]) -> Result<Table, TableError>
-    ensures { Gives (λ t. map listed t.spaces.items) result (table_in header.now bytes.now) }
+    ensures { Gives (λ t. map listing_of t.spaces.items) result (table_in header.now bytes.now) }
 {
     let (count, rest) = head_of(bytes)?;
     let (spaces, rest) = spaces_of(alloc, header, count, rest)?;
@@ -340,11 +340,11 @@ fn table_of(alloc: Global, header: &Header, bytes: &[u8]) -> Result<Table, Table
 /// first item at which a rule breaks.
 pub fn decode_table(alloc: Global, header: &Header, bytes: &[u8]) -> Result<Table, TableError>
     // What is read is spelled so, and is a table.
-    ensures found { IfOk result (λ t. (bytes.now ≡ table_text (map listed t.spaces.items)) × IsTable header.now (map listed t.spaces.items)) }
+    ensures found { IfOk result (λ t. (bytes.now ≡ table_text (map listing_of t.spaces.items)) × IsTable header.now (map listing_of t.spaces.items)) }
     // What is spelled so is read, unless memory runs out.
-    ensures only { (spaces : List Listed) → bytes.now ≡ table_text spaces → IsTable header.now spaces → Gives (λ t. map listed t.spaces.items) result (Ok spaces) }
+    ensures only { (spaces : List Listed) → bytes.now ≡ table_text spaces → IsTable header.now spaces → Gives (λ t. map listing_of t.spaces.items) result (Ok spaces) }
     // Which reason it is.
-    ensures exact { Gives (λ t. map listed t.spaces.items) result (table_in header.now bytes.now) }
+    ensures exact { Gives (λ t. map listing_of t.spaces.items) result (table_in header.now bytes.now) }
 {
     table_of(alloc, header, bytes)
 }

@@ -4,7 +4,7 @@ ghost use Rattle.std.specs.Prelude.{◌≡◌, ◌++◌, map, Ok, IfOk, OnOk};
 ghost use Rattle.std.specs.List.{flat_map};
 ghost use Rattle.sd_image.specs.Words.{run_kind_number};
 ghost use Rattle.sd_image.specs.declared.header.Header.{Header};
-ghost use Rattle.sd_image.specs.Table.{listed, area_text, run_text, space_text, table_text, IsTable};
+ghost use Rattle.sd_image.specs.Table.{listing_of, area_text, run_text, space_text, table_text, IsTable};
 ghost use Rattle.sd_image.specs.Reading.{table_in};
 
 use crate::fields::{put_u32, put_u64};
@@ -68,7 +68,7 @@ fn put_runs(out: &mut Vec<u8>, runs: &[Run]) -> Result<(), AllocError>
 
 /// Writes a space: its head, its areas and its runs.
 fn put_space(out: &mut Vec<u8>, space: &SpaceTable) -> Result<(), AllocError>
-    ensures { OnOk result (out.new.items ≡ out.old.items ++ space_text (listed space.now)) }
+    ensures { OnOk result (out.new.items ≡ out.old.items ++ space_text (listing_of space.now)) }
 {
     put_u32(out, space.space.number())?;
     put_u32(out, space.areas.len() as u64)?;
@@ -80,7 +80,7 @@ fn put_space(out: &mut Vec<u8>, space: &SpaceTable) -> Result<(), AllocError>
 
 /// Writes spaces, one behind the other.
 fn put_spaces(out: &mut Vec<u8>, spaces: &[SpaceTable]) -> Result<(), AllocError>
-    ensures { OnOk result (out.new.items ≡ out.old.items ++ flat_map space_text (map listed spaces.now)) }
+    ensures { OnOk result (out.new.items ≡ out.old.items ++ flat_map space_text (map listing_of spaces.now)) }
 {
     for space in spaces {
         put_space(out, space)?;
@@ -90,10 +90,10 @@ fn put_spaces(out: &mut Vec<u8>, spaces: &[SpaceTable]) -> Result<(), AllocError
 
 /// The bytes of a table. A count that does not fit its bytes loses its highest ones.
 pub fn encode_table(alloc: Global, table: &Table) -> Result<Vec<u8>, AllocError>
-    ensures text { IfOk result (λ v. v.items ≡ table_text (map listed table.now.spaces.items)) }
+    ensures text { IfOk result (λ v. v.items ≡ table_text (map listing_of table.now.spaces.items)) }
     // What is written is read back, behind each header whose table it is.
-    ensures read_back { IfOk result (λ v. (header : Header) → IsTable header (map listed table.now.spaces.items)
-        → table_in header v.items ≡ Ok (map listed table.now.spaces.items)) }
+    ensures read_back { IfOk result (λ v. (header : Header) → IsTable header (map listing_of table.now.spaces.items)
+        → table_in header v.items ≡ Ok (map listing_of table.now.spaces.items)) }
 {
     let mut out = Vec::new(alloc);
     put_u32(&mut out, table.spaces.len() as u64)?;

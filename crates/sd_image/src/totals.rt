@@ -1,7 +1,7 @@
 //! How many pages a table has, against a limit.
 
 ghost use Rattle.std.specs.Prelude.{◌≡◌, ◌-◌, ◌≤◌, if◌then◌else◌, map, sum_by, SomeIff};
-ghost use Rattle.sd_image.specs.Table.{listed, is_data, data_count, mapped_count};
+ghost use Rattle.sd_image.specs.Table.{listing_of, is_data, data_count, mapped_count};
 
 use crate::run::{Run, RunKind};
 use crate::table::SpaceTable;
@@ -41,7 +41,7 @@ fn left_by_runs(limit: u64, runs: &[Run]) -> Option<u64>
 
 /// What all mapped pages leave of a limit, or none where they are more.
 pub(crate) fn left_by_mapped(limit: u64, spaces: &[SpaceTable]) -> Option<u64>
-    ensures { SomeIff result (mapped_count (map listed spaces.now) ≤ limit) (limit - mapped_count (map listed spaces.now)) }
+    ensures { SomeIff result (mapped_count (map listing_of spaces.now) ≤ limit) (limit - mapped_count (map listing_of spaces.now)) }
 {
     let mut left = limit;
     for space in spaces {
@@ -52,7 +52,7 @@ pub(crate) fn left_by_mapped(limit: u64, spaces: &[SpaceTable]) -> Option<u64>
 
 /// What all pages with data leave of a limit, or none where they are more.
 pub(crate) fn left_by_data(limit: u64, spaces: &[SpaceTable]) -> Option<u64>
-    ensures { SomeIff result (data_count (map listed spaces.now) ≤ limit) (limit - data_count (map listed spaces.now)) }
+    ensures { SomeIff result (data_count (map listing_of spaces.now) ≤ limit) (limit - data_count (map listing_of spaces.now)) }
 {
     let mut left = limit;
     for space in spaces {

@@ -3,7 +3,7 @@ use Rattle.std.proofs.Common.{◌≡◌, ◌<◌, ◌≤◌, ◌+◌, ◌-◌, �
 use Rattle.std.specs.Prelude.{slice_range, slice_index, nat_le}
 use Rattle.std.proofs.lemmas.Bool.{le-leb, lt-leb, ne_eqb}
 use Rattle.sd_image.specs.Header.{header_text, IsHeader}
-use Rattle.sd_image.specs.Table.{listed, table_text, IsTable}
+use Rattle.sd_image.specs.Table.{listing_of, table_text, IsTable}
 use Rattle.sd_image.specs.Image.{Image, IsImage, OpenImages, is_open}
 use Rattle.std.proofs.lemmas.List.{length-drop, length-take-le}
 use Rattle.sd_image.specs.declared.header.Header.{Header}
@@ -40,10 +40,10 @@ table_is_rest file h is =
 
 -- such a file is the image that its header and its table say
 pub is_decoded : FileIsImage → (file : List ℕ) (decoded : Decoded) → HasHeader file decoded.header
-    → table_bytes decoded.header file ≡ table_text (map listed decoded.table.spaces.items) → IsTable decoded.header (map listed decoded.table.spaces.items)
+    → table_bytes decoded.header file ≡ table_text (map listing_of decoded.table.spaces.items) → IsTable decoded.header (map listing_of decoded.table.spaces.items)
     → IsDecodedAs file decoded
 is_decoded law file decoded has spelled table =
-    let image = law file decoded.header (map listed decoded.table.spaces.items) has.opens has.spelled has.is (sym (table_is_rest file decoded.header has.is) ∙ spelled) table in
+    let image = law file decoded.header (map listing_of decoded.table.spaces.items) has.opens has.spelled has.is (sym (table_is_rest file decoded.header has.is) ∙ spelled) table in
     record { opens = has.opens; image = image.0; spelled = image.1; header = image.2; spaces = image.3 }
 
 -- and where its table breaks a rule, so does it

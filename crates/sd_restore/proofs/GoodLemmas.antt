@@ -41,18 +41,18 @@ stands_once [] y zs distinct = refl
 stands_once (x ∷ xs) y zs distinct = neither (nat_eq y x) (list_any (nat_eq y) xs) (apart x y (differs x xs y zs distinct.0)) (stands_once xs y zs distinct.1)
 
 -- the images of all slots are those of the slots before one, that of this one, and those behind it
-parted : OneImage → (contents : List (List ℕ)) (slot : ℕ) (earlier images : List Image) (image : Image) → OpenImages (take slot contents) earlier
+split_at_slot : OneImage → (contents : List (List ℕ)) (slot : ℕ) (earlier images : List Image) (image : Image) → OpenImages (take slot contents) earlier
     → is_open (file_at contents slot) ≡ true → IsImage (file_at contents slot) image → OpenImages contents images
     → (later : List Image) × (images ≡ earlier ++ image ∷ later)
-parted one [] slot earlier images image before opens is all = absurd (let e : false ≡ true = opens in cc)
-parted one (file ∷ files) zero earlier images image before opens is (inl all) = absurd (true_is_not_false (is_open file) opens all.0)
-parted one (file ∷ files) zero earlier images image before opens is (inr all) =
+split_at_slot one [] slot earlier images image before opens is all = absurd (let e : false ≡ true = opens in cc)
+split_at_slot one (file ∷ files) zero earlier images image before opens is (inl all) = absurd (true_is_not_false (is_open file) opens all.0)
+split_at_slot one (file ∷ files) zero earlier images image before opens is (inr all) =
     (all.1, all.2 ∙ ap (λ i. i ∷ all.1) (one file all.0 image all.4 is) ∙ ap (λ xs. xs ++ image ∷ all.1) (sym before))
-parted one (file ∷ files) (suc slot) earlier images image (inl before) opens is (inl all) = parted one files slot earlier images image before.1 opens is all.1
-parted one (file ∷ files) (suc slot) earlier images image (inl before) opens is (inr all) = absurd (true_is_not_false (is_open file) all.3 before.0)
-parted one (file ∷ files) (suc slot) earlier images image (inr before) opens is (inl all) = absurd (true_is_not_false (is_open file) before.3 all.0)
-parted one (file ∷ files) (suc slot) earlier images image (inr before) opens is (inr all) =
-    let others = parted one files slot before.1 all.1 image before.5 opens is all.5 in (
+split_at_slot one (file ∷ files) (suc slot) earlier images image (inl before) opens is (inl all) = split_at_slot one files slot earlier images image before.1 opens is all.1
+split_at_slot one (file ∷ files) (suc slot) earlier images image (inl before) opens is (inr all) = absurd (true_is_not_false (is_open file) all.3 before.0)
+split_at_slot one (file ∷ files) (suc slot) earlier images image (inr before) opens is (inl all) = absurd (true_is_not_false (is_open file) before.3 all.0)
+split_at_slot one (file ∷ files) (suc slot) earlier images image (inr before) opens is (inr all) =
+    let others = split_at_slot one files slot before.1 all.1 image before.5 opens is all.5 in (
       others.0,
       all.2 ∙ ap (λ i. i ∷ all.1) (one file all.0 before.0 all.4 before.4) ∙ ap (λ xs. before.0 ∷ xs) others.1
           ∙ ap (λ xs. xs ++ image ∷ others.0) (sym before.2),
@@ -60,7 +60,7 @@ parted one (file ∷ files) (suc slot) earlier images image (inr before) opens i
 
 no_double : OneImage → (contents : List (List ℕ)) (images : List Image) (slot : ℕ) → IsStore contents images → IsFirstDouble contents slot → ⊥
 no_double one contents images slot store first =
-    let parts = parted one contents slot first.earlier images first.image first.before.slots first.opens first.is store.slots in
+    let parts = split_at_slot one contents slot first.earlier images first.image first.before.slots first.opens first.is store.slots in
     true_is_not_false _ first.double (stands_once (serials_of first.earlier) first.image.header.serial (serials_of parts.0)
     (subst (IsDistinct nat_eq) (ap serials_of parts.1 ∙ map-append (λ (i : Image). i.header.serial) first.earlier (first.image ∷ parts.0)) store.serials))
 

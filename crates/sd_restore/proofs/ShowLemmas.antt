@@ -2,6 +2,7 @@
 use Rattle.std.proofs.Common.{◌≡◌, ◌<◌, ℕ, zero, suc, Bool, true, false, nat_eq, ◌||◌, List, [], ◌∷◌, ◌++◌, length, Option, Some, None, MatchOption, Contains, Bor, refl, sym, ◌∙◌, ap, subst, arith, inl, inr}
 use Rattle.std.specs.Prelude.{All, get_or}
 use Rattle.std.specs.List.{list_any}
+use Rattle.std.specs.Option.{option_map}
 use Rattle.std.specs.FinMap as finmap
 use Rattle.std.proofs.lemmas.Bool.Decides.{nat_tests}
 use Rattle.std.proofs.lemmas.List.Elements.{All-contains}
@@ -150,6 +151,22 @@ shows_none contents finds = record { images = finds.images; store = finds.store;
 
 pub none_is_no_moment : (moment : ℕ × PlainMemory) → None ≡ Some moment → ⊥
 none_is_no_moment moment e = absurd (let f : None ≡ Some moment = e in cc)
+
+-- the checkpoint of what contents show is that of their newest image
+pub checkpoint_shown : OneStore → TipOnce → (contents : List (List ℕ)) (chosen : Option (Bor Opened)) (shown : Option (ℕ × PlainMemory)) → FindsTip contents chosen → Shows contents shown
+    → option_map (λ (i : Bor Opened). i.now.header.checkpoint) chosen ≡ option_map (λ (moment : ℕ × PlainMemory). moment.0) shown
+checkpoint_shown one_store tip_once contents None None finds shows = refl
+checkpoint_shown one_store tip_once contents None (Some moment) finds shows =
+    let same : shows.images ≡ finds.images = one_store contents shows.images finds.images shows.store.slots finds.store.slots in
+    absurd (finds.newest shows.newest.0 (subst (λ all. Contains all shows.newest.0) same shows.newest.1.member) shows.newest.1.restorable)
+checkpoint_shown one_store tip_once contents (Some tip) None finds shows =
+    let same : finds.images ≡ shows.images = one_store contents finds.images shows.images finds.store.slots shows.store.slots in
+    absurd (shows.newest finds.newest.0 (subst (λ all. Contains all finds.newest.0) same finds.newest.2.member) finds.newest.2.restorable)
+checkpoint_shown one_store tip_once contents (Some tip) (Some moment) finds shows =
+    let same : finds.images ≡ shows.images = one_store contents finds.images shows.images finds.store.slots shows.store.slots in
+    let there : image_shows.IsTip shows.images finds.newest.0 = subst (λ all. image_shows.IsTip all finds.newest.0) same finds.newest.2 in
+    let is : finds.newest.0 ≡ shows.newest.0 = tip_once contents shows.images finds.newest.0 shows.newest.0 shows.store there shows.newest.1 in
+    ap Some (ap (λ (h : Header). h.checkpoint) (sym finds.newest.1.header) ∙ ap (λ (i : Image). i.header.checkpoint) is ∙ shows.newest.2)
 
 -- ---- a chain that breaks
 

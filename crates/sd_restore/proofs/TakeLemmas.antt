@@ -21,7 +21,7 @@ taken_all (x ∷ xs) (suc i) all = ap (λ zs. x ∷ zs) (taken_all xs i (omega a
 pub left : {X : Type 0} (xs : List X) (i : ℕ) (x : X) → i < length xs → x ≡ slice_index_or xs i x → drop i xs ≡ x ∷ drop (i + 1) xs
 left xs i x less is = drop_more xs i x less ∙ ap (λ y. y ∷ drop (i + 1) xs) (sym is)
 
--- the same, where another value stands for what is past the end
+-- one more was passed, whatever value stands for what is past the end
 pub taken_at : {X : Type 0} (xs : List X) (i : ℕ) (d : X) → i < length xs → take (i + 1) xs ≡ take i xs ++ slice_index_or xs i d ∷ []
 taken_at xs i d less = ap (λ k. take k xs) (add-one i) ∙ take-suc xs i d less
 

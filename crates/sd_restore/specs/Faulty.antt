@@ -15,12 +15,19 @@ use Rattle.sd_restore.specs.declared.fault.Fault.{Fault}
 use Rattle.sd_restore.specs.declared.fault.Fault.TheVariants.{EmptyChain, Damaged, Device, OutOfMemory}
 use Rattle.sd_restore.specs.Mapped.{Mapped, mapped_pages}
 
--- a fault that names a slot and a reason has them rightly
+-- what a fault says of the slot and the reason that it names
 abbrev pub Names : (ℕ → Reason → Type 0) → Fault → Type 0
 Names P EmptyChain = Unit {0}
 Names P (Damaged slot reason) = P slot reason
 Names P Device = Unit {0}
 Names P OutOfMemory = Unit {0}
+
+-- the number of a fault
+abbrev pub fault_number : Fault → ℕ
+fault_number EmptyChain = 20
+fault_number (Damaged slot reason) = 21
+fault_number Device = 22
+fault_number OutOfMemory = 23
 
 -- each open slot is an image
 pub record AreReadable (files : List (List ℕ)) : Type 0 where

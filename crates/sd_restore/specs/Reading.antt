@@ -2,7 +2,7 @@
 use Rattle.std.specs.Prelude.{◌≡◌, ℕ, ◌<◌, ◌+◌, ◌*◌, true, false, List, length, map, drop, Option, MatchOption, slice_range}
 use Rattle.sd_image.specs.declared.header.Header.{Header}
 use Rattle.sd_image.specs.Header.{header_text, IsHeader}
-use Rattle.sd_image.specs.Table.{listed, IsTable}
+use Rattle.sd_image.specs.Table.{listing_of, IsTable}
 use Rattle.sd_image.specs.Image.{Image, IsImage, is_open}
 use Rattle.sd_restore.specs.declared.decoded.Decoded.{Decoded}
 
@@ -22,7 +22,7 @@ pub record IsDecodedAs (file : List ℕ) (decoded : Decoded) : Type 0 where
   pub image : Image
   pub spelled : IsImage file image
   pub header : image.header ≡ decoded.header
-  pub spaces : image.spaces ≡ map listed decoded.table.spaces.items
+  pub spaces : image.spaces ≡ map listing_of decoded.table.spaces.items
 
 -- a slot is closed, or what was read is what its file says
 abbrev pub IsReading : List ℕ → Option Decoded → Type 0
@@ -30,5 +30,5 @@ IsReading file opened = MatchOption opened (is_open file ≡ false) (IsDecodedAs
 
 -- its table is a table, and its parent number is below the number that it stands for
 pub record IsSound (decoded : Decoded) : Type 0 where
-  pub table : IsTable decoded.header (map listed decoded.table.spaces.items)
+  pub table : IsTable decoded.header (map listing_of decoded.table.spaces.items)
   pub falls : decoded.header.parent < decoded.header.stands_for

@@ -3,7 +3,7 @@ ghost use Rattle.std.specs.Prelude.{◌≡◌, ◌≢◌, ◌+◌, ◌≤◌, �
 ghost use Rattle.sd_areas.specs.Areas.{AreMaximal, area_pages};
 ghost use Rattle.sd_image.specs.declared.reason.Reason.TheVariants.{Chain};
 ghost use Rattle.sd_image.specs.Image.{Image, OpenImages};
-ghost use Rattle.sd_image.specs.Table.{listed};
+ghost use Rattle.sd_image.specs.Table.{listing_of};
 ghost use Rattle.sd_chain.specs.Catalog.{place_of, IsTip};
 ghost use Rattle.sd_chain.specs.Store.{IsCatalogOf, IsInFile, FindsHeld};
 ghost use Rattle.sd_chain.specs.Ways.{AreImages, LiesBySerial, BreaksBySerial, IsAbsent};
@@ -83,9 +83,9 @@ fn place_space(
     requires maximal { AreMaximal None space.now.areas.items }
     requires listed { (page : ℕ) → Contains (flat_map area_pages space.now.areas.items) page → IsAbsent catalog.now serial (space.now.space, page) → ⊥ }
     ensures placed { OnOk result ((done : List Mapped) → ArePlaced catalog.now serial done pages.old.items
-        → ArePlaced catalog.now serial (done ++ space_mapped (listed space.now)) pages.new.items) }
+        → ArePlaced catalog.now serial (done ++ space_mapped (listing_of space.now)) pages.new.items) }
     ensures broken { (done : List Mapped) → ArePlaced catalog.now serial done pages.old.items
-        → IfErr result (Names (MeetsBreak catalog.now serial (done ++ space_mapped (listed space.now)))) }
+        → IfErr result (Names (MeetsBreak catalog.now serial (done ++ space_mapped (listing_of space.now)))) }
     ensures empty { result ≢ Err Fault.EmptyChain }
     ensures device { result ≢ Err Fault.Device }
 {

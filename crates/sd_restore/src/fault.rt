@@ -12,10 +12,29 @@ pub enum Fault {
     /// The store isn't in order, and this slot is the first thing that shows it.
     #[error("damaged {slot:03} {reason}")]
     Damaged { slot: usize, reason: Reason },
+    /// A call of the device failed.
     #[error("device")]
     Device,
+    /// Memory ran out.
     #[error("out-of-memory")]
     OutOfMemory,
+}
+
+impl Fault {
+    ghost use Rattle.std.specs.Prelude.{◌≡◌};
+    ghost use Rattle.sd_restore.specs.Faulty.{fault_number};
+
+    /// The number of the fault, 20 to 23, behind those of the reasons.
+    pub fn number(self) -> u8
+        ensures { result ≡ fault_number self }
+    {
+        match self {
+            Fault::EmptyChain => 20,
+            Fault::Damaged { .. } => 21,
+            Fault::Device => 22,
+            Fault::OutOfMemory => 23,
+        }
+    }
 }
 
 impl From<DeviceError> for Fault {

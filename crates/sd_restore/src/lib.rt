@@ -20,4 +20,4 @@ pub use report::Report;
 pub use restoring::{restore, restore_from};
 pub use scanned::Scanned;
 pub use slots::scan;
-pub use verifying::verify;
+pub use verifying::{newest_checkpoint, verify};

@@ -2,7 +2,7 @@
 ghost use Rattle.std.specs.Prelude.{◌≡◌, ◌≢◌, ◌<◌, ◌≤◌, ◌+◌, ◌-◌, ◌^◌, ℕ, List, true, false, map, filter, length, IfErr, IfOk, IfSome, OnOk};
 ghost use Rattle.sd_disk.specs.Contents.{file_at};
 ghost use Rattle.sd_image.specs.Image.{Image, IsImage, is_open};
-ghost use Rattle.sd_image.specs.Table.{listed};
+ghost use Rattle.sd_image.specs.Table.{listing_of};
 ghost use Rattle.sd_image.specs.Shows.{IsStore};
 ghost use Rattle.sd_chain.specs.Store.{IsCatalogOf};
 ghost use Rattle.sd_restore.specs.Faulty.{IsDamage, Names};
@@ -51,7 +51,7 @@ impl Scanned {
         requires { self.old.images < 2 ^ 64 - 1 }
         ensures scanned { OnOk result ((contents : List (List ℕ)) (image : Image) → slot < length contents
             → is_open (file_at contents slot) ≡ true → IsImage (file_at contents slot) image
-            → image.header ≡ decoded.header → image.spaces ≡ map listed decoded.table.spaces.items
+            → image.header ≡ decoded.header → image.spaces ≡ map listing_of decoded.table.spaces.items
             → IsScanned contents slot self.old → IsScanned contents (slot + 1) self.new) }
         ensures read { (count : ℕ) → slot < count → IsSound decoded → AreRead count self.old.catalog → OnOk result (AreRead count self.new.catalog) }
         ensures counted { OnOk result (self.new.images ≡ self.old.images + 1) }

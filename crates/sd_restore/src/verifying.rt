@@ -39,12 +39,27 @@ fn shown_checkpoint(alloc: Global, catalog: &Catalog) -> Result<Option<u64>, Fau
     Ok(Some(tip.header().checkpoint))
 }
 
+/// The checkpoint of the newest dump or merged image of a catalog, if there is one. It walks no chain, and takes no
+/// memory.
+pub fn newest_checkpoint(catalog: &Catalog) -> Option<u64>
+    // Where it is the catalog of contents that show something, that is its checkpoint.
+    ensures { (contents : List (List ℕ)) (shown : Option (ℕ × PlainMemory)) → IsCatalogOf contents catalog.now → Shows contents shown
+        → result ≡ option_map (λ moment. moment.0) shown }
+{
+    one_store();
+    tip_once();
+    let Some(tip) = catalog.tip() else {
+        return None;
+    };
+    Some(tip.header().checkpoint)
+}
+
 /// Makes the checks of a restore, and reads no data page: the checkpoint that the store shows, and how many slots are
 /// open.
 ///
 /// # Errors
 ///
-/// `Damaged`, `Device` and `OutOfMemory` as [`crate::restore`] answers them. A store without a checkpoint is in order.
+/// `Damaged`, `Device` and `OutOfMemory` where [`crate::restore`] reports them. A store without a checkpoint is in order.
 pub fn verify<D: Disk>(alloc: Global, disk: &mut D) -> Result<Report, Fault>
     // Such a store shows something, and the report has its checkpoint.
     ensures shown { D.is_honest disk.new → IfOk result (λ report. (shown : Option (ℕ × PlainMemory)) × Shows (D.contents disk.old) shown

@@ -120,6 +120,35 @@ fn a_broken_chain_is_told_apart(rt: HostRuntime) -> Result<(), Fail> {
     Ok(())
 }
 
+/// The greatest numbers need not be those of one image; a held serial isn't among them.
+#[test]
+fn the_greatest_numbers_are_found(rt: HostRuntime) -> Result<(), Fail> {
+    let mut catalog = Catalog::new(rt.alloc());
+    assert_eq!(rt;
+        (catalog.greatest_serial(), catalog.greatest_checkpoint()),
+        (0, 0)
+    );
+    add(&mut catalog, rt.alloc(), 0, dump(7, 1, 0), STORED)?;
+    add(&mut catalog, rt.alloc(), 1, dump(5, 9, 7), IN_PARENT)?;
+    catalog.hold(30).map_err(|_| "a place")?;
+    assert_eq!(rt;
+        (catalog.greatest_serial(), catalog.greatest_checkpoint()),
+        (7, 9)
+    );
+    Ok(())
+}
+
+#[test]
+fn a_parent_is_found_by_its_number(rt: HostRuntime) -> Result<(), Fail> {
+    let catalog = two_dumps(rt.alloc())?;
+    let first = catalog.image(1).ok_or("the first")?;
+    let second = catalog.image(2).ok_or("the second")?;
+    let parent = catalog.parent(second).map(|image| image.slot());
+    assert_eq!(rt; parent, Some(0));
+    assert!(rt; catalog.parent(first).is_none());
+    Ok(())
+}
+
 #[test]
 fn a_missing_parent_has_nothing(rt: HostRuntime) -> Result<(), Fail> {
     let mut catalog = two_dumps(rt.alloc())?;

@@ -1,9 +1,9 @@
 //! Headers and tables, written and read.
-use crate::builders::{dump, merged, pre_dump, runs, table};
+use crate::builders::{dump, merged, page, pre_dump, runs, table};
 use crate::example::{HEADER, LEN, TABLE, example, first_bytes, hello_page};
 use sd_image::{
-    Header, Reason, RunKind, Table, TableError, decode_header, decode_table, encode_header,
-    encode_table,
+    Header, Reason, Run, RunKind, Table, TableError, decode_header, decode_table, encode_header,
+    encode_table, push_page,
 };
 use std::alloc::Global;
 use std::test::Fail;
@@ -84,5 +84,42 @@ fn refused_memory_is_reported(rt: HostRuntime) -> Result<(), Fail> {
             Err(TableError::OutOfMemory) | Err(TableError::Damaged(Reason::Total))
         )
     );
+    Ok(())
+}
+
+/// The runs of these pages, each pushed with its kind.
+fn pushed(alloc: Global, rows: &[(u64, RunKind)]) -> Result<Vec<Run>, Fail> {
+    let mut runs = Vec::new(alloc);
+    let mut end = 0u64;
+    for (number, kind) in rows {
+        let page = page(*number)?;
+        if page.number() < end {
+            return Err("the pages rise".into());
+        }
+        push_page(&mut runs, page, *kind)?;
+        end = page.number() + 1;
+    }
+    Ok(runs)
+}
+
+#[test]
+fn pushed_pages_become_maximal_runs(rt: HostRuntime) -> Result<(), Fail> {
+    let rows = [
+        (3, RunKind::Data),
+        (4, RunKind::Data),
+        (5, RunKind::Zero),
+        (6, RunKind::Parent),
+        (8, RunKind::Parent),
+        (9, RunKind::Parent),
+    ];
+    let wanted = [
+        (3, 2, RunKind::Data),
+        (5, 1, RunKind::Zero),
+        (6, 1, RunKind::Parent),
+        (8, 2, RunKind::Parent),
+    ];
+    let wanted = runs(rt.alloc(), &wanted)?;
+    let pushed = pushed(rt.alloc(), &rows)?;
+    assert!(rt; pushed.as_slice() == wanted.as_slice());
     Ok(())
 }

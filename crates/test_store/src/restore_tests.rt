@@ -3,11 +3,12 @@ use crate::builders::{
     READ_WRITE, SPACE, dump, file, file_of, first, page, put, runs, second, store, table,
     third_merged,
 };
+use crate::example::example;
 use sd_areas::{Snapshot, SpaceId};
 use sd_chain::Found;
 use sd_disk::{Fused, MemDisk};
-use sd_image::{Reason, RunKind};
-use sd_restore::{Fault, Report, restore, scan, verify};
+use sd_image::{Header, Reason, RunKind, decode_header};
+use sd_restore::{Fault, Report, Scanned, decode_slot, newest_checkpoint, restore, scan, verify};
 use std::process::Abort;
 use std::test::Fail;
 
@@ -160,6 +161,30 @@ fn sixteen_spaces_are_restored(rt: HostRuntime) -> Result<(), Fail> {
     has(&rt, &snapshot, 16, 6)
 }
 
+/// Slot by slot, as an opener reads them: each slot is decoded from bytes that were read already.
+#[test]
+fn slots_are_taken_in_one_by_one(rt: HostRuntime) -> Result<(), Fail> {
+    let alloc = rt.alloc();
+    let mut scanned = Scanned::new(alloc);
+    let file = example(alloc)?;
+    let first = file.get(..4096).ok_or("a header")?;
+    let header = decode_header(first, file.len() as u64).map_err(|_| "a header")?;
+    let table = file.get(8192..).ok_or("a table")?;
+    let decoded = decode_slot(alloc, 0, header, table).ok().ok_or("an image")?;
+    assert!(rt; scanned.images < 16);
+    scanned.take_in(alloc, 0, Some(decoded))?;
+    assert!(rt; scanned.images < 16);
+    scanned.take_in(alloc, 1, None)?;
+    assert!(rt; scanned.check().is_ok());
+    assert_eq!(rt; scanned.images, 1);
+    assert_eq!(rt; newest_checkpoint(&scanned.catalog), Some(1));
+    let reason = Reason::Total;
+    let more = Header { pages: 2, ..header };
+    let fault = decode_slot(alloc, 5, more, table).err();
+    assert_eq!(rt; fault, Some(Fault::Damaged { slot: 5, reason }));
+    Ok(())
+}
+
 /// A chain that breaks is no fault of a scan.
 fn is_broken(rt: &(impl Abort + AllocGlobal), files: &[Vec<u8>], slot: usize) -> Result<(), Fail> {
     let reason = Reason::Chain;
@@ -245,12 +270,14 @@ fn faults_are_printed(rt: HostRuntime) -> Result<(), Fail> {
     let alloc = rt.alloc();
     let reason = Reason::Chain;
     let rows = [
-        (Fault::Damaged { slot: 1, reason }, "damaged 001 18"),
-        (Fault::EmptyChain, "empty chain"),
-        (Fault::Device, "device"),
-        (Fault::OutOfMemory, "out-of-memory"),
+        (Fault::EmptyChain, 20, "empty chain"),
+        (Fault::Damaged { slot: 1, reason }, 21, "damaged 001 18"),
+        (Fault::Device, 22, "device"),
+        (Fault::OutOfMemory, 23, "out-of-memory"),
     ];
-    for (fault, text) in &rows {
+    assert_eq!(rt; reason.number(), 18);
+    for (fault, number, text) in &rows {
+        assert_eq!(rt; fault.number(), *number);
         assert_eq!(rt; format!(in alloc; "{fault}")?.as_str(), *text);
     }
     Ok(())

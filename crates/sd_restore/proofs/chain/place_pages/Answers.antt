@@ -4,7 +4,7 @@ use Rattle.std.proofs.lemmas.List.Elements.{All-contains}
 use Rattle.std.proofs.lemmas.List.Folds.{flat_map-map}
 use Rattle.sd_image.specs.declared.header.Header.{Header}
 use Rattle.sd_image.specs.declared.table.SpaceTable.{SpaceTable}
-use Rattle.sd_image.specs.Table.{listed, IsTable}
+use Rattle.sd_image.specs.Table.{listing_of, IsTable}
 use Rattle.sd_chain.specs.Catalog.{Opened, images, place_of}
 use Rattle.sd_restore.specs.Faulty.{Names}
 use Rattle.sd_restore.specs.Mapped.{space_mapped, mapped_pages}
@@ -20,8 +20,8 @@ place_space-requires-clause-maximal c =
     let table = All-contains (λ (i : Opened). IsTable i.header i.spaces) (images c.args.catalog.now) tip c.requires.images.tables c.requires.newest.member in
     let items : List SpaceTable = c.deref-space-items.result.now in
     let here : Contains items c.space-item.result = contains_at items c.loop-space.space-index c.space-item.result c.loop-space-test.true c.space-item.is in
-    let spaces : map listed items ≡ tip.spaces = ap (map listed) c.deref-space-items.ensures.value ∙ c.table.ensures in
-    (space_of tip.header 0 tip.spaces (listed c.space-item.result) table.each (subst (λ xs. Contains xs (listed c.space-item.result)) spaces (contains_map listed items c.space-item.result here))).1.areas
+    let spaces : map listing_of items ≡ tip.spaces = ap (map listing_of) c.deref-space-items.ensures.value ∙ c.table.ensures in
+    (space_of tip.header 0 tip.spaces (listing_of c.space-item.result) table.each (subst (λ xs. Contains xs (listing_of c.space-item.result)) spaces (contains_map listing_of items c.space-item.result here))).1.areas
 
 pub place_space-requires-clause-listed : goal.place_space-requires-clause-listed
 place_space-requires-clause-listed c = λ page among absent.
@@ -29,10 +29,10 @@ place_space-requires-clause-listed c = λ page among absent.
     let table = All-contains (λ (i : Opened). IsTable i.header i.spaces) (images c.args.catalog.now) tip c.requires.images.tables c.requires.newest.member in
     let items : List SpaceTable = c.deref-space-items.result.now in
     let here : Contains items c.space-item.result = contains_at items c.loop-space.space-index c.space-item.result c.loop-space-test.true c.space-item.is in
-    let spaces : map listed items ≡ tip.spaces = ap (map listed) c.deref-space-items.ensures.value ∙ c.table.ensures in
-    let there : Contains tip.spaces (listed c.space-item.result) = subst (λ xs. Contains xs (listed c.space-item.result)) spaces (contains_map listed items c.space-item.result here) in
-    let space = space_of tip.header 0 tip.spaces (listed c.space-item.result) table.each there in
-    let found = has_page tip.header space.0 tip.spaces (listed c.space-item.result) page c.requires.newest.restored space.1 there among in
+    let spaces : map listing_of items ≡ tip.spaces = ap (map listing_of) c.deref-space-items.ensures.value ∙ c.table.ensures in
+    let there : Contains tip.spaces (listing_of c.space-item.result) = subst (λ xs. Contains xs (listing_of c.space-item.result)) spaces (contains_map listing_of items c.space-item.result here) in
+    let space = space_of tip.header 0 tip.spaces (listing_of c.space-item.result) table.each there in
+    let found = has_page tip.header space.0 tip.spaces (listing_of c.space-item.result) page c.requires.newest.restored space.1 there among in
     absent tip (subst (λ (h : Header). place_of c.args.catalog.now h.serial ≡ Some (Some tip)) (sym c.header.ensures) c.requires.own) found.0 found.1
 
 pub returns-in_err-place_space-clause-broken : goal.returns-in_err-place_space-clause-broken
@@ -40,9 +40,9 @@ returns-in_err-place_space-clause-broken c =
     let tip = c.args.tip.now in
     let items : List SpaceTable = c.deref-space-items.result.now in
     let i = c.loop-space.space-index in
-    let mapped : SpaceTable → List _ = λ s. space_mapped (listed s) in
-    let spaces : map listed items ≡ tip.spaces = ap (map listed) c.deref-space-items.ensures.value ∙ c.table.ensures in
-    let all : flat_map mapped items ≡ mapped_pages tip.spaces = sym (flat_map-map space_mapped listed items) ∙ ap mapped_pages spaces in
+    let mapped : SpaceTable → List _ = λ s. space_mapped (listing_of s) in
+    let spaces : map listing_of items ≡ tip.spaces = ap (map listing_of) c.deref-space-items.ensures.value ∙ c.table.ensures in
+    let all : flat_map mapped items ≡ mapped_pages tip.spaces = sym (flat_map-map space_mapped listing_of items) ∙ ap mapped_pages spaces in
     let broken = rw c.header.ensures at (c.in_err-place_space.ensures.broken ([] ++ flat_map mapped (take i items))) in
     let named : Names (MeetsBreak c.args.catalog.now tip.header.serial (mapped_pages tip.spaces)) c.in_err-place_space.field-0.0 =
     subst (λ ms. Names (MeetsBreak c.args.catalog.now tip.header.serial ms) c.in_err-place_space.field-0.0) all
@@ -55,8 +55,8 @@ pub returns-clause-placed : goal.returns-clause-placed
 returns-clause-placed c =
     let tip = c.args.tip.now in
     let items : List SpaceTable = c.deref-space-items.result.now in
-    let mapped : SpaceTable → List _ = λ s. space_mapped (listed s) in
-    let spaces : map listed items ≡ tip.spaces = ap (map listed) c.deref-space-items.ensures.value ∙ c.table.ensures in
-    let every : flat_map mapped items ≡ mapped_pages tip.spaces = sym (flat_map-map space_mapped listed items) ∙ ap mapped_pages spaces in
+    let mapped : SpaceTable → List _ = λ s. space_mapped (listing_of s) in
+    let spaces : map listing_of items ≡ tip.spaces = ap (map listing_of) c.deref-space-items.ensures.value ∙ c.table.ensures in
+    let every : flat_map mapped items ≡ mapped_pages tip.spaces = sym (flat_map-map space_mapped listing_of items) ∙ ap mapped_pages spaces in
     subst (λ ms. ArePlaced c.args.catalog.now tip.header.serial ms c.loop-space.pages.items)
     (ap (flat_map mapped) (taken_all items c.loop-space.space-index c.loop-space-test.false) ∙ every) c.loop-space.invariant
