@@ -93,7 +93,7 @@ impl Frames {
         self.free.is_none() && self.slots.len() == self.pool
     }
 
-    /// One entry more has a frame.
+    /// Increments a frame's reference count.
     pub(crate) fn share(&mut self, number: usize)
         requires used { IsSome (cell_at self.old number) }
         requires few { count_at self.old number < 2 ^ 17 }
@@ -113,7 +113,7 @@ impl Frames {
         self.slots[number].write(offset, bytes);
     }
 
-    /// One entry less has a frame. Where it was the last, the frame is free.
+    /// Decrements a frame's reference count. Where that becomes 0, the frame is free.
     pub(crate) fn release(&mut self, number: usize)
         requires { 0 < count_at self.old number }
         ensures { SetsCell self.old self.new number

@@ -161,7 +161,7 @@ impl Memory {
     }
 
     /// Gives the whole pages of a range these permissions, as `mprotect` of POSIX.1-2017 does, and
-    /// takes the writable bit of each. A length of 0 changes nothing.
+    /// write-protects each. A length of 0 changes nothing.
     /// The address and the length are in bytes.
     ///
     /// # Errors

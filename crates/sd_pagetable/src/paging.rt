@@ -274,7 +274,7 @@ impl Paging {
         self.mapped -= 1;
     }
 
-    /// Maps a page anew in place of what it was.
+    /// Replaces a mapped page by a fresh one.
     pub(crate) fn renew(&mut self, space: SpaceId, page: PageNo, prot: Prot)
         requires { IsSome (page_at self.old space page) }
         ensures { self.new ≡ put_page self.old space page (fresh_page prot) }
@@ -286,7 +286,7 @@ impl Paging {
         release(&mut self.frames, entry.frame);
     }
 
-    /// Gives a page permissions and a soft-dirty bit, and takes its writable bit.
+    /// Sets a page's permissions and its soft-dirty bit, and write-protects it.
     pub(crate) fn write_protect(
         &mut self,
         space: SpaceId,
@@ -311,8 +311,8 @@ impl Paging {
         }
     }
 
-    /// Puts a child's page, which has no frame, into the class of the parent's, and takes both
-    /// writable bits.
+    /// Makes a child's page, which has no frame, share the frame of the parent's, and
+    /// write-protects both.
     pub(crate) fn inherit(&mut self, parent: SpaceId, child: SpaceId, page: PageNo)
         requires apart { parent ≡ child → ⊥ }
         requires there { IsSome (page_at self.old parent page) }
@@ -332,7 +332,8 @@ impl Paging {
         share(&mut self.frames, entry.frame);
     }
 
-    /// Gives a page a frame of its own alone, a copy where it was shared, and sets both bits.
+    /// Makes a page writable and soft-dirty. It gets a frame of its own: a copy where its frame was
+    /// shared.
     ///
     /// # Errors
     ///
@@ -382,7 +383,7 @@ fn dirty_bit(entry: Entry) -> u64
     if entry.soft_dirty { SOFT_DIRTY } else { 0 }
 }
 
-/// One entry less has this frame, if it has one.
+/// Decrements the reference count of a frame, if there is one.
 fn release(frames: &mut Frames, frame: Option<usize>)
     requires { ForSome frame (λ number. 0 < count_at frames.old number) }
     ensures { ReleasesFrame frames.old frames.new frame }
@@ -393,7 +394,7 @@ fn release(frames: &mut Frames, frame: Option<usize>)
     frames.release(number);
 }
 
-/// One entry more has this frame, if it has one.
+/// Increments the reference count of a frame, if there is one.
 fn share(frames: &mut Frames, frame: Option<usize>)
     requires used { ForSome frame (λ number. 0 < count_at frames.old number) }
     requires few { ForSome frame (λ number. count_at frames.old number < 2 ^ 17) }
