@@ -3,7 +3,7 @@ ghost use Rattle.std.specs.Prelude.{◌≡◌, ◌+◌, ◌-◌, ◌<◌, ◌≤
 ghost use Rattle.std.specs.Option.{ForSome};
 ghost use Rattle.sd_pagetable.specs.Access.{stored_at};
 ghost use Rattle.sd_pagetable.specs.Page.{zeros};
-ghost use Rattle.sd_pagetable.specs.Frames.{Cell, cell_at, count_at, bytes_at, SetsCell, IsExhausted, HasFree};
+ghost use Rattle.sd_pagetable.specs.Frames.{Cell, cell_at, count_at, bytes_at, SetsCell, IsExhausted, HasFree, HasWholeFrames};
 ghost use Rattle.sd_pagetable.specs.View.{frame_bytes};
 
 use crate::frame::Frame;
@@ -26,7 +26,7 @@ pub(crate) struct Frames {
 
 impl Model for Frames {
     ghost use Rattle.std.specs.Prelude.{◌≤◌, length};
-    ghost use Rattle.sd_pagetable.specs.Frames.{Pool, pool_code};
+    ghost use Rattle.sd_pagetable.specs.Frames.{Pool, pool_code, HasWholeFrames};
     ghost use Rattle.sd_pagetable.specs.FrameCells.{cells_of, IsFreeList};
 
     ghost Value = { Pool };
@@ -35,7 +35,8 @@ impl Model for Frames {
 
     ghost view = { λ f. record { size = f.pool; cells = cells_of f.slots.items } };
 
-    ghost invariant = { λ f. (length f.slots.items ≤ f.pool) × IsFreeList f.slots.items f.free };
+    ghost invariant = { λ f. (length f.slots.items ≤ f.pool) × IsFreeList f.slots.items f.free
+        × HasWholeFrames (record { size = f.pool; cells = cells_of f.slots.items }) };
 }
 
 impl Frames {
@@ -83,6 +84,13 @@ impl Frames {
             Some(FrameCell::Used(frame)) => frame.bytes(),
             _ => &ZEROS,
         }
+    }
+
+    /// Each frame in use has 4,096 bytes. It does nothing: a caller learns it.
+    pub(crate) fn whole(&self)
+        ensures { HasWholeFrames self.now }
+    {
+        let _pool = self.pool;
     }
 
     /// Whether every frame of the pool is in use.
@@ -166,7 +174,8 @@ impl Frames {
     ///
     /// Out of memory where the list of places can't grow: nothing changes.
     pub(crate) fn place(&mut self, frame: Frame) -> Result<usize, AllocError>
-        requires { HasFree self.old }
+        requires free { HasFree self.old }
+        requires whole { length frame.bytes ≡ 4096 }
         ensures free { IfOk result (λ number. (number < self.old.size) × (cell_at self.old number ≡ None)) }
         ensures ok { IfOk result (λ number. SetsCell self.old self.new number (Some frame)) }
         ensures err { OnErr result (self.new ≡ self.old) }

@@ -50,7 +50,7 @@ impl Memory {
     ghost use Rattle.sd_areas.specs.Memory.{memory_of};
     ghost use Rattle.sd_pagetable.specs.Nested.{is_alive, value_at};
     ghost use Rattle.sd_pagetable.specs.Page.{Page};
-    ghost use Rattle.sd_pagetable.specs.Contents.{page_at, plain_of, word_at, IsSound};
+    ghost use Rattle.sd_pagetable.specs.Contents.{page_at, plain_of, word_at, AreWhole, IsSound};
     ghost use Rattle.sd_pagetable.specs.Effects.{after_mmap, after_munmap, after_mprotect, after_fork, after_exit, after_store, IsLeastFree};
     ghost use Rattle.sd_pagetable.specs.Due.{answer, Answers, needs_frame, page_due, access_due, fault_due, store_due, try_outcome, mmap_due, munmap_due, mprotect_due, fork_due, exit_due};
     ghost use Rattle.sd_pagetable.specs.Tracking.{Step, IsBeginning, Mapped, Unmapped, Protected, Forked, Exited, Faulted, Tried as TriedEvent, Stored, Cleared};
@@ -458,6 +458,13 @@ impl Memory {
         ensures { IsSound self.now }
     {
         let _mapped = self.paging.mapped();
+    }
+
+    /// Each page of every memory has 4,096 bytes. It does nothing: a caller learns it.
+    pub fn whole(&self)
+        ensures { AreWhole self.now }
+    {
+        self.paging.whole();
     }
 
     /// The areas of a space, at most 1,024, or none where it isn't alive.

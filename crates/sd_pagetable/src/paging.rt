@@ -5,7 +5,7 @@ ghost use Rattle.std.specs.Option.{option_map, option_map_or};
 ghost use Rattle.std.specs.FinMap as finmap;
 ghost use Rattle.sd_pagetable.specs.Nested.{inside, is_alive};
 ghost use Rattle.sd_pagetable.specs.Page.{Page, fresh_page, shared_page, inherited_page, stored_page};
-ghost use Rattle.sd_pagetable.specs.Contents.{page_at, put_page, remove_page, is_alone, is_full, page_count, word_at, IsSound};
+ghost use Rattle.sd_pagetable.specs.Contents.{page_at, put_page, remove_page, is_alone, is_full, page_count, word_at, AreWhole, IsSound};
 ghost use Rattle.sd_pagetable.specs.Access.{stored_at};
 ghost use Rattle.sd_pagetable.specs.Firsts.{IsFirstFrom};
 ghost use Rattle.std.specs.Prelude.{◌⊎◌, Err, IfErr};
@@ -134,6 +134,13 @@ impl Paging {
     {
         let entry = self.tables.get(space, page)?;
         Some(self.frames.bytes_of(entry.frame))
+    }
+
+    /// Each page has 4,096 bytes. It does nothing: a caller learns it.
+    pub(crate) fn whole(&self)
+        ensures { AreWhole self.now }
+    {
+        self.frames.whole();
     }
 
     /// The word of a page.
