@@ -168,6 +168,21 @@ impl Frames {
         self.place(Frame::new(bytes))
     }
 
+    /// A page with these bytes, in no frame yet.
+    ///
+    /// # Errors
+    ///
+    /// Out of memory where its bytes can't be allocated.
+    pub(crate) fn copy_of_page(
+        &self,
+        bytes: &[u8; PAGE_SIZE],
+    ) -> Result<Box<[u8; PAGE_SIZE]>, AllocError>
+        ensures { IfOk result (λ copy. copy.value ≡ bytes.now) }
+    {
+        let copy = Box::new(self.alloc, *bytes)?;
+        Ok(copy)
+    }
+
     /// Puts a frame into a free place.
     ///
     /// # Errors

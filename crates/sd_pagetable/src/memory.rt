@@ -83,8 +83,8 @@ impl Memory {
     }
 
     /// The spaces and pages of a snapshot, over a pool of so many frames, 1 to 65,536. Each page is
-    /// soft-dirty, and none is writable. A page that isn't all zeros is alone in a frame, which its
-    /// bytes become; a page of zeros has none.
+    /// soft-dirty, and none is writable. A page that isn't all zeros is alone in a frame with a copy
+    /// of its bytes; a page of zeros has none. The snapshot stays as it is.
     ///
     /// # Errors
     ///
@@ -94,14 +94,14 @@ impl Memory {
     pub fn from_snapshot(
         alloc: Global,
         frames: usize,
-        snapshot: Snapshot,
+        snapshot: &Snapshot,
     ) -> Result<Self, MemoryError>
         requires least { 1 ≤ frames }
         requires greatest { frames ≤ 65536 }
-        ensures due { Answers (snapshot_due frames (memory_of snapshot)) result }
-        ensures loaded { IfOk result (IsLoaded frames (memory_of snapshot)) }
+        ensures due { Answers (snapshot_due frames (memory_of snapshot.now)) result }
+        ensures loaded { IfOk result (IsLoaded frames (memory_of snapshot.now)) }
     {
-        let areas = loading::areas_of(alloc, frames, &snapshot)?;
+        let areas = loading::areas_of(alloc, frames, snapshot)?;
         let mut paging = Paging::new(alloc, frames);
         loading::load(&mut paging, snapshot)?;
         Ok(Memory { paging, areas })

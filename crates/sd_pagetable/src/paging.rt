@@ -219,7 +219,7 @@ impl Paging {
     }
 
     /// Maps a page of a snapshot that isn't mapped: without a frame where it is all zeros, else
-    /// alone in one, which its bytes become.
+    /// alone in one, with a copy of its bytes.
     ///
     /// # Errors
     ///
@@ -228,19 +228,19 @@ impl Paging {
         &mut self,
         space: SpaceId,
         page: PageNo,
-        found: SnapshotPage,
+        found: &SnapshotPage,
     ) -> Result<(), AllocError>
         requires alive { is_alive self.old.spaces space ≡ true }
         requires hole { page_at self.old space page ≡ None }
         requires few { page_count self.old.spaces < 65536 }
-        requires room { is_zero_page found.bytes.value ≡ false → is_full self.old ≡ false }
-        ensures { OnOk result (Loads self.old space page (page_of_snapshot found) self.new) }
+        requires room { is_zero_page found.now.bytes.value ≡ false → is_full self.old ≡ false }
+        ensures { OnOk result (Loads self.old space page (page_of_snapshot found.now) self.new) }
     {
-        let SnapshotPage { prot, bytes } = found;
-        self.add(space, page, prot)?;
-        if is_zero(&bytes) {
+        self.add(space, page, found.prot)?;
+        if is_zero(&found.bytes) {
             return Ok(());
         }
+        let bytes = self.frames.copy_of_page(&found.bytes)?;
         self.put_bytes(space, page, bytes)
     }
 
