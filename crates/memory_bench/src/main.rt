@@ -59,13 +59,13 @@ fn pages(alloc: Global) -> Result<(), MemoryError> {
     Ok(())
 }
 
-/// The same, and then a fork.
+/// A store to each of many pages, and then a fork.
 fn fork(alloc: Global) -> Result<(), MemoryError> {
     filled(alloc)?.fork(SpaceId::new(1))?;
     Ok(())
 }
 
-/// The same, and then a store to each page of the child.
+/// A store to each of many pages, a fork, and then a store to each page of the child.
 fn child(alloc: Global) -> Result<(), MemoryError> {
     let mut memory = filled(alloc)?;
     let child = memory.fork(SpaceId::new(1))?;

@@ -2,6 +2,7 @@ pub mod TableLemmas
 pub mod NestedLemmas
 pub mod TotalLemmas
 pub mod FrameLemmas
+pub mod WholeLemmas
 pub mod LawTests
 pub mod LawEvents
 pub mod CleanLemmas

@@ -71,6 +71,10 @@ pub record IsWritable (contents : Contents) (page : Page) : Type 0 where
   pub permitted : page.prot.write ≡ true
   pub alone : is_alone contents page ≡ true
 
+-- each page has 4,096 bytes
+abbrev pub AreWhole : Contents → Type 0
+AreWhole contents = (space number : ℕ) (page : Page) → page_at contents space number ≡ Some page → length page.bytes ≡ 4096
+
 -- what holds of every memory
 pub record IsSound (contents : Contents) : Type 0 where
   pub writable : (space number : ℕ) (page : Page) → page_at contents space number ≡ Some page → page.writable ≡ true → IsWritable contents page

@@ -1,5 +1,5 @@
 -- Counted frames, of which some are free.
-use Rattle.std.specs.Prelude.{◌≡◌, ◌≢◌, ℕ, ◌<◌, List, slice_index_or, Option, None, refl, IsSome}
+use Rattle.std.specs.Prelude.{◌≡◌, ◌≢◌, ℕ, ◌<◌, List, length, slice_index_or, Option, Some, None, refl, IsSome}
 use Rattle.std.specs.Option.{option_map_or}
 use Rattle.std.specs.Coded.{Coded, code_by, coded×, coded_ℕ, coded_list, coded_option}
 use Rattle.sd_pagetable.specs.Page.{zeros}
@@ -36,6 +36,10 @@ pub record SetsCell (old new : Pool) (number : ℕ) (cell : Option Cell) : Type 
   pub size : new.size ≡ old.size
   pub here : cell_at new number ≡ cell
   pub others : (other : ℕ) → other ≢ number → cell_at new other ≡ cell_at old other
+
+-- each frame in use has 4,096 bytes
+abbrev pub HasWholeFrames : Pool → Type 0
+HasWholeFrames pool = (number : ℕ) (cell : Cell) → cell_at pool number ≡ Some cell → length cell.bytes ≡ 4096
 
 -- each frame of the pool is in use
 abbrev pub IsExhausted : Pool → Type 0

@@ -27,7 +27,8 @@ impl Model for Frame {
 impl Frame {
     /// A frame that one entry has.
     pub(crate) fn new(bytes: Box<[u8; PAGE_SIZE]>) -> Self
-        ensures { result ≡ record { count = 1; bytes = bytes.value } }
+        ensures value { result ≡ record { count = 1; bytes = bytes.value } }
+        ensures whole { length result.bytes ≡ 4096 }
     {
         let _length = bytes[..].len();
         Frame { count: 1, bytes }

@@ -3,7 +3,7 @@ ghost use Rattle.std.specs.Prelude.{◌≡◌, ◌+◌, ◌-◌, ◌<◌, ◌≤
 ghost use Rattle.std.specs.Option.{ForSome};
 ghost use Rattle.sd_pagetable.specs.Access.{stored_at};
 ghost use Rattle.sd_pagetable.specs.Page.{zeros};
-ghost use Rattle.sd_pagetable.specs.Frames.{Cell, cell_at, count_at, bytes_at, SetsCell, IsExhausted, HasFree};
+ghost use Rattle.sd_pagetable.specs.Frames.{Cell, cell_at, count_at, bytes_at, SetsCell, IsExhausted, HasFree, HasWholeFrames};
 ghost use Rattle.sd_pagetable.specs.View.{frame_bytes};
 
 use crate::frame::Frame;
@@ -26,7 +26,7 @@ pub(crate) struct Frames {
 
 impl Model for Frames {
     ghost use Rattle.std.specs.Prelude.{◌≤◌, length};
-    ghost use Rattle.sd_pagetable.specs.Frames.{Pool, pool_code};
+    ghost use Rattle.sd_pagetable.specs.Frames.{Pool, pool_code, HasWholeFrames};
     ghost use Rattle.sd_pagetable.specs.FrameCells.{cells_of, IsFreeList};
 
     ghost Value = { Pool };
@@ -35,7 +35,8 @@ impl Model for Frames {
 
     ghost view = { λ f. record { size = f.pool; cells = cells_of f.slots.items } };
 
-    ghost invariant = { λ f. (length f.slots.items ≤ f.pool) × IsFreeList f.slots.items f.free };
+    ghost invariant = { λ f. (length f.slots.items ≤ f.pool) × IsFreeList f.slots.items f.free
+        × HasWholeFrames (record { size = f.pool; cells = cells_of f.slots.items }) };
 }
 
 impl Frames {
@@ -85,6 +86,13 @@ impl Frames {
         }
     }
 
+    /// Each frame in use has 4,096 bytes. It does nothing: a caller learns it.
+    pub(crate) fn whole(&self)
+        ensures { HasWholeFrames self.now }
+    {
+        let _pool = self.pool;
+    }
+
     /// Whether every frame of the pool is in use.
     pub(crate) fn is_exhausted(&self) -> bool
         ensures yes_if { IsTrue result → IsExhausted self.now }
@@ -93,7 +101,7 @@ impl Frames {
         self.free.is_none() && self.slots.len() == self.pool
     }
 
-    /// One entry more has a frame.
+    /// Increments a frame's reference count.
     pub(crate) fn share(&mut self, number: usize)
         requires used { IsSome (cell_at self.old number) }
         requires few { count_at self.old number < 2 ^ 17 }
@@ -113,7 +121,7 @@ impl Frames {
         self.slots[number].write(offset, bytes);
     }
 
-    /// One entry less has a frame. Where it was the last, the frame is free.
+    /// Decrements a frame's reference count. Where that becomes 0, the frame is free.
     pub(crate) fn release(&mut self, number: usize)
         requires { 0 < count_at self.old number }
         ensures { SetsCell self.old self.new number
@@ -160,13 +168,29 @@ impl Frames {
         self.place(Frame::new(bytes))
     }
 
+    /// A page with these bytes, in no frame yet.
+    ///
+    /// # Errors
+    ///
+    /// Out of memory where its bytes can't be allocated.
+    pub(crate) fn copy_of_page(
+        &self,
+        bytes: &[u8; PAGE_SIZE],
+    ) -> Result<Box<[u8; PAGE_SIZE]>, AllocError>
+        ensures { IfOk result (λ copy. copy.value ≡ bytes.now) }
+    {
+        let copy = Box::new(self.alloc, *bytes)?;
+        Ok(copy)
+    }
+
     /// Puts a frame into a free place.
     ///
     /// # Errors
     ///
     /// Out of memory where the list of places can't grow: nothing changes.
     pub(crate) fn place(&mut self, frame: Frame) -> Result<usize, AllocError>
-        requires { HasFree self.old }
+        requires free { HasFree self.old }
+        requires whole { length frame.bytes ≡ 4096 }
         ensures free { IfOk result (λ number. (number < self.old.size) × (cell_at self.old number ≡ None)) }
         ensures ok { IfOk result (λ number. SetsCell self.old self.new number (Some frame)) }
         ensures err { OnErr result (self.new ≡ self.old) }

@@ -151,18 +151,18 @@ pub(crate) fn areas_of(
 /// # Errors
 ///
 /// Out of memory where a table or the list of frames can't grow: some of the pages are mapped.
-fn load_space(paging: &mut Paging, space: SpaceId, pages: Pages) -> Result<(), AllocError>
+fn load_space(paging: &mut Paging, space: SpaceId, pages: &Pages) -> Result<(), AllocError>
     requires alive { is_alive paging.old.spaces space ≡ true }
     requires bare { inside paging.old.spaces space ≡ finmap.empty }
     requires begun { IsBegun paging.old }
-    requires few { page_count paging.old.spaces + finmap.len (space_of pages.entries) ≤ 65536 }
-    requires room { nonzero_pages (plain_of paging.old) + total frames_for (space_of pages.entries) ≤ paging.old.pool }
+    requires few { page_count paging.old.spaces + finmap.len (space_of pages.now.entries) ≤ 65536 }
+    requires room { nonzero_pages (plain_of paging.old) + total frames_for (space_of pages.now.entries) ≤ paging.old.pool }
     ensures begun { OnOk result (IsBegun paging.new) }
     ensures pool { OnOk result (paging.new.pool ≡ paging.old.pool) }
-    ensures memory { OnOk result (plain_of paging.new ≡ finmap.insert (plain_of paging.old) space (space_of pages.entries)) }
+    ensures memory { OnOk result (plain_of paging.new ≡ finmap.insert (plain_of paging.old) space (space_of pages.now.entries)) }
 {
     for (page, found) in pages {
-        paging.load(space, page, found)?;
+        paging.load(space, *page, found)?;
     }
     Ok(())
 }
@@ -172,14 +172,14 @@ fn load_space(paging: &mut Paging, space: SpaceId, pages: Pages) -> Result<(), A
 /// # Errors
 ///
 /// Out of memory where a table or the list of frames can't grow: some of the pages are mapped.
-pub(crate) fn load(paging: &mut Paging, snapshot: Snapshot) -> Result<(), AllocError>
+pub(crate) fn load(paging: &mut Paging, snapshot: &Snapshot) -> Result<(), AllocError>
     requires bare { paging.old.spaces ≡ finmap.empty }
-    requires due { snapshot_due paging.old.pool (memory_of snapshot) ≡ None }
-    ensures { OnOk result (IsLoaded paging.old.pool (memory_of snapshot) paging.new) }
+    requires due { snapshot_due paging.old.pool (memory_of snapshot.now) ≡ None }
+    ensures { OnOk result (IsLoaded paging.old.pool (memory_of snapshot.now) paging.new) }
 {
-    for (space, pages) in snapshot.spaces {
-        paging.add_space(space)?;
-        load_space(paging, space, pages)?;
+    for (space, pages) in &snapshot.spaces {
+        paging.add_space(*space)?;
+        load_space(paging, *space, pages)?;
     }
     Ok(())
 }

@@ -50,7 +50,7 @@ impl Memory {
     ghost use Rattle.sd_areas.specs.Memory.{memory_of};
     ghost use Rattle.sd_pagetable.specs.Nested.{is_alive, value_at};
     ghost use Rattle.sd_pagetable.specs.Page.{Page};
-    ghost use Rattle.sd_pagetable.specs.Contents.{page_at, plain_of, word_at, IsSound};
+    ghost use Rattle.sd_pagetable.specs.Contents.{page_at, plain_of, word_at, AreWhole, IsSound};
     ghost use Rattle.sd_pagetable.specs.Effects.{after_mmap, after_munmap, after_mprotect, after_fork, after_exit, after_store, IsLeastFree};
     ghost use Rattle.sd_pagetable.specs.Due.{answer, Answers, needs_frame, page_due, access_due, fault_due, store_due, try_outcome, mmap_due, munmap_due, mprotect_due, fork_due, exit_due};
     ghost use Rattle.sd_pagetable.specs.Tracking.{Step, IsBeginning, Mapped, Unmapped, Protected, Forked, Exited, Faulted, Tried as TriedEvent, Stored, Cleared};
@@ -83,8 +83,8 @@ impl Memory {
     }
 
     /// The spaces and pages of a snapshot, over a pool of so many frames, 1 to 65,536. Each page is
-    /// soft-dirty, and none is writable. A page that isn't all zeros is alone in a frame, which its
-    /// bytes become; a page of zeros has none.
+    /// soft-dirty, and none is writable. A page that isn't all zeros is alone in a frame with a copy
+    /// of its bytes; a page of zeros has none. The snapshot stays as it is.
     ///
     /// # Errors
     ///
@@ -94,14 +94,14 @@ impl Memory {
     pub fn from_snapshot(
         alloc: Global,
         frames: usize,
-        snapshot: Snapshot,
+        snapshot: &Snapshot,
     ) -> Result<Self, MemoryError>
         requires least { 1 ≤ frames }
         requires greatest { frames ≤ 65536 }
-        ensures due { Answers (snapshot_due frames (memory_of snapshot)) result }
-        ensures loaded { IfOk result (IsLoaded frames (memory_of snapshot)) }
+        ensures due { Answers (snapshot_due frames (memory_of snapshot.now)) result }
+        ensures loaded { IfOk result (IsLoaded frames (memory_of snapshot.now)) }
     {
-        let areas = loading::areas_of(alloc, frames, &snapshot)?;
+        let areas = loading::areas_of(alloc, frames, snapshot)?;
         let mut paging = Paging::new(alloc, frames);
         loading::load(&mut paging, snapshot)?;
         Ok(Memory { paging, areas })
@@ -161,7 +161,7 @@ impl Memory {
     }
 
     /// Gives the whole pages of a range these permissions, as `mprotect` of POSIX.1-2017 does, and
-    /// takes the writable bit of each. A length of 0 changes nothing.
+    /// write-protects each. A length of 0 changes nothing.
     /// The address and the length are in bytes.
     ///
     /// # Errors
@@ -458,6 +458,13 @@ impl Memory {
         ensures { IsSound self.now }
     {
         let _mapped = self.paging.mapped();
+    }
+
+    /// Each page of every memory has 4,096 bytes. It does nothing: a caller learns it.
+    pub fn whole(&self)
+        ensures { AreWhole self.now }
+    {
+        self.paging.whole();
     }
 
     /// The areas of a space, at most 1,024, or none where it isn't alive.

@@ -5,7 +5,7 @@ ghost use Rattle.std.specs.Option.{option_map, option_map_or};
 ghost use Rattle.std.specs.FinMap as finmap;
 ghost use Rattle.sd_pagetable.specs.Nested.{inside, is_alive};
 ghost use Rattle.sd_pagetable.specs.Page.{Page, fresh_page, shared_page, inherited_page, stored_page};
-ghost use Rattle.sd_pagetable.specs.Contents.{page_at, put_page, remove_page, is_alone, is_full, page_count, word_at, IsSound};
+ghost use Rattle.sd_pagetable.specs.Contents.{page_at, put_page, remove_page, is_alone, is_full, page_count, word_at, AreWhole, IsSound};
 ghost use Rattle.sd_pagetable.specs.Access.{stored_at};
 ghost use Rattle.sd_pagetable.specs.Firsts.{IsFirstFrom};
 ghost use Rattle.std.specs.Prelude.{◌⊎◌, Err, IfErr};
@@ -136,6 +136,13 @@ impl Paging {
         Some(self.frames.bytes_of(entry.frame))
     }
 
+    /// Each page has 4,096 bytes. It does nothing: a caller learns it.
+    pub(crate) fn whole(&self)
+        ensures { AreWhole self.now }
+    {
+        self.frames.whole();
+    }
+
     /// The word of a page.
     pub(crate) fn word(&self, space: SpaceId, page: PageNo) -> u64
         ensures { result ≡ word_at self.now space page }
@@ -212,7 +219,7 @@ impl Paging {
     }
 
     /// Maps a page of a snapshot that isn't mapped: without a frame where it is all zeros, else
-    /// alone in one, which its bytes become.
+    /// alone in one, with a copy of its bytes.
     ///
     /// # Errors
     ///
@@ -221,19 +228,19 @@ impl Paging {
         &mut self,
         space: SpaceId,
         page: PageNo,
-        found: SnapshotPage,
+        found: &SnapshotPage,
     ) -> Result<(), AllocError>
         requires alive { is_alive self.old.spaces space ≡ true }
         requires hole { page_at self.old space page ≡ None }
         requires few { page_count self.old.spaces < 65536 }
-        requires room { is_zero_page found.bytes.value ≡ false → is_full self.old ≡ false }
-        ensures { OnOk result (Loads self.old space page (page_of_snapshot found) self.new) }
+        requires room { is_zero_page found.now.bytes.value ≡ false → is_full self.old ≡ false }
+        ensures { OnOk result (Loads self.old space page (page_of_snapshot found.now) self.new) }
     {
-        let SnapshotPage { prot, bytes } = found;
-        self.add(space, page, prot)?;
-        if is_zero(&bytes) {
+        self.add(space, page, found.prot)?;
+        if is_zero(&found.bytes) {
             return Ok(());
         }
+        let bytes = self.frames.copy_of_page(&found.bytes)?;
         self.put_bytes(space, page, bytes)
     }
 
@@ -274,7 +281,7 @@ impl Paging {
         self.mapped -= 1;
     }
 
-    /// Maps a page anew in place of what it was.
+    /// Replaces a mapped page by a fresh one.
     pub(crate) fn renew(&mut self, space: SpaceId, page: PageNo, prot: Prot)
         requires { IsSome (page_at self.old space page) }
         ensures { self.new ≡ put_page self.old space page (fresh_page prot) }
@@ -286,7 +293,7 @@ impl Paging {
         release(&mut self.frames, entry.frame);
     }
 
-    /// Gives a page permissions and a soft-dirty bit, and takes its writable bit.
+    /// Sets a page's permissions and its soft-dirty bit, and write-protects it.
     pub(crate) fn write_protect(
         &mut self,
         space: SpaceId,
@@ -311,8 +318,8 @@ impl Paging {
         }
     }
 
-    /// Puts a child's page, which has no frame, into the class of the parent's, and takes both
-    /// writable bits.
+    /// Makes a child's page, which has no frame, share the frame of the parent's, and
+    /// write-protects both.
     pub(crate) fn inherit(&mut self, parent: SpaceId, child: SpaceId, page: PageNo)
         requires apart { parent ≡ child → ⊥ }
         requires there { IsSome (page_at self.old parent page) }
@@ -332,7 +339,8 @@ impl Paging {
         share(&mut self.frames, entry.frame);
     }
 
-    /// Gives a page a frame of its own alone, a copy where it was shared, and sets both bits.
+    /// Makes a page writable and soft-dirty. It gets a frame of its own: a copy where its frame was
+    /// shared.
     ///
     /// # Errors
     ///
@@ -382,7 +390,7 @@ fn dirty_bit(entry: Entry) -> u64
     if entry.soft_dirty { SOFT_DIRTY } else { 0 }
 }
 
-/// One entry less has this frame, if it has one.
+/// Decrements the reference count of a frame, if there is one.
 fn release(frames: &mut Frames, frame: Option<usize>)
     requires { ForSome frame (λ number. 0 < count_at frames.old number) }
     ensures { ReleasesFrame frames.old frames.new frame }
@@ -393,7 +401,7 @@ fn release(frames: &mut Frames, frame: Option<usize>)
     frames.release(number);
 }
 
-/// One entry more has this frame, if it has one.
+/// Increments the reference count of a frame, if there is one.
 fn share(frames: &mut Frames, frame: Option<usize>)
     requires used { ForSome frame (λ number. 0 < count_at frames.old number) }
     requires few { ForSome frame (λ number. count_at frames.old number < 2 ^ 17) }

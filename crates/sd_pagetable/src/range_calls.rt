@@ -16,9 +16,9 @@ ghost use Rattle.sd_pagetable.specs.Kept.{HasAreas, prots_of};
 ghost use Rattle.sd_pagetable.specs.RangeCalls.{IsRangeIn, Refuses};
 ghost use Rattle.sd_pagetable.specs.Tracking.{Step, Mapped, Unmapped, Protected, with_space};
 
+use crate::access_error::AccessError;
 use crate::memory_error::MemoryError;
 use crate::memory_refusal::MemoryRefusal;
-use crate::access_error::AccessError;
 use crate::paging::Paging;
 use crate::ranges::{fill, holes, protect, renew, unfill, unmap};
 use sd_areas::{
@@ -31,7 +31,7 @@ use std::collections::BTreeMap;
 /// The areas of each living space.
 pub(crate) type Areas = BTreeMap<SpaceId, AreaMap>;
 
-/// The same areas once more.
+/// A copy of the areas.
 fn copy_of(areas: &AreaMap) -> Result<AreaMap, AllocError>
     ensures { IfOk result (λ copy. copy ≡ areas.now) }
 {
@@ -133,7 +133,7 @@ fn has_room(paging: &Paging, own: &AreaMap, first: u64, end: u64) -> bool
     paging.mapped() + holes(own, first, end) <= MAPPED_PAGE_LIMIT
 }
 
-/// Maps each page of a run anew.
+/// Maps each page of a run as a fresh one, whatever was mapped there.
 fn map_run(
     paging: &mut Paging,
     own: &AreaMap,
@@ -192,7 +192,7 @@ pub(crate) fn munmap(
     Ok(())
 }
 
-/// Gives the whole pages of a range permissions, and write-protects each.
+/// Sets the permissions of the whole pages of a range, and write-protects each.
 fn protect_range(paging: &mut Paging, space: SpaceId, address: u64, bytes: u64, prot: Prot)
     requires alive { is_alive paging.old.spaces space ≡ true }
     requires within { page_of address + pages_for bytes ≤ 2 ^ 35 }

@@ -62,8 +62,8 @@ fn fill_page(
     paging.add(space, page, prot)
 }
 
-/// Maps the pages of a run that aren't mapped, from its first page on. It answers the page that it
-/// came to: the end, or one that there was no memory for.
+/// Maps the pages of a run that aren't mapped, from its first page on. It returns the page that
+/// it came to: the end, or one that there was no memory for.
 pub(crate) fn fill(paging: &mut Paging, space: SpaceId, first: u64, end: u64, prot: Prot) -> u64
     requires ordered { first ≤ end }
     requires within { end ≤ 2 ^ 35 }
@@ -117,7 +117,7 @@ pub(crate) fn unfill(paging: &mut Paging, space: SpaceId, first: u64, end: u64, 
     }
 }
 
-/// Maps each page of a run anew. All of them are mapped.
+/// Replaces each page of a run, all of them mapped, by a fresh one.
 pub(crate) fn renew(paging: &mut Paging, space: SpaceId, first: u64, end: u64, prot: Prot)
     requires ordered { first ≤ end }
     requires within { end ≤ 2 ^ 35 }
@@ -143,7 +143,7 @@ pub(crate) fn unmap(paging: &mut Paging, space: SpaceId, first: PageNo, end: u64
     }
 }
 
-/// Gives a page permissions and takes its writable bit, where it is mapped.
+/// Sets the permissions of a page and write-protects it, where it is mapped.
 fn protect_page(paging: &mut Paging, space: SpaceId, page: PageNo, prot: Prot)
     ensures mapped { IfSome (page_at paging.old space page) (λ (before : Page). paging.new ≡ put_page paging.old space page (protected_page prot before)) }
     ensures hole { page_at paging.old space page ≡ None → paging.new ≡ paging.old }
@@ -154,7 +154,7 @@ fn protect_page(paging: &mut Paging, space: SpaceId, page: PageNo, prot: Prot)
     paging.write_protect(space, page, prot, entry.soft_dirty);
 }
 
-/// Gives each page of a run permissions, and takes its writable bit.
+/// Sets the permissions of each page of a run that is mapped, and write-protects it.
 pub(crate) fn protect(paging: &mut Paging, space: SpaceId, first: u64, end: u64, prot: Prot)
     requires ordered { first ≤ end }
     requires within { end ≤ 2 ^ 35 }

@@ -1,4 +1,4 @@
-/// What a try of a store on a permitted page answers.
+/// What a try of a store on a permitted page returns.
 #[derive(Clone, Copy, Debug, PartialEq, Eq, Hash)]
 pub enum StoreOutcome {
     /// The bytes are stored.

@@ -106,22 +106,18 @@ fn snapshot(alloc: Global) -> Result<Snapshot, AllocError> {
     snapshot_of(alloc, &[1, 3], &SAVED)
 }
 
-/// A snapshot whose loading is refused memory is loaded from a copy.
+/// A snapshot whose loading is refused memory can be loaded again.
 #[test]
 fn refused_loading(rt: HostRuntime) -> Result<(), Fail> {
-    let first = match snapshot(rt.alloc()) {
+    let saved = match snapshot(rt.alloc()) {
         Ok(snapshot) => snapshot,
         Err(_) => snapshot(rt.alloc())?,
     };
-    let again = match snapshot(rt.alloc()) {
-        Ok(snapshot) => snapshot,
-        Err(_) => snapshot(rt.alloc())?,
-    };
-    let memory = match Memory::from_snapshot(rt.alloc(), 2, first) {
+    let memory = match Memory::from_snapshot(rt.alloc(), 2, &saved) {
         Ok(memory) => memory,
         Err(error) => {
             assert_eq!(rt; error, MemoryError::OutOfMemory);
-            Memory::from_snapshot(rt.alloc(), 2, again)?
+            Memory::from_snapshot(rt.alloc(), 2, &saved)?
         }
     };
     assert_eq!(rt; memory.word(SpaceId::new(1), page(&rt, 17)), DIRTY_ALONE);

@@ -13,7 +13,7 @@ fn begins_with_a_snapshot(rt: HostRuntime) -> Result<(), Fail> {
         (3, 16, READ, 0x62),
     ];
     let snapshot = snapshot_of(rt.alloc(), &[1, 3], &pages)?;
-    let mut memory = Memory::from_snapshot(rt.alloc(), 2, snapshot)?;
+    let mut memory = Memory::from_snapshot(rt.alloc(), 2, &snapshot)?;
     let (one, three) = (SpaceId::new(1), SpaceId::new(3));
     let (page, next) = (page(&rt, 16), page(&rt, 17));
     assert_eq!(rt; memory.word(one, page), DIRTY_ALONE);
@@ -32,6 +32,10 @@ fn begins_with_a_snapshot(rt: HostRuntime) -> Result<(), Fail> {
     assert_eq!(rt; memory.store_now(one, 0x10001, &[1]), Ok(()));
     assert_eq!(rt; memory.store_now(one, 0x11000, &[1]), Err(NO_FRAME));
     assert_eq!(rt; memory.fork(one), Ok(SpaceId::new(2)));
+    let base = Memory::from_snapshot(rt.alloc(), 2, &snapshot)?;
+    let mut bytes = [9; 2];
+    assert_eq!(rt; base.load(one, 0x10000, &mut bytes), Ok(()));
+    assert_eq!(rt; bytes, [0x61, 0]);
     Ok(())
 }
 
@@ -46,7 +50,7 @@ fn refuses_a_snapshot(rt: HostRuntime) -> Result<(), Fail> {
         (2, [17], ENOMEM),
     ] {
         let snapshot = snapshot_of(rt.alloc(), &spaces, &two)?;
-        let refused = Memory::from_snapshot(rt.alloc(), frames, snapshot).err();
+        let refused = Memory::from_snapshot(rt.alloc(), frames, &snapshot).err();
         assert_eq!(rt; refused, Some(error));
     }
     Ok(())

@@ -3,12 +3,19 @@ use Rattle.std.proofs.lemmas.Bool.{eq-eqb, ne_eqb, cond-true, cond-false}
 use Rattle.sd_pagetable.specs.Frames.{Cell, count_at, SetsCell}
 use Rattle.sd_pagetable.specs.declared.frame_cell.FrameCell.TheVariants.{Free}
 use Rattle.sd_pagetable.proofs.FrameLemmas.{frames_of, within_slots, changes_frame, changes_free, frees_frame, some_counted, used_at, freed}
+use Rattle.sd_pagetable.specs.Frames.{HasWholeFrames}
+use Rattle.sd_pagetable.proofs.WholeLemmas.{whole_set, whole_at, whole_freed}
 use Rattle.sd_pagetable.proofs.frames.Frames.release.Goals as goal
 
 pub invariant_of-self : goal.invariant_of-self
 invariant_of-self c =
-    let u = used_at c.self.inside.pool c.self.inside.slots.items c.args.self.now c.args.number c.self.view_is (some_counted c.args.self.now c.args.number c.requires) in
-    (simp length-set (c.self.invariant.0), freed c.self.inside.slots.items c.self.inside.free c.args.number u.0 c.self.invariant.1 u.2)
+    let u = used_at c.self.inside.pool c.self.inside.slots.items c.args.self.now c.args.number c.self.view_is (some_counted c.args.self.now c.args.number c.requires) in (
+      simp length-set (c.self.invariant.0),
+      freed c.self.inside.slots.items c.self.inside.free c.args.number u.0 c.self.invariant.1 u.2,
+      whole_freed c.args.self.now _ c.args.number (subst HasWholeFrames c.self.view_is c.self.invariant.2)
+          (frees_frame c.self.inside.pool c.self.inside.slots.items c.args.self.now c.args.number c.self.inside.free c.self.view_is
+          (within_slots c.self.inside.pool c.self.inside.slots.items c.args.self.now c.args.number c.self.view_is (some_counted c.args.self.now c.args.number c.requires))),
+    )
 
 pub returns-then-count-eq1 : goal.returns-then-count-eq1
 returns-then-count-eq1 c =
@@ -20,8 +27,13 @@ returns-then-count-eq1 c =
 pub invariant_of-self-else-count-eq1 : goal.invariant_of-self-else-count-eq1
 invariant_of-self-else-count-eq1 c =
     let some = some_counted c.args.self.now c.args.number c.requires in
-    let l = within_slots c.self.inside.pool c.self.inside.slots.items c.args.self.now c.args.number c.self.view_is some in
-    (simp length-set (c.self.invariant.0), changes_free (λ cell. record { count = cell.count - 1; bytes = cell.bytes }) c.self.inside.pool c.self.inside.slots.items c.args.self.now c.args.number c.self.view_is some c.index_mut-else-count-eq1.result.now c.release.new.self l c.index_mut-else-count-eq1.ensures.value c.release.ensures c.self.inside.free c.self.invariant.1)
+    let l = within_slots c.self.inside.pool c.self.inside.slots.items c.args.self.now c.args.number c.self.view_is some in (
+      simp length-set (c.self.invariant.0),
+      changes_free (λ cell. record { count = cell.count - 1; bytes = cell.bytes }) c.self.inside.pool c.self.inside.slots.items c.args.self.now c.args.number c.self.view_is some c.index_mut-else-count-eq1.result.now c.release.new.self l c.index_mut-else-count-eq1.ensures.value c.release.ensures c.self.inside.free c.self.invariant.1,
+      whole_set c.args.self.now _ c.args.number _ (subst HasWholeFrames c.self.view_is c.self.invariant.2)
+          (changes_frame (λ cell. record { count = cell.count - 1; bytes = cell.bytes }) c.self.inside.pool c.self.inside.slots.items c.args.self.now c.args.number c.self.view_is some c.index_mut-else-count-eq1.result.now c.release.new.self l c.index_mut-else-count-eq1.ensures.value c.release.ensures)
+          (whole_at c.args.self.now c.args.number (subst HasWholeFrames c.self.view_is c.self.invariant.2) some),
+    )
 
 pub returns-else-count-eq1 : goal.returns-else-count-eq1
 returns-else-count-eq1 c =

@@ -1,4 +1,4 @@
-use Rattle.std.proofs.Common.{◌≡◌, ℕ, ap, ◌∙◌, sym, Some, None, false, refl}
+use Rattle.std.proofs.Common.{rules, ◌≡◌, ℕ, List, subst, ap, ◌∙◌, sym, Some, None, false, refl}
 use Rattle.std.specs.Prelude.{Result, OnOk}
 use Rattle.std.specs.Option.{IfSome}
 use Rattle.sd_areas.specs.PlainMemory as plain
@@ -30,4 +30,7 @@ loaded_so m n new s p page (Result.Ok u) hole added some h = loads_some m n s p 
 loaded_so m n new s p page (Result.Err e) hole added some h = tt
 
 pub returns : goal.returns
-returns c = loaded_so c.args.self.now c.add.new.self c.put_bytes.new.self c.args.space c.args.page _ c.put_bytes.result c.requires.hole c.in_ok-add.ensures.ok (ap is_zero_page (sym c.deref.ensures) ∙ sym c.is_zero.ensures.value ∙ c.if-is_zero.false) c.put_bytes.ensures
+returns c =
+    let same : c.in_ok-bytes.bytes.value ≡ c.args.found.now.bytes.value = search rules in
+    loaded_so c.args.self.now c.add.new.self c.put_bytes.new.self c.args.space c.args.page _ c.put_bytes.result c.requires.hole c.in_ok-add.ensures.ok (ap is_zero_page (sym c.deref.ensures) ∙ sym c.is_zero.ensures.value ∙ c.if-is_zero.false)
+    (subst (λ (bytes : List ℕ). OnOk c.put_bytes.result (IfSome (page_at c.add.new.self c.args.space c.args.page) (λ (before : Page). GivesFrame c.add.new.self c.args.space c.args.page before bytes c.put_bytes.new.self))) same c.put_bytes.ensures)

@@ -15,8 +15,8 @@ use Rattle.sd_pagetable.proofs.paging.Paging.put_bytes.Goals as goal
 pub returns-in_default : goal.returns-in_default
 returns-in_default c = absurd (not_none _ (none_there c.self.inside.frames c.self.inside.tables c.args.self.now c.args.space c.args.page c.self.view_is (sym c.in_default.ensures)) c.requires.there)
 
-pub place-requires : goal.place-requires
-place-requires c = free_room c.self.inside.frames c.self.inside.tables c.self.inside.mapped c.self.invariant (ap is_full c.self.view_is ∙ c.requires.room)
+pub place-requires-clause-free : goal.place-requires-clause-free
+place-requires-clause-free c = free_room c.self.inside.frames c.self.inside.tables c.self.inside.mapped c.self.invariant (ap is_full c.self.view_is ∙ c.requires.room)
 
 -- the entry of a page without a frame
 bare : (pool : Pool) (tables : Nested Entry) (m : Contents) (s p : ℕ) (e : Entry) → contents_of pool tables ≡ m → value_at tables s p ≡ Some e → IfSome (page_at m s p) (λ (before : Page). (before.class ≡ None) × (before.writable ≡ false)) → (e.frame ≡ None) × (e.writable ≡ false)
@@ -49,8 +49,8 @@ module _ (old new : Pool) (tables again : Nested Entry) (n s p : ℕ) (e f : Ent
 
 pub invariant_of-self-2 : goal.invariant_of-self-2
 invariant_of-self-2 c = kept_again c.self.inside.frames c.place.new.self c.self.inside.tables c.replace.new.self c.self.inside.mapped c.args.space c.args.page c.in-Some.entry c.with_frame.result c.in_ok-frame.frame c.new.result c.args.bytes.value c.args.self.now
-    c.self.invariant (sym c.in-Some.ensures) c.self.view_is c.requires.fresh c.in_ok-frame.ensures.free.1 c.in_ok-frame.ensures.free.0 c.new.ensures c.in_ok-frame.ensures.ok c.replace.ensures c.with_frame.ensures
+    c.self.invariant (sym c.in-Some.ensures) c.self.view_is c.requires.fresh c.in_ok-frame.ensures.free.1 c.in_ok-frame.ensures.free.0 c.new.ensures.value c.in_ok-frame.ensures.ok c.replace.ensures c.with_frame.ensures
 
 pub returns : goal.returns
 returns c = given_page c.self.inside.frames c.place.new.self c.self.inside.tables c.replace.new.self c.self.inside.mapped c.args.space c.args.page c.in-Some.entry c.with_frame.result c.in_ok-frame.frame c.new.result c.args.bytes.value c.args.self.now
-    c.self.invariant (sym c.in-Some.ensures) c.self.view_is c.requires.fresh c.in_ok-frame.ensures.free.1 c.in_ok-frame.ensures.free.0 c.new.ensures c.in_ok-frame.ensures.ok c.replace.ensures c.with_frame.ensures
+    c.self.invariant (sym c.in-Some.ensures) c.self.view_is c.requires.fresh c.in_ok-frame.ensures.free.1 c.in_ok-frame.ensures.free.0 c.new.ensures.value c.in_ok-frame.ensures.ok c.replace.ensures c.with_frame.ensures
