@@ -57,7 +57,7 @@ impl Session {
         match restore(alloc, disk) {
             Ok(snapshot) => {
                 let checkpoint = snapshot.checkpoint;
-                let memory = load(alloc, snapshot)?;
+                let memory = load(alloc, &snapshot)?;
                 Ok((Session::new(memory, greatest), Some(checkpoint)))
             }
             Err(Fault::EmptyChain) => {
@@ -163,8 +163,8 @@ fn last_number<D: Disk>(alloc: Global, disk: &mut D) -> Result<u64, Fault>
 }
 
 /// The memory of a snapshot. That of an image is within the limits of a memory, so it is refused out of memory alone.
-fn load(alloc: Global, snapshot: Snapshot) -> Result<Memory, Fault>
-    ensures memory { IfOk result (λ memory. plain_of memory ≡ memory_of snapshot) }
+fn load(alloc: Global, snapshot: &Snapshot) -> Result<Memory, Fault>
+    ensures memory { IfOk result (λ memory. plain_of memory ≡ memory_of snapshot.now) }
     ensures error { OnErr result (result ≡ Err Fault.OutOfMemory) }
 {
     Memory::from_snapshot(alloc, FRAMES, snapshot).map_err(|_| Fault::OutOfMemory)
