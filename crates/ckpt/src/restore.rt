@@ -7,8 +7,9 @@ ghost use Rattle.ckpt.specs.declared.stop.Stop.TheVariants as stop;
 ghost use Rattle.ckpt.specs.Ending.{ShowsMemory};
 
 use crate::stop::{Stop, status};
-use sd_areas::{PAGE_SIZE, PageNo, Snapshot, SnapshotPage};
+use sd_areas::{PAGE_BYTES, PageNo, Snapshot, SnapshotPage, areas_in};
 use sd_disk::Disk;
+use sd_procfs::areas_text;
 use sd_restore::restore;
 use std::alloc::Global;
 use std::collections::BTreeMap;
@@ -62,17 +63,14 @@ fn print_areas<W: Write>(
 ) -> Result<(), Stop>
     ensures empty { result ≢ Err (stop.Fault fault.EmptyChain) }
 {
-    for area in &sd_areas::areas_in(alloc, pages)? {
-        let first = area.first.number() * 4096;
-        let end = first.wrapping_add(area.count.wrapping_mul(4096));
-        writeln!(out, "area {first:#x} {end:#x} {}", area.prot)?;
-    }
+    let areas = areas_in(alloc, pages)?;
+    out.write_all(areas_text(alloc, &areas)?.as_bytes())?;
     Ok(())
 }
 
 fn print_pages<W: Write>(pages: &BTreeMap<PageNo, SnapshotPage>, out: &mut W) -> io::Result<()> {
     for (page, found) in pages {
-        print_page(page.number() * 4096, found.bytes.as_slice(), out)?;
+        print_page(page.number() * PAGE_BYTES, found.bytes.as_slice(), out)?;
     }
     Ok(())
 }

@@ -11,12 +11,11 @@ ghost use Rattle.sd_gate.specs.declared.call.Call.TheVariants.{Sync};
 ghost use Rattle.sd_gate.specs.declared.phase.Phase.{Phase};
 
 use crate::answer::Answer;
-use crate::layout::GATE;
 use crate::order::Order;
 use crate::outcome::Outcome;
 use crate::request::Request;
 use sd_disk::{DeviceError, Disk};
-use sd_image::encode_header;
+use sd_image::{GATE, encode_header};
 
 /// How a call ended that tells nothing else.
 fn answer_of(ended: Result<(), DeviceError>) -> Answer

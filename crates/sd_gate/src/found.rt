@@ -4,8 +4,8 @@ ghost use Rattle.std.specs.Option.{option_map};
 ghost use Rattle.sd_gate.specs.Laws.{phase_found};
 ghost use Rattle.sd_gate.specs.Plans.{found_of, found_after, length_told, nothing_back};
 
+use sd_image::{GATE, HEADER_SIZE};
 use crate::answer::Answer;
-use crate::layout::{GATE, HEADER_SIZE};
 use crate::phase::Phase;
 
 /// What came back to a plan with the outcomes: of a page or a body its buffer, the first; of an inspection the length of

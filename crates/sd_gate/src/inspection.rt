@@ -6,11 +6,11 @@ ghost use Rattle.sd_gate.specs.Inspections.{KnowsLength, calls_awaited, calls_of
 ghost use Rattle.sd_gate.specs.Plans.{length_told};
 ghost use Rattle.std.specs.Option.{option_map};
 
+use sd_areas::PAGE_SIZE;
 use crate::answer::Answer;
 use crate::inspection_stage::InspectionStage;
-use crate::layout::{GATE, HEADER_SIZE, PAGE_SIZE};
 use crate::order::Order;
-use sd_image::decode_header;
+use sd_image::{GATE, HEADER_SIZE, decode_header};
 use std::alloc::{AllocError, Global};
 
 /// A sync, the length, the header of a file that has one, and the table of an open image.

@@ -6,19 +6,20 @@ ghost use Rattle.sd_gate.specs.Sequences.{format_calls, closing_calls, body_call
 ghost use Rattle.sd_gate.specs.Inspections.{nothing, the_length, IsReadNext};
 ghost use Rattle.sd_gate.specs.Plans.{calls_of, awaited_by, IsSoundJob, KnowsItsLength, found_of, begun, Gives, calls_after, settled, plan_after, steps_left};
 
+use sd_areas::PAGE_SIZE;
 use crate::call_sequence::CallSequence;
 use crate::found::Found;
 use crate::inspection::Inspection;
 use crate::inspection_stage::InspectionStage;
 use crate::job::Job;
-use crate::layout::{HEADER_SIZE, PAGE_LIMIT, PAGE_SIZE};
+use crate::layout::DATA_PAGE_LIMIT;
 use crate::outcome::Outcome;
 use crate::request::Request;
 use crate::request_id::RequestId;
 use crate::settled::Settled;
 use crate::slot_state::SlotState;
 use crate::worker::Worker;
-use sd_image::Header;
+use sd_image::{HEADER_SIZE, Header};
 use std::alloc::{AllocError, Global};
 use std::marker::Model;
 use std::mem;
@@ -52,14 +53,14 @@ impl Model for Plan {
 fn is_page(place: usize, buffer: &[u8]) -> bool
     ensures { IsTrue result ↔ IsPage place buffer.now }
 {
-    place < PAGE_LIMIT && buffer.len() == PAGE_SIZE
+    place < DATA_PAGE_LIMIT && buffer.len() == PAGE_SIZE
 }
 
 /// Whether these close the body of an image.
 fn is_body(header: &Header, table: &[u8]) -> bool
     ensures { IsTrue result ↔ IsBody header.now table.now }
 {
-    header.pages <= PAGE_LIMIT as u64 && !table.is_empty()
+    header.pages <= DATA_PAGE_LIMIT as u64 && !table.is_empty()
 }
 
 /// Where a data page begins.

@@ -17,17 +17,8 @@ use crate::space_head::SpaceHead;
 use crate::table::{SpaceTable, Table};
 use crate::table_error::TableError;
 use crate::totals::{left_by_data, left_by_mapped};
-use sd_areas::{Area, PAGE_NUMBER_LIMIT, PageNo, Prot, SpaceId};
+use sd_areas::{AREA_LIMIT, Area, MAPPED_PAGE_LIMIT, PAGE_NUMBER_LIMIT, PageNo, Prot, SPACE_LIMIT, SpaceId};
 use std::alloc::Global;
-
-/// How many spaces there can be, and the highest number of one.
-const SPACE_LIMIT: u32 = 16;
-
-/// How many areas a space can have.
-const AREA_LIMIT: u32 = 1024;
-
-/// How many pages of memory can be mapped.
-const MAPPED_LIMIT: u64 = 65536;
 
 /// The next item, and the bytes behind it.
 fn item_of(bytes: &[u8], len: usize) -> Result<(&[u8], &[u8]), Reason>
@@ -47,7 +38,7 @@ fn head_of(bytes: &[u8]) -> Result<(u32, &[u8]), Reason>
 {
     let (item, rest) = item_of(bytes, TABLE_HEAD_SIZE)?;
     let spaces = u32_at(item, 0);
-    if spaces > SPACE_LIMIT {
+    if u64::from(spaces) > SPACE_LIMIT {
         return Err(Reason::Space);
     }
     if u32_at(item, 4) != 0 {
@@ -232,7 +223,7 @@ fn runs_of(
 }
 
 /// How many areas a space may have.
-fn area_limit(kind: Kind) -> u32
+fn area_limit(kind: Kind) -> usize
     ensures { result ≡ area_limit kind }
 {
     match kind {
@@ -252,10 +243,10 @@ fn space_head_of(kind: Kind, before: u64, bytes: &[u8]) -> Result<(SpaceHead, &[
         areas: u32_at(item, 4),
         runs: u64_at(item, 8),
     };
-    if u64::from(head.space) <= before || head.space > SPACE_LIMIT {
+    if u64::from(head.space) <= before || u64::from(head.space) > SPACE_LIMIT {
         return Err(Reason::Space);
     }
-    if head.areas > area_limit(kind) {
+    if head.areas as usize > area_limit(kind) {
         return Err(Reason::Area);
     }
     Ok((head, rest))
@@ -320,7 +311,7 @@ fn ends_rightly(header: &Header, spaces: &[SpaceTable], rest: &[u8]) -> bool
 {
     rest.is_empty()
         && left_by_data(header.pages, spaces) == Some(0)
-        && left_by_mapped(MAPPED_LIMIT, spaces).is_some()
+        && left_by_mapped(MAPPED_PAGE_LIMIT, spaces).is_some()
 }
 
 /// The table that all of the bytes spell: the reading, and nothing else.

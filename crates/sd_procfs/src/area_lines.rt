@@ -1,5 +1,7 @@
 //! The areas of a space as text.
-ghost use Rattle.std.specs.Prelude.{◌≡◌, ◌+◌, ◌≤◌, ◌^◌, ◌++◌, IfOk, OnOk};
+ghost use Rattle.std.specs.Prelude.{◌≡◌, ◌+◌, ◌≤◌, ◌^◌, ◌++◌, None, IfOk, OnOk};
+ghost use Rattle.std.specs.List.{flat_map};
+ghost use Rattle.sd_areas.specs.Areas.{AreMaximal};
 ghost use Rattle.sd_procfs.specs.Listing.{area_line, listing_text};
 
 use sd_areas::{Area, AreaMap, PAGE_BYTES};
@@ -14,8 +16,20 @@ use std::fmt::Write;
 pub fn listing(alloc: Global, areas: &AreaMap) -> Result<String, AllocError>
     ensures { IfOk result (λ text. text.bytes.items ≡ listing_text areas.now) }
 {
+    areas_text(alloc, areas.areas())
+}
+
+/// The lines of these areas, as `listing` writes them.
+///
+/// # Errors
+///
+/// Out of memory where the text can't grow.
+pub fn areas_text(alloc: Global, areas: &[Area]) -> Result<String, AllocError>
+    requires { AreMaximal None areas.now }
+    ensures { IfOk result (λ text. text.bytes.items ≡ flat_map area_line areas.now) }
+{
     let mut text = String::new(alloc);
-    for area in areas.areas() {
+    for area in areas {
         push_line(&mut text, area)?;
     }
     Ok(text)

@@ -7,7 +7,7 @@ mod clearing;
 mod no_such_space;
 mod words;
 
-pub use area_lines::listing;
+pub use area_lines::{areas_text, listing};
 pub use clear_error::ClearError;
 pub use clearing::clear_refs;
 pub use no_such_space::NoSuchSpace;

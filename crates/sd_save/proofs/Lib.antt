@@ -3,7 +3,6 @@ pub mod ClearLemmas
 pub mod CrashLemmas
 pub mod DumpLemmas
 pub mod FileLemmas
-pub mod GreatestLemmas
 pub mod GrownRuns
 pub mod ImageLemmas
 pub mod PageBytes

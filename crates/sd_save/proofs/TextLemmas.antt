@@ -14,7 +14,7 @@ use Rattle.sd_image.specs.declared.header.Header.{Header}
 use Rattle.sd_image.specs.declared.run.Run.{Run}
 use Rattle.sd_image.specs.declared.run.RunKind.TheVariants.{Data}
 use Rattle.sd_image.specs.Header.{header_text}
-use Rattle.sd_image.specs.Table.{Listed, listed, table_text, IsTable, AreSpaces, data_count, mapped_count, is_data as has_data}
+use Rattle.sd_image.specs.Table.{Listed, listing_of, table_text, IsTable, AreSpaces, data_count, mapped_count, is_data as has_data}
 use Rattle.sd_image.specs.Image.{IsImage, is_open}
 use Rattle.sd_image.specs.Shows.{page_in, IsMemory}
 use Rattle.sd_image.specs.Words.{number_bytes, zeros}
@@ -142,7 +142,7 @@ few_fits n few = omega arith
 
 module _ (memory : PlainMemory) (number : ℕ) (text : ImageText) (is : IsTextOf memory number text) (fits : Fits number text) where
   tables : List Listed
-  tables = map listed is.dump.tables.items
+  tables = map listing_of is.dump.tables.items
 
   stored_is : text.stored.items ≡ filter (is_data memory) (flat_map places_of tables)
   unfolding tables

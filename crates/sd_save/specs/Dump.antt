@@ -6,7 +6,7 @@ use Rattle.std.specs.FinMap as finmap
 use Rattle.sd_areas.specs.Areas.{area_pages, prot_in, AreMaximal}
 use Rattle.sd_areas.specs.PlainMemory.{Page, PlainMemory}
 use Rattle.sd_image.specs.declared.run.Run.{Run}
-use Rattle.sd_image.specs.Table.{Listed, listed, mapped_count}
+use Rattle.sd_image.specs.Table.{Listed, listing_of, mapped_count}
 use Rattle.sd_image.specs.Shows.{page_in}
 use Rattle.sd_save.specs.declared.dump.Dump.{Dump}
 use Rattle.sd_save.specs.Pages.{Place, is_data, IsWholePage}
@@ -50,6 +50,6 @@ pub record IsDumpBelow (number : ℕ) (memory : PlainMemory) (tables : List List
 
 -- a dump has the tables of all living spaces, with at most 65,536 pages
 pub record IsDumpOf (memory : PlainMemory) (dump : Dump) : Type 0 where
-  pub all : IsDumpBelow 17 memory (map listed dump.tables.items) dump.stored.items
+  pub all : IsDumpBelow 17 memory (map listing_of dump.tables.items) dump.stored.items
   pub alive : (space : ℕ) → 17 ≤ space → finmap.contains_key memory space ≡ false
-  pub few : mapped_count (map listed dump.tables.items) ≤ 65536
+  pub few : mapped_count (map listing_of dump.tables.items) ≤ 65536

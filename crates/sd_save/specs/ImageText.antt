@@ -5,7 +5,7 @@ use Rattle.sd_areas.specs.PlainMemory.{PlainMemory}
 use Rattle.sd_image.specs.declared.header.Header.{Header}
 use Rattle.sd_image.specs.declared.header.Kind.TheVariants.{Dump}
 use Rattle.sd_image.specs.Header.{header_text}
-use Rattle.sd_image.specs.Table.{listed, table_text}
+use Rattle.sd_image.specs.Table.{listing_of, table_text}
 use Rattle.sd_image.specs.Image.{Image, IsImage, gate, is_open}
 use Rattle.sd_image.specs.Shows.{IsRestorable}
 use Rattle.sd_image.specs.Laws.{IsWholeMemory}
@@ -25,7 +25,7 @@ pub record IsTextOf (memory : PlainMemory) (number : ℕ) (text : ImageText) : T
   pub of : IsDumpOf memory dump
   pub stored : text.stored.items ≡ dump.stored.items
   pub header : text.header ≡ dump_header number (length text.stored.items) (length text.table.items)
-  pub table : text.table.items ≡ table_text (map listed dump.tables.items)
+  pub table : text.table.items ≡ table_text (map listing_of dump.tables.items)
 
 -- the body that it makes: the header, the data pages and the table
 abbrev pub body_of : PlainMemory → ImageText → List ℕ

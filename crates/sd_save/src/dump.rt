@@ -2,7 +2,7 @@
 ghost use Rattle.std.specs.Prelude.{◌≡◌, ℕ, List, ◌+◌, ◌<◌, ◌≤◌, ◌^◌, ◌++◌, ◌∷◌, [], not, map, IfOk, OnOk};
 ghost use Rattle.std.specs.List.{flat_map};
 ghost use Rattle.sd_areas.specs.Areas.{area_pages, AreMaximal};
-ghost use Rattle.sd_image.specs.Table.{listed, mapped_count};
+ghost use Rattle.sd_image.specs.Table.{listing_of, mapped_count};
 ghost use Rattle.sd_pagetable.specs.Contents.{plain_of};
 ghost use Rattle.sd_pagetable.specs.Law.{pages_below};
 ghost use Rattle.sd_save.specs.Dump.{Dumps, IsDumpBelow, IsDumpOf};
@@ -50,10 +50,10 @@ impl Dump {
     ) -> Result<(), AllocError>
         requires least { 1 ≤ space }
         requires greatest { space ≤ 16 }
-        ensures more { IsDumpBelow space (plain_of memory.now) (map listed self.old.tables.items) self.old.stored.items
-            → OnOk result (IsDumpBelow (space + 1) (plain_of memory.now) (map listed self.new.tables.items) self.new.stored.items) }
-        ensures count { mapped_count (map listed self.old.tables.items) ≡ pages_below memory.now.spaces space
-            → OnOk result (mapped_count (map listed self.new.tables.items) ≡ pages_below memory.now.spaces (space + 1)) }
+        ensures more { IsDumpBelow space (plain_of memory.now) (map listing_of self.old.tables.items) self.old.stored.items
+            → OnOk result (IsDumpBelow (space + 1) (plain_of memory.now) (map listing_of self.new.tables.items) self.new.stored.items) }
+        ensures count { mapped_count (map listing_of self.old.tables.items) ≡ pages_below memory.now.spaces space
+            → OnOk result (mapped_count (map listing_of self.new.tables.items) ≡ pages_below memory.now.spaces (space + 1)) }
     {
         sd_pagetable::plain_law();
         sd_areas::count_law();

@@ -7,9 +7,7 @@ ghost use Rattle.sd_save.specs.Slots.{raw_slots};
 
 use crate::save_error::SaveError;
 use sd_disk::Disk;
-
-/// How many bytes a file needs to be an image.
-const HEADER_SIZE: usize = 4096;
+use sd_image::HEADER_SIZE;
 
 /// The lowest slot whose file is shorter than a header. One more such slot has to be there, so that the next dump finds one.
 pub fn free_slot<D: Disk>(disk: &mut D) -> Result<usize, SaveError>

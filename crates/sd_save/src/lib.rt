@@ -4,7 +4,6 @@
 mod clear_all;
 mod dump;
 mod free_slot;
-mod greatest;
 mod image_text;
 mod page_copy;
 mod page_words;

@@ -4,11 +4,8 @@ ghost use Rattle.std.specs.List.{list_all};
 ghost use Rattle.sd_pagetable.specs.Contents.{plain_of};
 ghost use Rattle.sd_save.specs.Pages.{bytes_at, is_data, IsWholePage};
 
-use sd_areas::{PAGE_SIZE, PageNo, SpaceId};
-use sd_pagetable::{Memory, SECTOR_SIZE, plain_law};
-
-/// How many sectors a page has.
-const SECTORS: usize = PAGE_SIZE / SECTOR_SIZE;
+use sd_areas::{PageNo, SpaceId};
+use sd_pagetable::{Memory, SECTOR_SIZE, SECTORS, plain_law};
 
 /// Whether bytes are zeros alone.
 fn is_zero(bytes: &[u8]) -> bool

@@ -8,7 +8,6 @@ ghost use Rattle.sd_save.specs.Slots.{raw_slots};
 ghost use Rattle.sd_save.specs.Answers.{IsAnswer, IsApplied, IsOutOfMemory, IsSaved};
 ghost use Rattle.sd_save.specs.Beginning.{Begins};
 
-use crate::greatest::greatest_number;
 use crate::page_words;
 use crate::save_error::SaveError;
 use crate::saving::save;
@@ -159,7 +158,7 @@ fn last_number<D: Disk>(alloc: Global, disk: &mut D) -> Result<u64, Fault>
 {
     let catalog = scan(alloc, disk)?;
     catalog.has_the_images();
-    Ok(greatest_number(&catalog)?)
+    Ok(catalog.greatest_serial().max(catalog.greatest_checkpoint()))
 }
 
 /// The memory of a snapshot. That of an image is within the limits of a memory, so it is refused out of memory alone.
