@@ -27,7 +27,8 @@ pub fn list_text(alloc: Global, catalog: &Catalog) -> Result<String, AllocError>
 }
 
 fn push_slot(text: &mut String, slot: usize) -> Result<(), AllocError>
-    ensures { OnOk result (text.new.bytes.items ≡ text.old.bytes.items ++ (codes "slot " ++ slot_text slot)) }
+    ensures { OnOk result
+        (text.new.bytes.items ≡ text.old.bytes.items ++ (codes "slot " ++ slot_text slot)) }
 {
     write!(text, "slot {slot:03}")
 }

@@ -37,7 +37,8 @@ pub fn print_restored<D: Disk, W: Write>(
     out: &mut W,
 ) -> Result<(), Stop>
     ensures shown { D.is_honest disk.new → OnOk result (ShowsMemory (D.contents disk.old)) }
-    ensures empty { D.is_honest disk.new → result ≡ Err (stop.Fault fault.EmptyChain) → Shows (D.contents disk.old) None }
+    ensures empty { D.is_honest disk.new → result ≡ Err (stop.Fault fault.EmptyChain)
+        → Shows (D.contents disk.old) None }
     ensures reads { OnlyReads D.Disk disk.old disk.new }
 {
     let snapshot = restore(alloc, disk)?;

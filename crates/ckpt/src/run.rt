@@ -36,7 +36,8 @@ fn run_text<D: Disk, W: Write>(
     script: &[u8],
     out: &mut W,
 ) -> Result<(), Stop>
-    ensures unfit { IsSome (first_unfit_line script.now) → D.contents disk.new ≡ D.contents disk.old }
+    ensures unfit { IsSome (first_unfit_line script.now)
+        → D.contents disk.new ≡ D.contents disk.old }
     ensures refused { OnOk result (first_unfit_line script.now ≡ None) }
     ensures readable { D.is_honest disk.new → OnOk result (IsReadable (D.contents disk.new)) }
     ensures honest { D.is_honest disk.new → D.is_honest disk.old }

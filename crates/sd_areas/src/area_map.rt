@@ -221,7 +221,8 @@ impl AreaMap {
         ensures outside { IsTrue (address % 4096 == 0) → IsTrue (is_outside address bytes)
             → result ≡ Err (Refused Enomem) }
         ensures hole { IsTrue (address % 4096 == 0) → IsFalse (is_outside address bytes)
-            → IsTrue (has_hole self.now (page_of address) (pages_for bytes)) → result ≡ Err (Refused Enomem) }
+            → IsTrue (has_hole self.now (page_of address) (pages_for bytes))
+            → result ≡ Err (Refused Enomem) }
     {
         if !is_page_start(address) {
             return Err(AreaError::Refused(Errno::Einval));

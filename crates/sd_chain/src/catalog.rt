@@ -106,7 +106,8 @@ impl Catalog {
         ensures added { OnOk result (Changes self.old self.new header.serial
             (Some (Some (record { slot = slot; header = header; spaces = table })))) }
         ensures no_others { OnOk result ((i : Opened) → Contains (images self.new) i
-            → Contains (images self.old) i ⊎ (i ≡ record { slot = slot; header = header; spaces = table })) }
+            → Contains (images self.old) i
+            ⊎ (i ≡ record { slot = slot; header = header; spaces = table })) }
         ensures double { IsErrOf result DoubleSerial
             ↔ ((i : Opened) × (place_of self.old header.serial ≡ Some (Some i))) }
         ensures at_held { IsHeld self.old header.serial → IsOk result }
@@ -123,7 +124,8 @@ impl Catalog {
 
     /// Removes the image of a slot. It changes nothing where there is none, and takes no memory.
     pub fn remove(&mut self, slot: usize)
-        ensures { (serial : ℕ) → place_of self.new serial ≡ without_slot slot (place_of self.old serial) }
+        ensures { (serial : ℕ)
+            → place_of self.new serial ≡ without_slot slot (place_of self.old serial) }
     {
         self.places.retain(
             |_serial: &u64, place: &mut Option<OpenImage>| -> bool
@@ -157,7 +159,8 @@ impl Catalog {
         ensures found { MatchOption result
             (All (λ i. i.header.stands_for ≢ stands_for) (images self.now))
             (λ i. Names self.now stands_for i.now) }
-        ensures named { (contents : List (List ℕ)) (images : List Image) → IsCatalogOf contents self.now
+        ensures named { (contents : List (List ℕ)) (images : List Image)
+            → IsCatalogOf contents self.now
             → OpenImages contents images → FindsNamed contents images stands_for result }
     {
         one_image();
@@ -170,8 +173,10 @@ impl Catalog {
         ensures newest { MatchOption result
             (All (λ i. IsRestored i → ⊥) (images self.now))
             (λ i. IsTip self.now i.now) }
-        ensures store { (contents : List (List ℕ)) → IsCatalogOf contents self.now → FindsTip contents result }
-        ensures own { IfSome result (λ i. place_of self.now i.now.header.serial ≡ Some (Some i.now)) }
+        ensures store { (contents : List (List ℕ)) → IsCatalogOf contents self.now
+            → FindsTip contents result }
+        ensures own { IfSome result
+            (λ i. place_of self.now i.now.header.serial ≡ Some (Some i.now)) }
     {
         one_image();
         newest_of(&self.places)
@@ -286,8 +291,10 @@ impl Catalog {
         ensures absent { AreImages self.now
             → (result ≡ Trace.Absent) ↔ IsAbsent self.now serial (space, page) }
         // Where it is the catalog of files, the page's bytes are those that the image holds.
-        ensures held { (contents : List (List ℕ)) (images : List Image) → IsCatalogOf contents self.now
-            → OpenImages contents images → FindsHeld contents images serial (space, page) (found_in result) }
+        ensures held { (contents : List (List ℕ)) (images : List Image)
+            → IsCatalogOf contents self.now
+            → OpenImages contents images
+            → FindsHeld contents images serial (space, page) (found_in result) }
         ensures inside { (contents : List (List ℕ)) → IsCatalogOf contents self.now
             → IfSome (found_in result) (IsInFile contents) }
     {
@@ -306,10 +313,13 @@ impl Catalog {
     /// [`Catalog::trace`].
     pub fn resolve(&self, serial: u64, space: SpaceId, page: PageNo) -> Option<Found>
         ensures exact { AreImages self.now
-            → (there : Found) → (result ≡ Some there) ↔ LiesBySerial self.now serial (space, page) there }
-        ensures held { (contents : List (List ℕ)) (images : List Image) → IsCatalogOf contents self.now
+            → (there : Found)
+            → (result ≡ Some there) ↔ LiesBySerial self.now serial (space, page) there }
+        ensures held { (contents : List (List ℕ)) (images : List Image)
+            → IsCatalogOf contents self.now
             → OpenImages contents images → FindsHeld contents images serial (space, page) result }
-        ensures inside { (contents : List (List ℕ)) → IsCatalogOf contents self.now → IfSome result (IsInFile contents) }
+        ensures inside { (contents : List (List ℕ)) → IsCatalogOf contents self.now
+            → IfSome result (IsInFile contents) }
     {
         self.trace(serial, space, page).found()
     }
@@ -325,7 +335,8 @@ impl Catalog {
         ensures reached { ParentsFall self.now → IfOk result (λ list. (reached : ℕ)
             → Contains list.items reached ↔ ReachesSerial self.now serial reached) }
         // Each image is named by the parent number of the one before.
-        ensures chain { ParentsFall self.now → IfOk result (λ list. IsChain self.now serial list.items) }
+        ensures chain { ParentsFall self.now
+            → IfOk result (λ list. IsChain self.now serial list.items) }
     {
         let mut reached = Vec::new(self.alloc);
         let mut next = self.image(serial);

@@ -30,7 +30,8 @@ fn is_not_after(a: &OpenImage, b: &OpenImage) -> bool
 
 /// The newest of these and one more, if that is restored.
 fn newest_with<'a>(newest: Option<&'a OpenImage>, one: &'a OpenImage) -> Option<&'a OpenImage>
-    ensures { (all : List Opened) → IsNewestChoice all newest.entry → IsNewestChoice (all ++ one.now ∷ []) result }
+    ensures { (all : List Opened) → IsNewestChoice all newest.entry
+        → IsNewestChoice (all ++ one.now ∷ []) result }
 {
     if !is_restored(one) {
         return newest;
@@ -51,7 +52,8 @@ fn named_with<'a>(
     one: &'a OpenImage,
     number: u64,
 ) -> Option<&'a OpenImage>
-    ensures { (all : List Opened) → IsNamedChoice number all named.entry → IsNamedChoice number (all ++ one.now ∷ []) result }
+    ensures { (all : List Opened) → IsNamedChoice number all named.entry
+        → IsNamedChoice number (all ++ one.now ∷ []) result }
 {
     if one.header().stands_for != number {
         return named;
@@ -71,7 +73,8 @@ fn newest_at<'a>(
     newest: Option<&'a OpenImage>,
     place: &'a Option<OpenImage>,
 ) -> Option<&'a OpenImage>
-    ensures { (before : List (ℕ × Option Opened)) (serial : ℕ) → IsNewestChoice (images before) newest.entry
+    ensures { (before : List (ℕ × Option Opened)) (serial : ℕ)
+        → IsNewestChoice (images before) newest.entry
         → IsNewestChoice (images (before ++ (serial, place.now) ∷ [])) result }
 {
     match place {
@@ -86,7 +89,8 @@ fn named_at<'a>(
     place: &'a Option<OpenImage>,
     number: u64,
 ) -> Option<&'a OpenImage>
-    ensures { (before : List (ℕ × Option Opened)) (serial : ℕ) → IsNamedChoice number (images before) named.entry
+    ensures { (before : List (ℕ × Option Opened)) (serial : ℕ)
+        → IsNamedChoice number (images before) named.entry
         → IsNamedChoice number (images (before ++ (serial, place.now) ∷ [])) result }
 {
     match place {
@@ -122,7 +126,9 @@ fn push_image<'a>(
     list: &mut Vec<&'a OpenImage>,
     place: &'a Option<OpenImage>,
 ) -> Result<(), AllocError>
-    ensures { OnOk result ((before : List (ℕ × Option Opened)) (serial : ℕ) → map (λ i. i.now) list.old.items ≡ images before
+    ensures { OnOk result
+        ((before : List (ℕ × Option Opened)) (serial : ℕ)
+        → map (λ i. i.now) list.old.items ≡ images before
         → map (λ i. i.now) list.new.items ≡ images (before ++ (serial, place.now) ∷ [])) }
 {
     if let Some(image) = place {

@@ -77,7 +77,9 @@ fn has_page(run: &Run, page: PageNo) -> bool
 /// Which of a space's runs has a page. The time grows with the logarithm of the runs.
 fn run_index(runs: &[Run], page: PageNo) -> Option<usize>
     ensures place { IfSome result (λ at. at < length runs.now) }
-    ensures run { IfSome result (λ at. (run : Run) → slice_get runs.now at ≡ Some run → IsTrue (is_within run.first run.count page)) }
+    ensures run { IfSome result
+        (λ at. (run : Run) → slice_get runs.now at ≡ Some run
+        → IsTrue (is_within run.first run.count page)) }
     ensures none { (parent : ℕ) → AreRuns parent None runs.now → IsNone result
         → All (λ run. IsTrue (is_within run.first run.count page) → ⊥) runs.now }
 {
@@ -118,7 +120,8 @@ impl PlacedTable {
     /// How the table has a page of a space, or none where it doesn't list it.
     /// The time grows with the logarithm of the space's runs.
     pub(crate) fn way(&self, space: SpaceId, page: PageNo) -> Option<Way>
-        ensures { (h : Header) → IsTable h self.now → (way : Way) → (result ≡ Some way) ↔ HasPage self.now (space, page) way }
+        ensures { (h : Header) → IsTable h self.now → (way : Way)
+            → (result ≡ Some way) ↔ HasPage self.now (space, page) way }
     {
         few_pages();
         one_kind();

@@ -48,7 +48,8 @@ pub fn apply_to(alloc: Global, memory: &mut Memory, command: &Command) -> Result
 /// Makes the call of a command on a memory.
 fn attempt(alloc: Global, memory: &mut Memory, command: &Command) -> Result<Reply, MemoryError>
     ensures due { Answers (denial memory.old command.now) result }
-    ensures takes_memory { result ≡ Err MemoryError.OutOfMemory → IsTrue (takes_memory command.now) }
+    ensures takes_memory { result ≡ Err MemoryError.OutOfMemory
+        → IsTrue (takes_memory command.now) }
     ensures does { IfOk result (λ reply. Does command.now reply memory.old memory.new) }
     ensures effect { IfOk result (λ reply.
         plain_of memory.new ≡ effect command.now reply (plain_of memory.old)) }

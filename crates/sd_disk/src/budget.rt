@@ -24,7 +24,8 @@ impl Budget {
         ghost outside: { Outside }
         requires { outside.found ≡ map held slots.now }
         ensures calls { result.calls_left ≡ calls }
-        ensures settled { AreSettled (map held slots.now) (length slots.now) result.log.trace.outside result.log.trace.events }
+        ensures settled { AreSettled (map held slots.now)
+            (length slots.now) result.log.trace.outside result.log.trace.events }
     {
         let mut log = CallLog::new();
         for slot in 0..slots.len() {

@@ -32,6 +32,7 @@ impl CallTrace {
 
     /// Nothing runs: a caller notes the call that it makes, with the bytes that it carried.
     pub(crate) fn note(&mut self, _call: &Call, _bytes: &[u8])
-        ensures { self.new ≡ record self.old { events = (_call.now, _bytes.now) ∷ self.old.events } }
+        ensures { self.new
+            ≡ record self.old { events = (_call.now, _bytes.now) ∷ self.old.events } }
     {}
 }

@@ -134,11 +134,14 @@ impl Disk for DirDisk {
     #[tactic(auto, using(crate::proofs::FolderLemmas::length_files))]
     fn sync(&mut self, slot: usize) -> Result<(), DeviceError>
         requires { slot < length (folder_files self.old) }
-        ensures noted { OnOk result (folder_events self.new ≡ (Synced slot, []) ∷ folder_events self.old) }
-        ensures durable { OnOk result (OnlyAt slot (file_at (folder_files self.old) slot) (folder_may_leave self.new)) }
+        ensures noted { OnOk result
+            (folder_events self.new ≡ (Synced slot, []) ∷ folder_events self.old) }
+        ensures durable { OnOk result
+            (OnlyAt slot (file_at (folder_files self.old) slot) (folder_may_leave self.new)) }
         ensures same { folder_files self.new ≡ folder_files self.old }
         ensures crash { Within (folder_may_leave self.new) (folder_may_leave self.old) }
-        ensures time { Elapses (folder_moment self.old) (folder_moment self.new) (folder_left_since self.old) (folder_left_since self.new) (folder_may_leave self.new) }
+        ensures time { Elapses (folder_moment self.old) (folder_moment self.new)
+            (folder_left_since self.old) (folder_left_since self.new) (folder_may_leave self.new) }
         ensures honest { IsFolderHonest self.new → IsFolderHonest self.old }
         ensures counted { folder_called self.new ≡ folder_called self.old + 1 }
         ensures cause { HasCause (folder_failures self.old) (folder_failures self.new) result }

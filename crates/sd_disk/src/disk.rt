@@ -45,10 +45,12 @@ pub trait Disk {
     /// The length of a slot's file, in bytes.
     fn len(&mut self, slot: usize) -> Result<usize, DeviceError>
         requires { slot < length (contents self.old) }
-        ensures length { is_honest self.new → IfOk result (λ n. n ≡ length (file_at (contents self.old) slot)) }
+        ensures length { is_honest self.new
+            → IfOk result (λ n. n ≡ length (file_at (contents self.old) slot)) }
         ensures same { contents self.new ≡ contents self.old }
         ensures crash { Within (may_leave self.new) (may_leave self.old) }
-        ensures time { Elapses (moment self.old) (moment self.new) (left_since self.old) (left_since self.new) (may_leave self.new) }
+        ensures time { Elapses (moment self.old) (moment self.new) (left_since self.old)
+            (left_since self.new) (may_leave self.new) }
         ensures honest { is_honest self.new → is_honest self.old }
         ensures counted { calls self.new ≡ calls self.old + 1 }
         ensures cause { HasCause (failed self.old) (failed self.new) result };
@@ -64,7 +66,8 @@ pub trait Disk {
             ≡ slice_range (file_at (contents self.old) slot) at (at + length buffer.old)) }
         ensures same { contents self.new ≡ contents self.old }
         ensures crash { Within (may_leave self.new) (may_leave self.old) }
-        ensures time { Elapses (moment self.old) (moment self.new) (left_since self.old) (left_since self.new) (may_leave self.new) }
+        ensures time { Elapses (moment self.old) (moment self.new) (left_since self.old)
+            (left_since self.new) (may_leave self.new) }
         ensures honest { is_honest self.new → is_honest self.old }
         ensures counted { calls self.new ≡ calls self.old + 1 }
         ensures cause { HasCause (failed self.old) (failed self.new) result };
@@ -75,10 +78,14 @@ pub trait Disk {
         requires slot { slot < length (contents self.old) }
         requires some { 0 < length bytes.now }
         ensures written { OnOk result (contents self.new
-            ≡ slice_set (contents self.old) slot (file_after_write (file_at (contents self.old) slot) at bytes.now)) }
-        ensures torn { AtSlot slot (Torn at (length bytes.now)) (contents self.old) (contents self.new) }
-        ensures crash { Follows (AtSlot slot (Torn at (length bytes.now))) (may_leave self.old) (may_leave self.new) }
-        ensures time { Elapses (moment self.old) (moment self.new) (left_since self.old) (left_since self.new) (may_leave self.new) }
+            ≡ slice_set (contents self.old) slot
+            (file_after_write (file_at (contents self.old) slot) at bytes.now)) }
+        ensures torn { AtSlot slot (Torn at (length bytes.now)) (contents self.old)
+            (contents self.new) }
+        ensures crash { Follows (AtSlot slot (Torn at (length bytes.now))) (may_leave self.old)
+            (may_leave self.new) }
+        ensures time { Elapses (moment self.old) (moment self.new) (left_since self.old)
+            (left_since self.new) (may_leave self.new) }
         ensures honest { is_honest self.new → is_honest self.old }
         ensures counted { calls self.new ≡ calls self.old + 1 }
         ensures cause { HasCause (failed self.old) (failed self.new) result };
@@ -88,12 +95,14 @@ pub trait Disk {
     fn cut(&mut self, slot: usize, len: usize) -> Result<(), DeviceError>
         requires slot { slot < length (contents self.old) }
         // A cut that would lengthen the file fails.
-        ensures no_longer { is_honest self.new → OnOk result (len ≤ length (file_at (contents self.old) slot)) }
+        ensures no_longer { is_honest self.new
+            → OnOk result (len ≤ length (file_at (contents self.old) slot)) }
         ensures cut { OnOk result (contents self.new
             ≡ slice_set (contents self.old) slot (take len (file_at (contents self.old) slot))) }
         ensures torn { AtSlot slot (Cut len) (contents self.old) (contents self.new) }
         ensures crash { Follows (AtSlot slot (Cut len)) (may_leave self.old) (may_leave self.new) }
-        ensures time { Elapses (moment self.old) (moment self.new) (left_since self.old) (left_since self.new) (may_leave self.new) }
+        ensures time { Elapses (moment self.old) (moment self.new) (left_since self.old)
+            (left_since self.new) (may_leave self.new) }
         ensures honest { is_honest self.new → is_honest self.old }
         ensures counted { calls self.new ≡ calls self.old + 1 }
         ensures cause { HasCause (failed self.old) (failed self.new) result };
@@ -101,10 +110,12 @@ pub trait Disk {
     /// Waits until a slot's file is on the device as it reads.
     fn sync(&mut self, slot: usize) -> Result<(), DeviceError>
         requires { slot < length (contents self.old) }
-        ensures durable { OnOk result (OnlyAt slot (file_at (contents self.old) slot) (may_leave self.new)) }
+        ensures durable { OnOk result
+            (OnlyAt slot (file_at (contents self.old) slot) (may_leave self.new)) }
         ensures same { contents self.new ≡ contents self.old }
         ensures crash { Within (may_leave self.new) (may_leave self.old) }
-        ensures time { Elapses (moment self.old) (moment self.new) (left_since self.old) (left_since self.new) (may_leave self.new) }
+        ensures time { Elapses (moment self.old) (moment self.new) (left_since self.old)
+            (left_since self.new) (may_leave self.new) }
         ensures honest { is_honest self.new → is_honest self.old }
         ensures counted { calls self.new ≡ calls self.old + 1 }
         ensures cause { HasCause (failed self.old) (failed self.new) result };

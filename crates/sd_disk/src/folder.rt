@@ -135,7 +135,8 @@ impl FolderLog {
     /// Notes a call that was made, with the bytes that it carried.
     pub(crate) fn note(&mut self, made: Made, bytes: &[u8])
         ensures outside { self.new.log.trace.outside ≡ self.old.log.trace.outside }
-        ensures events { self.new.log.trace.events ≡ (made.call, bytes.now) ∷ self.old.log.trace.events }
+        ensures events { self.new.log.trace.events
+            ≡ (made.call, bytes.now) ∷ self.old.log.trace.events }
     {
         self.log.note(&made.call, bytes);
     }
@@ -144,7 +145,8 @@ impl FolderLog {
 /// The length of a slot's file.
 pub(crate) fn len(folder: &Folder, slot: usize) -> Result<(usize, Made), Made>
     requires { slot < length folder.now.images.items }
-    ensures { MatchResult result (λ told. told.1.call ≡ Measured slot told.0) (λ made. made.call ≡ Failed) }
+    ensures { MatchResult result (λ told. told.1.call ≡ Measured slot told.0)
+        (λ made. made.call ≡ Failed) }
 {
     match len_of(folder.image(slot)) {
         Ok(len) => Ok((
@@ -173,7 +175,8 @@ pub(crate) fn read(folder: &Folder, slot: usize, at: usize, buffer: &mut [u8]) -
 /// Writes the bytes at `at` of a slot's file.
 pub(crate) fn write(folder: &Folder, slot: usize, at: usize, bytes: &[u8]) -> Result<Made, Made>
     requires { slot < length folder.now.images.items }
-    ensures { MatchResult result (λ made. made.call ≡ Written slot at) (λ made. made.call ≡ WriteFailed slot at) }
+    ensures { MatchResult result (λ made. made.call ≡ Written slot at)
+        (λ made. made.call ≡ WriteFailed slot at) }
 {
     match write_to(folder.image(slot), at, bytes) {
         Ok(()) => Ok(Made {
@@ -188,7 +191,8 @@ pub(crate) fn write(folder: &Folder, slot: usize, at: usize, bytes: &[u8]) -> Re
 /// Cuts a slot's file to `len` bytes.
 pub(crate) fn cut(folder: &Folder, slot: usize, len: usize) -> Result<Made, Made>
     requires { slot < length folder.now.images.items }
-    ensures { MatchResult result (λ made. made.call ≡ Cut slot len) (λ made. made.call ≡ CutFailed slot len) }
+    ensures { MatchResult result (λ made. made.call ≡ Cut slot len)
+        (λ made. made.call ≡ CutFailed slot len) }
 {
     match cut_to(folder.image(slot), len) {
         Ok(()) => Ok(Made {

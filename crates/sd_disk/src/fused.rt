@@ -99,13 +99,17 @@ impl<D: Disk> Disk for Fused<D> {
 
     fn len(&mut self, slot: usize) -> Result<usize, DeviceError>
         requires { slot < length (D.contents self.old.disk) }
-        ensures length { D.is_honest self.new.disk → IfOk result (λ n. n ≡ length (file_at (D.contents self.old.disk) slot)) }
+        ensures length { D.is_honest self.new.disk
+            → IfOk result (λ n. n ≡ length (file_at (D.contents self.old.disk) slot)) }
         ensures same { D.contents self.new.disk ≡ D.contents self.old.disk }
         ensures crash { Within (D.may_leave self.new.disk) (D.may_leave self.old.disk) }
-        ensures time { Elapses (D.moment self.old.disk) (D.moment self.new.disk) (D.left_since self.old.disk) (D.left_since self.new.disk) (D.may_leave self.new.disk) }
+        ensures time { Elapses (D.moment self.old.disk) (D.moment self.new.disk)
+            (D.left_since self.old.disk) (D.left_since self.new.disk) (D.may_leave self.new.disk) }
         ensures honest { D.is_honest self.new.disk → D.is_honest self.old.disk }
-        ensures cause { HasCause (D.failed self.old.disk + blown (fuse_of self.old)) (D.failed self.new.disk + blown (fuse_of self.new)) result }
-        ensures counted { D.calls self.new.disk + missed self.new ≡ D.calls self.old.disk + missed self.old + 1 }
+        ensures cause { HasCause (D.failed self.old.disk + blown (fuse_of self.old))
+            (D.failed self.new.disk + blown (fuse_of self.new)) result }
+        ensures counted { D.calls self.new.disk + missed self.new
+            ≡ D.calls self.old.disk + missed self.old + 1 }
         ensures burns { Burns self.old self.new }
         ensures fails { fuse_of self.old ≡ Some 0 → IsErr result }
         ensures unmade { fuse_of self.old ≡ Some 0 → self.new.disk ≡ self.old.disk }
@@ -120,15 +124,19 @@ impl<D: Disk> Disk for Fused<D> {
     fn read(&mut self, slot: usize, at: usize, buffer: &mut [u8]) -> Result<(), DeviceError>
         requires slot { slot < length (D.contents self.old.disk) }
         ensures inside { D.is_honest self.new.disk → 0 < length buffer.old
-            → OnOk result (at + length buffer.old ≤ length (file_at (D.contents self.old.disk) slot)) }
+            → OnOk result (at + length buffer.old ≤ length
+            (file_at (D.contents self.old.disk) slot)) }
         ensures bytes { D.is_honest self.new.disk → OnOk result (buffer.new
             ≡ slice_range (file_at (D.contents self.old.disk) slot) at (at + length buffer.old)) }
         ensures same { D.contents self.new.disk ≡ D.contents self.old.disk }
         ensures crash { Within (D.may_leave self.new.disk) (D.may_leave self.old.disk) }
-        ensures time { Elapses (D.moment self.old.disk) (D.moment self.new.disk) (D.left_since self.old.disk) (D.left_since self.new.disk) (D.may_leave self.new.disk) }
+        ensures time { Elapses (D.moment self.old.disk) (D.moment self.new.disk)
+            (D.left_since self.old.disk) (D.left_since self.new.disk) (D.may_leave self.new.disk) }
         ensures honest { D.is_honest self.new.disk → D.is_honest self.old.disk }
-        ensures cause { HasCause (D.failed self.old.disk + blown (fuse_of self.old)) (D.failed self.new.disk + blown (fuse_of self.new)) result }
-        ensures counted { D.calls self.new.disk + missed self.new ≡ D.calls self.old.disk + missed self.old + 1 }
+        ensures cause { HasCause (D.failed self.old.disk + blown (fuse_of self.old))
+            (D.failed self.new.disk + blown (fuse_of self.new)) result }
+        ensures counted { D.calls self.new.disk + missed self.new
+            ≡ D.calls self.old.disk + missed self.old + 1 }
         ensures burns { Burns self.old self.new }
         ensures fails { fuse_of self.old ≡ Some 0 → IsErr result }
         ensures unmade { fuse_of self.old ≡ Some 0 → self.new.disk ≡ self.old.disk }
@@ -144,18 +152,28 @@ impl<D: Disk> Disk for Fused<D> {
         requires slot { slot < length (D.contents self.old.disk) }
         requires some { 0 < length bytes.now }
         ensures written { OnOk result (D.contents self.new.disk
-            ≡ slice_set (D.contents self.old.disk) slot (file_after_write (file_at (D.contents self.old.disk) slot) at bytes.now)) }
-        ensures torn { AtSlot slot (Torn at (length bytes.now)) (D.contents self.old.disk) (D.contents self.new.disk) }
-        ensures crash { Follows (AtSlot slot (Torn at (length bytes.now))) (D.may_leave self.old.disk) (D.may_leave self.new.disk) }
-        ensures time { Elapses (D.moment self.old.disk) (D.moment self.new.disk) (D.left_since self.old.disk) (D.left_since self.new.disk) (D.may_leave self.new.disk) }
+            ≡ slice_set (D.contents self.old.disk) slot
+            (file_after_write (file_at (D.contents self.old.disk) slot) at bytes.now)) }
+        ensures torn { AtSlot slot (Torn at (length bytes.now)) (D.contents self.old.disk)
+            (D.contents self.new.disk) }
+        ensures crash { Follows (AtSlot slot (Torn at (length bytes.now)))
+            (D.may_leave self.old.disk) (D.may_leave self.new.disk) }
+        ensures time { Elapses (D.moment self.old.disk) (D.moment self.new.disk)
+            (D.left_since self.old.disk) (D.left_since self.new.disk) (D.may_leave self.new.disk) }
         ensures honest { D.is_honest self.new.disk → D.is_honest self.old.disk }
-        ensures cause { HasCause (D.failed self.old.disk + blown (fuse_of self.old)) (D.failed self.new.disk + blown (fuse_of self.new)) result }
-        ensures counted { D.calls self.new.disk + missed self.new ≡ D.calls self.old.disk + missed self.old + 1 }
+        ensures cause { HasCause (D.failed self.old.disk + blown (fuse_of self.old))
+            (D.failed self.new.disk + blown (fuse_of self.new)) result }
+        ensures counted { D.calls self.new.disk + missed self.new
+            ≡ D.calls self.old.disk + missed self.old + 1 }
         ensures burns { Burns self.old self.new }
         ensures fails { fuse_of self.old ≡ Some 0 → IsErr result }
-        ensures dropped { fuse_of self.old ≡ Some 0 → IsTrue (is_dropping self.old) → self.new.disk ≡ self.old.disk }
+        ensures dropped { fuse_of self.old ≡ Some 0 → IsTrue (is_dropping self.old)
+            → self.new.disk ≡ self.old.disk }
         ensures made { fuse_of self.old ≡ Some 0 → is_dropping self.old ≡ false
-            → (D.contents self.new.disk ≡ slice_set (D.contents self.old.disk) slot (file_after_write (file_at (D.contents self.old.disk) slot) at bytes.now)) ⊎ (D.failed self.old.disk < D.failed self.new.disk) }
+            → (D.contents self.new.disk
+            ≡ slice_set (D.contents self.old.disk) slot
+            (file_after_write (file_at (D.contents self.old.disk) slot) at bytes.now))
+            ⊎ (D.failed self.old.disk < D.failed self.new.disk) }
     {
         if self.fuse.burn() {
             self.misses = self.drops;
@@ -169,20 +187,30 @@ impl<D: Disk> Disk for Fused<D> {
 
     fn cut(&mut self, slot: usize, len: usize) -> Result<(), DeviceError>
         requires slot { slot < length (D.contents self.old.disk) }
-        ensures no_longer { D.is_honest self.new.disk → OnOk result (len ≤ length (file_at (D.contents self.old.disk) slot)) }
+        ensures no_longer { D.is_honest self.new.disk
+            → OnOk result (len ≤ length (file_at (D.contents self.old.disk) slot)) }
         ensures cut { OnOk result (D.contents self.new.disk
-            ≡ slice_set (D.contents self.old.disk) slot (take len (file_at (D.contents self.old.disk) slot))) }
+            ≡ slice_set (D.contents self.old.disk) slot
+            (take len (file_at (D.contents self.old.disk) slot))) }
         ensures torn { AtSlot slot (Cut len) (D.contents self.old.disk) (D.contents self.new.disk) }
-        ensures crash { Follows (AtSlot slot (Cut len)) (D.may_leave self.old.disk) (D.may_leave self.new.disk) }
-        ensures time { Elapses (D.moment self.old.disk) (D.moment self.new.disk) (D.left_since self.old.disk) (D.left_since self.new.disk) (D.may_leave self.new.disk) }
+        ensures crash { Follows (AtSlot slot (Cut len)) (D.may_leave self.old.disk)
+            (D.may_leave self.new.disk) }
+        ensures time { Elapses (D.moment self.old.disk) (D.moment self.new.disk)
+            (D.left_since self.old.disk) (D.left_since self.new.disk) (D.may_leave self.new.disk) }
         ensures honest { D.is_honest self.new.disk → D.is_honest self.old.disk }
-        ensures cause { HasCause (D.failed self.old.disk + blown (fuse_of self.old)) (D.failed self.new.disk + blown (fuse_of self.new)) result }
-        ensures counted { D.calls self.new.disk + missed self.new ≡ D.calls self.old.disk + missed self.old + 1 }
+        ensures cause { HasCause (D.failed self.old.disk + blown (fuse_of self.old))
+            (D.failed self.new.disk + blown (fuse_of self.new)) result }
+        ensures counted { D.calls self.new.disk + missed self.new
+            ≡ D.calls self.old.disk + missed self.old + 1 }
         ensures burns { Burns self.old self.new }
         ensures fails { fuse_of self.old ≡ Some 0 → IsErr result }
-        ensures dropped { fuse_of self.old ≡ Some 0 → IsTrue (is_dropping self.old) → self.new.disk ≡ self.old.disk }
+        ensures dropped { fuse_of self.old ≡ Some 0 → IsTrue (is_dropping self.old)
+            → self.new.disk ≡ self.old.disk }
         ensures made { fuse_of self.old ≡ Some 0 → is_dropping self.old ≡ false
-            → (D.contents self.new.disk ≡ slice_set (D.contents self.old.disk) slot (take len (file_at (D.contents self.old.disk) slot))) ⊎ (D.failed self.old.disk < D.failed self.new.disk) }
+            → (D.contents self.new.disk
+            ≡ slice_set (D.contents self.old.disk) slot
+            (take len (file_at (D.contents self.old.disk) slot)))
+            ⊎ (D.failed self.old.disk < D.failed self.new.disk) }
     {
         if self.fuse.burn() {
             self.misses = self.drops;
@@ -196,13 +224,17 @@ impl<D: Disk> Disk for Fused<D> {
 
     fn sync(&mut self, slot: usize) -> Result<(), DeviceError>
         requires { slot < length (D.contents self.old.disk) }
-        ensures durable { OnOk result (OnlyAt slot (file_at (D.contents self.old.disk) slot) (D.may_leave self.new.disk)) }
+        ensures durable { OnOk result
+            (OnlyAt slot (file_at (D.contents self.old.disk) slot) (D.may_leave self.new.disk)) }
         ensures same { D.contents self.new.disk ≡ D.contents self.old.disk }
         ensures crash { Within (D.may_leave self.new.disk) (D.may_leave self.old.disk) }
-        ensures time { Elapses (D.moment self.old.disk) (D.moment self.new.disk) (D.left_since self.old.disk) (D.left_since self.new.disk) (D.may_leave self.new.disk) }
+        ensures time { Elapses (D.moment self.old.disk) (D.moment self.new.disk)
+            (D.left_since self.old.disk) (D.left_since self.new.disk) (D.may_leave self.new.disk) }
         ensures honest { D.is_honest self.new.disk → D.is_honest self.old.disk }
-        ensures cause { HasCause (D.failed self.old.disk + blown (fuse_of self.old)) (D.failed self.new.disk + blown (fuse_of self.new)) result }
-        ensures counted { D.calls self.new.disk + missed self.new ≡ D.calls self.old.disk + missed self.old + 1 }
+        ensures cause { HasCause (D.failed self.old.disk + blown (fuse_of self.old))
+            (D.failed self.new.disk + blown (fuse_of self.new)) result }
+        ensures counted { D.calls self.new.disk + missed self.new
+            ≡ D.calls self.old.disk + missed self.old + 1 }
         ensures burns { Burns self.old self.new }
         ensures fails { fuse_of self.old ≡ Some 0 → IsErr result }
         ensures unmade { fuse_of self.old ≡ Some 0 → self.new.disk ≡ self.old.disk }

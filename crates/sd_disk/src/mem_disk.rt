@@ -155,12 +155,16 @@ impl Disk for MemDisk {
 
     fn read(&mut self, slot: usize, at: usize, buffer: &mut [u8]) -> Result<(), DeviceError>
         requires slot { slot < length (memory_files self.old) }
-        ensures inside { IsOk result ↔ (at + length buffer.old ≤ length (file_at (memory_files self.old) slot)) }
-        ensures bytes { OnOk result (buffer.new ≡ slice_range (file_at (memory_files self.old) slot) at (at + length buffer.old)) }
+        ensures inside { IsOk result
+            ↔ (at + length buffer.old ≤ length (file_at (memory_files self.old) slot)) }
+        ensures bytes { OnOk result
+            (buffer.new ≡ slice_range (file_at (memory_files self.old) slot) at
+            (at + length buffer.old)) }
         ensures same { memory_files self.new ≡ memory_files self.old }
         ensures crash { Within (memory_may_leave self.new) (memory_may_leave self.old) }
         ensures reached { Within (memory_may_leave self.old) (memory_may_leave self.new) }
-        ensures time { Elapses (memory_moment self.old) (memory_moment self.new) (memory_left_since self.old) (memory_left_since self.new) (memory_may_leave self.new) }
+        ensures time { Elapses (memory_moment self.old) (memory_moment self.new)
+            (memory_left_since self.old) (memory_left_since self.new) (memory_may_leave self.new) }
         ensures counted { memory_called self.new ≡ memory_called self.old + 1 }
         ensures read { CountsRead self.old self.new }
         ensures quiet { OnOk result (self.new.budget ≡ self.old.budget) }
@@ -180,11 +184,17 @@ impl Disk for MemDisk {
         requires slot { slot < length (memory_files self.old) }
         requires some { 0 < length bytes.now }
         ensures written { OnOk result (memory_files self.new
-            ≡ slice_set (memory_files self.old) slot (file_after_write (file_at (memory_files self.old) slot) at bytes.now)) }
-        ensures torn { AtSlot slot (Torn at (length bytes.now)) (memory_files self.old) (memory_files self.new) }
-        ensures crash { Follows (AtSlot slot (Torn at (length bytes.now))) (memory_may_leave self.old) (memory_may_leave self.new) }
-        ensures reached { OnOk result (Reaches (AtSlot slot (Torn at (length bytes.now))) (memory_may_leave self.old) (memory_may_leave self.new)) }
-        ensures time { Elapses (memory_moment self.old) (memory_moment self.new) (memory_left_since self.old) (memory_left_since self.new) (memory_may_leave self.new) }
+            ≡ slice_set (memory_files self.old) slot
+            (file_after_write (file_at (memory_files self.old) slot) at bytes.now)) }
+        ensures torn { AtSlot slot (Torn at (length bytes.now)) (memory_files self.old)
+            (memory_files self.new) }
+        ensures crash { Follows (AtSlot slot (Torn at (length bytes.now)))
+            (memory_may_leave self.old) (memory_may_leave self.new) }
+        ensures reached { OnOk result
+            (Reaches (AtSlot slot (Torn at (length bytes.now))) (memory_may_leave self.old)
+            (memory_may_leave self.new)) }
+        ensures time { Elapses (memory_moment self.old) (memory_moment self.new)
+            (memory_left_since self.old) (memory_left_since self.new) (memory_may_leave self.new) }
         ensures counted { memory_called self.new ≡ memory_called self.old + 1 }
         ensures done { OnOk result (UsesCall self.old self.new) }
         ensures refused { OnErr result (Refuses self.old self.new) }
@@ -200,15 +210,21 @@ impl Disk for MemDisk {
     fn cut(&mut self, slot: usize, len: usize) -> Result<(), DeviceError>
         requires slot { slot < length (memory_files self.old) }
         ensures cut { OnOk result (memory_files self.new
-            ≡ slice_set (memory_files self.old) slot (take len (file_at (memory_files self.old) slot))) }
+            ≡ slice_set (memory_files self.old) slot
+            (take len (file_at (memory_files self.old) slot))) }
         ensures torn { AtSlot slot (Cut len) (memory_files self.old) (memory_files self.new) }
-        ensures crash { Follows (AtSlot slot (Cut len)) (memory_may_leave self.old) (memory_may_leave self.new) }
-        ensures reached { OnOk result (Reaches (AtSlot slot (Cut len)) (memory_may_leave self.old) (memory_may_leave self.new)) }
-        ensures time { Elapses (memory_moment self.old) (memory_moment self.new) (memory_left_since self.old) (memory_left_since self.new) (memory_may_leave self.new) }
+        ensures crash { Follows (AtSlot slot (Cut len)) (memory_may_leave self.old)
+            (memory_may_leave self.new) }
+        ensures reached { OnOk result
+            (Reaches (AtSlot slot (Cut len)) (memory_may_leave self.old)
+            (memory_may_leave self.new)) }
+        ensures time { Elapses (memory_moment self.old) (memory_moment self.new)
+            (memory_left_since self.old) (memory_left_since self.new) (memory_may_leave self.new) }
         ensures counted { memory_called self.new ≡ memory_called self.old + 1 }
         ensures done { OnOk result (UsesCall self.old self.new) }
         ensures refused { OnErr result (Refuses self.old self.new) }
-        ensures room { IsOk result ↔ (0 < memory_calls self.old) × (len ≤ length (file_at (memory_files self.old) slot)) }
+        ensures room { IsOk result ↔ (0 < memory_calls self.old)
+            × (len ≤ length (file_at (memory_files self.old) slot)) }
     {
         let file = &mut self.slots[slot];
         let fits = len <= file.len();
@@ -219,13 +235,15 @@ impl Disk for MemDisk {
 
     fn sync(&mut self, slot: usize) -> Result<(), DeviceError>
         requires { slot < length (memory_files self.old) }
-        ensures durable { OnOk result (OnlyAt slot (file_at (memory_files self.old) slot) (memory_may_leave self.new)) }
+        ensures durable { OnOk result
+            (OnlyAt slot (file_at (memory_files self.old) slot) (memory_may_leave self.new)) }
         ensures same { memory_files self.new ≡ memory_files self.old }
         ensures crash { Within (memory_may_leave self.new) (memory_may_leave self.old) }
         // An outcome which has the slot as it reads is kept.
         ensures reached { (c : List (List ℕ)) → memory_may_leave self.old c
             → file_at c slot ≡ file_at (memory_files self.old) slot → memory_may_leave self.new c }
-        ensures time { Elapses (memory_moment self.old) (memory_moment self.new) (memory_left_since self.old) (memory_left_since self.new) (memory_may_leave self.new) }
+        ensures time { Elapses (memory_moment self.old) (memory_moment self.new)
+            (memory_left_since self.old) (memory_left_since self.new) (memory_may_leave self.new) }
         ensures counted { memory_called self.new ≡ memory_called self.old + 1 }
         ensures done { OnOk result (UsesCall self.old self.new) }
         ensures refused { OnErr result (Refuses self.old self.new) }

@@ -36,7 +36,8 @@ impl Shadow {
     /// So many bytes are written at `at`.
     pub(crate) fn write(&mut self, at: usize, count: usize)
         requires { at + count ≤ shadow_room self.old }
-        ensures tracks { (known : Unsynced) → Tracks self.old known → Tracks self.new (with_write at count known) }
+        ensures tracks { (known : Unsynced) → Tracks self.old known
+            → Tracks self.new (with_write at count known) }
         ensures room { shadow_room self.new ≡ shadow_room self.old }
         ensures least { self.new.least ≡ self.old.least }
         ensures greatest { self.new.greatest ≡ max self.old.greatest (at + count) }
@@ -49,7 +50,8 @@ impl Shadow {
     pub(crate) fn cut(&mut self, count: usize, len: usize)
         requires cut { len ≤ count }
         requires within { count ≤ shadow_room self.old }
-        ensures tracks { (known : Unsynced) → Tracks self.old known → Tracks self.new (with_cut count len known) }
+        ensures tracks { (known : Unsynced) → Tracks self.old known
+            → Tracks self.new (with_cut count len known) }
         ensures room { shadow_room self.new ≡ shadow_room self.old }
         ensures least { self.new.least ≡ min self.old.least len }
         ensures greatest { self.new.greatest ≡ self.old.greatest }

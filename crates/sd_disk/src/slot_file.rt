@@ -79,7 +79,8 @@ impl SlotFile {
     fn fill_to(&mut self, at: usize)
         requires fits { at ≤ room_of self.old }
         requires grown { at ≤ self.old.shadow.greatest }
-        ensures filled { held self.new ≡ held self.old ++ replicate (at - length (held self.old)) 0 }
+        ensures filled { held self.new
+            ≡ held self.old ++ replicate (at - length (held self.old)) 0 }
         ensures room { room_of self.new ≡ room_of self.old }
         ensures shadow { self.new.shadow ≡ self.old.shadow }
     {
@@ -93,7 +94,8 @@ impl SlotFile {
         requires inside { at ≤ length (held self.old) }
         requires fits { at + length bytes.now ≤ room_of self.old }
         requires grown { at + length bytes.now ≤ self.old.shadow.greatest }
-        ensures written { held self.new ≡ take at (held self.old) ++ bytes.now ++ drop (at + length bytes.now) (held self.old) }
+        ensures written { held self.new
+            ≡ take at (held self.old) ++ bytes.now ++ drop (at + length bytes.now) (held self.old) }
         ensures room { room_of self.new ≡ room_of self.old }
         ensures shadow { self.new.shadow ≡ self.old.shadow }
     {
@@ -129,9 +131,12 @@ impl SlotFile {
         number: usize,
         pick: &mut P,
     ) -> Result<SlotFile, AllocError>
-        ensures outcome { (known : Unsynced) → Tracks self.now.shadow known → IfOk result (λ slot. Leaves known (held slot)) }
-        ensures aimed { (known : Unsynced) (c : List (List ℕ)) → Tracks self.now.shadow known → P.aims pick.old c
-            → Leaves known (file_at c number) → IfOk result (λ slot. (held slot ≡ file_at c number) × P.aims pick.new c) }
+        ensures outcome { (known : Unsynced) → Tracks self.now.shadow known
+            → IfOk result (λ slot. Leaves known (held slot)) }
+        ensures aimed { (known : Unsynced) (c : List (List ℕ)) → Tracks self.now.shadow known
+            → P.aims pick.old c
+            → Leaves known (file_at c number)
+            → IfOk result (λ slot. (held slot ≡ file_at c number) × P.aims pick.new c) }
         ensures rest { IfOk result (λ slot. Tracks slot.shadow (at_rest (held slot))) }
         ensures room { IfOk result (λ slot. room_of slot ≡ room_of self.now) }
     {
@@ -160,7 +165,8 @@ impl SlotFile {
         ensures no_shorter { self.now.shadow.least ≤ result }
         ensures no_longer { result ≤ self.now.shadow.greatest }
         ensures aimed { (c : List (List ℕ)) → P.aims pick.old c
-            → ((self.now.shadow.least ≤ length (file_at c number)) → (length (file_at c number) ≤ self.now.shadow.greatest)
+            → ((self.now.shadow.least ≤ length (file_at c number))
+            → (length (file_at c number) ≤ self.now.shadow.greatest)
             → result ≡ length (file_at c number)) × P.aims pick.new c }
     {
         let (least, greatest) = self.shadow.bounds();
@@ -176,11 +182,13 @@ impl SlotFile {
 
     /// A byte that a crash may leave at a place.
     fn picked_byte<P: Pick>(&self, number: usize, at: usize, pick: &mut P) -> u8
-        ensures kept { slice_index_or self.now.shadow.touched.items at false ≡ false → at < self.now.shadow.synced_len
+        ensures kept { slice_index_or self.now.shadow.touched.items at false ≡ false
+            → at < self.now.shadow.synced_len
             → result ≡ slice_index self.now.shadow.synced.items at }
         ensures aimed { (c : List (List ℕ)) → P.aims pick.old c → P.aims pick.new c
             × (at < length (file_at c number)
-            → (slice_index_or self.now.shadow.touched.items at false ≡ false → at < self.now.shadow.synced_len
+            → (slice_index_or self.now.shadow.touched.items at false ≡ false
+            → at < self.now.shadow.synced_len
             → slice_index (file_at c number) at ≡ slice_index self.now.shadow.synced.items at)
             → result ≡ slice_index (file_at c number) at) }
     {

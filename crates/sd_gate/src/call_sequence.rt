@@ -43,7 +43,8 @@ impl CallSequence {
     /// The next call, and what is left after it.
     pub fn split(self) -> Option<(Order, Self)>
         requires { AreSound self }
-        ensures next { MatchOption result (calls_of_sequence self ≡ []) (λ s. calls_of_sequence self ≡ (call_of s.0, bytes_of s.0) ∷ calls_of_sequence s.1) }
+        ensures next { MatchOption result (calls_of_sequence self ≡ [])
+            (λ s. calls_of_sequence self ≡ (call_of s.0, bytes_of s.0) ∷ calls_of_sequence s.1) }
         ensures sound { MatchOption result (Unit {0}) (λ s. IsSound s.0 × AreSound s.1) }
     {
         match self {

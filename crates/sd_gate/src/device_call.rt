@@ -45,12 +45,19 @@ fn make<D: Disk>(disk: &mut D, slot: usize, order: Order) -> (Order, Answer)
     ensures sound { IsSound result.0 }
     ensures bytes { AreKept (call_of order) (bytes_of order) (bytes_of result.0) }
     ensures answer { is_done result.1 ≡ true → IsAnswerTo (call_of order) result.1 }
-    ensures inside { D.is_honest disk.new → is_done result.1 ≡ true → IsInside (call_of order) (bytes_of order) (file_at (D.contents disk.old) slot) }
-    ensures tells { D.is_honest disk.new → is_done result.1 ≡ true → Tells (call_of order) (file_at (D.contents disk.old) slot) result.1 (bytes_of result.0) }
-    ensures done { is_done result.1 ≡ true → D.contents disk.new ≡ contents_after (call_of order) (bytes_of order) slot (D.contents disk.old) }
-    ensures torn { Makes (call_of order) (bytes_of order) slot (D.contents disk.old) (D.contents disk.new) }
-    ensures crash { Follows (Makes (call_of order) (bytes_of order) slot) (D.may_leave disk.old) (D.may_leave disk.new) }
-    ensures durable { call_of order ≡ Sync → is_done result.1 ≡ true → OnlyAt slot (file_at (D.contents disk.old) slot) (D.may_leave disk.new) }
+    ensures inside { D.is_honest disk.new → is_done result.1 ≡ true
+        → IsInside (call_of order) (bytes_of order) (file_at (D.contents disk.old) slot) }
+    ensures tells { D.is_honest disk.new → is_done result.1 ≡ true
+        → Tells (call_of order) (file_at (D.contents disk.old) slot) result.1 (bytes_of result.0) }
+    ensures done { is_done result.1 ≡ true
+        → D.contents disk.new
+        ≡ contents_after (call_of order) (bytes_of order) slot (D.contents disk.old) }
+    ensures torn { Makes (call_of order) (bytes_of order) slot (D.contents disk.old)
+        (D.contents disk.new) }
+    ensures crash { Follows (Makes (call_of order) (bytes_of order) slot) (D.may_leave disk.old)
+        (D.may_leave disk.new) }
+    ensures durable { call_of order ≡ Sync → is_done result.1 ≡ true
+        → OnlyAt slot (file_at (D.contents disk.old) slot) (D.may_leave disk.new) }
     ensures one_call { IsOneCall D.Disk disk.old disk.new }
     ensures cause { HasCause (D.failed disk.old) (D.failed disk.new) result.1 }
 {
@@ -84,11 +91,19 @@ pub fn perform<D: Disk>(disk: &mut D, request: Request) -> Outcome
     // A read of bytes past the end fails, and so does a cut that would lengthen the file.
     ensures inside { D.is_honest disk.new → is_done result.answer ≡ true
         → IsInside request.id.call request.bytes (file_at (D.contents disk.old) request.id.slot) }
-    ensures tells { D.is_honest disk.new → is_done result.answer ≡ true → Tells request.id.call (file_at (D.contents disk.old) request.id.slot) result.answer result.request.bytes }
-    ensures done { is_done result.answer ≡ true → D.contents disk.new ≡ contents_after request.id.call request.bytes request.id.slot (D.contents disk.old) }
-    ensures torn { Makes request.id.call request.bytes request.id.slot (D.contents disk.old) (D.contents disk.new) }
-    ensures crash { Follows (Makes request.id.call request.bytes request.id.slot) (D.may_leave disk.old) (D.may_leave disk.new) }
-    ensures durable { request.id.call ≡ Sync → is_done result.answer ≡ true → OnlyAt request.id.slot (file_at (D.contents disk.old) request.id.slot) (D.may_leave disk.new) }
+    ensures tells { D.is_honest disk.new → is_done result.answer ≡ true
+        → Tells request.id.call
+        (file_at (D.contents disk.old) request.id.slot) result.answer result.request.bytes }
+    ensures done { is_done result.answer ≡ true
+        → D.contents disk.new
+        ≡ contents_after request.id.call request.bytes request.id.slot (D.contents disk.old) }
+    ensures torn { Makes request.id.call request.bytes request.id.slot (D.contents disk.old)
+        (D.contents disk.new) }
+    ensures crash { Follows (Makes request.id.call request.bytes request.id.slot)
+        (D.may_leave disk.old) (D.may_leave disk.new) }
+    ensures durable { request.id.call ≡ Sync → is_done result.answer ≡ true
+        → OnlyAt request.id.slot (file_at (D.contents disk.old) request.id.slot)
+        (D.may_leave disk.new) }
     // One call is made, and no other.
     ensures one_call { IsOneCall D.Disk disk.old disk.new }
     ensures cause { HasCause (D.failed disk.old) (D.failed disk.new) result.answer }
@@ -99,7 +114,9 @@ pub fn perform<D: Disk>(disk: &mut D, request: Request) -> Outcome
     // A slot that waits for the call is afterwards in the phase that follows.
     ensures fits { (phase : Phase) (body : List ℕ) → is_ready phase request.id.call ≡ true
         → SlotFits phase body request.id.slot (D.contents disk.old) (D.may_leave disk.old)
-        → SlotFits (after phase request.id.call (is_done result.answer)) (body_after body request.id.call request.bytes) request.id.slot (D.contents disk.new) (D.may_leave disk.new) }
+        → SlotFits (after phase request.id.call (is_done result.answer))
+        (body_after body request.id.call request.bytes) request.id.slot (D.contents disk.new)
+        (D.may_leave disk.new) }
     // Every other slot is in the phase in which it was.
     ensures elsewhere { (other : ℕ) (phase : Phase) (body : List ℕ) → other ≢ request.id.slot
         → SlotFits phase body other (D.contents disk.old) (D.may_leave disk.old)
@@ -108,15 +125,21 @@ pub fn perform<D: Disk>(disk: &mut D, request: Request) -> Outcome
     ensures any_moment { (phase : Phase) (body : List ℕ) → is_ready phase request.id.call ≡ true
         → SlotFits phase body request.id.slot (D.contents disk.old) (D.may_leave disk.old)
         → LeavesOnly D.Disk disk.old disk.new (λ c. Leaves phase body (file_at c request.id.slot)
-        ⊎ Leaves (after phase request.id.call (is_done result.answer)) (body_after body request.id.call request.bytes) (file_at c request.id.slot)) }
+        ⊎ Leaves (after phase request.id.call (is_done result.answer))
+        (body_after body request.id.call request.bytes) (file_at c request.id.slot)) }
     // Of all slots together.
-    ensures every_slot { (phases : List Phase) (bodies : List (List ℕ)) (phase : Phase) → Waits phases request.id phase
+    ensures every_slot { (phases : List Phase) (bodies : List (List ℕ)) (phase : Phase)
+        → Waits phases request.id phase
         → DiskFits phases bodies (D.contents disk.old) (D.may_leave disk.old)
-        → DiskFits (phases_after phases request.id phase (is_done result.answer)) (bodies_after bodies request.id request.bytes) (D.contents disk.new) (D.may_leave disk.new) }
-    ensures every_moment { (phases : List Phase) (bodies : List (List ℕ)) (phase : Phase) → Waits phases request.id phase
+        → DiskFits (phases_after phases request.id phase (is_done result.answer))
+        (bodies_after bodies request.id request.bytes) (D.contents disk.new)
+        (D.may_leave disk.new) }
+    ensures every_moment { (phases : List Phase) (bodies : List (List ℕ)) (phase : Phase)
+        → Waits phases request.id phase
         → DiskFits phases bodies (D.contents disk.old) (D.may_leave disk.old)
         → LeavesOnly D.Disk disk.old disk.new (λ c. DiskLeaves phases bodies c
-        ⊎ DiskLeaves (phases_after phases request.id phase (is_done result.answer)) (bodies_after bodies request.id request.bytes) c) }
+        ⊎ DiskLeaves (phases_after phases request.id phase (is_done result.answer))
+        (bodies_after bodies request.id request.bytes) c) }
 {
     let Request {
         worker,

@@ -4,9 +4,9 @@ ghost use Rattle.std.specs.Option.{option_map};
 ghost use Rattle.sd_gate.specs.Laws.{phase_found};
 ghost use Rattle.sd_gate.specs.Plans.{found_of, found_after, length_told, nothing_back};
 
-use sd_image::{GATE, HEADER_SIZE};
 use crate::answer::Answer;
 use crate::phase::Phase;
+use sd_image::{GATE, HEADER_SIZE};
 
 /// What came back to a plan with the outcomes: of a page or a body its buffer, the first; of an inspection the length of
 /// the file, its first 4,096 bytes and its table, as far as the inspection came.
@@ -53,7 +53,8 @@ impl Found {
 
     /// With one outcome more.
     pub(crate) fn with(self, answer: Answer, buffer: Option<Vec<u8>>) -> Found
-        ensures { found_of result ≡ found_after (found_of self) answer (option_map (λ b. b.items) buffer) }
+        ensures { found_of result
+            ≡ found_after (found_of self) answer (option_map (λ b. b.items) buffer) }
     {
         let Found { len, first, second } = self;
         let len = length_told(len, answer);

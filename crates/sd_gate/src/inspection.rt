@@ -6,10 +6,10 @@ ghost use Rattle.sd_gate.specs.Inspections.{KnowsLength, calls_awaited, calls_of
 ghost use Rattle.sd_gate.specs.Plans.{length_told};
 ghost use Rattle.std.specs.Option.{option_map};
 
-use sd_areas::PAGE_SIZE;
 use crate::answer::Answer;
 use crate::inspection_stage::InspectionStage;
 use crate::order::Order;
+use sd_areas::PAGE_SIZE;
 use sd_image::{GATE, HEADER_SIZE, decode_header};
 use std::alloc::{AllocError, Global};
 
@@ -61,12 +61,18 @@ impl Inspection {
     pub fn take(&mut self) -> Result<Option<Order>, AllocError>
         ensures next { IfOk result (λ taken. MatchOption taken
             (calls_of_stage self.old.stage ≡ [])
-            (λ order. calls_of_stage self.old.stage ≡ (call_of order, bytes_of order) ∷ calls_of_stage self.new.stage)) }
-        ensures none { IfOk result (λ taken. MatchOption taken (self.new.stage ≡ self.old.stage) (λ order. IsSound order)) }
+            (λ order. calls_of_stage self.old.stage
+            ≡ (call_of order, bytes_of order) ∷ calls_of_stage self.new.stage)) }
+        ensures none { IfOk result
+            (λ taken. MatchOption taken (self.new.stage ≡ self.old.stage)
+            (λ order. IsSound order)) }
         ensures awaits { awaits_of self.new.stage ≡ awaits_of self.old.stage }
-        ensures refused { IsErr result → (self.new.stage ≡ self.old.stage) × IsReadNext (calls_of_stage self.old.stage) }
-        ensures told { (len : Option ℕ) → KnowsLength self.old.stage len → KnowsLength self.new.stage len }
-        ensures knows { IsErr result → (len : Option ℕ) → KnowsLength self.old.stage len → IsSome len }
+        ensures refused { IsErr result
+            → (self.new.stage ≡ self.old.stage) × IsReadNext (calls_of_stage self.old.stage) }
+        ensures told { (len : Option ℕ) → KnowsLength self.old.stage len
+            → KnowsLength self.new.stage len }
+        ensures knows { IsErr result → (len : Option ℕ) → KnowsLength self.old.stage len
+            → IsSome len }
     {
         let (order, next) = match self.stage {
             InspectionStage::Sync => (Order::Sync, InspectionStage::Len),
@@ -92,8 +98,11 @@ impl Inspection {
 
     /// Goes on after an outcome.
     pub fn resume(&mut self, answer: Answer, buffer: &Option<Vec<u8>>)
-        ensures calls { (calls_of_stage self.new.stage, awaits_of self.new.stage) ≡ calls_then (calls_of_stage self.old.stage) (awaits_of self.old.stage) answer (option_map (λ b. b.items) buffer.now) }
-        ensures told { (len : Option ℕ) → KnowsLength self.old.stage len → KnowsLength self.new.stage (length_told len answer) }
+        ensures calls { (calls_of_stage self.new.stage, awaits_of self.new.stage)
+            ≡ calls_then (calls_of_stage self.old.stage) (awaits_of self.old.stage) answer
+            (option_map (λ b. b.items) buffer.now) }
+        ensures told { (len : Option ℕ) → KnowsLength self.old.stage len
+            → KnowsLength self.new.stage (length_told len answer) }
     {
         match self.stage {
             InspectionStage::AwaitLen => self.stage = after_length(answer),
@@ -113,7 +122,8 @@ impl Inspection {
 
     /// How many calls are left at most.
     pub fn calls_left(&self) -> usize
-        ensures count { result ≡ length (calls_of_stage self.now.stage) + calls_awaited (awaits_of self.now.stage) }
+        ensures count { result
+            ≡ length (calls_of_stage self.now.stage) + calls_awaited (awaits_of self.now.stage) }
         ensures few { result ≤ 4 }
     {
         match self.stage {

@@ -25,11 +25,14 @@ impl Job {
         ensures next { IfOk result (λ taken. MatchOption taken
             (calls_of self.old ≡ [])
             (λ order. calls_of self.old ≡ (call_of order, bytes_of order) ∷ calls_of self.new)) }
-        ensures none { IfOk result (λ taken. MatchOption taken (calls_of self.new ≡ []) (λ order. IsSound order)) }
+        ensures none { IfOk result
+            (λ taken. MatchOption taken (calls_of self.new ≡ []) (λ order. IsSound order)) }
         ensures sound { IsSoundJob self.new }
         ensures awaits { awaited_by self.new ≡ awaited_by self.old }
-        ensures refused { IsErr result → (calls_of self.new ≡ calls_of self.old) × IsReadNext (calls_of self.old) }
-        ensures told { (len : Option ℕ) → KnowsItsLength self.old len → KnowsItsLength self.new len }
+        ensures refused { IsErr result
+            → (calls_of self.new ≡ calls_of self.old) × IsReadNext (calls_of self.old) }
+        ensures told { (len : Option ℕ) → KnowsItsLength self.old len
+            → KnowsItsLength self.new len }
         ensures knows { IsErr result → (len : Option ℕ) → KnowsItsLength self.old len → IsSome len }
     {
         match self {
@@ -46,9 +49,12 @@ impl Job {
 
     /// Goes on after an outcome.
     pub fn resume(&mut self, answer: Answer, buffer: &Option<Vec<u8>>)
-        ensures calls { (calls_of self.new, awaited_by self.new) ≡ calls_then (calls_of self.old) (awaited_by self.old) answer (option_map (λ b. b.items) buffer.now) }
+        ensures calls { (calls_of self.new, awaited_by self.new)
+            ≡ calls_then (calls_of self.old) (awaited_by self.old) answer
+            (option_map (λ b. b.items) buffer.now) }
         ensures sound { IsSoundJob self.old → IsSoundJob self.new }
-        ensures told { (len : Option ℕ) → KnowsItsLength self.old len → KnowsItsLength self.new (length_told len answer) }
+        ensures told { (len : Option ℕ) → KnowsItsLength self.old len
+            → KnowsItsLength self.new (length_told len answer) }
     {
         if let Job::Inspection(inspection) = self {
             inspection.resume(answer, buffer);

@@ -6,7 +6,6 @@ ghost use Rattle.sd_gate.specs.Sequences.{format_calls, closing_calls, body_call
 ghost use Rattle.sd_gate.specs.Inspections.{nothing, the_length, IsReadNext};
 ghost use Rattle.sd_gate.specs.Plans.{calls_of, awaited_by, IsSoundJob, KnowsItsLength, found_of, begun, Gives, calls_after, settled, plan_after, steps_left};
 
-use sd_areas::PAGE_SIZE;
 use crate::call_sequence::CallSequence;
 use crate::found::Found;
 use crate::inspection::Inspection;
@@ -19,6 +18,7 @@ use crate::request_id::RequestId;
 use crate::settled::Settled;
 use crate::slot_state::SlotState;
 use crate::worker::Worker;
+use sd_areas::PAGE_SIZE;
 use sd_image::{HEADER_SIZE, Header};
 use std::alloc::{AllocError, Global};
 use std::marker::Model;
@@ -112,7 +112,8 @@ impl Plan {
     /// Writes the data page with this number: a slot's data pages are counted from 0, and their numbers are below 2^39.
     /// A number beyond these and a buffer of other than 4,096 bytes are no page: the plan has no call then.
     pub fn write_page(slot: usize, place: usize, buffer: Vec<u8>) -> Self
-        ensures page { IsPage place buffer.items → result ≡ begun slot ((Write (data_place place), buffer.items) ∷ []) nothing }
+        ensures page { IsPage place buffer.items
+            → result ≡ begun slot ((Write (data_place place), buffer.items) ∷ []) nothing }
         ensures other { (IsPage place buffer.items → ⊥) → result ≡ begun slot [] nothing }
     {
         if !is_page(place, &buffer) {
@@ -124,7 +125,8 @@ impl Plan {
 
     /// Reads the data page with this number into the buffer. What is no page has no call, as in `write_page`.
     pub fn read_page(slot: usize, place: usize, buffer: Vec<u8>) -> Self
-        ensures page { IsPage place buffer.items → result ≡ begun slot ((Read (data_place place), buffer.items) ∷ []) nothing }
+        ensures page { IsPage place buffer.items
+            → result ≡ begun slot ((Read (data_place place), buffer.items) ∷ []) nothing }
         ensures other { (IsPage place buffer.items → ⊥) → result ≡ begun slot [] nothing }
     {
         if !is_page(place, &buffer) {
@@ -138,7 +140,8 @@ impl Plan {
     /// The image is there once the last sync is done. A table without bytes and a header that counts more than
     /// 2^39 data pages are of no image: the plan has no call then.
     pub fn close_body(slot: usize, header: Header, table: Vec<u8>) -> Self
-        ensures body { IsBody header table.items → result ≡ begun slot (body_calls header table.items) nothing }
+        ensures body { IsBody header table.items
+            → result ≡ begun slot (body_calls header table.items) nothing }
         ensures other { (IsBody header table.items → ⊥) → result ≡ begun slot [] nothing }
     {
         if !is_body(&header, &table) {
@@ -178,10 +181,12 @@ impl Plan {
     ///
     /// `AllocError` where an inspection finds no memory for a buffer: nothing changed.
     pub fn take(&mut self, worker: Worker, ticket: u64) -> Result<Option<Request>, AllocError>
-        ensures fewer { IfOk result (λ given. IsSome given → steps_left self.new < steps_left self.old) }
+        ensures fewer { IfOk result
+            (λ given. IsSome given → steps_left self.new < steps_left self.old) }
         ensures given { IfOk result (λ given. MatchOption given
             ((self.new ≡ self.old) × (IsSome self.old.out ⊎ (self.old.calls ≡ [])))
-            (λ request. Gives self.old self.new request × (request.id.worker ≡ worker) × (request.id.ticket ≡ ticket))) }
+            (λ request. Gives self.old self.new request × (request.id.worker ≡ worker)
+            × (request.id.ticket ≡ ticket))) }
         // A plan that asks for no length is never refused.
         ensures refused { IsErr result → (self.new ≡ self.old) × IsReadNext self.old.calls
             × IsSome self.old.found.len }
@@ -220,9 +225,12 @@ impl Plan {
     /// Takes the outcome of the request that is out. One of any other request is strange, and changes nothing.
     /// After one that failed no call is left.
     pub fn settle(&mut self, outcome: Outcome) -> Settled
-        ensures fewer { self.old.out ≡ Some outcome.request.id → steps_left self.new < steps_left self.old }
-        ensures strange { self.old.out ≢ Some outcome.request.id → (self.new ≡ self.old) × (result ≡ Settled.Strange) }
-        ensures settled { self.old.out ≡ Some outcome.request.id → (self.new ≡ plan_after self.old outcome)
+        ensures fewer { self.old.out ≡ Some outcome.request.id
+            → steps_left self.new < steps_left self.old }
+        ensures strange { self.old.out ≢ Some outcome.request.id
+            → (self.new ≡ self.old) × (result ≡ Settled.Strange) }
+        ensures settled { self.old.out ≡ Some outcome.request.id
+            → (self.new ≡ plan_after self.old outcome)
             × (result ≡ settled (is_done outcome.answer) (calls_after self.old outcome).0) }
     {
         if !self.is_out(&outcome.id()) {

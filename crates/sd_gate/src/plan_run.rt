@@ -20,7 +20,8 @@ use sd_disk::{DeviceError, Disk};
 fn next_request(plan: &mut Plan, ticket: u64) -> Option<Request>
     requires free { plan.old.out ≡ None }
     requires no_read { IsReadNext plan.old.calls → ⊥ }
-    ensures { MatchOption result ((plan.new ≡ plan.old) × (plan.old.calls ≡ [])) (λ request. Gives plan.old plan.new request) }
+    ensures { MatchOption result ((plan.new ≡ plan.old) × (plan.old.calls ≡ []))
+        (λ request. Gives plan.old plan.new request) }
 {
     match plan.take(Worker::Dumper, ticket) {
         Ok(request) => request,
@@ -34,15 +35,18 @@ pub fn run_plan<D: Disk>(disk: &mut D, mut plan: Plan) -> Result<Found, DeviceEr
     requires begins { plan ≡ begun plan.slot plan.calls nothing }
     requires slot { plan.slot < length (D.contents disk.old) }
     requires changes { AreChanges plan.calls }
-    ensures done { OnOk result (D.contents disk.new ≡ contents_done plan.calls plan.slot (D.contents disk.old)) }
+    ensures done { OnOk result
+        (D.contents disk.new ≡ contents_done plan.calls plan.slot (D.contents disk.old)) }
     ensures back { IfOk result (λ found. found_of found ≡ back_after plan.calls plan.found) }
     ensures crash { FollowsAt plan.slot (D.may_leave disk.old) (D.may_leave disk.new) }
     // From a phase that takes its calls the slot comes to the last.
-    ensures fits { (image body final : List ℕ) (phase last : Phase) → Takes image phase body plan.calls last final
+    ensures fits { (image body final : List ℕ) (phase last : Phase)
+        → Takes image phase body plan.calls last final
         → SlotFits phase body plan.slot (D.contents disk.old) (D.may_leave disk.old)
         → OnOk result (SlotFits last final plan.slot (D.contents disk.new) (D.may_leave disk.new)) }
     // A crash at any moment of it leaves the slot without an image, or with this one, and all others as they were left.
-    ensures any_moment { (image body final : List ℕ) (phase last : Phase) → Takes image phase body plan.calls last final
+    ensures any_moment { (image body final : List ℕ) (phase last : Phase)
+        → Takes image phase body plan.calls last final
         → SlotFits phase body plan.slot (D.contents disk.old) (D.may_leave disk.old)
         → LeavesOnly D.Disk disk.old disk.new (IsLeft plan.slot image (D.may_leave disk.old)) }
     ensures honest { D.is_honest disk.new → D.is_honest disk.old }

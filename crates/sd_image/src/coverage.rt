@@ -22,7 +22,9 @@ pub(crate) struct PagesLeft<'a> {
 fn behind<'a>(left: PagesLeft<'a>, run: &Run) -> Option<PagesLeft<'a>>
     requires { left.first + left.count < 2 ^ 65 }
     ensures fits { IfSome result (λ rest. rest.first + rest.count < 2 ^ 65) }
-    ensures pages { MatchOption result ((others : List ℕ) → pages_left left.entry ≡ run_pages run.now ++ others → ⊥) (λ rest. pages_left left.entry ≡ run_pages run.now ++ pages_left rest) }
+    ensures pages { MatchOption result
+        ((others : List ℕ) → pages_left left.entry ≡ run_pages run.now ++ others → ⊥)
+        (λ rest. pages_left left.entry ≡ run_pages run.now ++ pages_left rest) }
 {
     let PagesLeft {
         first: mut page,

@@ -28,7 +28,8 @@ fn number_of(kind: Kind) -> u16
 
 /// The kind with this number, or none.
 fn kind_with(number: u16) -> Option<Kind>
-    ensures { MatchOption result (number < 1 ⊎ 3 < number) (λ kind. (1 ≤ number) × (number ≤ 3) × (kind ≡ kind_of number)) }
+    ensures { MatchOption result (number < 1 ⊎ 3 < number)
+        (λ kind. (1 ≤ number) × (number ≤ 3) × (kind ≡ kind_of number)) }
 {
     match number {
         1 => Some(Kind::PreDump),
@@ -41,7 +42,8 @@ fn kind_with(number: u16) -> Option<Kind>
 /// Writes a field at its place in the bytes behind the gate.
 fn put(text: &mut [u8; 4095], place: usize, field: &[u8])
     requires { place + length field.now ≤ 4095 }
-    ensures { text.new ≡ take place text.old ++ field.now ++ drop (place + length field.now) text.old }
+    ensures { text.new
+        ≡ take place text.old ++ field.now ++ drop (place + length field.now) text.old }
 {
     text[place..place + field.len()].copy_from_slice(field);
 }
@@ -51,7 +53,8 @@ pub fn encode_header(header: &Header) -> [u8; 4095]
     ensures text { result ≡ header_text header.now }
     ensures length { length result ≡ 4095 }
     // What is written is read back, behind any gate.
-    ensures read_back { (gate len : ℕ) → IsHeader header.now len → header_in (gate ∷ result) len ≡ Ok header.now }
+    ensures read_back { (gate len : ℕ) → IsHeader header.now len
+        → header_in (gate ∷ result) len ≡ Ok header.now }
 {
     let mut text = [0; 4095];
     put(&mut text, 0, MAGIC);
@@ -171,7 +174,8 @@ pub fn decode_header(bytes: &[u8], len: u64) -> Result<Header, Reason>
     // What is read is spelled so, and is a header.
     ensures found { IfOk result (λ h. (drop 1 bytes.now ≡ header_text h) × IsHeader h len) }
     // What is spelled so is read.
-    ensures only { (h : Header) → drop 1 bytes.now ≡ header_text h → IsHeader h len → result ≡ Ok h }
+    ensures only { (h : Header) → drop 1 bytes.now ≡ header_text h → IsHeader h len
+        → result ≡ Ok h }
     // Which reason it is.
     ensures exact { result ≡ header_in bytes.now len }
 {

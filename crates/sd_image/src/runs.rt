@@ -23,7 +23,8 @@ fn continues(run: &Run, page: u64, kind: RunKind) -> bool
 pub fn push_page(runs: &mut Vec<Run>, page: PageNo, kind: RunKind) -> Result<(), AllocError>
     requires behind { end_of runs.old.items ≤ page }
     // The maximal runs of some pages become those of these and one more.
-    ensures more { (parent : ℕ) (pages : List PageWay) → AreRunsOf parent pages runs.old.items → IsSourced parent kind
+    ensures more { (parent : ℕ) (pages : List PageWay) → AreRunsOf parent pages runs.old.items
+        → IsSourced parent kind
         → OnOk result (AreRunsOf parent (pages ++ (page, kind) ∷ []) runs.new.items) }
     ensures end { OnOk result (end_of runs.new.items ≡ page + 1) }
     ensures err { OnErr result (runs.new.items ≡ runs.old.items) }

@@ -17,7 +17,9 @@ use crate::space_head::SpaceHead;
 use crate::table::{SpaceTable, Table};
 use crate::table_error::TableError;
 use crate::totals::{left_by_data, left_by_mapped};
-use sd_areas::{AREA_LIMIT, Area, MAPPED_PAGE_LIMIT, PAGE_NUMBER_LIMIT, PageNo, Prot, SPACE_LIMIT, SpaceId};
+use sd_areas::{
+    AREA_LIMIT, Area, MAPPED_PAGE_LIMIT, PAGE_NUMBER_LIMIT, PageNo, Prot, SPACE_LIMIT, SpaceId,
+};
 use std::alloc::Global;
 
 /// The next item, and the bytes behind it.
@@ -93,7 +95,9 @@ fn prot_with(number: u32) -> Option<Prot>
 /// The area of an item, where it may stand behind the one before.
 fn area_in(before: Option<&Area>, item: &[u8]) -> Option<Area>
     requires { length item.now ≡ 24 }
-    ensures { MatchOption result (area_holds (option_copied before.entry) item.now ≡ false) (λ area. (area_holds (option_copied before.entry) item.now ≡ true) × (area ≡ area_of item.now)) }
+    ensures { MatchOption result (area_holds (option_copied before.entry) item.now ≡ false)
+        (λ area. (area_holds (option_copied before.entry) item.now ≡ true)
+        × (area ≡ area_of item.now)) }
 {
     let first = PageNo::new(u64_at(item, 0))?;
     let count = u64_at(item, 8);
@@ -135,7 +139,8 @@ fn areas_of(alloc: Global, count: u32, bytes: &[u8]) -> Result<(Vec<Area>, &[u8]
 
 /// The kind of run with this number, or none.
 fn run_kind_with(number: u32) -> Option<RunKind>
-    ensures { MatchOption result (number < 1 ⊎ 3 < number) (λ kind. (1 ≤ number) × (number ≤ 3) × (kind ≡ run_kind_of number)) }
+    ensures { MatchOption result (number < 1 ⊎ 3 < number)
+        (λ kind. (1 ≤ number) × (number ≤ 3) × (kind ≡ run_kind_of number)) }
 {
     match number {
         1 => Some(RunKind::Data),
@@ -177,7 +182,9 @@ fn is_run_after(parent: u64, before: Option<&Run>, run: &Run) -> bool
 /// The run of an item, where it may stand behind the one before.
 fn run_in(parent: u64, before: Option<&Run>, item: &[u8]) -> Option<Run>
     requires { length item.now ≡ 24 }
-    ensures { MatchOption result (run_holds parent (option_copied before.entry) item.now ≡ false) (λ run. (run_holds parent (option_copied before.entry) item.now ≡ true) × (run ≡ run_of item.now)) }
+    ensures { MatchOption result (run_holds parent (option_copied before.entry) item.now ≡ false)
+        (λ run. (run_holds parent (option_copied before.entry) item.now ≡ true)
+        × (run ≡ run_of item.now)) }
 {
     let first = PageNo::new(u64_at(item, 0))?;
     let count = u64_at(item, 8);
@@ -209,7 +216,8 @@ fn runs_of(
     count: u64,
     bytes: &[u8],
 ) -> Result<(Vec<Run>, &[u8]), TableError>
-    ensures { Gives (λ x. (x.0.items, x.1.now)) result (many (run_at parent) Some count None bytes.now) }
+    ensures { Gives (λ x. (x.0.items, x.1.now)) result
+        (many (run_at parent) Some count None bytes.now) }
 {
     let mut runs = Vec::new(alloc);
     let mut rest = bytes;
@@ -290,7 +298,8 @@ fn spaces_of<'a>(
     count: u32,
     bytes: &'a [u8],
 ) -> Result<(Vec<SpaceTable>, &'a [u8]), TableError>
-    ensures { Gives (λ x. (map listing_of x.0.items, x.1.now)) result (many (space_at header.now) (λ s. s.space) count 0 bytes.now) }
+    ensures { Gives (λ x. (map listing_of x.0.items, x.1.now)) result
+        (many (space_at header.now) (λ s. s.space) count 0 bytes.now) }
 {
     let mut spaces = Vec::new(alloc);
     let mut before = 0;
@@ -331,11 +340,16 @@ fn table_of(alloc: Global, header: &Header, bytes: &[u8]) -> Result<Table, Table
 /// first item at which a rule breaks.
 pub fn decode_table(alloc: Global, header: &Header, bytes: &[u8]) -> Result<Table, TableError>
     // What is read is spelled so, and is a table.
-    ensures found { IfOk result (λ t. (bytes.now ≡ table_text (map listing_of t.spaces.items)) × IsTable header.now (map listing_of t.spaces.items)) }
+    ensures found { IfOk result
+        (λ t. (bytes.now ≡ table_text (map listing_of t.spaces.items))
+        × IsTable header.now (map listing_of t.spaces.items)) }
     // What is spelled so is read, unless memory runs out.
-    ensures only { (spaces : List Listed) → bytes.now ≡ table_text spaces → IsTable header.now spaces → Gives (λ t. map listing_of t.spaces.items) result (Ok spaces) }
+    ensures only { (spaces : List Listed) → bytes.now ≡ table_text spaces
+        → IsTable header.now spaces
+        → Gives (λ t. map listing_of t.spaces.items) result (Ok spaces) }
     // Which reason it is.
-    ensures exact { Gives (λ t. map listing_of t.spaces.items) result (table_in header.now bytes.now) }
+    ensures exact { Gives (λ t. map listing_of t.spaces.items) result
+        (table_in header.now bytes.now) }
 {
     table_of(alloc, header, bytes)
 }

@@ -80,7 +80,8 @@ fn put_space(out: &mut Vec<u8>, space: &SpaceTable) -> Result<(), AllocError>
 
 /// Writes spaces, one behind the other.
 fn put_spaces(out: &mut Vec<u8>, spaces: &[SpaceTable]) -> Result<(), AllocError>
-    ensures { OnOk result (out.new.items ≡ out.old.items ++ flat_map space_text (map listing_of spaces.now)) }
+    ensures { OnOk result
+        (out.new.items ≡ out.old.items ++ flat_map space_text (map listing_of spaces.now)) }
 {
     for space in spaces {
         put_space(out, space)?;
@@ -92,7 +93,8 @@ fn put_spaces(out: &mut Vec<u8>, spaces: &[SpaceTable]) -> Result<(), AllocError
 pub fn encode_table(alloc: Global, table: &Table) -> Result<Vec<u8>, AllocError>
     ensures text { IfOk result (λ v. v.items ≡ table_text (map listing_of table.now.spaces.items)) }
     // What is written is read back, behind each header whose table it is.
-    ensures read_back { IfOk result (λ v. (header : Header) → IsTable header (map listing_of table.now.spaces.items)
+    ensures read_back { IfOk result
+        (λ v. (header : Header) → IsTable header (map listing_of table.now.spaces.items)
         → table_in header v.items ≡ Ok (map listing_of table.now.spaces.items)) }
 {
     let mut out = Vec::new(alloc);

@@ -9,7 +9,8 @@ use sd_areas::Area;
 
 /// What the areas' pages leave of a limit, or none where they are more.
 fn left_by_areas(limit: u64, areas: &[Area]) -> Option<u64>
-    ensures { SomeIff result (sum_by (λ area. area.count) areas.now ≤ limit) (limit - sum_by (λ area. area.count) areas.now) }
+    ensures { SomeIff result (sum_by (λ area. area.count) areas.now ≤ limit)
+        (limit - sum_by (λ area. area.count) areas.now) }
 {
     let mut left = limit;
     for area in areas {
@@ -30,7 +31,8 @@ fn data_pages(run: &Run) -> u64
 
 /// What the pages with data leave of a limit, or none where they are more.
 fn left_by_runs(limit: u64, runs: &[Run]) -> Option<u64>
-    ensures { SomeIff result (sum_by (λ run. if is_data run then run.count else 0) runs.now ≤ limit) (limit - sum_by (λ run. if is_data run then run.count else 0) runs.now) }
+    ensures { SomeIff result (sum_by (λ run. if is_data run then run.count else 0) runs.now ≤ limit)
+        (limit - sum_by (λ run. if is_data run then run.count else 0) runs.now) }
 {
     let mut left = limit;
     for run in runs {
@@ -41,7 +43,8 @@ fn left_by_runs(limit: u64, runs: &[Run]) -> Option<u64>
 
 /// What all mapped pages leave of a limit, or none where they are more.
 pub(crate) fn left_by_mapped(limit: u64, spaces: &[SpaceTable]) -> Option<u64>
-    ensures { SomeIff result (mapped_count (map listing_of spaces.now) ≤ limit) (limit - mapped_count (map listing_of spaces.now)) }
+    ensures { SomeIff result (mapped_count (map listing_of spaces.now) ≤ limit)
+        (limit - mapped_count (map listing_of spaces.now)) }
 {
     let mut left = limit;
     for space in spaces {
@@ -52,7 +55,8 @@ pub(crate) fn left_by_mapped(limit: u64, spaces: &[SpaceTable]) -> Option<u64>
 
 /// What all pages with data leave of a limit, or none where they are more.
 pub(crate) fn left_by_data(limit: u64, spaces: &[SpaceTable]) -> Option<u64>
-    ensures { SomeIff result (data_count (map listing_of spaces.now) ≤ limit) (limit - data_count (map listing_of spaces.now)) }
+    ensures { SomeIff result (data_count (map listing_of spaces.now) ≤ limit)
+        (limit - data_count (map listing_of spaces.now)) }
 {
     let mut left = limit;
     for space in spaces {

@@ -26,7 +26,9 @@ use std::alloc::AllocError;
 ///
 /// Out of memory where the list can't grow: nothing changes.
 pub(crate) fn add_areas(areas: &mut Areas, space: SpaceId, own: AreaMap) -> Result<(), AllocError>
-    ensures ok { OnOk result ((q : ℕ) → get nat_cmp areas.new q ≡ (if q == space then Some own else get nat_cmp areas.old q)) }
+    ensures ok { OnOk result
+        ((q : ℕ) → get nat_cmp areas.new q
+        ≡ (if q == space then Some own else get nat_cmp areas.old q)) }
     ensures err { OnErr result ((q : ℕ) → get nat_cmp areas.new q ≡ get nat_cmp areas.old q) }
 {
     areas.insert(space, own)?;
@@ -35,7 +37,8 @@ pub(crate) fn add_areas(areas: &mut Areas, space: SpaceId, own: AreaMap) -> Resu
 
 /// Takes a space's areas away.
 fn drop_areas(areas: &mut Areas, space: SpaceId)
-    ensures { (q : ℕ) → get nat_cmp areas.new q ≡ (if q == space then None else get nat_cmp areas.old q) }
+    ensures { (q : ℕ)
+        → get nat_cmp areas.new q ≡ (if q == space then None else get nat_cmp areas.old q) }
 {
     areas.remove(&space);
 }
@@ -43,7 +46,8 @@ fn drop_areas(areas: &mut Areas, space: SpaceId)
 /// Unmaps all pages of a space, and ends it.
 fn end_space(paging: &mut Paging, space: SpaceId)
     requires { is_alive paging.old.spaces space ≡ true }
-    ensures { paging.new ≡ record { pool = paging.old.pool; spaces = finmap.remove paging.old.spaces space } }
+    ensures { paging.new
+        ≡ record { pool = paging.old.pool; spaces = finmap.remove paging.old.spaces space } }
 {
     unmap_all(paging, space);
     paging.remove_space(space);
@@ -83,7 +87,8 @@ fn copy_space(paging: &mut Paging, space: SpaceId, child: SpaceId) -> Result<(),
     requires fresh { is_alive paging.old.spaces child ≡ false }
     requires least { 1 ≤ child }
     requires greatest { child ≤ 16 }
-    requires few { page_count paging.old.spaces + finmap.len (inside paging.old.spaces space) ≤ 65536 }
+    requires few { page_count paging.old.spaces + finmap.len
+        (inside paging.old.spaces space) ≤ 65536 }
     ensures ok { OnOk result (paging.new ≡ contents_after_fork paging.old space child) }
     ensures err { OnErr result (paging.new ≡ paging.old) }
 {
@@ -101,7 +106,8 @@ fn free_number(paging: &Paging) -> Option<SpaceId>
     requires { IsSound paging.now }
     ensures { MatchOption result
         (16 ≤ finmap.len paging.now.spaces)
-        (λ child. IsLeastFree (plain_of paging.now) child × (finmap.len paging.now.spaces < 16) × (child ≤ 16)) }
+        (λ child. IsLeastFree (plain_of paging.now) child × (finmap.len paging.now.spaces < 16)
+        × (child ≤ 16)) }
 {
     for number in 1..=SPACE_LIMIT {
         let space = SpaceId::new(number);
@@ -124,7 +130,8 @@ pub(crate) fn fork(
     ensures tested { result ≡ Err OutOfMemory → fork_due (plain_of paging.old) space ≡ None }
     ensures child { IfOk result (λ child. IsLeastFree (plain_of paging.old) child) }
     ensures step { IfOk result (λ child. Step paging.old (Forked space child) paging.new) }
-    ensures memory { IfOk result (λ child. plain_of paging.new ≡ after_fork (plain_of paging.old) space child) }
+    ensures memory { IfOk result
+        (λ child. plain_of paging.new ≡ after_fork (plain_of paging.old) space child) }
     ensures err { OnErr result (paging.new ≡ paging.old) }
 {
     if !paging.is_alive(space) {

@@ -68,7 +68,8 @@ impl Frame {
     /// Writes bytes from an offset on.
     pub(crate) fn write(&mut self, offset: usize, bytes: &[u8])
         requires { offset + length bytes.now ≤ 4096 }
-        ensures { self.new ≡ record { count = self.old.count; bytes = stored_at self.old.bytes offset bytes.now } }
+        ensures { self.new
+            ≡ record { count = self.old.count; bytes = stored_at self.old.bytes offset bytes.now } }
     {
         write(&mut self.bytes, offset, bytes);
     }

@@ -20,7 +20,9 @@ impl FrameCell {
     pub(crate) fn share(&mut self)
         requires used { IsSome (cell_of self.old) }
         requires few { ForSome (cell_of self.old) (λ (cell : Cell). cell.count < 2 ^ 17) }
-        ensures { IfSome (cell_of self.old) (λ (cell : Cell). self.new ≡ Used (record { count = cell.count + 1; bytes = cell.bytes })) }
+        ensures { IfSome (cell_of self.old)
+            (λ (cell : Cell). self.new
+            ≡ Used (record { count = cell.count + 1; bytes = cell.bytes })) }
     {
         if let FrameCell::Used(frame) = self {
             frame.share();
@@ -31,7 +33,9 @@ impl FrameCell {
     pub(crate) fn release(&mut self)
         requires used { IsSome (cell_of self.old) }
         requires some { ForSome (cell_of self.old) (λ (cell : Cell). 0 < cell.count) }
-        ensures { IfSome (cell_of self.old) (λ (cell : Cell). self.new ≡ Used (record { count = cell.count - 1; bytes = cell.bytes })) }
+        ensures { IfSome (cell_of self.old)
+            (λ (cell : Cell). self.new
+            ≡ Used (record { count = cell.count - 1; bytes = cell.bytes })) }
     {
         if let FrameCell::Used(frame) = self {
             frame.release();
@@ -42,7 +46,9 @@ impl FrameCell {
     pub(crate) fn write(&mut self, offset: usize, bytes: &[u8])
         requires used { IsSome (cell_of self.old) }
         requires within { offset + length bytes.now ≤ 4096 }
-        ensures { IfSome (cell_of self.old) (λ (cell : Cell). self.new ≡ Used (record { count = cell.count; bytes = stored_at cell.bytes offset bytes.now })) }
+        ensures { IfSome (cell_of self.old)
+            (λ (cell : Cell). self.new
+            ≡ Used (record { count = cell.count; bytes = stored_at cell.bytes offset bytes.now })) }
     {
         if let FrameCell::Used(frame) = self {
             frame.write(offset, bytes);
@@ -52,7 +58,8 @@ impl FrameCell {
 
 /// The place that a free one leads to.
 pub(crate) fn next_free(slots: &[FrameCell], number: usize) -> Option<usize>
-    ensures { (next : Option ℕ) → slice_get slots.now number ≡ Some (FrameCell.Free next) → result ≡ next }
+    ensures { (next : Option ℕ) → slice_get slots.now number ≡ Some (FrameCell.Free next)
+        → result ≡ next }
 {
     match slots.get(number) {
         Some(FrameCell::Free(next)) => *next,

@@ -116,7 +116,11 @@ impl Frames {
         requires used { IsSome (cell_at self.old number) }
         requires within { offset + length bytes.now ≤ 4096 }
         ensures { SetsCell self.old self.new number
-            (Some (record { count = count_at self.old number; bytes = stored_at (bytes_at self.old number) offset bytes.now })) }
+            (Some (record {
+              count = count_at self.old number;
+              bytes = stored_at
+                  (bytes_at self.old number) offset bytes.now;
+            })) }
     {
         self.slots[number].write(offset, bytes);
     }
@@ -143,8 +147,11 @@ impl Frames {
     /// Out of memory where its bytes can't be allocated: nothing changes.
     pub(crate) fn fresh(&mut self) -> Result<usize, AllocError>
         requires { HasFree self.old }
-        ensures free { IfOk result (λ number. (number < self.old.size) × (cell_at self.old number ≡ None)) }
-        ensures ok { IfOk result (λ number. SetsCell self.old self.new number (Some (record { count = 1; bytes = zeros }))) }
+        ensures free { IfOk result
+            (λ number. (number < self.old.size) × (cell_at self.old number ≡ None)) }
+        ensures ok { IfOk result
+            (λ number. SetsCell self.old self.new number
+            (Some (record { count = 1; bytes = zeros }))) }
         ensures err { OnErr result (self.new ≡ self.old) }
     {
         let bytes = Box::new(self.alloc, [0; PAGE_SIZE])?;
@@ -159,8 +166,11 @@ impl Frames {
     pub(crate) fn copied(&mut self, from: usize) -> Result<usize, AllocError>
         requires free { HasFree self.old }
         requires used { IsSome (cell_at self.old from) }
-        ensures free { IfOk result (λ number. (number < self.old.size) × (cell_at self.old number ≡ None)) }
-        ensures ok { IfOk result (λ number. SetsCell self.old self.new number (Some (record { count = 1; bytes = bytes_at self.old from }))) }
+        ensures free { IfOk result
+            (λ number. (number < self.old.size) × (cell_at self.old number ≡ None)) }
+        ensures ok { IfOk result
+            (λ number. SetsCell self.old self.new number
+            (Some (record { count = 1; bytes = bytes_at self.old from }))) }
         ensures err { OnErr result (self.new ≡ self.old) }
     {
         let mut bytes = Box::new(self.alloc, [0; PAGE_SIZE])?;
@@ -191,7 +201,8 @@ impl Frames {
     pub(crate) fn place(&mut self, frame: Frame) -> Result<usize, AllocError>
         requires free { HasFree self.old }
         requires whole { length frame.bytes ≡ 4096 }
-        ensures free { IfOk result (λ number. (number < self.old.size) × (cell_at self.old number ≡ None)) }
+        ensures free { IfOk result
+            (λ number. (number < self.old.size) × (cell_at self.old number ≡ None)) }
         ensures ok { IfOk result (λ number. SetsCell self.old self.new number (Some frame)) }
         ensures err { OnErr result (self.new ≡ self.old) }
     {

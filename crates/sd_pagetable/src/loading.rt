@@ -95,8 +95,11 @@ fn is_crowded(snapshot: &Snapshot) -> bool
 ///
 /// ENOMEM for a number outside 1 to 16 and for over 1,024 areas, and out of memory.
 fn areas_in(alloc: Global, space: SpaceId, pages: &Pages) -> Result<AreaMap, MemoryError>
-    ensures ok { IfOk result (λ areas. (areas ≡ prots_in (space_of pages.now.entries)) × (is_over_in_space (space, space_of pages.now.entries) ≡ false)) }
-    ensures over { result ≡ Err (DeniedError (Refused Enomem)) → is_over_in_space (space, space_of pages.now.entries) ≡ true }
+    ensures ok { IfOk result
+        (λ areas. (areas ≡ prots_in (space_of pages.now.entries))
+        × (is_over_in_space (space, space_of pages.now.entries) ≡ false)) }
+    ensures over { result ≡ Err (DeniedError (Refused Enomem))
+        → is_over_in_space (space, space_of pages.now.entries) ≡ true }
     ensures errors { IfErr result (λ e. (e ≡ OutOfMemory) ⊎ (e ≡ DeniedError (Refused Enomem))) }
 {
     if space.number() == 0 || space.number() > SPACE_LIMIT {
@@ -111,9 +114,14 @@ fn areas_in(alloc: Global, space: SpaceId, pages: &Pages) -> Result<AreaMap, Mem
 ///
 /// ENOMEM where a space has a number outside 1 to 16 or over 1,024 areas, and out of memory.
 fn areas_by_space(alloc: Global, snapshot: &Snapshot) -> Result<Areas, MemoryError>
-    ensures ok { IfOk result (λ areas. (space : ℕ) → get nat_cmp areas space ≡ option_map prots_in (finmap.get (memory_of snapshot.now) space)) }
-    ensures within { OnOk result (list_any is_over_in_space (finmap.entries (memory_of snapshot.now)) ≡ false) }
-    ensures over { result ≡ Err (DeniedError (Refused Enomem)) → list_any is_over_in_space (finmap.entries (memory_of snapshot.now)) ≡ true }
+    ensures ok { IfOk result
+        (λ areas. (space : ℕ)
+        → get nat_cmp areas space
+        ≡ option_map prots_in (finmap.get (memory_of snapshot.now) space)) }
+    ensures within { OnOk result
+        (list_any is_over_in_space (finmap.entries (memory_of snapshot.now)) ≡ false) }
+    ensures over { result ≡ Err (DeniedError (Refused Enomem))
+        → list_any is_over_in_space (finmap.entries (memory_of snapshot.now)) ≡ true }
     ensures errors { IfErr result (λ e. (e ≡ OutOfMemory) ⊎ (e ≡ DeniedError (Refused Enomem))) }
 {
     let mut areas = BTreeMap::new(alloc);
@@ -134,7 +142,10 @@ pub(crate) fn areas_of(
     frames: usize,
     snapshot: &Snapshot,
 ) -> Result<Areas, MemoryError>
-    ensures ok { IfOk result (λ areas. (space : ℕ) → get nat_cmp areas space ≡ option_map prots_in (finmap.get (memory_of snapshot.now) space)) }
+    ensures ok { IfOk result
+        (λ areas. (space : ℕ)
+        → get nat_cmp areas space
+        ≡ option_map prots_in (finmap.get (memory_of snapshot.now) space)) }
     ensures due { Answers (snapshot_due frames (memory_of snapshot.now)) result }
 {
     if is_short(frames, snapshot) {
@@ -156,10 +167,13 @@ fn load_space(paging: &mut Paging, space: SpaceId, pages: &Pages) -> Result<(), 
     requires bare { inside paging.old.spaces space ≡ finmap.empty }
     requires begun { IsBegun paging.old }
     requires few { page_count paging.old.spaces + finmap.len (space_of pages.now.entries) ≤ 65536 }
-    requires room { nonzero_pages (plain_of paging.old) + total frames_for (space_of pages.now.entries) ≤ paging.old.pool }
+    requires room { nonzero_pages (plain_of paging.old) + total frames_for
+        (space_of pages.now.entries) ≤ paging.old.pool }
     ensures begun { OnOk result (IsBegun paging.new) }
     ensures pool { OnOk result (paging.new.pool ≡ paging.old.pool) }
-    ensures memory { OnOk result (plain_of paging.new ≡ finmap.insert (plain_of paging.old) space (space_of pages.now.entries)) }
+    ensures memory { OnOk result
+        (plain_of paging.new
+        ≡ finmap.insert (plain_of paging.old) space (space_of pages.now.entries)) }
 {
     for (page, found) in pages {
         paging.load(space, *page, found)?;

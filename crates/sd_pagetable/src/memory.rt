@@ -70,8 +70,11 @@ impl Memory {
     pub fn new(alloc: Global, frames: usize) -> Result<Self, AllocError>
         requires least { 1 ≤ frames }
         requires greatest { frames ≤ 65536 }
-        ensures empty { IfOk result (λ memory. memory ≡ record { pool = frames; spaces = finmap.insert finmap.empty 1 finmap.empty }) }
-        ensures memory { IfOk result (λ memory. plain_of memory ≡ finmap.insert finmap.empty 1 finmap.empty) }
+        ensures empty { IfOk result
+            (λ memory. memory
+            ≡ record { pool = frames; spaces = finmap.insert finmap.empty 1 finmap.empty }) }
+        ensures memory { IfOk result
+            (λ memory. plain_of memory ≡ finmap.insert finmap.empty 1 finmap.empty) }
         ensures begins { IfOk result IsBeginning }
     {
         let space = SpaceId::new(1);
@@ -127,8 +130,10 @@ impl Memory {
         ensures due { Answers (mmap_due (plain_of self.old) space address bytes prot) result }
         ensures tested { result ≡ Err OutOfMemory
             → IsRangeIn (is_alive self.old.spaces space ≡ true) address bytes }
-        ensures step { OnOk result (Step self.old (Mapped space (page_of address) (pages_for bytes) prot) self.new) }
-        ensures memory { OnOk result (plain_of self.new ≡ after_mmap (plain_of self.old) space address bytes prot) }
+        ensures step { OnOk result
+            (Step self.old (Mapped space (page_of address) (pages_for bytes) prot) self.new) }
+        ensures memory { OnOk result
+            (plain_of self.new ≡ after_mmap (plain_of self.old) space address bytes prot) }
         ensures err { OnErr result (self.new ≡ self.old) }
     {
         range_calls::mmap(
@@ -153,8 +158,10 @@ impl Memory {
         ensures due { Answers (munmap_due (plain_of self.old) space address bytes) result }
         ensures tested { result ≡ Err OutOfMemory
             → IsRangeIn (is_alive self.old.spaces space ≡ true) address bytes }
-        ensures step { OnOk result (Step self.old (Unmapped space (page_of address) (pages_for bytes)) self.new) }
-        ensures memory { OnOk result (plain_of self.new ≡ after_munmap (plain_of self.old) space address bytes) }
+        ensures step { OnOk result
+            (Step self.old (Unmapped space (page_of address) (pages_for bytes)) self.new) }
+        ensures memory { OnOk result
+            (plain_of self.new ≡ after_munmap (plain_of self.old) space address bytes) }
         ensures err { OnErr result (self.new ≡ self.old) }
     {
         range_calls::munmap(&mut self.paging, &mut self.areas, space, address, bytes)
@@ -179,8 +186,10 @@ impl Memory {
         ensures due { Answers (mprotect_due (plain_of self.old) space address bytes prot) result }
         ensures tested { result ≡ Err OutOfMemory
             → IsRangeIn (is_alive self.old.spaces space ≡ true) address bytes }
-        ensures step { OnOk result (Step self.old (Protected space (page_of address) (pages_for bytes) prot) self.new) }
-        ensures memory { OnOk result (plain_of self.new ≡ after_mprotect (plain_of self.old) space address bytes prot) }
+        ensures step { OnOk result
+            (Step self.old (Protected space (page_of address) (pages_for bytes) prot) self.new) }
+        ensures memory { OnOk result
+            (plain_of self.new ≡ after_mprotect (plain_of self.old) space address bytes prot) }
         ensures err { OnErr result (self.new ≡ self.old) }
     {
         range_calls::mprotect(
@@ -205,7 +214,8 @@ impl Memory {
         ensures tested { result ≡ Err OutOfMemory → fork_due (plain_of self.old) space ≡ None }
         ensures child { IfOk result (λ child. IsLeastFree (plain_of self.old) child) }
         ensures step { IfOk result (λ child. Step self.old (Forked space child) self.new) }
-        ensures memory { IfOk result (λ child. plain_of self.new ≡ after_fork (plain_of self.old) space child) }
+        ensures memory { IfOk result
+            (λ child. plain_of self.new ≡ after_fork (plain_of self.old) space child) }
         ensures err { OnErr result (self.new ≡ self.old) }
     {
         fork_calls::fork(&mut self.paging, &mut self.areas, space)
@@ -236,9 +246,11 @@ impl Memory {
         ensures page { IfOk result (λ place. place.page ≡ page_of address) }
         ensures offset { IfOk result (λ place. place.offset ≡ address % 4096) }
         ensures within { IfOk result (λ place. place.offset + bytes ≤ 4096) }
-        ensures permitted { OnOk result (page_due need (value_at (plain_of self.now) space (page_of address)) ≡ None) }
+        ensures permitted { OnOk result
+            (page_due need (value_at (plain_of self.now) space (page_of address)) ≡ None) }
         ensures ok { OnOk result (access_due (plain_of self.now) space address bytes need ≡ None) }
-        ensures refused { IfErr result (λ denied. access_due (plain_of self.now) space address bytes need ≡ Some denied) }
+        ensures refused { IfErr result
+            (λ denied. access_due (plain_of self.now) space address bytes need ≡ Some denied) }
     {
         if !self.paging.is_alive(space) {
             return Err(AccessError::Refused(MemoryRefusal::NoSuchSpace));
@@ -254,8 +266,11 @@ impl Memory {
     /// The page of an address, if it is mapped with the permission that the access needs.
     fn permitted(&self, space: SpaceId, address: u64, need: Access) -> Result<PageNo, AccessError>
         ensures page { IfOk result (λ page. page ≡ page_of address) }
-        ensures ok { OnOk result (page_due need (value_at (plain_of self.now) space (page_of address)) ≡ None) }
-        ensures refused { IfErr result (λ denied. page_due need (value_at (plain_of self.now) space (page_of address)) ≡ Some denied) }
+        ensures ok { OnOk result
+            (page_due need (value_at (plain_of self.now) space (page_of address)) ≡ None) }
+        ensures refused { IfErr result
+            (λ denied. page_due need (value_at (plain_of self.now) space (page_of address))
+            ≡ Some denied) }
     {
         let Some(found) = self.paging.find(space, address) else {
             return Err(AccessError::Segv(Segv::Maperr));
@@ -275,9 +290,12 @@ impl Memory {
     /// In this order: no-such-space; EINVAL for 0 bytes, over 64, or across a page's end; maperr
     /// where the page isn't mapped; accerr where it can't be read. An error leaves the buffer.
     pub fn load(&self, space: SpaceId, address: u64, buffer: &mut [u8]) -> Result<(), AccessError>
-        ensures due { result ≡ answer (access_due (plain_of self.now) space address (length buffer.old) Read) tt }
-        ensures bytes { OnOk result (IfSome (page_at self.now space (page_of address)) (λ (page : Page).
-            buffer.new ≡ slice_range page.bytes (address % 4096) (address % 4096 + length buffer.old))) }
+        ensures due { result
+            ≡ answer (access_due (plain_of self.now) space address (length buffer.old) Read) tt }
+        ensures bytes { OnOk result
+            (IfSome (page_at self.now space (page_of address)) (λ (page : Page).
+            buffer.new ≡ slice_range page.bytes (address % 4096)
+            (address % 4096 + length buffer.old))) }
         ensures err { OnErr result (buffer.new ≡ buffer.old) }
     {
         let place = self.place(space, address, buffer.len(), Access::Read)?;
@@ -300,8 +318,11 @@ impl Memory {
         bytes: &[u8],
     ) -> Result<StoreOutcome, AccessError>
         ensures due { result ≡ try_outcome self.old space address (length bytes.now) }
-        ensures step { result ≡ Ok Done → Step self.old (TriedEvent space (page_of address) (address % 4096) bytes.now) self.new }
-        ensures memory { result ≡ Ok Done → plain_of self.new ≡ after_store (plain_of self.old) space address bytes.now }
+        ensures step { result ≡ Ok Done
+            → Step self.old
+            (TriedEvent space (page_of address) (address % 4096) bytes.now) self.new }
+        ensures memory { result ≡ Ok Done
+            → plain_of self.new ≡ after_store (plain_of self.old) space address bytes.now }
         ensures needs_fault { result ≡ Ok NeedsFault → self.new ≡ self.old }
         ensures err { OnErr result (self.new ≡ self.old) }
     {
@@ -356,8 +377,10 @@ impl Memory {
             → needs_frame self.old (page_at self.old space (page_of address)) ≡ true }
         ensures tested { result ≡ Err OutOfMemory
             → store_due self.old space address (length bytes.now) ≡ None }
-        ensures step { OnOk result (Step self.old (Stored space (page_of address) (address % 4096) bytes.now) self.new) }
-        ensures memory { OnOk result (plain_of self.new ≡ after_store (plain_of self.old) space address bytes.now) }
+        ensures step { OnOk result
+            (Step self.old (Stored space (page_of address) (address % 4096) bytes.now) self.new) }
+        ensures memory { OnOk result
+            (plain_of self.new ≡ after_store (plain_of self.old) space address bytes.now) }
         ensures err { OnErr result (self.new ≡ self.old) }
     {
         let place = self.place(space, address, bytes.len(), Access::Write)?;
@@ -369,7 +392,8 @@ impl Memory {
     /// The soft-dirty bit of a page, or none where it isn't mapped. It clears that bit and the
     /// writable bit, as writing `4` to `clear_refs` does. It takes no memory.
     pub fn test_and_clear(&mut self, space: SpaceId, page: PageNo) -> Option<bool>
-        ensures bit { result ≡ option_map (λ (before : Page). before.soft_dirty) (page_at self.old space page) }
+        ensures bit { result
+            ≡ option_map (λ (before : Page). before.soft_dirty) (page_at self.old space page) }
         ensures step { IfSome result (λ _. Step self.old (Cleared space page) self.new) }
         ensures memory { plain_of self.new ≡ plain_of self.old }
         ensures none { result ≡ None → self.new ≡ self.old }
@@ -390,7 +414,8 @@ impl Memory {
     ) -> bool
         requires { sector < 8 }
         ensures mapped { result ≡ is_some (page_at self.now space page) }
-        ensures whole { IfSome (page_at self.now space page) (λ (found : Page). length found.bytes ≡ 4096) }
+        ensures whole { IfSome (page_at self.now space page)
+            (λ (found : Page). length found.bytes ≡ 4096) }
         ensures bytes { IfSome (page_at self.now space page) (λ (found : Page).
             bytes.new ≡ slice_range found.bytes (512 * sector) (512 * sector + 512)) }
         ensures none { result ≡ false → bytes.new ≡ bytes.old }
@@ -469,7 +494,8 @@ impl Memory {
 
     /// The areas of a space, at most 1,024, or none where it isn't alive.
     pub fn areas(&self, space: SpaceId) -> Option<&AreaMap>
-        ensures { option_map (λ areas. areas.now) result ≡ option_map prots_of (finmap.get self.now.spaces space) }
+        ensures { option_map (λ areas. areas.now) result
+            ≡ option_map prots_of (finmap.get self.now.spaces space) }
     {
         self.areas.get(&space)
     }

@@ -129,7 +129,8 @@ impl Paging {
 
     /// The bytes of a page, if it is mapped. A page without a frame reads as zeros.
     pub(crate) fn bytes(&self, space: SpaceId, page: PageNo) -> Option<&[u8]>
-        ensures value { option_map (λ bytes. bytes.now) result ≡ option_map (λ (page : Page). page.bytes) (page_at self.now space page) }
+        ensures value { option_map (λ bytes. bytes.now) result
+            ≡ option_map (λ (page : Page). page.bytes) (page_at self.now space page) }
         ensures length { IfSome result (λ bytes. length bytes.now ≡ 4096) }
     {
         let entry = self.tables.get(space, page)?;
@@ -186,7 +187,8 @@ impl Paging {
         requires fresh { is_alive self.old.spaces space ≡ false }
         requires least { 1 ≤ space }
         requires greatest { space ≤ 16 }
-        ensures ok { OnOk result (self.new ≡ record { pool = self.old.pool; spaces = finmap.insert self.old.spaces space finmap.empty }) }
+        ensures ok { OnOk result
+            (self.new ≡ record { pool = self.old.pool; spaces = finmap.insert self.old.spaces space finmap.empty }) }
         ensures err { OnErr result (self.new ≡ self.old) }
     {
         self.tables.add_space(space)
@@ -195,7 +197,8 @@ impl Paging {
     /// Takes a space without pages away.
     pub(crate) fn remove_space(&mut self, space: SpaceId)
         requires { inside self.old.spaces space ≡ finmap.empty }
-        ensures { self.new ≡ record { pool = self.old.pool; spaces = finmap.remove self.old.spaces space } }
+        ensures { self.new
+            ≡ record { pool = self.old.pool; spaces = finmap.remove self.old.spaces space } }
     {
         self.tables.remove_space(space);
     }
@@ -256,9 +259,12 @@ impl Paging {
         bytes: Box<[u8; PAGE_SIZE]>,
     ) -> Result<(), AllocError>
         requires there { IsSome (page_at self.old space page) }
-        requires fresh { IfSome (page_at self.old space page) (λ (before : Page). (before.class ≡ None) × (before.writable ≡ false)) }
+        requires fresh { IfSome (page_at self.old space page)
+            (λ (before : Page). (before.class ≡ None) × (before.writable ≡ false)) }
         requires room { is_full self.old ≡ false }
-        ensures { OnOk result (IfSome (page_at self.old space page) (λ (before : Page). GivesFrame self.old space page before bytes.value self.new)) }
+        ensures { OnOk result
+            (IfSome (page_at self.old space page)
+            (λ (before : Page). GivesFrame self.old space page before bytes.value self.new)) }
     {
         let Some(entry) = self.tables.get(space, page) else {
             return Ok(());
@@ -347,9 +353,11 @@ impl Paging {
     /// No-frame where a frame is needed and every frame of the pool is used, and out of memory
     /// where the frame's bytes can't be allocated. An error changes nothing.
     pub(crate) fn make_writable(&mut self, space: SpaceId, page: PageNo) -> Result<(), MemoryError>
-        requires permitted { IfSome (page_at self.old space page) (λ (before : Page). before.prot.write ≡ true) }
+        requires permitted { IfSome (page_at self.old space page)
+            (λ (before : Page). before.prot.write ≡ true) }
         requires there { IsSome (page_at self.old space page) }
-        ensures writable { OnOk result (MakesWritable self.old space page (λ bytes. bytes) self.new) }
+        ensures writable { OnOk result
+            (MakesWritable self.old space page (λ bytes. bytes) self.new) }
         ensures due { Answers (frame_due self.old (page_at self.old space page)) result }
         ensures needed { result ≡ Err OutOfMemory
             → needs_frame self.old (page_at self.old space page) ≡ true }
@@ -368,10 +376,12 @@ impl Paging {
     /// Writes bytes into a writable page, from an offset on.
     pub(crate) fn write(&mut self, space: SpaceId, page: PageNo, offset: usize, bytes: &[u8])
         requires there { IsSome (page_at self.old space page) }
-        requires writable { IfSome (page_at self.old space page) (λ (before : Page). before.writable ≡ true) }
+        requires writable { IfSome (page_at self.old space page)
+            (λ (before : Page). before.writable ≡ true) }
         requires within { offset + length bytes.now ≤ 4096 }
         ensures { IfSome (page_at self.old space page) (λ (before : Page).
-            self.new ≡ put_page self.old space page (stored_page before (stored_at before.bytes offset bytes.now))) }
+            self.new ≡ put_page self.old space page
+            (stored_page before (stored_at before.bytes offset bytes.now))) }
     {
         let Some(entry) = self.tables.get(space, page) else {
             return;

@@ -41,8 +41,10 @@ fn copy_of(areas: &AreaMap) -> Result<AreaMap, AllocError>
 /// A copy of a living space's areas.
 pub(crate) fn copy_in(areas: &Areas, space: SpaceId) -> Result<AreaMap, MemoryError>
     ensures found { IfOk result (λ copy. get nat_cmp areas.now space ≡ Some copy) }
-    ensures dead { result ≡ Err (DeniedError (Refused NoSuchSpace)) → get nat_cmp areas.now space ≡ None }
-    ensures errors { IfErr result (λ e. (e ≡ OutOfMemory) ⊎ (e ≡ DeniedError (Refused NoSuchSpace))) }
+    ensures dead { result ≡ Err (DeniedError (Refused NoSuchSpace))
+        → get nat_cmp areas.now space ≡ None }
+    ensures errors { IfErr result
+        (λ e. (e ≡ OutOfMemory) ⊎ (e ≡ DeniedError (Refused NoSuchSpace))) }
 {
     let Some(own) = areas.get(&space) else {
         return Err(MemoryRefusal::NoSuchSpace.into());
@@ -53,7 +55,8 @@ pub(crate) fn copy_in(areas: &Areas, space: SpaceId) -> Result<AreaMap, MemoryEr
 /// Puts other areas in place of a living space's own. It takes no memory.
 fn put_areas(areas: &mut Areas, space: SpaceId, own: AreaMap)
     requires { IsSome (get nat_cmp areas.old space) }
-    ensures { (q : ℕ) → get nat_cmp areas.new q ≡ (if q == space then Some own else get nat_cmp areas.old q) }
+    ensures { (q : ℕ)
+        → get nat_cmp areas.new q ≡ (if q == space then Some own else get nat_cmp areas.old q) }
 {
     let _ = areas.insert(space, own);
 }
@@ -66,11 +69,15 @@ fn with_mapped(
     bytes: u64,
     prot: Prot,
 ) -> Result<AreaMap, MemoryError>
-    ensures ok { IfOk result (λ own. (contents : Contents) → HasAreas areas.now contents → (is_alive contents.spaces space ≡ true)
+    ensures ok { IfOk result
+        (λ own. (contents : Contents) → HasAreas areas.now contents
+        → (is_alive contents.spaces space ≡ true)
         × (map_result (prots_of (inside contents.spaces space)) address bytes prot ≡ Ok own)) }
     ensures due { IfErr result (λ e. (contents : Contents) → HasAreas areas.now contents
-        → Refuses e (in_space contents.spaces space (area_due (map_result (prots_of (inside contents.spaces space)) address bytes prot)))) }
-    ensures tested { result ≡ Err OutOfMemory → IsRangeIn (IsSome (get nat_cmp areas.now space)) address bytes }
+        → Refuses e (in_space contents.spaces space
+        (area_due (map_result (prots_of (inside contents.spaces space)) address bytes prot)))) }
+    ensures tested { result ≡ Err OutOfMemory
+        → IsRangeIn (IsSome (get nat_cmp areas.now space)) address bytes }
 {
     let Some(own) = areas.get(&space) else {
         return Err(MemoryRefusal::NoSuchSpace.into());
@@ -85,11 +92,15 @@ fn with_unmapped(
     address: u64,
     bytes: u64,
 ) -> Result<AreaMap, MemoryError>
-    ensures ok { IfOk result (λ own. (contents : Contents) → HasAreas areas.now contents → (is_alive contents.spaces space ≡ true)
+    ensures ok { IfOk result
+        (λ own. (contents : Contents) → HasAreas areas.now contents
+        → (is_alive contents.spaces space ≡ true)
         × (unmap_result (prots_of (inside contents.spaces space)) address bytes ≡ Ok own)) }
     ensures due { IfErr result (λ e. (contents : Contents) → HasAreas areas.now contents
-        → Refuses e (in_space contents.spaces space (area_due (unmap_result (prots_of (inside contents.spaces space)) address bytes)))) }
-    ensures tested { result ≡ Err OutOfMemory → IsRangeIn (IsSome (get nat_cmp areas.now space)) address bytes }
+        → Refuses e (in_space contents.spaces space
+        (area_due (unmap_result (prots_of (inside contents.spaces space)) address bytes)))) }
+    ensures tested { result ≡ Err OutOfMemory
+        → IsRangeIn (IsSome (get nat_cmp areas.now space)) address bytes }
 {
     let Some(own) = areas.get(&space) else {
         return Err(MemoryRefusal::NoSuchSpace.into());
@@ -106,11 +117,16 @@ fn with_protected(
     prot: Prot,
 ) -> Result<AreaMap, MemoryError>
     requires { bytes ≢ 0 }
-    ensures ok { IfOk result (λ own. (contents : Contents) → HasAreas areas.now contents → (is_alive contents.spaces space ≡ true)
+    ensures ok { IfOk result
+        (λ own. (contents : Contents) → HasAreas areas.now contents
+        → (is_alive contents.spaces space ≡ true)
         × (protect_result (prots_of (inside contents.spaces space)) address bytes prot ≡ Ok own)) }
     ensures due { IfErr result (λ e. (contents : Contents) → HasAreas areas.now contents
-        → Refuses e (in_space contents.spaces space (area_due (protect_result (prots_of (inside contents.spaces space)) address bytes prot)))) }
-    ensures tested { result ≡ Err OutOfMemory → IsRangeIn (IsSome (get nat_cmp areas.now space)) address bytes }
+        → Refuses e (in_space contents.spaces space
+        (area_due (protect_result
+        (prots_of (inside contents.spaces space)) address bytes prot)))) }
+    ensures tested { result ≡ Err OutOfMemory
+        → IsRangeIn (IsSome (get nat_cmp areas.now space)) address bytes }
 {
     let Some(own) = areas.get(&space) else {
         return Err(MemoryRefusal::NoSuchSpace.into());
@@ -123,9 +139,14 @@ fn has_room(paging: &Paging, own: &AreaMap, first: u64, end: u64) -> bool
     requires ordered { first ≤ end }
     requires within { end ≤ 2 ^ 35 }
     ensures fits { (space : ℕ) → own.now ≡ prots_of (inside paging.now.spaces space) → result ≡ true
-        → page_count paging.now.spaces + count_by (λ page. not (is_some (page_at paging.now space page))) (pages_from first (end - first)) ≤ 65536 }
-    ensures full { (space : ℕ) (page : Page) → own.now ≡ prots_of (inside paging.now.spaces space) → result ≡ false
-        → 65536 < page_count (with_space paging.now space (set_within (inside paging.now.spaces space) first (end - first) page)).spaces }
+        → page_count paging.now.spaces + count_by
+        (λ page. not (is_some (page_at paging.now space page)))
+        (pages_from first (end - first)) ≤ 65536 }
+    ensures full { (space : ℕ) (page : Page) → own.now ≡ prots_of (inside paging.now.spaces space)
+        → result ≡ false
+        → 65536 < page_count
+        (with_space paging.now space
+        (set_within (inside paging.now.spaces space) first (end - first) page)).spaces }
 {
     if end - first > MAPPED_PAGE_LIMIT {
         return false;
@@ -146,10 +167,15 @@ fn map_run(
     requires areas { own.now ≡ prots_of (inside paging.old.spaces space) }
     requires ordered { first ≤ end }
     requires within { end ≤ 2 ^ 35 }
-    ensures ok { OnOk result (paging.new ≡ with_space paging.old space (set_within (inside paging.old.spaces space) first (end - first) (fresh_page prot))) }
+    ensures ok { OnOk result
+        (paging.new ≡ with_space paging.old space
+        (set_within (inside paging.old.spaces space) first (end - first) (fresh_page prot))) }
     ensures few { OnOk result (page_count paging.new.spaces ≤ 65536) }
     ensures many { result ≡ Err (DeniedError (Refused Enomem))
-        → 65536 < page_count (with_space paging.old space (set_within (inside paging.old.spaces space) first (end - first) (fresh_page prot))).spaces }
+        → 65536 < page_count
+        (with_space paging.old space
+        (set_within (inside paging.old.spaces space) first (end - first)
+        (fresh_page prot))).spaces }
     ensures errors { IfErr result (λ e. (e ≡ OutOfMemory) ⊎ (e ≡ DeniedError (Refused Enomem))) }
     ensures err { OnErr result (paging.new ≡ paging.old) }
 {
@@ -177,9 +203,12 @@ pub(crate) fn munmap(
     requires kept { HasAreas areas.old paging.old }
     ensures kept { HasAreas areas.new paging.new }
     ensures due { Answers (munmap_due (plain_of paging.old) space address bytes) result }
-    ensures tested { result ≡ Err OutOfMemory → IsRangeIn (is_alive paging.old.spaces space ≡ true) address bytes }
-    ensures step { OnOk result (Step paging.old (Unmapped space (page_of address) (pages_for bytes)) paging.new) }
-    ensures memory { OnOk result (plain_of paging.new ≡ after_munmap (plain_of paging.old) space address bytes) }
+    ensures tested { result ≡ Err OutOfMemory
+        → IsRangeIn (is_alive paging.old.spaces space ≡ true) address bytes }
+    ensures step { OnOk result
+        (Step paging.old (Unmapped space (page_of address) (pages_for bytes)) paging.new) }
+    ensures memory { OnOk result
+        (plain_of paging.new ≡ after_munmap (plain_of paging.old) space address bytes) }
     ensures err { OnErr result (paging.new ≡ paging.old) }
 {
     unmapped_law();
@@ -196,7 +225,10 @@ pub(crate) fn munmap(
 fn protect_range(paging: &mut Paging, space: SpaceId, address: u64, bytes: u64, prot: Prot)
     requires alive { is_alive paging.old.spaces space ≡ true }
     requires within { page_of address + pages_for bytes ≤ 2 ^ 35 }
-    ensures { paging.new ≡ with_space paging.old space (change_within (protected_page prot) (inside paging.old.spaces space) (page_of address) (pages_for bytes)) }
+    ensures { paging.new
+        ≡ with_space paging.old space
+        (change_within (protected_page prot) (inside paging.old.spaces space) (page_of address)
+        (pages_for bytes)) }
 {
     let first = address / PAGE_BYTES;
     let end = first + bytes.div_ceil(PAGE_BYTES);
@@ -230,9 +262,12 @@ fn protect_some(
     requires kept { HasAreas areas.old paging.old }
     ensures kept { HasAreas areas.new paging.new }
     ensures due { Answers (mprotect_due (plain_of paging.old) space address bytes prot) result }
-    ensures tested { result ≡ Err OutOfMemory → IsRangeIn (is_alive paging.old.spaces space ≡ true) address bytes }
-    ensures step { OnOk result (Step paging.old (Protected space (page_of address) (pages_for bytes) prot) paging.new) }
-    ensures memory { OnOk result (plain_of paging.new ≡ after_mprotect (plain_of paging.old) space address bytes prot) }
+    ensures tested { result ≡ Err OutOfMemory
+        → IsRangeIn (is_alive paging.old.spaces space ≡ true) address bytes }
+    ensures step { OnOk result
+        (Step paging.old (Protected space (page_of address) (pages_for bytes) prot) paging.new) }
+    ensures memory { OnOk result
+        (plain_of paging.new ≡ after_mprotect (plain_of paging.old) space address bytes prot) }
     ensures err { OnErr result (paging.new ≡ paging.old) }
 {
     protected_law();
@@ -254,9 +289,12 @@ pub(crate) fn mprotect(
     requires kept { HasAreas areas.old paging.old }
     ensures kept { HasAreas areas.new paging.new }
     ensures due { Answers (mprotect_due (plain_of paging.old) space address bytes prot) result }
-    ensures tested { result ≡ Err OutOfMemory → IsRangeIn (is_alive paging.old.spaces space ≡ true) address bytes }
-    ensures step { OnOk result (Step paging.old (Protected space (page_of address) (pages_for bytes) prot) paging.new) }
-    ensures memory { OnOk result (plain_of paging.new ≡ after_mprotect (plain_of paging.old) space address bytes prot) }
+    ensures tested { result ≡ Err OutOfMemory
+        → IsRangeIn (is_alive paging.old.spaces space ≡ true) address bytes }
+    ensures step { OnOk result
+        (Step paging.old (Protected space (page_of address) (pages_for bytes) prot) paging.new) }
+    ensures memory { OnOk result
+        (plain_of paging.new ≡ after_mprotect (plain_of paging.old) space address bytes prot) }
     ensures err { OnErr result (paging.new ≡ paging.old) }
 {
     if bytes == 0 {
@@ -277,9 +315,12 @@ pub(crate) fn mmap(
     requires kept { HasAreas areas.old paging.old }
     ensures kept { HasAreas areas.new paging.new }
     ensures due { Answers (mmap_due (plain_of paging.old) space address bytes prot) result }
-    ensures tested { result ≡ Err OutOfMemory → IsRangeIn (is_alive paging.old.spaces space ≡ true) address bytes }
-    ensures step { OnOk result (Step paging.old (Mapped space (page_of address) (pages_for bytes) prot) paging.new) }
-    ensures memory { OnOk result (plain_of paging.new ≡ after_mmap (plain_of paging.old) space address bytes prot) }
+    ensures tested { result ≡ Err OutOfMemory
+        → IsRangeIn (is_alive paging.old.spaces space ≡ true) address bytes }
+    ensures step { OnOk result
+        (Step paging.old (Mapped space (page_of address) (pages_for bytes) prot) paging.new) }
+    ensures memory { OnOk result
+        (plain_of paging.new ≡ after_mmap (plain_of paging.old) space address bytes prot) }
     ensures err { OnErr result (paging.new ≡ paging.old) }
 {
     mapped_law();

@@ -28,7 +28,9 @@ fn hole_at(areas: &AreaMap, page: PageNo) -> u64
 pub(crate) fn holes(areas: &AreaMap, first: u64, end: u64) -> u64
     requires ordered { first ≤ end }
     requires within { end ≤ 2 ^ 35 }
-    ensures counted { result ≡ count_by (λ page. not (is_some (finmap.get areas.now page))) (pages_from first (end - first)) }
+    ensures counted { result
+        ≡ count_by (λ page. not (is_some (finmap.get areas.now page)))
+        (pages_from first (end - first)) }
     ensures few { result ≤ end - first }
 {
     let mut count = 0;
@@ -52,7 +54,9 @@ fn fill_page(
 ) -> Result<(), AllocError>
     requires alive { is_alive paging.old.spaces space ≡ true }
     requires few { page_at paging.old space page ≡ None → page_count paging.old.spaces < 65536 }
-    ensures added { OnOk result (page_at paging.old space page ≡ None → paging.new ≡ put_page paging.old space page (fresh_page prot)) }
+    ensures added { OnOk result
+        (page_at paging.old space page ≡ None
+        → paging.new ≡ put_page paging.old space page (fresh_page prot)) }
     ensures there { IsSome (page_at paging.old space page) → paging.new ≡ paging.old }
     ensures err { OnErr result (paging.new ≡ paging.old) }
 {
@@ -68,10 +72,14 @@ pub(crate) fn fill(paging: &mut Paging, space: SpaceId, first: u64, end: u64, pr
     requires ordered { first ≤ end }
     requires within { end ≤ 2 ^ 35 }
     requires alive { is_alive paging.old.spaces space ≡ true }
-    requires few { page_count paging.old.spaces + count_by (λ page. not (is_some (page_at paging.old space page))) (pages_from first (end - first)) ≤ 65536 }
+    requires few { page_count paging.old.spaces + count_by
+        (λ page. not (is_some (page_at paging.old space page)))
+        (pages_from first (end - first)) ≤ 65536 }
     ensures reached { first ≤ result }
     ensures end { result ≤ end }
-    ensures filled { paging.new ≡ with_space paging.old space (fill_within (inside paging.old.spaces space) first (result - first) (fresh_page prot)) }
+    ensures filled { paging.new
+        ≡ with_space paging.old space
+        (fill_within (inside paging.old.spaces space) first (result - first) (fresh_page prot)) }
 {
     for number in first..end {
         let page = PageNo::new(number).unwrap();
@@ -96,7 +104,8 @@ fn drop_page(paging: &mut Paging, space: SpaceId, page: PageNo)
 fn unfill_page(paging: &mut Paging, space: SpaceId, page: PageNo, areas: &AreaMap)
     requires alive { is_alive paging.old.spaces space ≡ true }
     ensures kept { is_some (finmap.get areas.now page) ≡ true → paging.new ≡ paging.old }
-    ensures gone { is_some (finmap.get areas.now page) ≡ false → IsCleared paging.old paging.new space (λ number. number == page) }
+    ensures gone { is_some (finmap.get areas.now page) ≡ false
+        → IsCleared paging.old paging.new space (λ number. number == page) }
 {
     if areas.prot_of(page).is_some() {
         return;
@@ -109,7 +118,8 @@ pub(crate) fn unfill(paging: &mut Paging, space: SpaceId, first: u64, end: u64, 
     requires ordered { first ≤ end }
     requires within { end ≤ 2 ^ 35 }
     requires alive { is_alive paging.old.spaces space ≡ true }
-    ensures { IsCleared paging.old paging.new space (λ page. is_within first (end - first) page && not (is_some (finmap.get areas.now page))) }
+    ensures { IsCleared paging.old paging.new space
+        (λ page. is_within first (end - first) page && not (is_some (finmap.get areas.now page))) }
 {
     for number in first..end {
         let page = PageNo::new(number).unwrap();
@@ -122,8 +132,11 @@ pub(crate) fn renew(paging: &mut Paging, space: SpaceId, first: u64, end: u64, p
     requires ordered { first ≤ end }
     requires within { end ≤ 2 ^ 35 }
     requires alive { is_alive paging.old.spaces space ≡ true }
-    requires there { (page : ℕ) → first ≤ page → page < end → IsSome (page_at paging.old space page) }
-    ensures { paging.new ≡ with_space paging.old space (set_within (inside paging.old.spaces space) first (end - first) (fresh_page prot)) }
+    requires there { (page : ℕ) → first ≤ page → page < end
+        → IsSome (page_at paging.old space page) }
+    ensures { paging.new
+        ≡ with_space paging.old space
+        (set_within (inside paging.old.spaces space) first (end - first) (fresh_page prot)) }
 {
     for number in first..end {
         paging.renew(space, PageNo::new(number).unwrap(), prot);
@@ -133,7 +146,9 @@ pub(crate) fn renew(paging: &mut Paging, space: SpaceId, first: u64, end: u64, p
 /// Unmaps each page of a run.
 pub(crate) fn unmap(paging: &mut Paging, space: SpaceId, first: PageNo, end: u64)
     requires alive { is_alive paging.old.spaces space ≡ true }
-    ensures { paging.new ≡ with_space paging.old space (remove_within (inside paging.old.spaces space) first (end - first)) }
+    ensures { paging.new
+        ≡ with_space paging.old space
+        (remove_within (inside paging.old.spaces space) first (end - first)) }
 {
     while let Some(page) = paging.first_from(space, Bound::Included(first)) {
         if page.number() >= end {
@@ -145,7 +160,9 @@ pub(crate) fn unmap(paging: &mut Paging, space: SpaceId, first: PageNo, end: u64
 
 /// Sets the permissions of a page and write-protects it, where it is mapped.
 fn protect_page(paging: &mut Paging, space: SpaceId, page: PageNo, prot: Prot)
-    ensures mapped { IfSome (page_at paging.old space page) (λ (before : Page). paging.new ≡ put_page paging.old space page (protected_page prot before)) }
+    ensures mapped { IfSome (page_at paging.old space page)
+        (λ (before : Page). paging.new
+        ≡ put_page paging.old space page (protected_page prot before)) }
     ensures hole { page_at paging.old space page ≡ None → paging.new ≡ paging.old }
 {
     let Some(entry) = paging.entry(space, page) else {
@@ -159,7 +176,9 @@ pub(crate) fn protect(paging: &mut Paging, space: SpaceId, first: u64, end: u64,
     requires ordered { first ≤ end }
     requires within { end ≤ 2 ^ 35 }
     requires alive { is_alive paging.old.spaces space ≡ true }
-    ensures { paging.new ≡ with_space paging.old space (change_within (protected_page prot) (inside paging.old.spaces space) first (end - first)) }
+    ensures { paging.new
+        ≡ with_space paging.old space
+        (change_within (protected_page prot) (inside paging.old.spaces space) first (end - first)) }
 {
     for number in first..end {
         let page = PageNo::new(number).unwrap();
@@ -191,7 +210,9 @@ fn copy_page(
     requires alive { is_alive paging.old.spaces child ≡ true }
     requires hole { page_at paging.old child page ≡ None }
     requires few { page_count paging.old.spaces < 65536 }
-    ensures ok { OnOk result (IfSome (page_at paging.old parent page) (λ (before : Page). paging.new ≡ put_page paging.old child page (bare_page before))) }
+    ensures ok { OnOk result
+        (IfSome (page_at paging.old parent page)
+        (λ (before : Page). paging.new ≡ put_page paging.old child page (bare_page before))) }
     ensures err { OnErr result (paging.new ≡ paging.old) }
 {
     let Some(entry) = paging.entry(parent, page) else {
@@ -213,8 +234,11 @@ pub(crate) fn copy_pages(
     requires apart { parent ≡ child → ⊥ }
     requires alive { is_alive paging.old.spaces child ≡ true }
     requires bare { inside paging.old.spaces child ≡ finmap.empty }
-    requires few { page_count paging.old.spaces + finmap.len (inside paging.old.spaces parent) ≤ 65536 }
-    ensures ok { OnOk result (paging.new ≡ with_space paging.old child (map_values bare_page (inside paging.old.spaces parent))) }
+    requires few { page_count paging.old.spaces + finmap.len
+        (inside paging.old.spaces parent) ≤ 65536 }
+    ensures ok { OnOk result
+        (paging.new ≡ with_space paging.old child
+        (map_values bare_page (inside paging.old.spaces parent))) }
     ensures child { paging.new ≡ with_space paging.old child (inside paging.new.spaces child) }
 {
     let mut start = Bound::Unbounded;
@@ -230,8 +254,12 @@ pub(crate) fn share_pages(paging: &mut Paging, parent: SpaceId, child: SpaceId)
     requires apart { parent ≡ child → ⊥ }
     requires parent { is_alive paging.old.spaces parent ≡ true }
     requires child { is_alive paging.old.spaces child ≡ true }
-    requires copied { inside paging.old.spaces child ≡ map_values bare_page (inside paging.old.spaces parent) }
-    ensures { paging.new ≡ with_space (with_space paging.old parent (map_values shared_page (inside paging.old.spaces parent))) child (map_values inherited_page (inside paging.old.spaces parent)) }
+    requires copied { inside paging.old.spaces child
+        ≡ map_values bare_page (inside paging.old.spaces parent) }
+    ensures { paging.new
+        ≡ with_space (with_space paging.old parent
+        (map_values shared_page (inside paging.old.spaces parent))) child
+        (map_values inherited_page (inside paging.old.spaces parent)) }
 {
     let mut start = Bound::Unbounded;
     while let Some(page) = paging.first_from(parent, start) {

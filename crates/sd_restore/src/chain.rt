@@ -23,10 +23,18 @@ fn find_page(catalog: &Catalog, serial: u64, space: SpaceId, page: PageNo) -> Re
     requires images { AreImages catalog.now }
     requires listed { IsAbsent catalog.now serial (space, page) → ⊥ }
     ensures lies { IfOk result (LiesBySerial catalog.now serial (space, page)) }
-    ensures held { IfOk result (λ there. (contents : List (List ℕ)) (images : List Image) → IsCatalogOf contents catalog.now
-        → OpenImages contents images → FindsHeld contents images serial (space, page) (Some there)) }
-    ensures inside { IfOk result (λ there. (contents : List (List ℕ)) → IsCatalogOf contents catalog.now → IsInFile contents there) }
-    ensures broken { IfErr result (Names (λ slot reason. (reason ≡ Chain) × BreaksBySerial catalog.now serial (space, page) slot × IsUnheld catalog.now serial (space, page))) }
+    ensures held { IfOk result
+        (λ there. (contents : List (List ℕ)) (images : List Image)
+        → IsCatalogOf contents catalog.now
+        → OpenImages contents images
+        → FindsHeld contents images serial (space, page) (Some there)) }
+    ensures inside { IfOk result
+        (λ there. (contents : List (List ℕ)) → IsCatalogOf contents catalog.now
+        → IsInFile contents there) }
+    ensures broken { IfErr result
+        (Names (λ slot reason. (reason ≡ Chain)
+        × BreaksBySerial catalog.now serial (space, page) slot
+        × IsUnheld catalog.now serial (space, page))) }
     ensures empty { result ≢ Err Fault.EmptyChain }
     ensures device { result ≢ Err Fault.Device }
 {
@@ -50,11 +58,14 @@ fn place_area(
 ) -> Result<(), Fault>
     requires images { AreImages catalog.now }
     requires within { area.now.first + area.now.count ≤ 2 ^ 35 }
-    requires listed { (page : ℕ) → Contains (area_pages area.now) page → IsAbsent catalog.now serial (space, page) → ⊥ }
-    ensures placed { OnOk result ((done : List Mapped) → ArePlaced catalog.now serial done pages.old.items
+    requires listed { (page : ℕ) → Contains (area_pages area.now) page
+        → IsAbsent catalog.now serial (space, page) → ⊥ }
+    ensures placed { OnOk result
+        ((done : List Mapped) → ArePlaced catalog.now serial done pages.old.items
         → ArePlaced catalog.now serial (done ++ area_mapped space area.now) pages.new.items) }
     ensures broken { (done : List Mapped) → ArePlaced catalog.now serial done pages.old.items
-        → IfErr result (Names (MeetsBreak catalog.now serial (done ++ area_mapped space area.now))) }
+        → IfErr result (Names
+        (MeetsBreak catalog.now serial (done ++ area_mapped space area.now))) }
     ensures empty { result ≢ Err Fault.EmptyChain }
     ensures device { result ≢ Err Fault.Device }
 {
@@ -81,11 +92,15 @@ fn place_space(
 ) -> Result<(), Fault>
     requires images { AreImages catalog.now }
     requires maximal { AreMaximal None space.now.areas.items }
-    requires listed { (page : ℕ) → Contains (flat_map area_pages space.now.areas.items) page → IsAbsent catalog.now serial (space.now.space, page) → ⊥ }
-    ensures placed { OnOk result ((done : List Mapped) → ArePlaced catalog.now serial done pages.old.items
-        → ArePlaced catalog.now serial (done ++ space_mapped (listing_of space.now)) pages.new.items) }
+    requires listed { (page : ℕ) → Contains (flat_map area_pages space.now.areas.items) page
+        → IsAbsent catalog.now serial (space.now.space, page) → ⊥ }
+    ensures placed { OnOk result
+        ((done : List Mapped) → ArePlaced catalog.now serial done pages.old.items
+        → ArePlaced catalog.now serial
+        (done ++ space_mapped (listing_of space.now)) pages.new.items) }
     ensures broken { (done : List Mapped) → ArePlaced catalog.now serial done pages.old.items
-        → IfErr result (Names (MeetsBreak catalog.now serial (done ++ space_mapped (listing_of space.now)))) }
+        → IfErr result (Names
+        (MeetsBreak catalog.now serial (done ++ space_mapped (listing_of space.now)))) }
     ensures empty { result ≢ Err Fault.EmptyChain }
     ensures device { result ≢ Err Fault.Device }
 {
@@ -109,8 +124,11 @@ pub fn place_pages(
     requires images { AreImages catalog.now }
     requires own { place_of catalog.now tip.now.header.serial ≡ Some (Some tip.now) }
     requires newest { IsTip catalog.now tip.now }
-    ensures placed { IfOk result (λ pages. ArePlaced catalog.now tip.now.header.serial (mapped_pages tip.now.spaces) pages.items) }
-    ensures broken { IfErr result (Names (MeetsBreak catalog.now tip.now.header.serial (mapped_pages tip.now.spaces))) }
+    ensures placed { IfOk result
+        (λ pages. ArePlaced catalog.now tip.now.header.serial
+        (mapped_pages tip.now.spaces) pages.items) }
+    ensures broken { IfErr result
+        (Names (MeetsBreak catalog.now tip.now.header.serial (mapped_pages tip.now.spaces))) }
     ensures empty { result ≢ Err Fault.EmptyChain }
     ensures device { result ≢ Err Fault.Device }
 {

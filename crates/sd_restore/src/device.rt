@@ -9,7 +9,8 @@ use sd_disk::{DeviceError, Disk};
 /// The length of a slot's file, in bytes.
 pub fn file_len<D: Disk>(disk: &mut D, slot: usize) -> Result<usize, DeviceError>
     requires { slot < length (D.contents disk.old) }
-    ensures length { D.is_honest disk.new → IfOk result (λ n. n ≡ length (file_at (D.contents disk.old) slot)) }
+    ensures length { D.is_honest disk.new
+        → IfOk result (λ n. n ≡ length (file_at (D.contents disk.old) slot)) }
     ensures reads { OnlyReads D.Disk disk.old disk.new }
     ensures cause { HasCause (D.failed disk.old) (D.failed disk.new) result }
 {
@@ -24,7 +25,9 @@ pub fn read_file<D: Disk>(
     buffer: &mut [u8],
 ) -> Result<(), DeviceError>
     requires { slot < length (D.contents disk.old) }
-    ensures bytes { D.is_honest disk.new → OnOk result (buffer.new ≡ slice_range (file_at (D.contents disk.old) slot) at (at + length buffer.old)) }
+    ensures bytes { D.is_honest disk.new
+        → OnOk result (buffer.new
+        ≡ slice_range (file_at (D.contents disk.old) slot) at (at + length buffer.old)) }
     ensures reads { OnlyReads D.Disk disk.old disk.new }
     ensures cause { HasCause (D.failed disk.old) (D.failed disk.new) result }
 {

@@ -17,7 +17,8 @@ use std::alloc::{AllocError, Global};
 
 /// The living spaces of an image, without pages.
 pub fn living_spaces(alloc: Global, tip: &OpenImage) -> Result<Snapshot, AllocError>
-    ensures spaces { IfOk result (λ snapshot. memory_of snapshot ≡ with_spaces finmap.empty tip.now.spaces) }
+    ensures spaces { IfOk result
+        (λ snapshot. memory_of snapshot ≡ with_spaces finmap.empty tip.now.spaces) }
     ensures checkpoint { IfOk result (λ snapshot. snapshot.checkpoint ≡ tip.now.header.checkpoint) }
 {
     let mut snapshot = Snapshot::new(alloc, tip.header().checkpoint);
@@ -34,7 +35,8 @@ fn read_page<D: Disk>(
     there: Found,
 ) -> Result<Box<[u8; PAGE_SIZE]>, Fault>
     requires { IsInSlots (length (D.contents disk.old)) there }
-    ensures bytes { D.is_honest disk.new → IfOk result (λ bytes. bytes.value ≡ bytes_at (D.contents disk.old) there) }
+    ensures bytes { D.is_honest disk.new
+        → IfOk result (λ bytes. bytes.value ≡ bytes_at (D.contents disk.old) there) }
     ensures unnamed { IfErr result (Names (λ _ _. ⊥)) }
     ensures reads { OnlyReads D.Disk disk.old disk.new }
     ensures device { IsErrOf result Fault.Device → D.failed disk.old < D.failed disk.new }
@@ -54,9 +56,12 @@ pub fn read_pages<D: Disk>(
     pages: &[PlacedPage],
     snapshot: &mut Snapshot,
 ) -> Result<(), Fault>
-    requires alive { All (λ p. IsTrue (finmap.contains_key (memory_of snapshot.old) p.space)) pages.now }
+    requires alive { All
+        (λ p. IsTrue (finmap.contains_key (memory_of snapshot.old) p.space)) pages.now }
     requires slots { All (λ p. IsInSlots (length (D.contents disk.old)) p.there) pages.now }
-    ensures memory { D.is_honest disk.new → OnOk result (memory_of snapshot.new ≡ with_pages (D.contents disk.old) (memory_of snapshot.old) pages.now) }
+    ensures memory { D.is_honest disk.new
+        → OnOk result (memory_of snapshot.new
+        ≡ with_pages (D.contents disk.old) (memory_of snapshot.old) pages.now) }
     ensures checkpoint { snapshot.new.checkpoint ≡ snapshot.old.checkpoint }
     ensures unnamed { IfErr result (Names (λ _ _. ⊥)) }
     ensures reads { OnlyReads D.Disk disk.old disk.new }

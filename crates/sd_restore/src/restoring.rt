@@ -35,14 +35,16 @@ pub fn restore_from<D: Disk>(
     requires images { AreImages catalog.now }
     requires slots { All (λ i. i.slot < length (D.contents disk.old)) (images catalog.now) }
     // Where it is the catalog of the contents, what is restored is what they show.
-    ensures shown { D.is_honest disk.new → IsCatalogOf (D.contents disk.old) catalog.now → IfOk result (λ snapshot.
+    ensures shown { D.is_honest disk.new → IsCatalogOf (D.contents disk.old) catalog.now
+        → IfOk result (λ snapshot.
         Shows (D.contents disk.old) (Some (snapshot.checkpoint, memory_of snapshot))) }
     ensures empty { IsCatalogOf (D.contents disk.old) catalog.now → IsErrOf result Fault.EmptyChain
         → Shows (D.contents disk.old) None }
     ensures broken { IsCatalogOf (D.contents disk.old) catalog.now
         → IfErr result (Names (IsBrokenChain (D.contents disk.old))) }
     // Contents that show something are never called damaged, and those that show a memory are never called empty.
-    ensures good { (shown : Option (ℕ × PlainMemory)) → IsCatalogOf (D.contents disk.old) catalog.now
+    ensures good { (shown : Option (ℕ × PlainMemory))
+        → IsCatalogOf (D.contents disk.old) catalog.now
         → Shows (D.contents disk.old) shown → IfErr result (Names (λ _ _. ⊥)) }
     ensures saved { (moment : ℕ × PlainMemory) → IsCatalogOf (D.contents disk.old) catalog.now
         → Shows (D.contents disk.old) (Some moment) → result ≢ Err Fault.EmptyChain }
@@ -74,12 +76,20 @@ pub fn restore_from<D: Disk>(
 /// its parent. `Device` and `OutOfMemory` end it at once.
 pub fn restore<D: Disk>(alloc: Global, disk: &mut D) -> Result<Snapshot, Fault>
     // What is restored is what the store shows.
-    ensures shown { D.is_honest disk.new → IfOk result (λ snapshot. Shows (D.contents disk.old) (Some (snapshot.checkpoint, memory_of snapshot))) }
-    ensures empty { D.is_honest disk.new → IsErrOf result Fault.EmptyChain → Shows (D.contents disk.old) None }
-    ensures damaged { D.is_honest disk.new → IfErr result (Names (λ slot reason. IsDamage (D.contents disk.old) slot reason ⊎ IsBrokenChain (D.contents disk.old) slot reason)) }
+    ensures shown { D.is_honest disk.new
+        → IfOk result (λ snapshot. Shows (D.contents disk.old)
+        (Some (snapshot.checkpoint, memory_of snapshot))) }
+    ensures empty { D.is_honest disk.new → IsErrOf result Fault.EmptyChain
+        → Shows (D.contents disk.old) None }
+    ensures damaged { D.is_honest disk.new
+        → IfErr result (Names
+        (λ slot reason. IsDamage (D.contents disk.old) slot reason
+        ⊎ IsBrokenChain (D.contents disk.old) slot reason)) }
     // A store that shows something is never called damaged, and one that shows a memory is never called empty.
-    ensures good { D.is_honest disk.new → (shown : Option (ℕ × PlainMemory)) → Shows (D.contents disk.old) shown → IfErr result (Names (λ _ _. ⊥)) }
-    ensures saved { D.is_honest disk.new → (moment : ℕ × PlainMemory) → Shows (D.contents disk.old) (Some moment) → result ≢ Err Fault.EmptyChain }
+    ensures good { D.is_honest disk.new → (shown : Option (ℕ × PlainMemory))
+        → Shows (D.contents disk.old) shown → IfErr result (Names (λ _ _. ⊥)) }
+    ensures saved { D.is_honest disk.new → (moment : ℕ × PlainMemory)
+        → Shows (D.contents disk.old) (Some moment) → result ≢ Err Fault.EmptyChain }
     // It only reads: the contents stay, and no crash, afterwards or within it, leaves more than one before it.
     ensures reads { OnlyReads D.Disk disk.old disk.new }
     ensures device { IsErrOf result Fault.Device → D.failed disk.old < D.failed disk.new }

@@ -40,7 +40,8 @@ impl Scanned {
 
     /// Passes a closed slot.
     fn skip(&self, slot: usize)
-        ensures { (contents : List (List ℕ)) → slot < length contents → is_open (file_at contents slot) ≡ false
+        ensures { (contents : List (List ℕ)) → slot < length contents
+            → is_open (file_at contents slot) ≡ false
             → IsScanned contents slot self.now → IsScanned contents (slot + 1) self.now }
     {
         closed_slot();
@@ -49,11 +50,14 @@ impl Scanned {
     /// Takes in the image of the next slot.
     fn add(&mut self, alloc: Global, slot: usize, decoded: Decoded) -> Result<(), AllocError>
         requires { self.old.images < 2 ^ 64 - 1 }
-        ensures scanned { OnOk result ((contents : List (List ℕ)) (image : Image) → slot < length contents
+        ensures scanned { OnOk result
+            ((contents : List (List ℕ)) (image : Image) → slot < length contents
             → is_open (file_at contents slot) ≡ true → IsImage (file_at contents slot) image
-            → image.header ≡ decoded.header → image.spaces ≡ map listing_of decoded.table.spaces.items
+            → image.header ≡ decoded.header
+            → image.spaces ≡ map listing_of decoded.table.spaces.items
             → IsScanned contents slot self.old → IsScanned contents (slot + 1) self.new) }
-        ensures read { (count : ℕ) → slot < count → IsSound decoded → AreRead count self.old.catalog → OnOk result (AreRead count self.new.catalog) }
+        ensures read { (count : ℕ) → slot < count → IsSound decoded → AreRead count self.old.catalog
+            → OnOk result (AreRead count self.new.catalog) }
         ensures counted { OnOk result (self.new.images ≡ self.old.images + 1) }
     {
         open_slot();
@@ -89,7 +93,8 @@ impl Scanned {
             → IsReading (file_at contents slot) opened
             → IsScanned contents slot self.old → IsScanned contents (slot + 1) self.new) }
         // Also of a device that lied.
-        ensures read { (count : ℕ) → slot < count → IfSome opened IsSound → AreRead count self.old.catalog
+        ensures read { (count : ℕ) → slot < count → IfSome opened IsSound
+            → AreRead count self.old.catalog
             → OnOk result (AreRead count self.new.catalog) }
         ensures counted { OnOk result (self.new.images ≤ self.old.images + 1) }
     {
@@ -113,7 +118,8 @@ impl Scanned {
             → IfOk result (λ _. (images : List Image) × IsStore contents images) }
         ensures damaged { (contents : List (List ℕ)) → IsScanned contents (length contents) self.now
             → IfErr result (Names (IsDamage contents)) }
-        ensures good { (contents : List (List ℕ)) (images : List Image) → IsScanned contents (length contents) self.now
+        ensures good { (contents : List (List ℕ)) (images : List Image)
+            → IsScanned contents (length contents) self.now
             → IsStore contents images → IfErr result (Names (λ _ _. ⊥)) }
         ensures empty { result ≢ Err Fault.EmptyChain }
         ensures device { result ≢ Err Fault.Device }

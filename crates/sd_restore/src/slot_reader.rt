@@ -19,7 +19,8 @@ use std::alloc::Global;
 /// Reads the bytes before the data pages of a slot whose file has them.
 fn read_first<D: Disk>(disk: &mut D, slot: usize) -> Result<[u8; HEADER_SIZE], DeviceError>
     requires { slot < length (D.contents disk.old) }
-    ensures first { D.is_honest disk.new → IfOk result (λ bytes. bytes ≡ slice_range (file_at (D.contents disk.old) slot) 0 4096) }
+    ensures first { D.is_honest disk.new
+        → IfOk result (λ bytes. bytes ≡ slice_range (file_at (D.contents disk.old) slot) 0 4096) }
     ensures reads { OnlyReads D.Disk disk.old disk.new }
     ensures cause { HasCause (D.failed disk.old) (D.failed disk.new) result }
 {
@@ -32,8 +33,10 @@ fn read_first<D: Disk>(disk: &mut D, slot: usize) -> Result<[u8; HEADER_SIZE], D
 fn header_of(slot: usize, bytes: &[u8], len: usize) -> Result<Header, Fault>
     requires { length bytes.now ≡ 4096 }
     ensures exact { IfOk result (λ header. header_in bytes.now len ≡ Ok header) }
-    ensures faulty { IfErr result (Names (λ s reason. (s ≡ slot) × (header_in bytes.now len ≡ Err reason))) }
-    ensures found { IfOk result (λ header. (drop 1 bytes.now ≡ header_text header) × IsHeader header len) }
+    ensures faulty { IfErr result
+        (Names (λ s reason. (s ≡ slot) × (header_in bytes.now len ≡ Err reason))) }
+    ensures found { IfOk result
+        (λ header. (drop 1 bytes.now ≡ header_text header) × IsHeader header len) }
     ensures empty { result ≢ Err Fault.EmptyChain }
     ensures device { result ≢ Err Fault.Device }
 {
@@ -50,7 +53,8 @@ fn read_table<D: Disk>(
     requires slot { slot < length (D.contents disk.old) }
     requires fits { 4096 + 4096 * header.now.pages + header.now.table_len < 2 ^ 64 }
     ensures bytes { D.is_honest disk.new
-        → IfOk result (λ bytes. bytes.items ≡ table_bytes header.now (file_at (D.contents disk.old) slot)) }
+        → IfOk result (λ bytes. bytes.items
+        ≡ table_bytes header.now (file_at (D.contents disk.old) slot)) }
     ensures unnamed { IfErr result (Names (λ _ _. ⊥)) }
     ensures reads { OnlyReads D.Disk disk.old disk.new }
     ensures device { IsErrOf result Fault.Device → D.failed disk.old < D.failed disk.new }
@@ -69,9 +73,12 @@ pub fn read_slot<D: Disk>(
     slot: usize,
 ) -> Result<Option<Decoded>, Fault>
     requires { slot < length (D.contents disk.old) }
-    ensures reading { D.is_honest disk.new → IfOk result (IsReading (file_at (D.contents disk.old) slot)) }
+    ensures reading { D.is_honest disk.new
+        → IfOk result (IsReading (file_at (D.contents disk.old) slot)) }
     ensures sound { IfOk result (λ opened. IfSome opened IsSound) }
-    ensures faulty { D.is_honest disk.new → IfErr result (Names (λ s reason. (s ≡ slot) × IsFaulty (file_at (D.contents disk.old) slot) reason)) }
+    ensures faulty { D.is_honest disk.new
+        → IfErr result (Names
+        (λ s reason. (s ≡ slot) × IsFaulty (file_at (D.contents disk.old) slot) reason)) }
     ensures reads { OnlyReads D.Disk disk.old disk.new }
     ensures device { IsErrOf result Fault.Device → D.failed disk.old < D.failed disk.new }
     ensures empty { result ≢ Err Fault.EmptyChain }

@@ -28,10 +28,15 @@ fn scan_slot<D: Disk>(
     requires slot { slot < length (D.contents disk.old) }
     requires room { scanned.old.images ≤ slot }
     requires fits { slot < 2 ^ 64 - 1 }
-    ensures scanned { D.is_honest disk.new → OnOk result (IsScanned (D.contents disk.old) slot scanned.old → IsScanned (D.contents disk.old) (slot + 1) scanned.new) }
-    ensures read { AreRead (length (D.contents disk.old)) scanned.old.catalog → OnOk result (AreRead (length (D.contents disk.old)) scanned.new.catalog) }
+    ensures scanned { D.is_honest disk.new
+        → OnOk result (IsScanned (D.contents disk.old) slot scanned.old
+        → IsScanned (D.contents disk.old) (slot + 1) scanned.new) }
+    ensures read { AreRead (length (D.contents disk.old)) scanned.old.catalog
+        → OnOk result (AreRead (length (D.contents disk.old)) scanned.new.catalog) }
     ensures room { OnOk result (scanned.new.images ≤ slot + 1) }
-    ensures faulty { D.is_honest disk.new → IfErr result (Names (λ s reason. (s ≡ slot) × IsFaulty (file_at (D.contents disk.old) slot) reason)) }
+    ensures faulty { D.is_honest disk.new
+        → IfErr result (Names
+        (λ s reason. (s ≡ slot) × IsFaulty (file_at (D.contents disk.old) slot) reason)) }
     ensures reads { OnlyReads D.Disk disk.old disk.new }
     ensures device { IsErrOf result Fault.Device → D.failed disk.old < D.failed disk.new }
     ensures empty { result ≢ Err Fault.EmptyChain }
@@ -43,9 +48,11 @@ fn scan_slot<D: Disk>(
 
 /// Reads each slot, rising.
 fn scan_slots<D: Disk>(alloc: Global, disk: &mut D) -> Result<Scanned, Fault>
-    ensures scanned { D.is_honest disk.new → IfOk result (IsScanned (D.contents disk.old) (length (D.contents disk.old))) }
+    ensures scanned { D.is_honest disk.new
+        → IfOk result (IsScanned (D.contents disk.old) (length (D.contents disk.old))) }
     ensures read { IfOk result (λ scanned. AreRead (length (D.contents disk.old)) scanned.catalog) }
-    ensures faulty { D.is_honest disk.new → IfErr result (Names (IsFirstFaulty (D.contents disk.old))) }
+    ensures faulty { D.is_honest disk.new
+        → IfErr result (Names (IsFirstFaulty (D.contents disk.old))) }
     ensures reads { OnlyReads D.Disk disk.old disk.new }
     ensures device { IsErrOf result Fault.Device → D.failed disk.old < D.failed disk.new }
     ensures empty { result ≢ Err Fault.EmptyChain }
@@ -59,12 +66,16 @@ fn scan_slots<D: Disk>(alloc: Global, disk: &mut D) -> Result<Scanned, Fault>
 
 /// Reads each slot, rising, and looks for serials that stand twice.
 pub fn scan_store<D: Disk>(alloc: Global, disk: &mut D) -> Result<Scanned, Fault>
-    ensures catalog { D.is_honest disk.new → IfOk result (λ scanned. IsCatalogOf (D.contents disk.old) scanned.catalog) }
-    ensures counted { D.is_honest disk.new → IfOk result (λ scanned. scanned.images ≡ length (filter is_open (D.contents disk.old))) }
+    ensures catalog { D.is_honest disk.new
+        → IfOk result (λ scanned. IsCatalogOf (D.contents disk.old) scanned.catalog) }
+    ensures counted { D.is_honest disk.new
+        → IfOk result (λ scanned. scanned.images ≡ length (filter is_open (D.contents disk.old))) }
     ensures read { IfOk result (λ scanned. AreRead (length (D.contents disk.old)) scanned.catalog) }
     ensures damaged { D.is_honest disk.new → IfErr result (Names (IsDamage (D.contents disk.old))) }
-    ensures store { D.is_honest disk.new → IfOk result (λ _. (images : List Image) × IsStore (D.contents disk.old) images) }
-    ensures good { D.is_honest disk.new → (images : List Image) → IsStore (D.contents disk.old) images → IfErr result (Names (λ _ _. ⊥)) }
+    ensures store { D.is_honest disk.new
+        → IfOk result (λ _. (images : List Image) × IsStore (D.contents disk.old) images) }
+    ensures good { D.is_honest disk.new → (images : List Image)
+        → IsStore (D.contents disk.old) images → IfErr result (Names (λ _ _. ⊥)) }
     ensures reads { OnlyReads D.Disk disk.old disk.new }
     ensures device { IsErrOf result Fault.Device → D.failed disk.old < D.failed disk.new }
     ensures empty { result ≢ Err Fault.EmptyChain }
@@ -87,11 +98,14 @@ pub fn scan<D: Disk>(alloc: Global, disk: &mut D) -> Result<Catalog, Fault>
     ensures catalog { D.is_honest disk.new → IfOk result (IsCatalogOf (D.contents disk.old)) }
     ensures damaged { D.is_honest disk.new → IfErr result (Names (IsDamage (D.contents disk.old))) }
     // Each open slot is then an image with a serial of its own.
-    ensures store { D.is_honest disk.new → IfOk result (λ _. (images : List Image) × IsStore (D.contents disk.old) images) }
+    ensures store { D.is_honest disk.new
+        → IfOk result (λ _. (images : List Image) × IsStore (D.contents disk.old) images) }
     // A store in which that is so is never called damaged.
-    ensures good { D.is_honest disk.new → (images : List Image) → IsStore (D.contents disk.old) images → IfErr result (Names (λ _ _. ⊥)) }
+    ensures good { D.is_honest disk.new → (images : List Image)
+        → IsStore (D.contents disk.old) images → IfErr result (Names (λ _ _. ⊥)) }
     // Also of a device that lies: the images are in its slots, their tables are tables, and their parents fall.
-    ensures slots { IfOk result (λ catalog. All (λ i. i.slot < length (D.contents disk.old)) (images catalog)) }
+    ensures slots { IfOk result
+        (λ catalog. All (λ i. i.slot < length (D.contents disk.old)) (images catalog)) }
     ensures images { IfOk result (λ catalog. AreImages catalog) }
     ensures none_held { IfOk result (λ catalog. (serial : ℕ) → IsHeld catalog serial → ⊥) }
     // It only reads: the contents stay, and no crash, afterwards or within it, leaves more than one before it.

@@ -22,10 +22,14 @@ use std::alloc::Global;
 /// The checkpoint of the newest dump or merged image, if there is one and the chain of each of its pages is whole.
 fn shown_checkpoint(alloc: Global, catalog: &Catalog) -> Result<Option<u64>, Fault>
     requires { AreImages catalog.now }
-    ensures shown { (contents : List (List ℕ)) → IsCatalogOf contents catalog.now → IfOk result (λ checkpoint. (shown : Option (ℕ × PlainMemory)) × Shows contents shown
+    ensures shown { (contents : List (List ℕ)) → IsCatalogOf contents catalog.now
+        → IfOk result (λ checkpoint. (shown : Option (ℕ × PlainMemory)) × Shows contents shown
         × (checkpoint ≡ option_map (λ moment. moment.0) shown)) }
-    ensures broken { (contents : List (List ℕ)) → IsCatalogOf contents catalog.now → IfErr result (Names (IsBrokenChain contents)) }
-    ensures good { (contents : List (List ℕ)) (shown : Option (ℕ × PlainMemory)) → IsCatalogOf contents catalog.now → Shows contents shown → IfErr result (Names (λ _ _. ⊥)) }
+    ensures broken { (contents : List (List ℕ)) → IsCatalogOf contents catalog.now
+        → IfErr result (Names (IsBrokenChain contents)) }
+    ensures good { (contents : List (List ℕ)) (shown : Option (ℕ × PlainMemory))
+        → IsCatalogOf contents catalog.now → Shows contents shown
+        → IfErr result (Names (λ _ _. ⊥)) }
     ensures empty { result ≢ Err Fault.EmptyChain }
     ensures device { result ≢ Err Fault.Device }
 {
@@ -43,7 +47,8 @@ fn shown_checkpoint(alloc: Global, catalog: &Catalog) -> Result<Option<u64>, Fau
 /// memory.
 pub fn newest_checkpoint(catalog: &Catalog) -> Option<u64>
     // Where it is the catalog of contents that show something, that is its checkpoint.
-    ensures { (contents : List (List ℕ)) (shown : Option (ℕ × PlainMemory)) → IsCatalogOf contents catalog.now → Shows contents shown
+    ensures { (contents : List (List ℕ)) (shown : Option (ℕ × PlainMemory))
+        → IsCatalogOf contents catalog.now → Shows contents shown
         → result ≡ option_map (λ moment. moment.0) shown }
 {
     one_store();
@@ -62,12 +67,19 @@ pub fn newest_checkpoint(catalog: &Catalog) -> Option<u64>
 /// `Damaged`, `Device` and `OutOfMemory` where [`crate::restore`] reports them. A store without a checkpoint is in order.
 pub fn verify<D: Disk>(alloc: Global, disk: &mut D) -> Result<Report, Fault>
     // Such a store shows something, and the report has its checkpoint.
-    ensures shown { D.is_honest disk.new → IfOk result (λ report. (shown : Option (ℕ × PlainMemory)) × Shows (D.contents disk.old) shown
+    ensures shown { D.is_honest disk.new
+        → IfOk result (λ report. (shown : Option (ℕ × PlainMemory))
+        × Shows (D.contents disk.old) shown
         × (report.checkpoint ≡ option_map (λ moment. moment.0) shown)) }
-    ensures images { D.is_honest disk.new → IfOk result (λ report. report.images ≡ length (filter is_open (D.contents disk.old))) }
-    ensures damaged { D.is_honest disk.new → IfErr result (Names (λ slot reason. IsDamage (D.contents disk.old) slot reason ⊎ IsBrokenChain (D.contents disk.old) slot reason)) }
+    ensures images { D.is_honest disk.new
+        → IfOk result (λ report. report.images ≡ length (filter is_open (D.contents disk.old))) }
+    ensures damaged { D.is_honest disk.new
+        → IfErr result (Names
+        (λ slot reason. IsDamage (D.contents disk.old) slot reason
+        ⊎ IsBrokenChain (D.contents disk.old) slot reason)) }
     // A store that shows something is never called damaged.
-    ensures good { D.is_honest disk.new → (shown : Option (ℕ × PlainMemory)) → Shows (D.contents disk.old) shown → IfErr result (Names (λ _ _. ⊥)) }
+    ensures good { D.is_honest disk.new → (shown : Option (ℕ × PlainMemory))
+        → Shows (D.contents disk.old) shown → IfErr result (Names (λ _ _. ⊥)) }
     ensures never_empty { result ≢ Err Fault.EmptyChain }
     // It only reads: the contents stay, and no crash, afterwards or within it, leaves more than one before it.
     ensures reads { OnlyReads D.Disk disk.old disk.new }

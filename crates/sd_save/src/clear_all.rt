@@ -22,8 +22,10 @@ pub fn clear_all(memory: &mut Memory)
 
 /// Tests and clears each page of a space; one that isn't alive has none.
 fn clear_space(memory: &mut Memory, space: SpaceId)
-    ensures cleared { (start : Contents) → IsClearedBelow space start memory.old → IsClearedBelow (space + 1) start memory.new }
-    ensures history { (start : Contents) → IsHistoryOfClears start memory.old → IsHistoryOfClears start memory.new }
+    ensures cleared { (start : Contents) → IsClearedBelow space start memory.old
+        → IsClearedBelow (space + 1) start memory.new }
+    ensures history { (start : Contents) → IsHistoryOfClears start memory.old
+        → IsHistoryOfClears start memory.new }
     ensures memory { plain_of memory.new ≡ plain_of memory.old }
 {
     let _ = clear_refs(memory, space, b"4");

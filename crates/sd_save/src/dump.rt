@@ -50,10 +50,14 @@ impl Dump {
     ) -> Result<(), AllocError>
         requires least { 1 ≤ space }
         requires greatest { space ≤ 16 }
-        ensures more { IsDumpBelow space (plain_of memory.now) (map listing_of self.old.tables.items) self.old.stored.items
-            → OnOk result (IsDumpBelow (space + 1) (plain_of memory.now) (map listing_of self.new.tables.items) self.new.stored.items) }
-        ensures count { mapped_count (map listing_of self.old.tables.items) ≡ pages_below memory.now.spaces space
-            → OnOk result (mapped_count (map listing_of self.new.tables.items) ≡ pages_below memory.now.spaces (space + 1)) }
+        ensures more { IsDumpBelow space (plain_of memory.now)
+            (map listing_of self.old.tables.items) self.old.stored.items
+            → OnOk result (IsDumpBelow (space + 1) (plain_of memory.now)
+            (map listing_of self.new.tables.items) self.new.stored.items) }
+        ensures count { mapped_count (map listing_of self.old.tables.items)
+            ≡ pages_below memory.now.spaces space
+            → OnOk result (mapped_count (map listing_of self.new.tables.items)
+            ≡ pages_below memory.now.spaces (space + 1)) }
     {
         sd_pagetable::plain_law();
         sd_areas::count_law();
@@ -78,8 +82,10 @@ fn push_areas(
 ) -> Result<(), AllocError>
     requires maximal { AreMaximal None areas.now }
     requires empty { runs.old.items ≡ [] }
-    ensures more { (before : List Place) → Dumps (plain_of memory.now) space before [] runs.old.items stored.old.items
-        → OnOk result (Dumps (plain_of memory.now) space before (flat_map area_pages areas.now) runs.new.items stored.new.items) }
+    ensures more { (before : List Place)
+        → Dumps (plain_of memory.now) space before [] runs.old.items stored.old.items
+        → OnOk result (Dumps (plain_of memory.now) space before
+        (flat_map area_pages areas.now) runs.new.items stored.new.items) }
 {
     for area in areas {
         push_area(memory, space, area, runs, stored)?;
@@ -97,8 +103,10 @@ fn push_area(
 ) -> Result<(), AllocError>
     requires behind { end_of runs.old.items ≤ area.now.first }
     requires within { area.now.first + area.now.count ≤ 2 ^ 35 }
-    ensures more { (before : List Place) (pages : List ℕ) → Dumps (plain_of memory.now) space before pages runs.old.items stored.old.items
-        → OnOk result (Dumps (plain_of memory.now) space before (pages ++ area_pages area.now) runs.new.items stored.new.items) }
+    ensures more { (before : List Place) (pages : List ℕ)
+        → Dumps (plain_of memory.now) space before pages runs.old.items stored.old.items
+        → OnOk result (Dumps (plain_of memory.now) space before
+        (pages ++ area_pages area.now) runs.new.items stored.new.items) }
     ensures end { OnOk result (end_of runs.new.items ≤ area.now.first + area.now.count) }
 {
     let first = area.first.number();
@@ -118,8 +126,10 @@ fn push_page(
     stored: &mut Vec<(SpaceId, PageNo)>,
 ) -> Result<(), AllocError>
     requires { end_of runs.old.items ≤ page }
-    ensures more { (before : List Place) (pages : List ℕ) → Dumps (plain_of memory.now) space before pages runs.old.items stored.old.items
-        → OnOk result (Dumps (plain_of memory.now) space before (pages ++ page ∷ []) runs.new.items stored.new.items) }
+    ensures more { (before : List Place) (pages : List ℕ)
+        → Dumps (plain_of memory.now) space before pages runs.old.items stored.old.items
+        → OnOk result (Dumps (plain_of memory.now) space before
+        (pages ++ page ∷ []) runs.new.items stored.new.items) }
     ensures end { OnOk result (end_of runs.new.items ≡ page + 1) }
 {
     if is_zero_page(memory, space, page) {

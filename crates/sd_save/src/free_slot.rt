@@ -14,7 +14,8 @@ pub fn free_slot<D: Disk>(disk: &mut D) -> Result<usize, SaveError>
     ensures slot { IfOk result (λ slot. slot < length (D.contents disk.old)) }
     ensures lowest { D.is_honest disk.new → IfOk result (λ slot. (next : ℕ) × (others : List ℕ)
         × (raw_slots (D.contents disk.old) ≡ slot ∷ next ∷ others)) }
-    ensures none { D.is_honest disk.new → IsErrOf result SaveError.NoSlot → length (raw_slots (D.contents disk.old)) < 2 }
+    ensures none { D.is_honest disk.new → IsErrOf result SaveError.NoSlot
+        → length (raw_slots (D.contents disk.old)) < 2 }
     ensures memory { result ≢ Err SaveError.OutOfMemory }
     ensures device { IsErrOf result SaveError.Device → D.failed disk.old < D.failed disk.new }
     ensures later { D.failed disk.old ≤ D.failed disk.new }

@@ -72,7 +72,9 @@ fn words_from(
 ) -> Result<Vec<u64>, AllocError>
     requires ordered { first ≤ end }
     requires within { end ≤ 2 ^ 35 }
-    ensures { IfOk result (λ words. words.items ≡ map (word_at memory.now space) (range_with_len first (end - first))) }
+    ensures { IfOk result
+        (λ words. words.items
+        ≡ map (word_at memory.now space) (range_with_len first (end - first))) }
 {
     let mut words = Vec::new(alloc);
     for number in first..end {

@@ -19,7 +19,8 @@ pub fn push_page(runs: &mut Vec<Run>, page: PageNo, kind: RunKind) -> Result<(),
     requires behind { end_of runs.old.items ≤ page }
     // The runs of some pages become those of these and one more.
     ensures more { (is_data : ℕ → Bool) (pages : List ℕ) → AreRunsOf is_data pages runs.old.items
-        → kind ≡ kind_for is_data page → OnOk result (AreRunsOf is_data (pages ++ page ∷ []) runs.new.items) }
+        → kind ≡ kind_for is_data page
+        → OnOk result (AreRunsOf is_data (pages ++ page ∷ []) runs.new.items) }
     ensures end { OnOk result (end_of runs.new.items ≡ page + 1) }
 {
     let number = page.number();

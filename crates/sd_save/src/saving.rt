@@ -54,17 +54,22 @@ pub fn save<D: Disk>(
         → OnOk result (IsReady (D.contents disk.new) (number + 1)) }
 
     // And every crash from then on, up to the next call, leaves contents that show it.
-    ensures durable { D.is_honest disk.new → IsReadyAfterCrash (D.contents disk.old) (D.may_leave disk.old) number
+    ensures durable { D.is_honest disk.new
+        → IsReadyAfterCrash (D.contents disk.old) (D.may_leave disk.old) number
         → OnOk result (ShowsOnly (Some (number, plain_of memory.new)) (D.may_leave disk.new)) }
 
     // And what a crash leaves is ready for the number above.
-    ensures ready_after { D.is_honest disk.new → IsReadyAfterCrash (D.contents disk.old) (D.may_leave disk.old) number
-        → OnOk result (IsReadyAfterCrash (D.contents disk.new) (D.may_leave disk.new) (number + 1)) }
+    ensures ready_after { D.is_honest disk.new
+        → IsReadyAfterCrash (D.contents disk.old) (D.may_leave disk.old) number
+        → OnOk result (IsReadyAfterCrash (D.contents disk.new) (D.may_leave disk.new)
+        (number + 1)) }
 
     // However it ends, at every moment of it a crash leaves what was shown before, or what is saved.
-    ensures any_moment { (shown : Option (ℕ × PlainMemory)) → D.is_honest disk.new → IsReadyAfterCrash (D.contents disk.old) (D.may_leave disk.old) number
+    ensures any_moment { (shown : Option (ℕ × PlainMemory)) → D.is_honest disk.new
+        → IsReadyAfterCrash (D.contents disk.old) (D.may_leave disk.old) number
         → ShowsOnly shown (D.may_leave disk.old)
-        → LeavesOnly D.Disk disk.old disk.new (λ c. Shows c shown ⊎ Shows c (Some (number, plain_of memory.new))) }
+        → LeavesOnly D.Disk disk.old disk.new
+        (λ c. Shows c shown ⊎ Shows c (Some (number, plain_of memory.new))) }
 
     // Each page is cleared, and the spaces, areas and bytes stay.
     ensures cleared { OnOk result (IsCleared memory.old memory.new) }
@@ -76,11 +81,17 @@ pub fn save<D: Disk>(
     ensures kept { IsErrOf result SaveError.NoSlot → memory.new ≡ memory.old }
 
     // It is written into the lowest of the free slots, and nowhere else.
-    ensures place { D.is_honest disk.new → OnOk result ((slot next : ℕ) (others : List ℕ) → raw_slots (D.contents disk.old) ≡ slot ∷ next ∷ others
-        → D.contents disk.new ≡ slice_set (D.contents disk.old) slot (file_at (D.contents disk.new) slot)) }
-    ensures no_slot { D.is_honest disk.new → IsErrOf result SaveError.NoSlot → length (raw_slots (D.contents disk.old)) < 2 }
-    ensures refused { result ≢ Err SaveError.Device → IsErr result → D.contents disk.new ≡ D.contents disk.old }
-    ensures unharmed { result ≢ Err SaveError.Device → IsErr result → Within (D.may_leave disk.new) (D.may_leave disk.old) }
+    ensures place { D.is_honest disk.new
+        → OnOk result ((slot next : ℕ) (others : List ℕ)
+        → raw_slots (D.contents disk.old) ≡ slot ∷ next ∷ others
+        → D.contents disk.new
+        ≡ slice_set (D.contents disk.old) slot (file_at (D.contents disk.new) slot)) }
+    ensures no_slot { D.is_honest disk.new → IsErrOf result SaveError.NoSlot
+        → length (raw_slots (D.contents disk.old)) < 2 }
+    ensures refused { result ≢ Err SaveError.Device → IsErr result
+        → D.contents disk.new ≡ D.contents disk.old }
+    ensures unharmed { result ≢ Err SaveError.Device → IsErr result
+        → Within (D.may_leave disk.new) (D.may_leave disk.old) }
     ensures device { IsErrOf result SaveError.Device → D.failed disk.old < D.failed disk.new }
     ensures honest { D.is_honest disk.new → D.is_honest disk.old }
 {
@@ -109,12 +120,15 @@ fn write_image<D: Disk>(
     requires whole { AreWhole (map (bytes_at (plain_of memory.now)) text.stored.items) }
     requires table { 0 < length text.table.items }
     requires buffer { length buffer.items ≡ 4096 }
-    ensures written { OnOk result (D.contents disk.new ≡ slice_set (D.contents disk.old) slot (file_of (plain_of memory.now) text)) }
+    ensures written { OnOk result
+        (D.contents disk.new
+        ≡ slice_set (D.contents disk.old) slot (file_of (plain_of memory.now) text)) }
     ensures crash { FollowsAt slot (D.may_leave disk.old) (D.may_leave disk.new) }
     ensures durable { SlotFits Raw [] slot (D.contents disk.old) (D.may_leave disk.old)
         → OnOk result (OnlyAt slot (file_of (plain_of memory.now) text) (D.may_leave disk.new)) }
     ensures any_moment { SlotFits Raw [] slot (D.contents disk.old) (D.may_leave disk.old)
-        → LeavesOnly D.Disk disk.old disk.new (IsLeft slot (body_of (plain_of memory.now) text) (D.may_leave disk.old)) }
+        → LeavesOnly D.Disk disk.old disk.new
+        (IsLeft slot (body_of (plain_of memory.now) text) (D.may_leave disk.old)) }
     ensures honest { D.is_honest disk.new → D.is_honest disk.old }
     ensures cause { HasCause (D.failed disk.old) (D.failed disk.new) result }
 {

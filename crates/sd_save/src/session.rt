@@ -45,7 +45,8 @@ impl Session {
     /// the store's checkpoint too, if it has one.
     pub fn open<D: Disk>(alloc: Global, disk: &mut D) -> Result<(Session, Option<u64>), Fault>
         ensures begins { D.is_honest disk.new
-            → IfOk result (λ opened. Begins (D.contents disk.old) opened.1 (plain_of opened.0.memory)) }
+            → IfOk result (λ opened. Begins (D.contents disk.old) opened.1
+            (plain_of opened.0.memory)) }
         ensures ready { D.is_honest disk.new
             → IfOk result (λ opened. IsReady (D.contents disk.new) (opened.0.greatest + 1)) }
         ensures empty { result ≢ Err Fault.EmptyChain }
@@ -75,18 +76,24 @@ impl Session {
         line: &Line,
     ) -> Result<Answer, Fault>
         // What the line is answered, and what it did to the memory.
-        ensures does { IfOk result (λ answer. IsAnswer line.now answer self.old.memory self.new.memory) }
+        ensures does { IfOk result
+            (λ answer. IsAnswer line.now answer self.old.memory self.new.memory) }
 
         // A checkpoint is numbered one above the greatest number, and its memory is what the store then shows.
-        ensures acked { (n : ℕ) → result ≡ Ok (Answer.Reply (Reply.Acked n)) → (n ≡ self.old.greatest + 1) × (self.new.greatest ≡ n) }
+        ensures acked { (n : ℕ) → result ≡ Ok (Answer.Reply (Reply.Acked n))
+            → (n ≡ self.old.greatest + 1) × (self.new.greatest ≡ n) }
         ensures shown { D.is_honest disk.new → IsReady (D.contents disk.old) (self.old.greatest + 1)
-            → (n : ℕ) → result ≡ Ok (Answer.Reply (Reply.Acked n)) → Shows (D.contents disk.new) (Some (n, plain_of self.new.memory)) }
+            → (n : ℕ) → result ≡ Ok (Answer.Reply (Reply.Acked n))
+            → Shows (D.contents disk.new) (Some (n, plain_of self.new.memory)) }
         ensures ready { D.is_honest disk.new → IsReady (D.contents disk.old) (self.old.greatest + 1)
             → OnOk result (IsReady (D.contents disk.new) (self.new.greatest + 1)) }
 
         // It is refused where the numbers are used up, and where fewer than two slots are free.
-        ensures numbers_used { line.now ≡ Line.Checkpoint → (result ≡ Ok (Answer.Reply (Reply.Refused Refusal.NumbersUsed))) ↔ (2 ^ 63 ≤ self.old.greatest) }
-        ensures no_slot { D.is_honest disk.new → line.now ≡ Line.Checkpoint → result ≡ Ok (Answer.Reply (Reply.Refused Refusal.NoSlot))
+        ensures numbers_used { line.now ≡ Line.Checkpoint
+            → (result ≡ Ok (Answer.Reply (Reply.Refused Refusal.NumbersUsed)))
+            ↔ (2 ^ 63 ≤ self.old.greatest) }
+        ensures no_slot { D.is_honest disk.new → line.now ≡ Line.Checkpoint
+            → result ≡ Ok (Answer.Reply (Reply.Refused Refusal.NoSlot))
             → length (raw_slots (D.contents disk.old)) < 2 }
 
         // No other line touches the disk or the numbers.
@@ -109,15 +116,19 @@ impl Session {
 
     /// Saves the memory under the number above the greatest.
     fn checkpoint<D: Disk>(&mut self, alloc: Global, disk: &mut D) -> Result<Reply, Fault>
-        ensures numbers { result ≡ Ok (Reply.Refused Refusal.NumbersUsed) ↔ (2 ^ 63 ≤ self.old.greatest) }
-        ensures acked { (n : ℕ) → result ≡ Ok (Reply.Acked n) → (n ≡ self.old.greatest + 1) × (self.new.greatest ≡ n) }
+        ensures numbers { result ≡ Ok (Reply.Refused Refusal.NumbersUsed)
+            ↔ (2 ^ 63 ≤ self.old.greatest) }
+        ensures acked { (n : ℕ) → result ≡ Ok (Reply.Acked n)
+            → (n ≡ self.old.greatest + 1) × (self.new.greatest ≡ n) }
         ensures shown { D.is_honest disk.new → IsReady (D.contents disk.old) (self.old.greatest + 1)
-            → (n : ℕ) → result ≡ Ok (Reply.Acked n) → Shows (D.contents disk.new) (Some (n, plain_of self.new.memory)) }
+            → (n : ℕ) → result ≡ Ok (Reply.Acked n)
+            → Shows (D.contents disk.new) (Some (n, plain_of self.new.memory)) }
         ensures ready { D.is_honest disk.new → IsReady (D.contents disk.old) (self.old.greatest + 1)
             → OnOk result (IsReady (D.contents disk.new) (self.new.greatest + 1)) }
         ensures memory { plain_of self.new.memory ≡ plain_of self.old.memory }
         ensures saved { IfOk result (λ reply. IsSaved reply self.old.memory self.new.memory) }
-        ensures no_slot { D.is_honest disk.new → result ≡ Ok (Reply.Refused Refusal.NoSlot) → length (raw_slots (D.contents disk.old)) < 2 }
+        ensures no_slot { D.is_honest disk.new → result ≡ Ok (Reply.Refused Refusal.NoSlot)
+            → length (raw_slots (D.contents disk.old)) < 2 }
         ensures failed { OnErr result (result ≡ Err Fault.Device) }
         ensures device { IsErr result → D.failed disk.old < D.failed disk.new }
         ensures honest { D.is_honest disk.new → D.is_honest disk.old }
@@ -151,7 +162,8 @@ fn replied(alloc: Global, memory: &mut Memory, command: &Command) -> Reply
 
 /// The greatest checkpoint or serial of a store, or 0 where it has no image.
 fn last_number<D: Disk>(alloc: Global, disk: &mut D) -> Result<u64, Fault>
-    ensures ready { D.is_honest disk.new → IfOk result (λ greatest. IsReady (D.contents disk.old) (greatest + 1)) }
+    ensures ready { D.is_honest disk.new
+        → IfOk result (λ greatest. IsReady (D.contents disk.old) (greatest + 1)) }
     ensures empty { result ≢ Err Fault.EmptyChain }
     ensures same { D.contents disk.new ≡ D.contents disk.old }
     ensures honest { D.is_honest disk.new → D.is_honest disk.old }

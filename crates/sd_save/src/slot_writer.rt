@@ -28,11 +28,13 @@ use sd_pagetable::Memory;
 /// Makes a slot that is shorter than a header one closed byte.
 pub fn format<D: Disk>(disk: &mut D, slot: usize) -> Result<(), DeviceError>
     requires { slot < length (D.contents disk.old) }
-    ensures formatted { OnOk result (D.contents disk.new ≡ slice_set (D.contents disk.old) slot (0 ∷ [])) }
+    ensures formatted { OnOk result
+        (D.contents disk.new ≡ slice_set (D.contents disk.old) slot (0 ∷ [])) }
     ensures crash { FollowsAt slot (D.may_leave disk.old) (D.may_leave disk.new) }
     ensures fits { SlotFits Raw [] slot (D.contents disk.old) (D.may_leave disk.old)
         → OnOk result (SlotFits Bare [] slot (D.contents disk.new) (D.may_leave disk.new)) }
-    ensures any_moment { (image : List ℕ) → SlotFits Raw [] slot (D.contents disk.old) (D.may_leave disk.old)
+    ensures any_moment { (image : List ℕ)
+        → SlotFits Raw [] slot (D.contents disk.old) (D.may_leave disk.old)
         → LeavesOnly D.Disk disk.old disk.new (IsLeft slot image (D.may_leave disk.old)) }
     ensures honest { D.is_honest disk.new → D.is_honest disk.old }
     ensures cause { HasCause (D.failed disk.old) (D.failed disk.new) result }
@@ -52,13 +54,19 @@ fn write_page<D: Disk>(
     requires slot { slot < length (D.contents disk.old) }
     requires page { IsPage place page.items }
     ensures written { OnOk result (D.contents disk.new
-        ≡ slice_set (D.contents disk.old) slot (file_after_write (file_at (D.contents disk.old) slot) (data_place place) page.items)) }
+        ≡ slice_set (D.contents disk.old) slot
+        (file_after_write (file_at (D.contents disk.old) slot) (data_place place) page.items)) }
     ensures back { IfOk result (λ back. length back.items ≡ 4096) }
     ensures crash { FollowsAt slot (D.may_leave disk.old) (D.may_leave disk.new) }
     ensures fits { (pages : List (List ℕ)) → AreWhole pages → length pages ≡ place
-        → SlotFits (pages_phase pages) (pages_body pages) slot (D.contents disk.old) (D.may_leave disk.old)
-        → OnOk result (SlotFits (pages_phase (pages ++ page.items ∷ [])) (pages_body (pages ++ page.items ∷ [])) slot (D.contents disk.new) (D.may_leave disk.new)) }
-    ensures any_moment { (image : List ℕ) (pages : List (List ℕ)) → SlotFits (pages_phase pages) (pages_body pages) slot (D.contents disk.old) (D.may_leave disk.old)
+        → SlotFits (pages_phase pages) (pages_body pages) slot (D.contents disk.old)
+        (D.may_leave disk.old)
+        → OnOk result (SlotFits (pages_phase (pages ++ page.items ∷ []))
+        (pages_body (pages ++ page.items ∷ [])) slot (D.contents disk.new)
+        (D.may_leave disk.new)) }
+    ensures any_moment { (image : List ℕ) (pages : List (List ℕ))
+        → SlotFits (pages_phase pages) (pages_body pages) slot (D.contents disk.old)
+        (D.may_leave disk.old)
         → LeavesOnly D.Disk disk.old disk.new (IsLeft slot image (D.may_leave disk.old)) }
     ensures honest { D.is_honest disk.new → D.is_honest disk.old }
     ensures cause { HasCause (D.failed disk.old) (D.failed disk.new) result }
@@ -86,11 +94,15 @@ pub fn write_pages<D: Disk>(
     requires whole { AreWhole (map (bytes_at (plain_of memory.now)) pages.now) }
     requires buffer { length buffer.items ≡ 4096 }
     ensures written { OnOk result (D.contents disk.new
-        ≡ slice_set (D.contents disk.old) slot (closed_file (map (bytes_at (plain_of memory.now)) pages.now))) }
+        ≡ slice_set (D.contents disk.old) slot
+        (closed_file (map (bytes_at (plain_of memory.now)) pages.now))) }
     ensures crash { FollowsAt slot (D.may_leave disk.old) (D.may_leave disk.new) }
     ensures fits { SlotFits Bare [] slot (D.contents disk.old) (D.may_leave disk.old)
-        → OnOk result (SlotFits (pages_phase (map (bytes_at (plain_of memory.now)) pages.now)) (pages_body (map (bytes_at (plain_of memory.now)) pages.now)) slot (D.contents disk.new) (D.may_leave disk.new)) }
-    ensures any_moment { (image : List ℕ) → SlotFits Bare [] slot (D.contents disk.old) (D.may_leave disk.old)
+        → OnOk result (SlotFits (pages_phase (map (bytes_at (plain_of memory.now)) pages.now))
+        (pages_body (map (bytes_at (plain_of memory.now)) pages.now)) slot (D.contents disk.new)
+        (D.may_leave disk.new)) }
+    ensures any_moment { (image : List ℕ)
+        → SlotFits Bare [] slot (D.contents disk.old) (D.may_leave disk.old)
         → LeavesOnly D.Disk disk.old disk.new (IsLeft slot image (D.may_leave disk.old)) }
     ensures honest { D.is_honest disk.new → D.is_honest disk.old }
     ensures cause { HasCause (D.failed disk.old) (D.failed disk.new) result }
@@ -117,14 +129,19 @@ pub fn close_body<D: Disk>(
     ensures opened { (pages : List (List ℕ)) → AreWhole pages → header.pages ≡ length pages
         → file_at (D.contents disk.old) slot ≡ closed_file pages
         → OnOk result (D.contents disk.new
-        ≡ slice_set (D.contents disk.old) slot (gate ∷ header_text header ++ concat pages ++ table.items)) }
+        ≡ slice_set (D.contents disk.old) slot
+        (gate ∷ header_text header ++ concat pages ++ table.items)) }
     ensures crash { FollowsAt slot (D.may_leave disk.old) (D.may_leave disk.new) }
     ensures fits { (pages : List (List ℕ)) → AreWhole pages → header.pages ≡ length pages
-        → SlotFits (pages_phase pages) (pages_body pages) slot (D.contents disk.old) (D.may_leave disk.old)
-        → OnOk result (SlotFits Whole (header_text header ++ concat pages ++ table.items) slot (D.contents disk.new) (D.may_leave disk.new)) }
+        → SlotFits (pages_phase pages) (pages_body pages) slot (D.contents disk.old)
+        (D.may_leave disk.old)
+        → OnOk result (SlotFits Whole (header_text header ++ concat pages ++ table.items) slot
+        (D.contents disk.new) (D.may_leave disk.new)) }
     ensures any_moment { (pages : List (List ℕ)) → AreWhole pages → header.pages ≡ length pages
-        → SlotFits (pages_phase pages) (pages_body pages) slot (D.contents disk.old) (D.may_leave disk.old)
-        → LeavesOnly D.Disk disk.old disk.new (IsLeft slot (header_text header ++ concat pages ++ table.items) (D.may_leave disk.old)) }
+        → SlotFits (pages_phase pages) (pages_body pages) slot (D.contents disk.old)
+        (D.may_leave disk.old)
+        → LeavesOnly D.Disk disk.old disk.new
+        (IsLeft slot (header_text header ++ concat pages ++ table.items) (D.may_leave disk.old)) }
     ensures honest { D.is_honest disk.new → D.is_honest disk.old }
     ensures cause { HasCause (D.failed disk.old) (D.failed disk.new) result }
 {
