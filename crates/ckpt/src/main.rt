@@ -98,8 +98,18 @@ fn run_words<W: Write>(
     Ok(stop::status(ended, out))
 }
 
+/// Holds three descriptors of nothing. Those of 0 to 2 that the caller closed are among them, so no file of a store
+/// becomes the standard output.
+fn hold_descriptors(rt: &impl Files<File = File>) -> io::Result<(File, File, File)> {
+    let first = File::open(rt, "/dev/null")?;
+    let second = File::open(rt, "/dev/null")?;
+    let third = File::open(rt, "/dev/null")?;
+    Ok((first, second, third))
+}
+
 fn main(rt: HostRuntime) -> io::Result<ExitCode> {
     let alloc = rt.alloc();
+    let _held = hold_descriptors(&rt)?;
     let words: Vec<String> = std::env::args(&rt)?.collect(alloc)?;
     let mut out = BufWriter::new(alloc, io::writer(&rt))?;
     match run_words(&rt, &words, &mut out) {

@@ -15,10 +15,12 @@ use std::{fs, io};
 /// How many slots a folder has.
 pub const FOLDER_SLOTS: usize = 64;
 
-/// The slots' files `img-000` to `img-063` in a folder, opened once.
+/// The slots' files `img-000` to `img-063` in a folder, opened once. One that may be written keeps an advisory lock on
+/// the folder, which ends with it, also where the program is killed.
 #[derive(Drop)]
 pub struct Folder {
     images: Vec<Option<File>>,
+    lock: Option<File>,
     ghost count: { length images.items ≡ FOLDER_SLOTS },
 }
 
@@ -26,8 +28,9 @@ impl Folder {
     ghost use Rattle.std.specs.Prelude.{IfOk};
     ghost use Rattle.sd_disk.specs.Folder.{folder_slots};
 
-    /// Opens the files. With `make` the folder, its parents and the files that are missing are made; without it
-    /// nothing is, and the folder has to be there.
+    /// Opens the files. With `make` they may be written: the folder, its parents and the files that are missing are
+    /// made, and another folder that may be written is refused meanwhile. Without it the files are opened for reading
+    /// alone, nothing is made, and the folder has to be there.
     pub fn open(
         rt: &(impl Files<File = File> + AllocGlobal),
         path: &str,
@@ -35,7 +38,7 @@ impl Folder {
     ) -> Result<Folder, OpenError>
         ensures { IfOk result (λ folder. folder_slots folder ≡ FOLDER_SLOTS) }
     {
-        prepare(rt, path, make).map_err(|_| OpenError::Folder)?;
+        let lock = prepare(rt, path, make).map_err(|_| OpenError::Folder)?;
         let mut images = Vec::with_capacity(rt.alloc(), FOLDER_SLOTS)?;
         for slot in 0..FOLDER_SLOTS {
             let name = format!(in rt.alloc(); "{path}/img-{slot:03}").map_err(
@@ -47,7 +50,7 @@ impl Folder {
         if make {
             sync_folder(rt, path).map_err(|_| OpenError::Folder)?;
         }
-        Ok(Folder { images })
+        Ok(Folder { images, lock })
     }
 
     pub(crate) fn slots(&self) -> usize
@@ -65,26 +68,46 @@ impl Folder {
     }
 }
 
-/// Makes the folder, or sees that it is there.
-fn prepare(rt: &impl Files, folder: &str, make: bool) -> io::Result<()> {
+/// Makes the folder and locks it, or sees that it is there.
+fn prepare(rt: &impl Files<File = File>, folder: &str, make: bool) -> io::Result<Option<File>> {
     if make {
-        return fs::create_dir_all(rt, folder);
+        fs::create_dir_all(rt, folder)?;
+        sync_folder(rt, parent_of(folder))?;
+        return lock_folder(rt, folder).map(Some);
     }
     if fs::metadata(rt, folder)?.is_dir() {
-        Ok(())
+        Ok(None)
     } else {
         Err(io::ErrorKind::NotADirectory.into())
     }
 }
 
-/// Waits until the files that were made have their names on the device.
+/// Takes the advisory lock of a folder, or fails where another program has it.
+fn lock_folder(rt: &impl Files<File = File>, folder: &str) -> io::Result<File> {
+    let lock = File::open(rt, folder)?;
+    match lock.try_lock() {
+        Ok(()) => Ok(lock),
+        Err(_) => Err(io::ErrorKind::WouldBlock.into()),
+    }
+}
+
+/// The folder in which a path's last name stands.
+fn parent_of(path: &str) -> &str {
+    match path.trim_end_matches('/').rsplit_once('/') {
+        Some(("", _)) => "/",
+        Some((parent, _)) => parent,
+        None => ".",
+    }
+}
+
+/// Waits until the names in a folder are on the device.
 fn sync_folder(rt: &impl Files<File = File>, path: &str) -> io::Result<()> {
     File::open(rt, path)?.sync_all()
 }
 
 fn open_image(rt: &impl Files<File = File>, path: &str, make: bool) -> io::Result<Option<File>> {
     match fs::metadata(rt, path) {
-        Ok(found) if found.is_file() => open_found(rt, path).map(Some),
+        Ok(found) if found.is_file() => open_found(rt, path, make).map(Some),
         Ok(_) => Err(io::ErrorKind::Unsupported.into()),
         Err(error) if error.kind() == io::ErrorKind::NotFound && !make => Ok(None),
         Err(error) if error.kind() == io::ErrorKind::NotFound => {
@@ -94,12 +117,9 @@ fn open_image(rt: &impl Files<File = File>, path: &str, make: bool) -> io::Resul
     }
 }
 
-/// For reading alone where writing is denied.
-fn open_found(rt: &impl Files<File = File>, path: &str) -> io::Result<File> {
-    match OpenOptions::new().read(true).write(true).open(rt, path) {
-        Err(error) if error.kind() == io::ErrorKind::PermissionDenied => File::open(rt, path),
-        opened => opened,
-    }
+/// Opens a file that is there, for reading alone unless it may be written.
+fn open_found(rt: &impl Files<File = File>, path: &str, write: bool) -> io::Result<File> {
+    OpenOptions::new().read(true).write(write).open(rt, path)
 }
 
 /// A call that was made on a slot's file, and how it ended. The five functions below alone make one.
