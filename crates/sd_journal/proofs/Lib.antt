@@ -1,2 +1,4 @@
 pub mod AllowedLemmas
+pub mod CheckLemmas
 pub mod HistoryLemmas
+pub mod ReceiptLemmas

@@ -2,4 +2,5 @@ pub mod Allowed
 pub mod History
 pub mod Laws
 pub mod Legal
+pub mod Receipts
 pub mod Worked

@@ -1,0 +1,5 @@
+//! Tests of journals by their public names.
+#![tactic(auto)]
+
+#[cfg(test)]
+mod receipts;
