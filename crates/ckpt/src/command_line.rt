@@ -3,31 +3,112 @@
 use clap::{Arg, ArgAction, Command, Error};
 use std::alloc::Global;
 
-/// The command line: one subcommand for each program.
-pub fn command<'a>(alloc: Global) -> Result<Command<'a>, Error> {
-    let run = Command::new(alloc, "run")
+/// The version that `--version` prints.
+const VERSION: &str = "0.1";
+
+const DIR: &str = "The folder of a store, with the files img-000 to img-063";
+
+const SCRIPT: &str = "A file with one request a line; README.md has the language";
+
+const LIMITS: &str =
+    "Limits: 16 spaces, 1,024 areas of a space, 65,536 mapped pages of 4,096 bytes in all,
+addresses below 2^47, 1 to 64 bytes a load or store, 64 images a store; a checkpoint
+needs two free slots. The cause of a failure is told on standard error.";
+
+const RUN: &str = "Example:
+  ckpt run store examples/first.ckpt
+
+Status: 0 at the end of the script, also where requests were refused; 1 where the store,
+its device, memory or the printing failed (damaged SSS WHY, device, out-of-memory,
+cannot open DIR, cannot read SCRIPT); 2 where a line of SCRIPT doesn't fit the language
+(script line N: nothing is run) or the command line doesn't; with --restore, 3 where the
+store shows no checkpoint afterwards.
+
+Only one run at a time can have a store open.";
+
+const RESTORE: &str = "Example:
+  ckpt restore store
+
+Prints checkpoint N; for each space a line space N, its areas as area FIRST END PROT, and
+bytes ADDRESS HEX for each 32 bytes that aren't all zeros.
+
+Status: 0 where a memory was printed; 3 where the store shows no checkpoint (empty chain);
+1 where the store, its device, memory or the printing failed (damaged SSS WHY, device,
+out-of-memory, cannot open DIR); 2 for a fault of the command line.";
+
+const LIST: &str = "Example:
+  ckpt list store
+
+Status: 0; 1 where an open slot is no image, or the device, memory or the printing failed
+(damaged SSS WHY, device, out-of-memory, cannot open DIR); 2 for a fault of the command line.";
+
+const VERIFY: &str = "Example:
+  ckpt verify store
+
+Status: 0 where it printed ok; 1 where the store can't be restored, or the device, memory or
+the printing failed (damaged SSS WHY, device, out-of-memory, cannot open DIR); 2 for a fault
+of the command line.";
+
+/// The folder that each program needs.
+fn dir<'a>(alloc: Global) -> Arg<'a> {
+    Arg::new(alloc, "DIR").required(true).help(DIR)
+}
+
+fn run<'a>(alloc: Global) -> Result<Command<'a>, Error> {
+    let command = Command::new(alloc, "run")
         .about("Runs a script over the store in a folder, which is made where it is missing")
-        .arg(Arg::new(alloc, "DIR").required(true))?
-        .arg(Arg::new(alloc, "SCRIPT").required(true))?
+        .after_help(RUN)
+        .arg(dir(alloc))?
+        .arg(Arg::new(alloc, "SCRIPT").required(true).help(SCRIPT))?
         .arg(
             Arg::new(alloc, "restore")
                 .long("restore")
                 .action(ArgAction::SetTrue)
                 .help("Prints afterwards what `restore` prints of the folder"),
         )?;
-    let restore = Command::new(alloc, "restore")
-        .about("Prints the memory that the store in a folder shows")
-        .arg(Arg::new(alloc, "DIR").required(true))?;
-    let list = Command::new(alloc, "list")
-        .about("Prints the open images of the store in a folder, and which of them is the newest")
-        .arg(Arg::new(alloc, "DIR").required(true))?;
-    let verify = Command::new(alloc, "verify")
-        .about("Checks that the store in a folder can be restored")
-        .arg(Arg::new(alloc, "DIR").required(true))?;
+    Ok(command)
+}
+
+/// A program that only reads the store in a folder.
+fn reader<'a>(
+    alloc: Global,
+    name: &'a str,
+    about: &'a str,
+    behind: &'a str,
+) -> Result<Command<'a>, Error> {
+    let command = Command::new(alloc, name)
+        .about(about)
+        .after_help(behind)
+        .arg(dir(alloc))?;
+    Ok(command)
+}
+
+/// The command line: one subcommand for each program.
+pub fn command<'a>(alloc: Global) -> Result<Command<'a>, Error> {
+    let restore = reader(
+        alloc,
+        "restore",
+        "Prints the memory that the store in a folder shows",
+        RESTORE,
+    )?;
+    let list = reader(
+        alloc,
+        "list",
+        "Prints the open images of the store in a folder, and which of them is the newest",
+        LIST,
+    )?;
+    let verify = reader(
+        alloc,
+        "verify",
+        "Checks that the store in a folder can be restored",
+        VERIFY,
+    )?;
     let command = Command::new(alloc, "ckpt")
         .about("Saves modelled memories into image files, and restores them")
+        .version(VERSION)
+        .after_help(LIMITS)
         .subcommand_required(true)
-        .subcommand(run)?
+        .subcommand(run(alloc)?)?
         .subcommand(restore)?
         .subcommand(list)?
         .subcommand(verify)?;

@@ -1,19 +1,24 @@
 //! `ckpt`: saves modelled memories into image files, and restores them.
 #![tactic(auto)]
 
+use cause::{tell, tell_device, tell_line};
 use clap::ArgMatches;
-use sd_disk::{DirDisk, Folder};
-use sd_script::Script;
+use sd_disk::{DirDisk, Folder, OpenError};
+use sd_restore::Fault;
+use sd_script::{Script, ScriptError};
 use std::fs::File;
 use std::io;
 use std::io::{BufWriter, Write};
 use std::process::ExitCode;
 use std::rt::{Env, Files};
-use stop::Stop;
+use stop::{FAILED, Stop, UNFIT};
 
+mod answer_text;
+mod cause;
 mod command_line;
 mod list;
 mod listing;
+mod page_text;
 mod restore;
 #[cfg(test)]
 mod row_tests;
@@ -27,55 +32,92 @@ mod verify;
 
 /// Opens the store in a folder.
 fn open_store(
-    rt: &(impl Files<File = File> + AllocGlobal),
+    rt: &(impl Files<File = File> + Eprint + AllocGlobal),
     folder: &str,
     make: bool,
 ) -> Result<DirDisk, Stop> {
-    Ok(DirDisk::new(Folder::open(rt, folder, make)?))
-}
-
-/// Reads and parses a script.
-fn read_script(rt: &(impl Files<File = File> + AllocGlobal), script: &str) -> Result<Script, Stop> {
-    match std::fs::read(rt, script) {
-        Ok(bytes) => Ok(Script::parse(rt.alloc(), &bytes)?),
-        Err(_) => Err(Stop::CannotReadScript),
+    match Folder::open(rt, folder, make) {
+        Ok(files) => Ok(DirDisk::new(files)),
+        Err(OpenError::OutOfMemory) => Err(Stop::Fault(Fault::OutOfMemory)),
+        Err(OpenError::Folder(fault)) => {
+            tell(rt, folder, &fault);
+            Err(Stop::CannotOpenFolder)
+        }
     }
 }
 
-/// `ckpt run`: a script that can't be taken makes no file. With `restores` the memory that the store then shows is
-/// printed behind the answers.
-fn run_program<W: Write>(
-    rt: &(impl Files<File = File> + AllocGlobal),
-    words: &ArgMatches<'_>,
+/// Reads and parses a script.
+fn read_script(
+    rt: &(impl Files<File = File> + Eprint + AllocGlobal),
+    script: &str,
+) -> Result<Script, Stop> {
+    let bytes = match std::fs::read(rt, script) {
+        Ok(bytes) => bytes,
+        Err(error) if error.kind() == io::ErrorKind::OutOfMemory => {
+            return Err(Stop::Fault(Fault::OutOfMemory));
+        }
+        Err(error) => {
+            tell(rt, script, &error);
+            return Err(Stop::CannotReadScript);
+        }
+    };
+    let parsed = Script::parse(rt.alloc(), &bytes);
+    if let Err(ScriptError::Line(number)) = parsed {
+        tell_line(rt, script, &bytes, number);
+    }
+    Ok(parsed?)
+}
+
+/// Runs a script over a store. With `restores` the memory that the store then shows is printed behind the answers.
+fn run_over<W: Write>(
+    rt: &impl AllocGlobal,
+    disk: &mut DirDisk,
+    script: &Script,
+    restores: bool,
     out: &mut W,
 ) -> Result<(), Stop> {
-    let script = read_script(rt, words.get_str("SCRIPT").unwrap_or(""))?;
-    let mut disk = open_store(rt, words.get_str("DIR").unwrap_or(""), true)?;
-    run::run_lines(rt.alloc(), &mut disk, &script, out)?;
-    if words.get_flag("restore") {
-        restore::print_restored(rt.alloc(), &mut disk, out)?;
+    run::run_lines(rt.alloc(), disk, script, out)?;
+    if restores {
+        restore::print_restored(rt.alloc(), disk, out)?;
     }
     Ok(())
 }
 
+/// `ckpt run`: a script that can't be taken makes no file.
+fn run_program<W: Write>(
+    rt: &(impl Files<File = File> + Eprint + AllocGlobal),
+    words: &ArgMatches<'_>,
+    out: &mut W,
+) -> Result<(), Stop> {
+    let folder = words.get_str("DIR").unwrap_or("");
+    let script = read_script(rt, words.get_str("SCRIPT").unwrap_or(""))?;
+    let mut disk = open_store(rt, folder, true)?;
+    let ended = run_over(rt, &mut disk, &script, words.get_flag("restore"), out);
+    tell_device(rt, folder, &disk, &ended);
+    ended
+}
+
 /// The programs that only read a store, by their names.
 fn read_program<W: Write>(
-    rt: &(impl Files<File = File> + AllocGlobal),
+    rt: &(impl Files<File = File> + Eprint + AllocGlobal),
     name: &str,
     words: &ArgMatches<'_>,
     out: &mut W,
 ) -> Result<(), Stop> {
-    let mut disk = open_store(rt, words.get_str("DIR").unwrap_or(""), false)?;
-    match name {
+    let folder = words.get_str("DIR").unwrap_or("");
+    let mut disk = open_store(rt, folder, false)?;
+    let ended = match name {
         "list" => list::print_list(rt.alloc(), &mut disk, out),
         "verify" => verify::print_report(rt.alloc(), &mut disk, out),
         _ => restore::print_restored(rt.alloc(), &mut disk, out),
-    }
+    };
+    tell_device(rt, folder, &disk, &ended);
+    ended
 }
 
 /// Runs the program that the words ask for.
 fn run_matches<W: Write>(
-    rt: &(impl Files<File = File> + AllocGlobal),
+    rt: &(impl Files<File = File> + Eprint + AllocGlobal),
     matches: &ArgMatches<'_>,
     out: &mut W,
 ) -> Result<(), Stop> {
@@ -88,38 +130,98 @@ fn run_matches<W: Write>(
 
 /// Runs the program that the words ask for, and returns its exit status. The error is a fault of the words.
 fn run_words<W: Write>(
-    rt: &(impl Files<File = File> + AllocGlobal),
+    rt: &(impl Files<File = File> + Eprint + AllocGlobal),
     words: &[String],
     out: &mut W,
 ) -> Result<u8, clap::Error> {
     let command = command_line::command(rt.alloc())?;
     let matches = command.try_get_matches_from(words)?;
     let ended = run_matches(rt, &matches, out);
+    if let Err(Stop::Writer(error)) = &ended {
+        tell(rt, PRINTED, error);
+    }
     Ok(stop::status(ended, out))
+}
+
+/// What a fault of the standard output is told of.
+const PRINTED: &str = "standard output";
+
+/// Prints what the output still holds, and returns the status, or that of a failure.
+fn finish<W: Write>(rt: &impl Eprint, out: &mut W, status: u8) -> u8 {
+    match out.flush() {
+        Ok(()) => status,
+        Err(error) => {
+            tell(rt, PRINTED, &error);
+            FAILED
+        }
+    }
+}
+
+/// Runs the program that the words ask for, or prints what is wrong with them, or the help; and returns the status.
+fn run_command(rt: &HostRuntime, words: &[String]) -> io::Result<u8> {
+    let mut out = BufWriter::new(rt.alloc(), io::writer(rt))?;
+    match run_words(rt, words, &mut out) {
+        Ok(status) => Ok(finish(rt, &mut out, status)),
+        Err(error) => {
+            error.print(rt)?;
+            Ok(error.exit_code() as u8)
+        }
+    }
 }
 
 /// Holds three descriptors of nothing. Those of 0 to 2 that the caller closed are among them, so no file of a store
 /// becomes the standard output.
 fn hold_descriptors(rt: &impl Files<File = File>) -> io::Result<(File, File, File)> {
-    let first = File::open(rt, "/dev/null")?;
-    let second = File::open(rt, "/dev/null")?;
-    let third = File::open(rt, "/dev/null")?;
+    let first = File::open(rt, NOTHING)?;
+    let second = File::open(rt, NOTHING)?;
+    let third = File::open(rt, NOTHING)?;
     Ok((first, second, third))
 }
 
-fn main(rt: HostRuntime) -> io::Result<ExitCode> {
-    let alloc = rt.alloc();
-    let _held = hold_descriptors(&rt)?;
-    let words: Vec<String> = std::env::args(&rt)?.collect(alloc)?;
-    let mut out = BufWriter::new(alloc, io::writer(&rt))?;
-    match run_words(&rt, &words, &mut out) {
-        Ok(status) => match out.flush() {
-            Ok(()) => Ok(ExitCode::from(status)),
-            Err(_) => Ok(ExitCode::FAILURE),
-        },
+/// The device of nothing.
+const NOTHING: &str = "/dev/null";
+
+/// What a fault of the words is told of.
+const COMMAND_LINE: &str = "the command line";
+
+/// The words that the program was called with, or the status where they can't be taken.
+fn words_of(rt: &(impl Env + Eprint + AllocGlobal)) -> Result<Vec<String>, u8> {
+    let words = match std::env::args(rt) {
+        Ok(words) => words.collect(rt.alloc()).map_err(io::Error::from),
+        Err(error) => Err(error),
+    };
+    words.map_err(|error| match error.kind() {
+        io::ErrorKind::InvalidData => {
+            tell(rt, COMMAND_LINE, &"a word of it isn't UTF-8");
+            UNFIT
+        }
+        _ => {
+            tell(rt, COMMAND_LINE, &error);
+            FAILED
+        }
+    })
+}
+
+/// The exit status.
+fn status_of(rt: &HostRuntime) -> u8 {
+    let held = hold_descriptors(rt);
+    if let Err(error) = &held {
+        tell(rt, NOTHING, error);
+        return FAILED;
+    }
+    let words = match words_of(rt) {
+        Ok(words) => words,
+        Err(status) => return status,
+    };
+    match run_command(rt, &words) {
+        Ok(status) => status,
         Err(error) => {
-            error.print(&rt)?;
-            Ok(ExitCode::from(error.exit_code() as u8))
+            tell(rt, PRINTED, &error);
+            FAILED
         }
     }
+}
+
+fn main(rt: HostRuntime) -> ExitCode {
+    ExitCode::from(status_of(&rt))
 }

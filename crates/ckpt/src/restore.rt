@@ -1,23 +1,23 @@
 //! `ckpt restore`: printing the memory that a store shows.
-ghost use Rattle.std.specs.Prelude.{◌≡◌, ◌≢◌, None, Err, OnOk, OnErr};
+ghost use Rattle.std.specs.Prelude.{◌≡◌, ◌≢◌, None, Err, All, length, OnOk};
+ghost use Rattle.sd_areas.specs.Areas.{AreMaximal};
 ghost use Rattle.sd_disk.specs.Reads.{OnlyReads};
+ghost use Rattle.sd_image.specs.declared.table.SpaceTable.{SpaceTable};
 ghost use Rattle.sd_image.specs.Shows.{Shows};
 ghost use Rattle.sd_restore.specs.declared.fault.Fault.TheVariants as fault;
+ghost use Rattle.sd_restore.specs.Placed.{IsInSlots};
 ghost use Rattle.ckpt.specs.declared.stop.Stop.TheVariants as stop;
 ghost use Rattle.ckpt.specs.Ending.{ShowsMemory};
 
+use crate::page_text::print_page;
 use crate::stop::{Stop, status};
-use sd_areas::{PAGE_BYTES, PageNo, Snapshot, SnapshotPage, areas_in};
+use sd_areas::{PAGE_BYTES, PAGE_SIZE, SpaceId};
+use sd_chain::Found;
 use sd_disk::Disk;
 use sd_procfs::areas_text;
-use sd_restore::restore;
+use sd_restore::{PlacedMemory, PlacedPage, place_newest, read_placed, scan};
 use std::alloc::Global;
-use std::collections::BTreeMap;
-use std::io;
 use std::io::Write;
-
-/// How many bytes one line shows.
-const LINE_BYTES: usize = 32;
 
 /// Prints the memory that a store shows, and returns the exit status.
 pub fn restore_to<D: Disk, W: Write>(alloc: Global, disk: &mut D, out: &mut W) -> u8
@@ -30,7 +30,7 @@ pub fn restore_to<D: Disk, W: Write>(alloc: Global, disk: &mut D, out: &mut W) -
     status(ended, out)
 }
 
-/// Prints the memory that a store shows.
+/// Prints the memory that a store shows, page by page behind all checks of a restore. It holds one page at a time.
 pub fn print_restored<D: Disk, W: Write>(
     alloc: Global,
     disk: &mut D,
@@ -41,57 +41,50 @@ pub fn print_restored<D: Disk, W: Write>(
         → Shows (D.contents disk.old) None }
     ensures reads { OnlyReads D.Disk disk.old disk.new }
 {
-    let snapshot = restore(alloc, disk)?;
-    print_snapshot(alloc, &snapshot, out)
+    let catalog = scan(alloc, disk)?;
+    let placed = place_newest(alloc, &catalog)?;
+    print_placed(alloc, disk, &placed, out)
 }
 
-fn print_snapshot<W: Write>(alloc: Global, snapshot: &Snapshot, out: &mut W) -> Result<(), Stop>
-    ensures empty { result ≢ Err (stop.Fault fault.EmptyChain) }
-{
-    writeln!(out, "checkpoint {}", snapshot.checkpoint)?;
-    for (space, pages) in &snapshot.spaces {
-        writeln!(out, "space {}", space.number())?;
-        print_areas(alloc, pages, out)?;
-        print_pages(pages, out)?;
-    }
-    Ok(())
-}
-
-fn print_areas<W: Write>(
+fn print_placed<D: Disk, W: Write>(
     alloc: Global,
-    pages: &BTreeMap<PageNo, SnapshotPage>,
+    disk: &mut D,
+    placed: &PlacedMemory<'_>,
     out: &mut W,
 ) -> Result<(), Stop>
+    requires slots { All
+        (λ p. IsInSlots (length (D.contents disk.old)) p.there) placed.now.pages.items }
+    requires areas { All
+        (λ (s : SpaceTable). AreMaximal None s.areas.items) placed.now.spaces.now }
+    ensures reads { OnlyReads D.Disk disk.old disk.new }
     ensures empty { result ≢ Err (stop.Fault fault.EmptyChain) }
 {
-    let areas = areas_in(alloc, pages)?;
-    out.write_all(areas_text(alloc, &areas)?.as_bytes())?;
-    Ok(())
-}
-
-fn print_pages<W: Write>(pages: &BTreeMap<PageNo, SnapshotPage>, out: &mut W) -> io::Result<()> {
-    for (page, found) in pages {
-        print_page(page.number() * PAGE_BYTES, found.bytes.as_slice(), out)?;
+    writeln!(out, "checkpoint {}", placed.checkpoint)?;
+    for space in placed.spaces {
+        writeln!(out, "space {}", space.space.number())?;
+        out.write_all(areas_text(alloc, &space.areas)?.as_bytes())?;
+        print_pages(disk, space.space, &placed.pages, out)?;
     }
     Ok(())
 }
 
-/// Prints the parts of a page that aren't all zeros.
-fn print_page<W: Write>(address: u64, bytes: &[u8], out: &mut W) -> io::Result<()> {
-    let mut at = address;
-    for line in bytes.chunks(LINE_BYTES) {
-        if line.iter().any(|byte| *byte != 0) {
-            print_line(at, line, out)?;
+/// Prints the pages of a space, of those of all spaces. A page of zeros has no line.
+fn print_pages<D: Disk, W: Write>(
+    disk: &mut D,
+    space: SpaceId,
+    pages: &[PlacedPage],
+    out: &mut W,
+) -> Result<(), Stop>
+    requires slots { All (λ p. IsInSlots (length (D.contents disk.old)) p.there) pages.now }
+    ensures reads { OnlyReads D.Disk disk.old disk.new }
+    ensures empty { result ≢ Err (stop.Fault fault.EmptyChain) }
+{
+    let mut bytes = [0; PAGE_SIZE];
+    for placed in pages {
+        if placed.space == space && placed.there != Found::Zero {
+            read_placed(disk, placed.there, &mut bytes)?;
+            print_page(placed.page.number() * PAGE_BYTES, &bytes, out)?;
         }
-        at = at.wrapping_add(LINE_BYTES as u64);
     }
     Ok(())
-}
-
-fn print_line<W: Write>(address: u64, bytes: &[u8], out: &mut W) -> io::Result<()> {
-    write!(out, "bytes {address:#x} ")?;
-    for byte in bytes {
-        write!(out, "{byte:02x}")?;
-    }
-    writeln!(out)
 }

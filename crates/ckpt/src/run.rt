@@ -6,11 +6,12 @@ ghost use Rattle.sd_image.specs.Laws.{IsReady};
 ghost use Rattle.ckpt.specs.Ending.{IsReadable};
 ghost use Rattle.sd_script.specs.Script.{first_unfit_line};
 
+use crate::answer_text::print_answer;
 use crate::stop::{Stop, status};
 use sd_command::Reply;
 use sd_disk::Disk;
 use sd_save::Session;
-use sd_script::{Line, Script};
+use sd_script::{Answer, Line, Script};
 use std::alloc::Global;
 use std::io::Write;
 
@@ -63,7 +64,8 @@ pub fn run_lines<D: Disk, W: Write>(
     answer_lines(alloc, disk, &mut session, &script.lines, out)
 }
 
-/// Answers one line after the other, and prints each answer.
+/// Answers one line after the other, and prints each answer. An acknowledged checkpoint is seen before the next line
+/// begins; other answers may wait in the output's buffer.
 fn answer_lines<D: Disk, W: Write>(
     alloc: Global,
     disk: &mut D,
@@ -78,7 +80,10 @@ fn answer_lines<D: Disk, W: Write>(
 {
     for line in lines {
         let answer = session.answer(alloc, disk, line)?;
-        writeln!(out, "{answer}")?;
+        print_answer(&answer, out)?;
+        if let Answer::Reply(Reply::Acked(_)) = answer {
+            out.flush()?;
+        }
     }
     Ok(())
 }

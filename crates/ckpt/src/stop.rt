@@ -2,7 +2,6 @@
 ghost use Rattle.std.specs.Prelude.{◌≡◌};
 ghost use Rattle.ckpt.specs.Ending.{Ends, status_of};
 
-use sd_disk::OpenError;
 use sd_restore::Fault;
 use sd_script::ScriptError;
 use std::alloc::AllocError;
@@ -10,7 +9,10 @@ use std::io::Write;
 use std::{fmt, io};
 
 /// The exit status of a program that was refused or stopped.
-const FAILED: u8 = 1;
+pub const FAILED: u8 = 1;
+
+/// The exit status where the script or the command line doesn't fit.
+pub const UNFIT: u8 = 2;
 
 /// Why a program ends before its last line. It is printed as the program's last line.
 #[derive(Debug, Drop)]
@@ -58,7 +60,7 @@ fn stop_status(stop: &Stop) -> u8
 {
     match stop {
         Stop::Fault(Fault::EmptyChain) => 3,
-        Stop::ScriptLine(_) => 2,
+        Stop::ScriptLine(_) => UNFIT,
         _ => FAILED,
     }
 }
@@ -95,15 +97,6 @@ impl From<ScriptError> for Stop {
         match error {
             ScriptError::Line(number) => Stop::ScriptLine(number),
             ScriptError::OutOfMemory => Stop::Fault(Fault::OutOfMemory),
-        }
-    }
-}
-
-impl From<OpenError> for Stop {
-    fn from(error: OpenError) -> Stop {
-        match error {
-            OpenError::Folder => Stop::CannotOpenFolder,
-            OpenError::OutOfMemory => Stop::Fault(Fault::OutOfMemory),
         }
     }
 }

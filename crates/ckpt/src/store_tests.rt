@@ -239,8 +239,8 @@ fn empty_files(rt: HostRuntime) -> Result<(), Fail> {
     Ok(())
 }
 
-/// A call that fails ends each program with that, and nothing else is printed: of two open slots the length, the header and
-/// the table are read, and of a restored memory its page.
+/// A call that fails ends each program with that: of two open slots the length, the header and the table are read, before
+/// anything is printed, and of a restored memory its page, behind the lines of its area.
 #[test]
 fn each_read_fails_in_turn(rt: HostRuntime) -> Result<(), Fail> {
     let alloc = rt.alloc();
@@ -249,7 +249,8 @@ fn each_read_fails_in_turn(rt: HostRuntime) -> Result<(), Fail> {
         for call in 0..calls {
             let mut fused = Fused::new(store(&rt, 2, &files)?, call);
             let (out, status) = printed(alloc, &mut fused, program);
-            assert!(&rt; out.as_slice() == "device\n".as_bytes());
+            assert!(&rt; out.as_slice().ends_with("device\n".as_bytes()));
+            assert!(&rt; call == 6 || out.len() == 7);
             assert_eq!(&rt; status, 1);
         }
         let mut fused = Fused::new(store(&rt, 2, &files)?, calls);

@@ -15,7 +15,7 @@ use Rattle.sd_chain.specs.Catalog.{Opened, Places, AreInOrder, Changes, images, 
 use Rattle.sd_chain.specs.Catalog as catalog
 use Rattle.sd_chain.specs.Ways.{HasPage, LiesAt}
 use Rattle.sd_chain.specs.Ways as ways
-use Rattle.sd_chain.specs.Tells.{AddedImageIsTold, Agrees, HavePages, HeldPlacesTellNothing, IsStoredAt, IsToldAs, RemovedSlotIsUntold, Tells}
+use Rattle.sd_chain.specs.Tells.{AddedImageIsTold, Agrees, HavePages, HeldPlacesTellNothing, IsStoredAt, IsToldAs, RemovedSlotIsUntold, RemovedSlotWasTold, Tells}
 use Rattle.sd_chain.proofs.Members.{open_place}
 use Rattle.sd_chain.proofs.TablePages.{contains_cons_cases, contains_front, contains_later}
 use Rattle.sd_chain.proofs.Walks.{member_of}
@@ -265,3 +265,36 @@ removed_slot_is_untold old new slot all left before after changes elsewhere tell
   where
     by : (j k : Opened) → place_of old j.header.serial ≡ Some (Some j) → place_of old j.header.serial ≡ Some (Some k) → j.slot ≢ slot → k.slot ≢ slot
     by j k a b differ = λ same. differ ((let both : Some (Some j) ≡ Some (Some k) = sym a ∙ b in let is : j ≡ k = cc in ap (λ (i : Opened). i.slot) is) ∙ same)
+
+-- a place that is left was there
+was_place : (slot : ℕ) (old new : Places) (j : Opened) → ((serial : ℕ) → place_of new serial ≡ without_slot slot (place_of old serial)) → AreInOrder new
+    → Contains (images new) j → place_of old j.header.serial ≡ Some (Some j)
+was_place slot old new j changes after c = (left_place slot (place_of old j.header.serial) j (sym (changes j.header.serial) ∙ open_place new j after c)).0
+
+pub removed_slot_was_told : RemovedSlotWasTold
+removed_slot_was_told old new slot all left before after changes elsewhere told tells = record {
+  image = λ i c. elim (cases_eq i.slot slot) [
+    | inl here ↦ told.image i c here
+    | inr other ↦
+        let at = open_place old i before c in
+        let found = tells.image i (member_of new i.header.serial i (changes i.header.serial ∙ ap (without_slot slot) at ∙ stays_elsewhere slot i other)) in
+        (found.0, ((elsewhere found.0).0 found.1).0, found.2)
+  ];
+  opened = λ image c. by image c (place_of old image.header.serial) refl;
+}
+  where
+    -- no image of the slot has its serial, so it is left
+    stays : (image : Image) → Contains all image → ((i : Opened) → place_of old image.header.serial ≡ Some (Some i) → i.slot ≢ slot)
+        → (i : Opened) × Contains (images old) i × IsToldAs i image
+    stays image c other =
+        let j = tells.opened image ((elsewhere image).1 (c, other)) in
+        (j.0, member_of old j.0.header.serial j.0 (was_place slot old new j.0 changes after j.1), j.2)
+
+    by : (image : Image) → Contains all image → (place : Option (Option Opened)) → place_of old image.header.serial ≡ place → (i : Opened) × Contains (images old) i × IsToldAs i image
+    by image c None at = stays image c (λ i is. absurd (let no : None ≡ Some (Some i) = sym at ∙ is in cc))
+    by image c (Some None) at = stays image c (λ i is. absurd (let no : Some None ≡ Some (Some i) = sym at ∙ is in cc))
+    by image c (Some (Some i)) at = elim (cases_eq i.slot slot) [
+      | inl here ↦ (i, member_of old image.header.serial i at, told.opened image i c at here)
+      | inr other ↦ stays image c (λ k is same. other
+          ((let both : Some (Some i) ≡ Some (Some k) = sym at ∙ is in let one : i ≡ k = cc in ap (λ (o : Opened). o.slot) one) ∙ same))
+    ]

@@ -10,3 +10,4 @@ pub mod Traces
 pub mod Stores
 pub mod Growth
 pub mod Agreement
+pub mod NextPages

@@ -41,7 +41,7 @@ later_begins parent before (run ∷ runs) (suc i) d h l =
     let rest = later_begins parent (Some run) runs i d h.1 (omega arith) in
     omega (arith, here, rest)
 
-apart : (parent : ℕ) (before : Option Run) (runs : List Run) (i j : ℕ) (d : Run) → AreRuns parent before runs → i < j → j < length runs
+pub apart : (parent : ℕ) (before : Option Run) (runs : List Run) (i j : ℕ) (d : Run) → AreRuns parent before runs → i < j → j < length runs
     → (get_or runs i d).first + (get_or runs i d).count ≤ (get_or runs j d).first
 apart parent before [] i j d h l m = absurd (omega arith)
 apart parent before (run ∷ runs) zero zero d h l m = absurd (omega arith)

@@ -1,7 +1,8 @@
 -- The walk from an image to its parent, as far as it has come.
-use Rattle.std.proofs.Common.{◌≡◌, ◌⊎◌, ◌<◌, ℕ, List, [], ◌∷◌, ◌++◌, Option, Some, None, MatchOption, Contains, refl, sym, ◌∙◌, ap, subst, inl, inr, Bor, arith}
+use Rattle.std.proofs.Common.{◌≡◌, ◌⊎◌, ◌<◌, ◌≤◌, ℕ, suc, false, nat_eq, List, [], ◌∷◌, ◌++◌, Option, Some, None, MatchOption, Contains, refl, sym, ◌∙◌, ap, subst, inl, inr, Bor, arith}
 use Rattle.std.specs.Prelude.{◌↔◌, IfSome, IsNone}
-use Rattle.std.proofs.lemmas.Bool.{eqb-true}
+use Rattle.std.specs.List.{AllByRecursion, IsDistinct}
+use Rattle.std.proofs.lemmas.Bool.{eqb-true, ne_eqb}
 use Rattle.std.proofs.lemmas.List.Elements.{Contains-push, Contains-push_cases, Contains-append_left, All-contains}
 use Rattle.std.proofs.lemmas.Map.Views.{Contains-from_lookup}
 use Rattle.sd_chain.specs.Catalog.{Opened, Places, AreInOrder, place_of, images, Names}
@@ -117,3 +118,54 @@ pub way_goes_on : (places : Places) (serial : ℕ) (list : List ℕ) (i : Bor Op
 way_goes_on places serial list i None falls to is =
     inr (record { first = to.0; there = to.1; last = i.now; front = list; path = to.2; are = refl; ends = is.all falls refl })
 way_goes_on places serial list i (Some p) falls to is = (to.0, to.1, path_more places to.0 i.now p.now list to.2 is.named)
+
+-- ---- each serial stands once
+
+-- these are serials of images that stand for numbers below this
+abbrev AreBelow : Places → ℕ → List ℕ → Type 0
+AreBelow places number = AllByRecursion (λ n. (k : Opened) × Contains (images places) k × (k.header.serial ≡ n) × (k.header.stands_for < number))
+
+below_more : (places : Places) (a b : ℕ) (list : List ℕ) → a ≤ b → AreBelow places a list → AreBelow places b list
+below_more places a b [] le all = tt
+below_more places a b (n ∷ list) le all = ((all.0.0, all.0.1, all.0.2, (let less = all.0.3 in omega (arith, less, le))), below_more places a b list le all.1)
+
+others : (places : Places) (i : Opened) (number : ℕ) (list : List ℕ) → AreInOrder places → Contains (images places) i → number ≤ i.header.stands_for → AreBelow places number list
+    → AllByRecursion (λ n. nat_eq i.header.serial n ≡ false) list
+others places i number [] order c le all = tt
+others places i number (n ∷ list) order c le all = (
+  ne_eqb i.header.serial n (λ same.
+      let k = all.0 in
+      let is : i ≡ k.0 = same_serial places i k.0 order c k.1 (same ∙ sym k.2) in
+      let stands : i.header.stands_for ≡ k.0.header.stands_for = ap (λ (o : Opened). o.header.stands_for) is in
+      let less = k.3 in
+      omega (arith, le, less, stands)),
+  others places i number list order c le all.1,
+)
+
+path_once : (places : Places) (i last : Opened) (front : List ℕ) → AreInOrder places → ParentsFall places → Contains (images places) i → IsPath places i front last
+    → IsDistinct nat_eq (front ++ last.header.serial ∷ []) × AreBelow places (suc i.header.stands_for) (front ++ last.header.serial ∷ [])
+unfolding IsDistinct
+path_once places i last [] order fall c is = ((tt, tt), ((i, c, ap (λ (o : Opened). o.header.serial) is, omega arith), tt))
+path_once places i last (serial ∷ rest) order fall c path =
+    let p = path.1.0 in
+    let names = path.1.1 in
+    let falls = All-contains (λ (k : Opened). k.header.parent < k.header.stands_for) (images places) i fall c in
+    let stands = names.stands in
+    let tail = path_once places p last rest order fall names.member path.1.2 in
+    let le : suc p.header.stands_for ≤ i.header.stands_for = omega (arith, falls, stands) in (
+      (
+        subst (λ n. AllByRecursion (λ m. nat_eq n m ≡ false) (rest ++ last.header.serial ∷ [])) (sym path.0)
+            (others places i (suc p.header.stands_for) (rest ++ last.header.serial ∷ []) order c le tail.1),
+        tail.0,
+      ),
+      (
+        (i, c, sym path.0, omega arith),
+        below_more places (suc p.header.stands_for) (suc i.header.stands_for) (rest ++ last.header.serial ∷ []) (omega (arith, le)) tail.1,
+      ),
+    )
+
+pub chain_once : (places : Places) (serial : ℕ) (list : List ℕ) → AreInOrder places → ParentsFall places → IsChain places serial list → IsDistinct nat_eq list
+unfolding IsDistinct
+chain_once places serial list order fall (inl none) = subst (IsDistinct nat_eq) (sym none.1) tt
+chain_once places serial list order fall (inr whole) =
+    subst (IsDistinct nat_eq) (sym whole.are) (path_once places whole.first whole.last whole.front order fall (member_of places serial whole.first whole.there) whole.path).0

@@ -25,12 +25,12 @@ use Rattle.sd_chain.proofs.TablePages.{IsHad, contains_at, contains_front, conta
 
 -- ---- a table has a page in one way
 
-kind_of : Way → RunKind
+pub kind_of : Way → RunKind
 kind_of (way.Data place) = Data
 kind_of way.Parent = Parent
 kind_of way.Zero = Zero
 
-among_kind : (spaces : List Listed) (page : ℕ × ℕ) (w : Way) → HasPage spaces page w → Contains (pages_of (kind_of w) spaces) page
+pub among_kind : (spaces : List Listed) (page : ℕ × ℕ) (w : Way) → HasPage spaces page w → Contains (pages_of (kind_of w) spaces) page
 unfolding kind_of
 among_kind spaces page (way.Data place) h = contains_at (pages_of Data spaces) place page h
 among_kind spaces page way.Parent h = h
@@ -65,7 +65,7 @@ exact_none spaces page answer is never w =
 
 -- ---- the space that has the page
 
-later_space : (h : Header) (before : ℕ) (spaces : List Listed) (s : Listed) → AreSpaces h before spaces → Contains spaces s → before < s.space
+pub later_space : (h : Header) (before : ℕ) (spaces : List Listed) (s : Listed) → AreSpaces h before spaces → Contains spaces s → before < s.space
 later_space h before [] s good c = absurd (omega (arith, c.1))
 later_space h before (x ∷ spaces) s good c = elim (contains_cons_cases x s spaces c) [
   | inl e ↦ subst (λ (y : Listed). before < y.space) (sym e) good.0.above
@@ -91,7 +91,7 @@ space_once h before (x ∷ spaces) a b good c d e = elim (contains_cons_cases x 
   ]
 ]
 
-runs_of : (h : Header) (before : ℕ) (spaces : List Listed) (s : Listed) → AreSpaces h before spaces → Contains spaces s → AreRuns h.parent None s.runs
+pub runs_of : (h : Header) (before : ℕ) (spaces : List Listed) (s : Listed) → AreSpaces h before spaces → Contains spaces s → AreRuns h.parent None s.runs
 runs_of h before [] s good c = absurd (omega (arith, c.1))
 runs_of h before (x ∷ spaces) s good c = elim (contains_cons_cases x s spaces c) [
   | inl e ↦ subst (λ (y : Listed). AreRuns h.parent None y.runs) (sym e) good.0.runs

@@ -5,3 +5,4 @@ pub mod Ways
 pub mod Store
 pub mod Laws
 pub mod Tells
+pub mod Passes

@@ -68,3 +68,14 @@ abbrev pub RemovedSlotIsUntold : Type 0
 RemovedSlotIsUntold = (old new : Places) (slot : ℕ) (all left : List Image) → catalog.AreInOrder old → catalog.AreInOrder new
     → ((serial : ℕ) → place_of new serial ≡ without_slot slot (place_of old serial)) → AreElsewhere old slot all left
     → Tells old all → Tells new left
+
+-- the images of a slot are told by some of these, and those of these that have its serials tell them
+pub record AreToldAt (old : Places) (slot : ℕ) (all : List Image) : Type 0 where
+  pub image : (i : Opened) → Contains (images old) i → i.slot ≡ slot → (image : Image) × Contains all image × IsToldAs i image
+  pub opened : (image : Image) (i : Opened) → Contains all image → place_of old image.header.serial ≡ Some (Some i) → i.slot ≡ slot → IsToldAs i image
+
+-- and where those that are left are told afterwards, all were before
+abbrev pub RemovedSlotWasTold : Type 0
+RemovedSlotWasTold = (old new : Places) (slot : ℕ) (all left : List Image) → catalog.AreInOrder old → catalog.AreInOrder new
+    → ((serial : ℕ) → place_of new serial ≡ without_slot slot (place_of old serial)) → AreElsewhere old slot all left → AreToldAt old slot all
+    → Tells new left → Tells old all

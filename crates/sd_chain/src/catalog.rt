@@ -1,5 +1,6 @@
 //! The catalog of a store's open images.
-ghost use Rattle.std.specs.Prelude.{◌≡◌, ◌≢◌, ◌⊎◌, ◌==◌, ◌<◌, ◌↔◌, ℕ, not, List, [], Option, None, Some, IsTrue, IsSome, IfOk, OnOk, OnErr, IsErrOf, IsOk, IsNone, IfSome, MatchOption, All, Contains, map};
+ghost use Rattle.std.specs.Prelude.{◌≡◌, ◌≢◌, ◌⊎◌, ◌==◌, ◌<◌, ◌↔◌, ℕ, not, List, [], Option, None, Some, IsTrue, IsSome, IfOk, OnOk, OnErr, IsErrOf, IsOk, IsNone, IfSome, MatchOption, All, Contains, map, nat_eq};
+ghost use Rattle.std.specs.List.{IsDistinct};
 ghost use Rattle.sd_image.specs.Image.{Image, OpenImages};
 ghost use Rattle.sd_chain.specs.declared.error.CatalogError.TheVariants.{DoubleSerial};
 ghost use Rattle.sd_chain.specs.declared.found.Found.{Found};
@@ -7,6 +8,7 @@ ghost use Rattle.sd_chain.specs.Reaches.{IsChain, ReachesSerial, ParentsFall};
 ghost use Rattle.sd_chain.specs.Store.{IsCatalogOf, IsInFile, FindsHeld, FindsNamed, FindsTip, HasTheImages};
 ghost use Rattle.sd_chain.specs.Ways.{AreImages, LiesBySerial, BreaksBySerial, IsAbsent, IsTraceOf, found_in};
 ghost use Rattle.sd_chain.specs.Catalog.{Opened, place_of, images, IsHeld, Changes, is_elsewhere, without_slot, Names, IsTip, IsRestored, IsGreatest, IsSound, serial_of, checkpoint_of};
+ghost use Rattle.sd_chain.specs.Passes.{IsNextPage};
 ghost use Rattle.sd_chain.specs.Tells.{Agrees, Tells};
 
 use crate::choice::{Places, greatest_checkpoint, greatest_serial, images_of, named_of, newest_of};
@@ -324,9 +326,23 @@ impl Catalog {
         self.trace(serial, space, page).found()
     }
 
-    /// The serials of the images that an image reaches, from the image on: its own, that of the image that its parent
-    /// number names, also where it has no page there, and what that one reaches. The list is empty where no image has
-    /// the serial.
+    /// The first page that the image of a serial lists behind a place, rising by space and page, or its first page where
+    /// no place is given. None where the image lists no more, or no image has the serial. It takes no memory, and no
+    /// walk over all runs.
+    pub fn next_page(
+        &self,
+        serial: u64,
+        after: Option<(SpaceId, PageNo)>,
+    ) -> Option<(SpaceId, PageNo)>
+        ensures { AreImages self.now → IsNextPage self.now serial after result }
+    {
+        self.sound();
+        self.image(serial)?.next_page(after)
+    }
+
+    /// The serials of the images that an image reaches, each once, from the image on: its own, that of the image that
+    /// its parent number names, also where it has no page there, and what that one reaches. The list is empty where no
+    /// image has the serial.
     ///
     /// # Errors
     ///
@@ -337,6 +353,7 @@ impl Catalog {
         // Each image is named by the parent number of the one before.
         ensures chain { ParentsFall self.now
             → IfOk result (λ list. IsChain self.now serial list.items) }
+        ensures once { ParentsFall self.now → IfOk result (λ list. IsDistinct nat_eq list.items) }
     {
         let mut reached = Vec::new(self.alloc);
         let mut next = self.image(serial);

@@ -2,8 +2,10 @@
 ghost use Rattle.std.specs.Prelude.{◌≡◌, ◌↔◌, Some, map};
 ghost use Rattle.sd_image.specs.Table.{listing_of, IsTable};
 ghost use Rattle.sd_chain.specs.declared.way.Way.{Way};
+ghost use Rattle.sd_chain.specs.Passes.{IsNextOrNone};
 ghost use Rattle.sd_chain.specs.Ways.{HasPage};
 
+use crate::passes::{first_from, place_behind};
 use crate::placed::PlacedTable;
 use crate::way::Way;
 use sd_areas::{PageNo, SpaceId};
@@ -66,5 +68,15 @@ impl OpenImage {
             → (way : Way) → (result ≡ Some way) ↔ HasPage self.now.spaces (space, page) way }
     {
         self.table.way(space, page)
+    }
+
+    /// The first page that the image lists behind a place, rising by space and page, or its first page where no place
+    /// is given. The time grows with the spaces, and with the logarithm of the runs of each.
+    pub fn next_page(&self, after: Option<(SpaceId, PageNo)>) -> Option<(SpaceId, PageNo)>
+        ensures { IsTable self.now.header self.now.spaces
+            → IsNextOrNone self.now.spaces after result }
+    {
+        let (space, page) = place_behind(after);
+        first_from(&self.table.table().spaces, space, page)
     }
 }

@@ -7,6 +7,7 @@ mod error;
 mod found;
 mod image;
 mod laws;
+mod passes;
 mod placed;
 mod trace;
 mod way;
@@ -17,7 +18,7 @@ pub use found::Found;
 pub use image::OpenImage;
 pub use laws::{
     added_image_is_told, closed_slot, empty_catalog, held_places_tell_nothing, open_slot,
-    removed_slot_is_untold,
+    removed_slot_is_untold, removed_slot_was_told,
 };
 pub use placed::PlacedTable;
 pub use trace::Trace;

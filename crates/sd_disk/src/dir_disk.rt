@@ -4,6 +4,7 @@ ghost use Rattle.sd_disk.specs.Events.{Outside};
 
 use crate::disk::Disk;
 use crate::error::DeviceError;
+use crate::file_fault::FileFault;
 use crate::folder::{self, FOLDER_SLOTS, Folder, FolderLog};
 
 /// A disk over the slots' files in a folder. A file that is missing has length 0, and a write to it fails.
@@ -32,6 +33,11 @@ impl DirDisk {
             folder,
             log: FolderLog::new(),
         }
+    }
+
+    /// What the system answered to the last call that failed, if one did.
+    pub fn fault(&self) -> Option<FileFault> {
+        self.log.fault()
     }
 }
 

@@ -6,8 +6,10 @@ ghost use Rattle.sd_disk.specs.declared.folder.TheConstants.{FOLDER_SLOTS};
 
 use crate::call::Call;
 use crate::call_log::CallLog;
+use crate::file_fault::FileFault;
+use crate::file_limit::FileLimit;
 use crate::open_error::OpenError;
-use std::fs::{File, OpenOptions};
+use std::fs::{File, OpenOptions, TryLockError};
 use std::os::unix::fs::FileExt;
 use std::rt::Files;
 use std::{fs, io};
@@ -21,6 +23,7 @@ pub const FOLDER_SLOTS: usize = 64;
 pub struct Folder {
     images: Vec<Option<File>>,
     lock: Option<File>,
+    limit: FileLimit,
     ghost count: { length images.items ≡ FOLDER_SLOTS },
 }
 
@@ -38,19 +41,24 @@ impl Folder {
     ) -> Result<Folder, OpenError>
         ensures { IfOk result (λ folder. folder_slots folder ≡ FOLDER_SLOTS) }
     {
-        let lock = prepare(rt, path, make).map_err(|_| OpenError::Folder)?;
+        let lock = prepare(rt, path, make).map_err(of_folder)?;
         let mut images = Vec::with_capacity(rt.alloc(), FOLDER_SLOTS)?;
         for slot in 0..FOLDER_SLOTS {
             let name = format!(in rt.alloc(); "{path}/img-{slot:03}").map_err(
                 |_| OpenError::OutOfMemory,
             )?;
-            let image = open_image(rt, name.as_str(), make).map_err(|_| OpenError::Folder)?;
+            let image = open_image(rt, name.as_str(), make).map_err(|error| of_slot(slot, error))?;
             images.push(image)?;
         }
         if make {
-            sync_folder(rt, path).map_err(|_| OpenError::Folder)?;
+            sync_folder(rt, path).map_err(of_folder)?;
         }
-        Ok(Folder { images, lock })
+        let limit = FileLimit::of_process(rt);
+        Ok(Folder {
+            images,
+            lock,
+            limit,
+        })
     }
 
     pub(crate) fn slots(&self) -> usize
@@ -66,6 +74,14 @@ impl Folder {
     {
         &self.images[slot]
     }
+}
+
+fn of_folder(error: io::Error) -> OpenError {
+    OpenError::Folder(FileFault::of_folder(error))
+}
+
+fn of_slot(slot: usize, error: io::Error) -> OpenError {
+    OpenError::Folder(FileFault::of_slot(slot, error))
 }
 
 /// Makes the folder and locks it, or sees that it is there.
@@ -87,7 +103,11 @@ fn lock_folder(rt: &impl Files<File = File>, folder: &str) -> io::Result<File> {
     let lock = File::open(rt, folder)?;
     match lock.try_lock() {
         Ok(()) => Ok(lock),
-        Err(_) => Err(io::ErrorKind::WouldBlock.into()),
+        Err(TryLockError::WouldBlock) => Err(io::Error::new(
+            io::ErrorKind::WouldBlock,
+            "another run has this store open",
+        )),
+        Err(TryLockError::Error(error)) => Err(error),
     }
 }
 
@@ -126,12 +146,33 @@ fn open_found(rt: &impl Files<File = File>, path: &str, write: bool) -> io::Resu
 #[derive(Drop)]
 pub(crate) struct Made {
     call: Call,
+    fault: Option<FileFault>,
+}
+
+impl Made {
+    ghost use Rattle.std.specs.Prelude.{◌≡◌};
+
+    fn done(call: Call) -> Made
+        ensures { result.call ≡ call }
+    {
+        Made { call, fault: None }
+    }
+
+    fn failed(call: Call, slot: usize, error: io::Error) -> Made
+        ensures { result.call ≡ call }
+    {
+        Made {
+            call,
+            fault: Some(FileFault::of_slot(slot, error)),
+        }
+    }
 }
 
 /// The record of the calls on a folder. It takes calls that were made, and no others.
 #[derive(Drop)]
 pub(crate) struct FolderLog {
     log: CallLog,
+    fault: Option<FileFault>,
 }
 
 impl FolderLog {
@@ -142,7 +183,13 @@ impl FolderLog {
     {
         FolderLog {
             log: CallLog::new(),
+            fault: None,
         }
+    }
+
+    /// What the system answered to the last call that failed, if one did.
+    pub(crate) fn fault(&self) -> Option<FileFault> {
+        self.fault
     }
 
     /// The number of failed calls, as far as 64 bits hold it.
@@ -158,6 +205,9 @@ impl FolderLog {
         ensures events { self.new.log.trace.events
             ≡ (made.call, bytes.now) ∷ self.old.log.trace.events }
     {
+        if made.fault.is_some() {
+            self.fault = made.fault;
+        }
         self.log.note(&made.call, bytes);
     }
 }
@@ -169,13 +219,8 @@ pub(crate) fn len(folder: &Folder, slot: usize) -> Result<(usize, Made), Made>
         (λ made. made.call ≡ Failed) }
 {
     match len_of(folder.image(slot)) {
-        Ok(len) => Ok((
-            len,
-            Made {
-                call: Call::Measured { slot, len },
-            },
-        )),
-        Err(_) => Err(Made { call: Call::Failed }),
+        Ok(len) => Ok((len, Made::done(Call::Measured { slot, len }))),
+        Err(error) => Err(Made::failed(Call::Failed, slot, error)),
     }
 }
 
@@ -185,10 +230,8 @@ pub(crate) fn read(folder: &Folder, slot: usize, at: usize, buffer: &mut [u8]) -
     ensures { MatchResult result (λ made. made.call ≡ Read slot at) (λ made. made.call ≡ Failed) }
 {
     match read_from(folder.image(slot), at, buffer) {
-        Ok(()) => Ok(Made {
-            call: Call::Read { slot, at },
-        }),
-        Err(_) => Err(Made { call: Call::Failed }),
+        Ok(()) => Ok(Made::done(Call::Read { slot, at })),
+        Err(error) => Err(Made::failed(Call::Failed, slot, error)),
     }
 }
 
@@ -198,13 +241,12 @@ pub(crate) fn write(folder: &Folder, slot: usize, at: usize, bytes: &[u8]) -> Re
     ensures { MatchResult result (λ made. made.call ≡ Written slot at)
         (λ made. made.call ≡ WriteFailed slot at) }
 {
-    match write_to(folder.image(slot), at, bytes) {
-        Ok(()) => Ok(Made {
-            call: Call::Written { slot, at },
-        }),
-        Err(_) => Err(Made {
-            call: Call::WriteFailed { slot, at },
-        }),
+    match write_to(folder.image(slot), folder.limit, at, bytes) {
+        Ok(()) => Ok(Made::done(Call::Written { slot, at })),
+        Err(error) => {
+            let call = Call::WriteFailed { slot, at };
+            Err(Made::failed(call, slot, error))
+        }
     }
 }
 
@@ -215,12 +257,8 @@ pub(crate) fn cut(folder: &Folder, slot: usize, len: usize) -> Result<Made, Made
         (λ made. made.call ≡ CutFailed slot len) }
 {
     match cut_to(folder.image(slot), len) {
-        Ok(()) => Ok(Made {
-            call: Call::Cut { slot, len },
-        }),
-        Err(_) => Err(Made {
-            call: Call::CutFailed { slot, len },
-        }),
+        Ok(()) => Ok(Made::done(Call::Cut { slot, len })),
+        Err(error) => Err(Made::failed(Call::CutFailed { slot, len }, slot, error)),
     }
 }
 
@@ -230,10 +268,8 @@ pub(crate) fn sync(folder: &Folder, slot: usize) -> Result<Made, Made>
     ensures { MatchResult result (λ made. made.call ≡ Synced slot) (λ made. made.call ≡ Failed) }
 {
     match sync_of(folder.image(slot)) {
-        Ok(()) => Ok(Made {
-            call: Call::Synced { slot },
-        }),
-        Err(_) => Err(Made { call: Call::Failed }),
+        Ok(()) => Ok(Made::done(Call::Synced { slot })),
+        Err(error) => Err(Made::failed(Call::Failed, slot, error)),
     }
 }
 
@@ -252,7 +288,8 @@ fn read_from(image: &Option<File>, at: usize, buffer: &mut [u8]) -> io::Result<(
     }
 }
 
-fn write_to(image: &Option<File>, at: usize, bytes: &[u8]) -> io::Result<()> {
+fn write_to(image: &Option<File>, limit: FileLimit, at: usize, bytes: &[u8]) -> io::Result<()> {
+    limit.allow(at, bytes.len())?;
     present(image)?.write_all_at(bytes, at as u64)
 }
 

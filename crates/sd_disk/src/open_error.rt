@@ -1,11 +1,13 @@
+use crate::file_fault::FileFault;
 use std::alloc::{AllocError, AllocFailed};
 use thiserror::Error;
 
 /// Why a folder's disk was not opened.
-#[derive(Clone, Copy, Debug, PartialEq, Eq, Error)]
+#[derive(Clone, Copy, Debug, Error)]
 pub enum OpenError {
+    /// The folder or one of its files, and what the system answered.
     #[error("cannot open DIR")]
-    Folder,
+    Folder(FileFault),
     #[error("out-of-memory")]
     OutOfMemory,
 }

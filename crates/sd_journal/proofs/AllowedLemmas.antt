@@ -1,5 +1,5 @@
 -- What each entry makes of what a journal allows.
-use Rattle.std.proofs.Common.{◌≡◌, ◌≢◌, ◌⊎◌, ◌↔◌, ℕ, ◌<◌, ◌==◌, Bool, true, false, cond, [], ◌∷◌, Option, Some, None, refl, sym, ◌∙◌, ap, subst, inl, inr}
+use Rattle.std.proofs.Common.{◌≡◌, ◌≢◌, ◌⊎◌, ◌↔◌, ℕ, ◌∷◌, Option, Some, None, refl, sym, ◌∙◌, ap, subst, inl, inr}
 use Rattle.sd_areas.specs.PlainMemory.{PlainMemory}
 use Rattle.sd_command.specs.declared.command.Command.{Command}
 use Rattle.sd_command.specs.declared.reply.Reply.{Reply}
@@ -7,7 +7,7 @@ use Rattle.sd_journal.specs.declared.entry.Entry.TheVariants.{Applied, Freeze, A
 use Rattle.sd_journal.specs.History.{Base, History, memory_after, at_freeze, last, pending, unless_it_is}
 use Rattle.sd_journal.specs.Legal.{IsAbove, IsLegal}
 use Rattle.sd_journal.specs.Allowed.{Shown, shown_number, IsLastPair, IsPendingPair, IsAllowed}
-use Rattle.sd_journal.proofs.HistoryLemmas.{same, some_is, none_is_some, unless_some, at_freeze-other, at_freeze-own, last_below, pending_below}
+use Rattle.sd_journal.proofs.HistoryLemmas.{same, some_is, none_is_some, unless_some, at_freeze-other, at_freeze-own, last_below}
 
 pub applied_allows : (base : Base) (history : History) (seat : ℕ) (command : Command) (reply : Reply) (shown : Shown)
     → IsAllowed base (Applied seat command reply ∷ history) shown ↔ IsAllowed base history shown

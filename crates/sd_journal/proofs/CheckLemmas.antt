@@ -1,5 +1,5 @@
 -- Receipts, one after the other.
-use Rattle.std.proofs.Common.{◌≡◌, ◌≢◌, ◌⊎◌, ◌+◌, ◌<◌, ◌≤◌, ◌++◌, ℕ, zero, suc, List, [], ◌∷◌, length, take, replicate, get_or, Option, Some, None, slice_get, refl, sym, ◌∙◌, ap, subst, arith, inl, inr, length-set}
+use Rattle.std.proofs.Common.{◌≡◌, ◌⊎◌, ◌+◌, ◌<◌, ◌≤◌, ◌++◌, ℕ, zero, suc, List, [], ◌∷◌, length, take, replicate, get_or, Option, Some, None, slice_get, refl, sym, ◌∙◌, ap, subst, arith, inl, inr, length-set}
 use Rattle.std.proofs.Math.ListN.{set}
 use Rattle.std.proofs.lemmas.Bool.{cases_eq}
 use Rattle.std.proofs.lemmas.List.{take_more, take_all, length-take-le, length-replicate}
@@ -8,7 +8,7 @@ use Rattle.sd_journal.specs.declared.close_fault.CloseFault.{CloseFault}
 use Rattle.sd_journal.specs.declared.close_fault.CloseFault.TheVariants.{NotThere, Differs, OutOfOrder, Count, Acks}
 use Rattle.sd_journal.specs.declared.entry.Entry.{Entry}
 use Rattle.sd_journal.specs.declared.receipt.Receipt.{Receipt}
-use Rattle.sd_journal.specs.Receipts.{Accounts, AllStand, AreLast, AreRising, HasCommand, IsFault, IsFaultAfter, IsFaultAt, SeatsFit, Stands}
+use Rattle.sd_journal.specs.Receipts.{Accounts, AllStand, AreLast, AreRising, HasCommand, IsFault, IsFaultAfter, SeatsFit, Stands}
 use Rattle.sd_journal.proofs.HistoryLemmas.{none_is_some, some_is}
 
 module _ {X : Type 0} where

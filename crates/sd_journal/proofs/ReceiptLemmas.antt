@@ -1,15 +1,12 @@
 -- Entries by their numbers, and receipts so far.
-use Rattle.std.proofs.Common.{◌≡◌, ◌+◌, ◌<◌, ◌≤◌, ◌++◌, ℕ, Bool, true, false, List, [], ◌∷◌, length, take, drop, get_or, Option, Some, None, slice_get, IsTrue, refl, sym, ◌∙◌, ap, subst, arith, append_assoc, take-append-drop, append-nil, length-append}
+use Rattle.std.proofs.Common.{◌≡◌, ◌+◌, ◌<◌, ◌≤◌, ◌++◌, ℕ, true, false, List, [], ◌∷◌, length, take, drop, get_or, Some, None, slice_get, IsTrue, refl, sym, ◌∙◌, ap, arith, append_assoc, take-append-drop, append-nil, length-append}
 use Rattle.std.specs.List.{filter_map}
 use Rattle.std.proofs.lemmas.List.{take_more, length-take-le}
 use Rattle.std.proofs.Math.Seq.{get_or-append_seam}
 use Rattle.std.proofs.lemmas.List.Elements.{filter_map-append}
-use Rattle.sd_command.specs.declared.command.Command.{Command}
-use Rattle.sd_command.specs.declared.reply.Reply.{Reply}
 use Rattle.sd_journal.specs.declared.entry.Entry.{Entry}
 use Rattle.sd_journal.specs.declared.entry.Entry.TheVariants.{Applied, Freeze, Acked, Cancelled, Reopened}
-use Rattle.sd_journal.specs.declared.receipt.Receipt.{Receipt}
-use Rattle.sd_journal.specs.Receipts.{AreLast, HasCommand, IsAt, Stands, acked_number, acked_numbers, is_command}
+use Rattle.sd_journal.specs.Receipts.{HasCommand, IsAt, acked_number, acked_numbers, is_command}
 
 some_is : {A : Type 0} (a b : A) → Some a ≡ Some b → a ≡ b
 some_is a b e = cc

@@ -1,6 +1,10 @@
 pub mod Allowed
 pub mod History
+pub mod Kept
+pub mod KeptInside
 pub mod Laws
 pub mod Legal
+pub mod Marked
 pub mod Receipts
+pub mod TrackedLaws
 pub mod Worked

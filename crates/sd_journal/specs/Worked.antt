@@ -1,5 +1,5 @@
 -- Journals of two checkpoints, one entry after the other: `one` and `other` are commands, each with its reply.
-use Rattle.std.specs.Prelude.{ℕ, [], ◌∷◌, Some, None}
+use Rattle.std.specs.Prelude.{[], ◌∷◌, Some, None}
 use Rattle.std.specs.FinMap as finmap
 use Rattle.sd_areas.specs.PlainMemory.{PlainMemory}
 use Rattle.sd_command.specs.declared.command.Command.{Command}

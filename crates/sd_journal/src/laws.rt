@@ -1,10 +1,29 @@
 //! Laws of journals, each the contract of a function that does nothing.
 ghost use Rattle.sd_journal.specs.Laws.{JournalLaws};
+ghost use Rattle.sd_journal.specs.TrackedLaws.{TrackedLaws, DueLaws};
 ghost use Rattle.sd_journal.specs.Worked.{WorkedJournals};
+
+use sd_command::effect_law as command_law;
+use sd_pagetable::{effect_law, plain_law, tracks_law};
 
 /// What each entry of a legal journal makes of what it allows to be shown.
 pub fn journal_laws()
     ensures { JournalLaws }
+{}
+
+/// A memory stays tracked by its marked journal, with one item more of each kind.
+pub fn tracked_laws()
+    ensures { TrackedLaws }
+{
+    command_law();
+    effect_law();
+    plain_law();
+    tracks_law();
+}
+
+/// Which pages a dump finds soft-dirty: those that were touched since their last visit, or never visited.
+pub fn due_laws()
+    ensures { DueLaws }
 {}
 
 /// Journals of two checkpoints, worked out one entry after the other.

@@ -3,14 +3,20 @@
 
 mod close_fault;
 mod entry;
+mod journal;
 mod laws;
 mod mark;
+mod placed_mark;
+mod plain_memory;
+mod plain_pages;
 mod receipt;
 mod receipts;
 
 pub use close_fault::CloseFault;
 pub use entry::Entry;
-pub use laws::{journal_laws, worked_journals};
+pub use journal::{ENTRY_LIMIT, Journal};
+pub use laws::{due_laws, journal_laws, tracked_laws, worked_journals};
 pub use mark::Mark;
+pub use plain_memory::replay;
 pub use receipt::Receipt;
 pub use receipts::{SEAT_LIMIT, check_receipts};

@@ -6,3 +6,5 @@ pub mod MappedLemmas
 pub mod PlacedLemmas
 pub mod MemoryLemmas
 pub mod ShowLemmas
+mod CallLemmas
+mod FitsLemmas

@@ -3,3 +3,5 @@ pub mod Faulty
 pub mod Scanned
 pub mod Reading
 pub mod Placed
+pub mod Calls
+pub mod Fits

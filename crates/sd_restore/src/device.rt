@@ -13,6 +13,7 @@ pub fn file_len<D: Disk>(disk: &mut D, slot: usize) -> Result<usize, DeviceError
         → IfOk result (λ n. n ≡ length (file_at (D.contents disk.old) slot)) }
     ensures reads { OnlyReads D.Disk disk.old disk.new }
     ensures cause { HasCause (D.failed disk.old) (D.failed disk.new) result }
+    ensures counted { D.calls disk.new ≡ D.calls disk.old + 1 }
 {
     disk.len(slot)
 }
@@ -30,6 +31,7 @@ pub fn read_file<D: Disk>(
         ≡ slice_range (file_at (D.contents disk.old) slot) at (at + length buffer.old)) }
     ensures reads { OnlyReads D.Disk disk.old disk.new }
     ensures cause { HasCause (D.failed disk.old) (D.failed disk.new) result }
+    ensures counted { D.calls disk.new ≡ D.calls disk.old + 1 }
 {
     disk.read(slot, at, buffer)
 }

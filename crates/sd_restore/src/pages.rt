@@ -1,5 +1,5 @@
 //! Reading the pages of a memory.
-ghost use Rattle.std.specs.Prelude.{◌≡◌, ◌≢◌, ◌<◌, ◌≤◌, length, All, IsTrue, IfOk, IfErr, OnOk, IsErrOf};
+ghost use Rattle.std.specs.Prelude.{◌≡◌, ◌≢◌, ◌+◌, ◌<◌, ◌≤◌, length, All, IsTrue, IfOk, IfErr, OnOk, IsErrOf};
 ghost use Rattle.std.specs.FinMap as finmap;
 ghost use Rattle.sd_areas.specs.Memory.{memory_of};
 ghost use Rattle.sd_disk.specs.Reads.{OnlyReads};
@@ -40,6 +40,8 @@ fn read_page<D: Disk>(
     ensures unnamed { IfErr result (Names (λ _ _. ⊥)) }
     ensures reads { OnlyReads D.Disk disk.old disk.new }
     ensures device { IsErrOf result Fault.Device → D.failed disk.old < D.failed disk.new }
+    ensures stops { D.failed disk.old < D.failed disk.new → IsErrOf result Fault.Device }
+    ensures calls { D.calls disk.new ≤ D.calls disk.old + 1 }
     ensures empty { result ≢ Err Fault.EmptyChain }
 {
     let mut bytes = Box::new(alloc, [0; PAGE_SIZE])?;
@@ -66,6 +68,8 @@ pub fn read_pages<D: Disk>(
     ensures unnamed { IfErr result (Names (λ _ _. ⊥)) }
     ensures reads { OnlyReads D.Disk disk.old disk.new }
     ensures device { IsErrOf result Fault.Device → D.failed disk.old < D.failed disk.new }
+    ensures stops { D.failed disk.old < D.failed disk.new → IsErrOf result Fault.Device }
+    ensures calls { D.calls disk.new ≤ D.calls disk.old + length pages.now }
     ensures empty { result ≢ Err Fault.EmptyChain }
 {
     for placed in pages {

@@ -1,5 +1,5 @@
 //! Reading a store back.
-ghost use Rattle.std.specs.Prelude.{◌≡◌, ◌≢◌, ◌⊎◌, ◌<◌, ℕ, Option, Some, None, All, length, IfOk, IfErr, IsErrOf};
+ghost use Rattle.std.specs.Prelude.{◌≡◌, ◌≢◌, ◌⊎◌, ◌+◌, ◌<◌, ◌≤◌, ℕ, Option, Some, None, All, length, IfOk, IfErr, IsErrOf};
 ghost use Rattle.sd_areas.specs.Memory.{memory_of};
 ghost use Rattle.sd_areas.specs.PlainMemory.{PlainMemory};
 ghost use Rattle.sd_disk.specs.Reads.{OnlyReads};
@@ -7,6 +7,7 @@ ghost use Rattle.sd_image.specs.Shows.{Shows};
 ghost use Rattle.sd_chain.specs.Catalog.{images};
 ghost use Rattle.sd_chain.specs.Store.{IsCatalogOf};
 ghost use Rattle.sd_chain.specs.Ways.{AreImages};
+ghost use Rattle.sd_restore.specs.Calls.{HasPagesWithin, scan_calls};
 ghost use Rattle.sd_restore.specs.Faulty.{Names, IsDamage, IsBrokenChain};
 
 use crate::chain::place_pages;
@@ -50,6 +51,11 @@ pub fn restore_from<D: Disk>(
         → Shows (D.contents disk.old) (Some moment) → result ≢ Err Fault.EmptyChain }
     ensures reads { OnlyReads D.Disk disk.old disk.new }
     ensures device { IsErrOf result Fault.Device → D.failed disk.old < D.failed disk.new }
+    // A failed call ends it, and each page is read at most once.
+    ensures stops { D.failed disk.old < D.failed disk.new → IsErrOf result Fault.Device }
+    ensures calls { (count : ℕ) → IsCatalogOf (D.contents disk.old) catalog.now
+        → HasPagesWithin (D.contents disk.old) count
+        → D.calls disk.new ≤ D.calls disk.old + count }
 {
     one_store();
     shown_once();
@@ -93,6 +99,11 @@ pub fn restore<D: Disk>(alloc: Global, disk: &mut D) -> Result<Snapshot, Fault>
     // It only reads: the contents stay, and no crash, afterwards or within it, leaves more than one before it.
     ensures reads { OnlyReads D.Disk disk.old disk.new }
     ensures device { IsErrOf result Fault.Device → D.failed disk.old < D.failed disk.new }
+    // A failed call ends it, and no call is made twice.
+    ensures stops { D.failed disk.old < D.failed disk.new → IsErrOf result Fault.Device }
+    ensures calls { D.is_honest disk.new → (count : ℕ)
+        → HasPagesWithin (D.contents disk.old) count
+        → D.calls disk.new ≤ D.calls disk.old + scan_calls (D.contents disk.old) + count }
 {
     let catalog = scan(alloc, disk)?;
     restore_from(alloc, disk, &catalog)

@@ -5,6 +5,7 @@ ghost use Rattle.sd_disk.specs.Reads.{OnlyReads};
 ghost use Rattle.sd_disk.specs.Failures.{HasCause};
 ghost use Rattle.sd_image.specs.Header.{header_text, IsHeader};
 ghost use Rattle.sd_image.specs.Reading.{header_in};
+ghost use Rattle.sd_restore.specs.Calls.{calls_for};
 ghost use Rattle.sd_restore.specs.Faulty.{Names, IsFaulty};
 ghost use Rattle.sd_restore.specs.Reading.{IsReading, IsSound, table_bytes};
 
@@ -23,6 +24,7 @@ fn read_first<D: Disk>(disk: &mut D, slot: usize) -> Result<[u8; HEADER_SIZE], D
         → IfOk result (λ bytes. bytes ≡ slice_range (file_at (D.contents disk.old) slot) 0 4096) }
     ensures reads { OnlyReads D.Disk disk.old disk.new }
     ensures cause { HasCause (D.failed disk.old) (D.failed disk.new) result }
+    ensures counted { D.calls disk.new ≡ D.calls disk.old + 1 }
 {
     let mut bytes = [0; HEADER_SIZE];
     read_file(disk, slot, 0, &mut bytes)?;
@@ -58,6 +60,8 @@ fn read_table<D: Disk>(
     ensures unnamed { IfErr result (Names (λ _ _. ⊥)) }
     ensures reads { OnlyReads D.Disk disk.old disk.new }
     ensures device { IsErrOf result Fault.Device → D.failed disk.old < D.failed disk.new }
+    ensures stops { D.failed disk.old < D.failed disk.new → IsErrOf result Fault.Device }
+    ensures calls { D.calls disk.new ≤ D.calls disk.old + 1 }
     ensures empty { result ≢ Err Fault.EmptyChain }
 {
     let mut bytes = vec![in alloc; 0u8; header.table_len as usize]?;
@@ -81,6 +85,9 @@ pub fn read_slot<D: Disk>(
         (λ s reason. (s ≡ slot) × IsFaulty (file_at (D.contents disk.old) slot) reason)) }
     ensures reads { OnlyReads D.Disk disk.old disk.new }
     ensures device { IsErrOf result Fault.Device → D.failed disk.old < D.failed disk.new }
+    ensures stops { D.failed disk.old < D.failed disk.new → IsErrOf result Fault.Device }
+    ensures calls { D.is_honest disk.new → D.calls disk.new
+        ≤ D.calls disk.old + calls_for (file_at (D.contents disk.old) slot) }
     ensures empty { result ≢ Err Fault.EmptyChain }
 {
     let len = file_len(disk, slot)?;

@@ -7,6 +7,7 @@ ghost use Rattle.sd_image.specs.Shows.{IsStore};
 ghost use Rattle.sd_chain.specs.Catalog.{IsHeld, images};
 ghost use Rattle.sd_chain.specs.Store.{IsCatalogOf};
 ghost use Rattle.sd_chain.specs.Ways.{AreImages};
+ghost use Rattle.sd_restore.specs.Calls.{calls_for, scan_calls};
 ghost use Rattle.sd_restore.specs.Faulty.{Names, IsFaulty, IsFirstFaulty, IsDamage};
 ghost use Rattle.sd_restore.specs.Scanned.{AreRead, IsScanned};
 
@@ -39,6 +40,9 @@ fn scan_slot<D: Disk>(
         (λ s reason. (s ≡ slot) × IsFaulty (file_at (D.contents disk.old) slot) reason)) }
     ensures reads { OnlyReads D.Disk disk.old disk.new }
     ensures device { IsErrOf result Fault.Device → D.failed disk.old < D.failed disk.new }
+    ensures stops { D.failed disk.old < D.failed disk.new → IsErrOf result Fault.Device }
+    ensures calls { D.is_honest disk.new → D.calls disk.new
+        ≤ D.calls disk.old + calls_for (file_at (D.contents disk.old) slot) }
     ensures empty { result ≢ Err Fault.EmptyChain }
 {
     let opened = read_slot(alloc, disk, slot)?;
@@ -55,6 +59,9 @@ fn scan_slots<D: Disk>(alloc: Global, disk: &mut D) -> Result<Scanned, Fault>
         → IfErr result (Names (IsFirstFaulty (D.contents disk.old))) }
     ensures reads { OnlyReads D.Disk disk.old disk.new }
     ensures device { IsErrOf result Fault.Device → D.failed disk.old < D.failed disk.new }
+    ensures stops { D.failed disk.old < D.failed disk.new → IsErrOf result Fault.Device }
+    ensures calls { D.is_honest disk.new
+        → D.calls disk.new ≤ D.calls disk.old + scan_calls (D.contents disk.old) }
     ensures empty { result ≢ Err Fault.EmptyChain }
 {
     let mut scanned = Scanned::new(alloc);
@@ -78,6 +85,9 @@ pub fn scan_store<D: Disk>(alloc: Global, disk: &mut D) -> Result<Scanned, Fault
         → IsStore (D.contents disk.old) images → IfErr result (Names (λ _ _. ⊥)) }
     ensures reads { OnlyReads D.Disk disk.old disk.new }
     ensures device { IsErrOf result Fault.Device → D.failed disk.old < D.failed disk.new }
+    ensures stops { D.failed disk.old < D.failed disk.new → IsErrOf result Fault.Device }
+    ensures calls { D.is_honest disk.new
+        → D.calls disk.new ≤ D.calls disk.old + scan_calls (D.contents disk.old) }
     ensures empty { result ≢ Err Fault.EmptyChain }
 {
     good_store_has_no_reason();
@@ -111,6 +121,10 @@ pub fn scan<D: Disk>(alloc: Global, disk: &mut D) -> Result<Catalog, Fault>
     // It only reads: the contents stay, and no crash, afterwards or within it, leaves more than one before it.
     ensures reads { OnlyReads D.Disk disk.old disk.new }
     ensures device { IsErrOf result Fault.Device → D.failed disk.old < D.failed disk.new }
+    // A failed call ends it, and no call is made twice.
+    ensures stops { D.failed disk.old < D.failed disk.new → IsErrOf result Fault.Device }
+    ensures calls { D.is_honest disk.new
+        → D.calls disk.new ≤ D.calls disk.old + scan_calls (D.contents disk.old) }
     ensures empty { result ≢ Err Fault.EmptyChain }
 {
     let scanned = scan_store(alloc, disk)?;

@@ -1,5 +1,5 @@
 //! Telling whether a store is in order.
-ghost use Rattle.std.specs.Prelude.{◌≡◌, ◌≢◌, ◌⊎◌, ◌<◌, ◌≤◌, ℕ, List, Option, length, filter, IfOk, IfErr, IsErrOf};
+ghost use Rattle.std.specs.Prelude.{◌≡◌, ◌≢◌, ◌⊎◌, ◌+◌, ◌<◌, ◌≤◌, ℕ, List, Option, length, filter, IfOk, IfErr, IsErrOf};
 ghost use Rattle.std.specs.Option.{option_map};
 ghost use Rattle.sd_areas.specs.PlainMemory.{PlainMemory};
 ghost use Rattle.sd_disk.specs.Reads.{OnlyReads};
@@ -7,6 +7,7 @@ ghost use Rattle.sd_image.specs.Image.{is_open};
 ghost use Rattle.sd_image.specs.Shows.{Shows};
 ghost use Rattle.sd_chain.specs.Store.{IsCatalogOf};
 ghost use Rattle.sd_chain.specs.Ways.{AreImages};
+ghost use Rattle.sd_restore.specs.Calls.{scan_calls};
 ghost use Rattle.sd_restore.specs.Faulty.{Names, IsDamage, IsBrokenChain};
 
 use crate::chain::place_pages;
@@ -84,6 +85,10 @@ pub fn verify<D: Disk>(alloc: Global, disk: &mut D) -> Result<Report, Fault>
     // It only reads: the contents stay, and no crash, afterwards or within it, leaves more than one before it.
     ensures reads { OnlyReads D.Disk disk.old disk.new }
     ensures device { IsErrOf result Fault.Device → D.failed disk.old < D.failed disk.new }
+    // A failed call ends it, and no call is made twice.
+    ensures stops { D.failed disk.old < D.failed disk.new → IsErrOf result Fault.Device }
+    ensures calls { D.is_honest disk.new
+        → D.calls disk.new ≤ D.calls disk.old + scan_calls (D.contents disk.old) }
 {
     let Scanned {
         catalog,

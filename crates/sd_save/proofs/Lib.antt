@@ -13,3 +13,4 @@ pub mod SpaceDumps
 pub mod TakeLemmas
 pub mod TextLemmas
 pub mod WriteLemmas
+mod ZeroLemmas

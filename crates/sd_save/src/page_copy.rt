@@ -7,11 +7,14 @@ ghost use Rattle.sd_save.specs.Pages.{bytes_at, is_data, IsWholePage};
 use sd_areas::{PageNo, SpaceId};
 use sd_pagetable::{Memory, SECTOR_SIZE, SECTORS, plain_law};
 
-/// Whether bytes are zeros alone.
-fn is_zero(bytes: &[u8]) -> bool
+/// A sector of zeros, which is compared with others many bytes at a time.
+static ZEROS: [u8; SECTOR_SIZE] = [0; SECTOR_SIZE];
+
+/// Whether a sector has zeros alone.
+fn is_zero(bytes: &[u8; SECTOR_SIZE]) -> bool
     ensures { result ≡ list_all (λ byte. byte == 0) bytes.now }
 {
-    bytes.iter().all(|byte| *byte == 0)
+    bytes.as_slice() == ZEROS.as_slice()
 }
 
 /// Whether a page has zeros alone, or isn't mapped.

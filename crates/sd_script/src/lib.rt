@@ -4,10 +4,14 @@
 mod answer;
 mod line;
 mod line_error;
+mod line_fault;
 mod script;
 mod script_error;
+mod unfit;
 
 pub use answer::Answer;
 pub use line::Line;
+pub use line_fault::{FieldKind, LineFault};
 pub use script::Script;
 pub use script_error::ScriptError;
+pub use unfit::unfit_line;

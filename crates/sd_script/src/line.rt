@@ -198,7 +198,7 @@ fn checkpoint(arguments: &[&str]) -> Option<Line>
 }
 
 /// A number below 2^64, decimal or `0x` and hexadecimal digits in either case, with leading zeros or without.
-fn number(text: &str) -> Option<u64>
+pub(crate) fn number(text: &str) -> Option<u64>
     ensures { result ≡ number_of text.now }
 {
     match text.strip_prefix("0x") {
@@ -220,7 +220,7 @@ fn numeral(digits: &str, radix: u32) -> Option<u64>
 }
 
 /// `none`, or some of the letters r, w, x in this order.
-fn permissions(text: &str) -> Option<Prot>
+pub(crate) fn permissions(text: &str) -> Option<Prot>
     ensures { result ≡ prot_of text.now }
 {
     let (read, write, execute) = match text {
@@ -242,7 +242,7 @@ fn permissions(text: &str) -> Option<Prot>
 }
 
 /// An even number of hexadecimal digits, at least 2, as bytes.
-fn hex_bytes(alloc: Global, text: &str) -> Result<Vec<u8>, LineError>
+pub(crate) fn hex_bytes(alloc: Global, text: &str) -> Result<Vec<u8>, LineError>
     ensures { GivesBytes result (hex_of text.now) }
 {
     if text.is_empty() {

@@ -1,10 +1,10 @@
 //! The calls of each disk.
 
 use crate::builders::{flush, fresh, holds, open, put, shorten, synced};
-use sd_disk::{DeviceError, Disk, Folder, Fused, MemDisk, OpenError};
-use std::fs;
+use sd_disk::{DeviceError, Disk, FileFault, Folder, Fused, MemDisk, OpenError};
 use std::process::Abort;
 use std::test::Fail;
+use std::{fs, io};
 
 /// Each call, with a write past the end and one over the end.
 fn exercise<D: Disk>(rt: &(impl Abort + AllocGlobal), disk: &mut D) -> Result<(), Fail> {
@@ -78,7 +78,7 @@ fn a_missing_file_is_empty(rt: HostRuntime) -> Result<(), Fail> {
     assert!(rt;
         matches!(
             Folder::open(&rt, path.as_str(), false),
-            Err(OpenError::Folder)
+            Err(OpenError::Folder(_))
         )
     );
     fs::create_dir(&rt, path.as_str())?;
@@ -102,7 +102,7 @@ fn a_folder_in_place_of_a_file_is_not_opened(rt: HostRuntime) -> Result<(), Fail
     assert!(rt;
         matches!(
             Folder::open(&rt, path.as_str(), true),
-            Err(OpenError::Folder)
+            Err(OpenError::Folder(_))
         )
     );
     fs::remove_dir_all(&rt, path.as_str())?;
@@ -113,14 +113,32 @@ fn a_folder_in_place_of_a_file_is_not_opened(rt: HostRuntime) -> Result<(), Fail
 fn errors_have_their_texts(rt: HostRuntime) -> Result<(), Fail> {
     let device = format!(in rt.alloc(); "{}", DeviceError)?;
     assert_eq!(rt; device.as_str(), "device");
-    let texts = [
-        (OpenError::Folder, "cannot open DIR"),
-        (OpenError::OutOfMemory, "out-of-memory"),
-    ];
-    for (error, want) in texts {
-        let text = format!(in rt.alloc(); "{error}")?;
-        assert_eq!(rt; text.as_str(), want);
-    }
+    let memory = format!(in rt.alloc(); "{}", OpenError::OutOfMemory)?;
+    assert_eq!(rt; memory.as_str(), "out-of-memory");
+    let file = FileFault {
+        slot: Some(7),
+        error: io::Error::from_raw_os_error(28),
+    };
+    let folder = format!(in rt.alloc(); "{}", OpenError::Folder(file))?;
+    assert_eq!(rt; folder.as_str(), "cannot open DIR");
+    let cause = format!(in rt.alloc(); "{file}")?;
+    assert_eq!(rt;
+        cause.as_str(),
+        "img-007: No space left on device (os error 28)"
+    );
+    Ok(())
+}
+
+#[test]
+fn a_failed_call_leaves_its_cause(rt: HostRuntime) -> Result<(), Fail> {
+    let path = fresh(&rt, "cause")?;
+    let mut disk = open(&rt, path.as_str(), true)?;
+    assert!(rt; disk.fault().is_none());
+    assert!(rt; matches!(disk.read(5, 0, &mut [0]), Err(DeviceError)));
+    let fault = disk.fault().ok_or("a cause")?;
+    assert_eq!(rt; fault.slot, Some(5));
+    assert_eq!(rt; fault.error.kind(), io::ErrorKind::UnexpectedEof);
+    fs::remove_dir_all(&rt, path.as_str())?;
     Ok(())
 }
 

@@ -355,3 +355,65 @@ fn refused_memory_changes_nothing(rt: HostRuntime) -> Result<(), Fail> {
     assert_eq!(rt; reached, 12);
     Ok(())
 }
+
+/// The pages that `next_page` gives of an image, from the first on.
+fn pages_in_order(
+    catalog: &Catalog,
+    alloc: Global,
+    serial: u64,
+) -> Result<Vec<(u64, u64)>, AllocError> {
+    let mut pages = Vec::new(alloc);
+    let mut next = catalog.next_page(serial, None);
+    for _ in 0..20 {
+        if let Some((space, page)) = next {
+            pages.push((space.number(), page.number()))?;
+            next = catalog.next_page(serial, Some((space, page)));
+        }
+    }
+    Ok(pages)
+}
+
+/// Each page comes once, rising by space and page, whatever its kind; and a place that isn't listed may be given.
+#[test]
+fn pages_come_in_order(rt: HostRuntime) -> Result<(), Fail> {
+    let last = (1 << 35) - 1;
+    let rows = [
+        (0x10, 2, RunKind::Data),
+        (0x20, 1, RunKind::Zero),
+        (last, 1, RunKind::Parent),
+    ];
+    let both = table(rt.alloc(), 2, &runs(rt.alloc(), &rows)?)?;
+    let mut catalog = two_dumps(rt.alloc())?;
+    catalog
+        .add(2, dump(3, 3, 2), PlacedTable::new(rt.alloc(), both)?)
+        .map_err(|_| "the image is taken")?;
+    let listed = [
+        (1, 0x10),
+        (1, 0x11),
+        (1, 0x20),
+        (1, last),
+        (2, 0x10),
+        (2, 0x11),
+        (2, 0x20),
+        (2, last),
+    ];
+    assert_eq!(rt;
+        pages_in_order(&catalog, rt.alloc(), 3)?.as_slice(),
+        listed.as_slice()
+    );
+    assert_eq!(rt; pages_in_order(&catalog, rt.alloc(), 4)?.len(), 0);
+    for (space, number, next) in [
+        (0, 5, Some((1, 0x10))),
+        (1, 0x12, Some((1, 0x20))),
+        (1, 0x21, Some((1, last))),
+        (2, last, None),
+        (7, 0, None),
+    ] {
+        let found = catalog.next_page(3, Some((SpaceId::new(space), page(number)?)));
+        assert_eq!(rt;
+            found.map(|(space, page)| (space.number(), page.number())),
+            next
+        );
+    }
+    Ok(())
+}

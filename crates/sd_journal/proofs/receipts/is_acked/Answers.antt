@@ -1,4 +1,4 @@
-use Rattle.std.proofs.Common.{◌≡◌, ◌<◌, ◌≢◌, length, get_or, sym, ◌∙◌, arith}
+use Rattle.std.proofs.Common.{◌≡◌, ◌<◌, length, get_or, sym, ◌∙◌, arith}
 use Rattle.sd_journal.proofs.ReceiptLemmas.{acked_none, acked_same, acked_next, acked_other, never}
 use Rattle.sd_journal.proofs.receipts.is_acked.Goals.{then-found-acks-via-then-found-acks, then-found-acks-via-else-found-acks+then-acks-found}
 use Rattle.sd_journal.proofs.receipts.is_acked.Goals as goal

@@ -1,4 +1,4 @@
-use Rattle.std.proofs.Common.{◌≡◌, ◌∙◌, List, ℕ, ap, sym, subst, take, IsTrue}
+use Rattle.std.proofs.Common.{◌≡◌, ◌∙◌, List, ℕ, ap, sym, subst, take, IsTrue, arith}
 use Rattle.std.specs.FinMap as finmap
 use Rattle.std.proofs.lemmas.List.Elements.{All-contains}
 use Rattle.sd_areas.specs.Memory.{memory_of, put_page}
@@ -6,6 +6,7 @@ use Rattle.sd_disk.specs.Reads.{reads_join}
 use Rattle.sd_chain.specs.Store.{bytes_at}
 use Rattle.sd_restore.specs.declared.placed_page.PlacedPage.{PlacedPage}
 use Rattle.sd_restore.specs.Placed.{with_pages}
+use Rattle.sd_restore.proofs.CallLemmas.{none_failed}
 use Rattle.sd_restore.proofs.MemoryLemmas.{AreAlive, pages_more, put_alive}
 use Rattle.sd_restore.proofs.TakeLemmas.{contains_at, taken}
 use Rattle.sd_restore.proofs.pages.read_pages.Goals as goal
@@ -31,4 +32,6 @@ loop-placed-preserved g c =
           ∙ ap (λ m. put_page m p.space p.page (record { prot = p.prot; bytes = bytes_at contents p.there })) (was.memory (now.reads.honest honest))
           ∙ sym (pages_more contents (memory_of c.args.snapshot.now) (take i pages) p)
           ∙ ap (with_pages contents (memory_of c.args.snapshot.now)) (sym (taken pages i p c.loop-placed-test.true c.placed-item.is));
+      stays = none_failed c.in_ok-bytes.bytes (g.D.Disk.failed c.loop-placed.disk) (g.D.Disk.failed c.read_page.new.disk) now.reads.failures now.stops ∙ was.stays;
+      calls = let before = was.calls in let one = now.calls in omega (arith, before, one);
     }

@@ -1,4 +1,4 @@
-use Rattle.std.proofs.Common.{rules, ◌≡◌, ◌∙◌, ℕ, List, None, Some, length, ap, sym, subst}
+use Rattle.std.proofs.Common.{rules, ◌≡◌, ◌∙◌, ℕ, List, None, Some, length, ap, sym, subst, arith}
 use Rattle.std.proofs.lemmas.List.Elements.{All-contains}
 use Rattle.std.specs.Prelude.{All}
 use Rattle.sd_areas.specs.Memory.{memory_of}
@@ -10,6 +10,7 @@ use Rattle.sd_restore.specs.declared.placed_page.PlacedPage.{PlacedPage}
 use Rattle.sd_restore.specs.Faulty.{Names}
 use Rattle.sd_restore.specs.Mapped.{mapped_pages}
 use Rattle.sd_restore.specs.Placed.{IsInSlots, MeetsBreak, with_pages, memory_at}
+use Rattle.sd_restore.proofs.CallLemmas.{pages_within}
 use Rattle.sd_restore.proofs.MemoryLemmas.{AreAlive}
 use Rattle.sd_restore.proofs.ScanLemmas.{names_more}
 use Rattle.sd_restore.proofs.ShowLemmas.{no_break, none_is_no_moment, pages_in_slots, pages_live, shows_none, shows_tip}
@@ -59,3 +60,21 @@ returns-clause-shown g c = λ honest catalog.
     subst (λ n. Shows contents (Some (n, memory_of c.read_pages.new.snapshot))) (sym number)
     (subst (λ m. Shows contents (Some (tip.header.checkpoint, m))) (sym memory)
     (shows_tip contents c.args.catalog.now c.in-Some.tip c.in_ok-pages.pages.items catalog finds c.in_ok-pages.ensures.placed))
+
+pub returns-in_err-read_pages-clause-calls : goal.returns-in_err-read_pages-clause-calls
+returns-in_err-read_pages-clause-calls g c = λ count catalog within.
+    let contents : List (List ℕ) = g.D.Disk.contents c.args.disk.now in
+    let finds : FindsTip contents (Some c.in-Some.tip) = subst (FindsTip contents) c.in-Some.is (c.tip.ensures.store contents catalog) in
+    let few = pages_within contents c.args.catalog.now c.in-Some.tip.now.header.serial c.in-Some.tip c.in_ok-pages.pages.items count finds c.in_ok-pages.ensures.placed within in
+    let made = c.in_err-read_pages.ensures.calls in
+    let are = ap length c.deref.ensures.value in
+    omega (arith, few, made, are)
+
+pub returns-clause-calls : goal.returns-clause-calls
+returns-clause-calls g c = λ count catalog within.
+    let contents : List (List ℕ) = g.D.Disk.contents c.args.disk.now in
+    let finds : FindsTip contents (Some c.in-Some.tip) = subst (FindsTip contents) c.in-Some.is (c.tip.ensures.store contents catalog) in
+    let few = pages_within contents c.args.catalog.now c.in-Some.tip.now.header.serial c.in-Some.tip c.in_ok-pages.pages.items count finds c.in_ok-pages.ensures.placed within in
+    let made = c.in_ok-read_pages.ensures.calls in
+    let are = ap length c.deref.ensures.value in
+    omega (arith, few, made, are)

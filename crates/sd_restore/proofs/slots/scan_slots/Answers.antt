@@ -1,6 +1,7 @@
-use Rattle.std.proofs.Common.{rules, List, ℕ, length, arith}
+use Rattle.std.proofs.Common.{rules, List, ℕ, length, arith, refl, ◌∙◌}
 use Rattle.sd_disk.specs.Reads.{nothing_read, reads_join}
 use Rattle.sd_restore.specs.Faulty.{Names, IsFirstFaulty}
+use Rattle.sd_restore.proofs.CallLemmas.{none_failed, slot_last, slot_more}
 use Rattle.sd_restore.proofs.ScanLemmas.{first_faulty}
 use Rattle.sd_restore.proofs.slots.scan_slots.Goals as goal
 
@@ -11,6 +12,8 @@ loop-slot-init g c = record {
   room = omega (arith, c.new-scanned.ensures.none);
   read = c.new-scanned.ensures.read (length (g.D.Disk.contents c.args.disk.now));
   scanned = λ honest. c.new-scanned.ensures.scanned (g.D.Disk.contents c.args.disk.now);
+  stays = refl;
+  calls = λ honest. omega arith;
 }
 
 pub loop-slot-preserved : goal.loop-slot-preserved
@@ -23,6 +26,9 @@ loop-slot-preserved g c =
       room = now.room;
       read = (rw was.reads.same at now.read) was.read;
       scanned = λ honest. (rw was.reads.same at (now.scanned honest)) (was.scanned (now.reads.honest honest));
+      stays = none_failed c.in_ok-scan_slot.field-0 (g.D.Disk.failed c.loop-slot.disk) (g.D.Disk.failed c.scan_slot.new.disk) now.reads.failures now.stops ∙ was.stays;
+      calls = λ honest. slot_more (g.D.Disk.contents c.args.disk.now) c.loop-slot.slot (g.D.Disk.calls c.args.disk.now) (g.D.Disk.calls c.loop-slot.disk) (g.D.Disk.calls c.scan_slot.new.disk)
+          (let count = was.count in omega (arith, count, c.loop-slot-test.true)) (was.calls (now.reads.honest honest)) (rw was.reads.same at (now.calls honest));
     }
 
 pub returns-in_err-scan_slot-clause-faulty : goal.returns-in_err-scan_slot-clause-faulty
@@ -32,3 +38,10 @@ returns-in_err-scan_slot-clause-faulty g c = λ honest.
     let first : Names (IsFirstFaulty contents) c.in_err-scan_slot.field-0.0 =
     first_faulty contents c.loop-slot.slot c.in_err-scan_slot.field-0.0 (was.scanned (c.in_err-scan_slot.ensures.reads.honest honest)).readable (rw was.reads.same at (c.in_err-scan_slot.ensures.faulty honest)) in
     search rules
+
+pub returns-in_err-scan_slot-clause-calls : goal.returns-in_err-scan_slot-clause-calls
+returns-in_err-scan_slot-clause-calls g c = λ honest.
+    let was = c.loop-slot.invariant in
+    let now = c.in_err-scan_slot.ensures in
+    slot_last (g.D.Disk.contents c.args.disk.now) c.loop-slot.slot (g.D.Disk.calls c.args.disk.now) (g.D.Disk.calls c.loop-slot.disk) (g.D.Disk.calls c.scan_slot.new.disk)
+    (let count = was.count in omega (arith, count, c.loop-slot-test.true)) (was.calls (now.reads.honest honest)) (rw was.reads.same at (now.calls honest))

@@ -1,5 +1,6 @@
-use Rattle.std.proofs.Common.{◌≡◌, ◌≤◌, length}
+use Rattle.std.proofs.Common.{◌≡◌, ◌+◌, ◌≤◌, length, sum_by, take}
 use Rattle.sd_disk.specs.Reads.{OnlyReads}
+use Rattle.sd_restore.specs.Calls.{calls_for}
 use Rattle.sd_restore.specs.Scanned.{AreRead, IsScanned}
 use Rattle.sd_restore.proofs.slots.scan_slots.Given as goal
 
@@ -11,4 +12,6 @@ invariant-loop-slot g l = record {
   room : l.scanned.images ≤ l.slot;
   read : AreRead (length (g.D.Disk.contents l.fn.disk)) l.scanned.catalog;
   scanned : g.D.Disk.is_honest l.disk → IsScanned (g.D.Disk.contents l.fn.disk) l.slot l.scanned;
+  stays : g.D.Disk.failed l.disk ≡ g.D.Disk.failed l.fn.disk;
+  calls : g.D.Disk.is_honest l.disk → g.D.Disk.calls l.disk ≤ g.D.Disk.calls l.fn.disk + sum_by calls_for (take l.slot (g.D.Disk.contents l.fn.disk));
 }

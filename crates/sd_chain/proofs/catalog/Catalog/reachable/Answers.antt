@@ -2,7 +2,7 @@ use Rattle.std.proofs.Common.{◌≡◌, ◌∙◌, ◌++◌, ◌∷◌, [], Lis
 use Rattle.std.proofs.lemmas.List.Elements.{All-contains}
 use Rattle.sd_image.specs.declared.header.Header.{Header}
 use Rattle.sd_chain.specs.Catalog.{AreInOrder, Opened, images}
-use Rattle.sd_chain.proofs.Walks.{IsWalk, IsWayTo, IsNext, walk_begins, walk_goes_on, walk_ends, way_begins, way_goes_on}
+use Rattle.sd_chain.proofs.Walks.{IsWalk, IsWayTo, IsNext, walk_begins, walk_goes_on, chain_once, walk_ends, way_begins, way_goes_on}
 use Rattle.sd_chain.proofs.catalog.Catalog.reachable.Goals as goal
 
 pub loop-next-init : goal.loop-next-init
@@ -37,3 +37,8 @@ returns-clause-reached c = λ fall reached.
 pub returns-clause-chain : goal.returns-clause-chain
 returns-clause-chain c = λ fall.
     subst (IsWayTo c.args.self.now c.args.serial c.loop-next.reached.items) c.in_default.is (c.loop-next.invariant fall).1
+
+pub returns-clause-once : goal.returns-clause-once
+returns-clause-once c = λ fall.
+    chain_once c.args.self.now c.args.serial c.loop-next.reached.items (subst AreInOrder c.self.view_is c.self.invariant) fall
+    (subst (IsWayTo c.args.self.now c.args.serial c.loop-next.reached.items) c.in_default.is (c.loop-next.invariant fall).1)

@@ -1,0 +1,17 @@
+use Rattle.std.proofs.Common.{◌∙◌}
+use Rattle.sd_areas.specs.Memory.{memory_of, space_of}
+use Rattle.sd_areas.specs.Pages.{page_of, pages_for}
+use Rattle.sd_areas.specs.PlainMemory.{Page, Space}
+use Rattle.sd_pagetable.specs.Nested.{inside, set_within}
+use Rattle.sd_pagetable.specs.Page.{zeros}
+use Rattle.sd_journal.proofs.PlainLemmas.{on_ok, changed_space, same_run}
+use Rattle.sd_journal.proofs.plain_memory.mmap.Goals as goal
+
+pub returns : goal.returns
+returns c =
+    let start = page_of c.args.address in
+    let count = pages_for c.args.length in
+    let fresh : Page = record { prot = c.args.prot; bytes = zeros } in
+    on_ok c.put_space.result _ _ (λ put. changed_space (memory_of c.args.memory.now) (memory_of c.take_space-pages.new.memory) (memory_of c.put_space.new.memory) c.args.space
+    (set_within (inside (memory_of c.args.memory.now) c.args.space) start count fresh) (space_of c.map_run.new.pages.entries) c.take_space-pages.ensures.rest
+    (same_run (λ (pages : Space) first n. set_within pages first n fresh) _ _ _ _ _ start count c.in_ok-map_run.ensures c.take_space-pages.ensures.pages (c.number.ensures.value ∙ c.run_of-first.ensures.first) c.run_of-first.ensures.end) put) c.put_space.ensures

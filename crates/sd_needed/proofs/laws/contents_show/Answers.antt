@@ -1,5 +1,0 @@
-use Rattle.sd_needed.proofs.Slots.{contents_show_lem}
-use Rattle.sd_needed.proofs.laws.contents_show.Goals as goal
-
-pub returns : goal.returns
-returns c = contents_show_lem

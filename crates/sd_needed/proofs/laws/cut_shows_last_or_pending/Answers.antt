@@ -1,5 +1,0 @@
-use Rattle.sd_needed.proofs.Cuts.{cut_shows_last_or_pending_lem}
-use Rattle.sd_needed.proofs.laws.cut_shows_last_or_pending.Goals as goal
-
-pub returns : goal.returns
-returns c = cut_shows_last_or_pending_lem

@@ -1,5 +1,0 @@
-use Rattle.sd_needed.proofs.Cuts.{cut_shows_the_same_lem}
-use Rattle.sd_needed.proofs.laws.cut_shows_the_same.Goals as goal
-
-pub returns : goal.returns
-returns c = cut_shows_the_same_lem

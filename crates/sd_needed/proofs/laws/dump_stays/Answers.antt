@@ -1,5 +1,0 @@
-use Rattle.sd_needed.proofs.Stays.{dump_stays_lem}
-use Rattle.sd_needed.proofs.laws.dump_stays.Goals as goal
-
-pub returns : goal.returns
-returns c = dump_stays_lem

@@ -1,5 +1,0 @@
-use Rattle.sd_needed.proofs.Stays.{fresh_stays_lem}
-use Rattle.sd_needed.proofs.laws.fresh_stays.Goals as goal
-
-pub returns : goal.returns
-returns c = fresh_stays_lem

@@ -1,5 +1,0 @@
-use Rattle.sd_needed.proofs.Slots.{left_images_show_lem}
-use Rattle.sd_needed.proofs.laws.left_images_show.Goals as goal
-
-pub returns : goal.returns
-returns c = left_images_show_lem

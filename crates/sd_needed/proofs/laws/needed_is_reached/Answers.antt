@@ -1,5 +1,0 @@
-use Rattle.sd_needed.proofs.Walks.{needed_is_reached_lem}
-use Rattle.sd_needed.proofs.laws.needed_is_reached.Goals as goal
-
-pub returns : goal.returns
-returns c = needed_is_reached_lem

@@ -1,5 +1,0 @@
-use Rattle.sd_needed.proofs.Opens.{opened_is_sound_lem}
-use Rattle.sd_needed.proofs.laws.opened_is_sound.Goals as goal
-
-pub returns : goal.returns
-returns c = opened_is_sound_lem

@@ -1,5 +1,0 @@
-use Rattle.sd_needed.proofs.Opens.{order_is_free_lem}
-use Rattle.sd_needed.proofs.laws.order_is_free.Goals as goal
-
-pub returns : goal.returns
-returns c = order_is_free_lem

@@ -1,5 +1,0 @@
-use Rattle.sd_needed.proofs.SlotSteps.{slots_follow_calls_lem}
-use Rattle.sd_needed.proofs.laws.slots_follow_calls.Goals as goal
-
-pub returns : goal.returns
-returns c = slots_follow_calls_lem

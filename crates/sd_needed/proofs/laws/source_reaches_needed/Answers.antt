@@ -1,5 +1,0 @@
-use Rattle.sd_needed.proofs.Stays.{source_reaches_needed_lem}
-use Rattle.sd_needed.proofs.laws.source_reaches_needed.Goals as goal
-
-pub returns : goal.returns
-returns c = source_reaches_needed_lem

@@ -1,5 +1,0 @@
-use Rattle.sd_needed.proofs.StepLemmas.{steps_keep_lem}
-use Rattle.sd_needed.proofs.laws.steps_keep.Goals as goal
-
-pub returns : goal.returns
-returns c = steps_keep_lem

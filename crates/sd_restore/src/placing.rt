@@ -1,0 +1,97 @@
+//! The memory that a store shows, before its pages are read.
+ghost use Rattle.std.specs.Prelude.{◌≡◌, ◌≢◌, ◌<◌, ℕ, List, Some, None, All, length, map, IfOk, IfErr, OnOk, IsErrOf};
+ghost use Rattle.sd_areas.specs.Areas.{AreMaximal};
+ghost use Rattle.sd_disk.specs.Reads.{OnlyReads};
+ghost use Rattle.sd_image.specs.declared.table.SpaceTable.{SpaceTable};
+ghost use Rattle.sd_image.specs.Shows.{Shows};
+ghost use Rattle.sd_image.specs.Table.{listing_of};
+ghost use Rattle.sd_chain.specs.Catalog.{images};
+ghost use Rattle.sd_chain.specs.Store.{IsCatalogOf, bytes_at};
+ghost use Rattle.sd_chain.specs.Ways.{AreImages};
+ghost use Rattle.sd_restore.specs.Faulty.{Names, IsBrokenChain};
+ghost use Rattle.sd_restore.specs.Placed.{IsInSlots, memory_at};
+
+use crate::chain::place_pages;
+use crate::device::read_file;
+use crate::fault::Fault;
+use crate::placed_page::PlacedPage;
+use sd_areas::PAGE_SIZE;
+use sd_chain::{Catalog, Found};
+use sd_disk::Disk;
+use sd_image::{SpaceTable, tip_once};
+use std::alloc::Global;
+
+/// A memory whose pages stand in the slots of a store.
+#[derive(Drop)]
+pub struct PlacedMemory<'a> {
+    pub checkpoint: u64,
+    /// The living spaces with their areas, rising.
+    pub spaces: &'a [SpaceTable],
+    /// The mapped pages, rising by space and page.
+    pub pages: Vec<PlacedPage>,
+}
+
+/// Where the memory lies that the newest dump or merged image of a catalog stands for. It makes the checks of
+/// [`crate::restore_from`], and reads no page.
+///
+/// # Errors
+///
+/// As [`crate::restore_from`], but for `Device`.
+pub fn place_newest<'a>(alloc: Global, catalog: &'a Catalog) -> Result<PlacedMemory<'a>, Fault>
+    requires images { AreImages catalog.now }
+    // Where it is the catalog of contents, the pages that lie there are the memory that these show.
+    ensures shown { (contents : List (List ℕ)) → IsCatalogOf contents catalog.now
+        → IfOk result (λ placed. Shows contents
+        (Some (
+          placed.checkpoint,
+          memory_at contents (map listing_of placed.spaces.now) placed.pages.items,
+        ))) }
+    ensures empty { (contents : List (List ℕ)) → IsCatalogOf contents catalog.now
+        → IsErrOf result Fault.EmptyChain → Shows contents None }
+    ensures broken { (contents : List (List ℕ)) → IsCatalogOf contents catalog.now
+        → IfErr result (Names (IsBrokenChain contents)) }
+    ensures slots { (count : ℕ) → All (λ i. i.slot < count) (images catalog.now)
+        → IfOk result (λ placed. All (λ p. IsInSlots count p.there) placed.pages.items) }
+    ensures areas { IfOk result (λ placed.
+        All (λ (s : SpaceTable). AreMaximal None s.areas.items) placed.spaces.now) }
+    ensures device { result ≢ Err Fault.Device }
+{
+    tip_once();
+    catalog.sound();
+    let Some(tip) = catalog.tip() else {
+        return Err(Fault::EmptyChain);
+    };
+    let pages = place_pages(alloc, catalog, tip)?;
+    Ok(PlacedMemory {
+        checkpoint: tip.header().checkpoint,
+        spaces: tip.table().spaces.as_slice(),
+        pages,
+    })
+}
+
+/// Reads the bytes of a page that lies there.
+///
+/// # Errors
+///
+/// `Device` where the disk failed: the bytes may be anything.
+pub fn read_placed<D: Disk>(
+    disk: &mut D,
+    there: Found,
+    bytes: &mut [u8; PAGE_SIZE],
+) -> Result<(), Fault>
+    requires { IsInSlots (length (D.contents disk.old)) there }
+    ensures bytes { D.is_honest disk.new
+        → OnOk result (bytes.new ≡ bytes_at (D.contents disk.old) there) }
+    ensures unnamed { IfErr result (Names (λ _ _. ⊥)) }
+    ensures reads { OnlyReads D.Disk disk.old disk.new }
+    ensures device { IsErrOf result Fault.Device → D.failed disk.old < D.failed disk.new }
+    ensures empty { result ≢ Err Fault.EmptyChain }
+{
+    match there {
+        Found::Data { slot, offset } => {
+            read_file(disk, slot, offset as usize, bytes.as_mut_slice())?;
+        }
+        Found::Zero => *bytes = [0; PAGE_SIZE],
+    }
+    Ok(())
+}

@@ -1,0 +1,12 @@
+pub mod Orders
+pub mod Lists
+pub mod Clean
+pub mod KeepsLemmas
+pub mod RisesLemmas
+pub mod VisitLemmas
+pub mod DumpLemmas
+pub mod MadeLemmas
+pub mod TableLemmas
+pub mod RoundLemmas
+pub mod CopyLemmas
+pub mod StepLemmas

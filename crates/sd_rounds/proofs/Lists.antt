@@ -1,0 +1,40 @@
+-- Lists of entries with one more.
+use Rattle.std.proofs.Common.{◌≡◌, ℕ, zero, suc, ◌+◌, ◌-◌, ◌*◌, ◌<◌, List, [], ◌∷◌, ◌++◌, length, map, take, drop, Option, Some, None, refl, sym, ◌∙◌, ap, arith}
+use Rattle.std.specs.Prelude.{filter, slice_get}
+use Rattle.std.proofs.lemmas.List.{map-append, length-append, length-take-le, length-drop}
+use Rattle.std.proofs.Math.Seq.{take-add}
+use Rattle.std.proofs.lemmas.List.Elements.{filter-append}
+use Rattle.sd_image.specs.declared.run.RunKind.{RunKind}
+use Rattle.sd_rounds.specs.Pass.{Place, Entry, pages_by, has_kind, place_of, sector_of}
+
+-- one entry at the end
+abbrev pub put_behind : List Entry → Place → RunKind → List Entry
+put_behind entries at kind = entries ++ (record { place = at; kind = kind }) ∷ []
+
+pub pages_append : (kind : RunKind) (xs ys : List Entry) → pages_by kind (xs ++ ys) ≡ pages_by kind xs ++ pages_by kind ys
+pages_append kind xs ys =
+    ap (map place_of) (filter-append (has_kind kind) xs ys)
+    ∙ map-append place_of (filter (has_kind kind) xs) (filter (has_kind kind) ys)
+
+pub slice_get_front : {X : Type 0} (xs ys : List X) (k : ℕ) (x : X) → slice_get xs k ≡ Some x → slice_get (xs ++ ys) k ≡ Some x
+slice_get_front {X} [] ys k x e = absurd (let f : ◌≡◌ {A = Option X} None (Some x) = e in cc)
+slice_get_front (y ∷ xs) ys zero x e = e
+slice_get_front (y ∷ xs) ys (suc k) x e = slice_get_front xs ys k x e
+
+pub slice_get_back : {X : Type 0} (xs : List X) (y : X) → slice_get (xs ++ y ∷ []) (length xs) ≡ Some y
+slice_get_back [] y = refl
+slice_get_back (x ∷ xs) y = slice_get_back xs y
+
+-- one sector more of a page's front
+pub front_more : (copied bytes : List ℕ) (sector : ℕ) → length bytes ≡ 4096 → sector < 8 → length copied ≡ 512 * sector → copied ≡ take (length copied) bytes
+    → copied ++ sector_of bytes sector ≡ take (length (copied ++ sector_of bytes sector)) bytes
+front_more copied bytes sector whole within is front =
+    let few : 512 * sector + 512 - 512 * sector ≡ 512 = omega arith in
+    let long : length (sector_of bytes sector) ≡ 512 =
+    length-take-le (512 * sector + 512 - 512 * sector) (drop (512 * sector) bytes) (simp length-drop (omega arith)) ∙ few in
+    let len : length (copied ++ sector_of bytes sector) ≡ length copied + 512 = length-append copied (sector_of bytes sector) ∙ ap (λ k. length copied + k) long in
+    ap (λ c. c ++ sector_of bytes sector) front
+    ∙ ap (λ k. take (length copied) bytes ++ take k (drop (512 * sector) bytes)) few
+    ∙ ap (λ k. take (length copied) bytes ++ take 512 (drop k bytes)) (sym is)
+    ∙ sym (take-add (length copied) 512 bytes)
+    ∙ ap (λ k. take k bytes) (sym len)

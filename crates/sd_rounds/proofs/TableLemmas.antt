@@ -1,0 +1,206 @@
+-- Entries that are kept as runs, with one page more.
+use Rattle.std.proofs.Common.{◌≡◌, ◌≢◌, ◌⊎◌, ℕ, ◌+◌, ◌<◌, ◌≤◌, List, [], ◌∷◌, ◌++◌, length, map, None, Result, Ok, Err, OnOk, refl, sym, ◌∙◌, ap, subst, inl, inr, arith}
+use Rattle.std.specs.List.{flat_map, AllByRecursion}
+use Rattle.std.proofs.lemmas.List.{map-append, flat_map_more, append_assoc, length-append}
+use Rattle.sd_image.specs.declared.run.Run.{Run}
+use Rattle.sd_image.specs.declared.run.RunKind.{RunKind}
+use Rattle.sd_image.specs.declared.table.SpaceTable.{SpaceTable}
+use Rattle.sd_image.specs.Runs.{PageWay, AreRunsOf, IsSourced, end_of, run_ways}
+use Rattle.sd_image.specs.Table.{AreRuns, Listed, listing_of, run_pages}
+use Rattle.sd_rounds.specs.Pass.{Place, Entry}
+use Rattle.sd_rounds.specs.Made.{entries_listed, run_entries}
+use Rattle.sd_rounds.specs.Tables.{IsTableAfter, AreTables, EndsBefore, EndBefore, IsPushed, IsBegun, listed}
+
+-- ---- a table more
+
+abbrev pub last_space : ℕ → List Listed → ℕ
+last_space before [] = before
+last_space before (t ∷ tables) = last_space t.space tables
+
+pub tables_front : (parent before : ℕ) (tables : List Listed) (t : Listed) → AreTables parent before (tables ++ t ∷ []) → AreTables parent before tables
+tables_front parent before [] t are = tt
+tables_front parent before (s ∷ tables) t are = (are.0, tables_front parent s.space tables t are.1)
+
+tables_last : (parent before : ℕ) (tables : List Listed) (t : Listed) → AreTables parent before (tables ++ t ∷ []) → IsTableAfter parent (last_space before tables) t
+tables_last parent before [] t are = are.0
+tables_last parent before (s ∷ tables) t are = tables_last parent s.space tables t are.1
+
+tables_put : (parent before : ℕ) (tables : List Listed) (t : Listed) → AreTables parent before tables → IsTableAfter parent (last_space before tables) t
+    → AreTables parent before (tables ++ t ∷ [])
+tables_put parent before [] t are is = (is, tt)
+tables_put parent before (s ∷ tables) t are is = (are.0, tables_put parent s.space tables t are.1 is)
+
+all_front : {X : Type 0} (P : X → Type 0) (xs : List X) (x : X) → AllByRecursion P (xs ++ x ∷ []) → AllByRecursion P xs
+all_front P [] x all = tt
+all_front P (y ∷ xs) x all = (all.0, all_front P xs x all.1)
+
+pub all_last : {X : Type 0} (P : X → Type 0) (xs : List X) (x : X) → AllByRecursion P (xs ++ x ∷ []) → P x
+all_last P [] x all = all.0
+all_last P (y ∷ xs) x all = all_last P xs x all.1
+
+all_put : {X : Type 0} (P : X → Type 0) (xs : List X) (x : X) → AllByRecursion P xs → P x → AllByRecursion P (xs ++ x ∷ [])
+all_put P [] x all is = (is, tt)
+all_put P (y ∷ xs) x all is = (all.0, all_put P xs x all.1 is)
+
+-- a place further on
+abbrev pub IsFurther : Place → Place → Type 0
+IsFurther a b = (a.0 < b.0) ⊎ ((a.0 ≡ b.0) × (a.1 ≤ b.1))
+
+ends_further : (a b : Place) (t : Listed) → IsFurther a b → EndsBefore a t → EndsBefore b t
+ends_further a b t (inl less) (inl below) = inl (omega arith)
+ends_further a b t (inl less) (inr here) = inl (let e : t.space ≡ a.0 = here.0 in omega arith)
+ends_further a b t (inr same) (inl below) = inl (let e : a.0 ≡ b.0 = same.0 in omega arith)
+ends_further a b t (inr same) (inr here) = inr (here.0 ∙ same.0, (let e : end_of t.runs ≤ a.1 = here.1 in let f : a.1 ≤ b.1 = same.1 in omega arith))
+
+pub end_further : (a b : Place) (tables : List Listed) → IsFurther a b → EndBefore a tables → EndBefore b tables
+end_further a b [] further ends = tt
+end_further a b (t ∷ tables) further ends = (ends_further a b t further ends.0, end_further a b tables further ends.1)
+
+pub one_further : (at : Place) → IsFurther at (at.0, at.1 + 1)
+one_further at = inr (refl, omega arith)
+
+-- ---- entries
+
+abbrev pub entry_of : ℕ → PageWay → Entry
+entry_of space way = record { place = (space, way.0); kind = way.1 }
+
+run_entries_are : (space : ℕ) (kind : RunKind) (pages : List ℕ)
+    → map (λ page. record { place = (space, page); kind = kind }) pages ≡ map (entry_of space) (map (λ page. (page, kind)) pages)
+run_entries_are space kind [] = refl
+run_entries_are space kind (page ∷ pages) = ap (λ (l : List Entry). (record { place = (space, page); kind = kind }) ∷ l) (run_entries_are space kind pages)
+
+-- the entries of a space, by the pages of its runs
+entries_are : (space : ℕ) (runs : List Run) → flat_map (run_entries space) runs ≡ map (entry_of space) (flat_map run_ways runs)
+entries_are space [] = refl
+entries_are space (run ∷ runs) =
+    ap (λ (l : List Entry). l ++ flat_map (run_entries space) runs) (run_entries_are space run.kind (run_pages run))
+    ∙ ap (λ (l : List Entry). map (entry_of space) (run_ways run) ++ l) (entries_are space runs)
+    ∙ sym (map-append (entry_of space) (run_ways run) (flat_map run_ways runs))
+
+abbrev table_entries : Listed → List Entry
+table_entries t = flat_map (run_entries t.space) t.runs
+
+entries_put : (tables : List Listed) (t : Listed) → entries_listed (tables ++ t ∷ []) ≡ entries_listed tables ++ table_entries t
+entries_put tables t = sym (flat_map_more table_entries [] tables t)
+
+-- one page more of a space
+runs_entries : (space page : ℕ) (kind : RunKind) (old new : List Run) → flat_map run_ways new ≡ flat_map run_ways old ++ (page, kind) ∷ []
+    → flat_map (run_entries space) new ≡ flat_map (run_entries space) old ++ (record { place = (space, page); kind = kind }) ∷ []
+runs_entries space page kind old new e =
+    entries_are space new ∙ ap (map (entry_of space)) e ∙ map-append (entry_of space) (flat_map run_ways old) _
+    ∙ ap (λ (l : List Entry). l ++ (record { place = (space, page); kind = kind }) ∷ []) (sym (entries_are space old))
+
+no_push : {X : Type 0} (xs : List X) (x : X) → [] ≡ xs ++ x ∷ [] → ⊥
+no_push xs x e = absurd (let f : 0 ≡ length xs + 1 = ap length e ∙ length-append xs (x ∷ []) in omega arith)
+
+listed_put : (tables : List SpaceTable) (t : SpaceTable) → listed (tables ++ t ∷ []) ≡ listed tables ++ listing_of t ∷ []
+listed_put tables t = map-append listing_of tables (t ∷ [])
+
+-- ---- a page put behind the entries
+
+-- the last space has one page more
+pub longer_table : (parent : ℕ) (front : List SpaceTable) (last new : SpaceTable) (at : Place) (kind : RunKind)
+    → AreTables parent 0 (listed (front ++ last ∷ [])) → EndBefore at (listed (front ++ last ∷ [])) → last.space ≡ at.0
+    → new.space ≡ last.space → new.areas.items ≡ last.areas.items
+    → AreRunsOf parent (flat_map run_ways last.runs.items ++ (at.1, kind) ∷ []) new.runs.items → end_of new.runs.items ≡ at.1 + 1
+    → IsPushed parent (listed (front ++ last ∷ [])) (listed (front ++ new ∷ [])) at kind
+longer_table parent front last new at kind are ends here same_space same_areas runs end = record {
+  entries = ap entries_listed (listed_put front new) ∙ entries_put (listed front) (listing_of new)
+      ∙ ap (λ (l : List Entry). entries_listed (listed front) ++ l) more
+      ∙ sym (append_assoc (entries_listed (listed front)) (table_entries (listing_of last)) _)
+      ∙ ap (λ (l : List Entry). l ++ (record { place = at; kind = kind }) ∷ []) (sym (ap entries_listed (listed_put front last) ∙ entries_put (listed front) (listing_of last)));
+  tables = subst (AreTables parent 0) (sym (listed_put front new)) (tables_put parent 0 (listed front) (listing_of new) (tables_front parent 0 (listed front) (listing_of last) old)
+      (record {
+        above = subst (λ n. last_space 0 (listed front) < n) (sym same_space) was.above;
+        within = subst (λ n. n ≤ 16) (sym same_space) was.within;
+        no_areas = same_areas ∙ was.no_areas;
+        runs = runs.maximal;
+        some = λ none. no_push (flat_map run_ways last.runs.items) (at.1, kind) (sym (ap (flat_map run_ways) none) ∙ runs.list);
+      }));
+  ends = subst (EndBefore (at.0, at.1 + 1)) (sym (listed_put front new))
+      (all_put (EndsBefore (at.0, at.1 + 1)) (listed front) (listing_of new)
+      (end_further at (at.0, at.1 + 1) (listed front) (one_further at) (all_front (EndsBefore at) (listed front) (listing_of last) (subst (EndBefore at) (listed_put front last) ends)))
+      (inr (same_space ∙ here, (let f : end_of new.runs.items ≡ at.1 + 1 = end in omega arith))));
+}
+  where
+    old : AreTables parent 0 (listed front ++ listing_of last ∷ [])
+    old = subst (AreTables parent 0) (listed_put front last) are
+
+    was : IsTableAfter parent (last_space 0 (listed front)) (listing_of last)
+    was = tables_last parent 0 (listed front) (listing_of last) old
+
+    more : table_entries (listing_of new) ≡ table_entries (listing_of last) ++ (record { place = at; kind = kind }) ∷ []
+    more = ap (λ n. flat_map (run_entries n) new.runs.items) (same_space)
+        ∙ runs_entries last.space at.1 kind last.runs.items new.runs.items runs.list
+        ∙ ap (λ n. flat_map (run_entries last.space) last.runs.items ++ (record { place = (n, at.1); kind = kind }) ∷ []) here
+
+-- another space begins
+pub more_tables : (parent : ℕ) (old new : List SpaceTable) (at : Place) (kind : RunKind) → AreTables parent 0 (listed old) → EndBefore at (listed old)
+    → last_space 0 (listed old) < at.0 → at.0 ≤ 16 → IsSourced parent kind → IsBegun old new at kind → IsPushed parent (listed old) (listed new) at kind
+more_tables parent old new at kind are ends above within sourced begun = record {
+  entries = ap entries_listed now ∙ entries_put (listed old) (listing_of begun.table)
+      ∙ ap (λ (l : List Entry). entries_listed (listed old) ++ l) (entries_are begun.table.space begun.table.runs.items
+      ∙ ap (map (entry_of begun.table.space)) runs.list ∙ ap (λ n. (record { place = (n, at.1); kind = kind }) ∷ []) begun.space);
+  tables = subst (AreTables parent 0) (sym now) (tables_put parent 0 (listed old) (listing_of begun.table) are (record {
+    above = subst (λ n. last_space 0 (listed old) < n) (sym begun.space) above;
+    within = subst (λ n. n ≤ 16) (sym begun.space) within;
+    no_areas = begun.areas;
+    runs = runs.maximal;
+    some = λ none. no_push [] (at.1, kind) (sym (ap (flat_map run_ways) none) ∙ runs.list);
+  }));
+  ends = subst (EndBefore (at.0, at.1 + 1)) (sym now) (all_put (EndsBefore (at.0, at.1 + 1)) (listed old) (listing_of begun.table)
+      (end_further at (at.0, at.1 + 1) (listed old) (one_further at) ends) (inr (begun.space, (let f : end_of begun.table.runs.items ≡ at.1 + 1 = begun.end in omega arith))));
+}
+  where
+    runs : AreRunsOf parent ((at.1, kind) ∷ []) begun.table.runs.items
+    runs = begun.runs parent sourced
+
+    now : listed new ≡ listed old ++ listing_of begun.table ∷ []
+    now = ap listed begun.behind ∙ listed_put old begun.table
+
+last_put : (before : ℕ) (tables : List Listed) (t : Listed) → last_space before (tables ++ t ∷ []) ≡ t.space
+last_put before [] t = refl
+last_put before (s ∷ tables) t = last_put s.space tables t
+
+pub first_table : (parent : ℕ) (new : List SpaceTable) (at : Place) (kind : RunKind) → 1 ≤ at.0 → at.0 ≤ 16 → IsSourced parent kind
+    → IsBegun [] new at kind → IsPushed parent [] (listed new) at kind
+first_table parent new at kind least within sourced begun = more_tables parent [] new at kind tt tt least within sourced begun
+
+pub next_table : (parent : ℕ) (front : List SpaceTable) (last : SpaceTable) (new : List SpaceTable) (at : Place) (kind : RunKind)
+    → AreTables parent 0 (listed (front ++ last ∷ [])) → EndBefore at (listed (front ++ last ∷ [])) → last.space ≢ at.0
+    → at.0 ≤ 16 → IsSourced parent kind → IsBegun (front ++ last ∷ []) new at kind → IsPushed parent (listed (front ++ last ∷ [])) (listed new) at kind
+next_table parent front last new at kind are ends apart within sourced begun =
+    more_tables parent (front ++ last ∷ []) new at kind are ends
+    (subst (λ n. n < at.0) (sym (ap (last_space 0) (listed_put front last) ∙ last_put 0 (listed front) (listing_of last)))
+    (below (all_last (EndsBefore at) (listed front) (listing_of last) (subst (EndBefore at) (listed_put front last) ends))))
+    within sourced begun
+  where
+    below : EndsBefore at (listing_of last) → last.space < at.0
+    below (inl less) = less
+    below (inr here) = absurd (apart here.0)
+
+-- the last space ends before a place in it
+pub last_ends : (front : List SpaceTable) (last : SpaceTable) (at : Place) → EndBefore at (listed (front ++ last ∷ [])) → last.space ≡ at.0 → end_of last.runs.items ≤ at.1
+last_ends front last at ends here = by (all_last (EndsBefore at) (listed front) (listing_of last) (subst (EndBefore at) (listed_put front last) ends))
+  where
+    by : EndsBefore at (listing_of last) → end_of last.runs.items ≤ at.1
+    by (inl less) = absurd (omega arith)
+    by (inr there) = there.1
+
+pub on_ok_both : {T E : Type 0} (P Q : Type 0) (r : Result T E) → OnOk r P → OnOk r Q → OnOk r (P × Q)
+on_ok_both P Q (Ok x) p q = (p, q)
+on_ok_both P Q (Err e) p q = tt
+
+-- the runs of the last space
+pub last_runs : (parent : ℕ) (front : List SpaceTable) (last : SpaceTable) → AreTables parent 0 (listed (front ++ last ∷ [])) → AreRuns parent None last.runs.items
+last_runs parent front last are = (tables_last parent 0 (listed front) (listing_of last) (subst (AreTables parent 0) (listed_put front last) are)).runs
+
+-- the same spaces, with the same runs in the last
+pub same_listed : (front : List SpaceTable) (last new : SpaceTable) → new.space ≡ last.space → new.areas.items ≡ last.areas.items → new.runs.items ≡ last.runs.items
+    → listed (front ++ new ∷ []) ≡ listed (front ++ last ∷ [])
+same_listed front last new space areas runs = listed_put front new ∙ ap (λ (t : Listed). listed front ++ t ∷ []) same ∙ sym (listed_put front last)
+  where
+    same : listing_of new ≡ listing_of last
+    same = ap (λ n. record { space = n; areas = new.areas.items; runs = new.runs.items }) space
+        ∙ ap (λ a. record { space = last.space; areas = a; runs = new.runs.items }) areas
+        ∙ ap (λ r. record { space = last.space; areas = last.areas.items; runs = r }) runs

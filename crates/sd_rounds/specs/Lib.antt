@@ -1,0 +1,9 @@
+pub mod Pass
+pub mod Keeps
+pub mod Rises
+pub mod Dump
+pub mod Visits
+pub mod Made
+pub mod Tables
+pub mod Rounds
+pub mod Steps

@@ -1,0 +1,51 @@
+-- The entries of an image, kept as the runs of each space that has any.
+use Rattle.std.specs.Prelude.{◌≡◌, ◌≢◌, ◌⊎◌, ℕ, ◌+◌, ◌<◌, ◌≤◌, List, [], ◌∷◌, ◌++◌, map, None}
+use Rattle.std.specs.List.{AllByRecursion}
+use Rattle.sd_image.specs.declared.run.RunKind.{RunKind}
+use Rattle.sd_image.specs.declared.table.SpaceTable.{SpaceTable}
+use Rattle.sd_image.specs.Runs.{AreRunsOf, IsSourced, end_of}
+use Rattle.sd_image.specs.Table.{AreRuns, Listed, listing_of}
+use Rattle.sd_rounds.specs.Pass.{Place, Entry}
+use Rattle.sd_rounds.specs.Made.{entries_listed}
+
+-- the entries of a space, behind those of the space before: maximal runs, where the image's parent has this number
+pub record IsTableAfter (parent before : ℕ) (t : Listed) : Type 0 where
+  pub above : before < t.space
+  pub within : t.space ≤ 16
+  pub no_areas : t.areas ≡ []
+  pub runs : AreRuns parent None t.runs
+  pub some : t.runs ≢ []
+
+-- spaces rising by number
+abbrev pub AreTables : ℕ → ℕ → List Listed → Type 0
+AreTables parent before [] = Unit {0}
+AreTables parent before (t ∷ tables) = IsTableAfter parent before t × AreTables parent t.space tables
+
+-- a space's entries end before a place
+abbrev pub EndsBefore : Place → Listed → Type 0
+EndsBefore limit t = (t.space < limit.0) ⊎ ((t.space ≡ limit.0) × (end_of t.runs ≤ limit.1))
+
+abbrev pub EndBefore : Place → List Listed → Type 0
+EndBefore limit = AllByRecursion (EndsBefore limit)
+
+-- as the code keeps them
+abbrev pub listed : List SpaceTable → List Listed
+listed = map listing_of
+
+abbrev pub entries_in : List SpaceTable → List Entry
+entries_in tables = entries_listed (listed tables)
+
+-- a page was put behind the entries
+pub record IsPushed (parent : ℕ) (old new : List Listed) (at : Place) (kind : RunKind) : Type 0 where
+  pub entries : entries_listed new ≡ entries_listed old ++ (record { place = at; kind = kind }) ∷ []
+  pub tables : AreTables parent 0 new
+  pub ends : EndBefore (at.0, at.1 + 1) new
+
+-- a space with one page was put behind the others
+pub record IsBegun (old new : List SpaceTable) (at : Place) (kind : RunKind) : Type 0 where
+  pub table : SpaceTable
+  pub behind : new ≡ old ++ table ∷ []
+  pub space : table.space ≡ at.0
+  pub areas : table.areas.items ≡ []
+  pub runs : (parent : ℕ) → IsSourced parent kind → AreRunsOf parent ((at.1, kind) ∷ []) table.runs.items
+  pub end : end_of table.runs.items ≡ at.1 + 1

@@ -1,0 +1,60 @@
+//! Entries of an image, as the runs of each space.
+ghost use Rattle.std.specs.Prelude.{◌≡◌, ℕ, ◌≤◌, OnOk, OnErr};
+ghost use Rattle.sd_image.specs.Runs.{IsSourced};
+ghost use Rattle.sd_rounds.specs.Tables.{AreTables, EndBefore, IsBegun, IsPushed, listed};
+
+use sd_areas::{PageNo, SpaceId};
+use sd_image::{RunKind, SpaceTable, push_page};
+use std::alloc::{AllocError, Global};
+
+/// Puts a page behind the entries. It takes constant time.
+///
+/// # Errors
+///
+/// Out of memory where a run or a table finds no room: the entries stay.
+pub(crate) fn push_entry(
+    alloc: Global,
+    tables: &mut Vec<SpaceTable>,
+    space: SpaceId,
+    page: PageNo,
+    kind: RunKind,
+) -> Result<(), AllocError>
+    requires behind { EndBefore (space, page) (listed tables.old.items) }
+    ensures more { (parent : ℕ) → AreTables parent 0 (listed tables.old.items)
+        → IsSourced parent kind → 1 ≤ space → space ≤ 16
+        → OnOk result (IsPushed parent (listed tables.old.items) (listed tables.new.items)
+        (space, page) kind) }
+    ensures err { OnErr result (listed tables.new.items ≡ listed tables.old.items) }
+{
+    let Some(mut last) = tables.pop() else {
+        return push_space(alloc, tables, space, page, kind);
+    };
+    if last.space.number() != space.number() {
+        tables.push(last)?;
+        return push_space(alloc, tables, space, page, kind);
+    }
+    let pushed = push_page(&mut last.runs, page, kind);
+    tables.push(last)?;
+    pushed
+}
+
+/// Puts the first page of a space behind the entries.
+fn push_space(
+    alloc: Global,
+    tables: &mut Vec<SpaceTable>,
+    space: SpaceId,
+    page: PageNo,
+    kind: RunKind,
+) -> Result<(), AllocError>
+    ensures begun { OnOk result (IsBegun tables.old.items tables.new.items (space, page) kind) }
+    ensures err { OnErr result (listed tables.new.items ≡ listed tables.old.items) }
+{
+    let mut runs = Vec::new(alloc);
+    push_page(&mut runs, page, kind)?;
+    tables.push(SpaceTable {
+        space,
+        areas: Vec::new(alloc),
+        runs,
+    })?;
+    Ok(())
+}

@@ -1,0 +1,260 @@
+//! A pass over the pages of a memory, which makes the entries of an image.
+ghost use Rattle.std.specs.Prelude.{◌≡◌, ◌≢◌, ◌≤◌, true, false, None, Some, IsTrue, IsSome, ◌↔◌, IfOk, OnOk, OnErr, MatchOption, ◌==◌, ◌++◌};
+ghost use Rattle.std.specs.List.{list_all};
+ghost use Rattle.sd_image.specs.declared.run.RunKind.TheVariants.{Parent};
+ghost use Rattle.sd_pagetable.specs.Contents.{page_at};
+ghost use Rattle.sd_pagetable.specs.Order.{is_above};
+ghost use Rattle.sd_pagetable.specs.Page.{Page};
+ghost use Rattle.sd_rounds.specs.Pass.{Taking, begun_to_take, copied_more, dropped, left_to_parent, opened, place_taken, visited, with_entry};
+ghost use Rattle.sd_rounds.specs.Rises.{IsRising};
+ghost use Rattle.sd_rounds.specs.Rounds.{Copies, IsCopied, IsCopying, IsOver, Stands, TakesPage, Tests, is_page_of_zeros};
+
+use crate::copied::Copied;
+use crate::entries::push_entry;
+use crate::standing::Standing;
+use crate::visit::Visit;
+use sd_areas::{PAGE_SIZE, PageNo, SpaceId};
+use sd_image::{RunKind, SpaceTable};
+use sd_pagetable::{Memory, SECTOR_SIZE};
+use std::alloc::{AllocError, Global};
+use std::marker::Model;
+use std::mem;
+
+/// The bit of a page's word that is set where the page is soft-dirty.
+const SOFT_DIRTY: u64 = 1 << 55;
+
+/// An image in the making: the entries so far, and the page that is being taken.
+#[derive(Debug, Drop)]
+pub struct Round {
+    alloc: Global,
+    takes_all: bool,
+    tables: Vec<SpaceTable>,
+    after: Option<(SpaceId, PageNo)>,
+    taking: Option<(SpaceId, PageNo)>,
+    buffer: Vec<u8>,
+}
+
+impl Model for Round {
+    ghost use Rattle.sd_rounds.specs.Pass.{Pass};
+    ghost use Rattle.sd_rounds.specs.Rounds.{IsRound, pass_of};
+
+    ghost Value = { Pass };
+
+    ghost view = { λ r. pass_of r.takes_all r.tables.items r.after r.taking r.buffer.items };
+
+    ghost invariant = { λ r. IsRound r.takes_all r.tables.items r.after r.taking r.buffer.items };
+}
+
+/// Whether bytes are zeros alone.
+fn is_zero(bytes: &[u8]) -> bool
+    ensures { result ≡ list_all (λ byte. byte == 0) bytes.now }
+{
+    bytes.iter().all(|byte| *byte == 0)
+}
+
+impl Round {
+    /// A pass that begins: where it takes all, no page is left to the parent.
+    pub fn new(alloc: Global, takes_all: bool) -> Self
+        ensures { result ≡ opened takes_all }
+    {
+        Round {
+            alloc,
+            takes_all,
+            tables: Vec::new(alloc),
+            after: None,
+            taking: None,
+            buffer: Vec::new(alloc),
+        }
+    }
+
+    /// How far the page is that is being taken.
+    pub fn standing(&self) -> Standing
+        ensures { Stands self.now result }
+    {
+        match self.taking {
+            None => Standing::Free,
+            Some(_) if self.buffer.len() == PAGE_SIZE => Standing::Copied,
+            Some(_) => Standing::Copying,
+        }
+    }
+
+    /// What holds of every pass: its entries rise, and a page that is being taken is the one at the cursor. It does
+    /// nothing: a caller learns it.
+    pub fn rising(&self)
+        ensures { IsRising self.now }
+    {
+        let _takes_all = self.takes_all;
+    }
+
+    /// Tests and clears the next mapped page, and begins to take it or leaves it to the parent. None where there is no
+    /// further page.
+    ///
+    /// # Errors
+    ///
+    /// Out of memory where the page's entry finds no room: nothing changed.
+    pub fn visit(&mut self, memory: &mut Memory) -> Result<Option<Visit>, AllocError>
+        requires free { self.old.taking ≡ None }
+        ensures visit { IfOk result (λ found. MatchOption found
+            (IsOver self.old memory.old self.new memory.new)
+            (λ visit. Tests self.old memory.old visit self.new memory.new)) }
+        ensures err { OnErr result (self.new ≡ self.old) }
+        ensures err_memory { OnErr result (memory.new ≡ memory.old) }
+    {
+        let Some((space, page)) = memory.next_page(self.after) else {
+            return Ok(None);
+        };
+        memory.sound();
+        let soft_dirty = is_soft_dirty(memory, space, page);
+        self.enter(space, page, soft_dirty)?;
+        let _was = memory.test_and_clear(space, page);
+        Ok(Some(Visit {
+            space,
+            page,
+            soft_dirty,
+        }))
+    }
+
+    /// Copies the next sector of the page that is being taken, as memory has it now. With the eighth a page of zeros
+    /// gets its entry; a page that is no longer mapped gets none.
+    ///
+    /// # Errors
+    ///
+    /// Out of memory where the sector or the page's entry finds no room: nothing changed.
+    pub fn copy_sector(&mut self, memory: &Memory) -> Result<Copied, AllocError>
+        requires { IsCopying self.old }
+        ensures copied { IfOk result (λ copied. Copies self.old memory.now copied self.new) }
+        ensures err { OnErr result (self.new ≡ self.old) }
+    {
+        let Some((space, page)) = self.taking else {
+            unreachable!()
+        };
+        let mut sector = [0; SECTOR_SIZE];
+        if !memory.read_sector(space, page, self.buffer.len() / SECTOR_SIZE, &mut sector) {
+            self.drop_page();
+            return Ok(Copied::Gone);
+        }
+        if self.ends_in_zeros(&sector) {
+            self.enter_taken(space, page, RunKind::Zero)?;
+            return Ok(Copied::Zero);
+        }
+        self.append(&sector)?;
+        Ok(Copied::More)
+    }
+
+    /// Takes the page that was copied as data, and gives its bytes out. Its place in the file is behind the data pages
+    /// before it.
+    ///
+    /// # Errors
+    ///
+    /// Out of memory where the page's entry finds no room: nothing changed.
+    pub fn take_page(&mut self) -> Result<Vec<u8>, AllocError>
+        requires { IsCopied self.old }
+        ensures taken { IfOk result (λ buffer. TakesPage self.old buffer.items self.new) }
+        ensures err { OnErr result (self.new ≡ self.old) }
+    {
+        let Some((space, page)) = self.taking else {
+            unreachable!()
+        };
+        push_entry(self.alloc, &mut self.tables, space, page, RunKind::Data)?;
+        self.taking = None;
+        Ok(mem::replace(&mut self.buffer, Vec::new(self.alloc)))
+    }
+
+    /// Gives the buffer of a page back that was written.
+    pub fn give_back(&mut self, buffer: Vec<u8>)
+        requires { self.old.taking ≡ None }
+        ensures { self.new ≡ self.old }
+    {
+        self.buffer = buffer;
+    }
+
+    /// Whether the page that is being taken is whole with this sector, and all zeros.
+    fn ends_in_zeros(&self, sector: &[u8; SECTOR_SIZE]) -> bool
+        ensures { (taking : Taking) → self.now.taking ≡ Some taking
+            → result ≡ is_page_of_zeros (taking.copied ++ sector.now) }
+    {
+        self.buffer.len() + SECTOR_SIZE == PAGE_SIZE && is_zero(sector) && is_zero(&self.buffer)
+    }
+
+    /// The page that was being taken is no longer mapped.
+    fn drop_page(&mut self)
+        ensures { self.new ≡ dropped self.old }
+    {
+        self.taking = None;
+    }
+
+    /// Puts the page that is being taken behind the entries.
+    fn enter_taken(&mut self, space: SpaceId, page: PageNo, kind: RunKind) -> Result<(), AllocError>
+        requires own { kind ≢ Parent }
+        requires here { place_taken self.old ≡ Some (space, page) }
+        ensures entered { OnOk result (self.new ≡ with_entry self.old (space, page) kind) }
+        ensures err { OnErr result (self.new ≡ self.old) }
+    {
+        push_entry(self.alloc, &mut self.tables, space, page, kind)?;
+        self.taking = None;
+        Ok(())
+    }
+
+    /// Puts a sector behind those that were copied.
+    fn append(&mut self, sector: &[u8; SECTOR_SIZE]) -> Result<(), AllocError>
+        requires { IsCopying self.old }
+        ensures more { OnOk result ((taking : Taking) → self.old.taking ≡ Some taking
+            → self.new ≡ copied_more self.old taking sector.now) }
+        ensures err { OnErr result (self.new ≡ self.old) }
+    {
+        self.buffer.extend_from_slice(sector)?;
+        Ok(())
+    }
+
+    /// Begins to take a page ahead of the cursor, or leaves it to the parent.
+    fn enter(&mut self, space: SpaceId, page: PageNo, soft_dirty: bool) -> Result<(), AllocError>
+        requires free { self.old.taking ≡ None }
+        requires above { is_above self.old.after space page ≡ true }
+        requires least { 1 ≤ space }
+        requires greatest { space ≤ 16 }
+        ensures entered { OnOk result (self.new ≡ visited self.old (space, page) soft_dirty) }
+        ensures err { OnErr result (self.new ≡ self.old) }
+    {
+        if self.takes_all || soft_dirty {
+            self.begin_to_take(space, page);
+            return Ok(());
+        }
+        self.leave(space, page)
+    }
+
+    /// Begins to take a page ahead of the cursor.
+    fn begin_to_take(&mut self, space: SpaceId, page: PageNo)
+        requires free { self.old.taking ≡ None }
+        requires above { is_above self.old.after space page ≡ true }
+        requires least { 1 ≤ space }
+        requires greatest { space ≤ 16 }
+        ensures { self.new ≡ begun_to_take self.old (space, page) }
+    {
+        self.buffer.clear();
+        self.after = Some((space, page));
+        self.taking = Some((space, page));
+    }
+
+    /// Leaves a page ahead of the cursor to the parent.
+    fn leave(&mut self, space: SpaceId, page: PageNo) -> Result<(), AllocError>
+        requires parent { self.old.takes_all ≡ false }
+        requires free { self.old.taking ≡ None }
+        requires above { is_above self.old.after space page ≡ true }
+        requires least { 1 ≤ space }
+        requires greatest { space ≤ 16 }
+        ensures left { OnOk result (self.new ≡ left_to_parent self.old (space, page)) }
+        ensures err { OnErr result (self.new ≡ self.old) }
+    {
+        push_entry(self.alloc, &mut self.tables, space, page, RunKind::Parent)?;
+        self.after = Some((space, page));
+        Ok(())
+    }
+}
+
+/// Whether a page is soft-dirty.
+fn is_soft_dirty(memory: &Memory, space: SpaceId, page: PageNo) -> bool
+    ensures { (found : Page) → page_at memory.now space page ≡ Some found
+        → result ≡ found.soft_dirty }
+{
+    memory.word(space, page) & SOFT_DIRTY != 0
+}

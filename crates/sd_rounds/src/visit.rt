@@ -1,0 +1,9 @@
+use sd_areas::{PageNo, SpaceId};
+
+/// A page that a pass tested and cleared, and whether it was soft-dirty.
+#[derive(Clone, Copy, Debug, PartialEq, Eq, Hash)]
+pub struct Visit {
+    pub space: SpaceId,
+    pub page: PageNo,
+    pub soft_dirty: bool,
+}

@@ -1,0 +1,5 @@
+use Rattle.sd_store_laws.proofs.SlotSteps.{slots_follow_images_lem}
+use Rattle.sd_store_laws.proofs.laws.slots_follow_images.Goals as goal
+
+pub returns : goal.returns
+returns c = slots_follow_images_lem
