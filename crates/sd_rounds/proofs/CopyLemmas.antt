@@ -9,7 +9,7 @@ use Rattle.sd_image.specs.declared.table.SpaceTable.{SpaceTable}
 use Rattle.sd_pagetable.specs.Page.{Page, zeros}
 use Rattle.sd_pagetable.specs.Contents.{Contents, page_at}
 use Rattle.sd_rounds.specs.Pass.{Place, Pass, Taking, copied_more, sector_of, with_entry}
-use Rattle.sd_rounds.specs.Rounds.{CopiesMore, CopiesZeros, IsCopying, IsNextSector, IsRound, TakesPage, is_page_of_zeros, pass_of, taking_of}
+use Rattle.sd_rounds.specs.Rounds.{CopiesMore, CopiesZeros, IsCopied, IsCopying, IsNextSector, IsRound, TakesPage, is_page_of_zeros, pass_of, taking_of}
 use Rattle.sd_rounds.specs.Tables.{IsPushed, listed}
 use Rattle.sd_rounds.proofs.RoundLemmas.{entered_view}
 use Rattle.sd_rounds.proofs.Clean.{one_some}
@@ -103,11 +103,16 @@ pub data_is_own : Data ≡ Parent → ⊥
 data_is_own e = cc
 
 pub takes_page : (takes_all : Bool) (old new : List SpaceTable) (after taking : Option Place) (buffer empty bytes : List ℕ) (at : Place) (parent : ℕ) (pass : Pass)
-    → pass_of takes_all old after taking buffer ≡ pass → taking ≡ Some at → bytes ≡ buffer
+    → pass_of takes_all old after taking buffer ≡ pass → IsRound takes_all old after taking buffer → IsCopied pass → taking ≡ Some at → bytes ≡ buffer
     → IsPushed parent (listed old) (listed new) at Data → TakesPage pass bytes (pass_of takes_all new after None empty)
-takes_page takes_all old new after taking buffer empty bytes at parent pass view is same pushed = record {
+takes_page takes_all old new after taking buffer empty bytes at parent pass view round copied is same pushed = record {
   taking = taking_of buffer at;
-  was = sym (ap (λ (p : Pass). p.taking) view) ∙ taken_is takes_all old after taking buffer at is;
+  was = was;
   same = same;
+  whole = ap (λ (b : List ℕ). length b) same ∙ ap (λ (t : Taking). length t.copied) (one_some (taking_of buffer at) copied.taking was copied.is) ∙ copied.whole;
+  some = subst (λ (b : List ℕ). is_page_of_zeros b ≡ false) (sym same) (round.some at is);
   is = entered_view takes_all old new after taking buffer at Data parent pushed ∙ ap (λ (p : Pass). with_entry p at Data) view;
 }
+  where
+    was : pass.taking ≡ Some (taking_of buffer at)
+    was = sym (ap (λ (p : Pass). p.taking) view) ∙ taken_is takes_all old after taking buffer at is

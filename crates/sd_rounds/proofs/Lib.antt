@@ -10,3 +10,11 @@ pub mod TableLemmas
 pub mod RoundLemmas
 pub mod CopyLemmas
 pub mod StepLemmas
+pub mod RoomLemmas
+pub mod SpaceTableLemmas
+pub mod RisingNumbers
+pub mod DumpTableLemmas
+pub mod ImageTableLemmas
+pub mod MakingLemmas
+pub mod PlanLemmas
+pub mod DumperLemmas

@@ -85,14 +85,14 @@ holds stored chain entries i at bytes is (by_parent listed below) =
     holds_parent i below.0 (subst (λ (l : List Place). Contains l at) (sym (is.lists Parent)) listed)
     (subst (λ (n : ℕ). IsNamed chain.images n below.0) (sym is.parent) below.1) below.2
 
-page_in_is : (memory : PlainMemory) (space page : ℕ) → page_in memory space page ≡ value_at memory space page
+pub page_in_is : (memory : PlainMemory) (space page : ℕ) → page_in memory space page ≡ value_at memory space page
 page_in_is memory space page = by (finmap.get memory space)
   where
     by : (o : Option plain.Space) → option_and_then (λ (pages : plain.Space). finmap.get pages page) o ≡ finmap.get (unwrap_or o finmap.empty) page
     by None = sym (finmap.get-empty nat_cmp page)
     by (Some pages) = refl
 
-dumps : PlainLaw → (stored : Stored) (chain : Chain) (cut : Contents) (pass : Pass) (i : Image) → IsImageOf stored chain pass.entries i → HasTheAreas (plain_of cut) i
+dumps : PlainLaw → (stored : Stored) (chain : Chain) (cut : Contents) (pass : Pass) (i : Image) → IsImageOf stored chain pass.entries i → HasTheAreas (plain_of cut) i.spaces
     → IsDumped stored chain cut pass → IsMemory chain.images i (plain_of cut)
 dumps law stored chain cut pass i is has dumped = record {
   alive = has.alive;

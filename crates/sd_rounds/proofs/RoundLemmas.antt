@@ -14,7 +14,7 @@ use Rattle.sd_image.specs.declared.run.RunKind.{RunKind}
 use Rattle.std.proofs.lemmas.List.{length-append}
 use Rattle.sd_rounds.specs.Pass.{Place, Entry, Pass, Taking, begun_to_take, copied_more, left_to_parent, with_entry}
 use Rattle.sd_rounds.specs.Rises.{IsRising}
-use Rattle.sd_rounds.specs.Rounds.{IsCopying, IsRound, limit, pass_of, source, taking_of}
+use Rattle.sd_rounds.specs.Rounds.{IsCopying, IsRound, is_page_of_zeros, limit, pass_of, source, taking_of}
 use Rattle.sd_rounds.specs.Tables.{EndBefore, IsPushed, listed, entries_in}
 use Rattle.sd_rounds.proofs.Clean.{no_some, one_some}
 use Rattle.sd_rounds.proofs.RisesLemmas.{takes_rising, leaves_rising, copies, drops, enters}
@@ -50,6 +50,7 @@ begun_round takes_all tables after taking buffer empty at round free above least
       (takes_rising (pass_of takes_all tables after taking buffer) at above round.rising);
   spaces = λ q e. subst (λ (p : Place). (1 ≤ p.0) × (p.0 ≤ 16)) (one_some at q refl e) (least, within);
   sectors = λ q e. record { count = 0; are = ap (λ (b : List ℕ). length b) none; few = omega arith };
+  some = λ q e. subst (λ (b : List ℕ). is_page_of_zeros b ≡ false) (sym none) refl;
 }
 
 pub begun_view : (takes_all : Bool) (tables : List SpaceTable) (after taking : Option Place) (buffer empty : List ℕ) (at : Place) → empty ≡ []
@@ -73,6 +74,7 @@ left_round takes_all old new after taking buffer at round free above least withi
       (leaves_rising (pass_of takes_all old after taking buffer) at above round.rising);
   spaces = λ q e. subst (λ (p : Place). (1 ≤ p.0) × (p.0 ≤ 16)) (one_some at q refl e) (least, within);
   sectors = λ q e. absurd (no_some q (none_back (taking_of buffer) taking free) e);
+  some = λ q e. absurd (no_some q (none_back (taking_of buffer) taking free) e);
 }
 
 pub has_source : (takes_all : Bool) → takes_all ≡ false → IsSourced (source takes_all) Parent
@@ -104,6 +106,7 @@ dropped_round takes_all tables after taking buffer round = record {
   rising = drops (pass_of takes_all tables after taking buffer) round.rising;
   spaces = round.spaces;
   sectors = λ q e. absurd (no_some q refl e);
+  some = λ q e. absurd (no_some q refl e);
 }
 
 -- the page that is being taken is the one at the cursor
@@ -141,14 +144,16 @@ entered_round takes_all old new after taking buffer at kind round is pushed = re
       (enters (pass_of takes_all old after taking buffer) (taking_of buffer at) kind (ap (option_map (taking_of buffer)) is) round.rising);
   spaces = round.spaces;
   sectors = λ q e. absurd (no_some q refl e);
+  some = λ q e. absurd (no_some q refl e);
 }
 
 -- one sector more
 pub longer_round : (takes_all : Bool) (tables : List SpaceTable) (after taking : Option Place) (buffer sector new : List ℕ)
     → IsRound takes_all tables after taking buffer → IsCopying (pass_of takes_all tables after taking buffer) → length sector ≡ 512 → new ≡ buffer ++ sector
+    → ((t : Taking) → option_map (taking_of buffer) taking ≡ Some t → is_page_of_zeros (t.copied ++ sector) ≡ false)
     → IsRound takes_all tables after taking new
-longer_round takes_all tables after None buffer sector new round copying long is = absurd (no_some copying.taking refl copying.is)
-longer_round takes_all tables after (Some at) buffer sector new round copying long is = record {
+longer_round takes_all tables after None buffer sector new round copying long is some = absurd (no_some copying.taking refl copying.is)
+longer_round takes_all tables after (Some at) buffer sector new round copying long is some = record {
   are = round.are;
   ends = round.ends;
   rising = subst (λ (b : List ℕ). IsRising (pass_of takes_all tables after (Some at) b)) (sym is)
@@ -160,6 +165,7 @@ longer_round takes_all tables after (Some at) buffer sector new round copying lo
       let len : length new ≡ length buffer + 512 = ap (λ (b : List ℕ). length b) is ∙ length-append buffer sector ∙ ap (λ n. length buffer + n) long in
       let are : length buffer ≡ 512 * was.count = was.are in
       record { count = was.count + 1; are = omega arith; few = omega arith };
+  some = λ q e. subst (λ (b : List ℕ). is_page_of_zeros b ≡ false) (sym is) (some (taking_of buffer at) refl);
 }
 
 pub longer_view : (takes_all : Bool) (tables : List SpaceTable) (after taking : Option Place) (buffer sector new : List ℕ) (t : Taking) → new ≡ buffer ++ sector
@@ -187,6 +193,7 @@ other_round takes_all tables after taking buffer new free round = record {
   rising = subst (λ (p : Pass). IsRising p) (sym (other_view takes_all tables after taking buffer new free)) round.rising;
   spaces = round.spaces;
   sectors = λ q e. absurd (no_some q (none_back (taking_of buffer) taking free) e);
+  some = λ q e. absurd (no_some q (none_back (taking_of buffer) taking free) e);
 }
 
 -- some sectors of a page, but not all

@@ -62,23 +62,23 @@ copy_dumps laws rises dumps stored chain cut old new memory copied.Zero z rising
 copy_dumps laws rises dumps stored chain cut old new memory copied.Gone g rising keeps dumping =
     absurd (dumps.never_drops cut old memory g.taking g.was dumping g.gone)
 
-take_keeps : MadeLaws → (pages : List (List ℕ)) (chain : Chain) (old new : Pass) (memory : Contents) (bytes : List ℕ) → TakesPage old bytes new → length bytes ≡ 4096
+take_keeps : MadeLaws → (pages : List (List ℕ)) (chain : Chain) (old new : Pass) (memory : Contents) (bytes : List ℕ) → TakesPage old bytes new
     → length pages ≡ data_pages old.entries → Keeps (listed_pages pages) chain old memory → Keeps (listed_pages (pages ++ bytes ∷ [])) chain new memory
-take_keeps laws pages chain old new memory bytes t long count keeps =
+take_keeps laws pages chain old new memory bytes t count keeps =
     subst (λ (p : Pass). Keeps (listed_pages (pages ++ bytes ∷ [])) chain p memory) (sym t.is)
     (subst (λ (b : List ℕ). Keeps (listed_pages (pages ++ b ∷ [])) chain (taken_as_data old t.taking) memory) (sym t.same)
-    (laws.takes_up pages chain old memory t.taking t.was (ap (λ (b : List ℕ). length b) (sym t.same) ∙ long) count keeps))
+    (laws.takes_up pages chain old memory t.taking t.was (ap (λ (b : List ℕ). length b) (sym t.same) ∙ t.whole) count keeps))
 
 is_data : (bytes : List ℕ) → length bytes ≡ 4096 → is_page_of_zeros bytes ≡ false → kind_of_bytes bytes ≡ Data
 is_data bytes long some = ap (λ b. cond b Zero Data) (false_from_ne_true (list_all (λ byte. byte == 0) bytes)
     (λ zeroed. both_ways (is_page_of_zeros bytes) some (and_from (nat_eq (length bytes) 4096) (list_all (λ byte. byte == 0) bytes) (eq-eqb (length bytes) 4096 long) zeroed)))
 
-take_dumps : DumpLaws → (stored : Stored) (chain : Chain) (cut : Contents) (old new : Pass) (memory : Contents) (bytes : List ℕ) → TakesPage old bytes new → length bytes ≡ 4096
-    → is_page_of_zeros bytes ≡ false → IsRising old → Keeps stored chain old memory → IsDumping cut old memory → IsDumping cut new memory
-take_dumps laws stored chain cut old new memory bytes t long some rising keeps dumping =
+take_dumps : DumpLaws → (stored : Stored) (chain : Chain) (cut : Contents) (old new : Pass) (memory : Contents) (bytes : List ℕ) → TakesPage old bytes new
+    → IsRising old → Keeps stored chain old memory → IsDumping cut old memory → IsDumping cut new memory
+take_dumps laws stored chain cut old new memory bytes t rising keeps dumping =
     subst (λ (p : Pass). IsDumping cut p memory) (sym t.is)
-    (subst (λ kind. IsDumping cut (with_entry old t.taking.place kind) memory) (ap kind_of_bytes (sym t.same) ∙ is_data bytes long some)
-    (laws.enters stored chain cut old memory t.taking t.was rising (ap (λ (b : List ℕ). length b) (sym t.same) ∙ long) keeps dumping))
+    (subst (λ kind. IsDumping cut (with_entry old t.taking.place kind) memory) (ap kind_of_bytes (sym t.same) ∙ is_data bytes t.whole t.some)
+    (laws.enters stored chain cut old memory t.taking t.was rising (ap (λ (b : List ℕ). length b) (sym t.same) ∙ t.whole) keeps dumping))
 
 pub step_laws : KeepsLaws → RisesLaws → DumpLaws → MadeLaws → StepLaws
 step_laws keeps rises dumps made = record {

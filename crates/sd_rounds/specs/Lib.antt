@@ -7,3 +7,7 @@ pub mod Made
 pub mod Tables
 pub mod Rounds
 pub mod Steps
+pub mod Making
+pub mod SpaceTables
+pub mod Dumper
+pub mod MakingLaws

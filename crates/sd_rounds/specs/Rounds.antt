@@ -40,6 +40,10 @@ pub record AreSectors (copied : ℕ) : Type 0 where
   pub are : copied ≡ 512 * count
   pub few : count ≤ 8
 
+-- a whole page, of zeros alone
+abbrev pub is_page_of_zeros : List ℕ → Bool
+is_page_of_zeros bytes = length bytes == 4096 && list_all (λ byte. byte == 0) bytes
+
 -- what holds of every pass
 pub record IsRound (takes_all : Bool) (tables : List SpaceTable) (after taking : Option Place) (buffer : List ℕ) : Type 0 where
   pub are : AreTables (source takes_all) 0 (listed tables)
@@ -47,6 +51,7 @@ pub record IsRound (takes_all : Bool) (tables : List SpaceTable) (after taking :
   pub rising : IsRising (pass_of takes_all tables after taking buffer)
   pub spaces : (at : Place) → after ≡ Some at → (1 ≤ at.0) × (at.0 ≤ 16)
   pub sectors : (at : Place) → taking ≡ Some at → AreSectors (length buffer)
+  pub some : (at : Place) → taking ≡ Some at → is_page_of_zeros buffer ≡ false
 
 -- the next mapped page is tested and cleared
 pub record Tests (old : Pass) (before : Contents) (visit : Visit) (new : Pass) (after : Contents) : Type 0 where
@@ -71,10 +76,6 @@ pub record IsNextSector (old : Pass) (memory : Contents) (taking : Taking) (page
   pub whole : length page.bytes ≡ 4096
   pub at_sector : length taking.copied ≡ 512 * sector
   pub within : sector < 8
-
--- a whole page, of zeros alone
-abbrev pub is_page_of_zeros : List ℕ → Bool
-is_page_of_zeros bytes = length bytes == 4096 && list_all (λ byte. byte == 0) bytes
 
 -- the sector stands behind those before it; a whole page isn't all zeros
 pub record CopiesMore (old : Pass) (memory : Contents) (new : Pass) : Type 0 where
@@ -110,6 +111,8 @@ pub record TakesPage (old : Pass) (bytes : List ℕ) (new : Pass) : Type 0 where
   pub taking : Taking
   pub was : old.taking ≡ Some taking
   pub same : bytes ≡ taking.copied
+  pub whole : length bytes ≡ 4096
+  pub some : is_page_of_zeros bytes ≡ false
   pub is : new ≡ taken_as_data old taking
 
 -- a page is being taken, and not all of it is copied

@@ -8,7 +8,7 @@ use Rattle.sd_rounds.specs.Keeps.{Stored, Chain, Keeps}
 use Rattle.sd_rounds.specs.Rises.{IsRising}
 use Rattle.sd_rounds.specs.Dump.{IsDumping}
 use Rattle.sd_rounds.specs.Made.{listed_pages}
-use Rattle.sd_rounds.specs.Rounds.{Copies, TakesPage, Tests, is_page_of_zeros}
+use Rattle.sd_rounds.specs.Rounds.{Copies, TakesPage, Tests}
 
 pub record StepLaws : Type 0 where
   pub visit_keeps : (stored : Stored) (chain : Chain) (old new : Pass) (before after : Contents) (visit : Visit) → Tests old before visit new after → old.taking ≡ None
@@ -20,7 +20,7 @@ pub record StepLaws : Type 0 where
   pub copy_dumps : (stored : Stored) (chain : Chain) (cut : Contents) (old new : Pass) (memory : Contents) (copied : Copied) → Copies old memory copied new → IsRising old
       → Keeps stored chain old memory → IsDumping cut old memory → IsDumping cut new memory
   -- a page is taken: its bytes are the next data page, once they are written
-  pub take_keeps : (pages : List (List ℕ)) (chain : Chain) (old new : Pass) (memory : Contents) (bytes : List ℕ) → TakesPage old bytes new → length bytes ≡ 4096
+  pub take_keeps : (pages : List (List ℕ)) (chain : Chain) (old new : Pass) (memory : Contents) (bytes : List ℕ) → TakesPage old bytes new
       → length pages ≡ data_pages old.entries → Keeps (listed_pages pages) chain old memory → Keeps (listed_pages (pages ++ bytes ∷ [])) chain new memory
-  pub take_dumps : (stored : Stored) (chain : Chain) (cut : Contents) (old new : Pass) (memory : Contents) (bytes : List ℕ) → TakesPage old bytes new → length bytes ≡ 4096
-      → is_page_of_zeros bytes ≡ false → IsRising old → Keeps stored chain old memory → IsDumping cut old memory → IsDumping cut new memory
+  pub take_dumps : (stored : Stored) (chain : Chain) (cut : Contents) (old new : Pass) (memory : Contents) (bytes : List ℕ) → TakesPage old bytes new
+      → IsRising old → Keeps stored chain old memory → IsDumping cut old memory → IsDumping cut new memory

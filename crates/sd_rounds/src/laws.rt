@@ -2,6 +2,7 @@
 ghost use Rattle.sd_rounds.specs.Dump.{DumpLaws};
 ghost use Rattle.sd_rounds.specs.Keeps.{KeepsLaws};
 ghost use Rattle.sd_rounds.specs.Made.{MadeLaws};
+ghost use Rattle.sd_rounds.specs.MakingLaws.{MakingLaws};
 ghost use Rattle.sd_rounds.specs.Rises.{RisesLaws};
 ghost use Rattle.sd_rounds.specs.Steps.{StepLaws};
 ghost use Rattle.sd_rounds.specs.Visits.{VisitLaws};
@@ -50,4 +51,13 @@ pub fn step_law()
     rises_law();
     dump_law();
     made_law();
+}
+
+/// What the steps of an image and the outcomes of its calls keep, and what the dump has.
+pub fn making_law()
+    ensures { MakingLaws }
+{
+    keeps_law();
+    dump_law();
+    step_law();
 }

@@ -1,15 +1,37 @@
 //! The dumper: pre-dumps while the memory is in use, the freeze, and the dump.
 #![tactic(auto)]
 
+mod checkpoint;
 mod copied;
+mod dumper;
 mod entries;
+mod image_maker;
+mod image_order;
+mod image_progress;
+mod image_step;
 mod laws;
+mod new_image;
+mod next_image;
+mod progress;
 mod round;
+mod stage;
 mod standing;
+mod tables;
 mod visit;
+mod work_error;
 
 pub use copied::Copied;
-pub use laws::{dump_law, keeps_law, made_law, rises_law, step_law, visits_law};
+pub use dumper::Dumper;
+pub use image_maker::ImageMaker;
+pub use image_order::ImageOrder;
+pub use image_progress::ImageProgress;
+pub use image_step::ImageStep;
+pub use laws::{dump_law, keeps_law, made_law, making_law, rises_law, step_law, visits_law};
+pub use new_image::NewImage;
+pub use next_image::NextImage;
+pub use progress::Progress;
 pub use round::Round;
+pub use stage::Stage;
 pub use standing::Standing;
 pub use visit::Visit;
+pub use work_error::WorkError;

@@ -1,13 +1,14 @@
 //! A pass over the pages of a memory, which makes the entries of an image.
-ghost use Rattle.std.specs.Prelude.{◌≡◌, ◌≢◌, ◌≤◌, true, false, None, Some, IsTrue, IsSome, ◌↔◌, IfOk, OnOk, OnErr, MatchOption, ◌==◌, ◌++◌};
+ghost use Rattle.std.specs.Prelude.{◌≡◌, ◌≢◌, ◌<◌, ◌≤◌, ◌^◌, true, false, None, Some, IsTrue, IsSome, ◌↔◌, IfOk, OnOk, OnErr, MatchOption, ◌==◌, ◌++◌};
 ghost use Rattle.std.specs.List.{list_all};
 ghost use Rattle.sd_image.specs.declared.run.RunKind.TheVariants.{Parent};
 ghost use Rattle.sd_pagetable.specs.Contents.{page_at};
 ghost use Rattle.sd_pagetable.specs.Order.{is_above};
 ghost use Rattle.sd_pagetable.specs.Page.{Page};
-ghost use Rattle.sd_rounds.specs.Pass.{Taking, begun_to_take, copied_more, dropped, left_to_parent, opened, place_taken, visited, with_entry};
+ghost use Rattle.sd_rounds.specs.Pass.{Taking, begun_to_take, copied_more, data_pages, dropped, left_to_parent, opened, place_taken, visited, with_entry};
 ghost use Rattle.sd_rounds.specs.Rises.{IsRising};
-ghost use Rattle.sd_rounds.specs.Rounds.{Copies, IsCopied, IsCopying, IsOver, Stands, TakesPage, Tests, is_page_of_zeros};
+ghost use Rattle.sd_rounds.specs.Rounds.{Copies, IsCopied, IsCopying, IsOver, Stands, TakesPage, Tests, is_page_of_zeros, source};
+ghost use Rattle.sd_rounds.specs.Tables.{AreTables, entries_in, listed};
 
 use crate::copied::Copied;
 use crate::entries::push_entry;
@@ -75,6 +76,24 @@ impl Round {
             None => Standing::Free,
             Some(_) if self.buffer.len() == PAGE_SIZE => Standing::Copied,
             Some(_) => Standing::Copying,
+        }
+    }
+
+    /// Its entries, as the runs of each space that has any.
+    pub(crate) fn tables(&self) -> &[SpaceTable]
+        ensures are { AreTables (source self.now.takes_all) 0 (listed result.now) }
+        ensures entries { entries_in result.now ≡ self.now.entries }
+    {
+        &self.tables
+    }
+
+    /// An image has room for the page that is being taken behind its data pages. It does nothing: a caller learns it.
+    pub fn has_room(&self)
+        ensures { (taking : Taking) → self.now.taking ≡ Some taking
+            → data_pages self.now.entries < 2 ^ 39 }
+    {
+        if let Some((_, page)) = self.taking {
+            let _number = page.number();
         }
     }
 
@@ -197,7 +216,9 @@ impl Round {
 
     /// Puts a sector behind those that were copied.
     fn append(&mut self, sector: &[u8; SECTOR_SIZE]) -> Result<(), AllocError>
-        requires { IsCopying self.old }
+        requires copying { IsCopying self.old }
+        requires some { (taking : Taking) → self.old.taking ≡ Some taking
+            → is_page_of_zeros (taking.copied ++ sector.now) ≡ false }
         ensures more { OnOk result ((taking : Taking) → self.old.taking ≡ Some taking
             → self.new ≡ copied_more self.old taking sector.now) }
         ensures err { OnErr result (self.new ≡ self.old) }

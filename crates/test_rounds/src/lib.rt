@@ -1,5 +1,9 @@
-//! Tests of passes by their public names.
+//! Tests of passes and checkpoints by their public names.
 #![tactic(auto)]
 
 #[cfg(test)]
+mod drive;
+#[cfg(test)]
 mod passes;
+#[cfg(test)]
+mod rows;

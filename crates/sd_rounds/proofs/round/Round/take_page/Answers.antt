@@ -28,5 +28,5 @@ returns-clause-taken c =
     (c.in-Some.space, c.in-Some.page) c.self.invariant c.in-Some.is) in
     takes_page c.self.inside.takes_all c.self.inside.tables.items c.push_entry.new.tables.items c.self.inside.after c.self.inside.taking c.self.inside.buffer.items
     c.replace.new.dest.items c.replace.result.items (c.in-Some.space, c.in-Some.page) (source c.self.inside.takes_all) c.args.self.now
-    c.self.view_is c.in-Some.is (ap (λ (b : Vec ℕ Global). b.items) c.replace.ensures.value)
+    c.self.view_is c.self.invariant c.requires c.in-Some.is (ap (λ (b : Vec ℕ Global). b.items) c.replace.ensures.value)
     (c.in_ok-push_entry.ensures.more (source c.self.inside.takes_all) c.self.invariant.are (λ e. absurd (data_is_own e)) within.0 within.1)

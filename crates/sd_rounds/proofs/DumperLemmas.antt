@@ -1,0 +1,346 @@
+-- What holds of every checkpoint that runs, from step to step.
+use Rattle.std.proofs.Common.{◌≡◌, ◌≢◌, ℕ, ◌+◌, ◌<◌, ◌≤◌, ◌^◌, Bool, true, false, nat_eq, nat_le, ◌&&◌, if◌then◌else◌, List, [], ◌∷◌, ◌++◌, length, Option, Some, None, refl, sym, ◌∙◌, ap, subst, arith}
+use Rattle.std.specs.Option.{option_map}
+use Rattle.std.proofs.lemmas.Bool.{both_ways, and_parts}
+use Rattle.std.proofs.lemmas.Bool.Decides.{nat_tests}
+use Rattle.sd_image.specs.declared.header.Kind.{Kind}
+use Rattle.sd_image.specs.declared.header.Kind.TheVariants.{Dump, Merged, PreDump}
+use Rattle.sd_image.specs.Words.{kind_number}
+use Rattle.sd_gate.specs.declared.slot_state.SlotState.{SlotState}
+use Rattle.sd_gate.specs.Plans.{Gives, Planned, is_one, plan_after}
+use Rattle.sd_gate.specs.Requests.{Asked, Made}
+use Rattle.sd_gate.specs.Sequences.{Calls}
+use Rattle.sd_pagetable.specs.Contents.{Contents}
+use Rattle.sd_rounds.specs.declared.checkpoint.Checkpoint.{Checkpoint}
+use Rattle.sd_rounds.specs.declared.image_order.ImageOrder.{ImageOrder}
+use Rattle.sd_rounds.specs.declared.image_step.ImageStep.{ImageStep}
+use Rattle.sd_rounds.specs.declared.image_step.ImageStep.TheVariants.{Call, PageCall, TableCall, Frozen, Visited, Copied}
+use Rattle.sd_rounds.specs.declared.new_image.NewImage.{NewImage}
+use Rattle.sd_rounds.specs.declared.progress.Progress.{Progress}
+use Rattle.sd_rounds.specs.declared.progress.Progress.TheVariants.{Strange, Failed as HasFailed, More as GoesOnWith, PreDump as PreDumpOpen, Dump as DumpOpen}
+use Rattle.sd_rounds.specs.declared.stage.Stage.{Stage}
+use Rattle.sd_rounds.specs.declared.stage.Stage.TheVariants.{Format, Freeze, Pass as PassStage, PageWrite, Close}
+use Rattle.sd_rounds.specs.Dumper.{AreRunning, AreCounted, Dumping, Hands, HandsTo, IsHanded, HasCounted, IsCounted, IsItsImage, IsRunning, Running, WorksOn, counted, ends, freezes, image_from, is_frozen_image, is_last, is_strange, order_of, running_of}
+use Rattle.sd_rounds.specs.Making.{Asks, GoesOn, Making, Opens, Steps, WritesPage, WritesTable, begun_image, closing, is_frozen, is_past_freeze, outcomes_left, outcomes_of, plan_of, stage_after, stage_behind, with_plan}
+use Rattle.sd_rounds.specs.Pass.{data_pages}
+use Rattle.sd_rounds.proofs.MakingLemmas.{copy_counts, take_counts, visit_counts}
+
+-- ---- a step
+
+-- an image that counts, where the memory is frozen
+Counts : ℕ → Making → Type 0
+Counts since image = is_frozen image ≡ true → IsCounted since image
+
+from_counts : (since : ℕ) (running : Running) (serial : ℕ) (state : SlotState) → IsRunning since running → is_frozen (image_from running serial state running.image) ≡ true
+    → IsCounted since (image_from running serial state running.image)
+from_counts since running serial state is = by running.image is.counts
+  where
+    by : (image : Option Making) → AreCounted since image → is_frozen (image_from running serial state image) ≡ true → IsCounted since (image_from running serial state image)
+    by None counts frozen = absurd (both_ways false refl (sym (never (nat_eq (kind_number (order_of running serial state).kind) 2)) ∙ frozen))
+      where
+        never : (b : Bool) → (b && false) ≡ false
+        never true = refl
+        never false = refl
+    by (Some image) counts frozen = counts frozen
+
+from_own : (running : Running) (serial : ℕ) (state : SlotState) (image : Option Making) → IsItsImage running image
+    → (image_from running serial state image).order ≡ order_of running (image_from running serial state image).order.serial (image_from running serial state image).order.state
+from_own running serial state None own = refl
+from_own running serial state (Some image) own = own
+
+-- a plan that gives out a call has as many outcomes left
+gives_same : (old new : Planned) (request : Asked) → Gives old new request → outcomes_of new ≡ outcomes_of old
+gives_same old new request g =
+    let calls : length old.calls ≡ length new.calls + 1 = ap (λ (c : Calls). length c) g.next ∙ omega arith in
+    let before : is_one old.out ≡ 0 = ap is_one g.free in
+    let after : is_one new.out ≡ 1 = ap is_one g.out in
+    omega arith
+
+past_with : (stage : Stage) (plan : Planned) → is_past_freeze (with_plan stage plan) ≡ is_past_freeze stage
+past_with (Format old) plan = refl
+past_with Freeze plan = refl
+past_with PassStage plan = refl
+past_with (PageWrite old) plan = refl
+past_with (Close old header tables) plan = refl
+
+closing_with : (stage : Stage) (plan : Planned) → closing (with_plan stage plan) ≡ closing stage
+closing_with (Format old) plan = refl
+closing_with Freeze plan = refl
+closing_with PassStage plan = refl
+closing_with (PageWrite old) plan = refl
+closing_with (Close old header tables) plan = refl
+
+one_plan : (a b : Planned) → Some a ≡ Some b → a ≡ b
+one_plan a b e = cc
+
+left_of : (stage : Stage) (plan : Planned) → plan_of stage ≡ Some plan → outcomes_left stage ≡ outcomes_of plan
+left_of (Format old) plan e = ap outcomes_of (one_plan old plan e)
+left_of Freeze plan e = absurd (let f : None ≡ Some plan = e in cc)
+left_of PassStage plan e = absurd (let f : None ≡ Some plan = e in cc)
+left_of (PageWrite old) plan e = ap outcomes_of (one_plan old plan e)
+left_of (Close old header tables) plan e = ap outcomes_of (one_plan old plan e)
+
+left_with : (stage : Stage) (old plan : Planned) → plan_of stage ≡ Some old → outcomes_left (with_plan stage plan) ≡ outcomes_of plan
+left_with (Format o) old plan e = refl
+left_with Freeze old plan e = absurd (let f : None ≡ Some old = e in cc)
+left_with PassStage old plan e = absurd (let f : None ≡ Some old = e in cc)
+left_with (PageWrite o) old plan e = refl
+left_with (Close o header tables) old plan e = refl
+
+-- in the pass the counts are even
+pass_count : (since : ℕ) (image : Making) → image.stage ≡ PassStage → IsCounted since image → since ≡ data_pages image.pass.entries
+pass_count since image stage is =
+    let left : outcomes_left image.stage ≡ 0 = ap outcomes_left stage in
+    let none : closing image.stage ≡ 0 = ap closing stage in
+    let all : since + outcomes_left image.stage ≡ data_pages image.pass.entries + closing image.stage = is.count in
+    omega arith
+
+frozen_pass : (image : Making) (order : ImageOrder) (stage : Stage) → image.stage ≡ PassStage → image.order ≡ order → is_past_freeze stage ≡ true
+    → ((nat_eq (kind_number order.kind) 2) && is_past_freeze stage) ≡ true → is_frozen image ≡ true
+frozen_pass image order stage is same past frozen =
+    ap (λ (o : ImageOrder). nat_eq (kind_number o.kind) 2 && is_past_freeze image.stage) same
+    ∙ ap (λ b. nat_eq (kind_number order.kind) 2 && b) (ap is_past_freeze is ∙ sym past) ∙ frozen
+
+-- what a step leaves of the order and the counts
+pub record Leaves (since : ℕ) (old : Making) (step : ImageStep) (new : Making) : Type 0 where
+  pub order : new.order ≡ old.order
+  pub counts : is_frozen new ≡ true → IsCounted (if freezes step then 0 else since) new
+
+step_leaves : (since ticket : ℕ) (old new : Making) (before after : Contents) (step : ImageStep) → Steps ticket old before step new after
+    → (is_frozen old ≡ true → IsCounted since old) → Leaves since old step new
+step_leaves since ticket old new before after (Call request) s was = record {
+  order = ap (λ (m : Making). m.order) s.0.is;
+  counts = λ frozen. subst (λ (m : Making). IsCounted since m) (sym s.0.is) (record {
+    count =
+        let w = was (sym (ap (λ b. nat_eq (kind_number old.order.kind) 2 && b) (past_with old.stage s.0.next)) ∙ ap is_frozen (sym s.0.is) ∙ frozen) in
+        let all : since + outcomes_left old.stage ≡ data_pages old.pass.entries + closing old.stage = w.count in
+        let left : outcomes_left old.stage ≡ outcomes_of s.0.plan = left_of old.stage s.0.plan s.0.was in
+        let now : outcomes_left (with_plan old.stage s.0.next) ≡ outcomes_of s.0.next = left_with old.stage s.0.plan s.0.next s.0.was in
+        let same : outcomes_of s.0.next ≡ outcomes_of s.0.plan = gives_same s.0.plan s.0.next request s.0.gives in
+        let close : closing (with_plan old.stage s.0.next) ≡ closing old.stage = closing_with old.stage s.0.next in
+        omega arith;
+  });
+}
+step_leaves since ticket old new before after (PageCall request) s was = record {
+  order = s.0.order;
+  counts = λ frozen. record {
+    count =
+        let w = was (frozen_pass old new.order new.stage s.0.stage (sym s.0.order) (ap is_past_freeze s.0.is) frozen) in
+        let all : since ≡ data_pages old.pass.entries = pass_count since old s.0.stage w in
+        let left : outcomes_left new.stage ≡ outcomes_of s.0.next = ap outcomes_left s.0.is in
+        let one : outcomes_of s.0.next ≡ 1 = gives_same _ s.0.next request s.0.gives in
+        let none : closing new.stage ≡ 0 = ap closing s.0.is in
+        let more : data_pages new.pass.entries ≡ data_pages old.pass.entries + 1 = take_counts old.pass s.0.bytes new.pass s.0.taken in
+        omega arith;
+  };
+}
+step_leaves since ticket old new before after (TableCall request) s was = record {
+  order = ap (λ (m : Making). m.order) s.0.is;
+  counts = λ frozen. subst (λ (m : Making). IsCounted since m) (sym s.0.is) (record {
+    count =
+        let w = was (frozen_pass old old.order (Close s.0.next s.0.header s.0.tables) s.0.stage refl refl (ap is_frozen (sym s.0.is) ∙ frozen)) in
+        let all : since ≡ data_pages old.pass.entries = pass_count since old s.0.stage w in
+        let five : outcomes_of s.0.next ≡ 5 = gives_same _ s.0.next request s.0.gives in
+        omega arith;
+  });
+}
+step_leaves since ticket old new before after Frozen s was = record {
+  order = ap (λ (m : Making). m.order) s.0.is;
+  counts = λ frozen. subst (λ (m : Making). IsCounted 0 m) (sym s.0.is) (record {
+    count = sym (ap (λ (p : _). data_pages p.entries + 0) s.0.fresh);
+  });
+}
+step_leaves since ticket old new before after (Visited visit) s was = record {
+  order = ap (λ (m : Making). m.order) s.passes.1;
+  counts = λ frozen. record {
+    count =
+        let stage : new.stage ≡ PassStage = ap (λ (m : Making). m.stage) s.passes.1 ∙ s.passes.0 in
+        let w = was (frozen_pass old new.order new.stage s.passes.0 (sym (ap (λ (m : Making). m.order) s.passes.1)) (ap is_past_freeze stage) frozen) in
+        let all : since ≡ data_pages old.pass.entries = pass_count since old s.passes.0 w in
+        let left : outcomes_left new.stage ≡ 0 = ap outcomes_left stage in
+        let none : closing new.stage ≡ 0 = ap closing stage in
+        let same : data_pages new.pass.entries ≡ data_pages old.pass.entries = visit_counts old.pass before visit new.pass after s.tests in
+        omega arith;
+  };
+}
+step_leaves since ticket old new before after (Copied c) s was = record {
+  order = ap (λ (m : Making). m.order) s.0.passes.1;
+  counts = λ frozen. record {
+    count =
+        let stage : new.stage ≡ PassStage = ap (λ (m : Making). m.stage) s.0.passes.1 ∙ s.0.passes.0 in
+        let w = was (frozen_pass old new.order new.stage s.0.passes.0 (sym (ap (λ (m : Making). m.order) s.0.passes.1)) (ap is_past_freeze stage) frozen) in
+        let all : since ≡ data_pages old.pass.entries = pass_count since old s.0.passes.0 w in
+        let left : outcomes_left new.stage ≡ 0 = ap outcomes_left stage in
+        let none : closing new.stage ≡ 0 = ap closing stage in
+        let same : data_pages new.pass.entries ≡ data_pages old.pass.entries = copy_counts old.pass before c new.pass s.0.copies in
+        omega arith;
+  };
+}
+
+pub works_running : (since serial : ℕ) (state : SlotState) (ticket : ℕ) (old new : Running) (before after : Contents) (step : ImageStep) → IsRunning since old
+    → WorksOn serial state ticket old before step new after → IsRunning (if freezes step then 0 else since) new
+works_running since serial state ticket old new before after step is works =
+    let leaves = step_leaves since ticket (image_from old serial state old.image) works.image before after step works.steps (from_counts since old serial state is) in
+    subst (λ (r : Running). IsRunning (if freezes step then 0 else since) r) (sym works.is) (record {
+      few = is.few;
+      own = leaves.order ∙ from_own old serial state old.image is.own ∙ ap (λ (o : ImageOrder). order_of old o.serial o.state) (sym leaves.order);
+      counts = leaves.counts;
+    })
+
+-- ---- an outcome
+
+-- a dump is frozen behind its format
+hands_leaves : (since : ℕ) (old new : Making) (made : Made) → GoesOn old made new → (is_frozen old ≡ true → IsCounted since old)
+    → is_frozen new ≡ true → IsCounted (if is_frozen old then since + 1 else since) new
+hands_leaves since old new made g was frozen =
+    subst (λ (m : Making). IsCounted (if is_frozen old then since + 1 else since) m) (sym g.is)
+    (by old.stage refl (plan_after g.plan made).calls refl (ap is_frozen (sym g.is) ∙ frozen))
+  where
+    never : (b : Bool) → (b && false) ≡ true → ⊥
+    never true e = both_ways false refl e
+    never false e = both_ways false refl e
+
+    one : outcomes_of (plan_after g.plan made) + 1 ≡ outcomes_of g.plan
+    one = g.one
+
+    counted_more : (stage : Stage) → old.stage ≡ stage → is_past_freeze stage ≡ true → nat_eq (kind_number old.order.kind) 2 ≡ true
+        → (since + outcomes_left stage ≡ data_pages old.pass.entries + closing stage) × (◌≡◌ {A = ℕ} (if is_frozen old then since + 1 else since) (since + 1))
+    counted_more stage e past kind =
+        let is : is_frozen old ≡ true = ap (λ b. b && is_past_freeze old.stage) kind ∙ ap is_past_freeze e ∙ past in
+        (subst (λ (s : Stage). since + outcomes_left s ≡ data_pages old.pass.entries + closing s) e (was is).count,
+        ap (λ b. if b then since + 1 else since) is)
+
+    by : (stage : Stage) → old.stage ≡ stage → (calls : Calls) → (plan_after g.plan made).calls ≡ calls
+        → is_frozen (record old { stage = stage_after old.order.kind old.stage (plan_after g.plan made) (plan_after g.plan made).calls }) ≡ true
+        → IsCounted (if is_frozen old then since + 1 else since) (record old { stage = stage_after old.order.kind old.stage (plan_after g.plan made) (plan_after g.plan made).calls })
+    by stage e calls f frozen =
+        subst (λ (s : Stage). IsCounted (if is_frozen old then since + 1 else since) (record old { stage = stage_after old.order.kind s (plan_after g.plan made) (plan_after g.plan made).calls })) (sym e)
+        (subst (λ (c : Calls). IsCounted (if is_frozen old then since + 1 else since) (record old { stage = stage_after old.order.kind stage (plan_after g.plan made) c })) (sym f)
+        (cases stage e calls f
+        (sym (ap (λ (s : Stage). is_frozen (record old { stage = stage_after old.order.kind s (plan_after g.plan made) (plan_after g.plan made).calls })) e
+        ∙ ap (λ (c : Calls). is_frozen (record old { stage = stage_after old.order.kind stage (plan_after g.plan made) c })) f) ∙ frozen)))
+      where
+        cases : (stage : Stage) → old.stage ≡ stage → (calls : Calls) → (plan_after g.plan made).calls ≡ calls
+            → is_frozen (record old { stage = stage_after old.order.kind stage (plan_after g.plan made) calls }) ≡ true
+            → IsCounted (if is_frozen old then since + 1 else since) (record old { stage = stage_after old.order.kind stage (plan_after g.plan made) calls })
+        cases (Format plan) e [] f frozen = absurd (behind old.order.kind frozen)
+          where
+            behind : (kind : Kind) → (nat_eq (kind_number kind) 2 && is_past_freeze (stage_behind kind (Format plan))) ≡ true → ⊥
+            behind Dump e = both_ways false refl e
+            behind PreDump e = both_ways false refl e
+            behind Merged e = both_ways false refl e
+        cases (Format plan) e (call ∷ calls) f frozen = absurd (never (nat_eq (kind_number old.order.kind) 2) frozen)
+        cases Freeze e calls f frozen = absurd (let n : None ≡ Some g.plan = ap plan_of (sym e) ∙ g.awaited.was in cc)
+        cases PassStage e calls f frozen = absurd (let n : None ≡ Some g.plan = ap plan_of (sym e) ∙ g.awaited.was in cc)
+        cases (PageWrite plan) e [] f frozen =
+            let w = counted_more (PageWrite plan) e refl (and_parts (nat_eq (kind_number old.order.kind) 2) true frozen).0 in
+            let left : outcomes_of plan ≡ outcomes_of g.plan = left_of (PageWrite plan) g.plan (ap plan_of (sym e) ∙ g.awaited.was) in
+            let none : outcomes_of (plan_after g.plan made) ≡ 0 = ap (λ (c : Calls). length c + 0) f in
+            let all : since + outcomes_of plan ≡ data_pages old.pass.entries + 0 = w.0 in
+            let now : (if is_frozen old then since + 1 else since) ≡ since + 1 = w.1 in
+            record { count = omega arith }
+        cases (PageWrite plan) e (call ∷ calls) f frozen =
+            let w = counted_more (PageWrite plan) e refl (and_parts (nat_eq (kind_number old.order.kind) 2) true frozen).0 in
+            let left : outcomes_of plan ≡ outcomes_of g.plan = left_of (PageWrite plan) g.plan (ap plan_of (sym e) ∙ g.awaited.was) in
+            let all : since + outcomes_of plan ≡ data_pages old.pass.entries + 0 = w.0 in
+            let now : (if is_frozen old then since + 1 else since) ≡ since + 1 = w.1 in
+            record { count = omega arith }
+        cases (Close plan header tables) e [] f frozen = absurd (g.closes (λ z. (let y : closing old.stage ≡ 5 = ap closing e in omega (arith, z, y))) f)
+        cases (Close plan header tables) e (call ∷ calls) f frozen =
+            let w = counted_more (Close plan header tables) e refl (and_parts (nat_eq (kind_number old.order.kind) 2) true frozen).0 in
+            let left : outcomes_of plan ≡ outcomes_of g.plan = left_of (Close plan header tables) g.plan (ap plan_of (sym e) ∙ g.awaited.was) in
+            let all : since + outcomes_of plan ≡ data_pages old.pass.entries + 5 = w.0 in
+            let now : (if is_frozen old then since + 1 else since) ≡ since + 1 = w.1 in
+            record { count = omega arith }
+
+image_counts : (since : ℕ) (running : Running) (image : Making) → running.image ≡ Some image → IsRunning since running → is_frozen image ≡ true → IsCounted since image
+image_counts since running image e is = subst (AreCounted since) e is.counts
+
+image_own : (since : ℕ) (running : Running) (image : Making) → running.image ≡ Some image → IsRunning since running → image.order ≡ order_of running image.order.serial image.order.state
+image_own since running image e is = subst (IsItsImage running) e is.own
+
+counted_is : (since : ℕ) (running : Running) (image : Making) → running.image ≡ Some image → counted running since ≡ (if is_frozen image then since + 1 else since)
+counted_is since running image e = ap (λ (o : Option Making). if is_frozen_image o then since + 1 else since) e
+
+-- a checkpoint that goes on
+pub hands_running : (since : ℕ) (old new : Running) (made : Made) (progress : Progress) → IsRunning since old → HandsTo old made progress new
+    → is_strange progress ≡ false → ends progress ≡ false → IsRunning (counted old since) new
+hands_running since old new made Strange is hands strange ended = absurd (both_ways true strange refl)
+hands_running since old new made HasFailed is hands strange ended = absurd (both_ways true ended refl)
+hands_running since old new made GoesOnWith is hands strange ended =
+    let same : hands.next.order ≡ hands.image.order = ap (λ (m : Making). m.order) hands.hands.is in
+    subst (λ (r : Running). IsRunning (counted old since) r) (sym hands.is) (record {
+      few = is.few;
+      own = same ∙ image_own since old hands.image hands.was is ∙ ap (λ (o : ImageOrder). order_of old o.serial o.state) (sym same);
+      counts = λ frozen. subst (λ n. IsCounted n hands.next) (sym (counted_is since old hands.image hands.was))
+          (hands_leaves since hands.image hands.next made hands.hands (image_counts since old hands.image hands.was is) frozen);
+    })
+hands_running since old new made (PreDumpOpen opened) is hands strange ended =
+    subst (λ (r : Running). IsRunning (counted old since) r) (sym hands.2) (record {
+      few = more old.opened (length old.pre_dumps) hands.1;
+      own = tt;
+      counts = tt;
+    })
+  where
+    more : (a b : ℕ) → nat_le b a ≡ false → a + 1 ≤ b
+    more a b e = grind (arith, nat_tests)
+hands_running since old new made (DumpOpen opened) is hands strange ended = absurd (both_ways true ended refl)
+
+-- the dump is followed by five outcomes and one for each of its data pages
+pub hands_counted : (since : ℕ) (old new : Running) (made : Made) (progress : Progress) → IsRunning since old → HandsTo old made progress new → HasCounted progress (counted old since)
+hands_counted since old new made Strange is hands = tt
+hands_counted since old new made HasFailed is hands = tt
+hands_counted since old new made GoesOnWith is hands = tt
+hands_counted since old new made (PreDumpOpen opened) is hands = tt
+hands_counted since old new made (DumpOpen opened) is hands =
+    let image = hands.0.image in
+    let o = hands.0.hands in
+    let kind : nat_eq (kind_number image.order.kind) 2 ≡ true =
+    ap (λ (r : ImageOrder). nat_eq (kind_number r.kind) 2) (image_own since old image hands.0.was is)
+    ∙ ap (λ b. nat_eq (kind_number (if b then Dump else PreDump)) 2) hands.1 in
+    let frozen : is_frozen image ≡ true = ap (λ b. b && is_past_freeze image.stage) kind ∙ ap is_past_freeze o.was in
+    let w : IsCounted since image = image_counts since old image hands.0.was is frozen in
+    let left : outcomes_left image.stage ≡ outcomes_of o.plan = ap outcomes_left o.was in
+    let five : closing image.stage ≡ 5 = ap closing o.was in
+    let none : outcomes_of (plan_after o.plan made) ≡ 0 = ap (λ (c : Calls). length c + 0) o.last in
+    let one : outcomes_of (plan_after o.plan made) + 1 ≡ outcomes_of o.plan = o.one in
+    let all : since + outcomes_left image.stage ≡ data_pages image.pass.entries + closing image.stage = w.count in
+    let pages : opened.header.pages ≡ data_pages image.pass.entries = o.pages in
+    let now : counted old since ≡ since + 1 = counted_is since old image hands.0.was ∙ ap (λ b. if b then since + 1 else since) frozen in
+    omega arith
+
+-- an outcome that was awaited
+pub handed : (old new : Dumping) (made : Made) (progress : Progress) → is_strange progress ≡ false → IsHanded old made progress new → Hands old made progress new
+handed old new made Strange strange is = absurd (both_ways true strange refl)
+handed old new made HasFailed strange is = is
+handed old new made GoesOnWith strange is = is
+handed old new made (PreDumpOpen opened) strange is = is
+handed old new made (DumpOpen opened) strange is = is
+
+not_frozen : (step : ImageStep) → (step ≡ Frozen → ⊥) → freezes step ≡ false
+not_frozen (Call request) other = refl
+not_frozen (PageCall request) other = refl
+not_frozen (TableCall request) other = refl
+not_frozen Frozen other = absurd (other refl)
+not_frozen (Visited visit) other = refl
+not_frozen (Copied c) other = refl
+
+-- a step other than the freeze
+pub works_on : (since serial : ℕ) (state : SlotState) (ticket : ℕ) (old : Option Checkpoint) (checkpoint : Checkpoint) (new : Running) (before after : Contents) (step : ImageStep)
+    → AreRunning since (option_map running_of old) → old ≡ Some checkpoint → (step ≡ Frozen → ⊥)
+    → WorksOn serial state ticket (running_of checkpoint) before step new after → IsRunning since new
+works_on since serial state ticket old checkpoint new before after step are is other works =
+    subst (λ b. IsRunning (if b then 0 else since) new) (not_frozen step other)
+    (works_running since serial state ticket (running_of checkpoint) new before after step (subst (λ (o : Option Checkpoint). AreRunning since (option_map running_of o)) is are) works)
+
+pub same_dumping : (a b : Option Running) (m n : ℕ) → a ≡ b → m ≡ n → ◌≡◌ {A = Dumping} (record { running = a; since_freeze = m }) (record { running = b; since_freeze = n })
+same_dumping a b m n e f = ap (λ o. record { running = o; since_freeze = m }) e ∙ ap (λ k. record { running = b; since_freeze = k }) f
+
+pub counted_one : (running : Running) (since old : ℕ) → is_frozen_image running.image ≡ true → since ≡ old → since + 1 ≡ counted running old
+counted_one running since old frozen same = ap (λ n. n + 1) same ∙ sym (ap (λ b. if b then old + 1 else old) frozen)
+
+pub ended : (next : Running) (b : Bool) → b ≡ true → ◌≡◌ {A = Option Running} None (if b then None else Some next)
+ended next b e = sym (ap (λ b. if b then None else Some next) e)
+
+pub goes_on : (next : Running) (b : Bool) → b ≡ false → ◌≡◌ {A = Option Running} (Some next) (if b then None else Some next)
+goes_on next b e = sym (ap (λ b. if b then None else Some next) e)

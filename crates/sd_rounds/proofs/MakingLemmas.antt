@@ -1,0 +1,265 @@
+-- What the steps of an image keep.
+use Rattle.std.proofs.Common.{◌≡◌, ◌≢◌, ℕ, ◌+◌, ◌<◌, Bool, true, false, nat_eq, ◌||◌, if◌then◌else◌, List, [], ◌∷◌, ◌++◌, length, Option, Some, None, refl, sym, ◌∙◌, ap, subst, arith}
+use Rattle.std.specs.List.{AllByRecursion}
+use Rattle.std.proofs.lemmas.Bool.{both_ways}
+use Rattle.std.proofs.lemmas.List.{length-append}
+use Rattle.sd_image.specs.declared.header.Kind.{Kind}
+use Rattle.sd_image.specs.declared.header.Kind.TheVariants.{Dump, Merged, PreDump}
+use Rattle.sd_image.specs.declared.run.RunKind.{RunKind}
+use Rattle.sd_image.specs.declared.run.RunKind.TheVariants.{Data, Parent, Zero}
+use Rattle.sd_gate.specs.Plans.{Gives, Planned, plan_after}
+use Rattle.sd_gate.specs.Requests.{Made}
+use Rattle.sd_gate.specs.Sequences.{Calls}
+use Rattle.sd_pagetable.specs.Contents.{Contents, IsSound}
+use Rattle.sd_pagetable.specs.Tracking.{Event, Step}
+use Rattle.sd_rounds.specs.declared.copied.Copied as copied
+use Rattle.sd_rounds.specs.declared.copied.Copied.TheVariants.{More as MoreSectors, Zero as ZeroPage, Gone}
+use Rattle.sd_rounds.specs.declared.visit.Visit as visit
+use Rattle.sd_rounds.specs.declared.image_order.ImageOrder.{ImageOrder}
+use Rattle.sd_rounds.specs.declared.image_progress.ImageProgress.TheVariants.{More}
+use Rattle.sd_rounds.specs.declared.image_step.ImageStep.{ImageStep}
+use Rattle.sd_rounds.specs.declared.image_step.ImageStep.TheVariants.{Call, PageCall, TableCall, Frozen, Visited, Copied}
+use Rattle.sd_rounds.specs.declared.stage.Stage.{Stage}
+use Rattle.sd_rounds.specs.declared.stage.Stage.TheVariants.{Format, Freeze, Pass as PassStage, PageWrite, Close}
+use Rattle.sd_rounds.specs.Dump.{DumpLaws, IsDumped, IsDumping}
+use Rattle.sd_rounds.specs.Keeps.{Chain, Gave, IsCall, Keeps, KeepsLaws, Rests, Within}
+use Rattle.sd_rounds.specs.Made.{listed_pages}
+use Rattle.sd_rounds.specs.Making.{Asks, CopiesSector, Freezes, GoesOn, HandsIn, Making, Steps, Visits, WritesPage, WritesTable, begun_image, closing, is_past_freeze, plan_of, stage_after, stage_behind, with_plan}
+use Rattle.sd_rounds.specs.MakingLaws.{DumpsImage, IsDumpedIn, IsKeptIn, KeepsImage, MakingLaws, Pages, pages_after}
+use Rattle.sd_rounds.specs.Pass.{Pass, Place, begun_to_take, data_pages, left_to_parent, opened, pages_by, with_entry}
+use Rattle.sd_rounds.specs.Rises.{IsRising}
+use Rattle.sd_rounds.specs.Rounds.{Copies, Tests, TakesPage}
+use Rattle.sd_rounds.specs.Steps.{StepLaws}
+use Rattle.sd_rounds.proofs.Lists.{pages_append}
+use Rattle.sd_rounds.proofs.TableLemmas.{all_put}
+
+-- ---- how many data pages there are
+
+other_kind : (pass : Pass) (kind : RunKind) → kind ≢ Data → (at : Place) → data_pages (with_entry pass at kind).entries ≡ data_pages pass.entries
+other_kind pass Data other at = absurd (other refl)
+other_kind pass Parent other at = ap length (pages_append Data pass.entries _) ∙ length-append (pages_by Data pass.entries) [] ∙ omega arith
+other_kind pass Zero other at = ap length (pages_append Data pass.entries _) ∙ length-append (pages_by Data pass.entries) [] ∙ omega arith
+
+one_more : (pass : Pass) (at : Place) → data_pages (with_entry pass at Data).entries ≡ data_pages pass.entries + 1
+one_more pass at = ap length (pages_append Data pass.entries _) ∙ length-append (pages_by Data pass.entries) (at ∷ [])
+
+pub visit_counts : (old : Pass) (before : Contents) (visit : visit.Visit) (new : Pass) (after : Contents) → Tests old before visit new after → data_pages new.entries ≡ data_pages old.entries
+visit_counts old before visit new after t = ap (λ (p : Pass). data_pages p.entries) t.is ∙ by (old.takes_all || t.page.soft_dirty)
+  where
+    by : (b : Bool) → data_pages (if b then begun_to_take old (visit.space, visit.page) else left_to_parent old (visit.space, visit.page)).entries ≡ data_pages old.entries
+    by true = refl
+    by false = other_kind (record old { after = Some (visit.space, visit.page) }) Parent (λ e. cc) (visit.space, visit.page)
+
+pub copy_counts : (old : Pass) (memory : Contents) (c : copied.Copied) (new : Pass) → Copies old memory c new → data_pages new.entries ≡ data_pages old.entries
+copy_counts old memory MoreSectors new m = ap (λ (p : Pass). data_pages p.entries) m.is
+copy_counts old memory ZeroPage new z = ap (λ (p : Pass). data_pages p.entries) z.is ∙ other_kind old Zero (λ e. cc) z.taking.place
+copy_counts old memory Gone new g = ap (λ (p : Pass). data_pages p.entries) g.is
+
+pub take_counts : (old : Pass) (bytes : List ℕ) (new : Pass) → TakesPage old bytes new → data_pages new.entries ≡ data_pages old.entries + 1
+take_counts old bytes new t = ap (λ (p : Pass). data_pages p.entries) t.is ∙ one_more old t.taking.place
+
+-- ---- what is kept
+
+abbrev first_bytes : Calls → List ℕ
+first_bytes [] = []
+first_bytes (call ∷ calls) = call.1
+
+asked_keeps : (stage : Stage) (plan : Planned) (pages : Pages) (chain : Chain) (pass : Pass) (memory : Contents) → IsKeptIn stage pages chain pass memory → IsKeptIn (with_plan stage plan) pages chain pass memory
+asked_keeps (Format old) plan pages chain pass memory kept = kept
+asked_keeps Freeze plan pages chain pass memory kept = kept
+asked_keeps PassStage plan pages chain pass memory kept = kept
+asked_keeps (PageWrite old) plan pages chain pass memory kept = kept
+asked_keeps (Close old header tables) plan pages chain pass memory kept = kept
+
+asked_dumps : (stage : Stage) (plan : Planned) (cut : Contents) (pages : Pages) (chain : Chain) (pass : Pass) (memory : Contents) → IsDumpedIn stage cut pages chain pass memory
+    → IsDumpedIn (with_plan stage plan) cut pages chain pass memory
+asked_dumps (Format old) plan cut pages chain pass memory dumped = dumped
+asked_dumps Freeze plan cut pages chain pass memory dumped = dumped
+asked_dumps PassStage plan cut pages chain pass memory dumped = dumped
+asked_dumps (PageWrite old) plan cut pages chain pass memory dumped = dumped
+asked_dumps (Close old header tables) plan cut pages chain pass memory dumped = dumped
+
+-- in the pass
+pass_kept : (stage : Stage) (pages : Pages) (chain : Chain) (pass : Pass) (memory : Contents) → stage ≡ PassStage → IsKeptIn stage pages chain pass memory → Keeps (listed_pages pages) chain pass memory
+pass_kept stage pages chain pass memory e kept = subst (λ (s : Stage). IsKeptIn s pages chain pass memory) e kept
+
+pass_dumped : (stage : Stage) (cut : Contents) (pages : Pages) (chain : Chain) (pass : Pass) (memory : Contents) → stage ≡ PassStage → IsDumpedIn stage cut pages chain pass memory → IsDumping cut pass memory
+pass_dumped stage cut pages chain pass memory e dumped = subst (λ (s : Stage). IsDumpedIn s cut pages chain pass memory) e dumped
+
+begins : KeepsLaws → (order : ImageOrder) (chain : Chain) (memory : Contents) → (order.parent ≢ 0 → Rests chain memory) → KeepsImage [] chain (begun_image order) memory
+begins laws order chain memory rests = record {
+  count = refl;
+  whole = tt;
+  kept = by (nat_eq order.parent 0) refl;
+}
+  where
+    apart : (a : ℕ) → nat_eq a 0 ≡ false → a ≢ 0
+    apart a e is = both_ways (nat_eq a 0) e (ap (λ n. nat_eq n 0) is)
+
+    by : (b : Bool) → nat_eq order.parent 0 ≡ b → Keeps (listed_pages []) chain (opened b) memory
+    by true e = laws.opens_whole (listed_pages []) chain memory
+    by false e = laws.opens (listed_pages []) chain memory (rests (apart order.parent e))
+
+-- the same image, in another stage
+moved : (pages more : Pages) (chain : Chain) (new : Making) (stage : Stage) (pass : Pass) (order : ImageOrder) (memory : Contents)
+    → new ≡ record { order = order; pass = pass; stage = stage } → length more ≡ data_pages pass.entries → AllByRecursion (λ page. length page ≡ 4096) more
+    → IsKeptIn stage more chain pass memory → KeepsImage more chain new memory
+moved pages more chain new stage pass order memory is count whole kept =
+    subst (λ (m : Making). KeepsImage more chain m memory) (sym is) (record { count = count; whole = whole; kept = kept })
+
+steps : KeepsLaws → StepLaws → (ticket : ℕ) (pages : Pages) (chain : Chain) (old new : Making) (before after : Contents) (step : ImageStep) → Steps ticket old before step new after
+    → KeepsImage pages chain old before → KeepsImage (pages_after step pages) chain new after
+steps keeps laws ticket pages chain old new before after (Call request) s was =
+    subst (λ memory. KeepsImage pages chain new memory) (sym s.2)
+    (moved pages pages chain new (with_plan old.stage s.0.next) old.pass old.order before s.0.is was.count was.whole
+    (asked_keeps old.stage s.0.next pages chain old.pass before was.kept))
+steps keeps laws ticket pages chain old new before after (PageCall request) s was =
+    subst (λ memory. KeepsImage (pages ++ request.bytes ∷ []) chain new memory) (sym s.2) (by s.0)
+  where
+    by : WritesPage old request new → KeepsImage (pages ++ request.bytes ∷ []) chain new before
+    by w =
+        let same : w.bytes ≡ request.bytes = same_bytes w in
+        record {
+          count = length-append pages (request.bytes ∷ []) ∙ ap (λ n. n + 1) was.count ∙ sym (take_counts old.pass w.bytes new.pass w.taken);
+          whole = all_put (λ page. length page ≡ 4096) pages request.bytes was.whole (ap (λ (b : List ℕ). length b) (sym same) ∙ w.taken.whole);
+          kept = subst (λ (s : Stage). IsKeptIn s (pages ++ request.bytes ∷ []) chain new.pass before) (sym w.is)
+              (subst (λ (b : List ℕ). Keeps (listed_pages (pages ++ b ∷ [])) chain new.pass before) same
+              (laws.take_keeps pages chain old.pass new.pass before w.bytes w.taken was.count (pass_kept old.stage pages chain old.pass before w.stage was.kept)));
+        }
+      where
+        same_bytes : (w : WritesPage old request new) → w.bytes ≡ request.bytes
+        same_bytes w = ap first_bytes w.gives.next
+steps keeps laws ticket pages chain old new before after (TableCall request) s was =
+    subst (λ memory. KeepsImage pages chain new memory) (sym s.2) (by s.0)
+  where
+    by : WritesTable old before request new → KeepsImage pages chain new before
+    by w = moved pages pages chain new (Close w.next w.header w.tables) old.pass old.order before w.is was.count was.whole
+        (keeps.ends (listed_pages pages) chain old.pass before w.free w.over (pass_kept old.stage pages chain old.pass before w.stage was.kept))
+steps keeps laws ticket pages chain old new before after Frozen s was =
+    subst (λ memory. KeepsImage pages chain new memory) (sym s.1)
+    (moved pages pages chain new PassStage old.pass old.order before s.0.is was.count was.whole
+    (subst (λ (s : Stage). IsKeptIn s pages chain old.pass before) s.0.stage was.kept))
+steps keeps laws ticket pages chain old new before after (Visited visit) s was =
+    moved pages pages chain new old.stage new.pass old.order after s.passes.1 (was.count ∙ sym (visit_counts old.pass before visit new.pass after s.tests)) was.whole
+    (subst (λ (g : Stage). IsKeptIn g pages chain new.pass after) (sym s.passes.0)
+    (laws.visit_keeps (listed_pages pages) chain old.pass new.pass before after visit s.tests s.free (pass_kept old.stage pages chain old.pass before s.passes.0 was.kept)))
+steps keeps laws ticket pages chain old new before after (Copied c) s was =
+    subst (λ memory. KeepsImage pages chain new memory) (sym s.1)
+    (moved pages pages chain new old.stage new.pass old.order before s.0.passes.1 (was.count ∙ sym (copy_counts old.pass before c new.pass s.0.copies)) was.whole
+    (subst (λ (g : Stage). IsKeptIn g pages chain new.pass before) (sym s.0.passes.0)
+    (laws.copy_keeps (listed_pages pages) chain old.pass new.pass before c s.0.copies (pass_kept old.stage pages chain old.pass before s.0.passes.0 was.kept))))
+
+-- behind a plan whose calls are done
+behind_keeps : (kind : Kind) (stage : Stage) (pages : Pages) (chain : Chain) (pass : Pass) (memory : Contents) → closing stage ≡ 0 → IsKeptIn stage pages chain pass memory
+    → IsKeptIn (stage_behind kind stage) pages chain pass memory
+behind_keeps Dump (Format plan) pages chain pass memory none kept = kept
+behind_keeps PreDump (Format plan) pages chain pass memory none kept = kept
+behind_keeps Merged (Format plan) pages chain pass memory none kept = kept
+behind_keeps kind Freeze pages chain pass memory none kept = kept
+behind_keeps kind PassStage pages chain pass memory none kept = kept
+behind_keeps kind (PageWrite plan) pages chain pass memory none kept = kept
+behind_keeps kind (Close plan header tables) pages chain pass memory none kept = absurd (omega arith)
+
+none_closing : (stage : Stage) (calls : Calls) → (closing stage ≢ 0 → calls ≢ []) → calls ≡ [] → closing stage ≡ 0
+none_closing (Format plan) calls closes none = refl
+none_closing Freeze calls closes none = refl
+none_closing PassStage calls closes none = refl
+none_closing (PageWrite plan) calls closes none = refl
+none_closing (Close plan header tables) calls closes none = absurd (closes (λ e. omega (arith, e)) none)
+
+hands : (pages : Pages) (chain : Chain) (old new : Making) (memory : Contents) (made : Made) → HandsIn old made More new
+    → KeepsImage pages chain old memory → KeepsImage pages chain new memory
+hands pages chain old new memory made h was =
+    moved pages pages chain new (stage_after old.order.kind old.stage (plan_after h.plan made) (plan_after h.plan made).calls) old.pass old.order memory h.is was.count was.whole
+    (by (plan_after h.plan made).calls (none_closing old.stage (plan_after h.plan made).calls h.closes))
+  where
+    by : (calls : Calls) → (calls ≡ [] → closing old.stage ≡ 0) → IsKeptIn (stage_after old.order.kind old.stage (plan_after h.plan made) calls) pages chain old.pass memory
+    by [] none = behind_keeps old.order.kind old.stage pages chain old.pass memory (none refl) was.kept
+    by (call ∷ calls) none = asked_keeps old.stage (plan_after h.plan made) pages chain old.pass memory was.kept
+
+calls : KeepsLaws → (pages : Pages) (one other : Chain) (making : Making) (old new : Contents) (event : Event) → IsSound old → Step old event new → IsCall event → Within one other
+    → KeepsImage pages one making old → KeepsImage pages other making new
+calls laws pages one other making old new event sound step call within was = record {
+  count = was.count;
+  whole = was.whole;
+  kept = by making.stage was.kept;
+}
+  where
+    passes : Keeps (listed_pages pages) one making.pass old → Keeps (listed_pages pages) other making.pass new
+    passes kept = laws.agrees (listed_pages pages) (listed_pages pages) one other making.pass new (λ place few. refl) within
+        (laws.calls (listed_pages pages) one making.pass old new event sound step call kept)
+
+    by : (stage : Stage) → IsKeptIn stage pages one making.pass old → IsKeptIn stage pages other making.pass new
+    by (Format plan) kept = passes kept
+    by Freeze kept = passes kept
+    by PassStage kept = passes kept
+    by (PageWrite plan) kept = passes kept
+    by (Close plan header tables) kept =
+        laws.still_gave (listed_pages pages) (listed_pages pages) one other making.pass.entries old new event sound step call (λ place few. refl) within kept
+
+-- ---- the dump
+
+freezes : DumpLaws → (ticket : ℕ) (pages : Pages) (chain : Chain) (old new : Making) (before after : Contents) → Steps ticket old before Frozen new after
+    → DumpsImage before pages chain new after
+freezes laws ticket pages chain old new before after s =
+    subst (λ (m : Making). DumpsImage before pages chain m after) (sym s.0.is)
+    (subst (λ memory. IsDumping before old.pass memory) (sym s.1)
+    (subst (λ (p : Pass). IsDumping before p before) (sym s.0.fresh) (laws.freezes (nat_eq old.order.parent 0) before)))
+
+dumps : DumpLaws → StepLaws → (ticket : ℕ) (cut : Contents) (pages : Pages) (chain : Chain) (old new : Making) (before after : Contents) (step : ImageStep) → Steps ticket old before step new after
+    → is_past_freeze old.stage ≡ true → IsRising old.pass → KeepsImage pages chain old before → DumpsImage cut pages chain old before → DumpsImage cut (pages_after step pages) chain new after
+dumps dump laws ticket cut pages chain old new before after (Call request) s past rising keeps was =
+    subst (λ memory. DumpsImage cut pages chain new memory) (sym s.2)
+    (subst (λ (m : Making). DumpsImage cut pages chain m before) (sym s.0.is) (asked_dumps old.stage s.0.next cut pages chain old.pass before was))
+dumps dump laws ticket cut pages chain old new before after (PageCall request) s past rising keeps was =
+    subst (λ memory. DumpsImage cut (pages ++ request.bytes ∷ []) chain new memory) (sym s.2)
+    (subst (λ (g : Stage). IsDumpedIn g cut (pages ++ request.bytes ∷ []) chain new.pass before) (sym s.0.is)
+    (laws.take_dumps (listed_pages pages) chain cut old.pass new.pass before s.0.bytes s.0.taken rising
+    (pass_kept old.stage pages chain old.pass before s.0.stage keeps.kept) (pass_dumped old.stage cut pages chain old.pass before s.0.stage was)))
+dumps dump laws ticket cut pages chain old new before after (TableCall request) s past rising keeps was =
+    subst (λ memory. DumpsImage cut pages chain new memory) (sym s.2)
+    (subst (λ (m : Making). DumpsImage cut pages chain m before) (sym s.0.is)
+    (dump.ends (listed_pages pages) chain cut old.pass before s.0.free rising s.0.over
+    (pass_kept old.stage pages chain old.pass before s.0.stage keeps.kept) (pass_dumped old.stage cut pages chain old.pass before s.0.stage was)))
+dumps dump laws ticket cut pages chain old new before after Frozen s past rising keeps was =
+    absurd (both_ways (is_past_freeze old.stage) (ap is_past_freeze s.0.stage) past)
+dumps dump laws ticket cut pages chain old new before after (Visited visit) s past rising keeps was =
+    subst (λ (m : Making). DumpsImage cut pages chain m after) (sym s.passes.1)
+    (subst (λ (g : Stage). IsDumpedIn g cut pages chain new.pass after) (sym s.passes.0)
+    (laws.visit_dumps cut old.pass new.pass before after visit s.tests s.free rising (pass_dumped old.stage cut pages chain old.pass before s.passes.0 was)))
+dumps dump laws ticket cut pages chain old new before after (Copied c) s past rising keeps was =
+    subst (λ memory. DumpsImage cut pages chain new memory) (sym s.1)
+    (subst (λ (m : Making). DumpsImage cut pages chain m before) (sym s.0.passes.1)
+    (subst (λ (g : Stage). IsDumpedIn g cut pages chain new.pass before) (sym s.0.passes.0)
+    (laws.copy_dumps (listed_pages pages) chain cut old.pass new.pass before c s.0.copies rising
+    (pass_kept old.stage pages chain old.pass before s.0.passes.0 keeps.kept) (pass_dumped old.stage cut pages chain old.pass before s.0.passes.0 was))))
+
+behind_dumps : (kind : Kind) (stage : Stage) (cut : Contents) (pages : Pages) (chain : Chain) (pass : Pass) (memory : Contents) → closing stage ≡ 0 → is_past_freeze stage ≡ true
+    → IsDumpedIn stage cut pages chain pass memory → IsDumpedIn (stage_behind kind stage) cut pages chain pass memory
+behind_dumps kind (Format plan) cut pages chain pass memory none past dumped = absurd (both_ways false refl past)
+behind_dumps kind Freeze cut pages chain pass memory none past dumped = absurd (both_ways false refl past)
+behind_dumps kind PassStage cut pages chain pass memory none past dumped = dumped
+behind_dumps kind (PageWrite plan) cut pages chain pass memory none past dumped = dumped
+behind_dumps kind (Close plan header tables) cut pages chain pass memory none past dumped = absurd (omega arith)
+
+hands_dump : (cut : Contents) (pages : Pages) (chain : Chain) (old new : Making) (memory : Contents) (made : Made) → HandsIn old made More new
+    → is_past_freeze old.stage ≡ true → DumpsImage cut pages chain old memory → DumpsImage cut pages chain new memory
+hands_dump cut pages chain old new memory made h past was =
+    subst (λ (m : Making). DumpsImage cut pages chain m memory) (sym h.is)
+    (by (plan_after h.plan made).calls (none_closing old.stage (plan_after h.plan made).calls h.closes))
+  where
+    by : (calls : Calls) → (calls ≡ [] → closing old.stage ≡ 0)
+        → IsDumpedIn (stage_after old.order.kind old.stage (plan_after h.plan made) calls) cut pages chain old.pass memory
+    by [] none = behind_dumps old.order.kind old.stage cut pages chain old.pass memory (none refl) past was
+    by (call ∷ calls) none = asked_dumps old.stage (plan_after h.plan made) cut pages chain old.pass memory was
+
+pub making_laws : KeepsLaws → DumpLaws → StepLaws → MakingLaws
+making_laws keeps dump laws = record {
+  begins = begins keeps;
+  steps = steps keeps laws;
+  hands = hands;
+  calls = calls keeps;
+  freezes = freezes dump;
+  dumps = dumps dump laws;
+  hands_dump = hands_dump;
+}

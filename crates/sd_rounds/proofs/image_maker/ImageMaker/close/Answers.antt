@@ -1,0 +1,61 @@
+use Rattle.std.proofs.Common.{◌≡◌, ℕ, ◌<◌, ◌≤◌, ◌^◌, List, length, refl, sym, ◌∙◌, ap, subst}
+use Rattle.sd_image.specs.declared.header.Header.{Header}
+use Rattle.sd_image.specs.Table.{Listed, table_text}
+use Rattle.sd_gate.specs.Inspections.{nothing}
+use Rattle.sd_gate.specs.Plans.{Gives, Planned, begun}
+use Rattle.sd_gate.specs.Sequences.{IsBody, body_calls}
+use Rattle.sd_rounds.specs.declared.stage.Stage.TheVariants.{Close}
+use Rattle.sd_rounds.specs.Making.{HasTable, IsUnderWay, Making, header_of}
+use Rattle.sd_rounds.specs.Pass.{Pass, data_pages}
+use Rattle.sd_rounds.proofs.ImageTableLemmas.{table_is_long}
+use Rattle.sd_rounds.proofs.PlanLemmas.{body_under_way, gives_under_way, is_body}
+use Rattle.sd_rounds.proofs.image_maker.ImageMaker.close.Goals as goal
+
+pub first_request-request-requires-clause-under_way : goal.first_request-request-requires-clause-under_way
+first_request-request-requires-clause-under_way c =
+    let few : data_pages c.args.self.now.pass.entries ≤ 2 ^ 39 = subst (λ (m : Making). data_pages m.pass.entries ≤ 2 ^ 39) c.self.view_is (subst (λ n. n ≤ 2 ^ 39) c.self.invariant.counted c.self.invariant.few) in
+    let body : IsBody c.header-header.result c.in_ok-text.text.items =
+    is_body c.header-header.result _ c.in_ok-text.text.items (data_pages c.args.self.now.pass.entries) c.header-header.ensures refl few
+    (subst (λ (t : List ℕ). 0 < length t) (sym c.in_ok-text.ensures.text) (table_is_long _)) in
+    subst (λ (p : Planned). IsUnderWay p) (sym (c.close_body-plan.ensures.body body)) (body_under_way _ _ _)
+
+pub invariant_of-self : goal.invariant_of-self
+invariant_of-self c =
+    let few : data_pages c.args.self.now.pass.entries ≤ 2 ^ 39 = subst (λ (m : Making). data_pages m.pass.entries ≤ 2 ^ 39) c.self.view_is (subst (λ n. n ≤ 2 ^ 39) c.self.invariant.counted c.self.invariant.few) in
+    let body : IsBody c.header-header.result c.in_ok-text.text.items =
+    is_body c.header-header.result _ c.in_ok-text.text.items (data_pages c.args.self.now.pass.entries) c.header-header.ensures refl few
+    (subst (λ (t : List ℕ). 0 < length t) (sym c.in_ok-text.ensures.text) (table_is_long _)) in
+    record {
+      takes = c.self.invariant.takes;
+      counted = c.self.invariant.counted;
+      few = c.self.invariant.few;
+      ready = (ap (λ (h : Header). h.pages) c.header-header.ensures ∙ ap (λ (m : Making). data_pages m.pass.entries) (sym c.self.view_is),
+          gives_under_way c.close_body-plan.result c.first_request-request.new.plan c.first_request-request.result
+          (subst (λ (p : Planned). IsUnderWay p) (sym (c.close_body-plan.ensures.body body)) (body_under_way _ _ _)) c.first_request-request.ensures.gives);
+    }
+
+pub returns-clause-table : goal.returns-clause-table
+returns-clause-table c =
+    let few : data_pages c.args.self.now.pass.entries ≤ 2 ^ 39 = subst (λ (m : Making). data_pages m.pass.entries ≤ 2 ^ 39) c.self.view_is (subst (λ n. n ≤ 2 ^ 39) c.self.invariant.counted c.self.invariant.few) in
+    let body : IsBody c.header-header.result c.in_ok-text.text.items =
+    is_body c.header-header.result _ c.in_ok-text.text.items (data_pages c.args.self.now.pass.entries) c.header-header.ensures refl few
+    (subst (λ (t : List ℕ). 0 < length t) (sym c.in_ok-text.ensures.text) (table_is_long _)) in
+    let text : c.in_ok-text.text.items ≡ table_text c.in_ok-table-2.table = c.in_ok-text.ensures.text ∙ ap table_text (sym c.in_ok-table-2.ensures) in
+    (record {
+      stage = c.requires.stage;
+      free = c.requires.free;
+      over = c.requires.over;
+      tables = c.in_ok-table-2.table;
+      header = c.header-header.result;
+      numbers = c.header-header.ensures ∙ ap (header_of c.args.self.now.order (data_pages c.args.self.now.pass.entries))
+          (c.len.ensures ∙ c.in_ok-text.text.ok.0 ∙ ap (λ (t : List ℕ). length t) text);
+      table = subst (λ (l : List Listed). HasTable c.args.self.now.order.kind c.args.memory.now c.args.self.now.pass.entries c.header-header.result l) (sym c.in_ok-table-2.ensures)
+          (c.in_ok-table.ensures c.header-header.result (ap (λ (h : Header). h.kind) c.header-header.ensures) (ap (λ (h : Header). h.parent) c.header-header.ensures)
+          (ap (λ (h : Header). h.pages) c.header-header.ensures));
+      next = c.first_request-request.new.plan;
+      gives = subst (λ (p : Planned). Gives p c.first_request-request.new.plan c.first_request-request.result)
+          (c.close_body-plan.ensures.body body ∙ ap (λ (t : List ℕ). begun c.self.inside.order.slot (body_calls c.header-header.result t) nothing) text
+          ∙ ap (λ (m : Making). begun m.order.slot (body_calls c.header-header.result (table_text c.in_ok-table-2.table)) nothing) c.self.view_is)
+          c.first_request-request.ensures.gives;
+      is = ap (λ (m : Making). record m { stage = Close c.first_request-request.new.plan c.header-header.result c.in_ok-table-2.table }) c.self.view_is;
+    }, c.first_request-request.ensures.asked)

@@ -1,0 +1,7 @@
+use Rattle.sd_rounds.proofs.PlanLemmas.{settles}
+use Rattle.sd_rounds.proofs.image_maker.settle.Goals as goal
+
+pub returns : goal.returns
+returns c =
+    let told = c.settle.ensures.settled c.requires.out in
+    settles c.args.plan.now c.settle.new.self c.args.outcome c.settle.result c.requires.under_way c.requires.out told.0 told.1

@@ -1,0 +1,313 @@
+-- An image in the making, as it is seen, and what its steps do.
+use Rattle.std.specs.Prelude.{◌≡◌, ◌≢◌, ℕ, ◌≤◌, ◌^◌, Bool, true, false, ◌==◌, ◌&&◌, ◌+◌, List, [], ◌∷◌, length, Option, Some, None, is_some}
+use Rattle.sd_areas.specs.PlainMemory.{PlainMemory}
+use Rattle.sd_image.specs.declared.header.Header.{Header}
+use Rattle.sd_image.specs.declared.header.Kind.{Kind}
+use Rattle.sd_image.specs.declared.header.Kind.TheVariants.{PreDump, Dump, Merged}
+use Rattle.sd_image.specs.Table.{IsTable, Listed, table_text}
+use Rattle.sd_image.specs.Words.{kind_number}
+use Rattle.sd_gate.specs.declared.call.Call.TheVariants.{Write}
+use Rattle.sd_gate.specs.declared.request_id.RequestId.{RequestId}
+use Rattle.sd_gate.specs.declared.settled.Settled.{Settled}
+use Rattle.sd_gate.specs.declared.settled.Settled.TheVariants.{More as PlanMore, Finished as PlanFinished, Failed as PlanFailed, Strange as PlanStrange}
+use Rattle.sd_gate.specs.declared.worker.Worker.TheVariants.{Dumper}
+use Rattle.sd_gate.specs.Calls.{is_done}
+use Rattle.sd_gate.specs.Inspections.{nothing}
+use Rattle.sd_gate.specs.PlanRuns.{AreChanges}
+use Rattle.sd_gate.specs.Plans.{Gives, Planned, begun, is_one, plan_after}
+use Rattle.sd_gate.specs.Requests.{Asked, Made}
+use Rattle.sd_gate.specs.Sequences.{Calls, body_calls, data_place, format_calls}
+use Rattle.sd_pagetable.specs.Contents.{Contents, page_at, plain_of}
+use Rattle.sd_pagetable.specs.Order.{IsNextPage}
+use Rattle.sd_rounds.specs.declared.copied.Copied as copied
+use Rattle.sd_rounds.specs.declared.visit.Visit as visit
+use Rattle.sd_rounds.specs.declared.image_order.ImageOrder.{ImageOrder}
+use Rattle.sd_rounds.specs.declared.image_progress.ImageProgress.{ImageProgress}
+use Rattle.sd_rounds.specs.declared.image_progress.ImageProgress.TheVariants.{Strange, Failed, More, Opened}
+use Rattle.sd_rounds.specs.declared.image_step.ImageStep.{ImageStep}
+use Rattle.sd_rounds.specs.declared.image_step.ImageStep.TheVariants.{Call, PageCall, TableCall, Frozen, Visited, Copied}
+use Rattle.sd_rounds.specs.declared.new_image.NewImage.{NewImage}
+use Rattle.sd_rounds.specs.declared.stage.Stage.{Stage}
+use Rattle.sd_rounds.specs.declared.stage.Stage.TheVariants.{Format, Freeze, Pass as PassStage, PageWrite, Close}
+use Rattle.sd_rounds.specs.Made.{HasTheAreas, Lists}
+use Rattle.sd_rounds.specs.Pass.{Entry, Pass, data_pages, opened}
+use Rattle.sd_rounds.specs.Rises.{kind_at}
+use Rattle.sd_rounds.specs.Rounds.{Copies, IsOver, TakesPage, Tests}
+
+-- an image in the making: what is fixed of it, its pass, and how far it is
+pub record Making : Type 0 where
+  pub order : ImageOrder
+  pub pass : Pass
+  pub stage : Stage
+
+-- it begins with the format of its slot; without a parent it takes every page
+abbrev pub begun_image : ImageOrder → Making
+begun_image order =
+    record { order = order; pass = opened (order.parent == 0); stage = Format (begun order.slot (format_calls order.state) nothing) }
+
+-- the plan whose calls are being made
+abbrev pub plan_of : Stage → Option Planned
+plan_of (Format plan) = Some plan
+plan_of Freeze = None
+plan_of PassStage = None
+plan_of (PageWrite plan) = Some plan
+plan_of (Close plan header tables) = Some plan
+
+-- the freeze is behind
+abbrev pub is_past_freeze : Stage → Bool
+is_past_freeze (Format plan) = false
+is_past_freeze Freeze = false
+is_past_freeze PassStage = true
+is_past_freeze (PageWrite plan) = true
+is_past_freeze (Close plan header tables) = true
+
+-- the dump of a memory that is frozen
+abbrev pub is_frozen : Making → Bool
+is_frozen making = (kind_number making.order.kind == 2) && is_past_freeze making.stage
+
+-- how many outcomes of a plan are still to be handed in
+abbrev pub outcomes_of : Planned → ℕ
+outcomes_of plan = length plan.calls + is_one plan.out
+
+abbrev pub outcomes_left : Stage → ℕ
+outcomes_left (Format plan) = outcomes_of plan
+outcomes_left Freeze = 0
+outcomes_left PassStage = 0
+outcomes_left (PageWrite plan) = outcomes_of plan
+outcomes_left (Close plan header tables) = outcomes_of plan
+
+-- how many outcomes close the body, where that has begun
+abbrev pub closing : Stage → ℕ
+closing (Format plan) = 0
+closing Freeze = 0
+closing PassStage = 0
+closing (PageWrite plan) = 0
+closing (Close plan header tables) = 5
+
+-- calls of the plan are left or out, and they only change the slot
+pub record IsUnderWay (plan : Planned) : Type 0 where
+  pub known : plan.awaits ≡ nothing
+  pub changes : AreChanges plan.calls
+  pub some : plan.out ≡ None → plan.calls ≢ []
+
+-- what holds of an image's pass in each stage: none was made before it is due, and no page is being taken while one is written
+abbrev pub IsReadyFor : ImageOrder → Pass → Stage → Type 0
+IsReadyFor order pass (Format plan) = (pass ≡ opened (order.parent == 0)) × IsUnderWay plan
+IsReadyFor order pass Freeze = (pass ≡ opened (order.parent == 0)) × (order.kind ≡ Dump)
+IsReadyFor order pass PassStage = Unit {0}
+IsReadyFor order pass (PageWrite plan) = (pass.taking ≡ None) × IsUnderWay plan
+IsReadyFor order pass (Close plan header tables) = (header.pages ≡ data_pages pass.entries) × IsUnderWay plan
+
+-- what holds of every image in the making, which counts its data pages
+pub record IsMaking (order : ImageOrder) (pass : Pass) (stored : ℕ) (stage : Stage) : Type 0 where
+  pub takes : pass.takes_all ≡ (order.parent == 0)
+  pub counted : stored ≡ data_pages pass.entries
+  pub few : stored ≤ 2 ^ 39
+  pub ready : IsReadyFor order pass stage
+
+abbrev pub with_plan : Stage → Planned → Stage
+with_plan (Format old) plan = Format plan
+with_plan Freeze plan = Freeze
+with_plan PassStage plan = PassStage
+with_plan (PageWrite old) plan = PageWrite plan
+with_plan (Close old header tables) plan = Close plan header tables
+
+-- the request that is out
+abbrev pub out_of : Stage → Option RequestId
+out_of (Format plan) = plan.out
+out_of Freeze = None
+out_of PassStage = None
+out_of (PageWrite plan) = plan.out
+out_of (Close plan header tables) = plan.out
+
+-- the stage behind a plan whose calls are all done
+abbrev pub stage_behind : Kind → Stage → Stage
+stage_behind Dump (Format plan) = Freeze
+stage_behind PreDump (Format plan) = PassStage
+stage_behind Merged (Format plan) = PassStage
+stage_behind kind Freeze = PassStage
+stage_behind kind PassStage = PassStage
+stage_behind kind (PageWrite plan) = PassStage
+stage_behind kind (Close plan header tables) = PassStage
+
+-- ---- Steps
+
+-- the dumper's, with its ticket
+pub record IsAskedBy (number : ℕ) (request : Asked) : Type 0 where
+  pub worker : request.id.worker ≡ Dumper
+  pub ticket : request.id.ticket ≡ number
+
+-- the next call of the plan is asked for
+pub record Asks (old : Making) (request : Asked) (new : Making) : Type 0 where
+  pub plan : Planned
+  pub next : Planned
+  pub was : plan_of old.stage ≡ Some plan
+  pub gives : Gives plan next request
+  pub is : new ≡ record old { stage = with_plan old.stage next }
+
+-- the page that was copied is taken as the next data page, and its write is asked for
+pub record WritesPage (old : Making) (request : Asked) (new : Making) : Type 0 where
+  pub stage : old.stage ≡ PassStage
+  pub bytes : List ℕ
+  pub taken : TakesPage old.pass bytes new.pass
+  pub next : Planned
+  pub gives : Gives (begun old.order.slot ((Write (data_place (data_pages old.pass.entries)), bytes) ∷ []) nothing) next request
+  pub order : new.order ≡ old.order
+  pub is : new.stage ≡ PageWrite next
+
+-- the header of an image that stands for itself
+abbrev pub header_of : ImageOrder → ℕ → ℕ → Header
+header_of order pages table_len = record {
+  kind = order.kind;
+  serial = order.serial;
+  stands_for = order.serial;
+  parent = order.parent;
+  checkpoint = order.checkpoint;
+  pages = pages;
+  table_len = table_len;
+}
+
+-- entries are exactly the mapped pages of a memory
+abbrev pub AreThePages : List Entry → Contents → Type 0
+AreThePages entries memory = (space page : ℕ) → is_some (kind_at entries (space, page)) ≡ is_some (page_at memory space page)
+
+-- a table with these entries
+pub record TablesEntries (entries : List Entry) (header : Header) (tables : List Listed) : Type 0 where
+  pub lists : Lists entries tables
+  pub is : IsTable header tables
+
+-- a table with these entries, and the areas of a memory
+pub record TablesMemory (memory : Contents) (entries : List Entry) (header : Header) (tables : List Listed) : Type 0 where
+  pub table : TablesEntries entries header tables
+  pub areas : HasTheAreas (plain_of memory) tables
+
+-- a pre-dump lists its entries; a dump the areas of the memory too, whose pages its entries are
+abbrev pub HasTable : Kind → Contents → List Entry → Header → List Listed → Type 0
+HasTable PreDump memory entries header tables = TablesEntries entries header tables
+HasTable Dump memory entries header tables = AreThePages entries memory → TablesMemory memory entries header tables
+HasTable Merged memory entries header tables = AreThePages entries memory → TablesMemory memory entries header tables
+
+-- there is no further page: the table is made, and its write is asked for
+pub record WritesTable (old : Making) (memory : Contents) (request : Asked) (new : Making) : Type 0 where
+  pub stage : old.stage ≡ PassStage
+  pub free : old.pass.taking ≡ None
+  pub over : IsNextPage memory.spaces old.pass.after None
+  pub tables : List Listed
+  pub header : Header
+  pub numbers : header ≡ header_of old.order (data_pages old.pass.entries) (length (table_text tables))
+  pub table : HasTable old.order.kind memory old.pass.entries header tables
+  pub next : Planned
+  pub gives : Gives (begun old.order.slot (body_calls header (table_text tables)) nothing) next request
+  pub is : new ≡ record old { stage = Close next header tables }
+
+-- a step of the pass
+abbrev pub Passes : Making → Pass → Making → Type 0
+Passes old pass new = (old.stage ≡ PassStage) × (new ≡ record old { pass = pass })
+
+pub record Visits (old : Making) (before : Contents) (visit : visit.Visit) (new : Making) (after : Contents) : Type 0 where
+  pub free : old.pass.taking ≡ None
+  pub tests : Tests old.pass before visit new.pass after
+  pub passes : Passes old new.pass new
+
+pub record CopiesSector (old : Making) (memory : Contents) (copied : copied.Copied) (new : Making) : Type 0 where
+  pub copies : Copies old.pass memory copied new.pass
+  pub passes : Passes old new.pass new
+
+pub record Freezes (old new : Making) : Type 0 where
+  pub stage : old.stage ≡ Freeze
+  pub fresh : old.pass ≡ opened (old.order.parent == 0)
+  pub is : new ≡ record old { stage = PassStage }
+
+-- what a step does, with this ticket; only a visit changes the memory
+abbrev pub Steps : ℕ → Making → Contents → ImageStep → Making → Contents → Type 0
+Steps ticket old before (Call request) new after = Asks old request new × IsAskedBy ticket request × (after ≡ before)
+Steps ticket old before (PageCall request) new after = WritesPage old request new × IsAskedBy ticket request × (after ≡ before)
+Steps ticket old before (TableCall request) new after = WritesTable old before request new × IsAskedBy ticket request × (after ≡ before)
+Steps ticket old before Frozen new after = Freezes old new × (after ≡ before)
+Steps ticket old before (Visited visit) new after = Visits old before visit new after
+Steps ticket old before (Copied copied) new after = CopiesSector old before copied new × (after ≡ before)
+
+-- ---- Outcomes
+
+-- an outcome of the request that is out
+pub record IsAwaited (old : Making) (made : Made) (plan : Planned) : Type 0 where
+  pub was : plan_of old.stage ≡ Some plan
+  pub out : plan.out ≡ Some made.request.id
+
+-- where calls are left the plan goes on, and else the image
+abbrev pub stage_after : Kind → Stage → Planned → Calls → Stage
+stage_after kind stage plan [] = stage_behind kind stage
+stage_after kind stage plan (call ∷ calls) = with_plan stage plan
+
+pub record GoesOn (old : Making) (made : Made) (new : Making) : Type 0 where
+  pub plan : Planned
+  pub awaited : IsAwaited old made plan
+  pub done : is_done made.answer ≡ true
+  -- one outcome less is left
+  pub one : outcomes_of (plan_after plan made) + 1 ≡ outcomes_of plan
+  -- a body that is being closed has a call left
+  pub closes : closing old.stage ≢ 0 → (plan_after plan made).calls ≢ []
+  pub is : new ≡ record old { stage = stage_after old.order.kind old.stage (plan_after plan made) (plan_after plan made).calls }
+
+pub record Fails (old : Making) (made : Made) (new : Making) : Type 0 where
+  pub plan : Planned
+  pub awaited : IsAwaited old made plan
+  pub failed : is_done made.answer ≡ false
+  pub order : new.order ≡ old.order
+  pub pass : new.pass ≡ old.pass
+
+-- the last call of its body was done: it is open
+pub record Opens (old : Making) (made : Made) (image : NewImage) : Type 0 where
+  pub plan : Planned
+  pub out : plan.out ≡ Some made.request.id
+  pub done : is_done made.answer ≡ true
+  pub last : (plan_after plan made).calls ≡ []
+  pub one : outcomes_of (plan_after plan made) + 1 ≡ outcomes_of plan
+  pub was : old.stage ≡ Close plan image.header image.table
+  pub pages : image.header.pages ≡ data_pages old.pass.entries
+  pub slot : image.slot ≡ old.order.slot
+
+abbrev pub HandsIn : Making → Made → ImageProgress → Making → Type 0
+HandsIn old made Strange new = (out_of old.stage ≢ Some made.request.id) × (new ≡ old)
+HandsIn old made Failed new = Fails old made new
+HandsIn old made More new = GoesOn old made new
+HandsIn old made (Opened image) new = Opens old made image
+
+-- ---- In code
+
+-- what the outcome of the request that is out is to a plan
+abbrev pub Settles : Planned → Made → Settled → Planned → Type 0
+Settles old made PlanMore new = (is_done made.answer ≡ true) × (new ≡ plan_after old made) × (new.calls ≢ []) × IsUnderWay new × (outcomes_of new + 1 ≡ outcomes_of old)
+Settles old made PlanFinished new = (is_done made.answer ≡ true) × (new ≡ plan_after old made) × (new.calls ≡ []) × (outcomes_of new + 1 ≡ outcomes_of old)
+Settles old made PlanFailed new = is_done made.answer ≡ false
+Settles old made PlanStrange new = ⊥
+
+abbrev pub at_stage : Making → Stage → Making
+at_stage making stage = record making { stage = stage }
+
+-- it is a call of a plan, and its request is such
+abbrev pub IsCallOf : (Asked → Type 0) → ImageStep → Type 0
+IsCallOf P (Call request) = P request
+IsCallOf P (PageCall request) = ⊥
+IsCallOf P (TableCall request) = ⊥
+IsCallOf P Frozen = ⊥
+IsCallOf P (Visited visit) = ⊥
+IsCallOf P (Copied copied) = ⊥
+
+-- it is the write of a page
+abbrev pub IsPageCallOf : (Asked → Type 0) → ImageStep → Type 0
+IsPageCallOf P (Call request) = ⊥
+IsPageCallOf P (PageCall request) = P request
+IsPageCallOf P (TableCall request) = ⊥
+IsPageCallOf P Frozen = ⊥
+IsPageCallOf P (Visited visit) = ⊥
+IsPageCallOf P (Copied copied) = ⊥
+
+-- it is the write of the table
+abbrev pub IsTableCallOf : (Asked → Type 0) → ImageStep → Type 0
+IsTableCallOf P (Call request) = ⊥
+IsTableCallOf P (PageCall request) = ⊥
+IsTableCallOf P (TableCall request) = P request
+IsTableCallOf P Frozen = ⊥
+IsTableCallOf P (Visited visit) = ⊥
+IsTableCallOf P (Copied copied) = ⊥

@@ -1,0 +1,85 @@
+-- What the steps of an image keep.
+use Rattle.std.specs.Prelude.{◌≡◌, ◌≢◌, ℕ, ◌<◌, ◌^◌, true, List, [], ◌∷◌, ◌++◌, length}
+use Rattle.std.specs.List.{AllByRecursion}
+use Rattle.sd_image.specs.declared.header.Header.{Header}
+use Rattle.sd_image.specs.declared.header.Kind.TheVariants.{Dump}
+use Rattle.sd_image.specs.Image.{Image, IsImage, gate, image_text}
+use Rattle.sd_image.specs.Shows.{IsMemory}
+use Rattle.sd_image.specs.Table.{Listed}
+use Rattle.sd_gate.specs.Requests.{Asked, Made}
+use Rattle.sd_pagetable.specs.Contents.{Contents, IsSound, plain_of}
+use Rattle.sd_pagetable.specs.Tracking.{Event, Step}
+use Rattle.sd_rounds.specs.declared.image_order.ImageOrder.{ImageOrder}
+use Rattle.sd_rounds.specs.declared.image_progress.ImageProgress.TheVariants.{More}
+use Rattle.sd_rounds.specs.declared.image_step.ImageStep.{ImageStep}
+use Rattle.sd_rounds.specs.declared.image_step.ImageStep.TheVariants.{Call, PageCall, TableCall, Frozen, Visited, Copied}
+use Rattle.sd_rounds.specs.declared.stage.Stage.{Stage}
+use Rattle.sd_rounds.specs.declared.stage.Stage.TheVariants.{Format, Freeze, Pass as PassStage, PageWrite, Close}
+use Rattle.sd_rounds.specs.Dump.{IsDumped, IsDumping}
+use Rattle.sd_rounds.specs.Keeps.{Chain, Gave, IsCall, Keeps, Rests, Within}
+use Rattle.sd_rounds.specs.Made.{IsImageOf, listed_pages}
+use Rattle.sd_rounds.specs.Making.{HandsIn, Making, Steps, WritesTable, begun_image, is_past_freeze}
+use Rattle.sd_rounds.specs.Pass.{Pass, data_pages}
+use Rattle.sd_rounds.specs.Rises.{IsRising}
+
+-- the data pages of the image, once the writes that are out are done
+abbrev pub Pages : Type 0
+Pages = List (List ℕ)
+
+-- Of each clean page, what the image so far and the images below give are its bytes; once its table is written, what it gives.
+abbrev pub IsKeptIn : Stage → Pages → Chain → Pass → Contents → Type 0
+IsKeptIn (Format plan) pages chain pass memory = Keeps (listed_pages pages) chain pass memory
+IsKeptIn Freeze pages chain pass memory = Keeps (listed_pages pages) chain pass memory
+IsKeptIn PassStage pages chain pass memory = Keeps (listed_pages pages) chain pass memory
+IsKeptIn (PageWrite plan) pages chain pass memory = Keeps (listed_pages pages) chain pass memory
+IsKeptIn (Close plan header tables) pages chain pass memory = Gave (listed_pages pages) chain pass.entries memory
+
+pub record KeepsImage (pages : Pages) (chain : Chain) (making : Making) (memory : Contents) : Type 0 where
+  pub count : length pages ≡ data_pages making.pass.entries
+  pub whole : AllByRecursion (λ page. length page ≡ 4096) pages
+  pub kept : IsKeptIn making.stage pages chain making.pass memory
+
+-- The dump of a memory that was frozen as `cut`: each page is had in the way that is due, or will be.
+abbrev pub IsDumpedIn : Stage → Contents → Pages → Chain → Pass → Contents → Type 0
+IsDumpedIn (Format plan) cut pages chain pass memory = Unit {0}
+IsDumpedIn Freeze cut pages chain pass memory = Unit {0}
+IsDumpedIn PassStage cut pages chain pass memory = IsDumping cut pass memory
+IsDumpedIn (PageWrite plan) cut pages chain pass memory = IsDumping cut pass memory
+IsDumpedIn (Close plan header tables) cut pages chain pass memory = IsDumped (listed_pages pages) chain cut pass
+
+abbrev pub DumpsImage : Contents → Pages → Chain → Making → Contents → Type 0
+DumpsImage cut pages chain making memory = IsDumpedIn making.stage cut pages chain making.pass memory
+
+-- the page whose write a step asks for is one more
+abbrev pub pages_after : ImageStep → Pages → Pages
+pages_after (Call request) pages = pages
+pages_after (PageCall request) pages = pages ++ request.bytes ∷ []
+pages_after (TableCall request) pages = pages
+pages_after Frozen pages = pages
+pages_after (Visited visit) pages = pages
+pages_after (Copied copied) pages = pages
+
+abbrev pub image_of : Header → Pages → List Listed → Image
+image_of header pages tables = record { header = header; pages = pages; spaces = tables }
+
+-- numbers that an image may have
+pub record AreItsNumbers (order : ImageOrder) : Type 0 where
+  pub serial : 0 < order.serial
+  pub parent : order.parent < order.serial
+  pub checkpoint : 0 < order.checkpoint
+
+pub record MakingLaws : Type 0 where
+  pub begins : (order : ImageOrder) (chain : Chain) (memory : Contents) → (order.parent ≢ 0 → Rests chain memory) → KeepsImage [] chain (begun_image order) memory
+  pub steps : (ticket : ℕ) (pages : Pages) (chain : Chain) (old new : Making) (before after : Contents) (step : ImageStep) → Steps ticket old before step new after
+      → KeepsImage pages chain old before → KeepsImage (pages_after step pages) chain new after
+  pub hands : (pages : Pages) (chain : Chain) (old new : Making) (memory : Contents) (made : Made) → HandsIn old made More new
+      → KeepsImage pages chain old memory → KeepsImage pages chain new memory
+  -- whatever is called on the memory, and while images below are merged or closed
+  pub calls : (pages : Pages) (one other : Chain) (making : Making) (old new : Contents) (event : Event) → IsSound old → Step old event new → IsCall event → Within one other
+      → KeepsImage pages one making old → KeepsImage pages other making new
+  pub freezes : (ticket : ℕ) (pages : Pages) (chain : Chain) (old new : Making) (before after : Contents) → Steps ticket old before Frozen new after
+      → DumpsImage before pages chain new after
+  pub dumps : (ticket : ℕ) (cut : Contents) (pages : Pages) (chain : Chain) (old new : Making) (before after : Contents) (step : ImageStep) → Steps ticket old before step new after
+      → is_past_freeze old.stage ≡ true → IsRising old.pass → KeepsImage pages chain old before → DumpsImage cut pages chain old before → DumpsImage cut (pages_after step pages) chain new after
+  pub hands_dump : (cut : Contents) (pages : Pages) (chain : Chain) (old new : Making) (memory : Contents) (made : Made) → HandsIn old made More new
+      → is_past_freeze old.stage ≡ true → DumpsImage cut pages chain old memory → DumpsImage cut pages chain new memory

@@ -1,0 +1,144 @@
+//! A checkpoint that is made: its images, one after the other.
+ghost use Rattle.std.specs.Prelude.{◌≡◌, ◌↔◌, ◌⊎◌, Err, IsSome, IfOk, IfErr, OnErr, true, false};
+ghost use Rattle.sd_rounds.specs.declared.progress.Progress.TheVariants.{Dump as DumpOpen, PreDump as PreDumpOpen};
+ghost use Rattle.sd_rounds.specs.declared.work_error.WorkError.TheVariants.{Busy, OutOfMemory};
+ghost use Rattle.sd_rounds.specs.Dumper.{HandsTo, HasFewPages, WorksOn, after_pre_dump, is_frozen_image, is_last, kind_of, order_of, out_of_image, running_of, slot_of};
+
+use crate::image_maker::ImageMaker;
+use crate::image_order::ImageOrder;
+use crate::image_progress::ImageProgress;
+use crate::image_step::ImageStep;
+use crate::new_image::NewImage;
+use crate::next_image::NextImage;
+use crate::progress::Progress;
+use crate::work_error::WorkError;
+use sd_gate::{Outcome, SlotState};
+use sd_image::Kind;
+use sd_pagetable::Memory;
+use std::alloc::Global;
+
+/// The images of a checkpoint: its pre-dumps, and then its dump.
+#[derive(Debug, Drop)]
+pub struct Checkpoint {
+    pub(crate) number: u64,
+    /// The slots of the pre-dumps.
+    pub(crate) pre_dumps: Vec<usize>,
+    /// The slot of the dump.
+    pub(crate) dump: usize,
+    /// How many of the images are open.
+    pub(crate) opened: usize,
+    /// The number that the next image names as its parent, or the one that is being made.
+    pub(crate) parent: u64,
+    /// The image that is being made.
+    pub(crate) maker: Option<ImageMaker>,
+}
+
+impl Checkpoint {
+    /// Whether the image that is made next, or is being made, is the dump.
+    pub(crate) fn is_last(&self) -> bool
+        ensures { result ≡ is_last (running_of self.now) }
+    {
+        self.pre_dumps.len() <= self.opened
+    }
+
+    /// The slot of the image that is made next, or is being made.
+    pub(crate) fn slot(&self) -> usize
+        ensures { result ≡ slot_of (running_of self.now) }
+    {
+        match self.pre_dumps.get(self.opened) {
+            Some(slot) => *slot,
+            None => self.dump,
+        }
+    }
+
+    /// What is fixed of the next image.
+    pub(crate) fn order(&self, serial: u64, state: SlotState) -> ImageOrder
+        ensures { result ≡ order_of (running_of self.now) serial state }
+    {
+        ImageOrder {
+            slot: self.slot(),
+            state,
+            kind: self.kind(),
+            serial,
+            parent: self.parent,
+            checkpoint: self.number,
+        }
+    }
+
+    /// What the next image is for.
+    fn kind(&self) -> Kind
+        ensures { result ≡ kind_of (running_of self.now) }
+    {
+        if self.is_last() {
+            Kind::Dump
+        } else {
+            Kind::PreDump
+        }
+    }
+
+    /// Makes the next step of the image that is being made, or begins the next image.
+    pub(crate) fn work(
+        &mut self,
+        alloc: Global,
+        memory: &mut Memory,
+        image: NextImage,
+        ticket: u64,
+    ) -> Result<ImageStep, WorkError>
+        ensures works { IfOk result (λ step. WorksOn image.serial image.state ticket
+            (running_of self.old) memory.old step (running_of self.new) memory.new) }
+        ensures busy { result ≡ Err Busy ↔ IsSome (out_of_image (running_of self.old).image) }
+        ensures errors { IfErr result (λ e. (e ≡ Busy) ⊎ (e ≡ OutOfMemory)) }
+        ensures err { OnErr result (running_of self.new ≡ running_of self.old) }
+        ensures err_memory { OnErr result (memory.new ≡ memory.old) }
+    {
+        if let Some(maker) = &mut self.maker {
+            return maker.work(memory, ticket);
+        }
+        let order = self.order(image.serial, image.state);
+        let mut maker = ImageMaker::new(alloc, order);
+        let step = maker.work(memory, ticket)?;
+        self.maker = Some(maker);
+        Ok(step)
+    }
+
+    /// Whether the dump of a frozen memory is being made.
+    pub(crate) fn is_frozen(&self) -> bool
+        ensures frozen { result ≡ is_frozen_image (running_of self.now).image }
+        ensures few { HasFewPages (running_of self.now).image }
+    {
+        match &self.maker {
+            Some(maker) => maker.is_frozen(),
+            None => false,
+        }
+    }
+
+    /// Takes an outcome for the image that is being made.
+    pub(crate) fn hand_in(&mut self, outcome: Outcome) -> Progress
+        ensures { HandsTo (running_of self.old) outcome result (running_of self.new) }
+    {
+        let Some(maker) = &mut self.maker else {
+            return Progress::Strange;
+        };
+        match maker.hand_in(outcome) {
+            ImageProgress::Strange => Progress::Strange,
+            ImageProgress::Failed => Progress::Failed,
+            ImageProgress::More => Progress::More,
+            ImageProgress::Opened(image) => self.end_image(image),
+        }
+    }
+
+    /// An image is open. Behind a pre-dump the next image names it as its parent.
+    fn end_image(&mut self, image: NewImage) -> Progress
+        ensures dump { is_last (running_of self.old) ≡ true → result ≡ DumpOpen image }
+        ensures pre_dump { is_last (running_of self.old) ≡ false → (result ≡ PreDumpOpen image)
+            × (running_of self.new ≡ after_pre_dump (running_of self.old) image) }
+    {
+        if self.is_last() {
+            return Progress::Dump(image);
+        }
+        self.parent = image.header.serial;
+        self.opened += 1;
+        self.maker = None;
+        Progress::PreDump(image)
+    }
+}

@@ -1,0 +1,190 @@
+//! The dumper: the images of a checkpoint, step by step.
+ghost use Rattle.std.specs.Prelude.{◌≡◌, ◌↔◌, ◌⊎◌, Err, None, Some, IsSome, IfOk, IfErr, OnOk, OnErr, is_none};
+ghost use Rattle.std.specs.Option.{option_map};
+ghost use Rattle.sd_rounds.specs.declared.work_error.WorkError.TheVariants.{Busy, Idle, OutOfMemory};
+ghost use Rattle.sd_rounds.specs.Dumper.{Dumping, Hands, HasCounted, Works, begun_checkpoint, ends, idle, is_strange, next_slot, out_of_running};
+
+use crate::checkpoint::Checkpoint;
+use crate::image_step::ImageStep;
+use crate::next_image::NextImage;
+use crate::progress::Progress;
+use crate::work_error::WorkError;
+use sd_gate::Outcome;
+use sd_pagetable::Memory;
+use std::alloc::Global;
+use std::marker::Model;
+
+/// Makes checkpoints, one at a time: pre-dumps while the memory is in use, a freeze, and a dump.
+#[derive(Debug, Drop)]
+pub struct Dumper {
+    alloc: Global,
+    checkpoint: Option<Checkpoint>,
+    since_freeze: u64,
+}
+
+impl Model for Dumper {
+    ghost use Rattle.std.specs.Option.{option_map};
+    ghost use Rattle.sd_rounds.specs.Dumper.{AreRunning, Dumping, running_of};
+
+    ghost Value = { Dumping };
+
+    ghost view = { λ d. record {
+      running = option_map running_of d.checkpoint;
+      since_freeze = d.since_freeze;
+    } };
+
+    ghost invariant = { λ d. AreRunning d.since_freeze (option_map running_of d.checkpoint) };
+}
+
+/// No checkpoint runs from now on.
+fn end(checkpoint: &mut Option<Checkpoint>)
+    ensures { checkpoint.new ≡ None }
+{
+    *checkpoint = None;
+}
+
+/// Whether an outcome was of no request that is out.
+fn is_strange(progress: &Progress) -> bool
+    ensures { result ≡ is_strange progress.now }
+{
+    matches!(progress, Progress::Strange)
+}
+
+/// Whether a checkpoint ends with this.
+fn ends(progress: &Progress) -> bool
+    ensures { result ≡ ends progress.now }
+{
+    matches!(progress, Progress::Failed | Progress::Dump(_))
+}
+
+impl Dumper {
+    /// A dumper that is idle.
+    pub fn new(alloc: Global) -> Self
+        ensures { result ≡ idle 0 }
+    {
+        Dumper {
+            alloc,
+            checkpoint: None,
+            since_freeze: 0,
+        }
+    }
+
+    /// Whether no checkpoint runs.
+    pub fn is_idle(&self) -> bool
+        ensures { result ≡ is_none self.now.running }
+    {
+        self.checkpoint.is_none()
+    }
+
+    /// Begins a checkpoint: a pre-dump in each of these slots, and then a dump. The first image names the parent with
+    /// this number; where it is 0, it takes every page.
+    ///
+    /// # Errors
+    ///
+    /// Busy where a checkpoint runs. Nothing changed.
+    pub fn begin(
+        &mut self,
+        number: u64,
+        pre_dumps: Vec<usize>,
+        dump: usize,
+        parent: u64,
+    ) -> Result<(), WorkError>
+        ensures begun { OnOk result (self.new ≡ record {
+            running = Some (begun_checkpoint number pre_dumps.items dump parent);
+            since_freeze = self.old.since_freeze;
+        }) }
+        ensures busy { result ≡ Err Busy ↔ IsSome self.old.running }
+        ensures errors { IfErr result (λ e. e ≡ Busy) }
+        ensures err { OnErr result (self.new ≡ self.old) }
+    {
+        if self.checkpoint.is_some() {
+            return Err(WorkError::Busy);
+        }
+        self.checkpoint = Some(Checkpoint {
+            number,
+            pre_dumps,
+            dump,
+            opened: 0,
+            parent,
+            maker: None,
+        });
+        Ok(())
+    }
+
+    /// The slot of the image that the next step begins, where it begins one.
+    pub fn next_slot(&self) -> Option<usize>
+        ensures { result ≡ next_slot self.now.running }
+    {
+        let checkpoint = self.checkpoint.as_ref()?;
+        if checkpoint.maker.is_some() {
+            return None;
+        }
+        Some(checkpoint.slot())
+    }
+
+    /// Makes the next step: of the image that is being made, or of the next, which gets this serial, and whose slot is in
+    /// this state.
+    ///
+    /// # Errors
+    ///
+    /// Idle where no checkpoint runs, Busy where a request is out. Out of memory where an entry, a sector or the table
+    /// finds no room. Nothing changed.
+    pub fn work(
+        &mut self,
+        memory: &mut Memory,
+        image: NextImage,
+        ticket: u64,
+    ) -> Result<ImageStep, WorkError>
+        ensures works { IfOk result (λ step. Works image.serial image.state ticket self.old memory.old
+            step self.new memory.new) }
+        ensures idle { result ≡ Err Idle ↔ self.old.running ≡ None }
+        ensures busy { result ≡ Err Busy ↔ IsSome (out_of_running self.old.running) }
+        ensures err { OnErr result (self.new ≡ self.old) }
+        ensures err_memory { OnErr result (memory.new ≡ memory.old) }
+    {
+        let Some(checkpoint) = &mut self.checkpoint else {
+            return Err(WorkError::Idle);
+        };
+        let step = checkpoint.work(self.alloc, memory, image, ticket)?;
+        if let ImageStep::Frozen = &step {
+            self.since_freeze = 0;
+        }
+        Ok(step)
+    }
+
+    /// Takes the outcome of the request that is out. After one that failed no checkpoint runs.
+    pub fn hand_in(&mut self, outcome: Outcome) -> Progress
+        ensures hands { Hands self.old outcome result self.new }
+        ensures pages { HasCounted result self.new.since_freeze }
+    {
+        let Some(checkpoint) = &mut self.checkpoint else {
+            return Progress::Strange;
+        };
+        let counts = checkpoint.is_frozen();
+        let progress = checkpoint.hand_in(outcome);
+        if is_strange(&progress) {
+            return progress;
+        }
+        if ends(&progress) {
+            end(&mut self.checkpoint);
+        }
+        if counts {
+            self.since_freeze += 1;
+        }
+        progress
+    }
+
+    /// Gives the checkpoint up, if one runs.
+    pub fn cancel(&mut self)
+        ensures { self.new ≡ idle self.old.since_freeze }
+    {
+        end(&mut self.checkpoint);
+    }
+
+    /// How many outcomes were handed in since the last freeze.
+    pub fn since_freeze(&self) -> u64
+        ensures { result ≡ self.now.since_freeze }
+    {
+        self.since_freeze
+    }
+}

@@ -1,0 +1,22 @@
+use sd_chain::PlacedTable;
+use sd_gate::Plan;
+use sd_image::Header;
+
+/// How far an image in the making is.
+#[derive(Debug, Drop)]
+pub enum Stage {
+    /// Its slot is made one closed byte.
+    Format(Plan),
+    /// The next step freezes the memory.
+    Freeze,
+    /// Pages are visited and copied.
+    Pass,
+    /// A data page is written.
+    PageWrite(Plan),
+    /// The table and the header are written, and the gate is opened.
+    Close {
+        plan: Plan,
+        header: Header,
+        table: PlacedTable,
+    },
+}
