@@ -6,7 +6,9 @@ use std::alloc::Global;
 use std::test::Fail;
 
 const SPACE: u64 = 1;
+
 const FIRST: u64 = 0x10000;
+
 const PAGE: u64 = 4096;
 
 /// More steps than a pass over three pages has.
@@ -57,11 +59,17 @@ fn pass(alloc: Global, memory: &mut Memory, takes_all: bool) -> Result<Taken, Fa
 fn a_second_pass_takes_what_was_touched(rt: HostRuntime) -> Result<(), Fail> {
     let mut memory = memory(rt.alloc())?;
     let first = pass(rt.alloc(), &mut memory, true)?;
-    assert_eq!(rt; first.visits.as_slice(), [(0x10, true), (0x11, true), (0x12, true)].as_slice());
+    assert_eq!(rt;
+        first.visits.as_slice(),
+        [(0x10, true), (0x11, true), (0x12, true)].as_slice()
+    );
     assert_eq!(rt; first.pages.len(), 1);
     memory.store_now(SpaceId::new(SPACE), FIRST + PAGE, &[0x62, 0x63])?;
     let second = pass(rt.alloc(), &mut memory, false)?;
-    assert_eq!(rt; second.visits.as_slice(), [(0x10, false), (0x11, true), (0x12, false)].as_slice());
+    assert_eq!(rt;
+        second.visits.as_slice(),
+        [(0x10, false), (0x11, true), (0x12, false)].as_slice()
+    );
     assert_eq!(rt; second.pages.len(), 1);
     assert!(rt; second.pages[0].starts_with(&[0x62, 0x63, 0]));
     Ok(())
