@@ -1,0 +1,137 @@
+//! Changes of a list of areas in place. A change reads and replaces the areas that meet a run of
+//! pages or touch it, found by binary search; the areas behind them move as a whole.
+ghost use Rattle.std.specs.Prelude.{◌≡◌, ◌⊎◌, ◌+◌, ◌<◌, ◌≤◌, ◌^◌, nat_lt, length, Ok, OnOk, OnErr, IfErr, None};
+ghost use Rattle.std.specs.List.{splice, AllWithin};
+ghost use Rattle.sd_areas.specs.Areas.{AreMaximal, pages_of};
+ghost use Rattle.sd_areas.specs.Calls.{set_pages, remove_pages, within_areas, has_hole, Answers};
+ghost use Rattle.sd_areas.specs.declared.errno.AreaError.TheVariants.{Refused, OutOfMemory};
+ghost use Rattle.sd_areas.specs.declared.errno.Errno.TheVariants.{Enomem};
+
+use crate::area::Area;
+use crate::errno::{AreaError, Errno};
+use crate::limits::AREA_LIMIT;
+use crate::page_range::PageRange;
+use crate::runs::{meets_hole, with_area, without_pages};
+use std::alloc::Global;
+
+/// Whether an area ends before a page, with a page between them.
+fn ends_before(area: &Area, page: u64) -> bool
+    ensures { result ≡ nat_lt (area.now.first + area.now.count) page }
+{
+    area.count < page.saturating_sub(area.first.number())
+}
+
+/// The areas that meet a run of pages or touch it: the place of the first of them in the list, and
+/// the place behind the last.
+fn neighbours(areas: &[Area], range: &PageRange) -> (usize, usize)
+    requires maximal { AreMaximal None areas.now }
+    requires within { range.now.first + range.now.count ≤ 2 ^ 35 }
+    ensures ordered { result.0 ≤ result.1 }
+    ensures within { result.1 ≤ length areas.now }
+    ensures below { AllWithin (λ (area : Area). area.first + area.count < range.now.first)
+        areas.now 0 result.0 }
+    ensures above { AllWithin (λ (area : Area). range.now.first + range.now.count < area.first)
+        areas.now result.1 (length areas.now) }
+{
+    let begin = range.first.number();
+    let end = begin + range.count;
+    let from = areas.partition_point(|area| ends_before(area, begin));
+    let to = areas.partition_point(|area| area.first.number() <= end);
+    (from, to)
+}
+
+/// Puts other areas in place of those from one place up to another.
+///
+/// # Errors
+///
+/// ENOMEM where the areas would be over 1,024. Out of memory where the list can't grow.
+/// An error changes nothing.
+fn replace(
+    areas: &mut Vec<Area>,
+    from: usize,
+    to: usize,
+    pieces: Vec<Area>,
+) -> Result<(), AreaError>
+    requires ordered { from ≤ to }
+    requires within { to ≤ length areas.old.items }
+    requires few { length areas.old.items ≤ 1024 }
+    ensures ok { OnOk result (areas.new.items ≡ splice areas.old.items from to pieces.items) }
+    ensures few { OnOk result (length areas.new.items ≤ 1024) }
+    ensures refused { IfErr result (λ e. (e ≡ OutOfMemory)
+        ⊎ ((e ≡ Refused Enomem) × (1024 < length (splice areas.old.items from to pieces.items)))) }
+    ensures err { OnErr result (areas.new.items ≡ areas.old.items) }
+{
+    let room = AREA_LIMIT - (areas.len() - (to - from));
+    if room < pieces.len() {
+        return Err(AreaError::Refused(Errno::Enomem));
+    }
+    areas.splice(from..to, pieces)?;
+    Ok(())
+}
+
+/// Gives the pages of an area its permissions, whatever was there.
+///
+/// # Errors
+///
+/// ENOMEM where the areas would be over 1,024. Out of memory where the list can't grow.
+/// An error changes nothing.
+pub(crate) fn set_run(alloc: Global, areas: &mut Vec<Area>, area: Area) -> Result<(), AreaError>
+    requires maximal { AreMaximal None areas.old.items }
+    requires few { length areas.old.items ≤ 1024 }
+    requires pages { 0 < area.count }
+    requires within { area.first + area.count ≤ 2 ^ 35 }
+    ensures maximal { OnOk result (AreMaximal None areas.new.items) }
+    ensures few { OnOk result (length areas.new.items ≤ 1024) }
+    ensures ok { OnOk result
+        (within_areas (set_pages (pages_of areas.old.items) area.first area.count area.prot)
+        ≡ Ok (pages_of areas.new.items)) }
+    ensures refused { IfErr result (Answers
+        (within_areas (set_pages (pages_of areas.old.items) area.first area.count area.prot))) }
+    ensures err { OnErr result (areas.new.items ≡ areas.old.items) }
+{
+    let range = PageRange {
+        first: area.first,
+        count: area.count,
+    };
+    let (from, to) = neighbours(areas, &range);
+    let pieces = with_area(alloc, &areas[from..to], area)?;
+    replace(areas, from, to, pieces)
+}
+
+/// Unmaps the pages of a run.
+///
+/// # Errors
+///
+/// ENOMEM where the areas would be over 1,024. Out of memory where the list can't grow.
+/// An error changes nothing.
+pub(crate) fn remove_run(
+    alloc: Global,
+    areas: &mut Vec<Area>,
+    range: PageRange,
+) -> Result<(), AreaError>
+    requires maximal { AreMaximal None areas.old.items }
+    requires few { length areas.old.items ≤ 1024 }
+    requires within { range.first + range.count ≤ 2 ^ 35 }
+    ensures maximal { OnOk result (AreMaximal None areas.new.items) }
+    ensures few { OnOk result (length areas.new.items ≤ 1024) }
+    ensures ok { OnOk result
+        (within_areas (remove_pages (pages_of areas.old.items) range.first range.count)
+        ≡ Ok (pages_of areas.new.items)) }
+    ensures refused { IfErr result (Answers
+        (within_areas (remove_pages (pages_of areas.old.items) range.first range.count))) }
+    ensures err { OnErr result (areas.new.items ≡ areas.old.items) }
+{
+    let (from, to) = neighbours(areas, &range);
+    let pieces = without_pages(alloc, &areas[from..to], range)?;
+    replace(areas, from, to, pieces)
+}
+
+/// Whether a page of the run isn't mapped.
+pub(crate) fn reaches_hole(areas: &[Area], range: &PageRange) -> bool
+    requires maximal { AreMaximal None areas.now }
+    requires within { range.now.first + range.now.count ≤ 2 ^ 35 }
+    ensures { result ≡ has_hole (pages_of areas.now) range.now.first range.now.count }
+{
+    let (from, to) = neighbours(areas, range);
+    meets_hole(&areas[from..to], range)
+}
