@@ -1,13 +1,12 @@
 -- The areas that meet or touch a run of pages, by their places in the list.
-use Rattle.std.proofs.Common.{◌≡◌, ◌⊎◌, ℕ, zero, suc, ◌+◌, ◌-◌, ◌<◌, ◌≤◌, ◌^◌, Bool, true, false, not, cond, List, [], ◌∷◌, ◌++◌, length, take, drop, get_or, Option, Some, None, Result, Ok, Err, OnOk, IfErr, refl, sym, ap, subst, ◌∙◌, arith, inl, inr, ltb, leb}
-use Rattle.std.specs.Prelude.{nat_lt, nat_le, slice_range, is_some}
+use Rattle.std.proofs.Common.{◌≡◌, ◌⊎◌, ℕ, zero, suc, ◌+◌, ◌-◌, ◌<◌, ◌≤◌, Bool, true, false, cond, List, [], ◌∷◌, ◌++◌, length, take, drop, get_or, Option, Some, None, Result, Ok, Err, OnOk, IfErr, refl, sym, ap, subst, ◌∙◌, arith, inl, inr}
+use Rattle.std.specs.Prelude.{nat_lt, slice_range}
 use Rattle.std.specs.List.{splice, AllWithin}
 use Rattle.std.specs.List.Sorted.{IsPartitionedBy, IsPartitionPoint}
 use Rattle.std.specs.FinMap as finmap
 use Rattle.std.proofs.lemmas.Bool.{lt-ltb, ltb-true, leb-false}
 use Rattle.std.proofs.lemmas.List.{take-append-drop, drop-drop}
 use Rattle.sd_areas.specs.declared.area.Area.{Area}
-use Rattle.sd_areas.specs.declared.prot.Prot.{Prot}
 use Rattle.sd_areas.specs.Pages.{is_within, pages_from}
 use Rattle.sd_areas.specs.Areas.{PageMap, prot_in, AreMaximal, pages_of}
 use Rattle.sd_areas.specs.Calls.{has_hole, set_pages, remove_pages, within_areas, Answers}
@@ -16,8 +15,7 @@ use Rattle.sd_areas.specs.declared.errno.Errno.TheVariants.{Enomem}
 use Rattle.sd_areas.specs.declared.errno.AreaError.{AreaError}
 use Rattle.sd_areas.specs.declared.errno.AreaError.TheVariants.{Refused, OutOfMemory}
 use Rattle.sd_areas.proofs.Calls.{run_is, gap_is, within_ok, within_err}
-use Rattle.sd_areas.specs.Runs.{last_after, end_of, HasRun, HasGap}
-use Rattle.sd_areas.proofs.Maximal.{follows_on}
+use Rattle.sd_areas.specs.Runs.{last_after, HasRun, HasGap}
 use Rattle.sd_areas.proofs.Find.{later_begins, begins_by}
 use Rattle.sd_areas.proofs.Joined.{EndsBelow, BeginsAbove, AreAround, middle_is, replaced_are, replaced_same, in_middle}
 use Rattle.sd_areas.proofs.PagesOf.{get-pages_of}

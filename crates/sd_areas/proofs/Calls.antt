@@ -99,13 +99,6 @@ shown_areas areas shown pages e v m =
 pub shown_value : (areas shown : List Area) (pages : PageMap) → shown ≡ areas → pages_of areas ≡ pages → AreMaximal None areas → shown ≡ areas_of pages
 shown_value areas shown pages e v m = e ∙ sym (ap areas_of (sym v) ∙ areas_of_pages_of areas m)
 
--- the space afterwards is what `mmap` gives, as far as the limit allows
-pub mapped_run : (pages : PageMap) (old new : List Area) (area : Area) (address bytes : ℕ) (prot : Prot) → pages_of old ≡ pages → is_invalid address bytes ≡ false → is_outside address bytes ≡ false →
-    area.first ≡ page_of address → area.count ≡ pages_for bytes → area.prot ≡ prot → HasRun old new area → map_result pages address bytes prot ≡ within_areas (pages_of new)
-mapped_run pages old new area address bytes prot v valid inside_space f n p h =
-    mapped_within pages address bytes prot valid inside_space
-    ∙ ap within_areas (rw (← v, ← f, ← n, ← p) (run_is old new area h))
-
 -- ---- `munmap`
 pub unmapped_invalid : (pages : PageMap) (address bytes : ℕ) → is_invalid address bytes ≡ true → unmap_result pages address bytes ≡ Err Einval
 unfolding unmap_result
@@ -118,12 +111,6 @@ unmapped_outside pages address bytes e o = cond-false _ _ _ e ∙ cond-true _ _ 
 pub unmapped_within : (pages : PageMap) (address bytes : ℕ) → is_invalid address bytes ≡ false → is_outside address bytes ≡ false → unmap_result pages address bytes ≡ within_areas (remove_pages pages (page_of address) (pages_for bytes))
 unfolding unmap_result
 unmapped_within pages address bytes e o = cond-false _ _ _ e ∙ cond-false _ _ _ o
-
-pub unmapped_gap : (pages : PageMap) (old new : List Area) (first count address bytes : ℕ) → pages_of old ≡ pages → is_invalid address bytes ≡ false → is_outside address bytes ≡ false →
-    first ≡ page_of address → count ≡ pages_for bytes → HasGap old new first count → unmap_result pages address bytes ≡ within_areas (pages_of new)
-unmapped_gap pages old new first count address bytes v valid inside_space f n h =
-    unmapped_within pages address bytes valid inside_space
-    ∙ ap within_areas (rw (← v, ← f, ← n) (gap_is old new first count h))
 
 -- ---- `mprotect`
 pub protected_invalid : (pages : PageMap) (address bytes : ℕ) (prot : Prot) → (address % 4096 == 0) ≡ false → protect_result pages address bytes prot ≡ Err Einval
@@ -150,12 +137,6 @@ protected_within pages address bytes prot e z o h = cond-false _ _ _ (not_from_t
 -- the test for a hole, as the code makes it
 pub hole_test : (pages : PageMap) (old : List Area) (first count address bytes : ℕ) (b : Bool) → pages_of old ≡ pages → first ≡ page_of address → count ≡ pages_for bytes → b ≡ has_hole (pages_of old) first count → has_hole pages (page_of address) (pages_for bytes) ≡ b
 hole_test pages old first count address bytes b v f n h = rw (← v, ← f, ← n) (sym h)
-
-pub protected_run : (pages : PageMap) (old new : List Area) (area : Area) (address bytes : ℕ) (prot : Prot) → pages_of old ≡ pages → (address % 4096 == 0) ≡ true → (bytes ≡ 0 → ⊥) → is_outside address bytes ≡ false →
-    has_hole pages (page_of address) (pages_for bytes) ≡ false → area.first ≡ page_of address → area.count ≡ pages_for bytes → area.prot ≡ prot → HasRun old new area → protect_result pages address bytes prot ≡ within_areas (pages_of new)
-protected_run pages old new area address bytes prot v valid some inside_space full f n p h =
-    protected_within pages address bytes prot valid some inside_space full
-    ∙ ap within_areas (rw (← v, ← f, ← n, ← p) (run_is old new area h))
 
 -- ---- a range by its address and length
 pub range_found : (found : Option PageRange) (r : Result PageRange Errno) (past : Errno) (address bytes : ℕ) (P : PageRange → Type 0) → r ≡ ok_or found past → not (is_some found) ≡ is_outside address bytes

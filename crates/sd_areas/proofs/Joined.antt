@@ -1,5 +1,5 @@
 -- Some areas in the middle of a list replaced by others.
-use Rattle.std.proofs.Common.{◌≡◌, ◌≢◌, ◌⊎◌, ℕ, ◌+◌, ◌-◌, ◌<◌, ◌≤◌, ◌^◌, true, false, cond, List, [], ◌∷◌, ◌++◌, Option, Some, None, refl, sym, ap, subst, ◌∙◌, arith, inl, inr}
+use Rattle.std.proofs.Common.{◌≡◌, ◌≢◌, ◌⊎◌, ℕ, ◌+◌, ◌-◌, ◌<◌, ◌≤◌, ◌^◌, false, cond, List, [], ◌∷◌, ◌++◌, Option, Some, None, refl, sym, ap, subst, ◌∙◌, arith, inl, inr}
 use Rattle.std.specs.Prelude.{IsTrue}
 use Rattle.std.specs.Option.{option_or}
 use Rattle.std.proofs.lemmas.Bool.{cases_Bool, cond-true, cond-false, cases_lt, cases_order}
@@ -9,7 +9,7 @@ use Rattle.sd_areas.specs.Pages.{is_within}
 use Rattle.sd_areas.specs.Prot.{prot_bits}
 use Rattle.sd_areas.specs.Areas.{prot_in, is_area_after, AreMaximal}
 use Rattle.sd_areas.specs.Runs.{last_after, end_of}
-use Rattle.sd_areas.proofs.Maximal.{FollowsOn, follows_on, same_prot, touching, comes_after, first_area, touches_after, inside, below, above, inside_parts, end_grows, none_before, none_behind}
+use Rattle.sd_areas.proofs.Maximal.{follows_on, same_prot, touching, comes_after, first_area, touches_after, above, inside_parts, end_grows, none_before, none_behind}
 use Rattle.sd_areas.proofs.Unique.{at_head, below_head, behind_differs}
 
 -- ---- a list in two parts

@@ -126,7 +126,7 @@ pub(crate) fn remove_run(
     replace(areas, from, to, pieces)
 }
 
-/// Whether a page of the run isn't mapped.
+/// Whether a page of the run isn't mapped, by the areas that meet it.
 pub(crate) fn reaches_hole(areas: &[Area], range: &PageRange) -> bool
     requires maximal { AreMaximal None areas.now }
     requires within { range.now.first + range.now.count ≤ 2 ^ 35 }

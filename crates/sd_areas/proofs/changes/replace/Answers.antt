@@ -1,6 +1,5 @@
-use Rattle.std.proofs.Common.{◌≡◌, arith, subst, sym, ap, ◌∙◌, length, List}
+use Rattle.std.proofs.Common.{◌≡◌, arith, ap, ◌∙◌, length}
 use Rattle.std.specs.List.{splice}
-use Rattle.sd_areas.specs.declared.area.Area.{Area}
 use Rattle.sd_areas.proofs.Spliced.{length_spliced, all_given}
 use Rattle.sd_areas.proofs.changes.replace.Goals as goal
 

@@ -1,4 +1,4 @@
-use Rattle.std.proofs.Common.{List, subst, sym, ap, ◌∙◌, ◌≡◌, ℕ}
+use Rattle.std.proofs.Common.{List, subst, sym, ◌≡◌}
 use Rattle.std.specs.Prelude.{slice_range, None}
 use Rattle.std.specs.List.{splice}
 use Rattle.std.proofs.lemmas.Result.{on_ok_weaker}

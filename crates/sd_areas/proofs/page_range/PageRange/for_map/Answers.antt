@@ -1,4 +1,4 @@
-use Rattle.std.proofs.Common.{◌≡◌, sym, ap, ◌∙◌, false, true}
+use Rattle.std.proofs.Common.{sym}
 use Rattle.sd_areas.proofs.Calls.{mapped_invalid, mapped_outside, range_found, range_past, run_by_range}
 use Rattle.sd_areas.proofs.page_range.PageRange.for_map.Goals as goal
 

@@ -1,4 +1,4 @@
-use Rattle.std.proofs.Common.{◌≡◌, sym, ap, ◌∙◌, false, true}
+use Rattle.std.proofs.Common.{sym}
 use Rattle.sd_areas.proofs.Calls.{unmapped_invalid, unmapped_outside, range_found, range_past, gap_by_range}
 use Rattle.sd_areas.proofs.page_range.PageRange.for_unmap.Goals as goal
 
