@@ -1,5 +1,5 @@
 -- What a call over a range makes of the areas, and what it is refused.
-use Rattle.std.proofs.Common.{◌≡◌, ◌⊎◌, ℕ, ◌<◌, ◌≤◌, length, Bool, true, false, cond, nat_eq, nat_lt, is_some, IsSome, Option, Some, None, Result, Ok, Err, is_ok, IfOk, OnOk, OnErr, IfErr, MatchResult, unwrap_or, refl, sym, ◌∙◌, ap, subst, inl, inr, arith}
+use Rattle.std.proofs.Common.{◌≡◌, ◌⊎◌, ℕ, ◌<◌, ◌≤◌, length, Bool, true, false, cond, nat_eq, nat_lt, is_some, Option, Some, None, Result, Ok, Err, is_ok, IfOk, OnOk, OnErr, IfErr, MatchResult, unwrap_or, refl, sym, ◌∙◌, ap, subst, inl, inr, arith}
 use Rattle.std.proofs.lemmas.Bool.{cases_Bool, cond-true, cond-false, eqb-true, lt-ltb, le-ltb}
 use Rattle.std.proofs.lemmas.Bool.Decides.{nat_tests}
 use Rattle.std.specs.Ordering.{nat_cmp}
@@ -7,7 +7,7 @@ use Rattle.std.specs.BTreeMap.{BTreeMap, get, is_at}
 use Rattle.std.specs.Option.{option_map}
 use Rattle.std.specs.FinMap as finmap
 use Rattle.sd_areas.specs.declared.errno.Errno.{Errno}
-use Rattle.sd_areas.specs.declared.errno.Errno.TheVariants.{Einval, Enomem}
+use Rattle.sd_areas.specs.declared.errno.Errno.TheVariants.{Enomem}
 use Rattle.sd_areas.specs.declared.errno.AreaError.{AreaError}
 use Rattle.sd_areas.specs.declared.errno.AreaError.TheVariants.{Refused as AreaRefused, OutOfMemory as AreaOutOfMemory}
 use Rattle.sd_areas.specs.Areas.{PageMap, areas_of}

@@ -1,9 +1,9 @@
-use Rattle.std.proofs.Common.{rules, ◌≡◌, ◌+◌, ◌-◌, ◌<◌, Err, ap, sym, subst, ◌∙◌, refl}
+use Rattle.std.proofs.Common.{rules, ◌≡◌, ◌+◌, ◌-◌, Err, ap, ◌∙◌, refl}
 use Rattle.sd_areas.specs.Calls.{map_result, within_areas, set_pages}
 use Rattle.sd_areas.specs.Pages.{page_of, pages_for}
-use Rattle.sd_pagetable.specs.Nested.{inside, is_alive, set_within, fill_within}
+use Rattle.sd_pagetable.specs.Nested.{inside, is_alive, set_within}
 use Rattle.sd_pagetable.specs.Page.{fresh_page}
-use Rattle.sd_pagetable.specs.Contents.{Contents, page_count}
+use Rattle.sd_pagetable.specs.Contents.{Contents}
 use Rattle.sd_pagetable.specs.Due.{area_due, or_else}
 use Rattle.sd_pagetable.specs.RangeCalls.{Refuses, pages_due}
 use Rattle.sd_pagetable.specs.Tracking.{with_space}

@@ -1,6 +1,4 @@
-use Rattle.std.proofs.Common.{ap, sym, is_some, ◌∙◌}
-use Rattle.std.proofs.lemmas.Result.{on_err_weaker}
-use Rattle.sd_pagetable.specs.RangeCalls.{HasPut}
+use Rattle.std.proofs.Common.{ap, sym, is_some}
 use Rattle.sd_pagetable.proofs.AreaCalls.{areas_put, areas_same, areas_found, err_holds}
 use Rattle.sd_pagetable.proofs.range_calls.unmap_areas.Goals as goal
 
