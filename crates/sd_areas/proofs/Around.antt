@@ -87,14 +87,6 @@ run_spliced xs pieces from to area m l h below above run =
           ∙ ap (λ (ys : List Area). cond (is_within area.first area.count page) (Some area.prot) (prot_in ys page)) (around_is xs from to l);
     }
 
-pub run_spliced_at : (xs seen part pieces : List Area) (from to : ℕ) (area : Area) → seen ≡ xs → part ≡ xs → AreMaximal None xs → from ≤ to → to ≤ length seen
-    → AllWithin (λ (x : Area). x.first + x.count < area.first) seen 0 from → AllWithin (λ (x : Area). area.first + area.count < x.first) seen to (length seen)
-    → HasRun (slice_range part from to) pieces area → HasRun xs (splice xs from to pieces) area
-run_spliced_at xs seen part pieces from to area e f m l h below above run =
-    let below' = subst (λ (ys : List Area). AllWithin (λ (x : Area). x.first + x.count < area.first) ys 0 from) e below in
-    let above' = subst (λ (ys : List Area). AllWithin (λ (x : Area). area.first + area.count < x.first) ys to (length ys)) e above in
-    run_spliced xs pieces from to area m l (subst (λ (ys : List Area). to ≤ length ys) e h) below' above' (subst (λ (ys : List Area). HasRun (slice_range ys from to) pieces area) f run)
-
 pub gap_spliced : (xs pieces : List Area) (from to first count : ℕ) → AreMaximal None xs → from ≤ to → to ≤ length xs
     → AllWithin (λ (x : Area). x.first + x.count < first) xs 0 from → AllWithin (λ (x : Area). first + count < x.first) xs to (length xs)
     → HasGap (slice_range xs from to) pieces first count → HasGap xs (splice xs from to pieces) first count
@@ -131,6 +123,15 @@ hole_around xs from to first count m l h below above =
     ∙ sym (in_middle (take from xs) (slice_range xs from to) (drop to xs) first count page parts low high)
     ∙ ap (λ (ys : List Area). prot_in ys page) (around_is xs from to l)
     ∙ sym (get-pages_of xs page))
+
+pub hole_around_at : (xs seen part : List Area) (from to first count : ℕ) → seen ≡ xs → part ≡ xs → AreMaximal None xs → from ≤ to → to ≤ length seen
+    → AllWithin (λ (x : Area). x.first + x.count < first) seen 0 from → AllWithin (λ (x : Area). first + count < x.first) seen to (length seen)
+    → has_hole (pages_of (slice_range part from to)) first count ≡ has_hole (pages_of xs) first count
+hole_around_at xs seen part from to first count e f m l h below above =
+    let below' = subst (λ (ys : List Area). AllWithin (λ (x : Area). x.first + x.count < first) ys 0 from) e below in
+    let above' = subst (λ (ys : List Area). AllWithin (λ (x : Area). first + count < x.first) ys to (length ys)) e above in
+    ap (λ (ys : List Area). has_hole (pages_of (slice_range ys from to)) first count) f
+    ∙ hole_around xs from to first count m l (subst (λ (ys : List Area). to ≤ length ys) e h) below' above'
 
 -- the first area behind is no sooner than the last before
 pub in_order : (xs : List Area) (from to first count : ℕ) → from ≤ length xs

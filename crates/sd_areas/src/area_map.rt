@@ -3,13 +3,13 @@ ghost use Rattle.std.specs.FinMap as finmap;
 ghost use Rattle.sd_areas.specs.Pages.{is_invalid, is_outside, page_of, pages_for};
 
 use crate::area::Area;
-use crate::changes::{reaches_hole, remove_run, set_run};
+use crate::changes::{neighbours, remove_run, set_between, set_run};
 use crate::errno::{AreaError, Errno};
 use crate::limits::AREA_LIMIT;
 use crate::page_no::PageNo;
 use crate::page_range::{PageRange, is_page_start};
 use crate::prot::Prot;
-use crate::runs::find_prot;
+use crate::runs::{find_prot, meets_hole};
 use crate::snapshot::areas_in;
 use crate::snapshot_page::SnapshotPage;
 use std::alloc::Global;
@@ -167,10 +167,11 @@ impl AreaMap {
         let Some(range) = PageRange::new(address, bytes) else {
             return Err(AreaError::Refused(Errno::Enomem));
         };
-        if reaches_hole(&self.areas, &range) {
+        let (from, to) = neighbours(&self.areas, &range);
+        if meets_hole(&self.areas[from..to], &range) {
             return Err(AreaError::Refused(Errno::Enomem));
         }
-        set_run(self.alloc, &mut self.areas, range.with(prot))
+        set_between(self.alloc, &mut self.areas, from, to, range.with(prot))
     }
 
     /// The space that has these areas.

@@ -3,7 +3,7 @@
 ghost use Rattle.std.specs.Prelude.{◌≡◌, ◌⊎◌, ◌+◌, ◌<◌, ◌≤◌, ◌^◌, nat_lt, length, Ok, OnOk, OnErr, IfErr, None};
 ghost use Rattle.std.specs.List.{splice, AllWithin};
 ghost use Rattle.sd_areas.specs.Areas.{AreMaximal, pages_of};
-ghost use Rattle.sd_areas.specs.Calls.{set_pages, remove_pages, within_areas, has_hole, Answers};
+ghost use Rattle.sd_areas.specs.Calls.{set_pages, remove_pages, within_areas, Answers};
 ghost use Rattle.sd_areas.specs.declared.errno.AreaError.TheVariants.{Refused, OutOfMemory};
 ghost use Rattle.sd_areas.specs.declared.errno.Errno.TheVariants.{Enomem};
 
@@ -11,7 +11,7 @@ use crate::area::Area;
 use crate::errno::{AreaError, Errno};
 use crate::limits::AREA_LIMIT;
 use crate::page_range::PageRange;
-use crate::runs::{meets_hole, with_area, without_pages};
+use crate::runs::{with_area, without_pages};
 use std::alloc::Global;
 
 /// Whether an area ends before a page, with a page between them.
@@ -23,7 +23,7 @@ fn ends_before(area: &Area, page: u64) -> bool
 
 /// The areas that meet a run of pages or touch it: the place of the first of them in the list, and
 /// the place behind the last.
-fn neighbours(areas: &[Area], range: &PageRange) -> (usize, usize)
+pub(crate) fn neighbours(areas: &[Area], range: &PageRange) -> (usize, usize)
     requires maximal { AreMaximal None areas.now }
     requires within { range.now.first + range.now.count ≤ 2 ^ 35 }
     ensures ordered { result.0 ≤ result.1 }
@@ -65,8 +65,49 @@ fn replace(
     if room < pieces.len() {
         return Err(AreaError::Refused(Errno::Enomem));
     }
+    if pieces.len() == to - from {
+        areas[from..to].copy_from_slice(&pieces);
+        return Ok(());
+    }
     areas.splice(from..to, pieces)?;
     Ok(())
+}
+
+/// Gives the pages of an area its permissions, whatever was there. The areas that meet or touch it
+/// are known.
+///
+/// # Errors
+///
+/// ENOMEM where the areas would be over 1,024. Out of memory where the list can't grow.
+/// An error changes nothing.
+pub(crate) fn set_between(
+    alloc: Global,
+    areas: &mut Vec<Area>,
+    from: usize,
+    to: usize,
+    area: Area,
+) -> Result<(), AreaError>
+    requires maximal { AreMaximal None areas.old.items }
+    requires few { length areas.old.items ≤ 1024 }
+    requires pages { 0 < area.count }
+    requires within { area.first + area.count ≤ 2 ^ 35 }
+    requires ordered { from ≤ to }
+    requires inside { to ≤ length areas.old.items }
+    requires below { AllWithin (λ (other : Area). other.first + other.count < area.first)
+        areas.old.items 0 from }
+    requires above { AllWithin (λ (other : Area). area.first + area.count < other.first)
+        areas.old.items to (length areas.old.items) }
+    ensures maximal { OnOk result (AreMaximal None areas.new.items) }
+    ensures few { OnOk result (length areas.new.items ≤ 1024) }
+    ensures ok { OnOk result
+        (within_areas (set_pages (pages_of areas.old.items) area.first area.count area.prot)
+        ≡ Ok (pages_of areas.new.items)) }
+    ensures refused { IfErr result (Answers
+        (within_areas (set_pages (pages_of areas.old.items) area.first area.count area.prot))) }
+    ensures err { OnErr result (areas.new.items ≡ areas.old.items) }
+{
+    let pieces = with_area(alloc, &areas[from..to], area)?;
+    replace(areas, from, to, pieces)
 }
 
 /// Gives the pages of an area its permissions, whatever was there.
@@ -94,8 +135,7 @@ pub(crate) fn set_run(alloc: Global, areas: &mut Vec<Area>, area: Area) -> Resul
         count: area.count,
     };
     let (from, to) = neighbours(areas, &range);
-    let pieces = with_area(alloc, &areas[from..to], area)?;
-    replace(areas, from, to, pieces)
+    set_between(alloc, areas, from, to, area)
 }
 
 /// Unmaps the pages of a run.
@@ -124,14 +164,4 @@ pub(crate) fn remove_run(
     let (from, to) = neighbours(areas, &range);
     let pieces = without_pages(alloc, &areas[from..to], range)?;
     replace(areas, from, to, pieces)
-}
-
-/// Whether a page of the run isn't mapped, by the areas that meet it.
-pub(crate) fn reaches_hole(areas: &[Area], range: &PageRange) -> bool
-    requires maximal { AreMaximal None areas.now }
-    requires within { range.now.first + range.now.count ≤ 2 ^ 35 }
-    ensures { result ≡ has_hole (pages_of areas.now) range.now.first range.now.count }
-{
-    let (from, to) = neighbours(areas, range);
-    meets_hole(&areas[from..to], range)
 }
