@@ -1,11 +1,12 @@
 -- The areas that meet or touch a run of pages, by their places in the list.
 use Rattle.std.proofs.Common.{◌≡◌, ◌⊎◌, ℕ, zero, suc, ◌+◌, ◌-◌, ◌<◌, ◌≤◌, Bool, true, false, cond, List, [], ◌∷◌, ◌++◌, length, take, drop, get_or, Option, Some, None, Result, Ok, Err, OnOk, IfErr, refl, sym, ap, subst, ◌∙◌, arith, inl, inr}
 use Rattle.std.specs.Prelude.{nat_lt, slice_range}
-use Rattle.std.specs.List.{splice, AllWithin}
+use Rattle.std.specs.List.{splice, AllWithin, position}
 use Rattle.std.specs.List.Sorted.{IsPartitionedBy, IsPartitionPoint}
 use Rattle.std.specs.FinMap as finmap
-use Rattle.std.proofs.lemmas.Bool.{lt-ltb, ltb-true, leb-false}
-use Rattle.std.proofs.lemmas.List.{take-append-drop, drop-drop}
+use Rattle.std.proofs.lemmas.Bool.{lt-ltb, ltb-true}
+use Rattle.std.proofs.lemmas.List.{take-append-drop, drop-drop, get_or-drop}
+use Rattle.std.proofs.lemmas.List.Quantifiers.{position-Some}
 use Rattle.sd_areas.specs.declared.area.Area.{Area}
 use Rattle.sd_areas.specs.Pages.{is_within, pages_from}
 use Rattle.sd_areas.specs.Areas.{PageMap, prot_in, AreMaximal, pages_of}
@@ -16,10 +17,10 @@ use Rattle.sd_areas.specs.declared.errno.AreaError.{AreaError}
 use Rattle.sd_areas.specs.declared.errno.AreaError.TheVariants.{Refused, OutOfMemory}
 use Rattle.sd_areas.proofs.Calls.{run_is, gap_is, within_ok, within_err}
 use Rattle.sd_areas.specs.Runs.{last_after, HasRun, HasGap}
-use Rattle.sd_areas.proofs.Find.{later_begins, begins_by}
+use Rattle.sd_areas.proofs.Find.{later_begins, starts_rise}
 use Rattle.sd_areas.proofs.Joined.{EndsBelow, BeginsAbove, AreAround, middle_is, replaced_are, replaced_same, in_middle}
 use Rattle.sd_areas.proofs.PagesOf.{get-pages_of}
-use Rattle.std.proofs.lemmas.Bool.{cond-false, cases_lt}
+use Rattle.std.proofs.lemmas.Bool.{cond-false}
 
 -- ---- the two searches
 -- whether an area ends before a page
@@ -133,30 +134,18 @@ hole_around_at xs seen part from to first count e f m l h below above =
     ap (λ (ys : List Area). has_hole (pages_of (slice_range ys from to)) first count) f
     ∙ hole_around xs from to first count m l (subst (λ (ys : List Area). to ≤ length ys) e h) below' above'
 
--- the first area behind is no sooner than the last before
-pub in_order : (xs : List Area) (from to first count : ℕ) → from ≤ length xs
-    → AllWithin (λ (x : Area). x.first + x.count < first) xs 0 from → AllWithin (λ (x : Area). first + count < x.first) xs to (length xs) → from ≤ to
-in_order xs from to first count l below above = elim (cases_lt to from) [
-  | inr h ↦ h
-  | inl h ↦ (
-      let one = nth xs to (omega (arith, h, l)) in
-      let b = below to one (omega arith) h in
-      let a = above to one (omega arith) (omega (arith, h, l)) in
-      absurd (omega (arith, a, b)))
-]
-  where
-    nth : (xs : List Area) (i : ℕ) → i < length xs → Area
-    nth [] i h = absurd (omega arith)
-    nth (x ∷ xs) i h = x
-
 -- what the searches tell
 pub below_by : (xs : List Area) (i begin first : ℕ) → IsPartitionPoint (λ y. ends_by begin y ≡ true) (λ y. ends_by begin y ≡ false) xs i → begin ≡ first
     → AllWithin (λ (area : Area). area.first + area.count < first) xs 0 i
 below_by xs i begin first point e k d low high = omega (arith, e, ltb-true _ _ (point.0 k d low high))
 
-pub above_by : (xs : List Area) (i begin first count : ℕ) → IsPartitionPoint (λ y. begins_by (begin + count) y ≡ true) (λ y. begins_by (begin + count) y ≡ false) xs i → begin ≡ first
-    → AllWithin (λ (area : Area). first + count < area.first) xs i (length xs)
-above_by xs i begin first count point e k d low high = omega (arith, e, leb-false _ _ (point.1 k d low high))
+pub above_by : (xs : List Area) (from met begin first count : ℕ) → AreMaximal None xs → position (λ (area : Area). nat_lt (begin + count) area.first) (drop from xs) ≡ Some met → begin ≡ first
+    → AllWithin (λ (area : Area). first + count < area.first) xs (from + met) (length xs)
+above_by xs from met begin first count m found e k d low high =
+    let at = position-Some (λ (area : Area). nat_lt (begin + count) area.first) (drop from xs) met d found in
+    let place = get_or-drop from xs met d in
+    let there : begin + count < (get_or xs (from + met) d).first = subst (λ (area : Area). begin + count < area.first) place (ltb-true _ _ at.1) in
+    omega (arith, e, there, starts_rise None xs (from + met) k d m low high)
 
 -- ---- what the list is afterwards
 pub run_fits : (old new placed : List Area) (area : Area) → HasRun old placed area → new ≡ placed → length new ≤ 1024 → within_areas (set_pages (pages_of old) area.first area.count area.prot) ≡ Ok (pages_of new)
