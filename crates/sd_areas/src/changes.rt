@@ -1,5 +1,5 @@
 //! Changes of a list of areas in place. A change reads and replaces the areas that meet a run of
-//! pages or touch it, found by binary search; the areas behind them move as a whole.
+//! pages or touch it; the areas behind them move as a whole.
 ghost use Rattle.std.specs.Prelude.{◌≡◌, ◌⊎◌, ◌+◌, ◌<◌, ◌≤◌, ◌^◌, nat_lt, length, Ok, OnOk, OnErr, IfErr, None};
 ghost use Rattle.std.specs.List.{splice, AllWithin, position};
 ghost use Rattle.sd_areas.specs.Areas.{AreMaximal, pages_of};
@@ -83,8 +83,8 @@ fn replace(
     Ok(())
 }
 
-/// Gives the pages of an area its permissions, whatever was there. The areas that meet or touch it
-/// are known.
+/// Gives the pages of an area its permissions, whatever was there. The areas that meet it or touch
+/// it are those from one place up to another.
 ///
 /// # Errors
 ///
