@@ -1,4 +1,8 @@
-//! `mmap`, `munmap`, `mprotect`, `fork` and `exit` over the pages of all spaces and the areas beside them.
+//! `mmap`, `munmap` and `mprotect` over the pages of all spaces and the areas beside them.
+//!
+//! What can fail comes first. `munmap` and `mprotect` change the areas and then the pages. `mmap`
+//! maps the pages that are missing, changes the areas, and makes each page a fresh one; where the
+//! areas can't change, it unmaps those pages again.
 ghost use Rattle.std.specs.Prelude.{◌≡◌, ◌≢◌, ◌⊎◌, ◌+◌, ◌-◌, ◌<◌, ◌≤◌, ◌^◌, ℕ, ◌==◌, if◌then◌else◌, true, false, not, is_some, count_by, None, Some, Ok, Err, IsSome, IfOk, IfErr, OnOk, OnErr, IfSome};
 ghost use Rattle.std.specs.Ordering.{nat_cmp};
 ghost use Rattle.std.specs.BTreeMap.{get};
