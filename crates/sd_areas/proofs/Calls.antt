@@ -17,6 +17,10 @@ use Rattle.sd_areas.specs.declared.errno.Errno.TheVariants.{Einval, Enomem}
 use Rattle.sd_areas.specs.Pages.{page_of, pages_for, is_invalid, is_outside}
 use Rattle.sd_areas.specs.Calls.{set_pages, remove_pages, within_areas, map_result, unmap_result, has_hole, protect_result}
 use Rattle.sd_areas.specs.Runs.{HasRun, HasGap}
+use Rattle.std.specs.Prelude.{Result, IfSome, IfOk, IfErr, is_some}
+use Rattle.std.specs.Option.{ok_or}
+use Rattle.sd_areas.specs.declared.errno.Errno.{Errno}
+use Rattle.sd_areas.specs.declared.page_range.PageRange.{PageRange}
 use Rattle.sd_areas.proofs.PagesOf.{find-run, get-pages_of, pages_of_areas, same_pages}
 use Rattle.sd_areas.proofs.Entries.{areas_of_is}
 use Rattle.sd_areas.proofs.Put.{none_outside}
@@ -95,13 +99,6 @@ shown_areas areas shown pages e v m =
 pub shown_value : (areas shown : List Area) (pages : PageMap) → shown ≡ areas → pages_of areas ≡ pages → AreMaximal None areas → shown ≡ areas_of pages
 shown_value areas shown pages e v m = e ∙ sym (ap areas_of (sym v) ∙ areas_of_pages_of areas m)
 
--- the space afterwards is what `mmap` gives, as far as the limit allows
-pub mapped_run : (pages : PageMap) (old new : List Area) (area : Area) (address bytes : ℕ) (prot : Prot) → pages_of old ≡ pages → is_invalid address bytes ≡ false → is_outside address bytes ≡ false →
-    area.first ≡ page_of address → area.count ≡ pages_for bytes → area.prot ≡ prot → HasRun old new area → map_result pages address bytes prot ≡ within_areas (pages_of new)
-mapped_run pages old new area address bytes prot v valid inside_space f n p h =
-    mapped_within pages address bytes prot valid inside_space
-    ∙ ap within_areas (rw (← v, ← f, ← n, ← p) (run_is old new area h))
-
 -- ---- `munmap`
 pub unmapped_invalid : (pages : PageMap) (address bytes : ℕ) → is_invalid address bytes ≡ true → unmap_result pages address bytes ≡ Err Einval
 unfolding unmap_result
@@ -114,12 +111,6 @@ unmapped_outside pages address bytes e o = cond-false _ _ _ e ∙ cond-true _ _ 
 pub unmapped_within : (pages : PageMap) (address bytes : ℕ) → is_invalid address bytes ≡ false → is_outside address bytes ≡ false → unmap_result pages address bytes ≡ within_areas (remove_pages pages (page_of address) (pages_for bytes))
 unfolding unmap_result
 unmapped_within pages address bytes e o = cond-false _ _ _ e ∙ cond-false _ _ _ o
-
-pub unmapped_gap : (pages : PageMap) (old new : List Area) (first count address bytes : ℕ) → pages_of old ≡ pages → is_invalid address bytes ≡ false → is_outside address bytes ≡ false →
-    first ≡ page_of address → count ≡ pages_for bytes → HasGap old new first count → unmap_result pages address bytes ≡ within_areas (pages_of new)
-unmapped_gap pages old new first count address bytes v valid inside_space f n h =
-    unmapped_within pages address bytes valid inside_space
-    ∙ ap within_areas (rw (← v, ← f, ← n) (gap_is old new first count h))
 
 -- ---- `mprotect`
 pub protected_invalid : (pages : PageMap) (address bytes : ℕ) (prot : Prot) → (address % 4096 == 0) ≡ false → protect_result pages address bytes prot ≡ Err Einval
@@ -147,8 +138,28 @@ protected_within pages address bytes prot e z o h = cond-false _ _ _ (not_from_t
 pub hole_test : (pages : PageMap) (old : List Area) (first count address bytes : ℕ) (b : Bool) → pages_of old ≡ pages → first ≡ page_of address → count ≡ pages_for bytes → b ≡ has_hole (pages_of old) first count → has_hole pages (page_of address) (pages_for bytes) ≡ b
 hole_test pages old first count address bytes b v f n h = rw (← v, ← f, ← n) (sym h)
 
-pub protected_run : (pages : PageMap) (old new : List Area) (area : Area) (address bytes : ℕ) (prot : Prot) → pages_of old ≡ pages → (address % 4096 == 0) ≡ true → (bytes ≡ 0 → ⊥) → is_outside address bytes ≡ false →
-    has_hole pages (page_of address) (pages_for bytes) ≡ false → area.first ≡ page_of address → area.count ≡ pages_for bytes → area.prot ≡ prot → HasRun old new area → protect_result pages address bytes prot ≡ within_areas (pages_of new)
-protected_run pages old new area address bytes prot v valid some inside_space full f n p h =
-    protected_within pages address bytes prot valid some inside_space full
-    ∙ ap within_areas (rw (← v, ← f, ← n, ← p) (run_is old new area h))
+-- ---- a range by its address and length
+pub range_found : (found : Option PageRange) (r : Result PageRange Errno) (past : Errno) (address bytes : ℕ) (P : PageRange → Type 0) → r ≡ ok_or found past → not (is_some found) ≡ is_outside address bytes
+    → IfSome found (λ range. range.first ≡ page_of address) → IfSome found (λ range. range.count ≡ pages_for bytes)
+    → ((range : PageRange) → is_outside address bytes ≡ false → range.first ≡ page_of address → range.count ≡ pages_for bytes → P range) → IfOk r P
+range_found None r past address bytes P e within first count holds = subst (λ (x : Result PageRange Errno). IfOk x P) (sym e) tt
+range_found (Some range) r past address bytes P e within first count holds = subst (λ (x : Result PageRange Errno). IfOk x P) (sym e) (holds range (sym within) first count)
+
+pub range_past : (found : Option PageRange) (r : Result PageRange Errno) (past : Errno) (address bytes : ℕ) (P : Errno → Type 0) → r ≡ ok_or found past → not (is_some found) ≡ is_outside address bytes
+    → (is_outside address bytes ≡ true → P past) → IfErr r P
+range_past None r past address bytes P e within holds = subst (λ (x : Result PageRange Errno). IfErr x P) (sym e) (holds (sym within))
+range_past (Some range) r past address bytes P e within holds = subst (λ (x : Result PageRange Errno). IfErr x P) (sym e) tt
+
+pub run_by_range : (pages : PageMap) (address bytes : ℕ) (prot : Prot) (first count : ℕ) → is_invalid address bytes ≡ false → is_outside address bytes ≡ false → first ≡ page_of address → count ≡ pages_for bytes
+    → map_result pages address bytes prot ≡ within_areas (set_pages pages first count prot)
+run_by_range pages address bytes prot first count valid inside_space f n = mapped_within pages address bytes prot valid inside_space ∙ rw (f, n) refl
+
+pub gap_by_range : (pages : PageMap) (address bytes first count : ℕ) → is_invalid address bytes ≡ false → is_outside address bytes ≡ false → first ≡ page_of address → count ≡ pages_for bytes
+    → unmap_result pages address bytes ≡ within_areas (remove_pages pages first count)
+gap_by_range pages address bytes first count valid inside_space f n = unmapped_within pages address bytes valid inside_space ∙ rw (f, n) refl
+
+pub set_by_range : (pages held : PageMap) (address bytes : ℕ) (prot : Prot) (first count : ℕ) (put : Prot) → held ≡ pages → (address % 4096 == 0) ≡ true → (bytes ≡ 0 → ⊥) → is_outside address bytes ≡ false
+    → has_hole pages (page_of address) (pages_for bytes) ≡ false → first ≡ page_of address → count ≡ pages_for bytes → put ≡ prot
+    → protect_result pages address bytes prot ≡ within_areas (set_pages held first count put)
+set_by_range pages held address bytes prot first count put v starts some inside_space full f n p =
+    protected_within pages address bytes prot starts some inside_space full ∙ rw (v, f, n, p) refl

@@ -1,8 +1,7 @@
 -- The areas of a space have as many pages as are mapped.
-use Rattle.std.proofs.Common.{◌≡◌, ℕ, zero, suc, ◌+◌, ◌<◌, ◌≤◌, Bool, true, false, ◌&&◌, List, [], ◌∷◌, ◌++◌, map, length, sum_by, Option, Some, None, refl, sym, ◌∙◌, ap, subst, arith, T, append_assoc}
+use Rattle.std.proofs.Common.{◌≡◌, ℕ, zero, suc, ◌+◌, ◌<◌, ◌≤◌, true, ◌&&◌, List, [], ◌∷◌, ◌++◌, map, length, sum_by, Option, Some, None, refl, sym, ◌∙◌, ap, subst, arith, T}
 use Rattle.std.specs.List.{flat_map, AllByRecursion}
 use Rattle.std.specs.Ordering.{nat_cmp, is_lt}
-use Rattle.std.specs.declared.cmp.Ordering.TheVariants.{Less}
 use Rattle.std.specs.Cmp.{nat_cmp_total}
 use Rattle.std.specs.FinMap as finmap
 use Rattle.std.specs.FinMap.{is_sorted, same_map, get-from_entries, get-from_sorted, entries-from_sorted, len-entries, nat_cmp-IsAntisymmetric}
@@ -13,7 +12,7 @@ use Rattle.std.proofs.lemmas.List.Sums.{sum_by-cons}
 use Rattle.sd_areas.specs.declared.area.Area.{Area}
 use Rattle.sd_areas.specs.declared.prot.Prot.{Prot}
 use Rattle.sd_areas.specs.Pages.{pages_from}
-use Rattle.sd_areas.specs.Areas.{PageMap, area_pages, AreMaximal, AreAreasOf, is_area_after, pages_of}
+use Rattle.sd_areas.specs.Areas.{area_pages, AreMaximal, is_area_after, pages_of}
 use Rattle.sd_areas.specs.Laws.{CountLaw}
 use Rattle.sd_areas.proofs.PagesOf.{get-pages_of, same_pages}
 

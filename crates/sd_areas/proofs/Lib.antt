@@ -12,3 +12,6 @@ pub mod PageLaws
 pub mod Memory
 pub mod PageRuns
 pub mod CountLemmas
+pub mod Joined
+pub mod Around
+pub mod Spliced

@@ -9,14 +9,14 @@ use Rattle.sd_areas.specs.Areas.{PageMap, prot_in, AreMaximal, AreAreasOf}
 use Rattle.sd_areas.proofs.Maximal.{follows_on, touching, inside, below, above, inside_parts, none_before}
 
 -- ---- one list
-at_head : (x : Area) (xs : List Area) (page : ℕ) → x.first ≤ page → page < x.first + x.count → prot_in (x ∷ xs) page ≡ Some x.prot
+pub at_head : (x : Area) (xs : List Area) (page : ℕ) → x.first ≤ page → page < x.first + x.count → prot_in (x ∷ xs) page ≡ Some x.prot
 at_head x xs page l h = cond-true _ _ _ (inside x.first x.count page l h)
 
-below_head : (before : Option Area) (x : Area) (xs : List Area) (page : ℕ) → AreMaximal before (x ∷ xs) → page < x.first → prot_in (x ∷ xs) page ≡ None
+pub below_head : (before : Option Area) (x : Area) (xs : List Area) (page : ℕ) → AreMaximal before (x ∷ xs) → page < x.first → prot_in (x ∷ xs) page ≡ None
 below_head before x xs page m l = cond-false _ _ _ (below x.first x.count page l) ∙ none_before (Some x) xs page m.1 (omega arith)
 
 -- the page behind an area has no permissions, or others
-behind_differs : (x : Area) (xs : List Area) → AreMaximal (Some x) xs → prot_in xs (x.first + x.count) ≡ Some x.prot → ⊥
+pub behind_differs : (x : Area) (xs : List Area) → AreMaximal (Some x) xs → prot_in xs (x.first + x.count) ≡ Some x.prot → ⊥
 behind_differs x [] m e = cc
 behind_differs x (z ∷ zs) m e =
     let f = follows_on (Some x) z m.0 in

@@ -1,5 +1,5 @@
 -- Refusals of POSIX.1-2017 as a number and as text.
-use Rattle.std.specs.Prelude.{ℕ, List, ◌∷◌, ◌++◌, false, codes}
+use Rattle.std.specs.Prelude.{ℕ, List, ◌++◌, false, codes}
 use Rattle.std.specs.Fmt.{digits}
 use Rattle.sd_areas.specs.declared.errno.Errno.{Errno}
 use Rattle.sd_areas.specs.declared.errno.Errno.TheVariants.{Einval, Enomem}

@@ -3,12 +3,13 @@ ghost use Rattle.std.specs.FinMap as finmap;
 ghost use Rattle.sd_areas.specs.Pages.{is_invalid, is_outside, page_of, pages_for};
 
 use crate::area::Area;
+use crate::changes::{neighbours, remove_run, set_between, set_run};
 use crate::errno::{AreaError, Errno};
 use crate::limits::AREA_LIMIT;
 use crate::page_no::PageNo;
-use crate::page_range::{PageRange, is_page_start, is_range};
+use crate::page_range::{PageRange, is_page_start};
 use crate::prot::Prot;
-use crate::runs::{find_prot, meets_hole, with_area, without_pages};
+use crate::runs::{find_prot, meets_hole};
 use crate::snapshot::areas_in;
 use crate::snapshot_page::SnapshotPage;
 use std::alloc::Global;
@@ -18,7 +19,8 @@ use std::marker::Model;
 /// The address space of one task: which pages are mapped, and with which permissions.
 ///
 /// It keeps the maximal runs of pages with equal permissions, at most 1,024 of them.
-/// A call costs time by the areas that the space has, and not by the pages.
+/// A call changes them in place: its time grows with the logarithm of the areas, with those that
+/// meet its range, and with one move of those behind it, and not with the pages.
 #[derive(Clone, Drop)]
 pub struct AreaMap {
     alloc: Global,
@@ -110,30 +112,8 @@ impl AreaMap {
             → result ≡ Err (Refused Enomem) }
         ensures err { OnErr result (self.new ≡ self.old) }
     {
-        *self = self.after_map(address, bytes, prot)?;
-        Ok(())
-    }
-
-    /// The space after `map`, which this one is left out of.
-    ///
-    /// # Errors
-    ///
-    /// As of `map`, in the same order. Out of memory only where the range is one.
-    pub fn after_map(&self, address: u64, bytes: u64, prot: Prot) -> Result<Self, AreaError>
-        ensures ok { IfOk result (λ map. map_result self.now address bytes prot ≡ Ok map) }
-        ensures refused { IfErr result (Answers (map_result self.now address bytes prot)) }
-        ensures invalid { IsTrue (is_invalid address bytes) → result ≡ Err (Refused Einval) }
-        ensures outside { IsFalse (is_invalid address bytes) → IsTrue (is_outside address bytes)
-            → result ≡ Err (Refused Enomem) }
-    {
-        if !is_range(address, bytes) {
-            return Err(AreaError::Refused(Errno::Einval));
-        }
-        let Some(range) = PageRange::new(address, bytes) else {
-            return Err(AreaError::Refused(Errno::Enomem));
-        };
-        let areas = with_area(self.alloc, &self.areas, range.with(prot))?;
-        AreaMap::from_areas(self.alloc, areas)
+        let range = PageRange::for_map(address, bytes)?;
+        set_run(self.alloc, &mut self.areas, range.with(prot))
     }
 
     /// Unmaps each whole page that contains a part of a range, as `munmap` of POSIX.1-2017 does.
@@ -153,30 +133,8 @@ impl AreaMap {
             → result ≡ Err (Refused Einval) }
         ensures err { OnErr result (self.new ≡ self.old) }
     {
-        *self = self.after_unmap(address, bytes)?;
-        Ok(())
-    }
-
-    /// The space after `unmap`, which this one is left out of.
-    ///
-    /// # Errors
-    ///
-    /// As of `unmap`, in the same order. Out of memory only where the range is one.
-    pub fn after_unmap(&self, address: u64, bytes: u64) -> Result<Self, AreaError>
-        ensures ok { IfOk result (λ map. unmap_result self.now address bytes ≡ Ok map) }
-        ensures refused { IfErr result (Answers (unmap_result self.now address bytes)) }
-        ensures invalid { IsTrue (is_invalid address bytes) → result ≡ Err (Refused Einval) }
-        ensures outside { IsFalse (is_invalid address bytes) → IsTrue (is_outside address bytes)
-            → result ≡ Err (Refused Einval) }
-    {
-        if !is_range(address, bytes) {
-            return Err(AreaError::Refused(Errno::Einval));
-        }
-        let Some(range) = PageRange::new(address, bytes) else {
-            return Err(AreaError::Refused(Errno::Einval));
-        };
-        let areas = without_pages(self.alloc, &self.areas, range)?;
-        AreaMap::from_areas(self.alloc, areas)
+        let range = PageRange::for_unmap(address, bytes)?;
+        remove_run(self.alloc, &mut self.areas, range)
     }
 
     /// Gives the whole pages of a range these permissions, as `mprotect` of POSIX.1-2017 does.
@@ -195,6 +153,9 @@ impl AreaMap {
         ensures nothing { IsTrue (address % 4096 == 0) → bytes ≡ 0 → result ≡ Ok tt }
         ensures outside { IsFalse (is_invalid address bytes) → IsTrue (is_outside address bytes)
             → result ≡ Err (Refused Enomem) }
+        ensures hole { IsFalse (is_invalid address bytes) → IsFalse (is_outside address bytes)
+            → IsTrue (has_hole self.old (page_of address) (pages_for bytes))
+            → result ≡ Err (Refused Enomem) }
         ensures err { OnErr result (self.new ≡ self.old) }
     {
         if !is_page_start(address) {
@@ -203,38 +164,14 @@ impl AreaMap {
         if bytes == 0 {
             return Ok(());
         }
-        *self = self.after_protect(address, bytes, prot)?;
-        Ok(())
-    }
-
-    /// The space after `protect` of some bytes, which this one is left out of.
-    ///
-    /// # Errors
-    ///
-    /// As of `protect`, in the same order. Out of memory only where each page of the range is
-    /// mapped.
-    pub fn after_protect(&self, address: u64, bytes: u64, prot: Prot) -> Result<Self, AreaError>
-        requires { bytes ≢ 0 }
-        ensures ok { IfOk result (λ map. protect_result self.now address bytes prot ≡ Ok map) }
-        ensures refused { IfErr result (Answers (protect_result self.now address bytes prot)) }
-        ensures invalid { IsFalse (address % 4096 == 0) → result ≡ Err (Refused Einval) }
-        ensures outside { IsTrue (address % 4096 == 0) → IsTrue (is_outside address bytes)
-            → result ≡ Err (Refused Enomem) }
-        ensures hole { IsTrue (address % 4096 == 0) → IsFalse (is_outside address bytes)
-            → IsTrue (has_hole self.now (page_of address) (pages_for bytes))
-            → result ≡ Err (Refused Enomem) }
-    {
-        if !is_page_start(address) {
-            return Err(AreaError::Refused(Errno::Einval));
-        }
         let Some(range) = PageRange::new(address, bytes) else {
             return Err(AreaError::Refused(Errno::Enomem));
         };
-        if meets_hole(&self.areas, &range) {
+        let (from, to) = neighbours(&self.areas, &range);
+        if meets_hole(&self.areas[from..to], &range) {
             return Err(AreaError::Refused(Errno::Enomem));
         }
-        let areas = with_area(self.alloc, &self.areas, range.with(prot))?;
-        AreaMap::from_areas(self.alloc, areas)
+        set_between(self.alloc, &mut self.areas, from, to, range.with(prot))
     }
 
     /// The space that has these areas.

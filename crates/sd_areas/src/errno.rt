@@ -79,3 +79,13 @@ impl From<AllocError> for AreaError {
         AreaError::OutOfMemory
     }
 }
+
+impl From<Errno> for AreaError {
+    ghost use Rattle.sd_areas.specs.declared.errno.AreaError.TheVariants.{Refused};
+
+    ghost from_gives = { λ errno e. e ≡ Refused errno };
+
+    fn from(errno: Errno) -> AreaError {
+        AreaError::Refused(errno)
+    }
+}

@@ -3,6 +3,7 @@
 
 mod area;
 mod area_map;
+mod changes;
 mod errno;
 mod laws;
 mod limits;
@@ -25,6 +26,7 @@ pub use limits::{
     AREA_LIMIT, MAPPED_PAGE_LIMIT, PAGE_BYTES, PAGE_NUMBER_LIMIT, PAGE_SIZE, SPACE_LIMIT,
 };
 pub use page_no::PageNo;
+pub use page_range::PageRange;
 pub use prot::Prot;
 pub use runs::find_prot;
 pub use snapshot::{Snapshot, areas_in};

@@ -167,7 +167,7 @@ fn reach(area: &Area, page: u64) -> u64
     }
 }
 
-/// Whether a page of the run isn't mapped.
+/// Whether a page of the run isn't mapped, by a walk over all areas.
 pub(crate) fn meets_hole(areas: &[Area], range: &PageRange) -> bool
     requires maximal { AreMaximal None areas.now }
     requires within { range.now.first + range.now.count ≤ 2 ^ 35 }

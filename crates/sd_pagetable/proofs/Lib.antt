@@ -23,6 +23,7 @@ pub mod ReleaseLemmas
 pub mod InheritLemmas
 pub mod PlainRanges
 pub mod RangeDue
+pub mod AreaCalls
 pub mod ForkCalls
 pub mod ClearLemmas
 pub mod CountLemmas

@@ -1,19 +1,24 @@
-//! `mmap`, `munmap`, `mprotect`, `fork` and `exit` over the pages of all spaces and the areas beside them.
+//! `mmap`, `munmap` and `mprotect` over the pages of all spaces and the areas beside them.
+//!
+//! What can fail comes first. `munmap` and `mprotect` change the areas and then the pages. `mmap`
+//! maps the pages that are missing, changes the areas, and makes each page a fresh one; where the
+//! areas can't change, it unmaps those pages again.
 ghost use Rattle.std.specs.Prelude.{◌≡◌, ◌≢◌, ◌⊎◌, ◌+◌, ◌-◌, ◌<◌, ◌≤◌, ◌^◌, ℕ, ◌==◌, if◌then◌else◌, true, false, not, is_some, count_by, None, Some, Ok, Err, IsSome, IfOk, IfErr, OnOk, OnErr, IfSome};
 ghost use Rattle.std.specs.Ordering.{nat_cmp};
 ghost use Rattle.std.specs.BTreeMap.{get};
 ghost use Rattle.sd_areas.specs.Calls.{map_result, unmap_result, protect_result};
-ghost use Rattle.sd_areas.specs.Pages.{page_of, pages_for, pages_from};
+ghost use Rattle.sd_areas.specs.Areas.{PageMap};
+ghost use Rattle.sd_areas.specs.Pages.{page_of, pages_for, pages_from, is_invalid, is_outside};
 ghost use Rattle.sd_pagetable.specs.declared.access_error.AccessError.TheVariants.{Refused};
 ghost use Rattle.sd_pagetable.specs.declared.memory_error.MemoryError.TheVariants.{Denied as DeniedError, OutOfMemory};
 ghost use Rattle.sd_pagetable.specs.declared.memory_refusal.MemoryRefusal.TheVariants.{Enomem, NoSuchSpace};
-ghost use Rattle.sd_pagetable.specs.Nested.{inside, is_alive, set_within, change_within};
+ghost use Rattle.sd_pagetable.specs.Nested.{inside, is_alive, set_within, change_within, fill_within};
 ghost use Rattle.sd_pagetable.specs.Page.{Page, fresh_page, protected_page};
 ghost use Rattle.sd_pagetable.specs.Contents.{Contents, page_at, page_count, plain_of};
-ghost use Rattle.sd_pagetable.specs.Due.{Answers, answer, area_due, in_space, mmap_due, munmap_due, mprotect_due};
+ghost use Rattle.sd_pagetable.specs.Due.{Answers, answer, or_else, area_due, in_space, mmap_due, munmap_due, mprotect_due};
 ghost use Rattle.sd_pagetable.specs.Effects.{after_mmap, after_munmap, after_mprotect};
 ghost use Rattle.sd_pagetable.specs.Kept.{HasAreas, prots_of};
-ghost use Rattle.sd_pagetable.specs.RangeCalls.{IsRangeIn, Refuses};
+ghost use Rattle.sd_pagetable.specs.RangeCalls.{IsRangeIn, Refuses, HasPut, HasSame, pages_due};
 ghost use Rattle.sd_pagetable.specs.Tracking.{Step, Mapped, Unmapped, Protected, with_space};
 
 use crate::access_error::AccessError;
@@ -22,8 +27,8 @@ use crate::memory_refusal::MemoryRefusal;
 use crate::paging::Paging;
 use crate::ranges::{fill, holes, protect, renew, unfill, unmap};
 use sd_areas::{
-    AreaMap, MAPPED_PAGE_LIMIT, PAGE_BYTES, PageNo, Prot, SpaceId, mapped_law, protected_law,
-    unmapped_law,
+    AreaError, AreaMap, MAPPED_PAGE_LIMIT, PAGE_BYTES, PageNo, PageRange, Prot, SpaceId,
+    mapped_law, protected_law, unmapped_law,
 };
 use std::alloc::AllocError;
 use std::collections::BTreeMap;
@@ -52,86 +57,55 @@ pub(crate) fn copy_in(areas: &Areas, space: SpaceId) -> Result<AreaMap, MemoryEr
     Ok(copy_of(own)?)
 }
 
-/// Puts other areas in place of a living space's own. It takes no memory.
-fn put_areas(areas: &mut Areas, space: SpaceId, own: AreaMap)
-    requires { IsSome (get nat_cmp areas.old space) }
-    ensures { (q : ℕ)
-        → get nat_cmp areas.new q ≡ (if q == space then Some own else get nat_cmp areas.old q) }
-{
-    let _ = areas.insert(space, own);
-}
-
-/// A space's areas with a range mapped.
-fn with_mapped(
-    areas: &Areas,
+/// Unmaps a range in a space's areas.
+fn unmap_areas(
+    areas: &mut Areas,
     space: SpaceId,
     address: u64,
     bytes: u64,
-    prot: Prot,
-) -> Result<AreaMap, MemoryError>
-    ensures ok { IfOk result
-        (λ own. (contents : Contents) → HasAreas areas.now contents
-        → (is_alive contents.spaces space ≡ true)
-        × (map_result (prots_of (inside contents.spaces space)) address bytes prot ≡ Ok own)) }
-    ensures due { IfErr result (λ e. (contents : Contents) → HasAreas areas.now contents
-        → Refuses e (in_space contents.spaces space
-        (area_due (map_result (prots_of (inside contents.spaces space)) address bytes prot)))) }
-    ensures tested { result ≡ Err OutOfMemory
-        → IsRangeIn (IsSome (get nat_cmp areas.now space)) address bytes }
-{
-    let Some(own) = areas.get(&space) else {
-        return Err(MemoryRefusal::NoSuchSpace.into());
-    };
-    Ok(own.after_map(address, bytes, prot)?)
-}
-
-/// A space's areas with a range unmapped.
-fn with_unmapped(
-    areas: &Areas,
-    space: SpaceId,
-    address: u64,
-    bytes: u64,
-) -> Result<AreaMap, MemoryError>
-    ensures ok { IfOk result
-        (λ own. (contents : Contents) → HasAreas areas.now contents
-        → (is_alive contents.spaces space ≡ true)
-        × (unmap_result (prots_of (inside contents.spaces space)) address bytes ≡ Ok own)) }
-    ensures due { IfErr result (λ e. (contents : Contents) → HasAreas areas.now contents
+) -> Result<(), MemoryError>
+    ensures ok { OnOk result ((contents : Contents) → HasAreas areas.old contents
+        → (own : PageMap) × (is_alive contents.spaces space ≡ true)
+        × (unmap_result (prots_of (inside contents.spaces space)) address bytes ≡ Ok own)
+        × HasPut areas.old areas.new space own) }
+    ensures due { IfErr result (λ e. (contents : Contents) → HasAreas areas.old contents
         → Refuses e (in_space contents.spaces space
         (area_due (unmap_result (prots_of (inside contents.spaces space)) address bytes)))) }
     ensures tested { result ≡ Err OutOfMemory
-        → IsRangeIn (IsSome (get nat_cmp areas.now space)) address bytes }
+        → IsRangeIn (IsSome (get nat_cmp areas.old space)) address bytes }
+    ensures err { OnErr result (HasSame areas.old areas.new) }
 {
-    let Some(own) = areas.get(&space) else {
+    let Some(own) = areas.get_mut(&space) else {
         return Err(MemoryRefusal::NoSuchSpace.into());
     };
-    Ok(own.after_unmap(address, bytes)?)
+    Ok(own.unmap(address, bytes)?)
 }
 
-/// A space's areas with a range protected.
-fn with_protected(
-    areas: &Areas,
+/// Protects a range in a space's areas.
+fn protect_areas(
+    areas: &mut Areas,
     space: SpaceId,
     address: u64,
     bytes: u64,
     prot: Prot,
-) -> Result<AreaMap, MemoryError>
+) -> Result<(), MemoryError>
     requires { bytes ≢ 0 }
-    ensures ok { IfOk result
-        (λ own. (contents : Contents) → HasAreas areas.now contents
-        → (is_alive contents.spaces space ≡ true)
-        × (protect_result (prots_of (inside contents.spaces space)) address bytes prot ≡ Ok own)) }
-    ensures due { IfErr result (λ e. (contents : Contents) → HasAreas areas.now contents
+    ensures ok { OnOk result ((contents : Contents) → HasAreas areas.old contents
+        → (own : PageMap) × (is_alive contents.spaces space ≡ true)
+        × (protect_result (prots_of (inside contents.spaces space)) address bytes prot ≡ Ok own)
+        × HasPut areas.old areas.new space own) }
+    ensures due { IfErr result (λ e. (contents : Contents) → HasAreas areas.old contents
         → Refuses e (in_space contents.spaces space
         (area_due (protect_result
         (prots_of (inside contents.spaces space)) address bytes prot)))) }
     ensures tested { result ≡ Err OutOfMemory
-        → IsRangeIn (IsSome (get nat_cmp areas.now space)) address bytes }
+        → IsRangeIn (IsSome (get nat_cmp areas.old space)) address bytes }
+    ensures err { OnErr result (HasSame areas.old areas.new) }
 {
-    let Some(own) = areas.get(&space) else {
+    let Some(own) = areas.get_mut(&space) else {
         return Err(MemoryRefusal::NoSuchSpace.into());
     };
-    Ok(own.after_protect(address, bytes, prot)?)
+    Ok(own.protect(address, bytes, prot)?)
 }
 
 /// Whether a run can be mapped without passing the limit of pages.
@@ -154,8 +128,8 @@ fn has_room(paging: &Paging, own: &AreaMap, first: u64, end: u64) -> bool
     paging.mapped() + holes(own, first, end) <= MAPPED_PAGE_LIMIT
 }
 
-/// Maps each page of a run as a fresh one, whatever was mapped there.
-fn map_run(
+/// Maps each page of a run that isn't mapped as a fresh one.
+fn fill_holes(
     paging: &mut Paging,
     own: &AreaMap,
     space: SpaceId,
@@ -169,8 +143,7 @@ fn map_run(
     requires within { end ≤ 2 ^ 35 }
     ensures ok { OnOk result
         (paging.new ≡ with_space paging.old space
-        (set_within (inside paging.old.spaces space) first (end - first) (fresh_page prot))) }
-    ensures few { OnOk result (page_count paging.new.spaces ≤ 65536) }
+        (fill_within (inside paging.old.spaces space) first (end - first) (fresh_page prot))) }
     ensures many { result ≡ Err (DeniedError (Refused Enomem))
         → 65536 < page_count
         (with_space paging.old space
@@ -186,6 +159,43 @@ fn map_run(
     if reached < end {
         unfill(paging, space, first, reached, own);
         return Err(MemoryError::OutOfMemory);
+    }
+    Ok(())
+}
+
+/// `mmap` over the pages of all spaces and the areas of one.
+fn map_in(
+    paging: &mut Paging,
+    own: &mut AreaMap,
+    space: SpaceId,
+    address: u64,
+    bytes: u64,
+    prot: Prot,
+) -> Result<(), MemoryError>
+    requires alive { is_alive paging.old.spaces space ≡ true }
+    requires areas { own.old ≡ prots_of (inside paging.old.spaces space) }
+    ensures areas { OnOk result (map_result own.old address bytes prot ≡ Ok own.new) }
+    ensures pages { OnOk result
+        (paging.new ≡ with_space paging.old space
+        (set_within (inside paging.old.spaces space) (page_of address) (pages_for bytes)
+        (fresh_page prot))) }
+    ensures few { OnOk result (page_count paging.new.spaces ≤ 65536) }
+    ensures due { IfErr result (λ e. Refuses e
+        (or_else (area_due (map_result own.old address bytes prot))
+        (pages_due (with_space paging.old space
+        (set_within (inside paging.old.spaces space) (page_of address) (pages_for bytes)
+        (fresh_page prot)))))) }
+    ensures tested { result ≡ Err OutOfMemory
+        → (is_invalid address bytes ≡ false) × (is_outside address bytes ≡ false) }
+    ensures err { OnErr result ((own.new ≡ own.old) × (paging.new ≡ paging.old)) }
+{
+    let range = PageRange::for_map(address, bytes).map_err(AreaError::Refused)?;
+    let first = range.first.number();
+    let end = first + range.count;
+    fill_holes(paging, own, space, first, end, prot)?;
+    if let Err(error) = own.map(address, bytes, prot) {
+        unfill(paging, space, first, end, own);
+        return Err(error.into());
     }
     renew(paging, space, first, end, prot);
     let _few = paging.mapped();
@@ -212,12 +222,11 @@ pub(crate) fn munmap(
     ensures err { OnErr result (paging.new ≡ paging.old) }
 {
     unmapped_law();
-    let own = with_unmapped(areas, space, address, bytes)?;
+    unmap_areas(areas, space, address, bytes)?;
     let first = address / PAGE_BYTES;
     let end = first + bytes.div_ceil(PAGE_BYTES);
     let page = PageNo::new(first).unwrap();
     unmap(paging, space, page, end);
-    put_areas(areas, space, own);
     Ok(())
 }
 
@@ -271,9 +280,8 @@ fn protect_some(
     ensures err { OnErr result (paging.new ≡ paging.old) }
 {
     protected_law();
-    let own = with_protected(areas, space, address, bytes, prot)?;
+    protect_areas(areas, space, address, bytes, prot)?;
     protect_range(paging, space, address, bytes, prot);
-    put_areas(areas, space, own);
     Ok(())
 }
 
@@ -324,11 +332,8 @@ pub(crate) fn mmap(
     ensures err { OnErr result (paging.new ≡ paging.old) }
 {
     mapped_law();
-    let own = with_mapped(areas, space, address, bytes, prot)?;
-    let first = address / PAGE_BYTES;
-    let end = first + bytes.div_ceil(PAGE_BYTES);
-    let before = areas.get(&space).unwrap();
-    map_run(paging, before, space, first, end, prot)?;
-    put_areas(areas, space, own);
-    Ok(())
+    let Some(own) = areas.get_mut(&space) else {
+        return Err(MemoryRefusal::NoSuchSpace.into());
+    };
+    map_in(paging, own, space, address, bytes, prot)
 }

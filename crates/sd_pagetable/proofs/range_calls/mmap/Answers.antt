@@ -1,66 +1,54 @@
-use Rattle.std.proofs.Common.{rules, ◌≡◌, ◌<◌, ◌≤◌, false, Err, ◌+◌, ◌-◌, ◌/◌, sym, ap, subst, ◌∙◌, arith}
+use Rattle.std.proofs.Common.{rules, ◌≡◌, ap, is_some, sym, subst, ◌∙◌, ◌≤◌, Option, Ok, IfErr}
+use Rattle.sd_areas.specs.Calls.{map_result}
 use Rattle.sd_areas.specs.Pages.{page_of, pages_for}
 use Rattle.sd_pagetable.specs.Nested.{inside, set_within}
 use Rattle.sd_pagetable.specs.Page.{fresh_page}
 use Rattle.sd_pagetable.specs.Contents.{Contents, page_count, plain_of}
-use Rattle.sd_pagetable.specs.Due.{mmap_due}
-use Rattle.sd_pagetable.specs.Kept.{HasAreas, prots_of}
+use Rattle.sd_pagetable.specs.declared.access_error.AccessError.{AccessError}
 use Rattle.sd_pagetable.specs.RangeCalls.{Refuses}
+use Rattle.sd_pagetable.specs.Kept.{HasAreas, prots_of}
 use Rattle.sd_pagetable.specs.Tracking.{with_space}
+use Rattle.std.proofs.lemmas.Result.{on_ok_weaker}
 use Rattle.sd_pagetable.proofs.PlainRanges.{areas_with, plain_mapped}
-use Rattle.sd_pagetable.proofs.RangeDue.{mmap_seen, mapped_due, mapped_within, mapped_range, own_mapped, few_pages, refuses_first, refuses_many}
+use Rattle.sd_pagetable.proofs.RangeDue.{mmap_seen, own_mapped}
+use Rattle.sd_pagetable.proofs.AreaCalls.{areas_put, areas_same, areas_found, areas_absent, still_kept, dead_due, nothing_over, on_both, by_result, answers_by, mmap_due_is}
 use Rattle.sd_pagetable.proofs.range_calls.mmap.Goals as goal
 
-pub returns-in_err-own-clause-due : goal.returns-in_err-own-clause-due
-returns-in_err-own-clause-due c =
-    let refused : Refuses c.in_err-own.field-0.0 (mmap_due (plain_of c.args.paging.now) c.args.space c.args.address c.args.bytes c.args.prot) =
-    subst (Refuses c.in_err-own.field-0.0) (sym (mmap_seen c.args.paging.now c.args.space c.args.address c.args.bytes c.args.prot))
-    (refuses_first c.in_err-own.field-0.0 c.args.paging.now c.args.space _ _ (c.in_err-own.ensures.due c.args.paging.now c.requires.kept)) in
+pub returns-in_default-clause-due : goal.returns-in_default-clause-due
+returns-in_default-clause-due c =
+    let dead = areas_absent c.args.areas.now c.args.paging.now c.args.space c.requires.kept c.in_default.ensures.value in
+    let due = mmap_seen c.args.paging.now c.args.space c.args.address c.args.bytes c.args.prot ∙ dead_due c.args.paging.now c.args.space _ dead in
     search rules
-
-pub map_run-requires-clause-within : goal.map_run-requires-clause-within
-map_run-requires-clause-within c =
-    let is = (c.in_ok-own.ensures.ok c.args.paging.now c.requires.kept).1 in
-    let within = mapped_within (prots_of (inside c.args.paging.now.spaces c.args.space)) c.args.address c.args.bytes c.args.prot c.in_ok-own.own is in
-    let count : c.div_ceil.result ≡ pages_for c.args.bytes = search rules in
-    omega (arith, within.0, count)
-
-pub returns-in_err-map_run-clause-due : goal.returns-in_err-map_run-clause-due
-returns-in_err-map_run-clause-due c =
-    let ok = c.in_ok-own.ensures.ok c.args.paging.now c.requires.kept in
-    let t = inside c.args.paging.now.spaces c.args.space in
-    let count : c.args.address / 4096 + c.div_ceil.result - c.args.address / 4096 ≡ pages_for c.args.bytes = search rules in
-    let refused : Refuses c.in_err-map_run.field-0.0 (mmap_due (plain_of c.args.paging.now) c.args.space c.args.address c.args.bytes c.args.prot) =
-    subst (Refuses c.in_err-map_run.field-0.0) (sym (mmap_seen c.args.paging.now c.args.space c.args.address c.args.bytes c.args.prot))
-    (refuses_many c.in_err-map_run.field-0.0 c.args.paging.now c.args.space _ c.in_ok-own.own _ ok.0 ok.1 c.in_err-map_run.ensures.errors (λ is.
-    subst (λ n. 65536 < page_count (with_space c.args.paging.now c.args.space (set_within t (page_of c.args.address) n (fresh_page c.args.prot))).spaces) count (c.in_err-map_run.ensures.many (ap Err is)))) in
-    search rules
-
-pub returns-in_err-map_run-clause-tested : goal.returns-in_err-map_run-clause-tested
-returns-in_err-map_run-clause-tested c = λ _.
-    let ok = c.in_ok-own.ensures.ok c.args.paging.now c.requires.kept in
-    let range = mapped_range (prots_of (inside c.args.paging.now.spaces c.args.space)) c.args.address c.args.bytes c.args.prot c.in_ok-own.own ok.1 in
-    (ok.0, range.0, range.1)
 
 pub returns-clause-kept : goal.returns-clause-kept
 returns-clause-kept c =
-    let is = (c.in_ok-own.ensures.ok c.args.paging.now c.requires.kept).1 in
+    let old = c.args.areas.now in
+    let new = c.get_mut.follows.lender c.map_in.new.own in
+    let own = c.in-Some.own.now in
+    let found = areas_found old c.args.paging.now c.args.space own c.requires.kept c.in-Some.ensures.value in
+    let put = areas_put old new c.args.space c.map_in.new.own ((c.get_mut.follows.holds c.map_in.new.own).3 (ap is_some (sym c.in-Some.ensures.value))).0 in
     let t = inside c.args.paging.now.spaces c.args.space in
-    let done : c.map_run.new.paging ≡ with_space c.args.paging.now c.args.space (set_within t (page_of c.args.address) (pages_for c.args.bytes) (fresh_page c.args.prot)) = search rules in
-    subst (HasAreas c.put_areas.new.areas) (sym done)
-    (areas_with c.args.areas.now c.put_areas.new.areas c.args.paging.now c.args.space _ c.in_ok-own.own c.requires.kept
-    (own_mapped t c.in_ok-own.own (page_of c.args.address) (pages_for c.args.bytes) c.args.prot (c.mapped_law.ensures (prots_of t) c.in_ok-own.own c.args.address c.args.bytes c.args.prot is))
-    c.put_areas.ensures)
+    let mapped = set_within t (page_of c.args.address) (pages_for c.args.bytes) (fresh_page c.args.prot) in
+    by_result _ _ (HasAreas new c.map_in.new.paging) c.map_in.result (on_both _ _ c.map_in.result c.map_in.ensures.areas c.map_in.ensures.pages) c.map_in.ensures.err
+    (λ done.
+    let is : map_result (prots_of t) c.args.address c.args.bytes c.args.prot ≡ Ok c.map_in.new.own = rw (← found.1) done.0 in
+    subst (HasAreas new) (sym done.1)
+    (areas_with old new c.args.paging.now c.args.space mapped c.map_in.new.own c.requires.kept
+    (own_mapped t c.map_in.new.own (page_of c.args.address) (pages_for c.args.bytes) c.args.prot (c.mapped_law.ensures (prots_of t) c.map_in.new.own c.args.address c.args.bytes c.args.prot is))
+    put))
+    (λ undone. subst (HasAreas new) (sym undone.1) (still_kept old new c.args.paging.now (areas_same old new c.args.space own c.map_in.new.own c.in-Some.ensures.value undone.0 put) c.requires.kept))
 
 pub returns-clause-due : goal.returns-clause-due
 returns-clause-due c =
-    let ok = c.in_ok-own.ensures.ok c.args.paging.now c.requires.kept in
+    let own = c.in-Some.own.now in
+    let found = areas_found c.args.areas.now c.args.paging.now c.args.space own c.requires.kept c.in-Some.ensures.value in
+    let is = mmap_due_is c.args.paging.now c.args.space c.args.address c.args.bytes c.args.prot own found.0 found.1 in
     let t = inside c.args.paging.now.spaces c.args.space in
-    let done : c.map_run.new.paging ≡ with_space c.args.paging.now c.args.space (set_within t (page_of c.args.address) (pages_for c.args.bytes) (fresh_page c.args.prot)) = search rules in
-    let few = subst (λ (m : Contents). page_count m.spaces ≤ 65536) done c.in_ok-map_run.ensures.few in
-    mmap_seen c.args.paging.now c.args.space c.args.address c.args.bytes c.args.prot ∙ mapped_due c.args.paging.now c.args.space _ c.in_ok-own.own _ false ok.0 ok.1 (few_pages _ few)
+    let after = with_space c.args.paging.now c.args.space (set_within t (page_of c.args.address) (pages_for c.args.bytes) (fresh_page c.args.prot)) in
+    answers_by _ c.map_in.result
+    (on_ok_weaker c.map_in.result (λ done. is ∙ nothing_over _ c.map_in.new.own after done.0 (subst (λ (m : Contents). page_count m.spaces ≤ 65536) done.1.0 done.1.1))
+    (on_both _ _ c.map_in.result c.map_in.ensures.areas (on_both _ _ c.map_in.result c.map_in.ensures.pages c.map_in.ensures.few)))
+    (subst (λ (due : Option AccessError). IfErr c.map_in.result (λ e. Refuses e due)) (sym is) c.map_in.ensures.due)
 
 pub returns-clause-memory : goal.returns-clause-memory
-returns-clause-memory c =
-    let done : c.map_run.new.paging ≡ with_space c.args.paging.now c.args.space (set_within (inside c.args.paging.now.spaces c.args.space) (page_of c.args.address) (pages_for c.args.bytes) (fresh_page c.args.prot)) = search rules in
-    ap plain_of done ∙ plain_mapped c.args.paging.now c.args.space c.args.address c.args.bytes c.args.prot
+returns-clause-memory c = on_ok_weaker c.map_in.result (λ done. ap plain_of done ∙ plain_mapped c.args.paging.now c.args.space c.args.address c.args.bytes c.args.prot) c.map_in.ensures.pages

@@ -8,34 +8,41 @@ use Rattle.sd_pagetable.specs.RangeCalls.{Refuses}
 use Rattle.sd_pagetable.specs.Tracking.{with_space}
 use Rattle.sd_pagetable.proofs.PlainRanges.{areas_with, plain_unmapped}
 use Rattle.sd_pagetable.proofs.RangeDue.{munmap_seen, nothing_due, unmapped_within, own_unmapped}
+use Rattle.sd_pagetable.proofs.AreaCalls.{still_kept}
 use Rattle.sd_pagetable.proofs.range_calls.munmap.Goals as goal
 
-pub returns-in_err-own-clause-due : goal.returns-in_err-own-clause-due
-returns-in_err-own-clause-due c =
-    let refused : Refuses c.in_err-own.field-0.0 (munmap_due (plain_of c.args.paging.now) c.args.space c.args.address c.args.bytes) =
-    subst (Refuses c.in_err-own.field-0.0) (sym (munmap_seen c.args.paging.now c.args.space c.args.address c.args.bytes)) (c.in_err-own.ensures.due c.args.paging.now c.requires.kept) in
+pub returns-in_err-unmap_areas-clause-kept : goal.returns-in_err-unmap_areas-clause-kept
+returns-in_err-unmap_areas-clause-kept c = still_kept c.args.areas.now c.unmap_areas.new.areas c.args.paging.now c.in_err-unmap_areas.ensures.err c.requires.kept
+
+pub returns-in_err-unmap_areas-clause-due : goal.returns-in_err-unmap_areas-clause-due
+returns-in_err-unmap_areas-clause-due c =
+    let refused : Refuses c.in_err-unmap_areas.field-0.0 (munmap_due (plain_of c.args.paging.now) c.args.space c.args.address c.args.bytes) =
+    subst (Refuses c.in_err-unmap_areas.field-0.0) (sym (munmap_seen c.args.paging.now c.args.space c.args.address c.args.bytes)) (c.in_err-unmap_areas.ensures.due c.args.paging.now c.requires.kept) in
     search rules
 
 pub unwrap-page-requires : goal.unwrap-page-requires
 unwrap-page-requires c =
-    let is = (c.in_ok-own.ensures.ok c.args.paging.now c.requires.kept).1 in
-    let within = unmapped_within (prots_of (inside c.args.paging.now.spaces c.args.space)) c.args.address c.args.bytes c.in_ok-own.own is in
+    let own = c.in_ok-unmap_areas.ensures.ok c.args.paging.now c.requires.kept in
+    let within = unmapped_within (prots_of (inside c.args.paging.now.spaces c.args.space)) c.args.address c.args.bytes own.0 own.2 in
     c.new.ensures.within.1 (omega (arith, within.0, within.1))
+
+pub unmap-requires : goal.unmap-requires
+unmap-requires c = record { alive = (c.in_ok-unmap_areas.ensures.ok c.args.paging.now c.requires.kept).1 }
 
 pub returns-clause-kept : goal.returns-clause-kept
 returns-clause-kept c =
-    let is = (c.in_ok-own.ensures.ok c.args.paging.now c.requires.kept).1 in
+    let own = c.in_ok-unmap_areas.ensures.ok c.args.paging.now c.requires.kept in
     let t = inside c.args.paging.now.spaces c.args.space in
     let done : c.unmap.new.paging ≡ with_space c.args.paging.now c.args.space (remove_within t (page_of c.args.address) (pages_for c.args.bytes)) = search rules in
-    subst (HasAreas c.put_areas.new.areas) (sym done)
-    (areas_with c.args.areas.now c.put_areas.new.areas c.args.paging.now c.args.space _ c.in_ok-own.own c.requires.kept
-    (own_unmapped t c.in_ok-own.own (page_of c.args.address) (pages_for c.args.bytes) (c.unmapped_law.ensures (prots_of t) c.in_ok-own.own c.args.address c.args.bytes is))
-    c.put_areas.ensures)
+    subst (HasAreas c.unmap_areas.new.areas) (sym done)
+    (areas_with c.args.areas.now c.unmap_areas.new.areas c.args.paging.now c.args.space _ own.0 c.requires.kept
+    (own_unmapped t own.0 (page_of c.args.address) (pages_for c.args.bytes) (c.unmapped_law.ensures (prots_of t) own.0 c.args.address c.args.bytes own.2))
+    own.3)
 
 pub returns-clause-due : goal.returns-clause-due
 returns-clause-due c =
-    let ok = c.in_ok-own.ensures.ok c.args.paging.now c.requires.kept in
-    munmap_seen c.args.paging.now c.args.space c.args.address c.args.bytes ∙ nothing_due c.args.paging.now c.args.space _ c.in_ok-own.own ok.0 ok.1
+    let own = c.in_ok-unmap_areas.ensures.ok c.args.paging.now c.requires.kept in
+    munmap_seen c.args.paging.now c.args.space c.args.address c.args.bytes ∙ nothing_due c.args.paging.now c.args.space _ own.0 own.1 own.2
 
 pub returns-clause-memory : goal.returns-clause-memory
 returns-clause-memory c =

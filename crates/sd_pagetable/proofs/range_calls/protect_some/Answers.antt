@@ -7,32 +7,39 @@ use Rattle.sd_pagetable.specs.Kept.{HasAreas, prots_of}
 use Rattle.sd_pagetable.specs.RangeCalls.{Refuses}
 use Rattle.sd_pagetable.proofs.PlainRanges.{areas_with, plain_protected}
 use Rattle.sd_pagetable.proofs.RangeDue.{mprotect_seen, nothing_due, protected_within, own_protected}
+use Rattle.sd_pagetable.proofs.AreaCalls.{still_kept}
 use Rattle.sd_pagetable.proofs.range_calls.protect_some.Goals as goal
 
-pub returns-in_err-own-clause-due : goal.returns-in_err-own-clause-due
-returns-in_err-own-clause-due c =
-    let refused : Refuses c.in_err-own.field-0.0 (mprotect_due (plain_of c.args.paging.now) c.args.space c.args.address c.args.bytes c.args.prot) =
-    subst (Refuses c.in_err-own.field-0.0) (sym (mprotect_seen c.args.paging.now c.args.space c.args.address c.args.bytes c.args.prot)) (c.in_err-own.ensures.due c.args.paging.now c.requires.kept) in
+pub returns-in_err-protect_areas-clause-kept : goal.returns-in_err-protect_areas-clause-kept
+returns-in_err-protect_areas-clause-kept c = still_kept c.args.areas.now c.protect_areas.new.areas c.args.paging.now c.in_err-protect_areas.ensures.err c.requires.kept
+
+pub returns-in_err-protect_areas-clause-due : goal.returns-in_err-protect_areas-clause-due
+returns-in_err-protect_areas-clause-due c =
+    let refused : Refuses c.in_err-protect_areas.field-0.0 (mprotect_due (plain_of c.args.paging.now) c.args.space c.args.address c.args.bytes c.args.prot) =
+    subst (Refuses c.in_err-protect_areas.field-0.0) (sym (mprotect_seen c.args.paging.now c.args.space c.args.address c.args.bytes c.args.prot)) (c.in_err-protect_areas.ensures.due c.args.paging.now c.requires.kept) in
     search rules
+
+pub protect_range-requires-clause-alive : goal.protect_range-requires-clause-alive
+protect_range-requires-clause-alive c = (c.in_ok-protect_areas.ensures.ok c.args.paging.now c.requires.kept).1
 
 pub protect_range-requires-clause-within : goal.protect_range-requires-clause-within
 protect_range-requires-clause-within c =
-    let is = (c.in_ok-own.ensures.ok c.args.paging.now c.requires.kept).1 in
-    protected_within (prots_of (inside c.args.paging.now.spaces c.args.space)) c.args.address c.args.bytes c.args.prot c.in_ok-own.own is c.requires.some
+    let own = c.in_ok-protect_areas.ensures.ok c.args.paging.now c.requires.kept in
+    protected_within (prots_of (inside c.args.paging.now.spaces c.args.space)) c.args.address c.args.bytes c.args.prot own.0 own.2 c.requires.some
 
 pub returns-clause-kept : goal.returns-clause-kept
 returns-clause-kept c =
-    let is = (c.in_ok-own.ensures.ok c.args.paging.now c.requires.kept).1 in
+    let own = c.in_ok-protect_areas.ensures.ok c.args.paging.now c.requires.kept in
     let t = inside c.args.paging.now.spaces c.args.space in
-    subst (HasAreas c.put_areas.new.areas) (sym c.protect_range.ensures)
-    (areas_with c.args.areas.now c.put_areas.new.areas c.args.paging.now c.args.space _ c.in_ok-own.own c.requires.kept
-    (own_protected t c.in_ok-own.own (page_of c.args.address) (pages_for c.args.bytes) c.args.prot (c.protected_law.ensures (prots_of t) c.in_ok-own.own c.args.address c.args.bytes c.args.prot is))
-    c.put_areas.ensures)
+    subst (HasAreas c.protect_areas.new.areas) (sym c.protect_range.ensures)
+    (areas_with c.args.areas.now c.protect_areas.new.areas c.args.paging.now c.args.space _ own.0 c.requires.kept
+    (own_protected t own.0 (page_of c.args.address) (pages_for c.args.bytes) c.args.prot (c.protected_law.ensures (prots_of t) own.0 c.args.address c.args.bytes c.args.prot own.2))
+    own.3)
 
 pub returns-clause-due : goal.returns-clause-due
 returns-clause-due c =
-    let ok = c.in_ok-own.ensures.ok c.args.paging.now c.requires.kept in
-    mprotect_seen c.args.paging.now c.args.space c.args.address c.args.bytes c.args.prot ∙ nothing_due c.args.paging.now c.args.space _ c.in_ok-own.own ok.0 ok.1
+    let own = c.in_ok-protect_areas.ensures.ok c.args.paging.now c.requires.kept in
+    mprotect_seen c.args.paging.now c.args.space c.args.address c.args.bytes c.args.prot ∙ nothing_due c.args.paging.now c.args.space _ own.0 own.1 own.2
 
 pub returns-clause-memory : goal.returns-clause-memory
 returns-clause-memory c = ap plain_of c.protect_range.ensures ∙ plain_protected c.args.paging.now c.args.space c.args.address c.args.bytes c.args.prot

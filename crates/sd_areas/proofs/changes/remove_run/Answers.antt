@@ -1,0 +1,29 @@
+use Rattle.std.proofs.Common.{List, subst, sym, ◌≡◌}
+use Rattle.std.specs.Prelude.{slice_range, None}
+use Rattle.std.specs.List.{splice}
+use Rattle.std.proofs.lemmas.Result.{on_ok_weaker}
+use Rattle.sd_areas.specs.declared.area.Area.{Area}
+use Rattle.sd_areas.specs.Areas.{AreMaximal}
+use Rattle.sd_areas.specs.Runs.{HasGap}
+use Rattle.sd_areas.proofs.Around.{middle_maximal, gap_spliced_at, gap_fits, gap_refused, on_ok_both, if_err_weaker}
+use Rattle.sd_areas.proofs.changes.remove_run.Goals as goal
+
+pub without_pages-requires-clause-maximal : goal.without_pages-requires-clause-maximal
+without_pages-requires-clause-maximal c =
+    let is : c.deref-2.result.now ≡ c.args.areas.now.items = c.deref-2.ensures.value in
+    subst (λ (l : List Area). AreMaximal None (slice_range l c.neighbours-from.result.0 c.neighbours-from.result.1)) (sym is)
+    (middle_maximal c.args.areas.now.items c.neighbours-from.result.0 c.neighbours-from.result.1 c.requires.maximal c.neighbours-from.ensures.ordered)
+
+gap : (c : goal.After-replace) → HasGap c.args.areas.now.items (splice c.args.areas.now.items c.neighbours-from.result.0 c.neighbours-from.result.1 c.in_ok-pieces.pieces.items) c.args.range.first c.args.range.count
+gap c =
+    let found = c.neighbours-from.ensures in
+    gap_spliced_at _ _ _ _ _ _ c.args.range.first c.args.range.count c.deref.ensures.value c.deref-2.ensures.value c.requires.maximal found.ordered found.within found.below found.above c.in_ok-pieces.ensures
+
+pub returns-clause-maximal : goal.returns-clause-maximal
+returns-clause-maximal c = on_ok_weaker c.replace.result (λ e. subst (AreMaximal None) (sym e) (gap c).maximal) c.replace.ensures.ok
+
+pub returns-clause-ok : goal.returns-clause-ok
+returns-clause-ok c = on_ok_both c.replace.result (λ e few. gap_fits _ _ _ c.args.range.first c.args.range.count (gap c) e few) c.replace.ensures.ok c.replace.ensures.few
+
+pub returns-clause-refused : goal.returns-clause-refused
+returns-clause-refused c = if_err_weaker c.replace.result (λ e why. gap_refused _ _ c.args.range.first c.args.range.count e (gap c) why) c.replace.ensures.refused

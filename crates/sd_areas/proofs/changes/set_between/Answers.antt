@@ -1,0 +1,28 @@
+use Rattle.std.proofs.Common.{List, subst, sym}
+use Rattle.std.specs.Prelude.{slice_range, None}
+use Rattle.std.specs.List.{splice}
+use Rattle.std.proofs.lemmas.Result.{on_ok_weaker}
+use Rattle.sd_areas.specs.declared.area.Area.{Area}
+use Rattle.sd_areas.specs.Areas.{AreMaximal}
+use Rattle.sd_areas.specs.Runs.{HasRun}
+use Rattle.sd_areas.proofs.Around.{middle_maximal, run_spliced, run_fits, run_refused, on_ok_both, if_err_weaker}
+use Rattle.sd_areas.proofs.changes.set_between.Goals as goal
+
+pub with_area-requires-clause-maximal : goal.with_area-requires-clause-maximal
+with_area-requires-clause-maximal c =
+    subst (λ (l : List Area). AreMaximal None (slice_range l c.args.from c.args.to)) (sym c.deref.ensures.value)
+    (middle_maximal c.args.areas.now.items c.args.from c.args.to c.requires.maximal c.requires.ordered)
+
+run : (c : goal.After-replace) → HasRun c.args.areas.now.items (splice c.args.areas.now.items c.args.from c.args.to c.in_ok-pieces.pieces.items) c.args.area
+run c =
+    run_spliced c.args.areas.now.items c.in_ok-pieces.pieces.items c.args.from c.args.to c.args.area c.requires.maximal c.requires.ordered c.requires.inside c.requires.below c.requires.above
+    (subst (λ (l : List Area). HasRun (slice_range l c.args.from c.args.to) c.in_ok-pieces.pieces.items c.args.area) c.deref.ensures.value c.in_ok-pieces.ensures)
+
+pub returns-clause-maximal : goal.returns-clause-maximal
+returns-clause-maximal c = on_ok_weaker c.replace.result (λ e. subst (AreMaximal None) (sym e) (run c).maximal) c.replace.ensures.ok
+
+pub returns-clause-ok : goal.returns-clause-ok
+returns-clause-ok c = on_ok_both c.replace.result (λ e few. run_fits _ _ _ c.args.area (run c) e few) c.replace.ensures.ok c.replace.ensures.few
+
+pub returns-clause-refused : goal.returns-clause-refused
+returns-clause-refused c = if_err_weaker c.replace.result (λ e why. run_refused _ _ c.args.area e (run c) why) c.replace.ensures.refused

@@ -1,0 +1,20 @@
+use Rattle.std.proofs.Common.{◌≡◌, ◌-◌, ap, subst, ◌∙◌, arith}
+use Rattle.sd_pagetable.specs.Nested.{inside, is_alive, fill_within}
+use Rattle.sd_pagetable.specs.Page.{fresh_page}
+use Rattle.sd_pagetable.specs.Contents.{Contents}
+use Rattle.sd_pagetable.specs.Tracking.{with_space}
+use Rattle.sd_pagetable.proofs.RangeSteps.{alive_with}
+use Rattle.sd_pagetable.proofs.RangeDue.{filled_back}
+use Rattle.sd_pagetable.proofs.range_calls.fill_holes.Goals as goal
+
+pub unfill-requires-clause-alive : goal.unfill-requires-clause-alive
+unfill-requires-clause-alive c = ap (λ (m : Contents). is_alive m.spaces c.args.space) c.fill-reached.ensures.filled ∙ alive_with c.args.paging.now c.args.space _
+
+pub returns-then-reached-end-clause-err : goal.returns-then-reached-end-clause-err
+returns-then-reached-end-clause-err c = filled_back c.args.paging.now c.fill-reached.new.paging c.unfill.new.paging c.args.space c.args.first c.fill-reached.result (fresh_page c.args.prot) c.args.own.now
+    c.requires.alive c.requires.areas c.fill-reached.ensures.filled c.unfill.ensures
+
+pub returns-clause-ok : goal.returns-clause-ok
+returns-clause-ok c =
+    let all : c.fill-reached.result ≡ c.args.end = omega (arith, c.fill-reached.ensures.end, c.if-reached-end.false) in
+    subst (λ n. c.fill-reached.new.paging ≡ with_space c.args.paging.now c.args.space (fill_within (inside c.args.paging.now.spaces c.args.space) c.args.first (n - c.args.first) (fresh_page c.args.prot))) all c.fill-reached.ensures.filled
