@@ -1,11 +1,12 @@
 -- The chain of an image as a list: built one image at a time, and followed by pages that lie alike.
 use Rattle.std.proofs.Common.{◌≡◌, ◌⊎◌, ◌<◌, ◌≤◌, ◌+◌, ◌-◌, ◌*◌, ◌^◌, ℕ, zero, suc, min, List, [], ◌∷◌, ◌++◌, map, length, Contains, Option, Some, None, refl, sym, ◌∙◌, ap, subst, inl, inr, Bor, arith}
-use Rattle.std.specs.Prelude.{◌↔◌, All, IfSome}
+use Rattle.std.specs.Prelude.{◌↔◌, All, IfSome, get_or}
+use Rattle.std.specs.Option.{option_map}
 use Rattle.std.specs.List.{slice_get}
 use Rattle.std.proofs.lemmas.Bool.{cases_lt}
-use Rattle.std.proofs.lemmas.List.{length-append}
+use Rattle.std.proofs.lemmas.List.{length-append, length-map}
 use Rattle.std.proofs.lemmas.List.Elements.{All-contains}
-use Rattle.std.proofs.lemmas.Option.{none-some, same_Some, slice_get_within}
+use Rattle.std.proofs.lemmas.Option.{slice_get-get_or, slice_get-map, none-some, same_Some, slice_get_within}
 use Rattle.sd_image.specs.declared.run.RunKind.TheVariants.{Data}
 use Rattle.sd_image.specs.Laws.{FewPages, OneKind, OnePlace}
 use Rattle.sd_image.specs.Shows.{pages_of}
@@ -35,6 +36,21 @@ get_before (x ∷ xs) ys (suc k) less = get_before xs ys k (omega (arith, less))
 append-nil : {X : Type 0} (xs : List X) → xs ++ [] ≡ xs
 append-nil [] = refl
 append-nil (x ∷ xs) = ap (λ ys. x ∷ ys) (append-nil xs)
+
+past_end : {X : Type 0} (xs : List X) (k : ℕ) → length xs ≤ k → slice_get xs k ≡ None
+past_end [] k past = refl
+past_end (x ∷ xs) zero past = absurd (omega (arith, past))
+past_end (x ∷ xs) (suc k) past = past_end xs k (omega (arith, past))
+
+-- the images that a list of references leads to
+abbrev pub opened_in : List (Bor Opened) → List Opened
+opened_in = map (λ (i : Bor Opened). i.now)
+
+pub image_at : (list : List (Bor Opened)) (k : ℕ) (i : Bor Opened) → k < length list → i ≡ get_or list k i → slice_get (opened_in list) k ≡ Some i.now
+image_at list k i less is = slice_get-map (λ (i : Bor Opened). i.now) list k ∙ ap (option_map (λ (i : Bor Opened). i.now)) (slice_get-get_or list k i less ∙ ap Some (sym is))
+
+pub no_image_at : (list : List (Bor Opened)) (k : ℕ) → length list ≤ k → slice_get (opened_in list) k ≡ None
+no_image_at list k past = past_end (opened_in list) k (omega (arith, past, length-map list (λ (i : Bor Opened). i.now)))
 
 -- ---- building it
 

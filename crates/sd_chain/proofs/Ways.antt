@@ -1,13 +1,13 @@
 -- The one way in which a table has a page.
 use Rattle.std.proofs.Common.{◌≡◌, ◌<◌, ◌+◌, ◌-◌, ◌^◌, ℕ, zero, suc, true, min, List, [], ◌∷◌, map, length, get_or, Contains, Option, Some, None, refl, sym, ◌∙◌, ap, subst, inl, inr, arith}
-use Rattle.std.specs.Prelude.{◌↔◌, All, IsTrue, nat_eq}
+use Rattle.std.specs.Prelude.{◌↔◌, All, IfSome, IsTrue, nat_eq}
 use Rattle.std.specs.List.{slice_get, position}
 use Rattle.std.specs.Option.{option_map}
 use Rattle.std.proofs.lemmas.Bool.{eqb-true, eq-eqb}
 use Rattle.std.proofs.lemmas.List.{length-map}
 use Rattle.std.proofs.lemmas.List.Elements.{All-contains}
 use Rattle.std.proofs.lemmas.List.Quantifiers.{position-Some}
-use Rattle.std.proofs.lemmas.Option.{slice_get-get_or, slice_get-map, slice_get_within, none-some, same_Some}
+use Rattle.std.proofs.lemmas.Option.{get_or_from_slice_get, slice_get-get_or, slice_get-map, slice_get_within, none-some, same_Some}
 use Rattle.sd_areas.specs.Pages.{is_within}
 use Rattle.sd_image.specs.declared.header.Header.{Header}
 use Rattle.sd_image.specs.declared.run.Run.{Run}
@@ -21,7 +21,7 @@ use Rattle.sd_image.specs.Shows.{pages_of}
 use Rattle.sd_chain.specs.declared.way.Way.{Way}
 use Rattle.sd_chain.specs.declared.way.Way.TheVariants as way
 use Rattle.sd_chain.specs.Placed.{after_run, after_runs, places_of, all_places_of}
-use Rattle.sd_chain.specs.Chains.{AreAlike}
+use Rattle.sd_chain.specs.Chains.{AreAlike, way_on}
 use Rattle.sd_chain.specs.Ways.{HasPage}
 use Rattle.sd_chain.proofs.TablePages.{IsHad, contains_at, contains_front, contains_later, contains_cons_cases, had, has_in_run, none_passes, place_of_page}
 
@@ -139,6 +139,13 @@ pub record IsAt (items : List SpaceTable) (index at : ℕ) (s : SpaceTable) (run
   pub run_there : slice_get s.runs.items at ≡ Some run
   pub within : IsTrue (is_within run.first run.count page)
 
+pub space_found : (items : List SpaceTable) (space : ℕ) (place : Option ℕ) → place ≡ position (λ (s : SpaceTable). nat_eq s.space space) items
+    → IfSome place (λ at. (s : SpaceTable) → slice_get items at ≡ Some s → s.space ≡ space)
+space_found items space None is = tt
+space_found items space (Some index) is = λ s got.
+    let at = position-Some (λ (s : SpaceTable). nat_eq s.space space) items index s (sym is) in
+    eqb-true _ _ (subst (λ (t : SpaceTable). nat_eq t.space space ≡ true) (get_or_from_slice_get items index s s got) at.1)
+
 pub space_there : (items : List SpaceTable) (index : ℕ) (s : SpaceTable) → index < length items → s ≡ get_or items index s → slice_get items index ≡ Some s
 space_there items index s low got = slice_get-get_or items index s low ∙ ap Some (sym got)
 
@@ -179,7 +186,17 @@ has_data few h items index at s run row before space page place table found is c
 abbrev pub left_of : Run → ℕ → ℕ
 left_of run page = run.count - (page - run.first)
 
-left_some : (run : Run) (page : ℕ) → IsTrue (is_within run.first run.count page) → 0 < left_of run page
+-- a table has the first of pages that it has alike
+pub first_alike : (spaces : List Listed) (space page : ℕ) (w : Way) (count : ℕ) → AreAlike spaces (space, page) w count → HasPage spaces (space, page) w
+first_alike spaces space page w count alike =
+    subst (λ n. HasPage spaces (space, n) w) (let e : page + 0 ≡ page = omega arith in e) (by w (alike.each 0 alike.some))
+  where
+    by : (w : Way) → HasPage spaces (space, page + 0) (way_on w 0) → HasPage spaces (space, page + 0) w
+    by (way.Data place) h = subst (λ n. HasPage spaces (space, page + 0) (way.Data n)) (let e : place + 0 ≡ place = omega arith in e) h
+    by way.Parent h = h
+    by way.Zero h = h
+
+pub left_some : (run : Run) (page : ℕ) → IsTrue (is_within run.first run.count page) → 0 < left_of run page
 left_some run page within = omega (arith, within_low run page within, within_high run page within)
 
 pub alike_in_parent : (items : List SpaceTable) (index at : ℕ) (s : SpaceTable) (run : Run) (space page : ℕ) → IsAt items index at s run space page → run.kind ≡ Parent

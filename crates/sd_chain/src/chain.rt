@@ -96,7 +96,7 @@ fn trace_pages(
 impl<'a> Chain<'a> {
     /// The chain of these images, none of which was looked at.
     pub(crate) fn new(alloc: Global, images: Vec<&'a OpenImage>) -> Result<Self, AllocError>
-        ensures { IfOk result (λ chain. chain ≡ map (λ i. i.now) images.items) }
+        ensures { IfOk result (λ chain. chain ≡ map (λ i. i.now) images.entry.items) }
     {
         let spots = vec![in alloc; Spot::FIRST; images.len()]?;
         Ok(Chain { images, spots })

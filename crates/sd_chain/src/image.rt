@@ -1,5 +1,5 @@
 //! An open image of a catalog.
-ghost use Rattle.std.specs.Prelude.{◌≡◌, ◌↔◌, IfSome, IsNone, Some, map};
+ghost use Rattle.std.specs.Prelude.{◌≡◌, ◌<◌, ◌↔◌, IfSome, IsNone, Some, map};
 ghost use Rattle.sd_image.specs.Table.{listing_of, IsTable};
 ghost use Rattle.sd_chain.specs.declared.way.Way.{Way};
 ghost use Rattle.sd_chain.specs.Passes.{IsNextOrNone};
@@ -76,6 +76,7 @@ impl OpenImage {
     /// How the image has a page and as many behind it as it has alike, looked for first near a spot. None where it doesn't
     /// list the page.
     pub(crate) fn stretch(&self, space: SpaceId, page: PageNo, near: Spot) -> Option<Stretch>
+        ensures some { IfSome result (λ s. 0 < s.count) }
         ensures alike { IsTable self.now.header self.now.spaces
             → IfSome result (λ s. AreAlike self.now.spaces (space, page) s.way s.count) }
         ensures none { IsTable self.now.header self.now.spaces → IsNone result

@@ -177,6 +177,7 @@ impl PlacedTable {
     /// At a spot or in the run behind it a page is found at once. Else the time grows with the logarithm of the space's
     /// runs.
     pub(crate) fn stretch(&self, space: SpaceId, page: PageNo, near: Spot) -> Option<Stretch>
+        ensures some { IfSome result (λ s. 0 < s.count) }
         ensures alike { (h : Header) → IsTable h self.now
             → IfSome result (λ s. AreAlike self.now (space, page) s.way s.count) }
         ensures none { (h : Header) → IsTable h self.now → IsNone result

@@ -5,10 +5,9 @@ use Rattle.sd_image.specs.declared.run.Run.{Run}
 use Rattle.sd_image.specs.declared.table.SpaceTable.{SpaceTable}
 use Rattle.sd_image.specs.Table.{Listed, IsTable}
 use Rattle.sd_chain.specs.declared.way.Way.TheVariants as way
-use Rattle.sd_chain.specs.Chains.{AreAlike}
 use Rattle.sd_chain.specs.Ways.{HasPage}
 use Rattle.sd_chain.proofs.Runs.{HasNone, HasWithin, within_high, within_low}
-use Rattle.sd_chain.proofs.Ways.{IsExact, alike_data, alike_in_parent, alike_zeros, left_of, no_run, no_space, place_there, row_is, row_there, run_at, space_there}
+use Rattle.sd_chain.proofs.Ways.{IsExact, alike_data, alike_in_parent, alike_zeros, left_some, no_run, no_space, place_there, row_is, row_there, run_at, space_there}
 use Rattle.sd_chain.proofs.placed.PlacedTable.stretch.Goals as goal
 
 pub returns-in_err-index-clause-none : goal.returns-in_err-index-clause-none
@@ -118,10 +117,15 @@ returns-in-Data-clause-alike c = λ h table.
     subst (λ (row : List ℕ). slice_get row c.in_ok-at.at ≡ Some before) row_are (slice_get-get_or c.as_slice-row.result.now c.in_ok-at.at 0 (subst (λ (row : List ℕ). c.in_ok-at.at < length row) (sym row_are) low)) in
     let sum : c.saturating_add-place.result ≡ min (before + (c.args.page - c.index-run.result.now.first)) (2 ^ 64 - 1) =
     c.saturating_add-place.ensures ∙ ap (λ k. min (before + k) (2 ^ 64 - 1)) (omega (arith, c.number.ensures.value, c.number-2.ensures.value)) in
-    subst (λ (spaces : List Listed). AreAlike spaces (c.args.space, c.args.page) (way.Data c.saturating_add-place.result) _) c.self.view_is
-    (subst (AreAlike _ (c.args.space, c.args.page) (way.Data c.saturating_add-place.result)) (omega (arith, c.number.ensures.value, c.number-2.ensures.value))
-    (alike_data c.few_pages.ensures h items c.in_ok-index.index c.in_ok-at.at c.index.result.now c.index-run.result.now c.index-rows-index.result.items before c.args.space c.args.page c.saturating_add-place.result
-    (subst (IsTable h) (sym c.self.view_is) table) found c.in-Data.is row counted sum))
+    let alike = alike_data c.few_pages.ensures h items c.in_ok-index.index c.in_ok-at.at c.index.result.now c.index-run.result.now c.index-rows-index.result.items before c.args.space c.args.page c.saturating_add-place.result
+    (subst (IsTable h) (sym c.self.view_is) table) found c.in-Data.is row counted sum in
+    let some = alike.some in
+    record {
+      some = omega (arith, some, c.number.ensures.value, c.number-2.ensures.value);
+      each = λ k less.
+          subst (λ (spaces : List Listed). HasPage spaces (c.args.space, c.args.page + k) (way.Data (c.saturating_add-place.result + k))) c.self.view_is
+          (alike.each k (omega (arith, less, c.number.ensures.value, c.number-2.ensures.value)));
+    }
 
 pub returns-in-Parent-clause-alike : goal.returns-in-Parent-clause-alike
 returns-in-Parent-clause-alike c = λ h table.
@@ -135,9 +139,14 @@ returns-in-Parent-clause-alike c = λ h table.
     let low : c.in_ok-at.at < length c.index.result.now.runs.items = subst (λ (runs : List Run). c.in_ok-at.at < length runs) runs_are c.in_ok-at.ensures.place in
     let within : HasWithin c.index.result.now.runs.items c.in_ok-at.at c.args.page = subst (λ (runs : List Run). HasWithin runs c.in_ok-at.at c.args.page) runs_are c.in_ok-at.ensures.run in
     let found = run_at items c.in_ok-index.index c.in_ok-at.at c.index.result.now c.index-run.result.now c.args.space c.args.page got number low within c.index-run.ensures in
-    subst (λ (spaces : List Listed). AreAlike spaces (c.args.space, c.args.page) way.Parent _) c.self.view_is
-    (subst (AreAlike _ (c.args.space, c.args.page) way.Parent) (omega (arith, c.number.ensures.value, c.number-2.ensures.value))
-    (alike_in_parent items c.in_ok-index.index c.in_ok-at.at c.index.result.now c.index-run.result.now c.args.space c.args.page found c.in-Parent.is))
+    let alike = alike_in_parent items c.in_ok-index.index c.in_ok-at.at c.index.result.now c.index-run.result.now c.args.space c.args.page found c.in-Parent.is in
+    let some = alike.some in
+    record {
+      some = omega (arith, some, c.number.ensures.value, c.number-2.ensures.value);
+      each = λ k less.
+          subst (λ (spaces : List Listed). HasPage spaces (c.args.space, c.args.page + k) way.Parent) c.self.view_is
+          (alike.each k (omega (arith, less, c.number.ensures.value, c.number-2.ensures.value)));
+    }
 
 pub returns-in-Zero-clause-alike : goal.returns-in-Zero-clause-alike
 returns-in-Zero-clause-alike c = λ h table.
@@ -151,6 +160,53 @@ returns-in-Zero-clause-alike c = λ h table.
     let low : c.in_ok-at.at < length c.index.result.now.runs.items = subst (λ (runs : List Run). c.in_ok-at.at < length runs) runs_are c.in_ok-at.ensures.place in
     let within : HasWithin c.index.result.now.runs.items c.in_ok-at.at c.args.page = subst (λ (runs : List Run). HasWithin runs c.in_ok-at.at c.args.page) runs_are c.in_ok-at.ensures.run in
     let found = run_at items c.in_ok-index.index c.in_ok-at.at c.index.result.now c.index-run.result.now c.args.space c.args.page got number low within c.index-run.ensures in
-    subst (λ (spaces : List Listed). AreAlike spaces (c.args.space, c.args.page) way.Zero _) c.self.view_is
-    (subst (AreAlike _ (c.args.space, c.args.page) way.Zero) (omega (arith, c.number.ensures.value, c.number-2.ensures.value))
-    (alike_zeros items c.in_ok-index.index c.in_ok-at.at c.index.result.now c.index-run.result.now c.args.space c.args.page found c.in-Zero.is))
+    let alike = alike_zeros items c.in_ok-index.index c.in_ok-at.at c.index.result.now c.index-run.result.now c.args.space c.args.page found c.in-Zero.is in
+    let some = alike.some in
+    record {
+      some = omega (arith, some, c.number.ensures.value, c.number-2.ensures.value);
+      each = λ k less.
+          subst (λ (spaces : List Listed). HasPage spaces (c.args.space, c.args.page + k) way.Zero) c.self.view_is
+          (alike.each k (omega (arith, less, c.number.ensures.value, c.number-2.ensures.value)));
+    }
+
+pub returns-in-Data-clause-some : goal.returns-in-Data-clause-some
+returns-in-Data-clause-some c =
+    let items : List SpaceTable = c.self.inside.table.spaces.items in
+    let spaces_are : c.deref.result.now ≡ items = c.deref.ensures.value in
+    let low_space : c.in_ok-index.index < length items = subst (λ (spaces : List SpaceTable). c.in_ok-index.index < length spaces) spaces_are c.in_ok-index.ensures.place in
+    let got : slice_get items c.in_ok-index.index ≡ Some c.index.result.now = space_there items c.in_ok-index.index c.index.result.now low_space c.index.ensures in
+    let number : c.index.result.now.space ≡ c.args.space =
+    subst (λ (spaces : List SpaceTable). (s : SpaceTable) → slice_get spaces c.in_ok-index.index ≡ Some s → s.space ≡ c.args.space) spaces_are c.in_ok-index.ensures.space c.index.result.now got in
+    let runs_are : c.deref-2.result.now ≡ c.index.result.now.runs.items = c.deref-2.ensures.value in
+    let low : c.in_ok-at.at < length c.index.result.now.runs.items = subst (λ (runs : List Run). c.in_ok-at.at < length runs) runs_are c.in_ok-at.ensures.place in
+    let within : HasWithin c.index.result.now.runs.items c.in_ok-at.at c.args.page = subst (λ (runs : List Run). HasWithin runs c.in_ok-at.at c.args.page) runs_are c.in_ok-at.ensures.run in
+    let found = run_at items c.in_ok-index.index c.in_ok-at.at c.index.result.now c.index-run.result.now c.args.space c.args.page got number low within c.index-run.ensures in
+    omega (arith, left_some c.index-run.result.now c.args.page found.within, c.number.ensures.value, c.number-2.ensures.value)
+
+pub returns-in-Parent-clause-some : goal.returns-in-Parent-clause-some
+returns-in-Parent-clause-some c =
+    let items : List SpaceTable = c.self.inside.table.spaces.items in
+    let spaces_are : c.deref.result.now ≡ items = c.deref.ensures.value in
+    let low_space : c.in_ok-index.index < length items = subst (λ (spaces : List SpaceTable). c.in_ok-index.index < length spaces) spaces_are c.in_ok-index.ensures.place in
+    let got : slice_get items c.in_ok-index.index ≡ Some c.index.result.now = space_there items c.in_ok-index.index c.index.result.now low_space c.index.ensures in
+    let number : c.index.result.now.space ≡ c.args.space =
+    subst (λ (spaces : List SpaceTable). (s : SpaceTable) → slice_get spaces c.in_ok-index.index ≡ Some s → s.space ≡ c.args.space) spaces_are c.in_ok-index.ensures.space c.index.result.now got in
+    let runs_are : c.deref-2.result.now ≡ c.index.result.now.runs.items = c.deref-2.ensures.value in
+    let low : c.in_ok-at.at < length c.index.result.now.runs.items = subst (λ (runs : List Run). c.in_ok-at.at < length runs) runs_are c.in_ok-at.ensures.place in
+    let within : HasWithin c.index.result.now.runs.items c.in_ok-at.at c.args.page = subst (λ (runs : List Run). HasWithin runs c.in_ok-at.at c.args.page) runs_are c.in_ok-at.ensures.run in
+    let found = run_at items c.in_ok-index.index c.in_ok-at.at c.index.result.now c.index-run.result.now c.args.space c.args.page got number low within c.index-run.ensures in
+    omega (arith, left_some c.index-run.result.now c.args.page found.within, c.number.ensures.value, c.number-2.ensures.value)
+
+pub returns-in-Zero-clause-some : goal.returns-in-Zero-clause-some
+returns-in-Zero-clause-some c =
+    let items : List SpaceTable = c.self.inside.table.spaces.items in
+    let spaces_are : c.deref.result.now ≡ items = c.deref.ensures.value in
+    let low_space : c.in_ok-index.index < length items = subst (λ (spaces : List SpaceTable). c.in_ok-index.index < length spaces) spaces_are c.in_ok-index.ensures.place in
+    let got : slice_get items c.in_ok-index.index ≡ Some c.index.result.now = space_there items c.in_ok-index.index c.index.result.now low_space c.index.ensures in
+    let number : c.index.result.now.space ≡ c.args.space =
+    subst (λ (spaces : List SpaceTable). (s : SpaceTable) → slice_get spaces c.in_ok-index.index ≡ Some s → s.space ≡ c.args.space) spaces_are c.in_ok-index.ensures.space c.index.result.now got in
+    let runs_are : c.deref-2.result.now ≡ c.index.result.now.runs.items = c.deref-2.ensures.value in
+    let low : c.in_ok-at.at < length c.index.result.now.runs.items = subst (λ (runs : List Run). c.in_ok-at.at < length runs) runs_are c.in_ok-at.ensures.place in
+    let within : HasWithin c.index.result.now.runs.items c.in_ok-at.at c.args.page = subst (λ (runs : List Run). HasWithin runs c.in_ok-at.at c.args.page) runs_are c.in_ok-at.ensures.run in
+    let found = run_at items c.in_ok-index.index c.in_ok-at.at c.index.result.now c.index-run.result.now c.args.space c.args.page got number low within c.index-run.ensures in
+    omega (arith, left_some c.index-run.result.now c.args.page found.within, c.number.ensures.value, c.number-2.ensures.value)
