@@ -1,5 +1,5 @@
 //! `ckpt restore`: printing the memory that a store shows.
-ghost use Rattle.std.specs.Prelude.{◌≡◌, ◌≢◌, None, Err, All, length, OnOk};
+ghost use Rattle.std.specs.Prelude.{◌≡◌, ◌≢◌, ◌≤◌, ◌^◌, None, Err, All, length, OnOk};
 ghost use Rattle.sd_areas.specs.Areas.{AreMaximal};
 ghost use Rattle.sd_disk.specs.Reads.{OnlyReads};
 ghost use Rattle.sd_image.specs.declared.table.SpaceTable.{SpaceTable};
@@ -84,6 +84,7 @@ fn print_pages<D: Disk, W: Write>(
 ) -> Result<(), Stop>
     requires slots { All (λ r. IsInSlots (length (D.contents disk.old)) r.there) runs.now }
     requires within { All IsWithin runs.now }
+    requires room { 4096 ≤ length buffer.old }
     ensures reads { OnlyReads D.Disk disk.old disk.new }
     ensures empty { result ≢ Err (stop.Fault fault.EmptyChain) }
 {
@@ -104,10 +105,11 @@ fn print_run<D: Disk, W: Write>(
 ) -> Result<(), Stop>
     requires slots { IsInSlots (length (D.contents disk.old)) run.now.there }
     requires within { IsWithin run.now }
+    requires room { 4096 ≤ length buffer.old }
     ensures reads { OnlyReads D.Disk disk.old disk.new }
     ensures empty { result ≢ Err (stop.Fault fault.EmptyChain) }
 {
-    let room = (buffer.len() / PAGE_SIZE).max(1) as u64;
+    let room = (buffer.len() / PAGE_SIZE) as u64;
     for part in 0..run.count.div_ceil(room) {
         let behind = part.saturating_mul(room).min(run.count);
         let count = room.min(run.count - behind);
@@ -119,7 +121,9 @@ fn print_run<D: Disk, W: Write>(
 }
 
 /// Prints pages that were read, from the one with this number on.
-fn print_read<W: Write>(first: u64, bytes: &[u8], out: &mut W) -> io::Result<()> {
+fn print_read<W: Write>(first: u64, bytes: &[u8], out: &mut W) -> io::Result<()>
+    requires { first ≤ 2 ^ 35 }
+{
     let mut address = first * PAGE_BYTES;
     let (pages, _) = bytes.as_chunks::<PAGE_SIZE>();
     for page in pages {

@@ -36,8 +36,9 @@ pages_in r = map (page_behind r) (pages_from 0 r.count)
 abbrev pub placed_pages : List PlacedRun → List PlacedPage
 placed_pages = flat_map pages_in
 
--- its pages are pages of a space, and their bytes end below the byte 2^52 of their file
+-- it has pages, all of them in a space, and their bytes end below the byte 2^52 of their file
 pub record IsWithin (r : PlacedRun) : Type 0 where
+  pub some : 0 < r.count
   pub pages : r.first + r.count ≤ 2 ^ 35
   pub bytes : AreBelowLimit r.there r.count
 

@@ -1,7 +1,6 @@
 //! Where the pages of an image lie in its chain.
 ghost use Rattle.std.specs.Prelude.{◌≡◌, ◌≢◌, ◌+◌, ◌<◌, ◌≤◌, ◌^◌, ◌++◌, ℕ, List, length, Some, IfOk, IfErr, OnOk, All, Contains, flat_map};
 ghost use Rattle.sd_areas.specs.Areas.{AreMaximal, area_pages};
-ghost use Rattle.sd_image.specs.declared.reason.Reason.TheVariants.{Chain};
 ghost use Rattle.sd_image.specs.Table.{listing_of};
 ghost use Rattle.sd_chain.specs.Catalog.{place_of, IsTip};
 ghost use Rattle.sd_chain.specs.Chains.{AreBelowLimit, IsChainOf, found_on};
@@ -18,6 +17,7 @@ use sd_image::{Reason, SpaceTable};
 use std::alloc::Global;
 
 /// Where the chain of an image has pages that lie one behind the other.
+#[derive(Clone, Copy)]
 struct FoundPages {
     /// Where the first is.
     there: Found,
@@ -45,7 +45,7 @@ fn find_pages(
         → IsFoundAt catalog.now serial (space, page + k) (found_on found.there k)) }
     ensures below { IfOk result (λ found. AreBelowLimit found.there found.count) }
     ensures broken { IfErr result
-        (Names (λ slot reason. (reason ≡ Chain)
+        (Names (λ slot reason. (reason ≡ Reason.Chain)
         × BreaksBySerial catalog.now serial (space, page) slot
         × IsUnheld catalog.now serial (space, page))) }
     ensures chain { chain.new ≡ chain.old }
@@ -89,7 +89,7 @@ fn place_area(
         → ArePlaced catalog.now serial done (placed_pages runs.old.items)
         → IfErr result (Names
         (MeetsBreak catalog.now serial (done ++ area_mapped space area.now))) }
-    ensures within { All IsWithin runs.old.items → All IsWithin runs.new.items }
+    ensures within { OnOk result (All IsWithin runs.old.items → All IsWithin runs.new.items) }
     ensures chain { chain.new ≡ chain.old }
     ensures empty { result ≢ Err Fault.EmptyChain }
     ensures device { result ≢ Err Fault.Device }
@@ -98,16 +98,14 @@ fn place_area(
     while placed < area.count {
         let first = PageNo::new(area.first.number() + placed).unwrap();
         let found = find_pages(catalog, chain, serial, space, first, area.count - placed)?;
-        let FoundPages { there, count } = found;
-        let prot = area.prot;
         runs.push(PlacedRun {
             space,
             first,
-            count,
-            prot,
-            there,
+            count: found.count,
+            prot: area.prot,
+            there: found.there,
         })?;
-        placed += count;
+        placed += found.count;
     }
     Ok(())
 }
@@ -133,7 +131,7 @@ fn place_space(
         → ArePlaced catalog.now serial done (placed_pages runs.old.items)
         → IfErr result (Names
         (MeetsBreak catalog.now serial (done ++ space_mapped (listing_of space.now)))) }
-    ensures within { All IsWithin runs.old.items → All IsWithin runs.new.items }
+    ensures within { OnOk result (All IsWithin runs.old.items → All IsWithin runs.new.items) }
     ensures chain { chain.new ≡ chain.old }
     ensures empty { result ≢ Err Fault.EmptyChain }
     ensures device { result ≢ Err Fault.Device }

@@ -1,5 +1,5 @@
 //! Reading the pages of a memory.
-ghost use Rattle.std.specs.Prelude.{◌≡◌, ◌≢◌, ◌+◌, ◌<◌, ◌≤◌, length, All, IsTrue, IfOk, IfErr, OnOk, IsErrOf};
+ghost use Rattle.std.specs.Prelude.{◌≡◌, ◌≢◌, ◌+◌, ◌<◌, ◌≤◌, ℕ, length, All, IsTrue, IfOk, IfErr, OnOk, IsErrOf};
 ghost use Rattle.std.specs.FinMap as finmap;
 ghost use Rattle.sd_areas.specs.Memory.{memory_of};
 ghost use Rattle.sd_disk.specs.Reads.{OnlyReads};
@@ -64,6 +64,8 @@ fn read_run<D: Disk>(
     ensures memory { D.is_honest disk.new
         → OnOk result (memory_of snapshot.new
         ≡ with_pages (D.contents disk.old) (memory_of snapshot.old) (pages_in run.now)) }
+    ensures spaces { (space : ℕ) → finmap.contains_key (memory_of snapshot.new) space
+        ≡ finmap.contains_key (memory_of snapshot.old) space }
     ensures checkpoint { snapshot.new.checkpoint ≡ snapshot.old.checkpoint }
     ensures unnamed { IfErr result (Names (λ _ _. ⊥)) }
     ensures reads { OnlyReads D.Disk disk.old disk.new }

@@ -1,11 +1,12 @@
 //! The memory that a store shows, before its pages are read.
-ghost use Rattle.std.specs.Prelude.{◌≡◌, ◌≢◌, ◌<◌, ℕ, List, Some, None, All, length, map, IfOk, IfErr, OnOk, IsErrOf};
+ghost use Rattle.std.specs.Prelude.{◌≡◌, ◌≢◌, ◌+◌, ◌*◌, ◌<◌, ◌≤◌, ℕ, List, Some, None, All, length, map, slice_range, IfOk, IfErr, OnOk, IsErrOf};
 ghost use Rattle.sd_areas.specs.Areas.{AreMaximal};
 ghost use Rattle.sd_disk.specs.Reads.{OnlyReads};
 ghost use Rattle.sd_image.specs.declared.table.SpaceTable.{SpaceTable};
 ghost use Rattle.sd_image.specs.Shows.{Shows};
 ghost use Rattle.sd_image.specs.Table.{listing_of};
 ghost use Rattle.sd_chain.specs.Catalog.{images};
+ghost use Rattle.sd_chain.specs.Chains.{found_on};
 ghost use Rattle.sd_chain.specs.Store.{IsCatalogOf, bytes_at};
 ghost use Rattle.sd_chain.specs.Ways.{AreImages};
 ghost use Rattle.sd_restore.specs.Faulty.{Names, IsBrokenChain};
