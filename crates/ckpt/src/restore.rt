@@ -1,5 +1,5 @@
 //! `ckpt restore`: printing the memory that a store shows.
-ghost use Rattle.std.specs.Prelude.{◌≡◌, ◌≢◌, ◌≤◌, ◌^◌, None, Err, All, length, OnOk};
+ghost use Rattle.std.specs.Prelude.{◌≡◌, ◌≢◌, ◌<◌, ◌≤◌, ◌^◌, None, Err, All, length, IfOk, OnOk};
 ghost use Rattle.sd_areas.specs.Areas.{AreMaximal};
 ghost use Rattle.sd_disk.specs.Reads.{OnlyReads};
 ghost use Rattle.sd_image.specs.declared.table.SpaceTable.{SpaceTable};
@@ -16,7 +16,7 @@ use sd_chain::Found;
 use sd_disk::Disk;
 use sd_procfs::areas_text;
 use sd_restore::{PlacedMemory, PlacedRun, place_newest, read_placed_pages, scan};
-use std::alloc::Global;
+use std::alloc::{AllocError, Global};
 use std::io;
 use std::io::Write;
 
@@ -65,13 +65,22 @@ fn print_placed<D: Disk, W: Write>(
     ensures empty { result ≢ Err (stop.Fault fault.EmptyChain) }
 {
     writeln!(out, "checkpoint {}", placed.checkpoint)?;
-    let mut buffer = vec![in alloc; 0u8; BUFFER_PAGES * PAGE_SIZE]?;
+    let mut buffer = page_buffer(alloc, BUFFER_PAGES)?;
     for space in placed.spaces {
         writeln!(out, "space {}", space.space.number())?;
         out.write_all(areas_text(alloc, &space.areas)?.as_bytes())?;
         print_pages(disk, space.space, &placed.runs, &mut buffer, out)?;
     }
     Ok(())
+}
+
+/// A buffer for so many pages.
+fn page_buffer(alloc: Global, pages: usize) -> Result<Vec<u8>, AllocError>
+    requires some { 0 < pages }
+    requires few { pages ≤ 1024 }
+    ensures { IfOk result (λ buffer. 4096 ≤ length buffer.items) }
+{
+    vec![in alloc; 0u8; pages * PAGE_SIZE]
 }
 
 /// Prints the pages of a space, of those of all spaces. A page of zeros has no line.

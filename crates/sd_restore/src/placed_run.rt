@@ -1,6 +1,6 @@
-ghost use Rattle.std.specs.Prelude.{◌≡◌, ◌≤◌};
+ghost use Rattle.std.specs.Prelude.{◌≡◌, ◌≤◌, ℕ};
 ghost use Rattle.sd_chain.specs.Chains.{found_on};
-ghost use Rattle.sd_restore.specs.Placed.{IsWithin};
+ghost use Rattle.sd_restore.specs.Placed.{IsInSlots, IsWithin};
 
 use sd_areas::{PAGE_BYTES, PageNo, Prot, SpaceId};
 use sd_chain::Found;
@@ -24,7 +24,9 @@ impl PlacedRun {
     pub fn place(&self, behind: u64) -> Found
         requires run { IsWithin self.now }
         requires within { behind ≤ self.now.count }
-        ensures { result ≡ found_on self.now.there behind }
+        ensures place { result ≡ found_on self.now.there behind }
+        // It is in the slot of the first.
+        ensures slot { (count : ℕ) → IsInSlots count self.now.there → IsInSlots count result }
     {
         match self.there {
             Found::Zero => Found::Zero,

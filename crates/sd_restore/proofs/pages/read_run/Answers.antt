@@ -38,7 +38,7 @@ loop-k-preserved g c =
           ∙ put_keeps (memory_of c.loop-k.snapshot) run.space c.unwrap-page.result space (record { prot = run.prot; bytes = c.in_ok-bytes.bytes.value }) alive
           ∙ was.spaces space;
       memory = λ honest.
-          let bytes : c.in_ok-bytes.bytes.value ≡ bytes_at contents (found_on run.there k) = now.bytes honest ∙ ap (λ contents. bytes_at contents c.place.result) was.reads.same ∙ ap (bytes_at contents) c.place.ensures in
+          let bytes : c.in_ok-bytes.bytes.value ≡ bytes_at contents (found_on run.there k) = now.bytes honest ∙ ap (λ contents. bytes_at contents c.place.result) was.reads.same ∙ ap (bytes_at contents) c.place.ensures.place in
           c.in_ok-put_page.ensures.ok
           ∙ ap (λ bytes. put_page (memory_of c.loop-k.snapshot) run.space c.unwrap-page.result (record { prot = run.prot; bytes = bytes })) bytes
           ∙ ap (λ p. put_page (memory_of c.loop-k.snapshot) run.space p (page_at contents (page_behind run k))) page
