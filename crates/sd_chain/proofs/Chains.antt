@@ -1,6 +1,6 @@
 -- The chain of an image as a list: built one image at a time, and followed by pages that lie alike.
-use Rattle.std.proofs.Common.{◌≡◌, ◌⊎◌, ◌<◌, ◌≤◌, ◌+◌, ◌-◌, ◌*◌, ◌^◌, ℕ, zero, suc, min, List, [], ◌∷◌, ◌++◌, map, length, Contains, Option, Some, None, refl, sym, ◌∙◌, ap, subst, inl, inr, Bor, arith}
-use Rattle.std.specs.Prelude.{◌↔◌, All, IfSome, get_or}
+use Rattle.std.proofs.Common.{◌≡◌, ◌<◌, ◌≤◌, ◌+◌, ◌-◌, ◌*◌, ◌^◌, ℕ, zero, suc, min, List, [], ◌∷◌, ◌++◌, map, length, Contains, Option, Some, None, refl, sym, ◌∙◌, ap, subst, inl, inr, Bor, arith}
+use Rattle.std.specs.Prelude.{◌↔◌, IfSome, get_or}
 use Rattle.std.specs.Option.{option_map}
 use Rattle.std.specs.List.{slice_get}
 use Rattle.std.proofs.lemmas.Bool.{cases_lt}
@@ -11,15 +11,14 @@ use Rattle.sd_image.specs.declared.run.RunKind.TheVariants.{Data}
 use Rattle.sd_image.specs.Laws.{FewPages, OneKind, OnePlace}
 use Rattle.sd_image.specs.Shows.{pages_of}
 use Rattle.sd_image.specs.Table.{IsTable}
-use Rattle.sd_chain.specs.declared.found.Found.{Found}
 use Rattle.sd_chain.specs.declared.found.Found.TheVariants as found
 use Rattle.sd_chain.specs.declared.trace.Trace.{Trace}
 use Rattle.sd_chain.specs.declared.trace.Trace.TheVariants as trace
 use Rattle.sd_chain.specs.declared.way.Way.{Way}
 use Rattle.sd_chain.specs.declared.way.Way.TheVariants as way
 use Rattle.sd_chain.specs.Catalog.{Opened, Places, Names, images, place_of}
-use Rattle.sd_chain.specs.Chains.{AreAlike, IsChainOf, IsTraced, found_on, trace_on, way_on}
-use Rattle.sd_chain.specs.Ways.{AreImages, HasPage, IsTraceOf, by_data, by_zero}
+use Rattle.sd_chain.specs.Chains.{AreAlike, IsChainOf, IsTraced, trace_on, way_on}
+use Rattle.sd_chain.specs.Ways.{AreImages, HasPage, by_data, by_zero}
 use Rattle.sd_chain.proofs.Lies.{data_lies, zero_lies}
 use Rattle.sd_chain.proofs.TablePages.{get_right}
 use Rattle.sd_chain.proofs.Traces.{IsWalked, ends_found, ends_unlisted, ends_without_parent, traced_none, traced_some, walk_begins, walk_goes_on}

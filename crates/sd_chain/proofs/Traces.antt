@@ -14,7 +14,7 @@ use Rattle.sd_chain.specs.declared.trace.Trace.TheVariants as trace
 use Rattle.sd_chain.specs.declared.way.Way.{Way}
 use Rattle.sd_chain.specs.declared.way.Way.TheVariants as way
 use Rattle.sd_chain.specs.Catalog.{Opened, Places, place_of, images, Names}
-use Rattle.sd_chain.specs.Ways.{HasPage, LiesAt, by_data, by_zero, by_parent, LiesBySerial, BreaksAt, here, beyond, BreaksBySerial, IsUnlisted, IsAbsent, IsTraceOf, found_in, AreImages}
+use Rattle.sd_chain.specs.Ways.{HasPage, LiesAt, by_data, by_zero, by_parent, LiesBySerial, BreaksAt, here, beyond, IsUnlisted, IsTraceOf, found_in, AreImages}
 use Rattle.sd_chain.specs.Chains.{IsTraced}
 use Rattle.sd_chain.proofs.Ways.{IsExact}
 use Rattle.sd_chain.proofs.Lies.{never_lies, data_lies, zero_lies, parent_lies, IsResolved}

@@ -83,7 +83,13 @@ fn a_parent_run_is_followed(rt: HostRuntime) -> Result<(), Fail> {
 #[test]
 fn pages_that_lie_alike_are_traced_at_once(rt: HostRuntime) -> Result<(), Fail> {
     let mut catalog = Catalog::new(rt.alloc());
-    add(&mut catalog, rt.alloc(), 0, dump(1, 1, 0), &[(0x10, 4, RunKind::Data)])?;
+    add(
+        &mut catalog,
+        rt.alloc(),
+        0,
+        dump(1, 1, 0),
+        &[(0x10, 4, RunKind::Data)],
+    )?;
     let newer = [
         (0x10, 1, RunKind::Parent),
         (0x11, 1, RunKind::Data),
@@ -101,10 +107,16 @@ fn pages_that_lie_alike_are_traced_at_once(rt: HostRuntime) -> Result<(), Fail> 
         (0x12, 1, data(0, 4096 * 3), 1),
         (0x10, 9, data(0, 4096), 1),
     ] {
-        let run = TraceRun { trace, count: traced };
+        let run = TraceRun {
+            trace,
+            count: traced,
+        };
         assert_eq!(rt; chain.trace(SpaceId::new(SPACE), page(number)?, count), run);
     }
-    let run = TraceRun { trace: Trace::Absent, count: 1 };
+    let run = TraceRun {
+        trace: Trace::Absent,
+        count: 1,
+    };
     assert_eq!(rt; chain.trace(SpaceId::new(2), page(0x10)?, 1), run);
     Ok(())
 }

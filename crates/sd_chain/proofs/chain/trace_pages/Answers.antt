@@ -1,8 +1,7 @@
-use Rattle.std.proofs.Common.{◌≡◌, ◌<◌, ◌+◌, ◌*◌, ◌^◌, ℕ, min, List, Bor, Some, None, refl, sym, ◌∙◌, ap, subst, arith}
+use Rattle.std.proofs.Common.{◌≡◌, ◌+◌, List, Some, refl, sym, ◌∙◌, subst, arith}
 use Rattle.std.proofs.lemmas.List.{length-set}
 use Rattle.std.specs.List.{slice_get}
 use Rattle.std.specs.Prelude.{IfSome}
-use Rattle.sd_image.specs.Table.{IsTable}
 use Rattle.sd_chain.specs.declared.found.Found.TheVariants as found
 use Rattle.sd_chain.specs.declared.trace.Trace.TheVariants as trace
 use Rattle.sd_chain.specs.declared.way.Way.{Way}

@@ -7,7 +7,7 @@ use Rattle.sd_chain.specs.Store.{bytes_at}
 use Rattle.sd_restore.specs.Placed.{page_at, page_behind, with_pages}
 use Rattle.sd_restore.proofs.CallLemmas.{none_failed}
 use Rattle.sd_restore.proofs.MemoryLemmas.{put_keeps}
-use Rattle.sd_restore.proofs.RunLemmas.{first_pages, none_first, with_more}
+use Rattle.sd_restore.proofs.RunLemmas.{none_first, with_more}
 use Rattle.sd_restore.proofs.pages.read_run.Goals as goal
 
 pub loop-k-init : goal.loop-k-init

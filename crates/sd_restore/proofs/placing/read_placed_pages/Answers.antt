@@ -1,4 +1,4 @@
-use Rattle.std.proofs.Common.{◌≡◌, ◌∙◌, ◌+◌, ◌*◌, ℕ, List, length, ap, sym, subst, arith}
+use Rattle.std.proofs.Common.{◌∙◌, ◌+◌, ◌*◌, ℕ, List, length, ap, sym}
 use Rattle.std.specs.List.{slice_range}
 use Rattle.sd_disk.specs.Contents.{file_at}
 use Rattle.sd_chain.specs.declared.found.Found.{Found}

@@ -7,7 +7,7 @@ use Rattle.sd_image.specs.Table.{Listed, IsTable}
 use Rattle.sd_chain.specs.declared.way.Way.TheVariants as way
 use Rattle.sd_chain.specs.Ways.{HasPage}
 use Rattle.sd_chain.proofs.Runs.{HasNone, HasWithin, within_high, within_low}
-use Rattle.sd_chain.proofs.Ways.{IsExact, alike_data, alike_in_parent, alike_zeros, left_some, no_run, no_space, place_there, row_is, row_there, run_at, space_there}
+use Rattle.sd_chain.proofs.Ways.{alike_data, alike_in_parent, alike_zeros, left_some, no_run, no_space, place_there, row_is, row_there, run_at, space_there}
 use Rattle.sd_chain.proofs.placed.PlacedTable.stretch.Goals as goal
 
 pub returns-in_err-index-clause-none : goal.returns-in_err-index-clause-none
