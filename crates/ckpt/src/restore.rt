@@ -1,11 +1,11 @@
 //! `ckpt restore`: printing the memory that a store shows.
-ghost use Rattle.std.specs.Prelude.{◌≡◌, ◌≢◌, None, Err, All, length, OnOk};
+ghost use Rattle.std.specs.Prelude.{◌≡◌, ◌≢◌, ◌<◌, ◌≤◌, ◌^◌, None, Err, All, length, IfOk, OnOk};
 ghost use Rattle.sd_areas.specs.Areas.{AreMaximal};
 ghost use Rattle.sd_disk.specs.Reads.{OnlyReads};
 ghost use Rattle.sd_image.specs.declared.table.SpaceTable.{SpaceTable};
 ghost use Rattle.sd_image.specs.Shows.{Shows};
 ghost use Rattle.sd_restore.specs.declared.fault.Fault.TheVariants as fault;
-ghost use Rattle.sd_restore.specs.Placed.{IsInSlots};
+ghost use Rattle.sd_restore.specs.Placed.{IsInSlots, IsWithin};
 ghost use Rattle.ckpt.specs.declared.stop.Stop.TheVariants as stop;
 ghost use Rattle.ckpt.specs.Ending.{ShowsMemory};
 
@@ -15,9 +15,13 @@ use sd_areas::{PAGE_BYTES, PAGE_SIZE, SpaceId};
 use sd_chain::Found;
 use sd_disk::Disk;
 use sd_procfs::areas_text;
-use sd_restore::{PlacedMemory, PlacedPage, place_newest, read_placed, scan};
-use std::alloc::Global;
+use sd_restore::{PlacedMemory, PlacedRun, place_newest, read_placed_pages, scan};
+use std::alloc::{AllocError, Global};
+use std::io;
 use std::io::Write;
+
+/// How many pages are read at once.
+const BUFFER_PAGES: usize = 16;
 
 /// Prints the memory that a store shows, and returns the exit status.
 pub fn restore_to<D: Disk, W: Write>(alloc: Global, disk: &mut D, out: &mut W) -> u8
@@ -30,7 +34,7 @@ pub fn restore_to<D: Disk, W: Write>(alloc: Global, disk: &mut D, out: &mut W) -
     status(ended, out)
 }
 
-/// Prints the memory that a store shows, page by page behind all checks of a restore. It holds one page at a time.
+/// Prints the memory that a store shows, behind all checks of a restore. It holds a few pages at a time.
 pub fn print_restored<D: Disk, W: Write>(
     alloc: Global,
     disk: &mut D,
@@ -53,38 +57,87 @@ fn print_placed<D: Disk, W: Write>(
     out: &mut W,
 ) -> Result<(), Stop>
     requires slots { All
-        (λ p. IsInSlots (length (D.contents disk.old)) p.there) placed.now.pages.items }
+        (λ r. IsInSlots (length (D.contents disk.old)) r.there) placed.now.runs.items }
+    requires within { All IsWithin placed.now.runs.items }
     requires areas { All
         (λ (s : SpaceTable). AreMaximal None s.areas.items) placed.now.spaces.now }
     ensures reads { OnlyReads D.Disk disk.old disk.new }
     ensures empty { result ≢ Err (stop.Fault fault.EmptyChain) }
 {
     writeln!(out, "checkpoint {}", placed.checkpoint)?;
+    let mut buffer = page_buffer(alloc, BUFFER_PAGES)?;
     for space in placed.spaces {
         writeln!(out, "space {}", space.space.number())?;
         out.write_all(areas_text(alloc, &space.areas)?.as_bytes())?;
-        print_pages(disk, space.space, &placed.pages, out)?;
+        print_pages(disk, space.space, &placed.runs, &mut buffer, out)?;
     }
     Ok(())
+}
+
+/// A buffer for so many pages.
+fn page_buffer(alloc: Global, pages: usize) -> Result<Vec<u8>, AllocError>
+    requires some { 0 < pages }
+    requires few { pages ≤ 1024 }
+    ensures { IfOk result (λ buffer. 4096 ≤ length buffer.items) }
+{
+    vec![in alloc; 0u8; pages * PAGE_SIZE]
 }
 
 /// Prints the pages of a space, of those of all spaces. A page of zeros has no line.
 fn print_pages<D: Disk, W: Write>(
     disk: &mut D,
     space: SpaceId,
-    pages: &[PlacedPage],
+    runs: &[PlacedRun],
+    buffer: &mut [u8],
     out: &mut W,
 ) -> Result<(), Stop>
-    requires slots { All (λ p. IsInSlots (length (D.contents disk.old)) p.there) pages.now }
+    requires slots { All (λ r. IsInSlots (length (D.contents disk.old)) r.there) runs.now }
+    requires within { All IsWithin runs.now }
+    requires room { 4096 ≤ length buffer.old }
     ensures reads { OnlyReads D.Disk disk.old disk.new }
     ensures empty { result ≢ Err (stop.Fault fault.EmptyChain) }
 {
-    let mut bytes = [0; PAGE_SIZE];
-    for placed in pages {
-        if placed.space == space && placed.there != Found::Zero {
-            read_placed(disk, placed.there, &mut bytes)?;
-            print_page(placed.page.number() * PAGE_BYTES, &bytes, out)?;
+    for run in runs {
+        if run.space == space && run.there != Found::Zero {
+            print_run(disk, run, buffer, out)?;
         }
+    }
+    Ok(())
+}
+
+/// Prints the pages of a run, as many at a time as the buffer has room for.
+fn print_run<D: Disk, W: Write>(
+    disk: &mut D,
+    run: &PlacedRun,
+    buffer: &mut [u8],
+    out: &mut W,
+) -> Result<(), Stop>
+    requires slots { IsInSlots (length (D.contents disk.old)) run.now.there }
+    requires within { IsWithin run.now }
+    requires room { 4096 ≤ length buffer.old }
+    ensures reads { OnlyReads D.Disk disk.old disk.new }
+    ensures empty { result ≢ Err (stop.Fault fault.EmptyChain) }
+{
+    let room = (buffer.len() / PAGE_SIZE) as u64;
+    for part in 0..run.count.div_ceil(room) {
+        let behind = part.saturating_mul(room).min(run.count);
+        let count = room.min(run.count - behind);
+        let bytes = &mut buffer[..count as usize * PAGE_SIZE];
+        read_placed_pages(disk, run.place(behind), bytes)?;
+        print_read(run.first.number() + behind, bytes, out)?;
+    }
+    Ok(())
+}
+
+/// Prints pages that were read, from the one with this number on.
+fn print_read<W: Write>(first: u64, bytes: &[u8], out: &mut W) -> io::Result<()>
+    requires { first ≤ 2 ^ 35 }
+{
+    let mut address = first * PAGE_BYTES;
+    let (pages, _) = bytes.as_chunks::<PAGE_SIZE>();
+    for page in pages {
+        print_page(address, page, out)?;
+        address = address.wrapping_add(PAGE_BYTES);
     }
     Ok(())
 }

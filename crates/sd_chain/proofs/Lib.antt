@@ -7,6 +7,7 @@ pub mod TablePages
 pub mod Ways
 pub mod Lies
 pub mod Traces
+pub mod Chains
 pub mod Stores
 pub mod Growth
 pub mod Agreement

@@ -14,7 +14,8 @@ use Rattle.sd_chain.specs.declared.trace.Trace.TheVariants as trace
 use Rattle.sd_chain.specs.declared.way.Way.{Way}
 use Rattle.sd_chain.specs.declared.way.Way.TheVariants as way
 use Rattle.sd_chain.specs.Catalog.{Opened, Places, place_of, images, Names}
-use Rattle.sd_chain.specs.Ways.{HasPage, LiesAt, by_data, by_zero, by_parent, LiesBySerial, BreaksAt, here, beyond, BreaksBySerial, IsUnlisted, IsAbsent, IsTraceOf, found_in, AreImages}
+use Rattle.sd_chain.specs.Ways.{HasPage, LiesAt, by_data, by_zero, by_parent, LiesBySerial, BreaksAt, here, beyond, IsUnlisted, IsTraceOf, found_in, AreImages}
+use Rattle.sd_chain.specs.Chains.{IsTraced}
 use Rattle.sd_chain.proofs.Ways.{IsExact}
 use Rattle.sd_chain.proofs.Lies.{never_lies, data_lies, zero_lies, parent_lies, IsResolved}
 
@@ -79,7 +80,7 @@ ends_unlisted places page start i unlisted walk exact =
 
 -- ---- an image that has it itself
 
-ends_found : (places : Places) (page : ℕ × ℕ) (start i : Opened) (unlisted : Trace) (w : Way) (there : Found) → IsWalked places page start i unlisted
+pub ends_found : (places : Places) (page : ℕ × ℕ) (start i : Opened) (unlisted : Trace) (w : Way) (there : Found) → IsWalked places page start i unlisted
     → HasPage i.spaces page w → (HasPage i.spaces page way.Parent → ⊥) → LiesAt places page there i → ((other : Found) → LiesAt places page other i → other ≡ there)
     → IsTraceOf places page start (trace.Found there)
 ends_found places page start i unlisted w there walk has other lies only = record {
@@ -170,12 +171,6 @@ walk_goes_on places page start i parent unlisted one walk exact named =
     next (beyond _ q has name breaks) = inr (subst (BreaksAt places page _) (one q parent name named) breaks)
 
 -- ---- by serial
-
--- what a trace of a serial has to be
-pub record IsTraced (places : Places) (serial : ℕ) (page : ℕ × ℕ) (answer : Trace) : Type 0 where
-  pub found : (there : Found) → (answer ≡ trace.Found there) ↔ LiesBySerial places serial page there
-  pub broken : (slot : ℕ) → (answer ≡ trace.Broken slot) ↔ BreaksBySerial places serial page slot
-  pub absent : (answer ≡ trace.Absent) ↔ IsAbsent places serial page
 
 pub traced_none : (places : Places) (serial : ℕ) (page : ℕ × ℕ) → ((i : Opened) → place_of places serial ≡ Some (Some i) → ⊥) → IsTraced places serial page trace.Absent
 traced_none places serial page none = record {

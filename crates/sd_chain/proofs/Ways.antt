@@ -1,13 +1,13 @@
 -- The one way in which a table has a page.
 use Rattle.std.proofs.Common.{◌≡◌, ◌<◌, ◌+◌, ◌-◌, ◌^◌, ℕ, zero, suc, true, min, List, [], ◌∷◌, map, length, get_or, Contains, Option, Some, None, refl, sym, ◌∙◌, ap, subst, inl, inr, arith}
-use Rattle.std.specs.Prelude.{◌↔◌, All, IsTrue, nat_eq}
+use Rattle.std.specs.Prelude.{◌↔◌, All, IfSome, IsTrue, nat_eq}
 use Rattle.std.specs.List.{slice_get, position}
 use Rattle.std.specs.Option.{option_map}
 use Rattle.std.proofs.lemmas.Bool.{eqb-true, eq-eqb}
 use Rattle.std.proofs.lemmas.List.{length-map}
 use Rattle.std.proofs.lemmas.List.Elements.{All-contains}
 use Rattle.std.proofs.lemmas.List.Quantifiers.{position-Some}
-use Rattle.std.proofs.lemmas.Option.{slice_get-get_or, slice_get-map, slice_get_within, none-some, same_Some}
+use Rattle.std.proofs.lemmas.Option.{get_or_from_slice_get, slice_get-get_or, slice_get-map, slice_get_within, none-some, same_Some}
 use Rattle.sd_areas.specs.Pages.{is_within}
 use Rattle.sd_image.specs.declared.header.Header.{Header}
 use Rattle.sd_image.specs.declared.run.Run.{Run}
@@ -16,10 +16,12 @@ use Rattle.sd_image.specs.declared.run.RunKind.TheVariants.{Data, Parent, Zero}
 use Rattle.sd_image.specs.declared.table.SpaceTable.{SpaceTable}
 use Rattle.sd_image.specs.Laws.{FewPages, OneKind, OnePlace}
 use Rattle.sd_image.specs.Table.{Listed, listing_of, AreRuns, AreSpaces, IsTable}
+use Rattle.sd_chain.proofs.Runs.{within_from, within_high, within_low}
 use Rattle.sd_image.specs.Shows.{pages_of}
 use Rattle.sd_chain.specs.declared.way.Way.{Way}
 use Rattle.sd_chain.specs.declared.way.Way.TheVariants as way
 use Rattle.sd_chain.specs.Placed.{after_run, after_runs, places_of, all_places_of}
+use Rattle.sd_chain.specs.Chains.{AreAlike, way_on}
 use Rattle.sd_chain.specs.Ways.{HasPage}
 use Rattle.sd_chain.proofs.TablePages.{IsHad, contains_at, contains_front, contains_later, contains_cons_cases, had, has_in_run, none_passes, place_of_page}
 
@@ -137,19 +139,29 @@ pub record IsAt (items : List SpaceTable) (index at : ℕ) (s : SpaceTable) (run
   pub run_there : slice_get s.runs.items at ≡ Some run
   pub within : IsTrue (is_within run.first run.count page)
 
-pub space_at : (items : List SpaceTable) (index space : ℕ) (s : SpaceTable) → position (λ (s : SpaceTable). nat_eq s.space space) items ≡ Some index → s ≡ get_or items index s
-    → (slice_get items index ≡ Some s) × (s.space ≡ space)
-space_at items index space s found got =
-    let at = position-Some (λ (s : SpaceTable). nat_eq s.space space) items index s found in
-    (slice_get-get_or items index s at.0 ∙ ap Some (sym got), eqb-true _ _ (subst (λ (t : SpaceTable). nat_eq t.space space ≡ true) (sym got) at.1))
+pub space_found : (items : List SpaceTable) (space : ℕ) (place : Option ℕ) → place ≡ position (λ (s : SpaceTable). nat_eq s.space space) items
+    → IfSome place (λ at. (s : SpaceTable) → slice_get items at ≡ Some s → s.space ≡ space)
+space_found items space None is = tt
+space_found items space (Some index) is = λ s got.
+    let at = position-Some (λ (s : SpaceTable). nat_eq s.space space) items index s (sym is) in
+    eqb-true _ _ (subst (λ (t : SpaceTable). nat_eq t.space space ≡ true) (get_or_from_slice_get items index s s got) at.1)
 
-pub run_at : (items : List SpaceTable) (index at : ℕ) (s : SpaceTable) (run : Run) (space page : ℕ) → position (λ (s : SpaceTable). nat_eq s.space space) items ≡ Some index → s ≡ get_or items index s
+pub space_there : (items : List SpaceTable) (index : ℕ) (s : SpaceTable) → index < length items → s ≡ get_or items index s → slice_get items index ≡ Some s
+space_there items index s low got = slice_get-get_or items index s low ∙ ap Some (sym got)
+
+pub run_at : (items : List SpaceTable) (index at : ℕ) (s : SpaceTable) (run : Run) (space page : ℕ) → slice_get items index ≡ Some s → s.space ≡ space
     → at < length s.runs.items → ((other : Run) → slice_get s.runs.items at ≡ Some other → IsTrue (is_within other.first other.count page)) → run ≡ get_or s.runs.items at run
     → IsAt items index at s run space page
-run_at items index at s run space page found got low within is =
-    let found = space_at items index space s found got in
+run_at items index at s run space page got number low within is =
     let there : slice_get s.runs.items at ≡ Some run = slice_get-get_or s.runs.items at run low ∙ ap Some (sym is) in
-    record { there = found.0; number = found.1; run_there = there; within = within run there }
+    record { there = got; number = number; run_there = there; within = within run there }
+
+-- so it has the pages behind it up to its end
+pub at_behind : (items : List SpaceTable) (index at : ℕ) (s : SpaceTable) (run : Run) (space page k : ℕ) → IsAt items index at s run space page → k < run.count - (page - run.first)
+    → IsAt items index at s run space (page + k)
+at_behind items index at s run space page k found less =
+    let low = within_low run page found.within in
+    record { there = found.there; number = found.number; run_there = found.run_there; within = within_from run (page + k) (omega (arith, low)) (omega (arith, low, less)) }
 
 pub has_by_run : (kind : RunKind) (items : List SpaceTable) (index at : ℕ) (s : SpaceTable) (run : Run) (space page : ℕ) → IsAt items index at s run space page → run.kind ≡ kind
     → Contains (pages_of kind (map listing_of items)) (space, page)
@@ -160,14 +172,57 @@ has_by_run kind items index at s run space page found is =
 
 pub has_data : FewPages → (h : Header) (items : List SpaceTable) (index at : ℕ) (s : SpaceTable) (run : Run) (row : List ℕ) (before space page place : ℕ) → IsTable h (map listing_of items)
     → IsAt items index at s run space page → run.kind ≡ Data → slice_get (all_places_of 0 items) index ≡ Some row → slice_get row at ≡ Some before
-    → place ≡ min (before + (page - run.first)) (2 ^ 64 - 1) → HasPage (map listing_of items) (space, page) (way.Data place)
+    → (before + (page - run.first) < 2 ^ 64 → place ≡ before + (page - run.first)) → HasPage (map listing_of items) (space, page) (way.Data place)
 has_data few h items index at s run row before space page place table found is counted places sum =
     let room = few h (map listing_of items) Data table in
     let exact = place_of_page items index at s run row before page (omega (arith, room)) found.there counted found.run_there places is found.within in
     let within = slice_get_within (pages_of Data (map listing_of items)) (before + (page - run.first)) (s.space, page) exact in
-    let plain : place ≡ before + (page - run.first) = omega (arith, sum, within, room) in
+    let plain : place ≡ before + (page - run.first) = sum (omega (arith, within, room)) in
     subst (λ k. slice_get (pages_of Data (map listing_of items)) k ≡ Some (space, page)) (sym plain)
     (subst (λ n. slice_get (pages_of Data (map listing_of items)) (before + (page - run.first)) ≡ Some (n, page)) found.number exact)
+
+-- ---- the pages of a run from one on
+
+abbrev pub left_of : Run → ℕ → ℕ
+left_of run page = run.count - (page - run.first)
+
+-- a table has the first of pages that it has alike
+pub first_alike : (spaces : List Listed) (space page : ℕ) (w : Way) (count : ℕ) → AreAlike spaces (space, page) w count → HasPage spaces (space, page) w
+first_alike spaces space page w count alike =
+    subst (λ n. HasPage spaces (space, n) w) (let e : page + 0 ≡ page = omega arith in e) (by w (alike.each 0 alike.some))
+  where
+    by : (w : Way) → HasPage spaces (space, page + 0) (way_on w 0) → HasPage spaces (space, page + 0) w
+    by (way.Data place) h = subst (λ n. HasPage spaces (space, page + 0) (way.Data n)) (let e : place + 0 ≡ place = omega arith in e) h
+    by way.Parent h = h
+    by way.Zero h = h
+
+pub left_some : (run : Run) (page : ℕ) → IsTrue (is_within run.first run.count page) → 0 < left_of run page
+left_some run page within = omega (arith, within_low run page within, within_high run page within)
+
+pub alike_in_parent : (items : List SpaceTable) (index at : ℕ) (s : SpaceTable) (run : Run) (space page : ℕ) → IsAt items index at s run space page → run.kind ≡ Parent
+    → AreAlike (map listing_of items) (space, page) way.Parent (left_of run page)
+alike_in_parent items index at s run space page found is = record {
+  some = left_some run page found.within;
+  each = λ k less. has_by_run Parent items index at s run space (page + k) (at_behind items index at s run space page k found less) is;
+}
+
+pub alike_zeros : (items : List SpaceTable) (index at : ℕ) (s : SpaceTable) (run : Run) (space page : ℕ) → IsAt items index at s run space page → run.kind ≡ Zero
+    → AreAlike (map listing_of items) (space, page) way.Zero (left_of run page)
+alike_zeros items index at s run space page found is = record {
+  some = left_some run page found.within;
+  each = λ k less. has_by_run Zero items index at s run space (page + k) (at_behind items index at s run space page k found less) is;
+}
+
+pub alike_data : FewPages → (h : Header) (items : List SpaceTable) (index at : ℕ) (s : SpaceTable) (run : Run) (row : List ℕ) (before space page place : ℕ) → IsTable h (map listing_of items)
+    → IsAt items index at s run space page → run.kind ≡ Data → slice_get (all_places_of 0 items) index ≡ Some row → slice_get row at ≡ Some before
+    → place ≡ min (before + (page - run.first)) (2 ^ 64 - 1) → AreAlike (map listing_of items) (space, page) (way.Data place) (left_of run page)
+alike_data few h items index at s run row before space page place table found is counted places sum = record {
+  some = left_some run page found.within;
+  each = λ k less.
+      let low = within_low run page found.within in
+      has_data few h items index at s run row before space (page + k) (place + k) table (at_behind items index at s run space page k found less) is counted places
+      (λ fits. omega (arith, sum, fits, low));
+}
 
 -- ---- the counted places
 

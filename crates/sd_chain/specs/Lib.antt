@@ -2,6 +2,7 @@ pub mod Placed
 pub mod Catalog
 pub mod Reaches
 pub mod Ways
+pub mod Chains
 pub mod Store
 pub mod Laws
 pub mod Tells

@@ -4,6 +4,8 @@ ghost use Rattle.std.specs.List.{IsDistinct};
 ghost use Rattle.sd_image.specs.Image.{Image, OpenImages};
 ghost use Rattle.sd_chain.specs.declared.error.CatalogError.TheVariants.{DoubleSerial};
 ghost use Rattle.sd_chain.specs.declared.found.Found.{Found};
+ghost use Rattle.sd_chain.specs.declared.trace.Trace.{Trace};
+ghost use Rattle.sd_chain.specs.Chains.{IsChainOf, IsTraced};
 ghost use Rattle.sd_chain.specs.Reaches.{IsChain, ReachesSerial, ParentsFall};
 ghost use Rattle.sd_chain.specs.Store.{IsCatalogOf, IsInFile, FindsHeld, FindsNamed, FindsTip, HasTheImages};
 ghost use Rattle.sd_chain.specs.Ways.{AreImages, LiesBySerial, BreaksBySerial, IsAbsent, IsTraceOf, found_in};
@@ -11,6 +13,7 @@ ghost use Rattle.sd_chain.specs.Catalog.{Opened, place_of, images, IsHeld, Chang
 ghost use Rattle.sd_chain.specs.Passes.{IsNextPage};
 ghost use Rattle.sd_chain.specs.Tells.{Agrees, Tells};
 
+use crate::chain::Chain;
 use crate::choice::{Places, greatest_checkpoint, greatest_serial, images_of, named_of, newest_of};
 use crate::error::CatalogError;
 use crate::found::Found;
@@ -324,6 +327,41 @@ impl Catalog {
             → IfSome result (IsInFile contents) }
     {
         self.trace(serial, space, page).found()
+    }
+
+    /// The chain of the image of a serial: the image, the one that its parent number names, and so on. It has no images where
+    /// no image has the serial. It makes one pass over the images of the catalog for each image of the chain.
+    ///
+    /// # Errors
+    ///
+    /// Out of memory where its lists find no room.
+    pub fn chain(&self, serial: u64) -> Result<Chain<'_>, AllocError>
+        ensures { ParentsFall self.now → IfOk result (IsChainOf self.now serial) }
+    {
+        self.sound();
+        let mut images = Vec::new(self.alloc);
+        let mut at = self.image(serial);
+        while let Some(image) = at {
+            images.push(image)?;
+            at = self.parent(image);
+        }
+        Chain::new(self.alloc, images)
+    }
+
+    /// A law: where it is the catalog of files, and it is known what following a page comes to, the page's bytes are those
+    /// that the image holds, within their file.
+    pub fn traced_is_held(&self)
+        ensures held { (contents : List (List ℕ)) (images : List Image) (serial : ℕ) (page : ℕ × ℕ)
+            (answer : Trace) → IsCatalogOf contents self.now → OpenImages contents images
+            → IsTraced self.now serial page answer
+            → FindsHeld contents images serial page (found_in answer) }
+        ensures inside { (contents : List (List ℕ)) (serial : ℕ) (page : ℕ × ℕ) (answer : Trace)
+            → IsCatalogOf contents self.now → IsTraced self.now serial page answer
+            → IfSome (found_in answer) (IsInFile contents) }
+    {
+        one_image();
+        page_in_file();
+        let _places = &self.places;
     }
 
     /// The first page that the image of a serial lists behind a place, rising by space and page, or its first page where

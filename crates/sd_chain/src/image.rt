@@ -1,12 +1,15 @@
 //! An open image of a catalog.
-ghost use Rattle.std.specs.Prelude.{◌≡◌, ◌↔◌, Some, map};
+ghost use Rattle.std.specs.Prelude.{◌≡◌, ◌<◌, ◌↔◌, IfSome, IsNone, Some, map};
 ghost use Rattle.sd_image.specs.Table.{listing_of, IsTable};
 ghost use Rattle.sd_chain.specs.declared.way.Way.{Way};
 ghost use Rattle.sd_chain.specs.Passes.{IsNextOrNone};
+ghost use Rattle.sd_chain.specs.Chains.{AreAlike};
 ghost use Rattle.sd_chain.specs.Ways.{HasPage};
 
 use crate::passes::{first_from, place_behind};
 use crate::placed::PlacedTable;
+use crate::spot::Spot;
+use crate::stretch::Stretch;
 use crate::way::Way;
 use sd_areas::{PageNo, SpaceId};
 use sd_image::{Header, Table};
@@ -68,6 +71,18 @@ impl OpenImage {
             → (way : Way) → (result ≡ Some way) ↔ HasPage self.now.spaces (space, page) way }
     {
         self.table.way(space, page)
+    }
+
+    /// How the image has a page and as many behind it as it has alike, looked for first near a spot. None where it doesn't
+    /// list the page.
+    pub(crate) fn stretch(&self, space: SpaceId, page: PageNo, near: Spot) -> Option<Stretch>
+        ensures some { IfSome result (λ s. 0 < s.count) }
+        ensures alike { IsTable self.now.header self.now.spaces
+            → IfSome result (λ s. AreAlike self.now.spaces (space, page) s.way s.count) }
+        ensures none { IsTable self.now.header self.now.spaces → IsNone result
+            → (way : Way) → HasPage self.now.spaces (space, page) way → ⊥ }
+    {
+        self.table.stretch(space, page, near)
     }
 
     /// The first page that the image lists behind a place, rising by space and page, or its first page where no place

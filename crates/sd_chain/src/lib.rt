@@ -2,6 +2,7 @@
 #![tactic(auto)]
 
 mod catalog;
+mod chain;
 mod choice;
 mod error;
 mod found;
@@ -9,10 +10,14 @@ mod image;
 mod laws;
 mod passes;
 mod placed;
+mod spot;
+mod stretch;
 mod trace;
+mod trace_run;
 mod way;
 
 pub use catalog::Catalog;
+pub use chain::Chain;
 pub use error::CatalogError;
 pub use found::Found;
 pub use image::OpenImage;
@@ -22,4 +27,5 @@ pub use laws::{
 };
 pub use placed::PlacedTable;
 pub use trace::Trace;
+pub use trace_run::TraceRun;
 pub use way::Way;

@@ -6,8 +6,11 @@ ghost use Rattle.sd_image.specs.declared.run.Run.{Run};
 ghost use Rattle.sd_image.specs.Table.{listing_of, AreRuns, IsTable};
 ghost use Rattle.sd_chain.specs.declared.way.Way.{Way};
 ghost use Rattle.sd_chain.specs.Placed.{after_run, after_runs, places_of, all_places_of};
+ghost use Rattle.sd_chain.specs.Chains.{AreAlike};
 ghost use Rattle.sd_chain.specs.Ways.{HasPage};
 
+use crate::spot::Spot;
+use crate::stretch::Stretch;
 use crate::way::Way;
 use sd_areas::{PageNo, SpaceId};
 use sd_image::{Run, RunKind, SpaceTable, Table, few_pages, one_kind, one_place};
@@ -91,6 +94,47 @@ fn run_index(runs: &[Run], page: PageNo) -> Option<usize>
     has_page(&runs[at], page).then_some(at)
 }
 
+/// Where the table has a space, looked for first at a place.
+fn space_near(spaces: &[SpaceTable], near: usize, space: SpaceId) -> Option<usize>
+    ensures place { IfSome result (λ at. at < length spaces.now) }
+    ensures space { IfSome result (λ at. (s : SpaceTable) → slice_get spaces.now at ≡ Some s
+        → s.space ≡ space) }
+    ensures none { IsNone result → position (λ (s : _). s.space == space) spaces.now ≡ None }
+{
+    if near < spaces.len() && spaces[near].space.number() == space.number() {
+        return Some(near);
+    }
+    space_index(spaces, space)
+}
+
+/// Whether the run at a place is there and has a page.
+fn is_at(runs: &[Run], at: usize, page: PageNo) -> bool
+    ensures place { IsTrue result → at < length runs.now }
+    ensures run { IsTrue result → (run : Run) → slice_get runs.now at ≡ Some run
+        → IsTrue (is_within run.first run.count page) }
+{
+    at < runs.len() && has_page(&runs[at], page)
+}
+
+/// Which of a space's runs has a page, looked for first at a place and behind it.
+fn run_near(runs: &[Run], near: usize, page: PageNo) -> Option<usize>
+    ensures place { IfSome result (λ at. at < length runs.now) }
+    ensures run { IfSome result
+        (λ at. (run : Run) → slice_get runs.now at ≡ Some run
+        → IsTrue (is_within run.first run.count page)) }
+    ensures none { (parent : ℕ) → AreRuns parent None runs.now → IsNone result
+        → All (λ run. IsTrue (is_within run.first run.count page) → ⊥) runs.now }
+{
+    if is_at(runs, near, page) {
+        return Some(near);
+    }
+    let next = near.saturating_add(1);
+    if is_at(runs, next, page) {
+        return Some(next);
+    }
+    run_index(runs, page)
+}
+
 impl PlacedTable {
     /// Counts the data pages before each run, in one pass over the runs.
     ///
@@ -123,24 +167,49 @@ impl PlacedTable {
         ensures { (h : Header) → IsTable h self.now → (way : Way)
             → (result ≡ Some way) ↔ HasPage self.now (space, page) way }
     {
-        few_pages();
         one_kind();
         one_place();
-        let index = space_index(&self.table.spaces, space)?;
+        let stretch = self.stretch(space, page, Spot::FIRST)?;
+        Some(stretch.way)
+    }
+
+    /// How the table has a page of a space and as many behind it as it has alike, or none where it doesn't list the page.
+    /// At a spot or in the run behind it a page is found at once. Else the time grows with the logarithm of the space's
+    /// runs.
+    pub(crate) fn stretch(&self, space: SpaceId, page: PageNo, near: Spot) -> Option<Stretch>
+        ensures some { IfSome result (λ s. 0 < s.count) }
+        ensures alike { (h : Header) → IsTable h self.now
+            → IfSome result (λ s. AreAlike self.now (space, page) s.way s.count) }
+        ensures none { (h : Header) → IsTable h self.now → IsNone result
+            → (way : Way) → HasPage self.now (space, page) way → ⊥ }
+    {
+        few_pages();
+        let index = space_near(&self.table.spaces, near.space, space)?;
         let runs = &self.table.spaces[index].runs;
-        let at = run_index(runs, page)?;
+        let at = run_near(runs, near.run, page)?;
         let run = runs[at];
+        let within = page.number() - run.first.number();
+        let count = run.count - within;
+        let spot = Spot {
+            space: index,
+            run: at,
+        };
         Some(match run.kind {
             RunKind::Data => {
                 let rows = self.places.as_slice();
                 let row = rows[index].as_slice();
-                let within = page.number() - run.first.number();
-                Way::Data {
-                    place: row[at].saturating_add(within),
-                }
+                let place = row[at].saturating_add(within);
+                let way = Way::Data { place };
+                Stretch { way, count, spot }
             }
-            RunKind::Parent => Way::Parent,
-            RunKind::Zero => Way::Zero,
+            RunKind::Parent => {
+                let way = Way::Parent;
+                Stretch { way, count, spot }
+            }
+            RunKind::Zero => {
+                let way = Way::Zero;
+                Stretch { way, count, spot }
+            }
         })
     }
 }

@@ -10,10 +10,9 @@ use Rattle.sd_chain.specs.Catalog.{Opened, Places}
 use Rattle.sd_chain.specs.Store.{FindsTip}
 use Rattle.sd_restore.specs.declared.fault.Fault.{Fault}
 use Rattle.sd_restore.specs.declared.fault.Fault.TheVariants.{Device}
-use Rattle.sd_restore.specs.declared.placed_page.PlacedPage.{PlacedPage}
 use Rattle.sd_restore.specs.Calls.{HasPagesWithin, calls_for}
 use Rattle.sd_restore.specs.Mapped.{mapped_pages}
-use Rattle.sd_restore.specs.Placed.{ArePlaced, mapped_of}
+use Rattle.sd_restore.specs.Placed.{PlacedPage, ArePlaced, mapped_of}
 
 not_device : {T : Type 0} (x : T) → IsErrOf {T = T} {E = Fault} (Ok x) Device → ⊥
 not_device x e = cc

@@ -5,6 +5,7 @@ pub mod GoodLemmas
 pub mod MappedLemmas
 pub mod PlacedLemmas
 pub mod MemoryLemmas
+pub mod RunLemmas
 pub mod ShowLemmas
 mod CallLemmas
 mod FitsLemmas

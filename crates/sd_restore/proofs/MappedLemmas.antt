@@ -67,7 +67,7 @@ into_parts f (z ∷ xs) x y c d = elim (front_cases z x xs c) [
 
 -- ---- pages from a first on
 
-grown : (first count : ℕ) → pages_from first (suc count) ≡ pages_from first count ++ (first + count) ∷ []
+pub grown : (first count : ℕ) → pages_from first (suc count) ≡ pages_from first count ++ (first + count) ∷ []
 unfolding pages_from
 grown first zero = ap (λ n. n ∷ []) (omega arith)
 grown first (suc count) = ap (λ xs. first ∷ xs) (grown (suc first) count ∙ ap (λ n. pages_from (suc first) count ++ n ∷ []) (omega arith))

@@ -13,8 +13,7 @@ use Rattle.sd_areas.specs.Memory.{put_page}
 use Rattle.sd_areas.specs.PlainMemory.{Page, Space, PlainMemory}
 use Rattle.sd_image.specs.Table.{Listed}
 use Rattle.sd_image.specs.Shows.{page_in}
-use Rattle.sd_restore.specs.declared.placed_page.PlacedPage.{PlacedPage}
-use Rattle.sd_restore.specs.Placed.{page_at, with_spaces, with_pages}
+use Rattle.sd_restore.specs.Placed.{PlacedPage, page_at, with_spaces, with_pages}
 use Rattle.sd_restore.proofs.MappedLemmas.{front_cases, nowhere}
 
 tied : (q k : ℕ) → q ≡ k → eq_by_cmp nat_cmp q k ≡ true
@@ -48,7 +47,7 @@ put_elsewhere m s p space page f apart = elim (cases_eq space s) [
   | inr differs ↦ ap (option_and_then (λ pages. finmap.get pages page)) (other_space m s p space f differs)
 ]
 
-put_keeps : (m : PlainMemory) (s p space : ℕ) (f : Page) → IsTrue (finmap.contains_key m s) → finmap.contains_key (put_page m s p f) space ≡ finmap.contains_key m space
+pub put_keeps : (m : PlainMemory) (s p space : ℕ) (f : Page) → IsTrue (finmap.contains_key m s) → finmap.contains_key (put_page m s p f) space ≡ finmap.contains_key m space
 put_keeps m s p space f alive = elim (cases_eq space s) [
   | inl same ↦ ap is_some (get-insert nat_cmp_total m s _ space ∙ cond-true _ _ _ (tied space s same)) ∙ sym alive ∙ ap (finmap.contains_key m) (sym same)
   | inr differs ↦ ap is_some (other_space m s p space f differs)

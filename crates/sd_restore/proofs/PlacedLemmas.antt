@@ -11,10 +11,9 @@ use Rattle.sd_chain.specs.declared.found.Found.{Found}
 use Rattle.sd_chain.specs.Catalog.{Opened, Places, images, place_of}
 use Rattle.sd_chain.specs.Ways.{LiesAt, by_data, by_zero, by_parent, LiesBySerial, BreaksBySerial}
 use Rattle.sd_restore.specs.declared.fault.Fault.{Fault}
-use Rattle.sd_restore.specs.declared.placed_page.PlacedPage.{PlacedPage}
 use Rattle.sd_restore.specs.Faulty.{Names}
 use Rattle.sd_restore.specs.Mapped.{Mapped, mapped_with, area_mapped}
-use Rattle.sd_restore.specs.Placed.{mapped_of, IsPlaced, ArePlaced, IsInSlots, IsUnheld, MeetsBreak}
+use Rattle.sd_restore.specs.Placed.{PlacedPage, mapped_of, IsPlaced, ArePlaced, IsInSlots, IsUnheld, MeetsBreak}
 use Rattle.sd_restore.proofs.MappedLemmas.{from_map, no_pages, mapped_more, mapped_split}
 use Rattle.sd_restore.proofs.ScanLemmas.{names_more}
 
@@ -28,7 +27,7 @@ one_placed places serial done pages p was is = record {
   each = All-push (IsPlaced places serial) pages p was.each is;
 }
 
--- the first k pages of an area, and one more
+-- the first k pages of an area, and more
 pub area_begins : (places : Places) (serial space : ℕ) (area : Area) (done : List Mapped) (pages : List PlacedPage) → ArePlaced places serial done pages
     → ArePlaced places serial (done ++ mapped_with space area (pages_from area.first 0)) pages
 area_begins places serial space area done pages was =

@@ -1,10 +1,10 @@
 -- The part of a list that a loop has passed, and what is left of it.
-use Rattle.std.proofs.Common.{◌≡◌, ◌<◌, ◌≤◌, ◌+◌, ℕ, zero, suc, List, [], ◌∷◌, ◌++◌, take, drop, length, slice_index_or, refl, sym, ◌∙◌, ap, subst, arith, add-one, Contains, append-nil}
+use Rattle.std.proofs.Common.{◌≡◌, ◌<◌, ◌≤◌, ◌+◌, ◌-◌, replicate, ℕ, zero, suc, List, [], ◌∷◌, ◌++◌, take, drop, length, slice_index_or, refl, sym, ◌∙◌, ap, subst, arith, add-one, Contains, append-nil}
 use Rattle.std.proofs.Math.Seq.{take-suc}
-use Rattle.std.specs.List.{flat_map}
+use Rattle.std.specs.List.{flat_map, slice_range}
 use Rattle.std.proofs.lemmas.Grind.{flat_map-append}
 use Rattle.std.proofs.lemmas.List.Elements.{Contains-append_left, Contains-append_right}
-use Rattle.std.proofs.lemmas.List.{drop_more, take-append-drop}
+use Rattle.std.proofs.lemmas.List.{drop-drop, drop-replicate, drop-take, take-replicate, take-take, drop_more, take-append-drop}
 
 -- one more was passed
 pub taken : {X : Type 0} (xs : List X) (i : ℕ) (x : X) → i < length xs → x ≡ slice_index_or xs i x → take (i + 1) xs ≡ take i xs ++ x ∷ []
@@ -46,3 +46,17 @@ module _ {X Y : Type 0} (f : X → List Y) (xs : List X) (i : ℕ) (x : X) (less
 -- the next one is an element
 pub contains_at : {X : Type 0} (xs : List X) (i : ℕ) (x : X) → i < length xs → x ≡ slice_index_or xs i x → Contains xs x
 contains_at xs i x less is = (i, less, sym is)
+
+-- ---- pages of what was read at once
+
+pub range_within : {X : Type 0} (xs : List X) (a n b m : ℕ) → b + m ≤ n → slice_range (slice_range xs a (a + n)) b (b + m) ≡ slice_range xs (a + b) (a + b + m)
+range_within xs a n b m fits =
+    ap (λ k. take (b + m - b) (drop b (take k (drop a xs)))) (let e : a + n - a ≡ b + (n - b) = omega (arith, fits) in e)
+    ∙ ap (take (b + m - b)) (drop-take b (n - b) (drop a xs))
+    ∙ take-take (b + m - b) (n - b) (drop b (drop a xs)) (omega (arith, fits))
+    ∙ ap (take (b + m - b)) (drop-drop b a xs)
+    ∙ ap (λ k. take k (drop (a + b) xs)) (let e : b + m - b ≡ a + b + m - (a + b) = omega arith in e)
+
+pub range_of_same : {X : Type 0} (x : X) (n b m : ℕ) → b + m ≤ n → slice_range (replicate n x) b (b + m) ≡ replicate m x
+range_of_same x n b m fits =
+    ap (take (b + m - b)) (drop-replicate b n x) ∙ take-replicate (b + m - b) (n - b) x (omega (arith, fits)) ∙ ap (λ k. replicate k x) (let e : b + m - b ≡ m = omega arith in e)

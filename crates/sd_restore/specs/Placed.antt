@@ -1,6 +1,9 @@
 -- Where the pages of an image lie, and the memory that they make.
-use Rattle.std.specs.Prelude.{◌≡◌, ℕ, ◌<◌, ◌∷◌, List, [], map, All, Some, None}
+use Rattle.std.specs.Prelude.{◌≡◌, ℕ, ◌+◌, ◌^◌, ◌<◌, ◌≤◌, ◌∷◌, List, [], map, All, Some, None}
 use Rattle.std.specs.FinMap as finmap
+use Rattle.std.specs.List.{flat_map}
+use Rattle.sd_areas.specs.declared.prot.Prot.{Prot}
+use Rattle.sd_areas.specs.Pages.{pages_from}
 use Rattle.sd_areas.specs.PlainMemory.{Page, PlainMemory}
 use Rattle.sd_areas.specs.Memory.{put_page}
 use Rattle.sd_image.specs.Image.{Image, OpenImages}
@@ -8,22 +11,49 @@ use Rattle.sd_image.specs.Table.{Listed}
 use Rattle.sd_chain.specs.declared.found.Found.{Found}
 use Rattle.sd_chain.specs.declared.found.Found.TheVariants as found
 use Rattle.sd_chain.specs.Catalog.{Places}
+use Rattle.sd_chain.specs.Chains.{AreBelowLimit, found_on}
 use Rattle.sd_chain.specs.Store.{IsCatalogOf, IsInFile, FindsHeld, bytes_at}
 use Rattle.sd_chain.specs.Ways.{LiesBySerial}
-use Rattle.sd_restore.specs.declared.placed_page.PlacedPage.{PlacedPage}
+use Rattle.sd_restore.specs.declared.placed_run.PlacedRun.{PlacedRun}
 use Rattle.sd_image.specs.declared.reason.Reason.{Reason}
 use Rattle.sd_restore.specs.Faulty.{IsFirstBreak}
 use Rattle.sd_restore.specs.Mapped.{Mapped}
 
+-- a mapped page of an image, and where its bytes are
+pub record PlacedPage : Type 0 where
+  pub space : ℕ
+  pub page : ℕ
+  pub prot : Prot
+  pub there : Found
+
+-- the page of a run that is so many behind its first
+abbrev pub page_behind : PlacedRun → ℕ → PlacedPage
+page_behind r k = record { space = r.space; page = r.first + k; prot = r.prot; there = found_on r.there k }
+
+abbrev pub pages_in : PlacedRun → List PlacedPage
+pages_in r = map (page_behind r) (pages_from 0 r.count)
+
+abbrev pub placed_pages : List PlacedRun → List PlacedPage
+placed_pages = flat_map pages_in
+
+-- it has pages, all of them in a space, and their bytes end below the byte 2^52 of their file
+pub record IsWithin (r : PlacedRun) : Type 0 where
+  pub some : 0 < r.count
+  pub pages : r.first + r.count ≤ 2 ^ 35
+  pub bytes : AreBelowLimit r.there r.count
+
 abbrev pub mapped_of : PlacedPage → Mapped
 mapped_of p = record { space = p.space; page = p.page; prot = p.prot }
 
--- the chain of the image of a serial has a page where it was found, whatever files the catalog is of
-pub record IsPlaced (places : Places) (serial : ℕ) (p : PlacedPage) : Type 0 where
-  pub lies : LiesBySerial places serial (p.space, p.page) p.there
+-- the chain of the image of a serial has a page there, whatever files the catalog is of
+pub record IsFoundAt (places : Places) (serial : ℕ) (page : ℕ × ℕ) (there : Found) : Type 0 where
+  pub lies : LiesBySerial places serial page there
   pub held : (contents : List (List ℕ)) (images : List Image) → IsCatalogOf contents places → OpenImages contents images
-      → FindsHeld contents images serial (p.space, p.page) (Some p.there)
-  pub inside : (contents : List (List ℕ)) → IsCatalogOf contents places → IsInFile contents p.there
+      → FindsHeld contents images serial page (Some there)
+  pub inside : (contents : List (List ℕ)) → IsCatalogOf contents places → IsInFile contents there
+
+abbrev pub IsPlaced : Places → ℕ → PlacedPage → Type 0
+IsPlaced places serial p = IsFoundAt places serial (p.space, p.page) p.there
 
 -- these mapped pages were found
 pub record ArePlaced (places : Places) (serial : ℕ) (mapped : List Mapped) (pages : List PlacedPage) : Type 0 where

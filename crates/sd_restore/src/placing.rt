@@ -1,20 +1,21 @@
 //! The memory that a store shows, before its pages are read.
-ghost use Rattle.std.specs.Prelude.{◌≡◌, ◌≢◌, ◌<◌, ℕ, List, Some, None, All, length, map, IfOk, IfErr, OnOk, IsErrOf};
+ghost use Rattle.std.specs.Prelude.{◌≡◌, ◌≢◌, ◌+◌, ◌*◌, ◌<◌, ◌≤◌, ℕ, List, Some, None, All, length, map, slice_range, IfOk, IfErr, OnOk, IsErrOf};
 ghost use Rattle.sd_areas.specs.Areas.{AreMaximal};
 ghost use Rattle.sd_disk.specs.Reads.{OnlyReads};
 ghost use Rattle.sd_image.specs.declared.table.SpaceTable.{SpaceTable};
 ghost use Rattle.sd_image.specs.Shows.{Shows};
 ghost use Rattle.sd_image.specs.Table.{listing_of};
 ghost use Rattle.sd_chain.specs.Catalog.{images};
+ghost use Rattle.sd_chain.specs.Chains.{found_on};
 ghost use Rattle.sd_chain.specs.Store.{IsCatalogOf, bytes_at};
 ghost use Rattle.sd_chain.specs.Ways.{AreImages};
 ghost use Rattle.sd_restore.specs.Faulty.{Names, IsBrokenChain};
-ghost use Rattle.sd_restore.specs.Placed.{IsInSlots, memory_at};
+ghost use Rattle.sd_restore.specs.Placed.{IsInSlots, IsWithin, memory_at, placed_pages};
 
 use crate::chain::place_pages;
 use crate::device::read_file;
 use crate::fault::Fault;
-use crate::placed_page::PlacedPage;
+use crate::placed_run::PlacedRun;
 use sd_areas::PAGE_SIZE;
 use sd_chain::{Catalog, Found};
 use sd_disk::Disk;
@@ -28,7 +29,7 @@ pub struct PlacedMemory<'a> {
     /// The living spaces with their areas, rising.
     pub spaces: &'a [SpaceTable],
     /// The mapped pages, rising by space and page.
-    pub pages: Vec<PlacedPage>,
+    pub runs: Vec<PlacedRun>,
 }
 
 /// Where the memory lies that the newest dump or merged image of a catalog stands for. It makes the checks of
@@ -44,14 +45,15 @@ pub fn place_newest<'a>(alloc: Global, catalog: &'a Catalog) -> Result<PlacedMem
         → IfOk result (λ placed. Shows contents
         (Some (
           placed.checkpoint,
-          memory_at contents (map listing_of placed.spaces.now) placed.pages.items,
+          memory_at contents (map listing_of placed.spaces.now) (placed_pages placed.runs.items),
         ))) }
     ensures empty { (contents : List (List ℕ)) → IsCatalogOf contents catalog.now
         → IsErrOf result Fault.EmptyChain → Shows contents None }
     ensures broken { (contents : List (List ℕ)) → IsCatalogOf contents catalog.now
         → IfErr result (Names (IsBrokenChain contents)) }
     ensures slots { (count : ℕ) → All (λ i. i.slot < count) (images catalog.now)
-        → IfOk result (λ placed. All (λ p. IsInSlots count p.there) placed.pages.items) }
+        → IfOk result (λ placed. All (λ r. IsInSlots count r.there) placed.runs.items) }
+    ensures within { IfOk result (λ placed. All IsWithin placed.runs.items) }
     ensures areas { IfOk result (λ placed.
         All (λ (s : SpaceTable). AreMaximal None s.areas.items) placed.spaces.now) }
     ensures device { result ≢ Err Fault.Device }
@@ -61,11 +63,11 @@ pub fn place_newest<'a>(alloc: Global, catalog: &'a Catalog) -> Result<PlacedMem
     let Some(tip) = catalog.tip() else {
         return Err(Fault::EmptyChain);
     };
-    let pages = place_pages(alloc, catalog, tip)?;
+    let runs = place_pages(alloc, catalog, tip)?;
     Ok(PlacedMemory {
         checkpoint: tip.header().checkpoint,
         spaces: tip.table().spaces.as_slice(),
-        pages,
+        runs,
     })
 }
 
@@ -92,6 +94,31 @@ pub fn read_placed<D: Disk>(
             read_file(disk, slot, offset as usize, bytes.as_mut_slice())?;
         }
         Found::Zero => *bytes = [0; PAGE_SIZE],
+    }
+    Ok(())
+}
+
+/// Reads the bytes of pages from one that lies there on: of as many as the buffer has room for. It makes one call.
+///
+/// # Errors
+///
+/// `Device` where the disk failed: the bytes may be anything.
+pub fn read_placed_pages<D: Disk>(disk: &mut D, there: Found, bytes: &mut [u8]) -> Result<(), Fault>
+    requires { IsInSlots (length (D.contents disk.old)) there }
+    // Each whole page of the buffer has the bytes of its page.
+    ensures bytes { D.is_honest disk.new → OnOk result ((k : ℕ)
+        → 4096 * k + 4096 ≤ length bytes.old
+        → slice_range bytes.new (4096 * k) (4096 * k + 4096)
+        ≡ bytes_at (D.contents disk.old) (found_on there k)) }
+    ensures unnamed { IfErr result (Names (λ _ _. ⊥)) }
+    ensures reads { OnlyReads D.Disk disk.old disk.new }
+    ensures device { IsErrOf result Fault.Device → D.failed disk.old < D.failed disk.new }
+    ensures calls { D.calls disk.new ≤ D.calls disk.old + 1 }
+    ensures empty { result ≢ Err Fault.EmptyChain }
+{
+    match there {
+        Found::Data { slot, offset } => read_file(disk, slot, offset as usize, bytes)?,
+        Found::Zero => bytes.fill(0),
     }
     Ok(())
 }

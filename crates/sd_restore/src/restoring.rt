@@ -64,9 +64,9 @@ pub fn restore_from<D: Disk>(
     let Some(tip) = catalog.tip() else {
         return Err(Fault::EmptyChain);
     };
-    let pages = place_pages(alloc, catalog, tip)?;
+    let runs = place_pages(alloc, catalog, tip)?;
     let mut snapshot = living_spaces(alloc, tip)?;
-    read_pages(alloc, disk, &pages, &mut snapshot)?;
+    read_pages(alloc, disk, &runs, &mut snapshot)?;
     Ok(snapshot)
 }
 

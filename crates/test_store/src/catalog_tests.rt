@@ -1,7 +1,7 @@
 //! Catalogs of images, and where their chains have a page.
 use crate::builders::{SPACE, dump, merged, page, pre_dump, runs, table};
 use sd_areas::SpaceId;
-use sd_chain::{Catalog, CatalogError, Found, OpenImage, PlacedTable, Trace, Way};
+use sd_chain::{Catalog, CatalogError, Found, OpenImage, PlacedTable, Trace, TraceRun, Way};
 use sd_image::{Header, RunKind};
 use std::alloc::{AllocError, Global};
 use std::test::Fail;
@@ -76,6 +76,48 @@ fn a_parent_run_is_followed(rt: HostRuntime) -> Result<(), Fail> {
     assert_eq!(rt; tip_of(&catalog), Some(2));
     assert_eq!(rt; catalog.reachable(2)?.as_slice(), [2, 1].as_slice());
     assert_eq!(rt; catalog.reachable(3)?.as_slice(), [].as_slice());
+    Ok(())
+}
+
+/// A dump of four pages, and one that has the second of them itself: three runs, whether the pages rise or fall.
+#[test]
+fn pages_that_lie_alike_are_traced_at_once(rt: HostRuntime) -> Result<(), Fail> {
+    let mut catalog = Catalog::new(rt.alloc());
+    add(
+        &mut catalog,
+        rt.alloc(),
+        0,
+        dump(1, 1, 0),
+        &[(0x10, 4, RunKind::Data)],
+    )?;
+    let newer = [
+        (0x10, 1, RunKind::Parent),
+        (0x11, 1, RunKind::Data),
+        (0x12, 3, RunKind::Parent),
+    ];
+    add(&mut catalog, rt.alloc(), 1, dump(2, 2, 1), &newer)?;
+    let data = |slot: usize, offset: u64| Trace::Found(Found::Data { slot, offset });
+    let mut chain = catalog.chain(2)?;
+    for (number, count, trace, traced) in [
+        (0x10, 5, data(0, 4096), 1),
+        (0x11, 4, data(1, 4096), 1),
+        (0x12, 3, data(0, 4096 * 3), 2),
+        (0x14, 1, Trace::Broken { slot: 1 }, 1),
+        (0x15, 1, Trace::Absent, 1),
+        (0x12, 1, data(0, 4096 * 3), 1),
+        (0x10, 9, data(0, 4096), 1),
+    ] {
+        let run = TraceRun {
+            trace,
+            count: traced,
+        };
+        assert_eq!(rt; chain.trace(SpaceId::new(SPACE), page(number)?, count), run);
+    }
+    let run = TraceRun {
+        trace: Trace::Absent,
+        count: 1,
+    };
+    assert_eq!(rt; chain.trace(SpaceId::new(2), page(0x10)?, 1), run);
     Ok(())
 }
 

@@ -1,6 +1,6 @@
 use Rattle.std.proofs.Common.{◌≡◌, List, ℕ, All, length, sym, subst}
 use Rattle.sd_chain.specs.Store.{IsCatalogOf}
-use Rattle.sd_restore.specs.declared.placed_page.PlacedPage.{PlacedPage}
+use Rattle.sd_restore.specs.declared.placed_run.PlacedRun.{PlacedRun}
 use Rattle.sd_restore.specs.Placed.{IsInSlots}
 use Rattle.ckpt.proofs.EndingLemmas.{on_ok}
 use Rattle.ckpt.proofs.restore.print_restored.Goals as goal
@@ -8,7 +8,7 @@ use Rattle.ckpt.proofs.restore.print_restored.Goals as goal
 pub print_placed-requires-clause-slots : goal.print_placed-requires-clause-slots
 print_placed-requires-clause-slots g c =
     let same : g.D.Disk.contents c.scan.new.disk ≡ g.D.Disk.contents c.args.disk.now = c.in_ok-catalog.ensures.reads.same in
-    subst (λ contents. All (λ (p : PlacedPage). IsInSlots (length contents) p.there) c.in_ok-placed.placed.pages.items) (sym same)
+    subst (λ contents. All (λ (r : PlacedRun). IsInSlots (length contents) r.there) c.in_ok-placed.placed.runs.items) (sym same)
     (c.in_ok-placed.ensures.slots (length (g.D.Disk.contents c.args.disk.now)) c.in_ok-catalog.ensures.slots)
 
 pub returns-clause-shown : goal.returns-clause-shown

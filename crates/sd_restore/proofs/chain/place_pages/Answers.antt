@@ -8,7 +8,7 @@ use Rattle.sd_image.specs.Table.{listing_of, IsTable}
 use Rattle.sd_chain.specs.Catalog.{Opened, images, place_of}
 use Rattle.sd_restore.specs.Faulty.{Names}
 use Rattle.sd_restore.specs.Mapped.{space_mapped, mapped_pages}
-use Rattle.sd_restore.specs.Placed.{MeetsBreak, ArePlaced}
+use Rattle.sd_restore.specs.Placed.{MeetsBreak, ArePlaced, placed_pages}
 use Rattle.sd_restore.proofs.MappedLemmas.{contains_map, has_page, space_of}
 use Rattle.sd_restore.proofs.PlacedLemmas.{part_breaks}
 use Rattle.sd_restore.proofs.TakeLemmas.{contains_at, taken_all, split_parts}
@@ -48,7 +48,7 @@ returns-in_err-place_space-clause-broken c =
     subst (λ ms. Names (MeetsBreak c.args.catalog.now tip.header.serial ms) c.in_err-place_space.field-0.0) all
     (part_breaks c.args.catalog.now tip.header.serial [] (flat_map mapped (take i items)) (mapped c.space-item.result) (flat_map mapped (drop (i + 1) items))
     (flat_map mapped items) c.in_err-place_space.field-0.0 (split_parts mapped items i c.space-item.result c.loop-space-test.true c.space-item.is)
-    (broken c.loop-space.invariant)) in
+    (broken c.loop-space.invariant.pages)) in
     search rules
 
 pub returns-clause-placed : goal.returns-clause-placed
@@ -58,5 +58,5 @@ returns-clause-placed c =
     let mapped : SpaceTable → List _ = λ s. space_mapped (listing_of s) in
     let spaces : map listing_of items ≡ tip.spaces = ap (map listing_of) c.deref-space-items.ensures.value ∙ c.table.ensures in
     let every : flat_map mapped items ≡ mapped_pages tip.spaces = sym (flat_map-map space_mapped listing_of items) ∙ ap mapped_pages spaces in
-    subst (λ ms. ArePlaced c.args.catalog.now tip.header.serial ms c.loop-space.pages.items)
-    (ap (flat_map mapped) (taken_all items c.loop-space.space-index c.loop-space-test.false) ∙ every) c.loop-space.invariant
+    subst (λ ms. ArePlaced c.args.catalog.now tip.header.serial ms (placed_pages c.loop-space.runs.items))
+    (ap (flat_map mapped) (taken_all items c.loop-space.space-index c.loop-space-test.false) ∙ every) c.loop-space.invariant.pages

@@ -6,7 +6,8 @@ use Rattle.sd_image.specs.Shows.{Shows}
 use Rattle.sd_image.specs.Table.{IsTable, listing_of}
 use Rattle.sd_chain.specs.Catalog.{Opened, images}
 use Rattle.sd_chain.specs.Store.{FindsTip}
-use Rattle.sd_restore.specs.Placed.{memory_at}
+use Rattle.sd_restore.specs.Placed.{memory_at, placed_pages}
+use Rattle.sd_restore.proofs.RunLemmas.{runs_in_slots}
 use Rattle.sd_restore.proofs.MappedLemmas.{contains_map, space_of}
 use Rattle.sd_restore.proofs.ShowLemmas.{pages_in_slots, shows_tip}
 use Rattle.sd_restore.proofs.placing.place_newest.Goals as goal
@@ -14,16 +15,18 @@ use Rattle.sd_restore.proofs.placing.place_newest.Goals as goal
 pub returns-clause-shown : goal.returns-clause-shown
 returns-clause-shown c = λ contents catalog.
     let tip = c.in-Some.tip.now in
-    let pages = c.in_ok-pages.pages.items in
+    let pages = placed_pages c.in_ok-runs.runs.items in
     let finds : FindsTip contents (Some c.in-Some.tip) = subst (FindsTip contents) c.in-Some.is (c.tip.ensures.store contents catalog) in
     let spaces : map listing_of c.as_slice.result.now ≡ tip.spaces = ap (map listing_of) c.as_slice.ensures.value ∙ c.table.ensures in
     subst (λ h. Shows contents (Some (h.checkpoint, memory_at contents (map listing_of c.as_slice.result.now) pages))) (sym c.header.ensures)
     (subst (λ listed. Shows contents (Some (tip.header.checkpoint, memory_at contents listed pages))) (sym spaces)
-    (shows_tip contents c.args.catalog.now c.in-Some.tip pages catalog finds c.in_ok-pages.ensures.placed))
+    (shows_tip contents c.args.catalog.now c.in-Some.tip pages catalog finds c.in_ok-runs.ensures.placed))
 
 pub returns-clause-slots : goal.returns-clause-slots
 returns-clause-slots c = λ count slots.
-    pages_in_slots count c.args.catalog.now c.in-Some.tip.now c.in_ok-pages.pages.items slots c.in-Some.ensures.own c.in-Some.ensures.newest c.in_ok-pages.ensures.placed
+    let runs = c.in_ok-runs.runs.items in
+    runs_in_slots count runs c.in_ok-runs.ensures.within
+    (pages_in_slots count c.args.catalog.now c.in-Some.tip.now (placed_pages runs) slots c.in-Some.ensures.own c.in-Some.ensures.newest c.in_ok-runs.ensures.placed)
 
 pub returns-clause-areas : goal.returns-clause-areas
 returns-clause-areas c = λ k d less.

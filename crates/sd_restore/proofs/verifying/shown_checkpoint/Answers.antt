@@ -3,7 +3,7 @@ use Rattle.sd_image.specs.declared.header.Header.{Header}
 use Rattle.sd_chain.specs.Store.{FindsTip}
 use Rattle.sd_restore.specs.Faulty.{Names}
 use Rattle.sd_restore.specs.Mapped.{mapped_pages}
-use Rattle.sd_restore.specs.Placed.{MeetsBreak, memory_at}
+use Rattle.sd_restore.specs.Placed.{MeetsBreak, memory_at, placed_pages}
 use Rattle.sd_restore.proofs.ScanLemmas.{names_more}
 use Rattle.sd_restore.proofs.ShowLemmas.{no_break, shows_tip}
 use Rattle.sd_restore.proofs.verifying.shown_checkpoint.Goals as goal
@@ -21,7 +21,7 @@ pub returns-clause-shown : goal.returns-clause-shown
 returns-clause-shown c = λ contents catalog.
     let tip = c.in-Some.tip.now in
     let finds : FindsTip contents (Some c.in-Some.tip) = subst (FindsTip contents) c.in-Some.is (c.tip.ensures.store contents catalog) in (
-      Some (tip.header.checkpoint, memory_at contents tip.spaces c.in_ok-place_pages.field-0.items),
-      shows_tip contents c.args.catalog.now c.in-Some.tip c.in_ok-place_pages.field-0.items catalog finds c.in_ok-place_pages.ensures.placed,
+      Some (tip.header.checkpoint, memory_at contents tip.spaces (placed_pages c.in_ok-place_pages.field-0.items)),
+      shows_tip contents c.args.catalog.now c.in-Some.tip (placed_pages c.in_ok-place_pages.field-0.items) catalog finds c.in_ok-place_pages.ensures.placed,
       ap (λ (h : Header). Some h.checkpoint) c.header.ensures,
     )
