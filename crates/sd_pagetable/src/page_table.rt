@@ -1,33 +1,49 @@
-ghost use Rattle.std.specs.Prelude.{◌≡◌, ◌<◌, ◌≤◌, ◌^◌, ℕ, Bool, true, false, Some, None, nat_lt, IsSome, OnOk, OnErr, MatchOption};
+ghost use Rattle.std.specs.Prelude.{◌≡◌, ◌<◌, ◌≤◌, ◌^◌, ℕ, Bool, true, false, Some, None, IsSome, OnOk, OnErr};
 ghost use Rattle.std.specs.FinMap as finmap;
 ghost use Rattle.sd_pagetable.specs.Firsts.{IsFirstFrom};
 
 use crate::entry::Entry;
+use crate::leaf::Leaf;
+use crate::level::Level;
+use crate::node::Node;
 use sd_areas::PageNo;
 use std::alloc::{AllocError, Global};
-use std::collections::BTreeMap;
 use std::marker::Model;
 use std::ops::Bound;
 
-/// The page table of a space: the entry of each mapped page.
+/// Bits 9 to 17 of a page's number choose the place in a lower table, bits 18 to 26 in an upper one,
+/// and bits 27 to 35 in the top.
+type Lower = Level<Leaf>;
+type Upper = Level<Lower>;
+type Top = Level<Upper>;
+
+/// The page table of a space, a tree of four levels: the entry of each mapped page. Without pages it
+/// has no table.
 #[derive(Drop)]
 pub(crate) struct PageTable {
-    entries: BTreeMap<PageNo, Entry>,
+    alloc: Global,
+    top: Option<Box<Top>>,
+    mapped: usize,
 }
 
 impl Model for PageTable {
-    ghost use Rattle.std.specs.Prelude.{ℕ, ◌<◌, ◌^◌, IsSome};
+    ghost use Rattle.std.specs.Prelude.{◌≡◌, ℕ, ◌^◌, Option};
     ghost use Rattle.std.specs.FinMap as finmap;
     ghost use Rattle.std.specs.Coded.{coded_ℕ};
+    ghost use Rattle.std.specs.Option.{option_and_then, ForSome};
     ghost use Rattle.sd_pagetable.specs.Nested.{Table};
     ghost use Rattle.sd_pagetable.specs.View.{entry_code};
+    ghost use Rattle.sd_pagetable.specs.Radix.{table_of};
     ghost use Rattle.sd_pagetable.specs.declared.entry.Entry.{Entry};
 
     ghost Value = { Table Entry };
 
     ghost coded = { finmap.code coded_ℕ entry_code };
 
-    ghost view = { λ t. finmap.from_entries t.entries.entries };
+    ghost view = { λ t. table_of (2 ^ 35) (λ page. option_and_then (λ top. ⟦<Top as Node>⟧.at top.value page) t.top) };
+
+    ghost invariant = { λ t. (ForSome t.top (λ top. ⟦<Top as Node>⟧.IsKept top.value))
+        × (t.mapped ≡ finmap.len (table_of (2 ^ 35) (λ page. option_and_then (λ top. ⟦<Top as Node>⟧.at top.value page) t.top))) };
 }
 
 impl PageTable {
@@ -36,7 +52,9 @@ impl PageTable {
         ensures { result ≡ finmap.empty }
     {
         PageTable {
-            entries: BTreeMap::new(alloc),
+            alloc,
+            top: None,
+            mapped: 0,
         }
     }
 
@@ -44,14 +62,14 @@ impl PageTable {
     pub(crate) fn get(&self, page: PageNo) -> Option<Entry>
         ensures { result ≡ finmap.get self.now page }
     {
-        self.entries.get(&page).copied()
+        self.top.as_ref()?.get(page.number())
     }
 
     /// How many pages are mapped.
     pub(crate) fn len(&self) -> usize
         ensures { result ≡ finmap.len self.now }
     {
-        self.entries.len()
+        self.mapped
     }
 
     /// Puts the entry of a page.
@@ -63,7 +81,16 @@ impl PageTable {
         ensures ok { OnOk result (self.new ≡ finmap.insert self.old page entry) }
         ensures err { OnErr result (self.new ≡ self.old) }
     {
-        self.entries.insert(page, entry)?;
+        let before = match &mut self.top {
+            Some(top) => top.insert(self.alloc, page.number(), entry)?,
+            None => {
+                self.top = Some(Top::with_page(self.alloc, page.number(), entry)?);
+                None
+            }
+        };
+        if before.is_none() {
+            self.mapped += 1;
+        }
         Ok(())
     }
 
@@ -72,21 +99,35 @@ impl PageTable {
         requires { IsSome (finmap.get self.old page) }
         ensures { self.new ≡ finmap.insert self.old page entry }
     {
-        let _ = self.entries.insert(page, entry);
+        if let Some(top) = &mut self.top {
+            let _ = top.insert(self.alloc, page.number(), entry);
+        }
     }
 
     /// Takes the entry of a page out.
     pub(crate) fn remove(&mut self, page: PageNo)
         ensures { self.new ≡ finmap.remove self.old page }
     {
-        self.entries.remove(&page);
+        let Some(top) = &mut self.top else {
+            return;
+        };
+        if top.remove(page.number()).is_some() {
+            self.mapped -= 1;
+        }
+        if top.is_empty() {
+            self.top = None;
+        }
     }
 
     /// The first mapped page from a bound on.
     pub(crate) fn first_from(&self, start: Bound<PageNo>) -> Option<PageNo>
         ensures { IsFirstFrom self.now start result }
     {
-        let (page, _) = self.entries.range((start, Bound::Unbounded)).next()?;
-        Some(*page)
+        let first = match start {
+            Bound::Included(page) => page.number(),
+            Bound::Excluded(page) => page.number() + 1,
+            Bound::Unbounded => 0,
+        };
+        PageNo::new(self.top.as_ref()?.first_from(first)?)
     }
 }

@@ -1,0 +1,86 @@
+ghost use Rattle.std.specs.Prelude.{◌≡◌};
+ghost use Rattle.sd_pagetable.specs.Radix.{leaf_at, IsLeaf};
+
+use crate::entry::Entry;
+use crate::leaf_entry::LeafEntry;
+use crate::node::Node;
+use crate::used_places::{PLACES, UsedPlaces};
+use std::alloc::{AllocError, Global};
+
+/// A table of the lowest level: the entries of up to 512 pages.
+#[derive(Drop)]
+pub(crate) struct Leaf {
+    used: UsedPlaces,
+    entries: [LeafEntry; PLACES],
+}
+
+impl Leaf {
+    /// A leaf without pages.
+    fn new() -> Self {
+        Leaf {
+            used: UsedPlaces::new(),
+            entries: [LeafEntry::UNUSED; PLACES],
+        }
+    }
+
+    /// Puts an entry into a place.
+    fn put(&mut self, place: usize, entry: Entry) {
+        self.entries[place] = LeafEntry::of(entry);
+        self.used.add(place);
+    }
+}
+
+impl Node for Leaf {
+    ghost span = { 512 };
+
+    ghost at = { λ leaf page. leaf_at leaf.used.words leaf.entries page };
+
+    ghost IsKept = { λ leaf. IsLeaf leaf.entries };
+
+    fn span() -> u64 {
+        PLACES as u64
+    }
+
+    fn with_page(alloc: Global, page: u64, entry: Entry) -> Result<Box<Self>, AllocError> {
+        let mut leaf = Box::new(alloc, Leaf::new())?;
+        leaf.put(page as usize, entry);
+        Ok(leaf)
+    }
+
+    fn get(&self, page: u64) -> Option<Entry> {
+        let place = page as usize;
+        if self.used.has(place) {
+            Some(self.entries[place].entry())
+        } else {
+            None
+        }
+    }
+
+    fn insert(
+        &mut self,
+        _alloc: Global,
+        page: u64,
+        entry: Entry,
+    ) -> Result<Option<Entry>, AllocError> {
+        let before = self.get(page);
+        self.put(page as usize, entry);
+        Ok(before)
+    }
+
+    fn remove(&mut self, page: u64) -> Option<Entry> {
+        let before = self.get(page);
+        self.used.remove(page as usize);
+        before
+    }
+
+    fn first_from(&self, page: u64) -> Option<u64> {
+        let place = self.used.next(page as usize)?;
+        Some(place as u64)
+    }
+
+    fn is_empty(&self) -> bool {
+        self.used.next(0).is_none()
+    }
+
+    ghost some_span = { Prim.search };
+}
