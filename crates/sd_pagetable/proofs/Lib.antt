@@ -31,3 +31,6 @@ pub mod FilledLemmas
 pub mod LoadedLemmas
 pub mod SnapshotLemmas
 pub mod LoadingLemmas
+pub mod UsedLemmas
+pub mod LevelLemmas
+pub mod TableOfLemmas

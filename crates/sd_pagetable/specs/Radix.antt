@@ -19,6 +19,16 @@ IsNextUsed words from None = (place : ℕ) → from ≤ place → is_used words 
 IsNextUsed words from (Some next) = (from ≤ next) × (next < 512) × (is_used words next ≡ true)
     × ((place : ℕ) → from ≤ place → place < next → is_used words place ≡ false)
 
+-- the first used place from one on, among the 64 places of a word
+abbrev pub IsNextInWord : List ℕ → ℕ → ℕ → Option ℕ → Type 0
+IsNextInWord words word from None = (place : ℕ) → from ≤ place → place / 64 ≡ word → is_used words place ≡ false
+IsNextInWord words word from (Some next) = (from ≤ next) × (next / 64 ≡ word) × (is_used words next ≡ true)
+    × ((place : ℕ) → from ≤ place → place < next → place / 64 ≡ word → is_used words place ≡ false)
+
+-- the first bit of a word whose place isn't before another
+abbrev pub IsFirstBitOf : ℕ → ℕ → ℕ → Type 0
+IsFirstBitOf word from bit = (from ≤ word * 64 + bit) × ((place : ℕ) → from ≤ place → place / 64 ≡ word → bit ≤ place % 64)
+
 -- the first set bit of a word from one on, below 64
 abbrev pub IsNextBit : ℕ → ℕ → Option ℕ → Type 0
 IsNextBit word from None = (bit : ℕ) → from ≤ bit → bit_at word bit ≡ 0
@@ -54,6 +64,12 @@ abbrev pub IsFirstAt : ℕ → (ℕ → Option Entry) → ℕ → Option ℕ →
 IsFirstAt limit at from None = (page : ℕ) → from ≤ page → at page ≡ None
 IsFirstAt limit at from (Some first) = (from ≤ first) × (first < limit) × IsSome (at first)
     × ((page : ℕ) → from ≤ page → page < first → at page ≡ None)
+
+-- the first mapped page from one on, among those of the table in a place; that one counts from the table's first page
+abbrev pub IsFirstIn : ℕ → (ℕ → Option Entry) → ℕ → ℕ → Option ℕ → Type 0
+IsFirstIn span at place from None = (page : ℕ) → page / span ≡ place → from ≤ page % span → at page ≡ None
+IsFirstIn span at place from (Some first) = (first / span ≡ place) × (from ≤ first % span) × IsSome (at first)
+    × ((page : ℕ) → page / span ≡ place → from ≤ page % span → page < first → at page ≡ None)
 
 -- a table above the lowest level has 512 places; its bits say which have a table; each table below is kept, and has a page
 pub record IsLevel {X : Type 0} (at : X → ℕ → Option Entry) (IsKept : X → Type 0) (span : ℕ) (words : List ℕ) (tables : List (Option X)) : Type 0 where

@@ -1,6 +1,6 @@
 //! Which of a table's 512 places are used, a bit for each.
-ghost use Rattle.std.specs.Prelude.{◌≡◌, ℕ, ◌+◌, ◌<◌, ◌≤◌, ◌==◌, ◌||◌, ◌&&◌, not, true, false, IfSome, IfNone};
-ghost use Rattle.sd_pagetable.specs.Radix.{is_used, IsNextUsed, IsNextBit};
+ghost use Rattle.std.specs.Prelude.{◌≡◌, ℕ, ◌+◌, ◌/◌, ◌<◌, ◌≤◌, ◌==◌, ◌||◌, ◌&&◌, not, true, false, IfSome, IfNone};
+ghost use Rattle.sd_pagetable.specs.Radix.{is_used, IsNextUsed, IsNextInWord, IsFirstBitOf, IsNextBit};
 
 /// How many places a table has.
 pub(crate) const PLACES: usize = 512;
@@ -57,12 +57,36 @@ impl UsedPlaces {
         ensures { IsNextUsed self.now.words from result }
     {
         for word in from / WORD_BITS..WORDS {
-            let low = if word == from / WORD_BITS { from % WORD_BITS } else { 0 };
-            if let Some(bit) = next_bit(self.words[word], low) {
-                return Some(word * WORD_BITS + bit);
+            let found = self.next_in_word(word, from);
+            if found.is_some() {
+                return found;
             }
         }
         None
+    }
+
+    /// The first used place from one on, among those of a word.
+    fn next_in_word(&self, word: usize, from: usize) -> Option<usize>
+        requires within { word < 8 }
+        requires reached { from / 64 ≤ word }
+        ensures { IsNextInWord self.now.words word from result }
+    {
+        let low = first_bit_of(word, from);
+        let bit = next_bit(self.words[word], low)?;
+        Some(word * WORD_BITS + bit)
+    }
+}
+
+/// The first bit of a word whose place isn't before another.
+fn first_bit_of(word: usize, from: usize) -> usize
+    requires { from / 64 ≤ word }
+    ensures within { result < 64 }
+    ensures first { IsFirstBitOf word from result }
+{
+    if word == from / WORD_BITS {
+        from % WORD_BITS
+    } else {
+        0
     }
 }
 
