@@ -1,5 +1,5 @@
 -- The used places of a table, as bits of words.
-use Rattle.std.proofs.Common.{◌≡◌, ℕ, ◌+◌, ◌-◌, ◌*◌, ◌/◌, ◌%◌, ◌^◌, ◌<◌, ◌≤◌, Bool, true, false, not, ◌&&◌, ◌||◌, nat_eq, List, length, set, get_or, Option, Some, None, refl, sym, ◌∙◌, ap, inl, inr, arith, get_or-set_other, get_or-set_same}
+use Rattle.std.proofs.Common.{◌≡◌, ℕ, ◌+◌, ◌-◌, ◌*◌, ◌/◌, ◌%◌, ◌^◌, ◌<◌, ◌≤◌, Bool, true, false, not, ◌&&◌, ◌||◌, nat_eq, is_some, List, length, set, get_or, Option, Some, None, refl, sym, ◌∙◌, ap, inl, inr, arith, get_or-set_other, get_or-set_same}
 use Rattle.std.specs.Int.{bit_at, bit_not, trailing_zeros, w64}
 use Rattle.std.specs.Int.Bits.{bit_and, bit_or}
 use Rattle.std.proofs.lemmas.Bool.{cases_eq, cases_lt, eq-eqb, ne_eqb, or_left, and_left, not_from_true}
@@ -109,3 +109,25 @@ module _ (words : List ℕ) (word from low : ℕ) (first : IsFirstBitOf word fro
         eq-eqb (bit_at (get_or words ((word * 64 + bit) / 64) 0) ((word * 64 + bit) % 64)) 1 (ap (λ w. bit_at (get_or words w 0) ((word * 64 + bit) % 64)) d ∙ ap (bit_at (get_or words word 0)) m ∙ some.2),
         λ place l b here. unset place here (some.3 (place % 64) (first.1 place l here) (omega arith)),
       )
+
+module _ (words : List ℕ) (word from : ℕ) (below : (place : ℕ) → from ≤ place → place / 64 < word → is_used words place ≡ false) where
+  -- no place of the word is used either
+  pub next_more : (o : Option ℕ) → is_some o ≡ false → IsNextInWord words word from o → (place : ℕ) → from ≤ place → place / 64 < word + 1 → is_used words place ≡ false
+  next_more None e none = λ place l m. elim (cases_lt (place / 64) word) [
+    | inl b ↦ below place l b
+    | inr g ↦ none place l (omega arith)
+  ]
+  next_more (Some next) e some = absurd (let f : true ≡ false = e in cc)
+
+  -- the first used place is one of the word
+  pub next_found : (o : Option ℕ) → is_some o ≡ true → word < 8 → IsNextInWord words word from o → IsNextUsed words from o
+  next_found None e w none = absurd (let f : false ≡ true = e in cc)
+  next_found (Some next) e w some = (
+    some.0,
+    (let d = some.1 in omega arith),
+    some.2,
+    λ place l b. elim (cases_lt (place / 64) word) [
+      | inl m ↦ below place l m
+      | inr g ↦ some.3 place l b (let d = some.1 in omega arith)
+    ],
+  )

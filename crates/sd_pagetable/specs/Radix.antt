@@ -43,10 +43,6 @@ entry_in e = record { prot = e.prot; frame = if e.framed then Some e.frame else 
 abbrev pub leaf_at : List ℕ → List LeafEntry → ℕ → Option Entry
 leaf_at words entries page = if is_used words page then option_map entry_in (slice_get entries page) else None
 
--- a leaf has 512 places
-abbrev pub IsLeaf : List LeafEntry → Type 0
-IsLeaf entries = length entries ≡ 512
-
 -- the table in a place
 abbrev pub table_in : {X : Type 0} → List (Option X) → ℕ → Option X
 table_in tables place = option_and_then (λ table. table) (slice_get tables place)

@@ -1,5 +1,4 @@
-ghost use Rattle.std.specs.Prelude.{◌≡◌};
-ghost use Rattle.sd_pagetable.specs.Radix.{leaf_at, IsLeaf};
+ghost use Rattle.std.specs.Prelude.{◌≡◌, ℕ, ◌==◌, ◌<◌, if◌then◌else◌, Some, None};
 
 use crate::entry::Entry;
 use crate::leaf_entry::LeafEntry;
@@ -15,8 +14,12 @@ pub(crate) struct Leaf {
 }
 
 impl Leaf {
+    ghost use Rattle.sd_pagetable.specs.Radix.{leaf_at};
+
     /// A leaf without pages.
-    fn new() -> Self {
+    fn new() -> Self
+        ensures { (page : ℕ) → leaf_at result.used.words result.entries page ≡ None }
+    {
         Leaf {
             used: UsedPlaces::new(),
             entries: [LeafEntry::UNUSED; PLACES],
@@ -24,18 +27,24 @@ impl Leaf {
     }
 
     /// Puts an entry into a place.
-    fn put(&mut self, place: usize, entry: Entry) {
+    fn put(&mut self, place: usize, entry: Entry)
+        requires { place < 512 }
+        ensures { (page : ℕ) → leaf_at self.new.used.words self.new.entries page
+            ≡ (if page == place then Some entry else leaf_at self.old.used.words self.old.entries page) }
+    {
         self.entries[place] = LeafEntry::of(entry);
         self.used.add(place);
     }
 }
 
 impl Node for Leaf {
+    ghost use Rattle.sd_pagetable.specs.Radix.{leaf_at};
+
     ghost span = { 512 };
 
     ghost at = { λ leaf page. leaf_at leaf.used.words leaf.entries page };
 
-    ghost IsKept = { λ leaf. IsLeaf leaf.entries };
+    ghost IsKept = { λ _. Unit {0} };
 
     fn span() -> u64 {
         PLACES as u64
