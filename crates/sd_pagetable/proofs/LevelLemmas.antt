@@ -7,7 +7,7 @@ use Rattle.std.proofs.lemmas.Nat.{div-mul-add, mod-mul-add, div-add-mod', mul-ad
 use Rattle.std.proofs.lemmas.Option.{same_Some}
 use Rattle.std.proofs.Math.Nat.{div-mul-le_self, mul-le-mul_right}
 use Rattle.sd_pagetable.specs.declared.entry.Entry.{Entry}
-use Rattle.sd_pagetable.specs.Radix.{is_used, table_in, level_at, HasPage, IsFirstAt, IsFirstIn, IsNextUsed, IsLevel}
+use Rattle.sd_pagetable.specs.Radix.{is_used, slot_at, table_in, level_at, HasPage, IsFirstAt, IsFirstIn, IsNextUsed, IsSlot, IsLevel}
 use Rattle.sd_pagetable.proofs.FrameLemmas.{got_set, got_other}
 use Rattle.sd_pagetable.proofs.TableLemmas.{some_of, not_none, none_of}
 
@@ -48,10 +48,6 @@ place_within span page pos l = elim (cases_lt (page / span) 512) [
 ]
 
 module _ {X : Type 0} (at : X → ℕ → Option Entry) (span : ℕ) where
-  -- what a place has at a page of its table
-  abbrev pub place_at : Option X → ℕ → Option Entry
-  place_at o page = option_and_then (λ table. at table page) o
-
   same_tests : (other page : ℕ) → other / span ≡ page / span → nat_eq (other % span) (page % span) ≡ nat_eq other page
   same_tests other page q = elim (cases_eq (other % span) (page % span)) [
     | inl m ↦ eq-eqb (other % span) (page % span) m ∙ sym (eq-eqb other page (same_page span other page q m))
@@ -60,25 +56,25 @@ module _ {X : Type 0} (at : X → ℕ → Option Entry) (span : ℕ) where
 
   -- a place was changed at one page
   pub changed : (tables : List (Option X)) (page : ℕ) (o : Option X) (x : Option Entry) → page / span < length tables
-      → ((other : ℕ) → place_at o other ≡ cond (nat_eq other (page % span)) x (place_at (table_in tables (page / span)) other))
+      → ((other : ℕ) → slot_at at o other ≡ cond (nat_eq other (page % span)) x (slot_at at (table_in tables (page / span)) other))
       → (other : ℕ) → level_at at span (set tables (page / span) o) other ≡ cond (nat_eq other page) x (level_at at span tables other)
   changed tables page o x l is other = elim (cases_eq (other / span) (page / span)) [
-    | inl same ↦ ap (λ p. place_at (table_in (set tables (page / span) o) p) (other % span)) same
-        ∙ ap (λ s. place_at (option_and_then (λ table. table) s) (other % span)) (got_set tables (page / span) o l)
+    | inl same ↦ ap (λ p. slot_at at (table_in (set tables (page / span) o) p) (other % span)) same
+        ∙ ap (λ s. slot_at at (option_and_then (λ table. table) s) (other % span)) (got_set tables (page / span) o l)
         ∙ is (other % span)
-        ∙ ap (λ p. cond (nat_eq (other % span) (page % span)) x (place_at (table_in tables p) (other % span))) (sym same)
+        ∙ ap (λ p. cond (nat_eq (other % span) (page % span)) x (slot_at at (table_in tables p) (other % span))) (sym same)
         ∙ ap (λ b. cond b x (level_at at span tables other)) (same_tests other page same)
-    | inr apart ↦ ap (λ s. place_at (option_and_then (λ table. table) s) (other % span)) (got_other tables (page / span) (other / span) o apart)
+    | inr apart ↦ ap (λ s. slot_at at (option_and_then (λ table. table) s) (other % span)) (got_other tables (page / span) (other / span) o apart)
         ∙ sym (cond-false (nat_eq other page) x (level_at at span tables other) (ne_eqb other page (λ e. apart (ap (λ k. k / span) e))))
   ]
 
   -- ---- the first page from one on
   pub first_in_nothing : (tables : List (Option X)) (place from : ℕ) → table_in tables place ≡ None → IsFirstIn span (level_at at span tables) place from None
-  first_in_nothing tables place from none page q l = ap (λ p. place_at (table_in tables p) (page % span)) q ∙ ap (λ o. place_at o (page % span)) none
+  first_in_nothing tables place from none page q l = ap (λ p. slot_at at (table_in tables p) (page % span)) q ∙ ap (λ o. slot_at at o (page % span)) none
 
   module _ (tables : List (Option X)) (place from : ℕ) (table : X) (there : table_in tables place ≡ Some table) where
     at_place : (page : ℕ) → page / span ≡ place → level_at at span tables page ≡ at table (page % span)
-    at_place page q = ap (λ p. place_at (table_in tables p) (page % span)) q ∙ ap (λ o. place_at o (page % span)) there
+    at_place page q = ap (λ p. slot_at at (table_in tables p) (page % span)) q ∙ ap (λ o. slot_at at o (page % span)) there
 
     pub first_in_none : IsFirstAt span (at table) from None → IsFirstIn span (level_at at span tables) place from None
     first_in_none none page q l = at_place page q ∙ none (page % span) l
@@ -109,7 +105,10 @@ module _ {X : Type 0} (at : X → ℕ → Option Entry) (IsKept : X → Type 0) 
   unused place e = none_of (table_in tables place) (sym (kept.used place) ∙ e)
 
   unused_at : (page : ℕ) → is_used words (page / span) ≡ false → level_at at span tables page ≡ None
-  unused_at page e = ap (λ o. place_at at span o (page % span)) (unused (page / span) e)
+  unused_at page e = ap (λ o. slot_at at o (page % span)) (unused (page / span) e)
+
+  slot_of : (place : ℕ) (table : X) → table_in tables place ≡ Some table → IsKept table × HasPage span (at table)
+  slot_of place table e = subst (λ (o : Option X). IsSlot at IsKept span o) e (kept.slots place)
 
   pub used_table : (place : ℕ) → is_used words place ≡ true → (table : X) × (table_in tables place ≡ Some table)
   used_table place e = some_of (table_in tables place) (sym (kept.used place) ∙ e)
@@ -120,7 +119,7 @@ module _ {X : Type 0} (at : X → ℕ → Option Entry) (IsKept : X → Type 0) 
   pub some_used : (place : ℕ) → IsNextUsed words 0 (Some place) → HasPage (512 * span) (level_at at span tables)
   some_used place next =
       let found = used_table place next.2 in
-      has_page at span tables place 0 found.0 found.1 pos next.1 (kept.below place found.0 found.1).1
+      has_page at span tables place 0 found.0 found.1 pos next.1 (slot_of place found.0 found.1).1
 
   module _ (page place : ℕ) (here : page / span ≡ place) where
     -- it is found in the page's own table
@@ -176,26 +175,26 @@ module _ {X : Type 0} (at : X → ℕ → Option Entry) (IsKept : X → Type 0) 
         pub never_none : IsFirstIn span (level_at at span tables) after 0 None → ⊥
         never_none none =
             let found = used_table after next.2 in
-            let has = (kept.below after found.0 found.1).1 in
+            let has = (slot_of after found.0 found.1).1 in
             let l = has.1 in
             let d : (after * span + has.0) / span ≡ after = div-mul-add after span has.0 l in
             let m : (after * span + has.0) % span ≡ has.0 = mod-mul-add after span has.0 l in
             not_none (at found.0 has.0)
-            (sym (ap (λ p. place_at at span (table_in tables p) ((after * span + has.0) % span)) d ∙ ap (λ o. place_at at span o ((after * span + has.0) % span)) found.1 ∙ ap (at found.0) m)
+            (sym (ap (λ p. slot_at at (table_in tables p) ((after * span + has.0) % span)) d ∙ ap (λ o. slot_at at o ((after * span + has.0) % span)) found.1 ∙ ap (at found.0) m)
             ∙ none (after * span + has.0) d (omega arith)) has.2
 
   -- ---- a table is kept after a change
-  pub kept_set : (after : List ℕ) (place : ℕ) (o : Option X) → place < 512 → ((table : X) → o ≡ Some table → IsKept table × HasPage span (at table))
+  pub kept_set : (after : List ℕ) (place : ℕ) (o : Option X) → place < 512 → IsSlot at IsKept span o
       → ((other : ℕ) → is_used after other ≡ cond (nat_eq other place) (is_some o) (is_used words other)) → IsLevel at IsKept span after (set tables place o)
-  kept_set after place o l below bits = record {
+  kept_set after place o l slot bits = record {
     places = length-set tables place o ∙ kept.places;
     used = λ other. elim (cases_eq other place) [
       | inl same ↦ bits other ∙ cond-true (nat_eq other place) (is_some o) (is_used words other) (eq-eqb other place same) ∙ sym (ap is_some (here other same))
       | inr apart ↦ bits other ∙ cond-false (nat_eq other place) (is_some o) (is_used words other) (ne_eqb other place apart) ∙ kept.used other ∙ sym (ap is_some (there other apart))
     ];
-    below = λ other table e. elim (cases_eq other place) [
-      | inl same ↦ below table (sym (here other same) ∙ e)
-      | inr apart ↦ kept.below other table (sym (there other apart) ∙ e)
+    slots = λ other. elim (cases_eq other place) [
+      | inl same ↦ subst (λ (s : Option X). IsSlot at IsKept span s) (sym (here other same)) slot
+      | inr apart ↦ subst (λ (s : Option X). IsSlot at IsKept span s) (sym (there other apart)) (kept.slots other)
     ];
   }
     where
@@ -214,7 +213,7 @@ pub bits_removed : (b u : Bool) → (not b && u) ≡ cond b false u
 bits_removed true u = refl
 bits_removed false u = refl
 
-pub bits_kept : (words : List ℕ) (place : ℕ) → is_used words place ≡ true → (other : ℕ) → is_used words other ≡ cond (nat_eq other place) true (is_used words other)
+pub bits_same : (words : List ℕ) (place : ℕ) → is_used words place ≡ true → (other : ℕ) → is_used words other ≡ cond (nat_eq other place) true (is_used words other)
 bits_kept words place e other = elim (cases_eq other place) [
   | inl same ↦ ap (is_used words) same ∙ e ∙ sym (cond-true (nat_eq other place) true (is_used words other) (eq-eqb other place same))
   | inr apart ↦ sym (cond-false (nat_eq other place) true (is_used words other) (ne_eqb other place apart))

@@ -34,3 +34,5 @@ pub mod LoadingLemmas
 pub mod UsedLemmas
 pub mod LevelLemmas
 pub mod TableOfLemmas
+pub mod LeafLemmas
+pub mod SlotLemmas

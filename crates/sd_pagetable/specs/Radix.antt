@@ -1,7 +1,7 @@
 -- A page table as a tree of tables of 512 places.
 use Rattle.std.specs.Prelude.{◌≡◌, ℕ, ◌+◌, ◌*◌, ◌/◌, ◌%◌, ◌<◌, ◌≤◌, ◌==◌, Bool, true, false, List, length, map, slice_index, Option, Some, None, is_some, IsSome, if◌then◌else◌}
 use Rattle.std.specs.List.{slice_get, filter_map}
-use Rattle.std.specs.Option.{option_map, option_and_then}
+use Rattle.std.specs.Option.{option_map, option_and_then, ForSome}
 use Rattle.std.specs.Int.{bit_at}
 use Rattle.std.specs.FinMap as finmap
 use Rattle.sd_areas.specs.Pages.{pages_from}
@@ -43,13 +43,17 @@ entry_in e = record { prot = e.prot; frame = if e.framed then Some e.frame else 
 abbrev pub leaf_at : List ℕ → List LeafEntry → ℕ → Option Entry
 leaf_at words entries page = if is_used words page then option_map entry_in (slice_get entries page) else None
 
+-- what a place for a table has at a page of that
+abbrev pub slot_at : {X : Type 0} → (X → ℕ → Option Entry) → Option X → ℕ → Option Entry
+slot_at at slot page = option_and_then (λ table. at table page) slot
+
 -- the table in a place
 abbrev pub table_in : {X : Type 0} → List (Option X) → ℕ → Option X
 table_in tables place = option_and_then (λ table. table) (slice_get tables place)
 
 -- what a table above the lowest level has at a page, where each table below spans so many pages
 abbrev pub level_at : {X : Type 0} → (X → ℕ → Option Entry) → ℕ → List (Option X) → ℕ → Option Entry
-level_at at span tables page = option_and_then (λ table. at table (page % span)) (table_in tables (page / span))
+level_at at span tables page = slot_at at (table_in tables (page / span)) (page % span)
 
 -- some page below a limit is mapped
 abbrev pub HasPage : ℕ → (ℕ → Option Entry) → Type 0
@@ -67,11 +71,15 @@ IsFirstIn span at place from None = (page : ℕ) → page / span ≡ place → f
 IsFirstIn span at place from (Some first) = (first / span ≡ place) × (from ≤ first % span) × IsSome (at first)
     × ((page : ℕ) → page / span ≡ place → from ≤ page % span → page < first → at page ≡ None)
 
--- a table above the lowest level has 512 places; its bits say which have a table; each table below is kept, and has a page
+-- a place has no table, or one that is kept and has a page
+abbrev pub IsSlot : {X : Type 0} → (X → ℕ → Option Entry) → (X → Type 0) → ℕ → Option X → Type 0
+IsSlot at IsKept span slot = ForSome slot (λ table. IsKept table × HasPage span (at table))
+
+-- a table above the lowest level has 512 places; its bits say which have a table
 pub record IsLevel {X : Type 0} (at : X → ℕ → Option Entry) (IsKept : X → Type 0) (span : ℕ) (words : List ℕ) (tables : List (Option X)) : Type 0 where
   pub places : length tables ≡ 512
   pub used : (place : ℕ) → is_used words place ≡ is_some (table_in tables place)
-  pub below : (place : ℕ) (table : X) → table_in tables place ≡ Some table → IsKept table × HasPage span (at table)
+  pub slots : (place : ℕ) → IsSlot at IsKept span (table_in tables place)
 
 -- the table that has at each page below a limit what a function says
 unfoldable pub table_of : ℕ → (ℕ → Option Entry) → Table Entry

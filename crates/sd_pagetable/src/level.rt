@@ -1,8 +1,9 @@
-ghost use Rattle.std.specs.Prelude.{◌≡◌, ℕ, ◌*◌};
-ghost use Rattle.sd_pagetable.specs.Radix.{level_at, IsLevel};
+ghost use Rattle.std.specs.Prelude.{◌≡◌, ℕ, ◌+◌, ◌*◌, ◌/◌, ◌%◌, ◌^◌, ◌<◌, ◌≤◌, ◌==◌, ◌||◌, None, Some, length, slice_set};
+ghost use Rattle.sd_pagetable.specs.Radix.{is_used, table_in, level_at, IsFirstIn, IsLevel};
 
 use crate::entry::Entry;
 use crate::node::Node;
+use crate::slot::{first_in, get_in, insert_in, remove_in};
 use crate::used_places::{PLACES, UsedPlaces};
 use std::alloc::{AllocError, Global};
 use std::array;
@@ -16,23 +17,25 @@ pub(crate) struct Level<T: Node> {
 
 impl<T: Node> Level<T> {
     /// A table without tables.
-    fn new() -> Self {
+    fn new() -> Self
+        ensures tables { (place : ℕ) → table_in result.tables place ≡ None }
+        ensures used { (place : ℕ) → is_used result.used.words place ≡ false }
+    {
         Level {
             used: UsedPlaces::new(),
             tables: array::from_fn(|_| None),
         }
     }
 
-    /// Puts a table into a place.
-    fn put(&mut self, place: usize, table: Box<T>) {
-        self.tables[place] = Some(table);
-        self.used.add(place);
-    }
-
     /// The first page from one on, of the table in a place.
-    fn first_in(&self, place: usize, page: u64) -> Option<u64> {
-        let table = self.tables[place].as_ref()?;
-        let found = table.first_from(page)?;
+    fn first_of(&self, place: usize, page: u64) -> Option<u64>
+        requires fits { 512 * T.span ≤ 2 ^ 36 }
+        requires place { place < 512 }
+        requires page { page < T.span }
+        requires kept { IsLevel (λ table. T.at table.value) (λ table. T.IsKept table.value) T.span self.now.used.words self.now.tables }
+        ensures { IsFirstIn T.span (level_at (λ table. T.at table.value) T.span self.now.tables) place page result }
+    {
+        let found = first_in(&self.tables[place], page)?;
         Some(place as u64 * T::span() + found)
     }
 }
@@ -49,15 +52,14 @@ impl<T: Node> Node for Level<T> {
     }
 
     fn with_page(alloc: Global, page: u64, entry: Entry) -> Result<Box<Self>, AllocError> {
-        let table = T::with_page(alloc, page % T::span(), entry)?;
         let mut level = Box::new(alloc, Level::new())?;
-        level.put((page / T::span()) as usize, table);
+        level.insert(alloc, page, entry)?;
         Ok(level)
     }
 
     fn get(&self, page: u64) -> Option<Entry> {
-        let table = self.tables[(page / T::span()) as usize].as_ref()?;
-        table.get(page % T::span())
+        let place = (page / T::span()) as usize;
+        get_in(&self.tables[place], page % T::span())
     }
 
     fn insert(
@@ -67,20 +69,15 @@ impl<T: Node> Node for Level<T> {
         entry: Entry,
     ) -> Result<Option<Entry>, AllocError> {
         let place = (page / T::span()) as usize;
-        if let Some(table) = &mut self.tables[place] {
-            return table.insert(alloc, page % T::span(), entry);
-        }
-        let table = T::with_page(alloc, page % T::span(), entry)?;
-        self.put(place, table);
-        Ok(None)
+        let before = insert_in(&mut self.tables[place], alloc, page % T::span(), entry)?;
+        self.used.add(place);
+        Ok(before)
     }
 
     fn remove(&mut self, page: u64) -> Option<Entry> {
         let place = (page / T::span()) as usize;
-        let table = self.tables[place].as_mut()?;
-        let before = table.remove(page % T::span());
-        if table.is_empty() {
-            self.tables[place] = None;
+        let before = remove_in(&mut self.tables[place], page % T::span());
+        if self.tables[place].is_none() {
             self.used.remove(place);
         }
         before
@@ -88,12 +85,12 @@ impl<T: Node> Node for Level<T> {
 
     fn first_from(&self, page: u64) -> Option<u64> {
         let place = (page / T::span()) as usize;
-        let found = self.first_in(place, page % T::span());
+        let found = self.first_of(place, page % T::span());
         if found.is_some() {
             return found;
         }
         let next = self.used.next(place + 1)?;
-        self.first_in(next, 0)
+        self.first_of(next, 0)
     }
 
     fn is_empty(&self) -> bool {

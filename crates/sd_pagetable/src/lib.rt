@@ -23,6 +23,7 @@ mod paging;
 mod range_calls;
 mod ranges;
 mod segv;
+mod slot;
 mod store_outcome;
 mod tables;
 mod used_places;

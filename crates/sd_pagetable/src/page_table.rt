@@ -6,6 +6,7 @@ use crate::entry::Entry;
 use crate::leaf::Leaf;
 use crate::level::Level;
 use crate::node::Node;
+use crate::slot::{first_in, get_in, insert_in, remove_in};
 use sd_areas::PageNo;
 use std::alloc::{AllocError, Global};
 use std::marker::Model;
@@ -27,23 +28,22 @@ pub(crate) struct PageTable {
 }
 
 impl Model for PageTable {
-    ghost use Rattle.std.specs.Prelude.{◌≡◌, ℕ, ◌^◌, Option};
+    ghost use Rattle.std.specs.Prelude.{◌≡◌, ℕ, ◌^◌};
     ghost use Rattle.std.specs.FinMap as finmap;
     ghost use Rattle.std.specs.Coded.{coded_ℕ};
-    ghost use Rattle.std.specs.Option.{option_and_then, ForSome};
     ghost use Rattle.sd_pagetable.specs.Nested.{Table};
     ghost use Rattle.sd_pagetable.specs.View.{entry_code};
-    ghost use Rattle.sd_pagetable.specs.Radix.{table_of};
+    ghost use Rattle.sd_pagetable.specs.Radix.{table_of, slot_at, IsSlot};
     ghost use Rattle.sd_pagetable.specs.declared.entry.Entry.{Entry};
 
     ghost Value = { Table Entry };
 
     ghost coded = { finmap.code coded_ℕ entry_code };
 
-    ghost view = { λ t. table_of (2 ^ 35) (λ page. option_and_then (λ top. ⟦<Top as Node>⟧.at top.value page) t.top) };
+    ghost view = { λ t. table_of (2 ^ 35) (slot_at (λ top. ⟦<Top as Node>⟧.at top.value) t.top) };
 
-    ghost invariant = { λ t. (ForSome t.top (λ top. ⟦<Top as Node>⟧.IsKept top.value))
-        × (t.mapped ≡ finmap.len (table_of (2 ^ 35) (λ page. option_and_then (λ top. ⟦<Top as Node>⟧.at top.value page) t.top))) };
+    ghost invariant = { λ t. IsSlot (λ top. ⟦<Top as Node>⟧.at top.value) (λ top. ⟦<Top as Node>⟧.IsKept top.value) (2 ^ 36) t.top
+        × (t.mapped ≡ finmap.len (table_of (2 ^ 35) (slot_at (λ top. ⟦<Top as Node>⟧.at top.value) t.top))) };
 }
 
 impl PageTable {
@@ -62,7 +62,7 @@ impl PageTable {
     pub(crate) fn get(&self, page: PageNo) -> Option<Entry>
         ensures { result ≡ finmap.get self.now page }
     {
-        self.top.as_ref()?.get(page.number())
+        get_in(&self.top, page.number())
     }
 
     /// How many pages are mapped.
@@ -81,13 +81,7 @@ impl PageTable {
         ensures ok { OnOk result (self.new ≡ finmap.insert self.old page entry) }
         ensures err { OnErr result (self.new ≡ self.old) }
     {
-        let before = match &mut self.top {
-            Some(top) => top.insert(self.alloc, page.number(), entry)?,
-            None => {
-                self.top = Some(Top::with_page(self.alloc, page.number(), entry)?);
-                None
-            }
-        };
+        let before = insert_in(&mut self.top, self.alloc, page.number(), entry)?;
         if before.is_none() {
             self.mapped += 1;
         }
@@ -99,23 +93,15 @@ impl PageTable {
         requires { IsSome (finmap.get self.old page) }
         ensures { self.new ≡ finmap.insert self.old page entry }
     {
-        if let Some(top) = &mut self.top {
-            let _ = top.insert(self.alloc, page.number(), entry);
-        }
+        let _ = insert_in(&mut self.top, self.alloc, page.number(), entry);
     }
 
     /// Takes the entry of a page out.
     pub(crate) fn remove(&mut self, page: PageNo)
         ensures { self.new ≡ finmap.remove self.old page }
     {
-        let Some(top) = &mut self.top else {
-            return;
-        };
-        if top.remove(page.number()).is_some() {
+        if remove_in(&mut self.top, page.number()).is_some() {
             self.mapped -= 1;
-        }
-        if top.is_empty() {
-            self.top = None;
         }
     }
 
@@ -128,6 +114,6 @@ impl PageTable {
             Bound::Excluded(page) => page.number() + 1,
             Bound::Unbounded => 0,
         };
-        PageNo::new(self.top.as_ref()?.first_from(first)?)
+        PageNo::new(first_in(&self.top, first)?)
     }
 }
