@@ -1,4 +1,4 @@
-ghost use Rattle.std.specs.Prelude.{◌≡◌, ℕ, ◌+◌, ◌*◌, ◌/◌, ◌%◌, ◌^◌, ◌<◌, ◌≤◌, ◌==◌, ◌||◌, None, Some, length, slice_set};
+ghost use Rattle.std.specs.Prelude.{◌≡◌, ℕ, ◌+◌, ◌*◌, ◌/◌, ◌%◌, ◌^◌, ◌<◌, ◌≤◌, ◌==◌, ◌||◌, false, None};
 ghost use Rattle.sd_pagetable.specs.Radix.{is_used, table_in, level_at, IsFirstIn, IsLevel};
 
 use crate::entry::Entry;
@@ -76,8 +76,9 @@ impl<T: Node> Node for Level<T> {
 
     fn remove(&mut self, page: u64) -> Option<Entry> {
         let place = (page / T::span()) as usize;
-        let before = remove_in(&mut self.tables[place], page % T::span());
-        if self.tables[place].is_none() {
+        let slot = &mut self.tables[place];
+        let before = remove_in(slot, page % T::span());
+        if slot.is_none() {
             self.used.remove(place);
         }
         before
