@@ -1,18 +1,20 @@
 -- The table that has at each page what a function says.
 use Rattle.std.proofs.Common.{◌≡◌, ℕ, zero, suc, ◌+◌, ◌-◌, ◌<◌, ◌≤◌, Bool, true, false, cond, ◌||◌, nat_eq, nat_le, is_some, IsSome, List, [], ◌∷◌, length, Option, Some, None, refl, sym, ◌∙◌, ap, subst, inl, inr, arith}
 use Rattle.std.specs.List.{filter_map, cons_option}
-use Rattle.std.specs.Option.{option_map}
+use Rattle.std.specs.Option.{option_map, IfSome}
+use Rattle.std.specs.Prelude.{Result, Ok, Err, OnOk, OnErr}
 use Rattle.std.specs.Ordering.{nat_cmp, eq_by_cmp}
 use Rattle.std.specs.Cmp.{nat_cmp_total}
 use Rattle.std.specs.FinMap as finmap
-use Rattle.std.specs.FinMap.{find, get-empty, get-from_entries, len-empty, len-insert, len-remove}
+use Rattle.std.specs.FinMap.{find, get-empty, get-from_entries, len-empty, len-insert, len-remove, empty_of_len}
 use Rattle.std.specs.declared.ops.Bound.{Bound}
 use Rattle.std.specs.declared.ops.Bound.TheVariants.{Included, Excluded, Unbounded}
-use Rattle.std.proofs.lemmas.Bool.{cases_Bool, cases_lt, eq-eqb, cond-true, cond-false, eqb-true, leb-true, le-leb, lt-leb}
+use Rattle.std.proofs.lemmas.Bool.{cases_Bool, cases_eq, cases_lt, eq-eqb, cond-true, cond-false, eqb-true, leb-true, le-leb, lt-leb}
 use Rattle.std.proofs.lemmas.Bool.Decides.{nat_tests}
 use Rattle.sd_areas.specs.Pages.{pages_from, is_within}
 use Rattle.sd_pagetable.specs.declared.entry.Entry.{Entry}
-use Rattle.sd_pagetable.specs.Firsts.{is_from, IsFirstFrom}
+use Rattle.sd_pagetable.specs.Firsts.{is_from, start_of, IsFirstFrom}
+use Rattle.sd_pagetable.specs.Nested.{Table}
 use Rattle.sd_pagetable.specs.Radix.{table_of, IsFirstAt}
 use Rattle.sd_pagetable.proofs.TableLemmas.{same_table, same_test, get_put, get_removed, within_next, none_within, not_none}
 
@@ -106,13 +108,53 @@ table_empty limit f is = same_table _ _ (λ q. get-table_of f limit q ∙ nothin
     nothing true o e = e
     nothing false o e = refl
 
--- ---- the first page from a bound on
--- the number of the first page that a bound lets
-abbrev pub start_of : Bound ℕ → ℕ
-start_of (Included page) = page
-start_of (Excluded page) = page + 1
-start_of Unbounded = 0
+-- ---- how many pages it has, after a change
+pub count_bound : (limit : ℕ) (f : ℕ → Option Entry) (count : ℕ) → count ≡ finmap.len (table_of limit f) → count ≤ limit
+count_bound limit f count is_count = (let l = len_bound f limit in omega arith)
 
+module _ (limit : ℕ) (f : ℕ → Option Entry) (count k : ℕ) (is_count : count ≡ finmap.len (table_of limit f)) (l : k < limit) where
+  has_key : (b : Bool) → is_some (f k) ≡ b → finmap.contains_key (table_of limit f) k ≡ b
+  has_key b e = ap is_some (get_within f limit k l) ∙ e
+
+  pub some_count : is_some (f k) ≡ true → 1 ≤ count
+  some_count e = elim (cases_eq count 0) [
+    | inl z ↦ absurd (let f : false ≡ true = ap is_some (sym (get-empty nat_cmp k)) ∙ ap (λ m. is_some (finmap.get m k)) (sym (empty_of_len (table_of limit f) (sym is_count ∙ z))) ∙ has_key true e in cc)
+    | inr n ↦ omega arith
+  ]
+
+  module _ (g : ℕ → Option Entry) where
+    module _ (x : Entry) (is : (q : ℕ) → g q ≡ cond (nat_eq q k) (Some x) (f q)) where
+      len_put : (b : Bool) → is_some (f k) ≡ b → finmap.len (table_of limit g) ≡ cond b count (count + 1)
+      len_put b e = ap finmap.len (table_put limit f g k x l is) ∙ len-insert nat_cmp_total (table_of limit f) k x
+          ∙ ap (λ c. cond c (finmap.len (table_of limit f)) (finmap.len (table_of limit f) + 1)) (has_key b e) ∙ ap (λ n. cond b n (n + 1)) (sym is_count)
+
+      pub count_more : is_some (f k) ≡ false → count + 1 ≡ finmap.len (table_of limit g)
+      count_more e = sym (len_put false e)
+
+      pub count_same : is_some (f k) ≡ true → count ≡ finmap.len (table_of limit g)
+      count_same e = sym (len_put true e)
+
+    module _ (is : (q : ℕ) → g q ≡ cond (nat_eq q k) None (f q)) where
+      len_removed : (b : Bool) → is_some (f k) ≡ b → finmap.len (table_of limit g) ≡ cond b (count - 1) count
+      len_removed b e = ap finmap.len (table_removed limit f g k l is) ∙ len-remove nat_cmp_total (table_of limit f) k
+          ∙ ap (λ c. cond c (finmap.len (table_of limit f) - 1) (finmap.len (table_of limit f))) (has_key b e) ∙ ap (λ n. cond b (n - 1) n) (sym is_count)
+
+      pub count_less : is_some (f k) ≡ true → count - 1 ≡ finmap.len (table_of limit g)
+      count_less e = sym (len_removed true e)
+
+      pub count_kept : is_some (f k) ≡ false → count ≡ finmap.len (table_of limit g)
+      count_kept e = sym (len_removed false e)
+
+-- ---- where a page is mapped, its entry is put for sure
+module _ (limit : ℕ) (f : ℕ → Option Entry) (k page : ℕ) (same : k ≡ page) (l : k < limit) (t : Table Entry) (is : table_of limit f ≡ t) (there : IsSome (finmap.get t page)) where
+  pub some_there : is_some (f k) ≡ true
+  some_there = ap is_some (sym (get_within f limit k l) ∙ ap (λ m. finmap.get m k) is ∙ ap (finmap.get t) same) ∙ there
+
+  pub put_there : {T E P : Type 0} (r : Result T E) → OnOk r P → OnErr r (f k ≡ None) → P
+  put_there (Ok x) ok err = ok
+  put_there (Err e) ok err = absurd (not_none (f k) err some_there)
+
+-- ---- the first page from a bound on
 from_is : (start : Bound ℕ) (page : ℕ) → is_from start page ≡ nat_le (start_of start) page
 from_is (Included first) page = refl
 from_is (Excluded before) page = grind (arith, nat_tests)
@@ -147,3 +189,18 @@ module _ (limit span : ℕ) (at : ℕ → Option Entry) (start : Bound ℕ) wher
   pub first_past : (first : ℕ) → limit ≤ first → IsFirstAt span at (start_of start) (Some first) → IsFirstFrom (table_of limit at) start None
   first_past first g some page is = not_from page (λ l. not_none (finmap.get (table_of limit at) page)
       (get_within at limit page (some_below page is) ∙ some.3 page l (let b = some_below page is in omega arith)) is)
+
+-- ---- as the code finds it
+module _ (limit span : ℕ) (at : ℕ → Option Entry) (start : Bound ℕ) (n : ℕ) (e : n ≡ start_of start) (t : Table Entry) (is : table_of limit at ≡ t) where
+  pub from_none : IsFirstAt span at n None → IsFirstFrom t start None
+  from_none none = subst (λ (m : Table Entry). IsFirstFrom m start None) is (first_none limit span at start (subst (λ k. IsFirstAt span at k None) e none))
+
+  pub from_some : (first : ℕ) → IsFirstAt span at n (Some first) → (r : Option ℕ) → (first < limit → IsSome r) → (IsSome r → first < limit) → IfSome r (λ page. page ≡ first) → IsFirstFrom t start r
+  from_some first some None all within value = subst (λ (m : Table Entry). IsFirstFrom m start None) is
+      (first_past limit span at start first (elim (cases_lt first limit) [
+        | inl l ↦ absurd (let f : false ≡ true = all l in cc)
+        | inr g ↦ g
+      ]) (subst (λ k. IsFirstAt span at k (Some first)) e some))
+  from_some first some (Some page) all within value = subst (λ (m : Table Entry). IsFirstFrom m start (Some page)) is
+      (first_found limit span at start page (subst (λ k. k < limit) (sym value) (within refl))
+      (subst (λ k. IsFirstAt span at (start_of start) (Some k)) (sym value) (subst (λ k. IsFirstAt span at k (Some first)) e some)))

@@ -91,5 +91,7 @@ impl Node for Leaf {
         self.used.next(0).is_none()
     }
 
-    ghost some_span = { Prim.search };
+    ghost use Rattle.std.proofs.Common.{arith};
+
+    ghost some_span = { Prim.omega arith };
 }

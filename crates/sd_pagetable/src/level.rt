@@ -98,5 +98,7 @@ impl<T: Node> Node for Level<T> {
         self.used.next(0).is_none()
     }
 
-    ghost some_span = { ? };
+    ghost use Rattle.std.proofs.Common.{arith};
+
+    ghost some_span = { Prim.omega (arith, T.some_span) };
 }

@@ -1,6 +1,6 @@
 ghost use Rattle.std.specs.Prelude.{◌≡◌, ◌<◌, ◌≤◌, ◌^◌, ℕ, Bool, true, false, Some, None, IsSome, OnOk, OnErr};
 ghost use Rattle.std.specs.FinMap as finmap;
-ghost use Rattle.sd_pagetable.specs.Firsts.{IsFirstFrom};
+ghost use Rattle.sd_pagetable.specs.Firsts.{start_of, IsFirstFrom};
 
 use crate::entry::Entry;
 use crate::leaf::Leaf;
@@ -109,11 +109,18 @@ impl PageTable {
     pub(crate) fn first_from(&self, start: Bound<PageNo>) -> Option<PageNo>
         ensures { IsFirstFrom self.now start result }
     {
-        let first = match start {
-            Bound::Included(page) => page.number(),
-            Bound::Excluded(page) => page.number() + 1,
-            Bound::Unbounded => 0,
-        };
-        PageNo::new(first_in(&self.top, first)?)
+        PageNo::new(first_in(&self.top, start_of(start))?)
+    }
+}
+
+/// The number of the first page that a bound allows.
+fn start_of(start: Bound<PageNo>) -> u64
+    ensures value { result ≡ start_of start }
+    ensures within { result ≤ 2 ^ 35 }
+{
+    match start {
+        Bound::Included(page) => page.number(),
+        Bound::Excluded(page) => page.number() + 1,
+        Bound::Unbounded => 0,
     }
 }
