@@ -21,6 +21,7 @@ const ALL_PAGES: u64 = 65_536;
 
 /// How many pages a space of lone pages has, and how many such spaces there are.
 const LONE_PAGES: u64 = 1_024;
+
 const LONE_SPACES: u64 = 4;
 
 /// How many bytes there are from a lone page to the next: 2^20 pages.
@@ -93,12 +94,28 @@ fn by_chance(seed: &mut u64) -> u64 {
     (*seed >> 48).saturating_mul(4096)
 }
 
-/// Stores to pages in random order.
-fn random_stores(alloc: Global) -> Result<(), MemoryError> {
+/// A store to each of all pages.
+fn all_filled(alloc: Global) -> Result<Memory, MemoryError> {
     let mut memory = mapped(alloc, ALL_PAGES)?;
+    store(&mut memory, SpaceId::new(1), ALL_PAGES, ALL_PAGES)?;
+    Ok(memory)
+}
+
+fn all(alloc: Global) -> Result<(), MemoryError> {
+    all_filled(alloc)?;
+    Ok(())
+}
+
+/// A store to each of all pages, and then many to pages in random order.
+fn random_stores(alloc: Global) -> Result<(), MemoryError> {
+    let mut memory = all_filled(alloc)?;
     let mut seed = 1;
     for _ in 0..CALLS {
-        memory.store_now(SpaceId::new(1), by_chance(&mut seed), &[1, 2, 3, 4, 5, 6, 7, 8])?;
+        memory.store_now(
+            SpaceId::new(1),
+            by_chance(&mut seed),
+            &[1, 2, 3, 4, 5, 6, 7, 8],
+        )?;
     }
     Ok(())
 }
@@ -131,7 +148,12 @@ fn random_words(alloc: Global) -> Result<(), MemoryError> {
 fn ranges(alloc: Global) -> Result<(), MemoryError> {
     let mut memory = Memory::new(alloc, FRAMES)?;
     for _ in 0..TURNS {
-        memory.mmap(SpaceId::new(1), 0, ALL_PAGES.saturating_mul(4096), READ_WRITE)?;
+        memory.mmap(
+            SpaceId::new(1),
+            0,
+            ALL_PAGES.saturating_mul(4096),
+            READ_WRITE,
+        )?;
         memory.munmap(SpaceId::new(1), 0, ALL_PAGES.saturating_mul(4096))?;
     }
     Ok(())
@@ -141,7 +163,12 @@ fn ranges(alloc: Global) -> Result<(), MemoryError> {
 fn anew(alloc: Global) -> Result<(), MemoryError> {
     let mut memory = Memory::new(alloc, FRAMES)?;
     for _ in 0..TURNS {
-        memory.mmap(SpaceId::new(1), 0, ALL_PAGES.saturating_mul(4096), READ_WRITE)?;
+        memory.mmap(
+            SpaceId::new(1),
+            0,
+            ALL_PAGES.saturating_mul(4096),
+            READ_WRITE,
+        )?;
     }
     Ok(())
 }
@@ -150,7 +177,12 @@ fn anew(alloc: Global) -> Result<(), MemoryError> {
 fn protects(alloc: Global) -> Result<(), MemoryError> {
     let mut memory = mapped(alloc, ALL_PAGES)?;
     for _ in 0..TURNS {
-        memory.mprotect(SpaceId::new(1), 0, ALL_PAGES.saturating_mul(4096), READ_WRITE)?;
+        memory.mprotect(
+            SpaceId::new(1),
+            0,
+            ALL_PAGES.saturating_mul(4096),
+            READ_WRITE,
+        )?;
     }
     Ok(())
 }
@@ -180,7 +212,12 @@ fn lone(alloc: Global) -> Result<Memory, MemoryError> {
     }
     for number in 1..LONE_SPACES + 1 {
         for page in 0..LONE_PAGES {
-            memory.mmap(SpaceId::new(number), page.saturating_mul(LONE_STEP), 4096, READ_WRITE)?;
+            memory.mmap(
+                SpaceId::new(number),
+                page.saturating_mul(LONE_STEP),
+                4096,
+                READ_WRITE,
+            )?;
         }
     }
     Ok(memory)
@@ -202,6 +239,7 @@ fn sparse_walk(alloc: Global) -> Result<(), MemoryError> {
 fn timed(alloc: Global, word: &str) -> Result<&'static str, MemoryError> {
     match word {
         "stores" => stores(alloc)?,
+        "all" => all(alloc)?,
         "random" => random_stores(alloc)?,
         "loads" => random_loads(alloc)?,
         "words" => random_words(alloc)?,
@@ -215,7 +253,9 @@ fn timed(alloc: Global, word: &str) -> Result<&'static str, MemoryError> {
         "sparse" => sparse(alloc)?,
         "sparse_walk" => sparse_walk(alloc)?,
         _ => {
-            return Ok("usage: memory_bench stores|random|loads|words|pages|fork|child|ranges|anew|protects|walk|sparse|sparse_walk");
+            return Ok(
+                "usage: memory_bench stores|all|random|loads|words|pages|fork|child|ranges|anew|protects|walk|sparse|sparse_walk",
+            );
         }
     }
     Ok("done")

@@ -43,9 +43,9 @@ pub place_within : (span page : ℕ) → 0 < span → page < 512 * span → page
 place_within span page pos l = elim (cases_lt (page / span) 512) [
   | inl below ↦ below
   | inr above ↦ absurd (
-    let d = div-mul-le_self page span in
-    let m : 512 * span ≤ page / span * span = mul-le-mul_right span above in
-    omega arith)
+      let d = div-mul-le_self page span in
+      let m : 512 * span ≤ page / span * span = mul-le-mul_right span above in
+      omega arith)
 ]
 
 module _ {X : Type 0} (at : X → ℕ → Option Entry) (span : ℕ) where

@@ -62,7 +62,7 @@ module _ (words : List ℕ) (place other : ℕ) (within : place / 64 < length wo
               (ap (λ w. bit_at w (other % 64)) (same_word word same) ∙ ap (bit_at word) bit ∙ bit_at_set_same w64 n (place % 64) (omega arith))
               ∙ sym (or_left (nat_eq other place) (is_used words other) (eq-eqb other place (omega arith)))
           | inr apart ↦ ap (λ b. nat_eq b 1) (ap (λ w. bit_at w (other % 64)) (same_word word same) ∙ bit_at_set_other w64 n (place % 64) (omega arith) (other % 64) apart
-                  ∙ ap (λ k. bit_at (get_or words k 0) (other % 64)) (sym same))
+              ∙ ap (λ k. bit_at (get_or words k 0) (other % 64)) (sym same))
               ∙ sym (ap (λ b. b || is_used words other) (not_place (λ e. apart (ap (λ k. k % 64) e))))
         ]
         | inr apart ↦ other_word word apart ∙ sym (ap (λ b. b || is_used words other) (not_place (λ e. apart (ap (λ k. k / 64) e))))
@@ -78,7 +78,7 @@ module _ (words : List ℕ) (place other : ℕ) (within : place / 64 < length wo
               (λ e. let z : 0 ≡ 1 = sym (ap (λ w. bit_at w (other % 64)) (same_word word same) ∙ ap (bit_at word) bit ∙ bit_at_clear_same w64 n (place % 64) (omega arith)) ∙ e in omega arith)
               ∙ sym (and_left (not (nat_eq other place)) (is_used words other) (not_from_true (nat_eq other place) (eq-eqb other place (omega arith))))
           | inr apart ↦ ap (λ b. nat_eq b 1) (ap (λ w. bit_at w (other % 64)) (same_word word same) ∙ bit_at_clear_other w64 n (place % 64) (omega arith) (other % 64) (omega arith) apart
-                  ∙ ap (λ k. bit_at (get_or words k 0) (other % 64)) (sym same))
+              ∙ ap (λ k. bit_at (get_or words k 0) (other % 64)) (sym same))
               ∙ sym (ap (λ b. not b && is_used words other) (not_place (λ e. apart (ap (λ k. k % 64) e))))
         ]
         | inr apart ↦ other_word word apart ∙ sym (ap (λ b. not b && is_used words other) (not_place (λ e. apart (ap (λ k. k / 64) e))))

@@ -47,7 +47,12 @@ pub(crate) trait Node: Drop {
     ///
     /// Out of memory where a table below can't be allocated: nothing changes. None is needed where
     /// the page is mapped.
-    fn insert(&mut self, alloc: Global, page: u64, entry: Entry) -> Result<Option<Entry>, AllocError>
+    fn insert(
+        &mut self,
+        alloc: Global,
+        page: u64,
+        entry: Entry,
+    ) -> Result<Option<Entry>, AllocError>
         requires fits { span ≤ 2 ^ 36 }
         requires kept { IsKept self.old }
         requires within { page < span }

@@ -15,7 +15,9 @@ use std::ops::Bound;
 /// Bits 9 to 17 of a page's number choose the place in a lower table, bits 18 to 26 in an upper one,
 /// and bits 27 to 35 in the top.
 type Lower = Level<Leaf>;
+
 type Upper = Level<Lower>;
+
 type Top = Level<Upper>;
 
 /// The page table of a space, a tree of four levels: the entry of each mapped page. Without pages it

@@ -15,7 +15,12 @@ fn only_space() -> SpaceId {
 }
 
 fn map(memory: &mut Memory, number: u64) -> Result<(), MemoryError> {
-    memory.mmap(only_space(), number.saturating_mul(PAGE_BYTES), PAGE_BYTES, READ_WRITE)
+    memory.mmap(
+        only_space(),
+        number.saturating_mul(PAGE_BYTES),
+        PAGE_BYTES,
+        READ_WRITE,
+    )
 }
 
 fn next_after(rt: &impl Abort, memory: &Memory, number: u64) -> Option<u64> {
@@ -35,7 +40,10 @@ fn pages_at_the_borders_of_tables(rt: HostRuntime) -> Result<(), Fail> {
         assert_eq!(rt; next_after(&rt, &memory, *number), Some(*next));
     }
     assert_eq!(rt; next_after(&rt, &memory, (1 << 35) - 1), None);
-    assert_eq!(rt; memory.munmap(only_space(), 512 * PAGE_BYTES, PAGE_BYTES), Ok(()));
+    assert_eq!(rt;
+        memory.munmap(only_space(), 512 * PAGE_BYTES, PAGE_BYTES),
+        Ok(())
+    );
     assert_eq!(rt; next_after(&rt, &memory, 511), Some(1 << 18));
     Ok(())
 }
@@ -67,7 +75,11 @@ fn by_chance(seed: &mut u64) -> Call {
 fn made(memory: &mut Memory, call: Call) -> Result<(), MemoryError> {
     match call {
         Call::Map(page) => map(memory, page),
-        Call::Unmap(page) => memory.munmap(only_space(), page.saturating_mul(PAGE_BYTES), 2 * PAGE_BYTES),
+        Call::Unmap(page) => memory.munmap(
+            only_space(),
+            page.saturating_mul(PAGE_BYTES),
+            2 * PAGE_BYTES,
+        ),
         Call::Store(page) => memory.store_now(only_space(), page.saturating_mul(PAGE_BYTES), &[1]),
         Call::Clear(page) => {
             if let Some(page) = PageNo::new(page) {
