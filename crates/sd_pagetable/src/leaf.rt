@@ -27,6 +27,7 @@ impl Leaf {
     }
 
     /// Puts an entry into a place.
+    #[inline]
     fn put(&mut self, place: usize, entry: Entry)
         requires { place < 512 }
         ensures { (page : ℕ) → leaf_at self.new.used.words self.new.entries page
@@ -56,6 +57,7 @@ impl Node for Leaf {
         Ok(leaf)
     }
 
+    #[inline]
     fn get(&self, page: u64) -> Option<Entry> {
         let place = page as usize;
         if self.used.has(place) {
@@ -65,6 +67,7 @@ impl Node for Leaf {
         }
     }
 
+    #[inline]
     fn insert(
         &mut self,
         _alloc: Global,
@@ -76,6 +79,7 @@ impl Node for Leaf {
         Ok(before)
     }
 
+    #[inline]
     fn remove(&mut self, page: u64) -> Option<Entry> {
         let before = self.get(page);
         self.used.remove(page as usize);

@@ -29,6 +29,7 @@ impl LeafEntry {
     };
 
     /// The entry as a leaf has it.
+    #[inline]
     pub(crate) fn of(entry: Entry) -> Self
         ensures { entry_in result ≡ entry }
     {
@@ -42,6 +43,7 @@ impl LeafEntry {
     }
 
     /// The entry.
+    #[inline]
     pub(crate) fn entry(self) -> Entry
         ensures { result ≡ entry_in self }
     {

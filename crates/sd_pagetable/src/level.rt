@@ -57,11 +57,13 @@ impl<T: Node> Node for Level<T> {
         Ok(level)
     }
 
+    #[inline]
     fn get(&self, page: u64) -> Option<Entry> {
         let place = (page / T::span()) as usize;
         get_in(&self.tables[place], page % T::span())
     }
 
+    #[inline]
     fn insert(
         &mut self,
         alloc: Global,
@@ -74,6 +76,7 @@ impl<T: Node> Node for Level<T> {
         Ok(before)
     }
 
+    #[inline]
     fn remove(&mut self, page: u64) -> Option<Entry> {
         let place = (page / T::span()) as usize;
         let slot = &mut self.tables[place];

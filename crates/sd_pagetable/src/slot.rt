@@ -8,6 +8,7 @@ use crate::node::Node;
 use std::alloc::{AllocError, Global};
 
 /// The entry of a page, if there is a table that has it.
+#[inline]
 pub(crate) fn get_in<T: Node>(slot: &Option<Box<T>>, page: u64) -> Option<Entry>
     requires fits { T.span ≤ 2 ^ 36 }
     requires kept { IsSlot (λ table. T.at table.value) (λ table. T.IsKept table.value) T.span slot.now }
@@ -21,6 +22,7 @@ pub(crate) fn get_in<T: Node>(slot: &Option<Box<T>>, page: u64) -> Option<Entry>
 }
 
 /// The first mapped page from one on, if there is a table that has one.
+#[inline]
 pub(crate) fn first_in<T: Node>(slot: &Option<Box<T>>, page: u64) -> Option<u64>
     requires fits { T.span ≤ 2 ^ 36 }
     requires kept { IsSlot (λ table. T.at table.value) (λ table. T.IsKept table.value) T.span slot.now }
@@ -40,6 +42,7 @@ pub(crate) fn first_in<T: Node>(slot: &Option<Box<T>>, page: u64) -> Option<u64>
 ///
 /// Out of memory where a table can't be allocated: nothing changes. None is needed where the page is
 /// mapped.
+#[inline]
 pub(crate) fn insert_in<T: Node>(
     slot: &mut Option<Box<T>>,
     alloc: Global,
@@ -68,6 +71,7 @@ pub(crate) fn insert_in<T: Node>(
 }
 
 /// Takes the entry of a page out, and with the last one the table. It returns the entry.
+#[inline]
 pub(crate) fn remove_in<T: Node>(slot: &mut Option<Box<T>>, page: u64) -> Option<Entry>
     requires fits { T.span ≤ 2 ^ 36 }
     requires kept { IsSlot (λ table. T.at table.value) (λ table. T.IsKept table.value) T.span slot.old }
@@ -86,6 +90,7 @@ pub(crate) fn remove_in<T: Node>(slot: &mut Option<Box<T>>, page: u64) -> Option
 }
 
 /// Takes the entry of a page out, and returns it. The table may be left without pages.
+#[inline]
 fn take_out<T: Node>(slot: &mut Option<Box<T>>, page: u64) -> Option<Entry>
     requires fits { T.span ≤ 2 ^ 36 }
     requires kept { IsSlot (λ table. T.at table.value) (λ table. T.IsKept table.value) T.span slot.old }
@@ -103,6 +108,7 @@ fn take_out<T: Node>(slot: &mut Option<Box<T>>, page: u64) -> Option<Entry>
 }
 
 /// Whether there is a table without pages.
+#[inline]
 fn is_bare<T: Node>(slot: &Option<Box<T>>) -> bool
     requires fits { T.span ≤ 2 ^ 36 }
     requires kept { ForSome slot.now (λ table. T.IsKept table.value) }

@@ -26,6 +26,7 @@ impl UsedPlaces {
     }
 
     /// Whether a place is used.
+    #[inline]
     pub(crate) fn has(&self, place: usize) -> bool
         requires { place < 512 }
         ensures { result ≡ is_used self.now.words place }
@@ -34,6 +35,7 @@ impl UsedPlaces {
     }
 
     /// A place is used from now on.
+    #[inline]
     pub(crate) fn add(&mut self, place: usize)
         requires { place < 512 }
         ensures { (other : ℕ)
@@ -43,6 +45,7 @@ impl UsedPlaces {
     }
 
     /// A place isn't used any longer.
+    #[inline]
     pub(crate) fn remove(&mut self, place: usize)
         requires { place < 512 }
         ensures { (other : ℕ)
