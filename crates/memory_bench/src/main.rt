@@ -1,20 +1,34 @@
 //! `memory_bench`: makes many calls on a memory, to be timed from outside.
 #![tactic(auto)]
 
-use sd_areas::{Prot, SpaceId};
+use sd_areas::{PageNo, Prot, SpaceId};
 use sd_pagetable::{Memory, MemoryError};
 use std::alloc::Global;
 use std::io;
 use std::process::ExitCode;
 
-/// How many stores are made in turn over a few pages.
-const STORES: u64 = 1_000_000;
+/// How many stores, loads or words are asked for.
+const CALLS: u64 = 1_000_000;
 
 /// How many pages those are.
 const FEW_PAGES: u64 = 1_000;
 
 /// How many pages a space has that is forked.
 const MANY_PAGES: u64 = 20_000;
+
+/// How many pages can be mapped.
+const ALL_PAGES: u64 = 65_536;
+
+/// How many pages a space of lone pages has, and how many such spaces there are.
+const LONE_PAGES: u64 = 1_024;
+
+const LONE_SPACES: u64 = 4;
+
+/// How many bytes there are from a lone page to the next: 2^20 pages.
+const LONE_STEP: u64 = 1 << 32;
+
+/// How often a range is mapped and unmapped, or walked over.
+const TURNS: u64 = 10;
 
 /// How many frames there are.
 const FRAMES: usize = 65_536;
@@ -44,7 +58,7 @@ fn store(memory: &mut Memory, space: SpaceId, count: u64, pages: u64) -> Result<
 /// Many stores over few pages.
 fn stores(alloc: Global) -> Result<(), MemoryError> {
     let mut memory = mapped(alloc, FEW_PAGES)?;
-    store(&mut memory, SpaceId::new(1), STORES, FEW_PAGES)
+    store(&mut memory, SpaceId::new(1), CALLS, FEW_PAGES)
 }
 
 /// A store to each of many pages.
@@ -72,14 +86,177 @@ fn child(alloc: Global) -> Result<(), MemoryError> {
     store(&mut memory, child, MANY_PAGES, MANY_PAGES)
 }
 
+/// The first address of one of all the pages, by chance.
+fn by_chance(seed: &mut u64) -> u64 {
+    *seed = seed
+        .wrapping_mul(6_364_136_223_846_793_005)
+        .wrapping_add(1_442_695_040_888_963_407);
+    (*seed >> 48).saturating_mul(4096)
+}
+
+/// A store to each of all pages.
+fn all_filled(alloc: Global) -> Result<Memory, MemoryError> {
+    let mut memory = mapped(alloc, ALL_PAGES)?;
+    store(&mut memory, SpaceId::new(1), ALL_PAGES, ALL_PAGES)?;
+    Ok(memory)
+}
+
+fn all(alloc: Global) -> Result<(), MemoryError> {
+    all_filled(alloc)?;
+    Ok(())
+}
+
+/// A store to each of all pages, and then many to pages in random order.
+fn random_stores(alloc: Global) -> Result<(), MemoryError> {
+    let mut memory = all_filled(alloc)?;
+    let mut seed = 1;
+    for _ in 0..CALLS {
+        memory.store_now(
+            SpaceId::new(1),
+            by_chance(&mut seed),
+            &[1, 2, 3, 4, 5, 6, 7, 8],
+        )?;
+    }
+    Ok(())
+}
+
+/// Loads from pages in random order, none of which has a frame.
+fn random_loads(alloc: Global) -> Result<(), MemoryError> {
+    let memory = mapped(alloc, ALL_PAGES)?;
+    let mut seed = 1;
+    let mut buffer = [0; 8];
+    for _ in 0..CALLS {
+        memory.load(SpaceId::new(1), by_chance(&mut seed), &mut buffer)?;
+    }
+    Ok(())
+}
+
+/// The words of pages in random order.
+fn random_words(alloc: Global) -> Result<(), MemoryError> {
+    let memory = mapped(alloc, ALL_PAGES)?;
+    let mut seed = 1;
+    for _ in 0..CALLS {
+        let number = by_chance(&mut seed) / 4096;
+        if let Some(page) = PageNo::new(number) {
+            let _word = memory.word(SpaceId::new(1), page);
+        }
+    }
+    Ok(())
+}
+
+/// Maps all pages at once and unmaps them, some times.
+fn ranges(alloc: Global) -> Result<(), MemoryError> {
+    let mut memory = Memory::new(alloc, FRAMES)?;
+    for _ in 0..TURNS {
+        memory.mmap(
+            SpaceId::new(1),
+            0,
+            ALL_PAGES.saturating_mul(4096),
+            READ_WRITE,
+        )?;
+        memory.munmap(SpaceId::new(1), 0, ALL_PAGES.saturating_mul(4096))?;
+    }
+    Ok(())
+}
+
+/// Maps all pages at once, and anew, some times.
+fn anew(alloc: Global) -> Result<(), MemoryError> {
+    let mut memory = Memory::new(alloc, FRAMES)?;
+    for _ in 0..TURNS {
+        memory.mmap(
+            SpaceId::new(1),
+            0,
+            ALL_PAGES.saturating_mul(4096),
+            READ_WRITE,
+        )?;
+    }
+    Ok(())
+}
+
+/// Protects all pages at once, some times.
+fn protects(alloc: Global) -> Result<(), MemoryError> {
+    let mut memory = mapped(alloc, ALL_PAGES)?;
+    for _ in 0..TURNS {
+        memory.mprotect(
+            SpaceId::new(1),
+            0,
+            ALL_PAGES.saturating_mul(4096),
+            READ_WRITE,
+        )?;
+    }
+    Ok(())
+}
+
+/// Walks over all pages, some times.
+fn walk_over(memory: &Memory) {
+    for _ in 0..TURNS {
+        let mut after = None;
+        for _ in 0..ALL_PAGES {
+            after = memory.next_page(after);
+        }
+    }
+}
+
+/// A walk over all pages in one range.
+fn walk(alloc: Global) -> Result<(), MemoryError> {
+    let memory = mapped(alloc, ALL_PAGES)?;
+    walk_over(&memory);
+    Ok(())
+}
+
+/// Spaces of lone pages.
+fn lone(alloc: Global) -> Result<Memory, MemoryError> {
+    let mut memory = Memory::new(alloc, FRAMES)?;
+    for _ in 1..LONE_SPACES {
+        memory.fork(SpaceId::new(1))?;
+    }
+    for number in 1..LONE_SPACES + 1 {
+        for page in 0..LONE_PAGES {
+            memory.mmap(
+                SpaceId::new(number),
+                page.saturating_mul(LONE_STEP),
+                4096,
+                READ_WRITE,
+            )?;
+        }
+    }
+    Ok(memory)
+}
+
+/// Lone pages alone.
+fn sparse(alloc: Global) -> Result<(), MemoryError> {
+    lone(alloc)?;
+    Ok(())
+}
+
+/// A walk over lone pages, as many steps as over all pages.
+fn sparse_walk(alloc: Global) -> Result<(), MemoryError> {
+    walk_over(&lone(alloc)?);
+    Ok(())
+}
+
 /// Makes the calls that a word names, and tells how they ended.
 fn timed(alloc: Global, word: &str) -> Result<&'static str, MemoryError> {
     match word {
         "stores" => stores(alloc)?,
+        "all" => all(alloc)?,
+        "random" => random_stores(alloc)?,
+        "loads" => random_loads(alloc)?,
+        "words" => random_words(alloc)?,
         "pages" => pages(alloc)?,
         "fork" => fork(alloc)?,
         "child" => child(alloc)?,
-        _ => return Ok("usage: memory_bench stores|pages|fork|child"),
+        "ranges" => ranges(alloc)?,
+        "anew" => anew(alloc)?,
+        "protects" => protects(alloc)?,
+        "walk" => walk(alloc)?,
+        "sparse" => sparse(alloc)?,
+        "sparse_walk" => sparse_walk(alloc)?,
+        _ => {
+            return Ok(
+                "usage: memory_bench stores|all|random|loads|words|pages|fork|child|ranges|anew|protects|walk|sparse|sparse_walk",
+            );
+        }
     }
     Ok("done")
 }

@@ -32,3 +32,8 @@ pub mod FilledLemmas
 pub mod LoadedLemmas
 pub mod SnapshotLemmas
 pub mod LoadingLemmas
+pub mod UsedLemmas
+pub mod LevelLemmas
+pub mod TableOfLemmas
+pub mod LeafLemmas
+pub mod SlotLemmas

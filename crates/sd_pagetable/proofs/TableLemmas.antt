@@ -104,10 +104,10 @@ module _ {X Y : Type 0} (f : X → Y) where
   pub map_values-empty : map_values f finmap.empty ≡ finmap.empty
   map_values-empty = same_table _ _ (λ q. get-map_values finmap.empty q ∙ ap (option_map f) (get-empty nat_cmp q) ∙ sym (get-empty nat_cmp q))
 
-within_next : (first count q : ℕ) → is_within first (suc count) q ≡ (nat_eq q first || is_within (suc first) count q)
+pub within_next : (first count q : ℕ) → is_within first (suc count) q ≡ (nat_eq q first || is_within (suc first) count q)
 within_next first count q = grind (arith, nat_tests)
 
-none_within : (first q : ℕ) → is_within first 0 q ≡ false
+pub none_within : (first q : ℕ) → is_within first 0 q ≡ false
 none_within first q = grind (arith, nat_tests)
 
 alike : (first count q x : ℕ) → q ≡ x → not (is_within first count x) ≡ not (is_within first count q)

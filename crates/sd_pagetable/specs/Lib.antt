@@ -20,3 +20,4 @@ pub mod Order
 pub mod Ranges
 pub mod RangeCalls
 pub mod Loaded
+pub mod Radix

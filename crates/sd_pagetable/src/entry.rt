@@ -7,7 +7,7 @@ use sd_areas::Prot;
 #[derive(Clone, Copy, Debug, PartialEq, Eq)]
 pub(crate) struct Entry {
     pub(crate) prot: Prot,
-    pub(crate) frame: Option<usize>,
+    pub(crate) frame: Option<u32>,
     pub(crate) writable: bool,
     pub(crate) soft_dirty: bool,
 }
@@ -38,7 +38,7 @@ impl Entry {
     }
 
     /// The entry with a frame, and all else as before.
-    pub(crate) fn with_frame(self, frame: usize) -> Self
+    pub(crate) fn with_frame(self, frame: u32) -> Self
         ensures { result ≡ record self { frame = Some frame } }
     {
         Entry {
@@ -50,7 +50,7 @@ impl Entry {
     }
 
     /// The entry after a fault: writable and soft-dirty, with a frame of its own.
-    pub(crate) fn made_writable(self, frame: usize) -> Self
+    pub(crate) fn made_writable(self, frame: u32) -> Self
         ensures { result ≡ record { prot = self.prot; frame = Some frame; writable = true; soft_dirty = true } }
     {
         Entry {

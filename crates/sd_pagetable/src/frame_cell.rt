@@ -9,7 +9,7 @@ use crate::frame::Frame;
 #[derive(Drop)]
 pub(crate) enum FrameCell {
     Used(Frame),
-    Free(Option<usize>),
+    Free(Option<u32>),
 }
 
 impl FrameCell {
@@ -57,11 +57,11 @@ impl FrameCell {
 }
 
 /// The place that a free one leads to.
-pub(crate) fn next_free(slots: &[FrameCell], number: usize) -> Option<usize>
+pub(crate) fn next_free(slots: &[FrameCell], number: u32) -> Option<u32>
     ensures { (next : Option ℕ) → slice_get slots.now number ≡ Some (FrameCell.Free next)
         → result ≡ next }
 {
-    match slots.get(number) {
+    match slots.get(number as usize) {
         Some(FrameCell::Free(next)) => *next,
         _ => None,
     }

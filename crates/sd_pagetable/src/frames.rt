@@ -19,9 +19,9 @@ static ZEROS: [u8; PAGE_SIZE] = [0; PAGE_SIZE];
 #[derive(Drop)]
 pub(crate) struct Frames {
     alloc: Global,
-    pool: usize,
+    pool: u32,
     slots: Vec<FrameCell>,
-    free: Option<usize>,
+    free: Option<u32>,
 }
 
 impl Model for Frames {
@@ -41,7 +41,7 @@ impl Model for Frames {
 
 impl Frames {
     /// A pool of so many frames, none of them in use.
-    pub(crate) fn new(alloc: Global, pool: usize) -> Self
+    pub(crate) fn new(alloc: Global, pool: u32) -> Self
         ensures { result ≡ record { size = pool; cells = [] } }
     {
         Frames {
@@ -53,17 +53,17 @@ impl Frames {
     }
 
     /// How many entries have a frame.
-    pub(crate) fn count(&self, number: usize) -> u32
+    pub(crate) fn count(&self, number: u32) -> u32
         ensures { result ≡ count_at self.now number }
     {
-        match self.slots.get(number) {
+        match self.slots.get(number as usize) {
             Some(FrameCell::Used(frame)) => frame.count(),
             _ => 0,
         }
     }
 
     /// The bytes of a page with this frame; without one it reads as zeros.
-    pub(crate) fn bytes_of(&self, frame: Option<usize>) -> &[u8]
+    pub(crate) fn bytes_of(&self, frame: Option<u32>) -> &[u8]
         requires { ForSome frame (λ number. IsSome (cell_at self.now number)) }
         ensures value { result.now ≡ frame_bytes self.now frame }
         ensures length { length result.now ≡ 4096 }
@@ -75,12 +75,12 @@ impl Frames {
     }
 
     /// The bytes of a frame.
-    pub(crate) fn bytes(&self, number: usize) -> &[u8]
+    pub(crate) fn bytes(&self, number: u32) -> &[u8]
         requires { IsSome (cell_at self.now number) }
         ensures value { result.now ≡ bytes_at self.now number }
         ensures length { length result.now ≡ 4096 }
     {
-        match self.slots.get(number) {
+        match self.slots.get(number as usize) {
             Some(FrameCell::Used(frame)) => frame.bytes(),
             _ => &ZEROS,
         }
@@ -98,21 +98,21 @@ impl Frames {
         ensures yes_if { IsTrue result → IsExhausted self.now }
         ensures no_if { IsFalse result → HasFree self.now }
     {
-        self.free.is_none() && self.slots.len() == self.pool
+        self.free.is_none() && self.slots.len() == self.pool as usize
     }
 
     /// Increments a frame's reference count.
-    pub(crate) fn share(&mut self, number: usize)
+    pub(crate) fn share(&mut self, number: u32)
         requires used { IsSome (cell_at self.old number) }
         requires few { count_at self.old number < 2 ^ 17 }
         ensures { SetsCell self.old self.new number
             (Some (record { count = count_at self.old number + 1; bytes = bytes_at self.old number })) }
     {
-        self.slots[number].share();
+        self.slots[number as usize].share();
     }
 
     /// Writes bytes into a frame.
-    pub(crate) fn write(&mut self, number: usize, offset: usize, bytes: &[u8])
+    pub(crate) fn write(&mut self, number: u32, offset: usize, bytes: &[u8])
         requires used { IsSome (cell_at self.old number) }
         requires within { offset + length bytes.now ≤ 4096 }
         ensures { SetsCell self.old self.new number
@@ -122,21 +122,21 @@ impl Frames {
                   (bytes_at self.old number) offset bytes.now;
             })) }
     {
-        self.slots[number].write(offset, bytes);
+        self.slots[number as usize].write(offset, bytes);
     }
 
     /// Decrements a frame's reference count. Where that becomes 0, the frame is free.
-    pub(crate) fn release(&mut self, number: usize)
+    pub(crate) fn release(&mut self, number: u32)
         requires { 0 < count_at self.old number }
         ensures { SetsCell self.old self.new number
             (if count_at self.old number == 1 then None
             else Some (record { count = count_at self.old number - 1; bytes = bytes_at self.old number })) }
     {
         if self.count(number) == 1 {
-            self.slots[number] = FrameCell::Free(self.free);
+            self.slots[number as usize] = FrameCell::Free(self.free);
             self.free = Some(number);
         } else {
-            self.slots[number].release();
+            self.slots[number as usize].release();
         }
     }
 
@@ -145,7 +145,7 @@ impl Frames {
     /// # Errors
     ///
     /// Out of memory where its bytes can't be allocated: nothing changes.
-    pub(crate) fn fresh(&mut self) -> Result<usize, AllocError>
+    pub(crate) fn fresh(&mut self) -> Result<u32, AllocError>
         requires { HasFree self.old }
         ensures free { IfOk result
             (λ number. (number < self.old.size) × (cell_at self.old number ≡ None)) }
@@ -163,7 +163,7 @@ impl Frames {
     /// # Errors
     ///
     /// Out of memory where its bytes can't be allocated: nothing changes.
-    pub(crate) fn copied(&mut self, from: usize) -> Result<usize, AllocError>
+    pub(crate) fn copied(&mut self, from: u32) -> Result<u32, AllocError>
         requires free { HasFree self.old }
         requires used { IsSome (cell_at self.old from) }
         ensures free { IfOk result
@@ -198,7 +198,7 @@ impl Frames {
     /// # Errors
     ///
     /// Out of memory where the list of places can't grow: nothing changes.
-    pub(crate) fn place(&mut self, frame: Frame) -> Result<usize, AllocError>
+    pub(crate) fn place(&mut self, frame: Frame) -> Result<u32, AllocError>
         requires free { HasFree self.old }
         requires whole { length frame.bytes ≡ 4096 }
         ensures free { IfOk result
@@ -209,11 +209,11 @@ impl Frames {
         match self.free {
             Some(number) => {
                 self.free = next_free(&self.slots, number);
-                self.slots[number] = FrameCell::Used(frame);
+                self.slots[number as usize] = FrameCell::Used(frame);
                 Ok(number)
             }
             None => {
-                let number = self.slots.len();
+                let number = self.slots.len() as u32;
                 self.slots.push(FrameCell::Used(frame))?;
                 Ok(number)
             }

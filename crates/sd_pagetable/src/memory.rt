@@ -78,7 +78,7 @@ impl Memory {
         ensures begins { IfOk result IsBeginning }
     {
         let space = SpaceId::new(1);
-        let mut paging = Paging::new(alloc, frames);
+        let mut paging = Paging::new(alloc, frames as u32);
         paging.add_space(space)?;
         let mut areas = BTreeMap::new(alloc);
         areas.insert(space, AreaMap::new(alloc))?;
@@ -105,7 +105,7 @@ impl Memory {
         ensures loaded { IfOk result (IsLoaded frames (memory_of snapshot.now)) }
     {
         let areas = loading::areas_of(alloc, frames, snapshot)?;
-        let mut paging = Paging::new(alloc, frames);
+        let mut paging = Paging::new(alloc, frames as u32);
         loading::load(&mut paging, snapshot)?;
         Ok(Memory { paging, areas })
     }

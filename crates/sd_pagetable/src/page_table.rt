@@ -1,33 +1,51 @@
-ghost use Rattle.std.specs.Prelude.{◌≡◌, ◌<◌, ◌≤◌, ◌^◌, ℕ, Bool, true, false, Some, None, nat_lt, IsSome, OnOk, OnErr, MatchOption};
+ghost use Rattle.std.specs.Prelude.{◌≡◌, ◌<◌, ◌≤◌, ◌^◌, ℕ, Bool, true, false, Some, None, IsSome, OnOk, OnErr};
 ghost use Rattle.std.specs.FinMap as finmap;
-ghost use Rattle.sd_pagetable.specs.Firsts.{IsFirstFrom};
+ghost use Rattle.sd_pagetable.specs.Firsts.{start_of, IsFirstFrom};
 
 use crate::entry::Entry;
+use crate::leaf::Leaf;
+use crate::level::Level;
+use crate::node::Node;
+use crate::slot::{first_in, get_in, insert_in, remove_in};
 use sd_areas::PageNo;
 use std::alloc::{AllocError, Global};
-use std::collections::BTreeMap;
 use std::marker::Model;
 use std::ops::Bound;
 
-/// The page table of a space: the entry of each mapped page.
+/// Bits 9 to 17 of a page's number choose the place in a lower table, bits 18 to 26 in an upper one,
+/// and bits 27 to 35 in the top.
+type Lower = Level<Leaf>;
+
+type Upper = Level<Lower>;
+
+type Top = Level<Upper>;
+
+/// The page table of a space, a tree of four levels: the entry of each mapped page. Without pages it
+/// has no table.
 #[derive(Drop)]
 pub(crate) struct PageTable {
-    entries: BTreeMap<PageNo, Entry>,
+    alloc: Global,
+    top: Option<Box<Top>>,
+    mapped: usize,
 }
 
 impl Model for PageTable {
-    ghost use Rattle.std.specs.Prelude.{ℕ, ◌<◌, ◌^◌, IsSome};
+    ghost use Rattle.std.specs.Prelude.{◌≡◌, ℕ, ◌^◌};
     ghost use Rattle.std.specs.FinMap as finmap;
     ghost use Rattle.std.specs.Coded.{coded_ℕ};
     ghost use Rattle.sd_pagetable.specs.Nested.{Table};
     ghost use Rattle.sd_pagetable.specs.View.{entry_code};
+    ghost use Rattle.sd_pagetable.specs.Radix.{table_of, slot_at, IsSlot};
     ghost use Rattle.sd_pagetable.specs.declared.entry.Entry.{Entry};
 
     ghost Value = { Table Entry };
 
     ghost coded = { finmap.code coded_ℕ entry_code };
 
-    ghost view = { λ t. finmap.from_entries t.entries.entries };
+    ghost view = { λ t. table_of (2 ^ 35) (slot_at (λ top. ⟦<Top as Node>⟧.at top.value) t.top) };
+
+    ghost invariant = { λ t. IsSlot (λ top. ⟦<Top as Node>⟧.at top.value) (λ top. ⟦<Top as Node>⟧.IsKept top.value) (2 ^ 36) t.top
+        × (t.mapped ≡ finmap.len (table_of (2 ^ 35) (slot_at (λ top. ⟦<Top as Node>⟧.at top.value) t.top))) };
 }
 
 impl PageTable {
@@ -36,7 +54,9 @@ impl PageTable {
         ensures { result ≡ finmap.empty }
     {
         PageTable {
-            entries: BTreeMap::new(alloc),
+            alloc,
+            top: None,
+            mapped: 0,
         }
     }
 
@@ -44,14 +64,14 @@ impl PageTable {
     pub(crate) fn get(&self, page: PageNo) -> Option<Entry>
         ensures { result ≡ finmap.get self.now page }
     {
-        self.entries.get(&page).copied()
+        get_in(&self.top, page.number())
     }
 
     /// How many pages are mapped.
     pub(crate) fn len(&self) -> usize
         ensures { result ≡ finmap.len self.now }
     {
-        self.entries.len()
+        self.mapped
     }
 
     /// Puts the entry of a page.
@@ -63,7 +83,10 @@ impl PageTable {
         ensures ok { OnOk result (self.new ≡ finmap.insert self.old page entry) }
         ensures err { OnErr result (self.new ≡ self.old) }
     {
-        self.entries.insert(page, entry)?;
+        let before = insert_in(&mut self.top, self.alloc, page.number(), entry)?;
+        if before.is_none() {
+            self.mapped += 1;
+        }
         Ok(())
     }
 
@@ -72,21 +95,34 @@ impl PageTable {
         requires { IsSome (finmap.get self.old page) }
         ensures { self.new ≡ finmap.insert self.old page entry }
     {
-        let _ = self.entries.insert(page, entry);
+        let _ = insert_in(&mut self.top, self.alloc, page.number(), entry);
     }
 
     /// Takes the entry of a page out.
     pub(crate) fn remove(&mut self, page: PageNo)
         ensures { self.new ≡ finmap.remove self.old page }
     {
-        self.entries.remove(&page);
+        if remove_in(&mut self.top, page.number()).is_some() {
+            self.mapped -= 1;
+        }
     }
 
     /// The first mapped page from a bound on.
     pub(crate) fn first_from(&self, start: Bound<PageNo>) -> Option<PageNo>
         ensures { IsFirstFrom self.now start result }
     {
-        let (page, _) = self.entries.range((start, Bound::Unbounded)).next()?;
-        Some(*page)
+        PageNo::new(first_in(&self.top, start_of(start))?)
+    }
+}
+
+/// The number of the first page that a bound allows.
+fn start_of(start: Bound<PageNo>) -> u64
+    ensures value { result ≡ start_of start }
+    ensures within { result ≤ 2 ^ 35 }
+{
+    match start {
+        Bound::Included(page) => page.number(),
+        Bound::Excluded(page) => page.number() + 1,
+        Bound::Unbounded => 0,
     }
 }

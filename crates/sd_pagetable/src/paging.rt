@@ -63,7 +63,7 @@ impl Model for Paging {
 
 impl Paging {
     /// No space, over a pool of so many frames.
-    pub(crate) fn new(alloc: Global, pool: usize) -> Self
+    pub(crate) fn new(alloc: Global, pool: u32) -> Self
         ensures { result ≡ record { pool = pool; spaces = finmap.empty } }
     {
         Paging {
@@ -401,7 +401,7 @@ fn dirty_bit(entry: Entry) -> u64
 }
 
 /// Decrements the reference count of a frame, if there is one.
-fn release(frames: &mut Frames, frame: Option<usize>)
+fn release(frames: &mut Frames, frame: Option<u32>)
     requires { ForSome frame (λ number. 0 < count_at frames.old number) }
     ensures { ReleasesFrame frames.old frames.new frame }
 {
@@ -412,7 +412,7 @@ fn release(frames: &mut Frames, frame: Option<usize>)
 }
 
 /// Increments the reference count of a frame, if there is one.
-fn share(frames: &mut Frames, frame: Option<usize>)
+fn share(frames: &mut Frames, frame: Option<u32>)
     requires used { ForSome frame (λ number. 0 < count_at frames.old number) }
     requires few { ForSome frame (λ number. count_at frames.old number < 2 ^ 17) }
     ensures { SharesFrame frames.old frames.new frame }
@@ -429,7 +429,7 @@ fn share(frames: &mut Frames, frame: Option<usize>)
 /// # Errors
 ///
 /// No-frame where a new one is needed and every frame is used, and out of memory. Nothing changes.
-fn own_frame(frames: &mut Frames, frame: Option<usize>) -> Result<usize, MemoryError>
+fn own_frame(frames: &mut Frames, frame: Option<u32>) -> Result<u32, MemoryError>
     requires { ForSome frame (λ number. 0 < count_at frames.old number) }
     ensures owns { IfOk result (λ own. OwnsFrame frames.old frames.new frame own) }
     ensures shared { IfErr result (λ _. is_own frames.old frame ≡ false) }
@@ -447,7 +447,7 @@ fn own_frame(frames: &mut Frames, frame: Option<usize>) -> Result<usize, MemoryE
 }
 
 /// A new frame of zeros.
-fn zero_frame(frames: &mut Frames) -> Result<usize, MemoryError>
+fn zero_frame(frames: &mut Frames) -> Result<u32, MemoryError>
     ensures owns { IfOk result (λ own. TakesFrame frames.old frames.new None own) }
     ensures refused { IfErr result (FailsToTake frames.old) }
     ensures room { OnOk result (HasFree frames.old) }
@@ -460,7 +460,7 @@ fn zero_frame(frames: &mut Frames) -> Result<usize, MemoryError>
 }
 
 /// A copy of a shared frame, which one entry less has then.
-fn copy_of(frames: &mut Frames, shared: usize) -> Result<usize, MemoryError>
+fn copy_of(frames: &mut Frames, shared: u32) -> Result<u32, MemoryError>
     requires some { 0 < count_at frames.old shared }
     requires more { count_at frames.old shared ≡ 1 → ⊥ }
     ensures owns { IfOk result (λ own. TakesFrame frames.old frames.new (Some shared) own) }

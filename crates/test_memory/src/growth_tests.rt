@@ -3,6 +3,7 @@ use crate::support::{DIRTY_ALONE, FirstByte, READ, READ_WRITE, page, snapshot_of
 use sd_areas::{Snapshot, SpaceId};
 use sd_pagetable::{Memory, MemoryError};
 use std::alloc::{AllocError, Global};
+use std::process::Abort;
 use std::test::Fail;
 
 /// A call that may grow a memory: the space first, and then the address and the bytes.
@@ -61,14 +62,30 @@ fn begun(alloc: Global) -> Result<Memory, MemoryError> {
     Ok(Memory::new(alloc, 64)?)
 }
 
-/// A call that is refused memory returns that and changes nothing, and a second try is done.
-#[test]
-fn refused_growth_changes_nothing(rt: HostRuntime) -> Result<(), Fail> {
+/// Makes calls in turn: one that is refused memory returns that and changes nothing, and a second try
+/// is done.
+fn try_each(rt: &(impl Abort + AllocGlobal), steps: &[Step]) -> Result<(), MemoryError> {
     let mut memory = match begun(rt.alloc()) {
         Ok(memory) => memory,
         Err(_) => begun(rt.alloc())?,
     };
-    for step in [
+    for step in steps {
+        let step = *step;
+        let before = digest(&memory);
+        let mut given = made(&mut memory, step);
+        if given == Err(MemoryError::OutOfMemory) {
+            assert_eq!(rt; digest(&memory), before, "unchanged by {step:?}");
+            given = made(&mut memory, step);
+        }
+        assert_eq!(rt; given, Ok(()), "{step:?}");
+        assert!(rt; digest(&memory) != before, "after {step:?}");
+    }
+    Ok(())
+}
+
+#[test]
+fn refused_growth_changes_nothing(rt: HostRuntime) -> Result<(), Fail> {
+    let steps = [
         Step::Mmap(1, 0x10000, 0x8000),
         Step::Store(1, 0x10000),
         Step::Fault(1, 0x11000),
@@ -82,16 +99,24 @@ fn refused_growth_changes_nothing(rt: HostRuntime) -> Result<(), Fail> {
         Step::Mmap(2, 0x40000, 0x8000),
         Step::Fork(2),
         Step::Fault(3, 0x14000),
-    ] {
-        let before = digest(&memory);
-        let mut given = made(&mut memory, step);
-        if given == Err(MemoryError::OutOfMemory) {
-            assert_eq!(rt; digest(&memory), before, "unchanged by {step:?}");
-            given = made(&mut memory, step);
-        }
-        assert_eq!(rt; given, Ok(()), "{step:?}");
-        assert!(rt; digest(&memory) != before, "after {step:?}");
-    }
+    ];
+    try_each(&rt, &steps)?;
+    Ok(())
+}
+
+/// The same of pages in several tables: each range ends in a table after the one that it begins in.
+#[test]
+fn refused_growth_over_tables(rt: HostRuntime) -> Result<(), Fail> {
+    let steps = [
+        Step::Mmap(1, 0x1f_e000, 0x4000),
+        Step::Mmap(1, 0x3fff_f000, 0x2000),
+        Step::Mmap(1, 0x7f_ffff_f000, 0x2000),
+        Step::Store(1, 0x3fff_f000),
+        Step::Fork(1),
+        Step::Munmap(2, 0x20_0000, 0x1000),
+        Step::Fork(2),
+    ];
+    try_each(&rt, &steps)?;
     Ok(())
 }
 

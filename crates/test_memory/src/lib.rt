@@ -17,3 +17,5 @@ mod memory_tests;
 mod procfs_tests;
 #[cfg(test)]
 mod support;
+#[cfg(test)]
+mod table_tests;

@@ -1,0 +1,145 @@
+//! Pages in several tables of a page table, and a plain map beside it.
+use crate::support::{DIRTY_ALONE, FRESH, READ_WRITE, page};
+use sd_areas::{PAGE_BYTES, PageNo, SpaceId};
+use sd_pagetable::{Memory, MemoryError};
+use std::alloc::AllocError;
+use std::collections::BTreeMap;
+use std::process::Abort;
+use std::test::Fail;
+
+/// The first and the last page of tables of each level, in rising order.
+const BORDERS: [u64; 6] = [0, 511, 512, 1 << 18, 1 << 27, (1 << 35) - 1];
+
+fn only_space() -> SpaceId {
+    SpaceId::new(1)
+}
+
+fn map(memory: &mut Memory, number: u64) -> Result<(), MemoryError> {
+    memory.mmap(
+        only_space(),
+        number.saturating_mul(PAGE_BYTES),
+        PAGE_BYTES,
+        READ_WRITE,
+    )
+}
+
+fn next_after(rt: &impl Abort, memory: &Memory, number: u64) -> Option<u64> {
+    let (_, next) = memory.next_page(Some((only_space(), page(rt, number))))?;
+    Some(next.number())
+}
+
+/// Pages that were mapped in falling order are found in rising order.
+#[test]
+fn pages_at_the_borders_of_tables(rt: HostRuntime) -> Result<(), Fail> {
+    let mut memory = Memory::new(rt.alloc(), 64)?;
+    for number in BORDERS.iter().rev() {
+        assert_eq!(rt; map(&mut memory, *number), Ok(()));
+    }
+    assert_eq!(rt; memory.next_page(None), Some((only_space(), page(&rt, 0))));
+    for (number, next) in BORDERS.iter().zip(&BORDERS[1..]) {
+        assert_eq!(rt; next_after(&rt, &memory, *number), Some(*next));
+    }
+    assert_eq!(rt; next_after(&rt, &memory, (1 << 35) - 1), None);
+    assert_eq!(rt;
+        memory.munmap(only_space(), 512 * PAGE_BYTES, PAGE_BYTES),
+        Ok(())
+    );
+    assert_eq!(rt; next_after(&rt, &memory, 511), Some(1 << 18));
+    Ok(())
+}
+
+/// A call on one page or two.
+#[derive(Clone, Copy, Debug)]
+enum Call {
+    Map(u64),
+    Unmap(u64),
+    Store(u64),
+    Clear(u64),
+}
+
+/// A call by chance, on a page near a border of tables.
+fn by_chance(seed: &mut u64) -> Call {
+    *seed = seed
+        .wrapping_mul(6_364_136_223_846_793_005)
+        .wrapping_add(1_442_695_040_888_963_407);
+    let border = BORDERS[(*seed >> 62) as usize + 1];
+    let page = border.saturating_sub(2).saturating_add((*seed >> 40) % 4);
+    match (*seed >> 50) % 5 {
+        0 | 1 => Call::Map(page),
+        2 => Call::Unmap(page),
+        3 => Call::Store(page),
+        _ => Call::Clear(page),
+    }
+}
+
+fn made(memory: &mut Memory, call: Call) -> Result<(), MemoryError> {
+    match call {
+        Call::Map(page) => map(memory, page),
+        Call::Unmap(page) => memory.munmap(
+            only_space(),
+            page.saturating_mul(PAGE_BYTES),
+            2 * PAGE_BYTES,
+        ),
+        Call::Store(page) => memory.store_now(only_space(), page.saturating_mul(PAGE_BYTES), &[1]),
+        Call::Clear(page) => {
+            if let Some(page) = PageNo::new(page) {
+                let _bit = memory.test_and_clear(only_space(), page);
+            }
+            Ok(())
+        }
+    }
+}
+
+/// The words of a space's pages after a call, in a plain map.
+fn made_plain(words: &mut BTreeMap<u64, u64>, call: Call) -> Result<(), AllocError> {
+    match call {
+        Call::Map(page) => {
+            words.insert(page, FRESH)?;
+        }
+        Call::Unmap(page) => {
+            words.remove(&page);
+            words.remove(&page.saturating_add(1));
+        }
+        Call::Store(page) => {
+            if let Some(word) = words.get_mut(&page) {
+                *word = DIRTY_ALONE;
+            }
+        }
+        Call::Clear(page) => {
+            if let Some(word) = words.get_mut(&page) {
+                *word &= !FRESH;
+            }
+        }
+    }
+    Ok(())
+}
+
+/// Whether a memory has just the pages of a plain map, in its order and with its words.
+fn is_plain(memory: &Memory, words: &BTreeMap<u64, u64>) -> bool {
+    let mut after = None;
+    for (number, word) in words {
+        after = memory.next_page(after);
+        let Some((space, page)) = after else {
+            return false;
+        };
+        if page.number() != *number || memory.word(space, page) != *word {
+            return false;
+        }
+    }
+    memory.next_page(after).is_none()
+}
+
+/// Calls by chance do to a memory what they do to a plain map.
+#[test]
+fn calls_by_chance(rt: HostRuntime) -> Result<(), Fail> {
+    let mut memory = Memory::new(rt.alloc(), 64)?;
+    let mut words = BTreeMap::new(rt.alloc());
+    let mut seed = 1;
+    for _ in 0..400 {
+        let call = by_chance(&mut seed);
+        let _ = made(&mut memory, call);
+        made_plain(&mut words, call)?;
+        assert!(rt; is_plain(&memory, &words), "after {call:?}");
+    }
+    Ok(())
+}
