@@ -160,7 +160,7 @@ covers parent memory source t are is pages =
     (runs_rise parent None t.runs (subst (AreRuns parent None) (sym is.runs) (runs_of_space parent 0 source t.space are)) (omega arith))
     (areas_rise None t.areas is.maximal (omega arith))
     (λ page. ap (λ (r : List Run). has page (flat_map run_pages r)) is.runs ∙ sym (runs_have_entries parent 0 source t.space page are)
-        ∙ pages t.space page ∙ sym (some_prot (page_in memory t.space page)) ∙ ap (λ o. is_some o) (sym (is.same page)) ∙ sym (areas_have t.areas page))
+    ∙ pages t.space page ∙ sym (some_prot (page_in memory t.space page)) ∙ ap (λ o. is_some o) (sym (is.same page)) ∙ sym (areas_have t.areas page))
   where
     some_prot : (o : Option plain.Page) → is_some (option_map (λ (found : plain.Page). found.prot) o) ≡ is_some o
     some_prot None = refl
@@ -190,18 +190,20 @@ HaveRunsOf source = AllByRecursion (λ (s : Listed). s.runs ≡ runs_in source s
 -- above its first space, tables have the runs of the others
 have_others : (before : ℕ) (t : Listed) (source tables : List Listed) → Rise before tables → t.space ≤ before → HaveRunsOf (t ∷ source) tables → HaveRunsOf source tables
 have_others before t source [] rise low have = tt
-have_others before t source (s ∷ tables) rise low have =
-    (have.0 ∙ ap (λ b. if b then t.runs else runs_in source s.space) (differ_below t.space s.space (omega (arith, low, rise.0))),
-    have_others s.space t source tables rise.1 (omega (arith, low, rise.0)) have.1)
+have_others before t source (s ∷ tables) rise low have = (
+  have.0 ∙ ap (λ b. if b then t.runs else runs_in source s.space) (differ_below t.space s.space (omega (arith, low, rise.0))),
+  have_others s.space t source tables rise.1 (omega (arith, low, rise.0)) have.1,
+)
   where
     differ_below : (a b : ℕ) → a < b → nat_eq a b ≡ false
     differ_below a b less = grind (arith, nat_tests)
 
 others_among : (parent : ℕ) (s : Listed) (tables source : List Listed) (before : ℕ) → s.space ≤ before → AreTables parent before source → Among (s ∷ tables) source → Among tables source
 others_among parent s tables [] before low are among = tt
-others_among parent s tables (t ∷ source) before low are among =
-    (sym (ap (λ b. b || list_any (λ (s : Listed). nat_eq s.space t.space) tables) (differ_below s.space t.space (omega (arith, low, are.0.above)))) ∙ among.0,
-    others_among parent s tables source t.space (omega (arith, low, are.0.above)) are.1 among.1)
+others_among parent s tables (t ∷ source) before low are among = (
+  sym (ap (λ b. b || list_any (λ (s : Listed). nat_eq s.space t.space) tables) (differ_below s.space t.space (omega (arith, low, are.0.above)))) ∙ among.0,
+  others_among parent s tables source t.space (omega (arith, low, are.0.above)) are.1 among.1,
+)
   where
     differ_below : (a b : ℕ) → a < b → nat_eq a b ≡ false
     differ_below a b less = grind (arith, nat_tests)

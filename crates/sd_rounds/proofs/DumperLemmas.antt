@@ -206,9 +206,10 @@ hands_leaves since old new made g was frozen =
     counted_more : (stage : Stage) → old.stage ≡ stage → is_past_freeze stage ≡ true → nat_eq (kind_number old.order.kind) 2 ≡ true
         → (since + outcomes_left stage ≡ data_pages old.pass.entries + closing stage) × (◌≡◌ {A = ℕ} (if is_frozen old then since + 1 else since) (since + 1))
     counted_more stage e past kind =
-        let is : is_frozen old ≡ true = ap (λ b. b && is_past_freeze old.stage) kind ∙ ap is_past_freeze e ∙ past in
-        (subst (λ (s : Stage). since + outcomes_left s ≡ data_pages old.pass.entries + closing s) e (was is).count,
-        ap (λ b. if b then since + 1 else since) is)
+        let is : is_frozen old ≡ true = ap (λ b. b && is_past_freeze old.stage) kind ∙ ap is_past_freeze e ∙ past in (
+          subst (λ (s : Stage). since + outcomes_left s ≡ data_pages old.pass.entries + closing s) e (was is).count,
+          ap (λ b. if b then since + 1 else since) is,
+        )
 
     by : (stage : Stage) → old.stage ≡ stage → (calls : Calls) → (plan_after g.plan made).calls ≡ calls
         → is_frozen (record old { stage = stage_after old.order.kind old.stage (plan_after g.plan made) (plan_after g.plan made).calls }) ≡ true

@@ -119,15 +119,17 @@ none_mapped parent before (t ∷ tables) are =
 pre_dump_spaces : (takes_all : Bool) (h : Header) (before : ℕ) (tables : List Listed) → h.kind ≡ PreDump → takes_all ≡ nat_eq h.parent 0
     → AreTables (source takes_all) before tables → AreSpaces h before tables
 pre_dump_spaces takes_all h before [] kind takes are = tt
-pre_dump_spaces takes_all h before (t ∷ tables) kind takes are =
-    (record {
-      above = are.0.above;
-      within = are.0.within;
-      few_areas = subst (λ (a : List Area). length a ≤ 1024) (sym are.0.no_areas) (omega arith);
-      areas = subst (λ (a : List Area). AreMaximal None a) (sym are.0.no_areas) tt;
-      runs = own_runs h.parent takes_all t.runs takes are.0.runs;
-      covers = subst (λ k. Covers k t.areas t.runs) (sym kind) (are.0.no_areas, are.0.some);
-    }, pre_dump_spaces takes_all h t.space tables kind takes are.1)
+pre_dump_spaces takes_all h before (t ∷ tables) kind takes are = (
+  record {
+    above = are.0.above;
+    within = are.0.within;
+    few_areas = subst (λ (a : List Area). length a ≤ 1024) (sym are.0.no_areas) (omega arith);
+    areas = subst (λ (a : List Area). AreMaximal None a) (sym are.0.no_areas) tt;
+    runs = own_runs h.parent takes_all t.runs takes are.0.runs;
+    covers = subst (λ k. Covers k t.areas t.runs) (sym kind) (are.0.no_areas, are.0.some);
+  },
+  pre_dump_spaces takes_all h t.space tables kind takes are.1,
+)
 
 data_listed : (entries : List Entry) (spaces : List Listed) → Lists entries spaces → data_count spaces ≡ data_pages entries
 data_listed entries spaces lists = sym (pages_counted spaces) ∙ ap (λ (l : List Place). length l) (lists Data)
@@ -172,22 +174,26 @@ is_covered Merged areas runs other e = e
 dump_spaces : (takes_all : Bool) (h : Header) (memory : PlainMemory) (before : ℕ) (kept spaces : List Listed) → h.kind ≢ PreDump → takes_all ≡ nat_eq h.parent 0
     → AreTables (source takes_all) 0 kept → AreItsPages memory (entries_listed kept) → Rise before spaces → AllByRecursion (IsSpaceOf memory kept) spaces → AreSpaces h before spaces
 dump_spaces takes_all h memory before kept [] kind takes are pages rise each = tt
-dump_spaces takes_all h memory before kept (s ∷ spaces) kind takes are pages rise each =
-    (record {
-      above = rise.0;
-      within = each.0.within;
-      few_areas = each.0.few;
-      areas = each.0.maximal;
-      runs = own_runs h.parent takes_all s.runs takes (subst (AreRuns (source takes_all) None) (sym each.0.runs) (runs_of_space (source takes_all) 0 kept s.space are));
-      covers = is_covered h.kind s.areas s.runs kind (covers (source takes_all) memory kept s are each.0 pages);
-    }, dump_spaces takes_all h memory s.space kept spaces kind takes are pages rise.1 each.1)
+dump_spaces takes_all h memory before kept (s ∷ spaces) kind takes are pages rise each = (
+  record {
+    above = rise.0;
+    within = each.0.within;
+    few_areas = each.0.few;
+    areas = each.0.maximal;
+    runs = own_runs h.parent takes_all s.runs takes (subst (AreRuns (source takes_all) None) (sym each.0.runs) (runs_of_space (source takes_all) 0 kept s.space are));
+    covers = is_covered h.kind s.areas s.runs kind (covers (source takes_all) memory kept s are each.0 pages);
+  },
+  dump_spaces takes_all h memory s.space kept spaces kind takes are pages rise.1 each.1,
+)
 
 -- the first page of a space's runs
 has_first : (parent : ℕ) (runs : List Run) → AreRuns parent None runs → runs ≢ [] → (page : ℕ) × (has page (flat_map run_pages runs) ≡ true)
 has_first parent [] are some = absurd (some refl)
-has_first parent (run ∷ runs) are some =
-    (run.first, has_append run.first (run_pages run) (flat_map run_pages runs)
-    ∙ ap (λ b. b || has run.first (flat_map run_pages runs)) (has_pages run.first run.count run.first ∙ at_first run are.0))
+has_first parent (run ∷ runs) are some = (
+  run.first,
+  has_append run.first (run_pages run) (flat_map run_pages runs)
+      ∙ ap (λ b. b || has run.first (flat_map run_pages runs)) (has_pages run.first run.count run.first ∙ at_first run are.0),
+)
   where
     at_first : (run : Run) → IsTrue (is_run_after parent None run) → is_within run.first run.count run.first ≡ true
     at_first run after = grind (arith, nat_tests)
@@ -204,11 +210,12 @@ among : (parent before : ℕ) (spaces rest : List Listed) → AreTables parent b
     → ((space page : ℕ) → is_some (kind_at (entries_listed rest) (space, page)) ≡ true → list_any (λ (s : Listed). nat_eq s.space space) spaces ≡ true) → Among spaces rest
 among parent before spaces [] are law = tt
 among parent before spaces (t ∷ rest) are law =
-    let first = has_first parent t.runs are.0.runs are.0.some in
-    (law t.space first.0 (split t.space first.0
-    ∙ ap (λ b. b || is_some (kind_at (entries_listed rest) (t.space, first.0)))
-    (runs_have t.space t.runs (t.space, first.0) ∙ ap (λ b. b && has first.0 (flat_map run_pages t.runs)) (same_number t.space) ∙ first.1)),
-    among parent t.space spaces rest are.1 (λ space page e. law space page (split space page ∙ or_right _ _ e)))
+    let first = has_first parent t.runs are.0.runs are.0.some in (
+      law t.space first.0 (split t.space first.0
+          ∙ ap (λ b. b || is_some (kind_at (entries_listed rest) (t.space, first.0)))
+          (runs_have t.space t.runs (t.space, first.0) ∙ ap (λ b. b && has first.0 (flat_map run_pages t.runs)) (same_number t.space) ∙ first.1)),
+      among parent t.space spaces rest are.1 (λ space page e. law space page (split space page ∙ or_right _ _ e)),
+    )
   where
     split : (space page : ℕ) → is_some (kind_at (entries_listed (t ∷ rest)) (space, page))
         ≡ (is_some (kind_at (flat_map (run_entries t.space) t.runs) (space, page)) || is_some (kind_at (entries_listed rest) (space, page)))

@@ -40,17 +40,23 @@ settles old new made result under out is told =
         same = done_calls old made under done
 
         calls : (cs : Calls) → (calls_after old made).0 ≡ cs → Settles old made (settled true cs) (plan_after old made)
-        calls [] e =
-            (done, refl, e,
-            (let same_long : length (calls_after old made).0 ≡ length old.calls = ap (λ (f : Following). length f.0) same in omega (arith, same_long, one)))
-        calls (call ∷ cs) e =
-            (done, refl, (λ none. absurd (let f : call ∷ cs ≡ [] = sym e ∙ none in cc)),
-            (record {
-              known = ap (λ (f : Following). f.1) same;
-              changes = subst AreChanges (sym (ap (λ (f : Following). f.0) same)) under.changes;
-              some = λ free none. absurd (let f : call ∷ cs ≡ [] = sym e ∙ none in cc);
-            }),
-            (let same_long : length (calls_after old made).0 ≡ length old.calls = ap (λ (f : Following). length f.0) same in omega (arith, same_long, one)))
+        calls [] e = (
+          done,
+          refl,
+          e,
+          (let same_long : length (calls_after old made).0 ≡ length old.calls = ap (λ (f : Following). length f.0) same in omega (arith, same_long, one)),
+        )
+        calls (call ∷ cs) e = (
+          done,
+          refl,
+          (λ none. absurd (let f : call ∷ cs ≡ [] = sym e ∙ none in cc)),
+          (record {
+            known = ap (λ (f : Following). f.1) same;
+            changes = subst AreChanges (sym (ap (λ (f : Following). f.0) same)) under.changes;
+            some = λ free none. absurd (let f : call ∷ cs ≡ [] = sym e ∙ none in cc);
+          }),
+          (let same_long : length (calls_after old made).0 ≡ length old.calls = ap (λ (f : Following). length f.0) same in omega (arith, same_long, one)),
+        )
 
 -- ---- a plan that gives out a call
 

@@ -25,9 +25,11 @@ between_append low mid high (x ∷ xs) ys one other = (one.0, between_append (x 
 pub pages_between : (first count : ℕ) → Between first (pages_from first count) (first + count)
 unfolding pages_from
 pages_between first zero = omega arith
-pages_between first (suc count) =
-    (omega arith, subst (λ n. Between (first + 1) (pages_from (suc first) count) n) (omega arith)
-    (between_low (suc first) (first + 1) (suc first + count) (pages_from (suc first) count) (omega arith) (pages_between (suc first) count)))
+pages_between first (suc count) = (
+  omega arith,
+  subst (λ n. Between (first + 1) (pages_from (suc first) count) n) (omega arith)
+      (between_low (suc first) (first + 1) (suc first + count) (pages_from (suc first) count) (omega arith) (pages_between (suc first) count)),
+)
 
 pub has_append : (n : ℕ) (xs ys : List ℕ) → has n (xs ++ ys) ≡ (has n xs || has n ys)
 has_append n xs ys = list_any-append (λ x. nat_eq x n) xs ys

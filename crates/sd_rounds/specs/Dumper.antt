@@ -106,9 +106,9 @@ pub record Works (serial : ℕ) (state : SlotState) (ticket : ℕ) (old : Dumpin
   pub next : Running
   pub works : WorksOn serial state ticket running before step next after
   pub is : new ≡ record {
-      running = Some next;
-      since_freeze = if freezes step then 0 else old.since_freeze;
-    }
+    running = Some next;
+    since_freeze = if freezes step then 0 else old.since_freeze;
+  }
 
 -- the request that is out
 abbrev pub out_of_image : Option Making → Option RequestId

@@ -90,8 +90,8 @@ impl Dumper {
         parent: u64,
     ) -> Result<(), WorkError>
         ensures begun { OnOk result (self.new ≡ record {
-            running = Some (begun_checkpoint number pre_dumps.items dump parent);
-            since_freeze = self.old.since_freeze;
+          running = Some (begun_checkpoint number pre_dumps.items dump parent);
+          since_freeze = self.old.since_freeze;
         }) }
         ensures busy { result ≡ Err Busy ↔ IsSome self.old.running }
         ensures errors { IfErr result (λ e. e ≡ Busy) }

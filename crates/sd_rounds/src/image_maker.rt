@@ -115,11 +115,7 @@ impl ImageMaker {
     ///
     /// Busy where a request is out. Out of memory where an entry, a sector or the table finds no room, which is in the
     /// pass alone. Nothing changed.
-    pub(crate) fn work(
-        &mut self,
-        memory: &mut Memory,
-        ticket: u64,
-    ) -> Result<ImageStep, WorkError>
+    pub(crate) fn work(&mut self, memory: &mut Memory, ticket: u64) -> Result<ImageStep, WorkError>
         ensures steps { IfOk result (λ step. Steps ticket self.old memory.old step self.new memory.new) }
         ensures busy { result ≡ Err Busy ↔ IsSome (out_of self.old.stage) }
         ensures wanted { result ≡ Err OutOfMemory → self.old.stage ≡ PassStage }

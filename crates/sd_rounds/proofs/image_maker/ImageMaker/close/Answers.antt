@@ -29,9 +29,11 @@ invariant_of-self c =
       takes = c.self.invariant.takes;
       counted = c.self.invariant.counted;
       few = c.self.invariant.few;
-      ready = (ap (λ (h : Header). h.pages) c.header-header.ensures ∙ ap (λ (m : Making). data_pages m.pass.entries) (sym c.self.view_is),
-          gives_under_way c.close_body-plan.result c.first_request-request.new.plan c.first_request-request.result
-          (subst (λ (p : Planned). IsUnderWay p) (sym (c.close_body-plan.ensures.body body)) (body_under_way _ _ _)) c.first_request-request.ensures.gives);
+      ready = (
+        ap (λ (h : Header). h.pages) c.header-header.ensures ∙ ap (λ (m : Making). data_pages m.pass.entries) (sym c.self.view_is),
+        gives_under_way c.close_body-plan.result c.first_request-request.new.plan c.first_request-request.result
+            (subst (λ (p : Planned). IsUnderWay p) (sym (c.close_body-plan.ensures.body body)) (body_under_way _ _ _)) c.first_request-request.ensures.gives,
+      );
     }
 
 pub returns-clause-table : goal.returns-clause-table
@@ -40,22 +42,24 @@ returns-clause-table c =
     let body : IsBody c.header-header.result c.in_ok-text.text.items =
     is_body c.header-header.result _ c.in_ok-text.text.items (data_pages c.args.self.now.pass.entries) c.header-header.ensures refl few
     (subst (λ (t : List ℕ). 0 < length t) (sym c.in_ok-text.ensures.text) (table_is_long _)) in
-    let text : c.in_ok-text.text.items ≡ table_text c.in_ok-table-2.table = c.in_ok-text.ensures.text ∙ ap table_text (sym c.in_ok-table-2.ensures) in
-    (record {
-      stage = c.requires.stage;
-      free = c.requires.free;
-      over = c.requires.over;
-      tables = c.in_ok-table-2.table;
-      header = c.header-header.result;
-      numbers = c.header-header.ensures ∙ ap (header_of c.args.self.now.order (data_pages c.args.self.now.pass.entries))
-          (c.len.ensures ∙ c.in_ok-text.text.ok.0 ∙ ap (λ (t : List ℕ). length t) text);
-      table = subst (λ (l : List Listed). HasTable c.args.self.now.order.kind c.args.memory.now c.args.self.now.pass.entries c.header-header.result l) (sym c.in_ok-table-2.ensures)
-          (c.in_ok-table.ensures c.header-header.result (ap (λ (h : Header). h.kind) c.header-header.ensures) (ap (λ (h : Header). h.parent) c.header-header.ensures)
-          (ap (λ (h : Header). h.pages) c.header-header.ensures));
-      next = c.first_request-request.new.plan;
-      gives = subst (λ (p : Planned). Gives p c.first_request-request.new.plan c.first_request-request.result)
-          (c.close_body-plan.ensures.body body ∙ ap (λ (t : List ℕ). begun c.self.inside.order.slot (body_calls c.header-header.result t) nothing) text
-          ∙ ap (λ (m : Making). begun m.order.slot (body_calls c.header-header.result (table_text c.in_ok-table-2.table)) nothing) c.self.view_is)
-          c.first_request-request.ensures.gives;
-      is = ap (λ (m : Making). record m { stage = Close c.first_request-request.new.plan c.header-header.result c.in_ok-table-2.table }) c.self.view_is;
-    }, c.first_request-request.ensures.asked)
+    let text : c.in_ok-text.text.items ≡ table_text c.in_ok-table-2.table = c.in_ok-text.ensures.text ∙ ap table_text (sym c.in_ok-table-2.ensures) in (
+      record {
+        stage = c.requires.stage;
+        free = c.requires.free;
+        over = c.requires.over;
+        tables = c.in_ok-table-2.table;
+        header = c.header-header.result;
+        numbers = c.header-header.ensures ∙ ap (header_of c.args.self.now.order (data_pages c.args.self.now.pass.entries))
+            (c.len.ensures ∙ c.in_ok-text.text.ok.0 ∙ ap (λ (t : List ℕ). length t) text);
+        table = subst (λ (l : List Listed). HasTable c.args.self.now.order.kind c.args.memory.now c.args.self.now.pass.entries c.header-header.result l) (sym c.in_ok-table-2.ensures)
+            (c.in_ok-table.ensures c.header-header.result (ap (λ (h : Header). h.kind) c.header-header.ensures) (ap (λ (h : Header). h.parent) c.header-header.ensures)
+            (ap (λ (h : Header). h.pages) c.header-header.ensures));
+        next = c.first_request-request.new.plan;
+        gives = subst (λ (p : Planned). Gives p c.first_request-request.new.plan c.first_request-request.result)
+            (c.close_body-plan.ensures.body body ∙ ap (λ (t : List ℕ). begun c.self.inside.order.slot (body_calls c.header-header.result t) nothing) text
+            ∙ ap (λ (m : Making). begun m.order.slot (body_calls c.header-header.result (table_text c.in_ok-table-2.table)) nothing) c.self.view_is)
+            c.first_request-request.ensures.gives;
+        is = ap (λ (m : Making). record m { stage = Close c.first_request-request.new.plan c.header-header.result c.in_ok-table-2.table }) c.self.view_is;
+      },
+      c.first_request-request.ensures.asked,
+    )
