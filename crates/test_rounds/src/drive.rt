@@ -1,11 +1,11 @@
-//! A dumper that is driven by hand, event by event, over a memory and a disk.
-use sd_areas::{PAGE_SIZE, PageNo, Prot, SpaceId};
+//! A dumper that is driven by hand over a memory and a disk.
+use sd_areas::{PageNo, Prot, SpaceId};
 use sd_disk::{Disk, MemDisk};
-use sd_gate::{Outcome, Request, SlotState, perform};
+use sd_gate::{Request, SlotState, perform};
 use sd_image::Header;
-use sd_pagetable::{Memory, SECTOR_SIZE, SECTORS, StoreOutcome};
+use sd_pagetable::{Memory, StoreOutcome};
 use sd_restore::restore;
-use sd_rounds::{Dumper, ImageStep, NewImage, NextImage, Progress};
+use sd_rounds::{Dumper, ImageStep, NextImage, Progress};
 use std::alloc::Global;
 use std::test::Fail;
 
@@ -27,21 +27,22 @@ const SLOT_SIZE: usize = 0x8000;
 
 const CALLS: usize = 1000;
 
-/// What a dumper, a memory and a disk have come to.
+/// More steps than any of the checkpoints has.
+const MOST: usize = 1000;
+
+/// A memory, a disk, and a dumper between them.
 #[derive(Drop)]
 pub(crate) struct Drive {
-    alloc: Global,
     pub(crate) memory: Memory,
-    pub(crate) disk: MemDisk,
+    disk: MemDisk,
     dumper: Dumper,
-    out: Option<Request>,
-    kept: Option<Outcome>,
-    tickets: u64,
     serials: u64,
-    slots: usize,
-    pub(crate) frozen: bool,
-    /// The images that were opened, with their slots.
-    pub(crate) images: Vec<(usize, Header)>,
+    /// How many events the checkpoint had so far: a step has one, and two more where a device call is made.
+    pub(crate) events: usize,
+    /// The number of events with which the memory was frozen.
+    pub(crate) frozen: usize,
+    /// The image that was opened last.
+    pub(crate) last: Option<Header>,
 }
 
 impl Drive {
@@ -49,116 +50,97 @@ impl Drive {
     pub(crate) fn new(alloc: Global) -> Result<Self, Fail> {
         let mut memory = Memory::new(alloc, 16)?;
         memory.mmap(SpaceId::new(SPACE), FIRST, PAGE, PROT)?;
+        let disk = MemDisk::new(alloc, SLOTS, SLOT_SIZE, CALLS)?;
         Ok(Drive {
-            alloc,
             memory,
-            disk: MemDisk::new(alloc, SLOTS, SLOT_SIZE, CALLS)?,
+            disk,
             dumper: Dumper::new(alloc),
-            out: None,
-            kept: None,
-            tickets: 0,
             serials: 0,
-            slots: 0,
-            frozen: false,
-            images: Vec::new(alloc),
+            events: 0,
+            frozen: 0,
+            last: None,
         })
     }
 
-    /// Begins a checkpoint above the parent with this number.
-    pub(crate) fn begin(&mut self, number: u64, rounds: usize, parent: u64) -> Result<(), Fail> {
-        let mut slots = Vec::new(self.alloc);
-        for round in 0..rounds {
-            slots.push(self.slots.wrapping_add(round))?;
-        }
-        let dump = self.slots.wrapping_add(rounds);
-        self.slots = dump.wrapping_add(1);
-        self.frozen = false;
-        self.dumper
-            .begin(number, slots, dump, parent)
-            .ok()
-            .ok_or("a beginning")?;
-        Ok(())
+    /// Begins a checkpoint above the parent with this number: pre-dumps in these slots, and a dump.
+    pub(crate) fn begin(
+        &mut self,
+        number: u64,
+        rounds: Vec<usize>,
+        dump: usize,
+        parent: u64,
+    ) -> bool {
+        self.events = 0;
+        self.frozen = 0;
+        self.dumper.begin(number, rounds, dump, parent).is_ok()
     }
 
-    /// Makes one event: the call that is out, or else a step. Returns whether the dump is open then.
-    pub(crate) fn event(&mut self) -> Result<bool, Fail> {
-        if let Some(request) = self.out.take() {
-            self.perform(request)?;
-            return Ok(false);
-        }
-        match self.kept.take() {
-            Some(outcome) => self.hand_in(outcome),
-            None => self.work(),
-        }
-    }
-
-    fn perform(&mut self, request: Request) -> Result<(), Fail> {
-        if self.disk.slots() <= request.id().slot {
-            return Err(Fail::from("a slot of the disk"));
-        }
-        self.kept = Some(perform(&mut self.disk, request));
-        Ok(())
-    }
-
-    fn hand_in(&mut self, outcome: Outcome) -> Result<bool, Fail> {
-        match self.dumper.hand_in(outcome) {
-            Progress::More => Ok(false),
-            Progress::PreDump(image) => {
-                self.enter(image)?;
-                Ok(false)
-            }
-            Progress::Dump(image) => {
-                self.enter(image)?;
-                Ok(true)
-            }
-            Progress::Strange | Progress::Failed => Err(Fail::from("an outcome that is done")),
-        }
-    }
-
-    fn enter(&mut self, image: NewImage) -> Result<(), Fail> {
-        self.images.push((image.slot, image.header))?;
-        Ok(())
-    }
-
-    fn work(&mut self) -> Result<bool, Fail> {
+    /// Makes one step, with its device call. Returns whether the dump is open then.
+    fn step(&mut self) -> Result<bool, Fail> {
         if self.dumper.next_slot().is_some() {
             self.serials = self.serials.wrapping_add(1);
         }
-        self.tickets = self.tickets.wrapping_add(1);
+        self.events = self.events.wrapping_add(1);
         let image = NextImage {
             serial: self.serials,
             state: SlotState::Raw,
         };
         let step = self
             .dumper
-            .work(&mut self.memory, image, self.tickets)
+            .work(&mut self.memory, image, self.events as u64)
             .ok()
             .ok_or("a step")?;
         match step {
             ImageStep::Call(request)
             | ImageStep::PageCall(request)
-            | ImageStep::TableCall(request) => self.out = Some(request),
-            ImageStep::Frozen => self.frozen = true,
-            ImageStep::Visited(_) | ImageStep::Copied(_) => {}
+            | ImageStep::TableCall(request) => self.call(request),
+            ImageStep::Frozen => {
+                self.frozen = self.events;
+                Ok(false)
+            }
+            ImageStep::Visited(_) | ImageStep::Copied(_) => Ok(false),
         }
-        Ok(false)
     }
 
-    /// Makes so many events. None of them may end the checkpoint.
-    pub(crate) fn events(&mut self, count: usize) -> Result<(), Fail> {
-        for _ in 0..count {
-            if self.event()? {
-                return Err(Fail::from("an event that ends nothing"));
+    /// Makes a device call, and hands its outcome in.
+    fn call(&mut self, request: Request) -> Result<bool, Fail> {
+        self.events = self.events.wrapping_add(2);
+        if self.disk.slots() <= request.id().slot {
+            return Err(Fail::from("a slot of the disk"));
+        }
+        let outcome = perform(&mut self.disk, request);
+        match self.dumper.hand_in(outcome) {
+            Progress::More => Ok(false),
+            Progress::PreDump(image) => {
+                self.last = Some(image.header);
+                Ok(false)
+            }
+            Progress::Dump(image) => {
+                self.last = Some(image.header);
+                Ok(true)
+            }
+            Progress::Strange | Progress::Failed => Err(Fail::from("an outcome that is done")),
+        }
+    }
+
+    /// Makes the steps up to so many events. None of them may end the checkpoint.
+    pub(crate) fn up_to(&mut self, events: usize) -> Result<(), Fail> {
+        for _ in 0..events {
+            if events <= self.events {
+                return Ok(());
+            }
+            if self.step()? {
+                return Err(Fail::from("a step that ends nothing"));
             }
         }
         Ok(())
     }
 
-    /// Makes the events up to the one with which the dump is open, at most so many, and returns their number.
-    pub(crate) fn finish(&mut self, most: usize) -> Result<usize, Fail> {
-        for made in 0..most {
-            if self.event()? {
-                return Ok(made.wrapping_add(1));
+    /// Makes the steps up to the one with which the dump is open.
+    pub(crate) fn finish(&mut self) -> Result<(), Fail> {
+        for _ in 0..MOST {
+            if self.step()? {
+                return Ok(());
             }
         }
         Err(Fail::from("the end of the checkpoint"))
@@ -169,52 +151,22 @@ impl Drive {
         self.dumper.since_freeze()
     }
 
-    /// Whether the disk is restored to the memory as it is now, and this checkpoint.
-    pub(crate) fn is_restored(&mut self, checkpoint: u64) -> Result<bool, Fail> {
-        let snapshot = restore(self.alloc, &mut self.disk)
-            .ok()
-            .ok_or("a checkpoint")?;
-        let mut pages: usize = 0;
-        let mut same = snapshot.checkpoint == checkpoint;
-        for (space, own) in &snapshot.spaces {
-            for (page, found) in own {
-                pages = pages.wrapping_add(1);
-                same = same && self.has_page(*space, *page, found.bytes.as_slice());
-            }
-        }
-        Ok(same && pages == self.mapped())
+    /// The checkpoint that the disk is restored to, and the first bytes of two sectors of its page, if it has one.
+    pub(crate) fn restored(&mut self, alloc: Global) -> Result<(u64, Option<(u8, u8)>), Fail> {
+        let page = PageNo::new(FIRST / PAGE).ok_or("a page")?;
+        let snapshot = restore(alloc, &mut self.disk).ok().ok_or("a checkpoint")?;
+        let own = snapshot.spaces.get(&SpaceId::new(SPACE)).ok_or("a space")?;
+        let bytes = own
+            .get(&page)
+            .map(|found| (found.bytes[0], found.bytes[0x200]));
+        Ok((snapshot.checkpoint, bytes))
     }
 
-    /// Whether the memory has a page with these bytes.
-    fn has_page(&self, space: SpaceId, page: PageNo, bytes: &[u8]) -> bool {
-        let mut sector = [0; SECTOR_SIZE];
-        let mut same = bytes.len() == PAGE_SIZE;
-        for number in 0..SECTORS {
-            let at = SECTOR_SIZE * number;
-            same = same
-                && self.memory.read_sector(space, page, number, &mut sector)
-                && bytes[at..at + SECTOR_SIZE].starts_with(&sector);
-        }
-        same
-    }
-
-    /// How many pages are mapped, of those that a test maps.
-    fn mapped(&self) -> usize {
-        let mut after = None;
-        let mut count: usize = 0;
-        for _ in 0..100 {
-            after = match self.memory.next_page(after) {
-                Some(next) => Some(next),
-                None => return count,
-            };
-            count = count.wrapping_add(1);
-        }
-        count
-    }
-
-    /// Stores bytes where the page is writable, and returns whether it is.
-    pub(crate) fn store(&mut self, address: u64, bytes: &[u8]) -> Result<bool, Fail> {
-        let outcome = self.memory.try_store(SpaceId::new(SPACE), address, bytes)?;
+    /// Stores a byte where the page is writable, and returns whether it is.
+    pub(crate) fn store(&mut self, address: u64, byte: u8) -> Result<bool, Fail> {
+        let outcome = self
+            .memory
+            .try_store(SpaceId::new(SPACE), address, &[byte])?;
         Ok(outcome == StoreOutcome::Done)
     }
 }

@@ -5,100 +5,125 @@ use sd_image::{Header, Kind};
 use std::alloc::Global;
 use std::test::Fail;
 
-/// More events than any of these checkpoints has.
-const MOST: usize = 1000;
-
-/// A page with one byte, and a checkpoint that began.
-fn begun(alloc: Global, rounds: usize) -> Result<Drive, Fail> {
-    let mut drive = Drive::new(alloc)?;
-    drive.memory.store_now(SpaceId::new(SPACE), FIRST, &[0x61])?;
-    drive.begin(1, rounds, 0)?;
-    Ok(drive)
-}
-
-/// An image of checkpoint 1 that stands for itself, as it is listed.
-fn listed(header: &Header) -> (Kind, u64, u64, u64, u64) {
-    (
+/// An image that stands for itself: kind, serial, parent, checkpoint and data pages.
+fn listed(header: Option<Header>) -> Option<(Kind, u64, u64, u64, u64)> {
+    let header = header?;
+    Some((
         header.kind,
         header.serial,
         header.parent,
         header.checkpoint,
         header.pages,
-    )
+    ))
 }
 
-/// A page is stored to between two of its sectors: the pre-dump has a page that never was, and the dump the whole one.
+/// Stores a byte to the page, and begins a checkpoint of one round.
+fn begin_round(alloc: Global, drive: &mut Drive) -> Result<(), Fail> {
+    drive.memory.store_now(SpaceId::new(SPACE), FIRST, &[0x61])?;
+    drive.begin(1, vec![in alloc; 0]?, 1, 0);
+    Ok(())
+}
+
+/// Stores between two sectors of the pre-dump's copy, and returns whether the page was writable before and after its
+/// fault.
+fn tear(alloc: Global, drive: &mut Drive) -> Result<(bool, bool), Fail> {
+    begin_round(alloc, drive)?;
+    drive.up_to(14)?;
+    let before = drive.store(FIRST + 0x200, 0xaa)?;
+    drive.memory.fault(SpaceId::new(SPACE), FIRST + 0x200)?;
+    let after = drive.store(FIRST + 0x200, 0xaa)?;
+    drive.finish()?;
+    Ok((before, after))
+}
+
+/// A page is stored to between two of its sectors: the dump has the whole page.
 #[test]
 fn torn_copy(rt: HostRuntime) -> Result<(), Fail> {
-    let mut drive = begun(rt.alloc(), 1)?;
-    drive.events(14)?;
-    assert!(rt; !drive.store(FIRST + 0x200, &[0xaa])?);
-    drive.memory.fault(SpaceId::new(SPACE), FIRST + 0x200)?;
-    assert!(rt; drive.store(FIRST + 0x200, &[0xaa])?);
-    drive.finish(MOST)?;
-    assert_eq!(rt; drive.images.len(), 2);
-    assert_eq!(rt; drive.images[0].0, 0);
-    assert_eq!(rt; listed(&drive.images[0].1), (Kind::PreDump, 1, 0, 1, 1));
-    assert_eq!(rt; drive.images[1].0, 1);
-    assert_eq!(rt; listed(&drive.images[1].1), (Kind::Dump, 2, 1, 1, 1));
-    assert!(rt; drive.is_restored(1)?);
+    let mut drive = Drive::new(rt.alloc())?;
+    let writable = tear(rt.alloc(), &mut drive)?;
+    let restored = drive.restored(rt.alloc())?;
+    assert_eq!(rt; writable, (false, true));
+    assert_eq!(rt; listed(drive.last), Some((Kind::Dump, 2, 1, 1, 1)));
+    assert_eq!(rt; restored, (1, Some((0x61, 0xaa))));
     Ok(())
+}
+
+/// Clears the page between a fault and its store, and returns whether it was writable before and after.
+fn race(alloc: Global, drive: &mut Drive) -> Result<(bool, bool), Fail> {
+    drive.memory.fault(SpaceId::new(SPACE), FIRST)?;
+    let before = drive.store(FIRST, 0x61)?;
+    drive.begin(1, vec![in alloc; 0]?, 1, 0);
+    drive.up_to(10)?;
+    Ok((before, drive.store(FIRST, 0x62)?))
 }
 
 /// A page is cleared between a fault and its store.
 #[test]
 fn lost_race(rt: HostRuntime) -> Result<(), Fail> {
     let mut drive = Drive::new(rt.alloc())?;
-    assert!(rt; !drive.store(FIRST, &[0x61])?);
-    drive.memory.fault(SpaceId::new(SPACE), FIRST)?;
-    drive.begin(1, 1, 0)?;
-    drive.events(10)?;
-    assert!(rt; !drive.store(FIRST, &[0x61])?);
+    let writable = race(rt.alloc(), &mut drive)?;
+    assert_eq!(rt; writable, (true, false));
     Ok(())
+}
+
+/// Makes a checkpoint, maps the region anew, and makes another.
+fn renew(alloc: Global, drive: &mut Drive) -> Result<(), Fail> {
+    drive.memory.store_now(SpaceId::new(SPACE), FIRST, &[0x61])?;
+    drive.begin(1, Vec::new(alloc), 0, 0);
+    drive.finish()?;
+    drive.memory.munmap(SpaceId::new(SPACE), FIRST, PAGE)?;
+    drive.memory.mmap(SpaceId::new(SPACE), FIRST, PAGE, PROT)?;
+    drive.begin(2, Vec::new(alloc), 1, 1);
+    drive.finish()
 }
 
 /// A page that was mapped anew since the last checkpoint is zeros in the next.
 #[test]
 fn renewed_region(rt: HostRuntime) -> Result<(), Fail> {
-    let mut drive = begun(rt.alloc(), 0)?;
-    drive.finish(MOST)?;
-    drive.memory.munmap(SpaceId::new(SPACE), FIRST, PAGE)?;
-    drive.memory.mmap(SpaceId::new(SPACE), FIRST, PAGE, PROT)?;
-    drive.begin(2, 0, 1)?;
-    drive.finish(MOST)?;
-    assert_eq!(rt; listed(&drive.images[1].1), (Kind::Dump, 2, 1, 2, 0));
-    assert!(rt; drive.is_restored(2)?);
+    let mut drive = Drive::new(rt.alloc())?;
+    renew(rt.alloc(), &mut drive)?;
+    let restored = drive.restored(rt.alloc())?;
+    assert_eq!(rt; listed(drive.last), Some((Kind::Dump, 2, 1, 2, 0)));
+    assert_eq!(rt; restored, (2, Some((0, 0))));
     Ok(())
+}
+
+/// Unmaps the page while the pre-dump copies it.
+fn vanish(alloc: Global, drive: &mut Drive) -> Result<(), Fail> {
+    begin_round(alloc, drive)?;
+    drive.up_to(14)?;
+    drive.memory.munmap(SpaceId::new(SPACE), FIRST, PAGE)?;
+    drive.finish()
 }
 
 /// A page that is unmapped while it is copied gets no entry.
 #[test]
 fn vanished_page(rt: HostRuntime) -> Result<(), Fail> {
-    let mut drive = begun(rt.alloc(), 1)?;
-    drive.events(14)?;
-    drive.memory.munmap(SpaceId::new(SPACE), FIRST, PAGE)?;
-    drive.events(1)?;
-    drive.finish(MOST)?;
-    assert_eq!(rt; drive.images[0].1.pages, 0);
-    assert_eq!(rt; drive.images[0].1.table_len, 8);
-    assert_eq!(rt; drive.images[1].1.pages, 0);
-    assert_eq!(rt; drive.images[1].1.table_len, 24);
-    assert!(rt; drive.is_restored(1)?);
+    let mut drive = Drive::new(rt.alloc())?;
+    vanish(rt.alloc(), &mut drive)?;
+    let restored = drive.restored(rt.alloc())?;
+    assert_eq!(rt; listed(drive.last), Some((Kind::Dump, 2, 1, 1, 0)));
+    assert_eq!(rt; drive.last.map(|header| header.table_len), Some(24));
+    assert_eq!(rt; restored, (1, None));
     Ok(())
 }
 
-/// One page and no rounds: the memory is frozen after 10 events, and the dump is open after 37.
+/// Makes a checkpoint of no rounds over one page of data.
+fn dump(alloc: Global, drive: &mut Drive) -> Result<(), Fail> {
+    drive.memory.store_now(SpaceId::new(SPACE), FIRST, &[0x61])?;
+    drive.begin(1, Vec::new(alloc), 0, 0);
+    drive.finish()
+}
+
+/// One page and no rounds: the memory is frozen with event 10, and the dump is open with event 37.
 #[test]
 fn count_of_steps(rt: HostRuntime) -> Result<(), Fail> {
-    let mut drive = begun(rt.alloc(), 0)?;
-    drive.events(9)?;
-    assert!(rt; !drive.frozen);
-    drive.events(1)?;
-    assert!(rt; drive.frozen);
-    assert_eq!(rt; drive.since_freeze(), 0);
-    drive.events(26)?;
-    assert!(rt; drive.event()?);
+    let mut drive = Drive::new(rt.alloc())?;
+    dump(rt.alloc(), &mut drive)?;
+    let restored = drive.restored(rt.alloc())?;
+    assert_eq!(rt; drive.frozen, 10);
+    assert_eq!(rt; drive.events, 37);
     assert_eq!(rt; drive.since_freeze(), 6);
-    assert!(rt; drive.is_restored(1)?);
+    assert_eq!(rt; restored, (1, Some((0x61, 0))));
     Ok(())
 }
