@@ -94,21 +94,9 @@ fn by_chance(seed: &mut u64) -> u64 {
     (*seed >> 48).saturating_mul(4096)
 }
 
-/// A store to each of all pages.
-fn all_filled(alloc: Global) -> Result<Memory, MemoryError> {
-    let mut memory = mapped(alloc, ALL_PAGES)?;
-    store(&mut memory, SpaceId::new(1), ALL_PAGES, ALL_PAGES)?;
-    Ok(memory)
-}
-
-fn all(alloc: Global) -> Result<(), MemoryError> {
-    all_filled(alloc)?;
-    Ok(())
-}
-
-/// A store to each of all pages, and then many to pages in random order.
+/// Stores to pages in random order.
 fn random_stores(alloc: Global) -> Result<(), MemoryError> {
-    let mut memory = all_filled(alloc)?;
+    let mut memory = mapped(alloc, ALL_PAGES)?;
     let mut seed = 1;
     for _ in 0..CALLS {
         memory.store_now(
@@ -239,7 +227,6 @@ fn sparse_walk(alloc: Global) -> Result<(), MemoryError> {
 fn timed(alloc: Global, word: &str) -> Result<&'static str, MemoryError> {
     match word {
         "stores" => stores(alloc)?,
-        "all" => all(alloc)?,
         "random" => random_stores(alloc)?,
         "loads" => random_loads(alloc)?,
         "words" => random_words(alloc)?,
@@ -254,7 +241,7 @@ fn timed(alloc: Global, word: &str) -> Result<&'static str, MemoryError> {
         "sparse_walk" => sparse_walk(alloc)?,
         _ => {
             return Ok(
-                "usage: memory_bench stores|all|random|loads|words|pages|fork|child|ranges|anew|protects|walk|sparse|sparse_walk",
+                "usage: memory_bench stores|random|loads|words|pages|fork|child|ranges|anew|protects|walk|sparse|sparse_walk",
             );
         }
     }

@@ -114,19 +114,28 @@ fn made_plain(words: &mut BTreeMap<u64, u64>, call: Call) -> Result<(), AllocErr
     Ok(())
 }
 
+fn place_of(number: Option<u64>) -> Option<(SpaceId, PageNo)> {
+    Some((only_space(), PageNo::new(number?)?))
+}
+
+/// Whether the next page of a memory is one with a number and a word.
+fn is_next(memory: &Memory, before: Option<u64>, number: u64, word: u64) -> bool {
+    match memory.next_page(place_of(before)) {
+        Some((space, page)) => page.number() == number && memory.word(space, page) == word,
+        None => false,
+    }
+}
+
 /// Whether a memory has just the pages of a plain map, in its order and with its words.
 fn is_plain(memory: &Memory, words: &BTreeMap<u64, u64>) -> bool {
-    let mut after = None;
+    let mut before = None;
     for (number, word) in words {
-        after = memory.next_page(after);
-        let Some((space, page)) = after else {
-            return false;
-        };
-        if page.number() != *number || memory.word(space, page) != *word {
+        if !is_next(memory, before, *number, *word) {
             return false;
         }
+        before = Some(*number);
     }
-    memory.next_page(after).is_none()
+    memory.next_page(place_of(before)).is_none()
 }
 
 /// Calls by chance do to a memory what they do to a plain map.
