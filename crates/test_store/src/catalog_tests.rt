@@ -97,27 +97,27 @@ fn pages_that_lie_alike_are_traced_at_once(rt: HostRuntime) -> Result<(), Fail> 
     ];
     add(&mut catalog, rt.alloc(), 1, dump(2, 2, 1), &newer)?;
     let data = |slot: usize, offset: u64| Trace::Found(Found::Data { slot, offset });
+    let space = SpaceId::new(SPACE);
     let mut chain = catalog.chain(2)?;
-    for (number, count, trace, traced) in [
-        (0x10, 5, data(0, 4096), 1),
-        (0x11, 4, data(1, 4096), 1),
-        (0x12, 3, data(0, 4096 * 3), 2),
-        (0x14, 1, Trace::Broken { slot: 1 }, 1),
-        (0x15, 1, Trace::Absent, 1),
-        (0x12, 1, data(0, 4096 * 3), 1),
-        (0x10, 9, data(0, 4096), 1),
+    for (number, trace, count) in [
+        (0x10, data(0, 4096), 1),
+        (0x11, data(1, 4096), 1),
+        (0x12, data(0, 4096 * 3), 2),
+        (0x14, Trace::Broken { slot: 1 }, 1),
+        (0x15, Trace::Absent, 1),
+        (0x12, data(0, 4096 * 3), 2),
+        (0x10, data(0, 4096), 1),
     ] {
-        let run = TraceRun {
-            trace,
-            count: traced,
-        };
-        assert_eq!(rt; chain.trace(SpaceId::new(SPACE), page(number)?, count), run);
+        assert_eq!(rt;
+            chain.trace(space, page(number)?, 5),
+            TraceRun { trace, count }
+        );
     }
-    let run = TraceRun {
-        trace: Trace::Absent,
-        count: 1,
-    };
-    assert_eq!(rt; chain.trace(SpaceId::new(2), page(0x10)?, 1), run);
+    assert_eq!(rt; chain.trace(space, page(0x12)?, 1).count, 1);
+    assert_eq!(rt;
+        chain.trace(SpaceId::new(2), page(0x10)?, 5).trace,
+        Trace::Absent
+    );
     Ok(())
 }
 
