@@ -1,0 +1,6 @@
+pub mod Believes
+pub mod Calls
+pub mod Knows
+pub mod Laws
+pub mod Shown
+pub mod View

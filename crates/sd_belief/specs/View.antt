@@ -1,0 +1,90 @@
+-- What is seen of a core.
+use Rattle.std.specs.Prelude.{ℕ, Bool, List, Option, refl}
+use Rattle.std.specs.Coded.{Coded, code_by, coded×, coded_ℕ, coded_option}
+use Rattle.sd_areas.specs.Codes.{plain_memory_code}
+use Rattle.sd_areas.specs.PlainMemory.{PlainMemory}
+use Rattle.sd_pagetable.specs.Contents.{Contents, contents_code}
+use Rattle.sd_chain.specs.Catalog.{Places}
+use Rattle.sd_gate.specs.declared.phase.Phase.{Phase}
+use Rattle.sd_gate.specs.declared.request_id.RequestId.{RequestId}
+use Rattle.sd_gate.specs.declared.worker.Worker.{Worker}
+use Rattle.sd_gate.specs.declared.worker.Worker.TheVariants.{Dumper, Merger, Opener}
+use Rattle.sd_gate.specs.Plans.{Planned}
+use Rattle.sd_journal.specs.History.{Base, History}
+use Rattle.sd_journal.specs.Kept.{Kept}
+use Rattle.sd_journal.specs.Marked.{entries_of}
+use Rattle.sd_rounds.specs.Dumper.{Dumping}
+use Rattle.sd_belief.specs.declared.standing.Standing.{Standing}
+
+-- an opener: the slot that it looks at, how far its inspection is, and the phases and images of the slots below
+pub record Looking : Type 0 where
+  pub slot : ℕ
+  pub plan : Planned
+  pub told : List Phase
+  pub found : Places
+
+-- the numbers that were used
+pub record Numbers : Type 0 where
+  -- the greatest checkpoint number that was begun in this run, or found at the last opening
+  pub checkpoint : ℕ
+  -- the greatest serial that was given out in this run, or found at the last opening
+  pub serial : ℕ
+  -- the ticket of the next request
+  pub ticket : ℕ
+
+pub record CoreView : Type 0 where
+  -- what the run started from
+  pub base : Base
+  -- its entries and marks
+  pub journal : Kept
+  pub memory : Contents
+  pub standing : Standing
+  -- the phase of each slot, by the calls whose outcomes were handed in
+  pub phases : List Phase
+  -- the request that is out of each worker
+  pub outs : List (Option RequestId)
+  pub catalog : Places
+  pub dumper : Dumping
+  pub opener : Option Looking
+  pub numbers : Numbers
+  -- a checkpoint was acknowledged since the store was opened or a checkpoint cancelled
+  pub grows : Bool
+
+-- ---- how a view is stored as a value
+
+abbrev pub base_code : Coded Base
+base_code = code_by (Option ℕ × PlainMemory) (coded× (coded_option coded_ℕ) plain_memory_code)
+    (λ b. (b.number, b.memory)) (λ t. record { number = t.0; memory = t.1 }) (λ _. refl)
+
+-- all but the base and the memory
+abbrev pub Rest : Type 0
+Rest = Kept × (Standing × (List Phase × (List (Option RequestId) × (Places × (Dumping × (Option Looking × (Numbers × Bool)))))))
+
+abbrev pub core_code : Coded Rest → Coded CoreView
+core_code rest = code_by (Base × (Contents × Rest)) (coded× base_code (coded× contents_code rest))
+    (λ c. (c.base, (c.memory, (c.journal, (c.standing, (c.phases, (c.outs, (c.catalog, (c.dumper, (c.opener, (c.numbers, c.grows)))))))))))
+    (λ t. record {
+      base = t.0;
+      memory = t.1.0;
+      journal = t.1.1.0;
+      standing = t.1.1.1.0;
+      phases = t.1.1.1.1.0;
+      outs = t.1.1.1.1.1.0;
+      catalog = t.1.1.1.1.1.1.0;
+      dumper = t.1.1.1.1.1.1.1.0;
+      opener = t.1.1.1.1.1.1.1.1.0;
+      numbers = t.1.1.1.1.1.1.1.1.1.0;
+      grows = t.1.1.1.1.1.1.1.1.1.1;
+    }) (λ _. refl)
+
+-- ---- parts of it
+
+-- the entries of its journal, the newest first
+abbrev pub history_of : CoreView → History
+history_of core = entries_of core.journal.items
+
+-- the place of a worker among three
+abbrev pub index : Worker → ℕ
+index Dumper = 0
+index Merger = 1
+index Opener = 2

@@ -1,0 +1,8 @@
+//! What the core of a store believes of the files that it doesn't hold, and what its calls do to that.
+#![tactic(auto)]
+
+mod laws;
+mod standing;
+
+pub use laws::performed_law;
+pub use standing::Standing;

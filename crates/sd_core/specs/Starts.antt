@@ -1,0 +1,37 @@
+-- A core as it starts, and what a worker's step is.
+use Rattle.std.specs.Prelude.{◌≡◌, ℕ, List, [], ◌∷◌, Option, Some, None}
+use Rattle.sd_areas.specs.PlainMemory.{PlainMemory}
+use Rattle.sd_gate.specs.declared.phase.Phase.{Phase}
+use Rattle.sd_gate.specs.declared.worker.Worker.{Worker}
+use Rattle.sd_journal.specs.Allowed.{Shown}
+use Rattle.sd_pagetable.specs.Contents.{Contents}
+use Rattle.sd_rounds.specs.Dumper.{idle}
+use Rattle.sd_belief.specs.declared.standing.Standing.TheVariants.{NotOpen}
+use Rattle.sd_belief.specs.Calls.{HandsOut, MakesStep}
+use Rattle.sd_belief.specs.View.{CoreView}
+use Rattle.sd_core.specs.declared.taken.Taken.{Taken}
+use Rattle.sd_core.specs.declared.taken.Taken.TheVariants.{Step, Call}
+
+-- what the base's number and memory are to be shown as
+abbrev pub shown_base : Option ℕ → PlainMemory → Shown
+shown_base None memory = None
+shown_base (Some number) memory = Some (number, memory)
+
+-- a core that starts: its journal is empty, its store isn't open, and nothing is out
+pub record IsStart (number : Option ℕ) (saved : PlainMemory) (loaded : Contents) (found : List Phase) (core : CoreView) : Type 0 where
+  pub base : core.base ≡ record { number = number; memory = saved }
+  pub items : core.journal.items ≡ []
+  pub held : core.journal.held ≡ 0
+  pub limit : core.journal.limit ≡ 1048576
+  pub memory : core.memory ≡ loaded
+  pub standing : core.standing ≡ NotOpen
+  pub phases : core.phases ≡ found
+  pub outs : core.outs ≡ None ∷ None ∷ None ∷ []
+  pub catalog : core.catalog ≡ []
+  pub dumper : core.dumper ≡ idle 0
+  pub opener : core.opener ≡ None
+
+-- a step that was made, or a request that is handed out
+abbrev pub TakesUp : CoreView → Worker → Taken → CoreView → Type 0
+TakesUp old worker (Step answer) new = MakesStep old worker answer new
+TakesUp old worker (Call request) new = HandsOut old worker request new
