@@ -23,6 +23,7 @@ pub found_lem : FilesAreBelieved → OpenedIsSound → SlotsAreFound → FoundIs
 found_lem files_are is_sound slots_are core asked files shown phases closed none shows last =
     let slots = slots_are files shows.images shows.store in
     record {
+      has = record {
       store = opened shows.images;
       dump = None;
       beliefs = slots.0;
@@ -33,5 +34,6 @@ found_lem files_are is_sound slots_are core asked files shown phases closed none
       waiting = λ worker request out. absurd (none worker request out);
       last = record { shown = shown; is = last; shows = shows.newest };
       next = tt;
+      };
       knows = record { sees = subst (λ opener. IfSome opener (Sees files asked)) (sym closed) tt };
     }
