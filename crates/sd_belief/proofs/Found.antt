@@ -23,17 +23,17 @@ pub found_lem : FilesAreBelieved → OpenedIsSound → SlotsAreFound → FoundIs
 found_lem files_are is_sound slots_are core asked files shown phases closed none shows last =
     let slots = slots_are files shows.images shows.store in
     record {
-      has = record {
       store = opened shows.images;
       dump = None;
       beliefs = slots.0;
-      sound = is_sound files shows.images shows.store;
-      slots = slots.2;
-      believed = subst (λ all. AreBelieved all (map (drop {A = ℕ} 1) files) slots.0) (sym phases) (files_are files slots.0 slots.1);
-      stored = same_count files ∙ ap length (sym phases);
-      waiting = λ worker request out. absurd (none worker request out);
-      last = record { shown = shown; is = last; shows = shows.newest };
-      next = tt;
+      has = record {
+        sound = is_sound files shows.images shows.store;
+        slots = slots.2;
+        believed = subst (λ all. AreBelieved all (map (drop {A = ℕ} 1) files) slots.0) (sym phases) (files_are files slots.0 slots.1);
+        stored = same_count files ∙ ap length (sym phases);
+        waiting = λ worker request out. absurd (none worker request out);
+        last = record { shown = shown; is = last; shows = shows.newest };
+        next = tt;
       };
       knows = record { sees = subst (λ opener. IfSome opener (Sees files asked)) (sym closed) tt };
     }

@@ -125,15 +125,15 @@ module _ (asked : List (Option Asked)) (worker : ℕ) (request : Asked) (made : 
 
   pub believes_on : (core : CoreView) (bodies : List (List ℕ)) → Believes core asked bodies files → Believes core after bodies new
   believes_on core bodies b = record {
+    store = b.store;
+    dump = b.dump;
+    beliefs = b.beliefs;
     has = record {
-      store = b.has.store;
-      dump = b.has.dump;
-      beliefs = b.has.beliefs;
       sound = b.has.sound;
       slots = b.has.slots;
       believed = b.has.believed;
       stored = b.has.stored;
-      waiting = waiting core.phases bodies b.has.beliefs b.has.waiting;
+      waiting = waiting core.phases bodies b.beliefs b.has.waiting;
       last = b.has.last;
       next = b.has.next;
     };

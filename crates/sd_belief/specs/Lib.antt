@@ -3,4 +3,5 @@ pub mod Calls
 pub mod Knows
 pub mod Laws
 pub mod Shown
+pub mod StoreSteps
 pub mod View
