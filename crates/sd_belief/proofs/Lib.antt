@@ -1,2 +1,4 @@
 mod Found
 mod Performed
+mod Places
+mod QuietSteps
