@@ -1,29 +1,27 @@
 -- Steps that leave what is believed of the slots.
-use Rattle.std.proofs.Common.{◌≡◌, ◌≢◌, ◌⊎◌, ℕ, ◌<◌, Bool, true, false, List, [], ◌∷◌, length, if◌then◌else◌, ◌==◌, Option, Some, None, IfSome, slice_get, slice_set, refl, sym, ◌∙◌, ap, subst, inl, inr, arith}
+use Rattle.std.proofs.Common.{◌≡◌, ◌≢◌, ◌⊎◌, ℕ, ◌<◌, List, ◌∷◌, if◌then◌else◌, Option, Some, None, IfSome, slice_get, slice_set, refl, sym, ◌∙◌, ap, subst, inl, inr, arith}
 use Rattle.std.proofs.lemmas.Bool.{cases_eq, ne_eqb}
 use Rattle.std.proofs.lemmas.Option.{same_Some, slice_get_within}
-use Rattle.sd_areas.specs.PlainMemory.{PlainMemory}
 use Rattle.sd_command.specs.declared.command.Command.{Command}
 use Rattle.sd_command.specs.declared.reply.Reply.{Reply}
 use Rattle.sd_disk.specs.Contents.{file_at}
 use Rattle.sd_gate.specs.declared.phase.Phase.{Phase}
 use Rattle.sd_gate.specs.Calls.{is_done}
-use Rattle.sd_gate.specs.Phases.{Waits, after, body_after, bodies_after, given_up, is_ready, phases_after}
+use Rattle.sd_gate.specs.Phases.{after, body_after, bodies_after, phases_after}
 use Rattle.sd_gate.specs.Requests.{Asked, Made}
 use Rattle.sd_image.specs.Image.{Image}
 use Rattle.sd_journal.specs.declared.entry.Entry.TheVariants.{Applied, Freeze, Cancelled}
 use Rattle.sd_journal.specs.Allowed.{Shown, IsLastPair, IsPendingPair}
-use Rattle.sd_journal.specs.History.{Base, History, at_freeze, last, memory_after, pending}
+use Rattle.sd_journal.specs.History.{Base, History, at_freeze, memory_after, pending}
 use Rattle.sd_journal.specs.Laws.{JournalLaws}
 use Rattle.sd_journal.specs.Legal.{IsLegal}
 use Rattle.sd_store_laws.specs.Beliefs.{Belief}
 use Rattle.sd_store_laws.specs.Gates.{AreBelieved, MayBelieve}
 use Rattle.sd_store_laws.specs.GateSteps.{BeliefsFollowCalls, OneBeliefChanges}
 use Rattle.sd_store_laws.specs.Store.{Store}
-use Rattle.sd_store_laws.proofs.SlotSteps.{set_other, set_same}
-use Rattle.sd_belief.specs.Believes.{HasStore, IsCovered, ShowsLast, ShowsPending}
-use Rattle.sd_belief.specs.StoreSteps.{AreGivenUp, IsOutcomeOf, IsQuiet, MayAsk, NoneAt, QuietSteps}
-use Rattle.sd_belief.proofs.Places.{body_other, has_too, set_again, set_count}
+use Rattle.sd_belief.specs.Believes.{HasStore, IsCovered, ShowsPending}
+use Rattle.sd_belief.specs.StoreSteps.{AreGivenUp, IsOutcomeOf, IsQuiet, MayAsk, QuietSteps}
+use Rattle.sd_belief.proofs.Places.{body_other, has_too, set_again, set_count, set_other, set_same}
 
 -- a slot has one phase
 same_phase : (phases : List Phase) (slot : ℕ) (one other : Phase) → slice_get phases slot ≡ Some one → slice_get phases slot ≡ Some other → one ≡ other
@@ -63,7 +61,7 @@ module _ (base : Base) (history : History) (phases : List Phase) (asked : List (
         belief = found.0;
         is = found.1;
         believed = λ done. follow.stays may.phase (file_at bodies request.id.slot) request.bytes request.id.call done found.0 may.waits.ready quiet.opens quiet.closes
-          (has.believed.each request.id.slot may.phase found.0 may.waits.is found.1);
+            (has.believed.each request.id.slot may.phase found.0 may.waits.is found.1);
       }
 
   pub asks_lem : BeliefsFollowCalls → (worker : ℕ) (request : Asked) → (may : MayAsk phases asked worker request) → IsQuiet may.phase request.id.call
@@ -100,7 +98,7 @@ module _ (base : Base) (history : History) (phases : List Phase) (asked : List (
         (body_after (file_at bodies slot) made.request.id.call made.request.bytes) own.belief
     own_may = subst (λ phase. MayBelieve (after phase made.request.id.call (is_done made.answer))
         (body_after (file_at bodies slot) made.request.id.call made.request.bytes) own.belief)
-      (same_phase phases slot own.phase o.phase own.waits.is o.waits.is) (own.believed (is_done made.answer))
+        (same_phase phases slot own.phase o.phase own.waits.is o.waits.is) (own.believed (is_done made.answer))
 
     -- a request on another slot is covered as before
     other_covered : (r : Asked) → r.id.slot ≢ slot → IsCovered phases bodies beliefs r → IsCovered next_phases next_bodies beliefs r
@@ -113,7 +111,7 @@ module _ (base : Base) (history : History) (phases : List Phase) (asked : List (
       belief = c.belief;
       is = c.is;
       believed = λ done. subst (λ body. MayBelieve (after c.phase r.id.call done) (body_after body r.id.call r.bytes) c.belief)
-        (sym (body_other bodies slot r.id.slot (body_after (file_at bodies slot) made.request.id.call made.request.bytes) elsewhere)) (c.believed done);
+          (sym (body_other bodies slot r.id.slot (body_after (file_at bodies slot) made.request.id.call made.request.bytes) elsewhere)) (c.believed done);
     }
 
     pub handed_lem : OneBeliefChanges → HasStore base history next_phases (slice_set asked worker None) next_bodies store dump beliefs
@@ -121,14 +119,14 @@ module _ (base : Base) (history : History) (phases : List Phase) (asked : List (
       sound = has.sound;
       slots = has.slots;
       believed = subst (AreBelieved next_phases next_bodies) (set_again beliefs slot own.belief own.is)
-        (changes phases bodies beliefs slot (after o.phase made.request.id.call (is_done made.answer))
+          (changes phases bodies beliefs slot (after o.phase made.request.id.call (is_done made.answer))
           (body_after (file_at bodies slot) made.request.id.call made.request.bytes) own.belief has.stored
           (slice_get_within phases slot o.phase o.waits.is) has.believed own_may);
       stored = set_count bodies slot (body_after (file_at bodies slot) made.request.id.call made.request.bytes) ∙ has.stored
-        ∙ sym (set_count phases slot (after o.phase made.request.id.call (is_done made.answer)));
+          ∙ sym (set_count phases slot (after o.phase made.request.id.call (is_done made.answer)));
       waiting = λ other r out.
-        let old = left_cases asked worker other (Some made.request) r o.out out in
-        other_covered r (λ same. old.0 (o.alone other r old.1 same)) (has.waiting other r old.1);
+          let old = left_cases asked worker other (Some made.request) r o.out out in
+          other_covered r (λ same. old.0 (o.alone other r old.1 same)) (has.waiting other r old.1);
       last = has.last;
       next = has.next;
     }
@@ -225,18 +223,18 @@ none_pending base history (Some pair) none is = let no : None ≡ Some pair.0 = 
 pub quiet_steps_lem : BeliefsFollowCalls → OneBeliefChanges → JournalLaws → QuietSteps
 quiet_steps_lem follow changes laws = record {
   asks = λ base history phases asked bodies store dump beliefs worker request may quiet has.
-    asks_lem base history phases asked bodies store dump beliefs has follow worker request may quiet;
+      asks_lem base history phases asked bodies store dump beliefs has follow worker request may quiet;
   handed = λ base history phases asked bodies store dump beliefs worker made o has.
-    handed_lem base history phases asked bodies store dump beliefs has worker made o changes;
+      handed_lem base history phases asked bodies store dump beliefs has worker made o changes;
   given_up = λ base history phases new asked bodies store dump beliefs given has.
-    given_up_lem base history phases asked bodies store dump beliefs has new given follow;
+      given_up_lem base history phases asked bodies store dump beliefs has new given follow;
   applied = λ base history phases asked bodies store dump beliefs seat command told has.
-    with_history base history (Applied seat command told ∷ history) phases asked bodies store dump beliefs
+      with_history base history (Applied seat command told ∷ history) phases asked bodies store dump beliefs
       (applied_last base history seat command told) (λ image is. applied_pending base history seat command told) has;
   froze = λ base history phases asked bodies store dump beliefs n legal has.
-    with_history base history (Freeze n ∷ history) phases asked bodies store dump beliefs
+      with_history base history (Freeze n ∷ history) phases asked bodies store dump beliefs
       (froze_last laws base history n legal) (λ image is shown pends. absurd (none_pending base history shown legal.0.0 pends)) has;
   cancelled = λ base history phases asked bodies store beliefs n has.
-    with_history base history (Cancelled n ∷ history) phases asked bodies store None beliefs
+      with_history base history (Cancelled n ∷ history) phases asked bodies store None beliefs
       (cancelled_last base history n) (λ image is shown pends. absurd (let no : None ≡ Some image = is in cc)) has;
 }

@@ -1,5 +1,6 @@
 pub mod Believes
 pub mod Calls
+pub mod GateSteps
 pub mod Knows
 pub mod Laws
 pub mod Shown

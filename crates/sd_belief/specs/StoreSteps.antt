@@ -1,9 +1,9 @@
 -- How the steps of a core keep what is believed of its store.
-use Rattle.std.specs.Prelude.{◌≡◌, ◌≢◌, ◌⊎◌, ℕ, ◌∷◌, List, Option, Some, None, IfSome, length, slice_get, slice_set}
+use Rattle.std.specs.Prelude.{◌≡◌, ◌≢◌, ◌⊎◌, ℕ, ◌∷◌, List, Option, Some, None, length, slice_get, slice_set}
 use Rattle.sd_gate.specs.declared.call.Call.{Call}
 use Rattle.sd_gate.specs.declared.call.Call.TheVariants.{Open, Close}
 use Rattle.sd_gate.specs.declared.phase.Phase.{Phase}
-use Rattle.sd_gate.specs.declared.phase.Phase.TheVariants.{Whole, Ready, Shut}
+use Rattle.sd_gate.specs.declared.phase.Phase.TheVariants.{Whole, Shut}
 use Rattle.sd_gate.specs.Calls.{is_done}
 use Rattle.sd_gate.specs.Phases.{Waits, bodies_after, given_up, phases_after}
 use Rattle.sd_gate.specs.Requests.{Asked, Made}
@@ -11,14 +11,12 @@ use Rattle.sd_command.specs.declared.command.Command.{Command}
 use Rattle.sd_command.specs.declared.reply.Reply.{Reply}
 use Rattle.sd_disk.specs.Contents.{file_at}
 use Rattle.sd_image.specs.Image.{Image, IsImage, gate}
-use Rattle.sd_journal.specs.declared.entry.Entry.TheVariants.{Applied, Freeze, Acked, Cancelled}
+use Rattle.sd_journal.specs.declared.entry.Entry.TheVariants.{Applied, Freeze, Cancelled}
 use Rattle.sd_journal.specs.History.{Base, History}
 use Rattle.sd_journal.specs.Legal.{IsLegal}
-use Rattle.sd_store_laws.specs.Beliefs.{Belief, Closed, Kept, Closing, Opening, IsAdded, image_at}
-use Rattle.sd_store_laws.specs.Needed.{IsNeeded}
-use Rattle.sd_store_laws.specs.Needs.{IsUnneeded}
-use Rattle.sd_store_laws.specs.Store.{IsNextDump, IsNextPreDump, IsTwin, Store, jobs}
-use Rattle.sd_belief.specs.Believes.{HasStore, ShowsPending}
+use Rattle.sd_store_laws.specs.Beliefs.{Belief, Closed, Opening, image_at}
+use Rattle.sd_store_laws.specs.Store.{Store}
+use Rattle.sd_belief.specs.Believes.{HasStore}
 
 -- no request is out on a slot
 abbrev pub NoneAt : List (Option Asked) → ℕ → Type 0

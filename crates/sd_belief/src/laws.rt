@@ -1,10 +1,13 @@
 //! What a core goes on believing. Each law is the contract of a function that does nothing.
+ghost use Rattle.sd_belief.specs.GateSteps.{GateSteps};
 ghost use Rattle.sd_belief.specs.Laws.{FoundIsBelieved, PerformedIsBelieved};
 ghost use Rattle.sd_belief.specs.StoreSteps.{QuietSteps};
 
 use sd_journal::journal_laws;
 use sd_store_laws::{
-    beliefs_follow_calls, found_is_believed, one_belief_changes, opened_is_sound, slots_are_found,
+    beliefs_follow_calls, closing_retires, found_is_believed, one_belief_changes, opened_is_sound,
+    pending_shows, slots_are_found, slots_drop, slots_follow_calls, slots_follow_images,
+    slots_follow_jobs, steps_keep, steps_show,
 };
 
 /// A device call that was made leaves what is believed: its request is still out, as its outcome wasn't handed in.
@@ -29,4 +32,21 @@ pub fn quiet_steps()
     beliefs_follow_calls();
     one_belief_changes();
     journal_laws();
+}
+
+/// Steps that change the store: a gate begins to be opened or closed, an image enters the catalog or leaves it, a
+/// checkpoint or a merge begins, or a checkpoint is cancelled.
+pub fn gate_steps()
+    ensures { GateSteps }
+{
+    beliefs_follow_calls();
+    one_belief_changes();
+    steps_keep();
+    steps_show();
+    pending_shows();
+    closing_retires();
+    slots_drop();
+    slots_follow_calls();
+    slots_follow_images();
+    slots_follow_jobs();
 }
