@@ -1,5 +1,5 @@
 -- What the steps of an image keep.
-use Rattle.std.proofs.Common.{◌≡◌, ◌≢◌, ℕ, ◌+◌, ◌<◌, Bool, true, false, nat_eq, ◌||◌, if◌then◌else◌, List, [], ◌∷◌, ◌++◌, length, Option, Some, None, refl, sym, ◌∙◌, ap, subst, arith}
+use Rattle.std.proofs.Common.{◌≡◌, ◌≢◌, ℕ, ◌+◌, Bool, true, false, nat_eq, ◌||◌, if◌then◌else◌, List, [], ◌∷◌, ◌++◌, length, Some, refl, sym, ◌∙◌, ap, subst, arith}
 use Rattle.std.specs.List.{AllByRecursion}
 use Rattle.std.proofs.lemmas.Bool.{both_ways}
 use Rattle.std.proofs.lemmas.List.{length-append}
@@ -7,7 +7,7 @@ use Rattle.sd_image.specs.declared.header.Kind.{Kind}
 use Rattle.sd_image.specs.declared.header.Kind.TheVariants.{Dump, Merged, PreDump}
 use Rattle.sd_image.specs.declared.run.RunKind.{RunKind}
 use Rattle.sd_image.specs.declared.run.RunKind.TheVariants.{Data, Parent, Zero}
-use Rattle.sd_gate.specs.Plans.{Gives, Planned, plan_after}
+use Rattle.sd_gate.specs.Plans.{Planned, plan_after}
 use Rattle.sd_gate.specs.Requests.{Made}
 use Rattle.sd_gate.specs.Sequences.{Calls}
 use Rattle.sd_pagetable.specs.Contents.{Contents, IsSound}
@@ -21,10 +21,10 @@ use Rattle.sd_rounds.specs.declared.image_step.ImageStep.{ImageStep}
 use Rattle.sd_rounds.specs.declared.image_step.ImageStep.TheVariants.{Call, PageCall, TableCall, Frozen, Visited, Copied}
 use Rattle.sd_rounds.specs.declared.stage.Stage.{Stage}
 use Rattle.sd_rounds.specs.declared.stage.Stage.TheVariants.{Format, Freeze, Pass as PassStage, PageWrite, Close}
-use Rattle.sd_rounds.specs.Dump.{DumpLaws, IsDumped, IsDumping}
-use Rattle.sd_rounds.specs.Keeps.{Chain, Gave, IsCall, Keeps, KeepsLaws, Rests, Within}
+use Rattle.sd_rounds.specs.Dump.{DumpLaws, IsDumping}
+use Rattle.sd_rounds.specs.Keeps.{Chain, IsCall, Keeps, KeepsLaws, Rests, Within}
 use Rattle.sd_rounds.specs.Made.{listed_pages}
-use Rattle.sd_rounds.specs.Making.{Asks, CopiesSector, Freezes, GoesOn, HandsIn, Making, Steps, Visits, WritesPage, WritesTable, begun_image, closing, is_past_freeze, plan_of, stage_after, stage_behind, with_plan}
+use Rattle.sd_rounds.specs.Making.{HandsIn, Making, Steps, WritesPage, WritesTable, begun_image, closing, is_past_freeze, stage_after, stage_behind, with_plan}
 use Rattle.sd_rounds.specs.MakingLaws.{DumpsImage, IsDumpedIn, IsKeptIn, KeepsImage, MakingLaws, Pages, pages_after}
 use Rattle.sd_rounds.specs.Pass.{Pass, Place, begun_to_take, data_pages, left_to_parent, opened, pages_by, with_entry}
 use Rattle.sd_rounds.specs.Rises.{IsRising}

@@ -1,13 +1,11 @@
 -- What the steps of an image keep.
-use Rattle.std.specs.Prelude.{◌≡◌, ◌≢◌, ℕ, ◌<◌, ◌^◌, true, List, [], ◌∷◌, ◌++◌, length}
+use Rattle.std.specs.Prelude.{◌≡◌, ◌≢◌, ℕ, ◌<◌, true, List, [], ◌∷◌, ◌++◌, length}
 use Rattle.std.specs.List.{AllByRecursion}
 use Rattle.sd_image.specs.declared.header.Header.{Header}
-use Rattle.sd_image.specs.declared.header.Kind.TheVariants.{Dump}
-use Rattle.sd_image.specs.Image.{Image, IsImage, gate, image_text}
-use Rattle.sd_image.specs.Shows.{IsMemory}
+use Rattle.sd_image.specs.Image.{Image}
 use Rattle.sd_image.specs.Table.{Listed}
-use Rattle.sd_gate.specs.Requests.{Asked, Made}
-use Rattle.sd_pagetable.specs.Contents.{Contents, IsSound, plain_of}
+use Rattle.sd_gate.specs.Requests.{Made}
+use Rattle.sd_pagetable.specs.Contents.{Contents, IsSound}
 use Rattle.sd_pagetable.specs.Tracking.{Event, Step}
 use Rattle.sd_rounds.specs.declared.image_order.ImageOrder.{ImageOrder}
 use Rattle.sd_rounds.specs.declared.image_progress.ImageProgress.TheVariants.{More}
@@ -17,8 +15,8 @@ use Rattle.sd_rounds.specs.declared.stage.Stage.{Stage}
 use Rattle.sd_rounds.specs.declared.stage.Stage.TheVariants.{Format, Freeze, Pass as PassStage, PageWrite, Close}
 use Rattle.sd_rounds.specs.Dump.{IsDumped, IsDumping}
 use Rattle.sd_rounds.specs.Keeps.{Chain, Gave, IsCall, Keeps, Rests, Within}
-use Rattle.sd_rounds.specs.Made.{IsImageOf, listed_pages}
-use Rattle.sd_rounds.specs.Making.{HandsIn, Making, Steps, WritesTable, begun_image, is_past_freeze}
+use Rattle.sd_rounds.specs.Made.{listed_pages}
+use Rattle.sd_rounds.specs.Making.{HandsIn, Making, Steps, begun_image, is_past_freeze}
 use Rattle.sd_rounds.specs.Pass.{Pass, data_pages}
 use Rattle.sd_rounds.specs.Rises.{IsRising}
 

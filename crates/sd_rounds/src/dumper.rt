@@ -2,6 +2,9 @@
 ghost use Rattle.std.specs.Prelude.{◌≡◌, ◌↔◌, ◌⊎◌, Err, None, Some, IsSome, IfOk, IfErr, OnOk, OnErr, is_none};
 ghost use Rattle.std.specs.Option.{option_map};
 ghost use Rattle.sd_rounds.specs.declared.work_error.WorkError.TheVariants.{Busy, Idle, OutOfMemory};
+ghost use Rattle.sd_pagetable.specs.Contents.{plain_of};
+ghost use Rattle.sd_rounds.specs.Left.{left_of};
+ghost use Rattle.sd_rounds.specs.Room.{StepWants};
 ghost use Rattle.sd_rounds.specs.Dumper.{Dumping, Hands, HasCounted, Works, begun_checkpoint, ends, idle, is_strange, next_slot, out_of_running};
 
 use crate::checkpoint::Checkpoint;
@@ -128,7 +131,7 @@ impl Dumper {
     /// # Errors
     ///
     /// Idle where no checkpoint runs, Busy where a request is out. Out of memory where an entry, a sector or the table
-    /// finds no room. Nothing changed.
+    /// finds no room, and only where one is wanted. Nothing changed.
     pub fn work(
         &mut self,
         memory: &mut Memory,
@@ -139,6 +142,7 @@ impl Dumper {
             step self.new memory.new) }
         ensures idle { result ≡ Err Idle ↔ self.old.running ≡ None }
         ensures busy { result ≡ Err Busy ↔ IsSome (out_of_running self.old.running) }
+        ensures wanted { result ≡ Err OutOfMemory → StepWants self.old.running memory.old }
         ensures err { OnErr result (self.new ≡ self.old) }
         ensures err_memory { OnErr result (memory.new ≡ memory.old) }
     {
@@ -179,6 +183,18 @@ impl Dumper {
         ensures { self.new ≡ idle self.old.since_freeze }
     {
         end(&mut self.checkpoint);
+    }
+
+    /// How many steps and outcomes the checkpoint has before it, at most: 0 exactly while none runs. Each step lowers it,
+    /// and so does each outcome of the request that is out. It goes over the mapped pages one by one, and isn't for a step.
+    pub fn left(&self, memory: &Memory) -> u128
+        ensures left { result ≡ left_of self.now.running (plain_of memory.now) }
+        ensures idle { result ≡ 0 ↔ self.now.running ≡ None }
+    {
+        match &self.checkpoint {
+            Some(checkpoint) => checkpoint.left(memory),
+            None => 0,
+        }
     }
 
     /// How many outcomes were handed in since the last freeze.

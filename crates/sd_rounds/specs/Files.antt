@@ -1,0 +1,81 @@
+-- The file of an image: what its text is once its table is written, and what the image holds.
+use Rattle.std.specs.Prelude.{◌≡◌, ℕ, List, ◌∷◌}
+use Rattle.sd_image.specs.declared.header.Header.{Header}
+use Rattle.sd_image.specs.declared.header.Kind.TheVariants.{Dump, PreDump}
+use Rattle.sd_image.specs.Image.{Image, IsImage, gate, image_text}
+use Rattle.sd_image.specs.Shows.{IsMemory}
+use Rattle.sd_image.specs.Table.{Listed}
+use Rattle.sd_gate.specs.Requests.{Asked, Made}
+use Rattle.sd_pagetable.specs.Contents.{Contents, plain_of}
+use Rattle.sd_rounds.specs.declared.image_order.ImageOrder.{ImageOrder}
+use Rattle.sd_rounds.specs.declared.image_progress.ImageProgress.TheVariants.{More}
+use Rattle.sd_rounds.specs.declared.image_step.ImageStep.TheVariants.{Call, TableCall}
+use Rattle.sd_rounds.specs.declared.new_image.NewImage.{NewImage}
+use Rattle.sd_rounds.specs.declared.stage.Stage.{Stage}
+use Rattle.sd_rounds.specs.declared.stage.Stage.TheVariants.{Format, Freeze, Pass as PassStage, PageWrite, Close}
+use Rattle.sd_rounds.specs.Dump.{IsDumped}
+use Rattle.sd_rounds.specs.Keeps.{Chain, Stored, Within}
+use Rattle.sd_rounds.specs.Made.{HasTheAreas, IsImageOf, Lists, listed_pages}
+use Rattle.sd_rounds.specs.Making.{AreThePages, HandsIn, Making, Opens, Steps}
+use Rattle.sd_rounds.specs.MakingLaws.{AreItsNumbers, DumpsImage, KeepsImage, Pages, image_of}
+use Rattle.sd_rounds.specs.Pass.{Pass}
+use Rattle.sd_rounds.specs.Rises.{IsRising}
+
+-- the text of an image behind an open gate
+abbrev pub file_of : Image → List ℕ
+file_of i = gate ∷ image_text i
+
+-- The file of an image whose table is written: it is the image with these data pages, which names the order's parent and has
+-- the pass's entries.
+pub record IsFiled (order : ImageOrder) (pass : Pass) (pages : Pages) (header : Header) (tables : List Listed) : Type 0 where
+  pub spelled : IsImage (file_of (image_of header pages tables)) (image_of header pages tables)
+  pub parent : header.parent ≡ order.parent
+  pub lists : Lists pass.entries tables
+
+abbrev pub IsFiledIn : Stage → ImageOrder → Pass → Pages → Type 0
+IsFiledIn (Format plan) order pass pages = Unit {0}
+IsFiledIn Freeze order pass pages = Unit {0}
+IsFiledIn PassStage order pass pages = Unit {0}
+IsFiledIn (PageWrite plan) order pass pages = Unit {0}
+IsFiledIn (Close plan header tables) order pass pages = IsFiled order pass pages header tables
+
+abbrev pub FilesImage : Pages → Making → Type 0
+FilesImage pages image = IsFiledIn image.stage image.order image.pass pages
+
+-- its table has the areas of the memory at the freeze
+abbrev pub HasAreasIn : Stage → Contents → Type 0
+HasAreasIn (Format plan) cut = Unit {0}
+HasAreasIn Freeze cut = Unit {0}
+HasAreasIn PassStage cut = Unit {0}
+HasAreasIn (PageWrite plan) cut = Unit {0}
+HasAreasIn (Close plan header tables) cut = HasTheAreas (plain_of cut) tables
+
+abbrev pub HasAreas : Contents → Making → Type 0
+HasAreas cut image = HasAreasIn image.stage cut
+
+pub record FileLaws : Type 0 where
+  -- the entries of a dump are exactly the mapped pages
+  pub entries : (stored : Stored) (chain : Chain) (cut memory : Contents) (pass : Pass) → IsDumped stored chain cut pass → plain_of memory ≡ plain_of cut
+      → AreThePages pass.entries memory
+  -- the table of a pre-dump is written, and that of a dump
+  pub pre_dump : (ticket : ℕ) (pages : Pages) (chain : Chain) (old new : Making) (before after : Contents) (request : Asked) → Steps ticket old before (TableCall request) new after
+      → old.order.kind ≡ PreDump → AreItsNumbers old.order → KeepsImage pages chain old before → FilesImage pages new
+  pub dump : (ticket : ℕ) (cut : Contents) (pages : Pages) (chain : Chain) (old new : Making) (before after : Contents) (request : Asked) → Steps ticket old before (TableCall request) new after
+      → old.order.kind ≡ Dump → AreItsNumbers old.order → IsRising old.pass → KeepsImage pages chain old before → DumpsImage cut pages chain old before
+      → FilesImage pages new × HasAreas cut new
+  -- it stays so until the image is open
+  pub asks : (ticket : ℕ) (cut : Contents) (pages : Pages) (old new : Making) (before after : Contents) (request : Asked) → Steps ticket old before (Call request) new after
+      → FilesImage pages old × HasAreas cut old → FilesImage pages new × HasAreas cut new
+  pub hands : (cut : Contents) (pages : Pages) (old new : Making) (made : Made) → HandsIn old made More new
+      → FilesImage pages old × HasAreas cut old → FilesImage pages new × HasAreas cut new
+  -- images below are merged or closed
+  pub agrees : (cut : Contents) (pages : Pages) (one other : Chain) (image : Making) (memory : Contents) → Within one other
+      → DumpsImage cut pages one image memory → DumpsImage cut pages other image memory
+  -- the image is open: its file is an image with its entries, and that of a dump shows the memory at the freeze
+  pub opens : (pages : Pages) (chain : Chain) (old : Making) (made : Made) (opened : NewImage) → Opens old made opened → chain.number ≡ old.order.parent
+      → FilesImage pages old
+      → IsImage (file_of (image_of opened.header pages opened.table)) (image_of opened.header pages opened.table)
+      × IsImageOf (listed_pages pages) chain old.pass.entries (image_of opened.header pages opened.table)
+  pub shows : (cut : Contents) (pages : Pages) (chain : Chain) (old : Making) (made : Made) (opened : NewImage) (memory : Contents) → Opens old made opened → chain.number ≡ old.order.parent
+      → FilesImage pages old → HasAreas cut old → DumpsImage cut pages chain old memory
+      → IsMemory chain.images (image_of opened.header pages opened.table) (plain_of cut)
