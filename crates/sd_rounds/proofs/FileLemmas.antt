@@ -1,13 +1,16 @@
 -- The file of an image whose table is written.
-use Rattle.std.proofs.Common.{◌≡◌, ◌≢◌, ℕ, ◌<◌, Bool, [], ◌∷◌, Option, Some, None, is_some, refl, sym, ◌∙◌, ap, subst}
+use Rattle.std.proofs.Common.{◌≡◌, ◌≢◌, List, ℕ, ◌<◌, Bool, [], ◌∷◌, Option, Some, None, is_some, refl, sym, ◌∙◌, ap, subst}
 use Rattle.std.specs.Option.{option_map}
 use Rattle.sd_image.specs.declared.header.Header.{Header}
 use Rattle.sd_image.specs.declared.header.Kind.{Kind}
 use Rattle.sd_image.specs.declared.header.Kind.TheVariants.{Dump, Merged, PreDump}
 use Rattle.sd_image.specs.Header.{AreNumbers}
-use Rattle.sd_image.specs.Image.{IsImage}
+use Rattle.sd_image.specs.Image.{IsImage, image_text}
 use Rattle.sd_image.specs.Laws.{TextIsImage}
 use Rattle.sd_image.specs.Shows.{IsMemory}
+use Rattle.sd_image.specs.Table.{Listed, table_text}
+use Rattle.sd_gate.specs.Laws.{BodiesFill, pages_body}
+use Rattle.sd_gate.specs.PlanRuns.{body_closed}
 use Rattle.sd_gate.specs.Plans.{Planned, plan_after}
 use Rattle.sd_gate.specs.Requests.{Asked, Made}
 use Rattle.sd_gate.specs.Sequences.{Calls}
@@ -115,6 +118,10 @@ dump law plain making ticket cut pages chain old new before after request s kind
     has = subst (λ k. HasTable k before old.pass.entries s.0.header s.0.tables) kind s.0.table
         (entries plain (listed_pages pages) chain cut before old.pass done same)
 
+fills : BodiesFill → (order : ImageOrder) (pass : Pass) (pages : Pages) (header : Header) (tables : List Listed) → IsFiled order pass pages header tables
+    → body_closed (pages_body pages) header (table_text tables) ≡ image_text (image_of header pages tables)
+fills law order pass pages header tables is = law.image pages header (table_text tables) is.spelled.whole (sym is.spelled.stored)
+
 -- ---- until the image is open
 
 asked_files : (stage : Stage) (plan : Planned) (order : ImageOrder) (pass : Pass) (pages : Pages) → IsFiledIn stage order pass pages → IsFiledIn (with_plan stage plan) order pass pages
@@ -212,11 +219,12 @@ shows law cut pages chain old made opened memory o number files areas dumps =
     (subst (λ (s : Stage). HasAreasIn s cut) o.was areas)
     (subst (λ (s : Stage). IsDumpedIn s cut pages chain old.pass memory) o.was dumps)
 
-pub file_laws : TextIsImage → PlainLaw → MadeLaws → MakingLaws → FileLaws
-file_laws text plain made making = record {
+pub file_laws : TextIsImage → BodiesFill → PlainLaw → MadeLaws → MakingLaws → FileLaws
+file_laws text fill plain made making = record {
   entries = entries plain;
   pre_dump = pre_dump text;
   dump = dump text plain making;
+  fills = fills fill;
   asks = asks;
   hands = hands;
   agrees = agrees;

@@ -4,7 +4,9 @@ use Rattle.sd_image.specs.declared.header.Header.{Header}
 use Rattle.sd_image.specs.declared.header.Kind.TheVariants.{Dump, PreDump}
 use Rattle.sd_image.specs.Image.{Image, IsImage, gate, image_text}
 use Rattle.sd_image.specs.Shows.{IsMemory}
-use Rattle.sd_image.specs.Table.{Listed}
+use Rattle.sd_image.specs.Table.{Listed, table_text}
+use Rattle.sd_gate.specs.Laws.{pages_body}
+use Rattle.sd_gate.specs.PlanRuns.{body_closed}
 use Rattle.sd_gate.specs.Requests.{Asked, Made}
 use Rattle.sd_pagetable.specs.Contents.{Contents, plain_of}
 use Rattle.sd_rounds.specs.declared.image_order.ImageOrder.{ImageOrder}
@@ -63,6 +65,9 @@ pub record FileLaws : Type 0 where
   pub dump : (ticket : ℕ) (cut : Contents) (pages : Pages) (chain : Chain) (old new : Making) (before after : Contents) (request : Asked) → Steps ticket old before (TableCall request) new after
       → old.order.kind ≡ Dump → AreItsNumbers old.order → IsRising old.pass → KeepsImage pages chain old before → DumpsImage cut pages chain old before
       → FilesImage pages new × HasAreas cut new
+  -- the calls that wrote the data pages, and those that write the table and the header, spell that file
+  pub fills : (order : ImageOrder) (pass : Pass) (pages : Pages) (header : Header) (tables : List Listed) → IsFiled order pass pages header tables
+      → body_closed (pages_body pages) header (table_text tables) ≡ image_text (image_of header pages tables)
   -- it stays so until the image is open
   pub asks : (ticket : ℕ) (cut : Contents) (pages : Pages) (old new : Making) (before after : Contents) (request : Asked) → Steps ticket old before (Call request) new after
       → FilesImage pages old × HasAreas cut old → FilesImage pages new × HasAreas cut new

@@ -10,6 +10,7 @@ ghost use Rattle.sd_rounds.specs.Rises.{RisesLaws};
 ghost use Rattle.sd_rounds.specs.Steps.{StepLaws};
 ghost use Rattle.sd_rounds.specs.Visits.{VisitLaws};
 
+use sd_gate::bodies_fill;
 use sd_image::text_is_image;
 use sd_pagetable::{clean_law, clear_law, plain_law};
 
@@ -71,6 +72,7 @@ pub fn file_law()
     ensures { FileLaws }
 {
     text_is_image();
+    bodies_fill();
     plain_law();
     made_law();
     making_law();
