@@ -11,6 +11,7 @@ pub mod Making
 pub mod PlanSteps
 pub mod SpaceTables
 pub mod Dumper
+pub mod Sound
 pub mod Room
 pub mod Left
 pub mod MakingLaws

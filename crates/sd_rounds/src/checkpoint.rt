@@ -5,6 +5,7 @@ ghost use Rattle.sd_rounds.specs.declared.work_error.WorkError.TheVariants.{Busy
 ghost use Rattle.sd_pagetable.specs.Contents.{plain_of};
 ghost use Rattle.sd_rounds.specs.Left.{running_left};
 ghost use Rattle.sd_rounds.specs.Room.{MakingWants};
+ghost use Rattle.sd_rounds.specs.Sound.{IsSoundMaking};
 ghost use Rattle.sd_rounds.specs.Dumper.{HandsTo, HasFewPages, WorksOn, after_pre_dump, is_frozen_image, is_last, kind_of, order_of, out_of_image, running_of, slot_of};
 
 use crate::ahead::pages_ahead;
@@ -127,6 +128,15 @@ impl Checkpoint {
         match &self.maker {
             Some(maker) => maker.is_frozen(),
             None => false,
+        }
+    }
+
+    /// What holds of the image that is being made. It does nothing: a caller learns it.
+    pub(crate) fn sound(&self)
+        ensures { IsSoundMaking (running_of self.now).image }
+    {
+        if let Some(maker) = &self.maker {
+            maker.sound();
         }
     }
 

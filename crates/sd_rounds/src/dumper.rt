@@ -5,7 +5,8 @@ ghost use Rattle.sd_rounds.specs.declared.work_error.WorkError.TheVariants.{Busy
 ghost use Rattle.sd_pagetable.specs.Contents.{plain_of};
 ghost use Rattle.sd_rounds.specs.Left.{left_of};
 ghost use Rattle.sd_rounds.specs.Room.{StepWants};
-ghost use Rattle.sd_rounds.specs.Dumper.{Dumping, Hands, HasCounted, Works, begun_checkpoint, ends, idle, is_strange, next_slot, out_of_running};
+ghost use Rattle.sd_rounds.specs.Sound.{HasSoundImage};
+ghost use Rattle.sd_rounds.specs.Dumper.{AreRunning, Dumping, Hands, HasCounted, Works, begun_checkpoint, ends, idle, is_strange, next_slot, out_of_running};
 
 use crate::checkpoint::Checkpoint;
 use crate::image_step::ImageStep;
@@ -176,6 +177,17 @@ impl Dumper {
             self.since_freeze += 1;
         }
         progress
+    }
+
+    /// What holds of every dumper: how its checkpoint, the image that is being made and the count since the freeze go
+    /// together, and that the image's entries rise. It does nothing: a caller learns it.
+    pub fn sound(&self)
+        ensures running { AreRunning self.now.since_freeze self.now.running }
+        ensures image { HasSoundImage self.now.running }
+    {
+        if let Some(checkpoint) = &self.checkpoint {
+            checkpoint.sound();
+        }
     }
 
     /// Gives the checkpoint up, if one runs.

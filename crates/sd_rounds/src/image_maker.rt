@@ -15,6 +15,7 @@ ghost use Rattle.sd_rounds.specs.PlanSteps.{IsCallOf, IsPageCallOf, IsTableCallO
 ghost use Rattle.sd_rounds.specs.Pass.{data_pages, opened};
 ghost use Rattle.sd_rounds.specs.Room.{ImageWants, PassWants};
 ghost use Rattle.sd_rounds.specs.Rounds.{IsCopied};
+ghost use Rattle.sd_rounds.specs.Sound.{IsSoundImage};
 
 use crate::image_order::ImageOrder;
 use crate::image_progress::ImageProgress;
@@ -272,6 +273,13 @@ impl ImageMaker {
             Stage::Pass | Stage::PageWrite(_) | Stage::Close { .. } => true,
         };
         self.order.kind == Kind::Dump && is_past
+    }
+
+    /// What holds of every image in the making. It does nothing: a caller learns it.
+    pub(crate) fn sound(&self)
+        ensures { IsSoundImage self.now }
+    {
+        self.round.rising();
     }
 
     /// Whether this is the request that is out.
