@@ -5,9 +5,9 @@ use Rattle.sd_image.specs.declared.header.Header.{Header}
 use Rattle.sd_image.specs.declared.header.Kind.{Kind}
 use Rattle.sd_image.specs.declared.header.Kind.TheVariants.{Dump, Merged, PreDump}
 use Rattle.sd_image.specs.Header.{AreNumbers}
-use Rattle.sd_image.specs.Image.{IsImage, image_text}
+use Rattle.sd_image.specs.Image.{image_text}
 use Rattle.sd_image.specs.Laws.{TextIsImage}
-use Rattle.sd_image.specs.Shows.{IsMemory}
+use Rattle.sd_image.specs.Shows.{IsMemory, IsNamed}
 use Rattle.sd_image.specs.Table.{Listed, table_text}
 use Rattle.sd_gate.specs.Laws.{BodiesFill, pages_body}
 use Rattle.sd_gate.specs.PlanRuns.{body_closed}
@@ -25,14 +25,13 @@ use Rattle.sd_rounds.specs.declared.new_image.NewImage.{NewImage}
 use Rattle.sd_rounds.specs.declared.stage.Stage.{Stage}
 use Rattle.sd_rounds.specs.declared.stage.Stage.TheVariants.{Format, Freeze, Pass as PassStage, PageWrite, Close}
 use Rattle.sd_rounds.specs.Dump.{IsDumped, due}
-use Rattle.sd_rounds.specs.Files.{FileLaws, FilesImage, HasAreas, HasAreasIn, IsFiled, IsFiledIn, file_of}
-use Rattle.sd_rounds.specs.Keeps.{Chain, Stored, Within}
+use Rattle.sd_rounds.specs.Files.{FileLaws, FilesImage, HasAreas, HasAreasIn, IsFiled, IsFiledIn}
+use Rattle.sd_rounds.specs.Keeps.{Chain, Rests, Stored, Within}
 use Rattle.sd_rounds.specs.Made.{HasTheAreas, IsImageOf, MadeLaws, listed_pages}
 use Rattle.sd_rounds.specs.Making.{AreThePages, HandsIn, HasTable, Making, Opens, Steps, TablesEntries, TablesMemory, WritesTable, is_past_freeze, stage_after, stage_behind, with_plan}
-use Rattle.sd_rounds.specs.MakingLaws.{AreItsNumbers, DumpsImage, IsDumpedIn, KeepsImage, MakingLaws, Pages, image_of}
+use Rattle.sd_rounds.specs.MakingLaws.{AreItsNumbers, DumpsImage, IsDumpedIn, IsKeptIn, KeepsImage, MakingLaws, Pages, image_of}
 use Rattle.sd_rounds.specs.Pass.{Pass}
 use Rattle.sd_rounds.specs.Rises.{IsRising}
-use Rattle.sd_rounds.proofs.KeepsLemmas.{gives_agrees}
 
 -- ---- the entries of a dump
 
@@ -73,7 +72,7 @@ filed law pages chain old new memory request w own numbers kept has = record {
     whole = kept.whole;
     table_len = ap (λ (h : Header). h.table_len) w.numbers;
   })).0;
-  parent = ap (λ (h : Header). h.parent) w.numbers;
+  numbers = w.numbers;
   lists = has.lists;
 }
 
@@ -174,20 +173,6 @@ hands cut pages old new made h was =
     by [] = (behind_files old.order.kind old.stage old.order old.pass pages, behind_areas old.order.kind old.stage cut)
     by (call ∷ calls) = (asked_files old.stage (plan_after h.plan made) old.order old.pass pages was.0, asked_areas old.stage (plan_after h.plan made) cut was.1)
 
-agrees : (cut : Contents) (pages : Pages) (one other : Chain) (image : Making) (memory : Contents) → Within one other
-    → DumpsImage cut pages one image memory → DumpsImage cut pages other image memory
-agrees cut pages one other image memory within was = by image.stage was
-  where
-    by : (stage : Stage) → IsDumpedIn stage cut pages one image.pass memory → IsDumpedIn stage cut pages other image.pass memory
-    by (Format plan) is = tt
-    by Freeze is = tt
-    by PassStage is = is
-    by (PageWrite plan) is = is
-    by (Close plan header tables) is = record {
-      kinds = is.kinds;
-      bytes = λ at page there. gives_agrees (listed_pages pages) (listed_pages pages) one other image.pass.entries at page.bytes (λ _ _. refl) within (is.bytes at page there);
-    }
-
 -- ---- the image is open
 
 filed_at : (pages : Pages) (old : Making) (made : Made) (opened : NewImage) → Opens old made opened → FilesImage pages old
@@ -197,18 +182,18 @@ filed_at pages old made opened o is = subst (λ (s : Stage). IsFiledIn s old.ord
 has_entries : (pages : Pages) (chain : Chain) (old : Making) (opened : NewImage) → chain.number ≡ old.order.parent
     → IsFiled old.order old.pass pages opened.header opened.table → IsImageOf (listed_pages pages) chain old.pass.entries (image_of opened.header pages opened.table)
 has_entries pages chain old opened number is = record {
-  parent = is.parent ∙ sym number;
+  parent = ap (λ (h : Header). h.parent) is.numbers ∙ sym number;
   lists = is.lists;
   pages = λ place within. refl;
 }
 
 opens : (pages : Pages) (chain : Chain) (old : Making) (made : Made) (opened : NewImage) → Opens old made opened → chain.number ≡ old.order.parent
     → FilesImage pages old
-    → IsImage (file_of (image_of opened.header pages opened.table)) (image_of opened.header pages opened.table)
+    → IsFiled old.order old.pass pages opened.header opened.table
     × IsImageOf (listed_pages pages) chain old.pass.entries (image_of opened.header pages opened.table)
 opens pages chain old made opened o number files =
     let is = filed_at pages old made opened o files in
-    (is.spelled, has_entries pages chain old opened number is)
+    (is, has_entries pages chain old opened number is)
 
 shows : MadeLaws → (cut : Contents) (pages : Pages) (chain : Chain) (old : Making) (made : Made) (opened : NewImage) (memory : Contents) → Opens old made opened → chain.number ≡ old.order.parent
     → FilesImage pages old → HasAreas cut old → DumpsImage cut pages chain old memory
@@ -219,6 +204,17 @@ shows law cut pages chain old made opened memory o number files areas dumps =
     (subst (λ (s : Stage). HasAreasIn s cut) o.was areas)
     (subst (λ (s : Stage). IsDumpedIn s cut pages chain old.pass memory) o.was dumps)
 
+commits : MadeLaws → (pages : Pages) (before after : Chain) (old : Making) (made : Made) (opened : NewImage) (memory : Contents) → Opens old made opened → after.number ≡ old.order.parent
+    → FilesImage pages old → IsNamed after.images old.order.serial (image_of opened.header pages opened.table) → Within before after → KeepsImage pages before old memory
+    → Rests (record { images = after.images; number = old.order.serial }) memory
+commits law pages before after old made opened memory o number files named within kept =
+    let is = filed_at pages old made opened o files in
+    let stands : opened.header.stands_for ≡ old.order.serial = ap (λ (h : Header). h.stands_for) is.numbers in
+    subst (λ n. Rests (record { images = after.images; number = n }) memory) stands
+    (law.commits (listed_pages pages) before after old.pass.entries memory (image_of opened.header pages opened.table) (has_entries pages after old opened number is)
+    (subst (λ n. IsNamed after.images n (image_of opened.header pages opened.table)) (sym stands) named) within
+    (subst (λ (s : Stage). IsKeptIn s pages before old.pass memory) o.was kept.kept))
+
 pub file_laws : TextIsImage → BodiesFill → PlainLaw → MadeLaws → MakingLaws → FileLaws
 file_laws text fill plain made making = record {
   entries = entries plain;
@@ -227,7 +223,7 @@ file_laws text fill plain made making = record {
   fills = fills fill;
   asks = asks;
   hands = hands;
-  agrees = agrees;
   opens = opens;
   shows = shows made;
+  commits = commits made;
 }

@@ -30,6 +30,7 @@ use Rattle.sd_rounds.specs.Pass.{Pass, Place, begun_to_take, data_pages, left_to
 use Rattle.sd_rounds.specs.Rises.{IsRising}
 use Rattle.sd_rounds.specs.Rounds.{Copies, Tests, TakesPage}
 use Rattle.sd_rounds.specs.Steps.{StepLaws}
+use Rattle.sd_rounds.proofs.KeepsLemmas.{gives_agrees}
 use Rattle.sd_rounds.proofs.Lists.{pages_append}
 use Rattle.sd_rounds.proofs.TableLemmas.{all_put}
 
@@ -197,6 +198,39 @@ calls laws pages one other making old new event sound step call within was = rec
     by (Close plan header tables) kept =
         laws.still_gave (listed_pages pages) (listed_pages pages) one other making.pass.entries old new event sound step call (λ place few. refl) within kept
 
+agrees : KeepsLaws → (pages : Pages) (one other : Chain) (making : Making) (memory : Contents) → Within one other
+    → KeepsImage pages one making memory → KeepsImage pages other making memory
+agrees laws pages one other making memory within was = record {
+  count = was.count;
+  whole = was.whole;
+  kept = by making.stage was.kept;
+}
+  where
+    passes : Keeps (listed_pages pages) one making.pass memory → Keeps (listed_pages pages) other making.pass memory
+    passes kept = laws.agrees (listed_pages pages) (listed_pages pages) one other making.pass memory (λ place few. refl) within kept
+
+    by : (stage : Stage) → IsKeptIn stage pages one making.pass memory → IsKeptIn stage pages other making.pass memory
+    by (Format plan) kept = passes kept
+    by Freeze kept = passes kept
+    by PassStage kept = passes kept
+    by (PageWrite plan) kept = passes kept
+    by (Close plan header tables) kept = λ space number bytes clean.
+        gives_agrees (listed_pages pages) (listed_pages pages) one other making.pass.entries (space, number) bytes (λ place few. refl) within (kept space number bytes clean)
+
+agrees_dump : (cut : Contents) (pages : Pages) (one other : Chain) (making : Making) (memory : Contents) → Within one other
+    → DumpsImage cut pages one making memory → DumpsImage cut pages other making memory
+agrees_dump cut pages one other making memory within was = by making.stage was
+  where
+    by : (stage : Stage) → IsDumpedIn stage cut pages one making.pass memory → IsDumpedIn stage cut pages other making.pass memory
+    by (Format plan) is = tt
+    by Freeze is = tt
+    by PassStage is = is
+    by (PageWrite plan) is = is
+    by (Close plan header tables) is = record {
+      kinds = is.kinds;
+      bytes = λ at page there. gives_agrees (listed_pages pages) (listed_pages pages) one other making.pass.entries at page.bytes (λ place few. refl) within (is.bytes at page there);
+    }
+
 -- ---- the dump
 
 freezes : DumpLaws → (ticket : ℕ) (pages : Pages) (chain : Chain) (old new : Making) (before after : Contents) → Steps ticket old before Frozen new after
@@ -259,6 +293,8 @@ making_laws keeps dump laws = record {
   steps = steps keeps laws;
   hands = hands;
   calls = calls keeps;
+  agrees = agrees keeps;
+  agrees_dump = agrees_dump;
   freezes = freezes dump;
   dumps = dumps dump laws;
   hands_dump = hands_dump;

@@ -1,9 +1,9 @@
 -- The file of an image: what its text is once its table is written, and what the image holds.
-use Rattle.std.specs.Prelude.{◌≡◌, ℕ, List, ◌∷◌}
+use Rattle.std.specs.Prelude.{◌≡◌, ℕ, List, ◌∷◌, length}
 use Rattle.sd_image.specs.declared.header.Header.{Header}
 use Rattle.sd_image.specs.declared.header.Kind.TheVariants.{Dump, PreDump}
 use Rattle.sd_image.specs.Image.{Image, IsImage, gate, image_text}
-use Rattle.sd_image.specs.Shows.{IsMemory}
+use Rattle.sd_image.specs.Shows.{IsMemory, IsNamed}
 use Rattle.sd_image.specs.Table.{Listed, table_text}
 use Rattle.sd_gate.specs.Laws.{pages_body}
 use Rattle.sd_gate.specs.PlanRuns.{body_closed}
@@ -16,22 +16,22 @@ use Rattle.sd_rounds.specs.declared.new_image.NewImage.{NewImage}
 use Rattle.sd_rounds.specs.declared.stage.Stage.{Stage}
 use Rattle.sd_rounds.specs.declared.stage.Stage.TheVariants.{Format, Freeze, Pass as PassStage, PageWrite, Close}
 use Rattle.sd_rounds.specs.Dump.{IsDumped}
-use Rattle.sd_rounds.specs.Keeps.{Chain, Stored, Within}
+use Rattle.sd_rounds.specs.Keeps.{Chain, Rests, Stored, Within}
 use Rattle.sd_rounds.specs.Made.{HasTheAreas, IsImageOf, Lists, listed_pages}
-use Rattle.sd_rounds.specs.Making.{AreThePages, HandsIn, Making, Opens, Steps}
+use Rattle.sd_rounds.specs.Making.{AreThePages, HandsIn, Making, Opens, Steps, header_of}
 use Rattle.sd_rounds.specs.MakingLaws.{AreItsNumbers, DumpsImage, KeepsImage, Pages, image_of}
-use Rattle.sd_rounds.specs.Pass.{Pass}
+use Rattle.sd_rounds.specs.Pass.{Pass, data_pages}
 use Rattle.sd_rounds.specs.Rises.{IsRising}
 
 -- the text of an image behind an open gate
 abbrev pub file_of : Image → List ℕ
 file_of i = gate ∷ image_text i
 
--- The file of an image whose table is written: it is the image with these data pages, which names the order's parent and has
--- the pass's entries.
+-- The file of an image whose table is written: it is the image with these data pages, which has the order's numbers and the
+-- pass's entries.
 pub record IsFiled (order : ImageOrder) (pass : Pass) (pages : Pages) (header : Header) (tables : List Listed) : Type 0 where
   pub spelled : IsImage (file_of (image_of header pages tables)) (image_of header pages tables)
-  pub parent : header.parent ≡ order.parent
+  pub numbers : header ≡ header_of order (data_pages pass.entries) (length (table_text tables))
   pub lists : Lists pass.entries tables
 
 abbrev pub IsFiledIn : Stage → ImageOrder → Pass → Pages → Type 0
@@ -73,14 +73,14 @@ pub record FileLaws : Type 0 where
       → FilesImage pages old × HasAreas cut old → FilesImage pages new × HasAreas cut new
   pub hands : (cut : Contents) (pages : Pages) (old new : Making) (made : Made) → HandsIn old made More new
       → FilesImage pages old × HasAreas cut old → FilesImage pages new × HasAreas cut new
-  -- images below are merged or closed
-  pub agrees : (cut : Contents) (pages : Pages) (one other : Chain) (image : Making) (memory : Contents) → Within one other
-      → DumpsImage cut pages one image memory → DumpsImage cut pages other image memory
-  -- the image is open: its file is an image with its entries, and that of a dump shows the memory at the freeze
+  -- the image is open: its file has its entries, and that of a dump shows the memory at the freeze
   pub opens : (pages : Pages) (chain : Chain) (old : Making) (made : Made) (opened : NewImage) → Opens old made opened → chain.number ≡ old.order.parent
       → FilesImage pages old
-      → IsImage (file_of (image_of opened.header pages opened.table)) (image_of opened.header pages opened.table)
-      × IsImageOf (listed_pages pages) chain old.pass.entries (image_of opened.header pages opened.table)
+      → IsFiled old.order old.pass pages opened.header opened.table × IsImageOf (listed_pages pages) chain old.pass.entries (image_of opened.header pages opened.table)
   pub shows : (cut : Contents) (pages : Pages) (chain : Chain) (old : Making) (made : Made) (opened : NewImage) (memory : Contents) → Opens old made opened → chain.number ≡ old.order.parent
       → FilesImage pages old → HasAreas cut old → DumpsImage cut pages chain old memory
       → IsMemory chain.images (image_of opened.header pages opened.table) (plain_of cut)
+  -- once it is among the images its number gives each clean page, and the next image may name it
+  pub commits : (pages : Pages) (before after : Chain) (old : Making) (made : Made) (opened : NewImage) (memory : Contents) → Opens old made opened → after.number ≡ old.order.parent
+      → FilesImage pages old → IsNamed after.images old.order.serial (image_of opened.header pages opened.table) → Within before after → KeepsImage pages before old memory
+      → Rests (record { images = after.images; number = old.order.serial }) memory

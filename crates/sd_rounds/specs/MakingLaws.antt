@@ -75,6 +75,11 @@ pub record MakingLaws : Type 0 where
   -- whatever is called on the memory, and while images below are merged or closed
   pub calls : (pages : Pages) (one other : Chain) (making : Making) (old new : Contents) (event : Event) → IsSound old → Step old event new → IsCall event → Within one other
       → KeepsImage pages one making old → KeepsImage pages other making new
+  -- images below are merged or closed while the memory stays
+  pub agrees : (pages : Pages) (one other : Chain) (making : Making) (memory : Contents) → Within one other
+      → KeepsImage pages one making memory → KeepsImage pages other making memory
+  pub agrees_dump : (cut : Contents) (pages : Pages) (one other : Chain) (making : Making) (memory : Contents) → Within one other
+      → DumpsImage cut pages one making memory → DumpsImage cut pages other making memory
   pub freezes : (ticket : ℕ) (pages : Pages) (chain : Chain) (old new : Making) (before after : Contents) → Steps ticket old before Frozen new after
       → DumpsImage before pages chain new after
   pub dumps : (ticket : ℕ) (cut : Contents) (pages : Pages) (chain : Chain) (old new : Making) (before after : Contents) (step : ImageStep) → Steps ticket old before step new after

@@ -1,6 +1,6 @@
 -- What holds of every dumper, between any two calls.
-use Rattle.std.specs.Prelude.{◌≡◌, ℕ, ◌≤◌, ◌^◌, ◌==◌, Option, Some, None}
-use Rattle.sd_rounds.specs.Dumper.{AreRunning, Dumping, Running}
+use Rattle.std.specs.Prelude.{◌≡◌, ◌≤◌, ◌^◌, ◌==◌, Option, Some, None}
+use Rattle.sd_rounds.specs.Dumper.{Running}
 use Rattle.sd_rounds.specs.Making.{IsReadyFor, Making}
 use Rattle.sd_rounds.specs.Pass.{data_pages}
 use Rattle.sd_rounds.specs.Rises.{IsRising}
