@@ -1,13 +1,14 @@
 -- The file of an image whose table is written.
-use Rattle.std.proofs.Common.{◌≡◌, ◌≢◌, List, ℕ, ◌<◌, Bool, [], ◌∷◌, Option, Some, None, is_some, refl, sym, ◌∙◌, ap, subst}
+use Rattle.std.proofs.Common.{◌≡◌, ◌≢◌, ◌↔◌, Contains, List, ℕ, ◌<◌, Bool, [], ◌∷◌, Option, Some, None, is_some, refl, sym, ◌∙◌, ap, subst}
 use Rattle.std.specs.Option.{option_map}
 use Rattle.sd_image.specs.declared.header.Header.{Header}
 use Rattle.sd_image.specs.declared.header.Kind.{Kind}
 use Rattle.sd_image.specs.declared.header.Kind.TheVariants.{Dump, Merged, PreDump}
+use Rattle.sd_image.specs.declared.run.RunKind.{RunKind}
 use Rattle.sd_image.specs.Header.{AreNumbers}
 use Rattle.sd_image.specs.Image.{image_text}
 use Rattle.sd_image.specs.Laws.{TextIsImage}
-use Rattle.sd_image.specs.Shows.{IsMemory, IsNamed}
+use Rattle.sd_image.specs.Shows.{IsMemory, IsNamed, pages_of}
 use Rattle.sd_image.specs.Table.{Listed, table_text}
 use Rattle.sd_gate.specs.Laws.{BodiesFill, pages_body}
 use Rattle.sd_gate.specs.PlanRuns.{body_closed}
@@ -30,8 +31,9 @@ use Rattle.sd_rounds.specs.Keeps.{Chain, Rests, Stored, Within}
 use Rattle.sd_rounds.specs.Made.{HasTheAreas, IsImageOf, MadeLaws, listed_pages}
 use Rattle.sd_rounds.specs.Making.{AreThePages, HandsIn, HasTable, Making, Opens, Steps, TablesEntries, TablesMemory, WritesTable, is_past_freeze, stage_after, stage_behind, with_plan}
 use Rattle.sd_rounds.specs.MakingLaws.{AreItsNumbers, DumpsImage, IsDumpedIn, IsKeptIn, KeepsImage, MakingLaws, Pages, image_of}
-use Rattle.sd_rounds.specs.Pass.{Pass}
-use Rattle.sd_rounds.specs.Rises.{IsRising}
+use Rattle.sd_rounds.specs.Pass.{Pass, Place, pages_by}
+use Rattle.sd_rounds.specs.Rises.{IsRising, kind_at}
+use Rattle.sd_rounds.proofs.WayLemmas.{way}
 
 -- ---- the entries of a dump
 
@@ -204,6 +206,23 @@ shows law cut pages chain old made opened memory o number files areas dumps =
     (subst (λ (s : Stage). HasAreasIn s cut) o.was areas)
     (subst (λ (s : Stage). IsDumpedIn s cut pages chain old.pass memory) o.was dumps)
 
+ways : (cut : Contents) (pages : Pages) (chain : Chain) (old : Making) (made : Made) (opened : NewImage) (memory : Contents) → Opens old made opened
+    → FilesImage pages old → IsRising old.pass → DumpsImage cut pages chain old memory
+    → (kind : RunKind) (at : Place) → Contains (pages_of kind opened.table) at ↔ due old.pass.takes_all (page_at cut at.0 at.1) ≡ Some kind
+ways cut pages chain old made opened memory o files rising dumps kind at = (
+  λ c. sym (is.kinds at) ∙ listed.0 (subst (λ (l : List Place). Contains l at) lists c),
+  λ e. subst (λ (l : List Place). Contains l at) (sym lists) (listed.1 (is.kinds at ∙ e)),
+)
+  where
+    is : IsDumped (listed_pages pages) chain cut old.pass
+    is = subst (λ (s : Stage). IsDumpedIn s cut pages chain old.pass memory) o.was dumps
+
+    lists : pages_of kind opened.table ≡ pages_by kind old.pass.entries
+    lists = (filed_at pages old made opened o files).lists kind
+
+    listed : Contains (pages_by kind old.pass.entries) at ↔ kind_at old.pass.entries at ≡ Some kind
+    listed = way kind old.pass.entries at rising.rises
+
 commits : MadeLaws → (pages : Pages) (before after : Chain) (old : Making) (made : Made) (opened : NewImage) (memory : Contents) → Opens old made opened → after.number ≡ old.order.parent
     → FilesImage pages old → IsNamed after.images old.order.serial (image_of opened.header pages opened.table) → Within before after → KeepsImage pages before old memory
     → Rests (record { images = after.images; number = old.order.serial }) memory
@@ -225,5 +244,6 @@ file_laws text fill plain made making = record {
   hands = hands;
   opens = opens;
   shows = shows made;
+  ways = ways;
   commits = commits made;
 }

@@ -1,7 +1,7 @@
 -- Which pages an image visits, and which it leaves to its parent.
-use Rattle.std.proofs.Common.{◌≡◌, ℕ, Bool, true, false, nat_eq, List, [], ◌∷◌, ◌++◌, map, Contains, None, refl, sym, ◌∙◌, ap, subst}
+use Rattle.std.proofs.Common.{◌≡◌, ◌⊎◌, inl, inr, ℕ, Bool, true, false, nat_eq, List, [], ◌∷◌, ◌++◌, map, Contains, None, refl, sym, ◌∙◌, ap, subst}
 use Rattle.std.proofs.lemmas.Bool.{both_ways}
-use Rattle.sd_image.specs.declared.run.RunKind.TheVariants.{Parent}
+use Rattle.sd_image.specs.declared.run.RunKind.TheVariants.{Data, Parent, Zero}
 use Rattle.sd_image.specs.Shows.{pages_of}
 use Rattle.sd_gate.specs.Requests.{Asked, Made}
 use Rattle.sd_pagetable.specs.Contents.{Contents}
@@ -14,13 +14,13 @@ use Rattle.sd_rounds.specs.declared.image_step.ImageStep.TheVariants.{Call, Page
 use Rattle.sd_rounds.specs.declared.new_image.NewImage.{NewImage}
 use Rattle.sd_rounds.specs.declared.stage.Stage.{Stage}
 use Rattle.sd_rounds.specs.declared.visit.Visit as visit
-use Rattle.sd_rounds.specs.Files.{FilesImage, IsFiledIn}
+use Rattle.sd_rounds.specs.Files.{FilesImage, IsFiled, IsFiledIn}
 use Rattle.sd_rounds.specs.ImageVisits.{ImageVisitLaws, IsVisited, visits_after}
 use Rattle.sd_rounds.specs.Making.{HandsIn, Making, Opens, Steps, begun_image}
 use Rattle.sd_rounds.specs.MakingLaws.{Pages}
 use Rattle.sd_rounds.specs.Pass.{Pass, Place, visited}
 use Rattle.sd_rounds.specs.Rounds.{Copies, TakesPage, Tests}
-use Rattle.sd_rounds.specs.Visits.{AreMapped, IsPassOf, IsSwept, Visit, VisitLaws, left_pages, visited_page}
+use Rattle.sd_rounds.specs.Visits.{AreMapped, IsPassOf, IsSwept, Visit, VisitLaws, left_pages, taken_pages, visited_page}
 
 -- a pass with its visits
 record Was (still : Place → Bool) (visits : List Visit) (pass : Pass) : Type 0 where
@@ -91,6 +91,17 @@ parents : (still : Place → Bool) (pages : Pages) (visits : List Visit) (old : 
 parents still pages visits old made opened o files was =
     (subst (λ (s : Stage). IsFiledIn s old.order old.pass pages) o.was files).lists Parent ∙ was.pass.parents
 
+taken : (still : Place → Bool) (pages : Pages) (visits : List Visit) (old : Making) (made : Made) (opened : NewImage) → Opens old made opened
+    → FilesImage pages old → IsVisited still visits old → (at : Place) → Contains (pages_of Data opened.table) at ⊎ Contains (pages_of Zero opened.table) at
+    → Contains (taken_pages old.pass.takes_all visits) at
+taken still pages visits old made opened o files was at c = elim c [
+  | inl d ↦ was.pass.stored at (subst (λ (l : List Place). Contains l at) (is.lists Data) d)
+  | inr z ↦ was.pass.zero at (subst (λ (l : List Place). Contains l at) (is.lists Zero) z)
+]
+  where
+    is : IsFiled old.order old.pass pages opened.header opened.table
+    is = subst (λ (s : Stage). IsFiledIn s old.order old.pass pages) o.was files
+
 pub image_visit_laws : VisitLaws → ImageVisitLaws
 image_visit_laws laws = record {
   begins = begins laws;
@@ -98,4 +109,5 @@ image_visit_laws laws = record {
   hands = hands;
   all = all laws;
   parents = parents;
+  taken = taken;
 }

@@ -20,5 +20,6 @@ pub mod PlanLemmas
 pub mod DumperLemmas
 pub mod AheadLemmas
 pub mod LeftLemmas
+pub mod WayLemmas
 pub mod FileLemmas
 pub mod ImageVisitLemmas

@@ -1,26 +1,27 @@
 -- The file of an image: what its text is once its table is written, and what the image holds.
-use Rattle.std.specs.Prelude.{◌≡◌, ℕ, List, ◌∷◌, length}
+use Rattle.std.specs.Prelude.{◌≡◌, ◌↔◌, ℕ, List, ◌∷◌, length, Contains, Some}
 use Rattle.sd_image.specs.declared.header.Header.{Header}
 use Rattle.sd_image.specs.declared.header.Kind.TheVariants.{Dump, PreDump}
+use Rattle.sd_image.specs.declared.run.RunKind.{RunKind}
 use Rattle.sd_image.specs.Image.{Image, IsImage, gate, image_text}
-use Rattle.sd_image.specs.Shows.{IsMemory, IsNamed}
+use Rattle.sd_image.specs.Shows.{IsMemory, IsNamed, pages_of}
 use Rattle.sd_image.specs.Table.{Listed, table_text}
 use Rattle.sd_gate.specs.Laws.{pages_body}
 use Rattle.sd_gate.specs.PlanRuns.{body_closed}
 use Rattle.sd_gate.specs.Requests.{Asked, Made}
-use Rattle.sd_pagetable.specs.Contents.{Contents, plain_of}
+use Rattle.sd_pagetable.specs.Contents.{Contents, page_at, plain_of}
 use Rattle.sd_rounds.specs.declared.image_order.ImageOrder.{ImageOrder}
 use Rattle.sd_rounds.specs.declared.image_progress.ImageProgress.TheVariants.{More}
 use Rattle.sd_rounds.specs.declared.image_step.ImageStep.TheVariants.{Call, TableCall}
 use Rattle.sd_rounds.specs.declared.new_image.NewImage.{NewImage}
 use Rattle.sd_rounds.specs.declared.stage.Stage.{Stage}
 use Rattle.sd_rounds.specs.declared.stage.Stage.TheVariants.{Format, Freeze, Pass as PassStage, PageWrite, Close}
-use Rattle.sd_rounds.specs.Dump.{IsDumped}
+use Rattle.sd_rounds.specs.Dump.{IsDumped, due}
 use Rattle.sd_rounds.specs.Keeps.{Chain, Rests, Stored, Within}
 use Rattle.sd_rounds.specs.Made.{HasTheAreas, IsImageOf, Lists, listed_pages}
 use Rattle.sd_rounds.specs.Making.{AreThePages, HandsIn, Making, Opens, Steps, header_of}
 use Rattle.sd_rounds.specs.MakingLaws.{AreItsNumbers, DumpsImage, KeepsImage, Pages, image_of}
-use Rattle.sd_rounds.specs.Pass.{Pass, data_pages}
+use Rattle.sd_rounds.specs.Pass.{Pass, Place, data_pages}
 use Rattle.sd_rounds.specs.Rises.{IsRising}
 
 -- the text of an image behind an open gate
@@ -80,6 +81,10 @@ pub record FileLaws : Type 0 where
   pub shows : (cut : Contents) (pages : Pages) (chain : Chain) (old : Making) (made : Made) (opened : NewImage) (memory : Contents) → Opens old made opened → chain.number ≡ old.order.parent
       → FilesImage pages old → HasAreas cut old → DumpsImage cut pages chain old memory
       → IsMemory chain.images (image_of opened.header pages opened.table) (plain_of cut)
+  -- the table of a dump has exactly the pages of the memory at the freeze, each in the way that is due
+  pub ways : (cut : Contents) (pages : Pages) (chain : Chain) (old : Making) (made : Made) (opened : NewImage) (memory : Contents) → Opens old made opened
+      → FilesImage pages old → IsRising old.pass → DumpsImage cut pages chain old memory
+      → (kind : RunKind) (at : Place) → Contains (pages_of kind opened.table) at ↔ due old.pass.takes_all (page_at cut at.0 at.1) ≡ Some kind
   -- once it is among the images its number gives each clean page, and the next image may name it
   pub commits : (pages : Pages) (before after : Chain) (old : Making) (made : Made) (opened : NewImage) (memory : Contents) → Opens old made opened → after.number ≡ old.order.parent
       → FilesImage pages old → IsNamed after.images old.order.serial (image_of opened.header pages opened.table) → Within before after → KeepsImage pages before old memory

@@ -1,6 +1,6 @@
 -- Which pages an image visits, and which it leaves to its parent.
-use Rattle.std.specs.Prelude.{◌≡◌, ℕ, Bool, true, List, [], ◌∷◌, ◌++◌, map, Contains}
-use Rattle.sd_image.specs.declared.run.RunKind.TheVariants.{Parent}
+use Rattle.std.specs.Prelude.{◌≡◌, ◌⊎◌, ℕ, Bool, true, List, [], ◌∷◌, ◌++◌, map, Contains}
+use Rattle.sd_image.specs.declared.run.RunKind.TheVariants.{Data, Parent, Zero}
 use Rattle.sd_image.specs.Shows.{pages_of}
 use Rattle.sd_gate.specs.Requests.{Asked, Made}
 use Rattle.sd_pagetable.specs.Contents.{Contents}
@@ -13,7 +13,7 @@ use Rattle.sd_rounds.specs.Files.{FilesImage}
 use Rattle.sd_rounds.specs.Making.{HandsIn, Making, Opens, Steps, begun_image}
 use Rattle.sd_rounds.specs.MakingLaws.{Pages}
 use Rattle.sd_rounds.specs.Pass.{Place}
-use Rattle.sd_rounds.specs.Visits.{AreMapped, IsPassOf, IsSwept, Visit, left_pages, visited_page}
+use Rattle.sd_rounds.specs.Visits.{AreMapped, IsPassOf, IsSwept, Visit, left_pages, taken_pages, visited_page}
 
 -- the visits of an image with those of a step
 abbrev pub visits_after : ImageStep → List Visit → List Visit
@@ -42,3 +42,7 @@ pub record ImageVisitLaws : Type 0 where
   -- exactly the visited pages that were clean are in the table as the parent's; of an image without a parent none is
   pub parents : (still : Place → Bool) (pages : Pages) (visits : List Visit) (old : Making) (made : Made) (opened : NewImage) → Opens old made opened
       → FilesImage pages old → IsVisited still visits old → pages_of Parent opened.table ≡ left_pages old.pass.takes_all visits
+  -- the others in its table are among those that were soft-dirty at their visit, or among all of an image without a parent
+  pub taken : (still : Place → Bool) (pages : Pages) (visits : List Visit) (old : Making) (made : Made) (opened : NewImage) → Opens old made opened
+      → FilesImage pages old → IsVisited still visits old → (at : Place) → Contains (pages_of Data opened.table) at ⊎ Contains (pages_of Zero opened.table) at
+      → Contains (taken_pages old.pass.takes_all visits) at
