@@ -8,11 +8,11 @@ ghost use Rattle.sd_rounds.specs.Room.{MakingWants};
 ghost use Rattle.sd_rounds.specs.Sound.{IsSoundMaking};
 ghost use Rattle.sd_rounds.specs.Dumper.{HandsTo, HasFewPages, WorksOn, after_pre_dump, is_frozen_image, is_last, kind_of, order_of, out_of_image, running_of, slot_of};
 
-use crate::ahead::pages_ahead;
 use crate::image_maker::ImageMaker;
 use crate::image_order::ImageOrder;
 use crate::image_progress::ImageProgress;
 use crate::image_step::ImageStep;
+use crate::left::{CLOSE, END, FORMAT, FREEZE, PAGE_AHEAD, pages_ahead};
 use crate::new_image::NewImage;
 use crate::next_image::NextImage;
 use crate::progress::Progress;
@@ -111,13 +111,14 @@ impl Checkpoint {
     pub(crate) fn left(&self, memory: &Memory) -> u128
         ensures { result ≡ running_left (running_of self.now) (plain_of memory.now) }
     {
-        let next = 17 + 11 * u128::from(pages_ahead(memory, None));
+        let pass = u128::from(PAGE_AHEAD * pages_ahead(memory, None));
+        let next = FORMAT + FREEZE + pass + CLOSE;
         let image = match &self.maker {
             Some(maker) => maker.left(memory),
             None => next,
         };
         let later = self.pre_dumps.len().saturating_sub(self.opened);
-        image + later as u128 * next + 1
+        image + later as u128 * next + END
     }
 
     /// Whether the dump of a frozen memory is being made.

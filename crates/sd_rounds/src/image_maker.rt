@@ -21,6 +21,7 @@ use crate::image_order::ImageOrder;
 use crate::image_progress::ImageProgress;
 use crate::image_step::ImageStep;
 use crate::laws::made_law;
+use crate::left::{CLOSE, FREEZE};
 use crate::new_image::NewImage;
 use crate::round::Round;
 use crate::stage::Stage;
@@ -254,11 +255,12 @@ impl ImageMaker {
         ensures left { result ≡ image_left self.now (plain_of memory.now) }
         ensures few { result ≤ 2 ^ 65 }
     {
+        let pass = u128::from(self.round.left(memory));
         match &self.stage {
-            Stage::Format(plan) => plan_left(plan) + 11 + u128::from(self.round.left(memory)),
-            Stage::Freeze => 11 + u128::from(self.round.left(memory)),
-            Stage::Pass => 10 + u128::from(self.round.left(memory)),
-            Stage::PageWrite(plan) => plan_left(plan) + 10 + u128::from(self.round.left(memory)),
+            Stage::Format(plan) => plan_left(plan) + FREEZE + pass + CLOSE,
+            Stage::Freeze => FREEZE + pass + CLOSE,
+            Stage::Pass => pass + CLOSE,
+            Stage::PageWrite(plan) => plan_left(plan) + pass + CLOSE,
             Stage::Close { plan, .. } => plan_left(plan),
         }
     }

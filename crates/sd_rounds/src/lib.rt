@@ -1,7 +1,6 @@
 //! The dumper: pre-dumps while the memory is in use, the freeze, and the dump.
 #![tactic(auto)]
 
-mod ahead;
 mod checkpoint;
 mod copied;
 mod dumper;
@@ -11,6 +10,7 @@ mod image_order;
 mod image_progress;
 mod image_step;
 mod laws;
+mod left;
 mod new_image;
 mod next_image;
 mod progress;

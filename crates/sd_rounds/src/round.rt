@@ -12,9 +12,9 @@ ghost use Rattle.sd_rounds.specs.Room.{LeavesNext};
 ghost use Rattle.sd_rounds.specs.Rounds.{Copies, IsCopied, IsCopying, IsOver, Stands, TakesPage, Tests, is_page_of_zeros, source};
 ghost use Rattle.sd_rounds.specs.Tables.{AreTables, entries_in, listed};
 
-use crate::ahead::pages_ahead;
 use crate::copied::Copied;
 use crate::entries::push_entry;
+use crate::left::{PAGE_AHEAD, WRITE, pages_ahead};
 use crate::standing::Standing;
 use crate::visit::Visit;
 use sd_areas::{PAGE_SIZE, PageNo, SpaceId};
@@ -113,9 +113,9 @@ impl Round {
         ensures left { result ≡ pass_left self.now (plain_of memory.now) }
         ensures few { result ≤ 2 ^ 44 }
     {
-        let ahead = 11 * pages_ahead(memory, self.after);
+        let ahead = PAGE_AHEAD * pages_ahead(memory, self.after);
         match self.taking {
-            Some(_) => ahead + (SECTORS - self.buffer.len() / SECTOR_SIZE + 2) as u64,
+            Some(_) => ahead + (SECTORS - self.buffer.len() / SECTOR_SIZE) as u64 + WRITE,
             None => ahead,
         }
     }

@@ -1,6 +1,6 @@
 use Rattle.std.proofs.Common.{arith}
 use Rattle.sd_rounds.proofs.AheadLemmas.{few_ahead, next_ahead, none_ahead}
-use Rattle.sd_rounds.proofs.ahead.pages_ahead.Goals as goal
+use Rattle.sd_rounds.proofs.left.pages_ahead.Goals as goal
 
 pub overflow_add-count : goal.overflow_add-count
 overflow_add-count c =
