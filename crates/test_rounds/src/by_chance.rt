@@ -1,4 +1,6 @@
 //! Checkpoints while calls by chance are made on the memory.
+ghost use Rattle.std.specs.Prelude.{◌≤◌};
+
 use crate::calls::call_by_chance;
 use crate::chance::Chance;
 use crate::drive::Drive;
@@ -6,7 +8,8 @@ use crate::moment::Moment;
 use std::alloc::Global;
 use std::test::Fail;
 
-const CHECKPOINTS: u64 = 3_000;
+/// How many checkpoints a test makes.
+const CHECKPOINTS: u64 = 700;
 
 /// How many checkpoints stand above one another: the next takes the whole memory.
 const CHAIN: u64 = 3;
@@ -54,7 +57,9 @@ fn checkpoint(
     drive: &mut Drive,
     chance: &mut Chance,
     number: u64,
-) -> Result<bool, Fail> {
+) -> Result<bool, Fail>
+    requires { 1 ≤ number }
+{
     begin(alloc, drive, chance, number)?;
     up_to_freeze(drive, chance)?;
     let frozen = Moment::of_memory(alloc, &drive.memory)?;
@@ -64,8 +69,8 @@ fn checkpoint(
 }
 
 /// Makes the checkpoints, and returns the number of the first that isn't restored.
-fn checkpoints(alloc: Global, drive: &mut Drive) -> Result<Option<u64>, Fail> {
-    let mut chance = Chance::new(1);
+fn checkpoints(alloc: Global, drive: &mut Drive, seed: u64) -> Result<Option<u64>, Fail> {
+    let mut chance = Chance::new(seed);
     for number in 1..=CHECKPOINTS {
         if !checkpoint(alloc, drive, &mut chance, number)? {
             return Ok(Some(number));
@@ -74,11 +79,29 @@ fn checkpoints(alloc: Global, drive: &mut Drive) -> Result<Option<u64>, Fail> {
     Ok(None)
 }
 
+/// Makes the checkpoints over a disk of their own.
+fn wrong_by_chance(alloc: Global, seed: u64) -> Result<Option<u64>, Fail> {
+    let mut drive = Drive::new(alloc)?;
+    checkpoints(alloc, &mut drive, seed)
+}
+
 /// Whatever is called on a memory between the steps of a checkpoint, what is restored is the memory at its freeze.
 #[test]
 fn checkpoints_by_chance(rt: HostRuntime) -> Result<(), Fail> {
-    let mut drive = Drive::new(rt.alloc())?;
-    let wrong = checkpoints(rt.alloc(), &mut drive)?;
-    assert_eq!(rt; wrong, None);
+    assert_eq!(rt; wrong_by_chance(rt.alloc(), 1)?, None);
+    Ok(())
+}
+
+/// The same by another chance.
+#[test]
+fn checkpoints_by_another_chance(rt: HostRuntime) -> Result<(), Fail> {
+    assert_eq!(rt; wrong_by_chance(rt.alloc(), 2)?, None);
+    Ok(())
+}
+
+/// The same by a third chance.
+#[test]
+fn checkpoints_by_a_third_chance(rt: HostRuntime) -> Result<(), Fail> {
+    assert_eq!(rt; wrong_by_chance(rt.alloc(), 3)?, None);
     Ok(())
 }

@@ -37,8 +37,8 @@ fn call_on_range(
 
 /// Forks a space where one alone is alive, and ends it where there are two.
 fn call_on_space(memory: &mut Memory, space: SpaceId) -> Result<(), MemoryError> {
-    let other = SpaceId::new(3 - space.number());
-    if memory.areas(other).is_some() {
+    let other = if space.number() == 1 { 2 } else { 1 };
+    if memory.areas(SpaceId::new(other)).is_some() {
         return Ok(memory.exit(space)?);
     }
     memory.fork(space)?;
