@@ -117,8 +117,9 @@ impl Bench {
         }
     }
 
-    /// Reads the pages that are touched, and writes them, with a sync at the end.
+    /// Reads the pages that are touched, and writes them, with the syncs and the cut that a dump makes.
     pub(crate) fn copy_touched(&mut self) -> Result<(), BenchError> {
+        self.clear_slot()?;
         let mut at = PAGE_SIZE;
         for page in 0..TOUCHED {
             self.read_page(page * STEP)?;
@@ -126,6 +127,31 @@ impl Bench {
                 self.disk.write_at(SLOT, at, &self.buffer)?;
             }
             at = at.saturating_add(PAGE_SIZE);
+        }
+        self.open_slot()
+    }
+
+    /// Closes and cuts the slot.
+    fn clear_slot(&mut self) -> Result<(), BenchError> {
+        if SLOT < self.disk.slots() {
+            self.disk.write_at(SLOT, 0, &[0])?;
+        }
+        if SLOT < self.disk.slots() {
+            self.disk.sync(SLOT)?;
+        }
+        if SLOT < self.disk.slots() {
+            self.disk.cut(SLOT, 1)?;
+        }
+        Ok(())
+    }
+
+    /// Makes the slot's pages durable, and opens it.
+    fn open_slot(&mut self) -> Result<(), BenchError> {
+        if SLOT < self.disk.slots() {
+            self.disk.sync(SLOT)?;
+        }
+        if SLOT < self.disk.slots() {
+            self.disk.write_at(SLOT, 0, &[1])?;
         }
         if SLOT < self.disk.slots() {
             self.disk.sync(SLOT)?;
