@@ -1,5 +1,5 @@
 -- Each line adds its request to those before it, or is the first that is blamed.
-use Rattle.std.proofs.Common.{arith, rules, ◌≡◌, ◌==◌, map, refl, ◌++◌, ◌∷◌, []}
+use Rattle.std.proofs.Common.{arith, rules, ◌≡◌, ◌==◌, refl, ◌++◌, ◌∷◌, []}
 use Rattle.std.proofs.lemmas.Iterator.Consumers.{map_from_collect}
 use Rattle.std.proofs.lemmas.Iterator.Splits.{YieldsList-from_slice_split}
 use Rattle.sd_script.specs.Script.{lines_of}
