@@ -2,6 +2,8 @@
 //! takes their outcomes.
 #![tactic(auto)]
 
+mod answering;
+mod copies;
 mod numbers;
 mod start;
 mod state;

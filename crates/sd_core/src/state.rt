@@ -1,29 +1,33 @@
 //! The state behind one lock.
-ghost use Rattle.std.specs.Prelude.{◌≡◌, ℕ, List, [], ◌∷◌, length, map, drop, Option, Some, None, false, MatchOption, IfOk, IfErr};
+ghost use Rattle.std.specs.Prelude.{◌≡◌, ◌↔◌, ◌+◌, ℕ, List, [], ◌∷◌, length, map, drop, Option, Some, None, Err, is_some, IfOk};
 ghost use Rattle.sd_areas.specs.Memory.{memory_of};
 ghost use Rattle.sd_areas.specs.PlainMemory.{PlainMemory};
 ghost use Rattle.sd_pagetable.specs.Contents.{plain_of};
 ghost use Rattle.sd_pagetable.specs.Tracking.{IsBeginning};
-ghost use Rattle.sd_command.specs.declared.refusal.Refusal.TheVariants.{Idle};
+ghost use Rattle.sd_command.specs.declared.refusal.Refusal.TheVariants.{Idle, JournalFull};
 ghost use Rattle.sd_command.specs.declared.reply.Reply.TheVariants as reply;
 ghost use Rattle.sd_image.specs.Shows.{Shows};
 ghost use Rattle.sd_gate.specs.Laws.{found_phase};
 ghost use Rattle.sd_gate.specs.Requests.{Asked};
+ghost use Rattle.sd_journal.specs.History.{pending};
 ghost use Rattle.sd_journal.specs.Marked.{IsTracked};
 ghost use Rattle.sd_belief.specs.Believes.{Believes};
 ghost use Rattle.sd_belief.specs.Calls.{AddsByCancel, AddsByOrder, Applies, HandedIn, HandsOut, IsOut, MakesStep, Stays};
 ghost use Rattle.sd_belief.specs.View.{CoreView, history_of};
+ghost use Rattle.sd_core.specs.Answering.{IsAnswered};
 ghost use Rattle.sd_core.specs.Starts.{TakesUp, IsStart, shown_base};
 
+use crate::answering::answer;
+use crate::copies::{copy_command, copy_reply};
 use crate::numbers::Numbers;
 use crate::start::Start;
 use crate::taken::Taken;
 use sd_areas::Snapshot;
-use sd_belief::{Standing, found_law};
+use sd_belief::{Standing, found_law, quiet_steps};
 use sd_chain::Catalog;
 use sd_command::{Command, Refusal, Reply};
 use sd_gate::{Outcome, Phase, RequestId, Worker};
-use sd_journal::Journal;
+use sd_journal::{Entry, Journal, tracked_laws};
 use sd_pagetable::Memory;
 use sd_rounds::Dumper;
 use std::alloc::Global;
@@ -32,10 +36,12 @@ use std::marker::Model;
 /// The memory of a run, its journal, its workers, and what is known of its store.
 #[derive(Drop)]
 pub struct Core {
+    alloc: Global,
     number: Option<u64>,
     base: Snapshot,
     memory: Memory,
     journal: Journal,
+    pending: Option<u64>,
     standing: Standing,
     phases: Vec<Phase>,
     outs: [Option<RequestId>; 3],
@@ -72,7 +78,7 @@ impl Model for Core {
       grows = c.grows;
     } };
 
-    ghost invariant = { λ c. IsCore c.number (memory_of c.base) c.journal c.memory c.outs };
+    ghost invariant = { λ c. IsCore c.number (memory_of c.base) c.journal c.memory c.outs c.pending };
 }
 
 impl Core {
@@ -94,10 +100,12 @@ impl Core {
             phases,
         } = start;
         Core {
+            alloc,
             number,
             base,
             memory,
             journal: Journal::new(alloc),
+            pending: None,
             standing: Standing::NotOpen,
             phases,
             outs: [None; 3],
@@ -120,16 +128,50 @@ impl Core {
         let _memory = &self.memory;
     }
 
-    /// Applies a command of a seat, and journals it with its reply. Returns the entry's number, and the reply.
+    /// Applies a command of a seat, and journals it with its reply. Returns the entry's number, and the reply. While a
+    /// checkpoint is pending a command is refused as frozen, which is a reply too.
     ///
     /// # Errors
     ///
     /// `JournalFull` where no entry is free beside those held. `OutOfMemory` where a growth was refused. Nothing changes.
-    pub fn apply(&mut self, _seat: usize, _command: &Command) -> Result<(u64, Reply), Refusal>
-        ensures applies { Applies _seat _command.now result self.old self.new }
+    pub fn apply(&mut self, seat: usize, command: &Command) -> Result<(u64, Reply), Refusal>
+        ensures applies { Applies seat command.now result self.old self.new }
+        ensures number { IfOk result (λ told. told.0 ≡ length (history_of self.old)) }
+        ensures full { result ≡ Err JournalFull
+            ↔ length (history_of self.old) + self.old.held ≡ self.old.limit }
+        ensures answered { IfOk result (λ told. IsAnswered (is_some (pending (history_of self.old)))
+            command.now told.1 self.old.memory self.new.memory) }
         ensures keeps { Stays self.old self.new }
     {
-        Err(Refusal::OutOfMemory)
+        quiet_steps();
+        tracked_laws();
+        if self.journal.free() == 0 {
+            return Err(Refusal::JournalFull);
+        }
+        let Ok(()) = self.journal.reserve() else {
+            return Err(Refusal::OutOfMemory);
+        };
+        let Ok(command) = copy_command(self.alloc, command) else {
+            return Err(Refusal::OutOfMemory);
+        };
+        let Ok(reply) = answer(
+            self.alloc,
+            &mut self.memory,
+            self.pending.is_some(),
+            &command,
+        ) else {
+            return Err(Refusal::OutOfMemory);
+        };
+        let Ok(told) = copy_reply(self.alloc, &reply) else {
+            return Err(Refusal::OutOfMemory);
+        };
+        let number = self.journal.next_number();
+        self.journal.append(Entry::Applied {
+            seat,
+            command,
+            reply,
+        });
+        Ok((number, told))
     }
 
     /// Begins a checkpoint of so many pre-dumps and a dump.

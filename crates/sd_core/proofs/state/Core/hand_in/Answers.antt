@@ -1,5 +1,4 @@
-use Rattle.std.proofs.Common.{◌≡◌, Some, slice_get, sym, ◌∙◌, ap, subst}
-use Rattle.sd_belief.specs.Calls.{IsOut}
+use Rattle.std.proofs.Common.{◌≡◌, Some, slice_get, sym, ◌∙◌, ap}
 use Rattle.sd_belief.specs.View.{CoreView, index}
 use Rattle.sd_core.proofs.StartLemmas.{nobody, none_of}
 use Rattle.sd_core.proofs.state.Core.hand_in.Goals as goal

@@ -1,0 +1,94 @@
+-- A command that is applied and journaled.
+use Rattle.std.proofs.Common.{◌≡◌, ℕ, Bool, true, false, List, ◌∷◌, Option, Some, None, is_some, refl, sym, subst, inl}
+use Rattle.sd_gate.specs.declared.phase.Phase.{Phase}
+use Rattle.sd_gate.specs.declared.request_id.RequestId.{RequestId}
+use Rattle.sd_command.specs.declared.command.Command.{Command}
+use Rattle.sd_command.specs.declared.command.Command.TheVariants.{Mmap, Munmap, Mprotect, Fork, Exit, Load, TryStore, Fault, Store as StoreCommand}
+use Rattle.sd_command.specs.declared.refusal.Refusal.TheVariants.{Frozen}
+use Rattle.sd_command.specs.declared.reply.Reply.{Reply}
+use Rattle.sd_command.specs.declared.reply.Reply.TheVariants.{Bytes, Refused}
+use Rattle.sd_command.specs.Events.{event_of}
+use Rattle.sd_journal.specs.declared.entry.Entry.TheVariants.{Applied}
+use Rattle.sd_journal.specs.History.{Base, pending}
+use Rattle.sd_journal.specs.Marked.{Told, Marked, IsTracked, entries_of}
+use Rattle.sd_journal.specs.TrackedLaws.{TrackedLaws}
+use Rattle.sd_pagetable.specs.Contents.{Contents}
+use Rattle.sd_pagetable.specs.Tracking.{Step}
+use Rattle.sd_belief.specs.Believes.{HasStore}
+use Rattle.sd_belief.specs.Calls.{AreGivenUp, Stays}
+use Rattle.sd_belief.specs.Knows.{Sees}
+use Rattle.sd_belief.specs.StoreSteps.{QuietSteps}
+use Rattle.sd_belief.specs.View.{CoreView, history_of}
+use Rattle.sd_core.specs.Answering.{IsAnswered}
+use Rattle.std.specs.Prelude.{IfSome}
+
+-- ---- what a reply with bytes changes: nothing
+
+load_passes : (command : Command) (bytes : List ℕ) (old new : Contents) → Step old (event_of command (Bytes bytes)) new → new ≡ old
+load_passes (Mmap space address count prot) bytes old new step = step
+load_passes (Munmap space address count) bytes old new step = step
+load_passes (Mprotect space address count prot) bytes old new step = step
+load_passes (Fork space) bytes old new step = step
+load_passes (Exit space) bytes old new step = step
+load_passes (Load space address count) bytes old new step = step
+load_passes (TryStore space address text) bytes old new step = step
+load_passes (Fault space address) bytes old new step = step
+load_passes (StoreCommand space address text) bytes old new step = step
+
+pub bytes_pass : (frozen : Bool) (command : Command) (reply : Reply) (bytes : List ℕ) (old new : Contents) → reply ≡ Bytes bytes
+    → IsAnswered frozen command reply old new → new ≡ old
+bytes_pass true command reply bytes old new is told = told.1
+bytes_pass false command reply bytes old new is told = load_passes command bytes old new (subst (λ r. Step old (event_of command r) new) is told.step)
+
+-- ---- the memory stays tracked
+
+pub tracked_on : TrackedLaws → (base : Base) (items : Marked) (old new : Contents) (seat : ℕ) (command : Command) (reply : Reply) (waiting : Option ℕ)
+    → waiting ≡ pending (entries_of items) → IsTracked base items old → IsAnswered (is_some waiting) command reply old new
+    → IsTracked base (Told (Applied seat command reply) ∷ items) new
+tracked_on laws base items old new seat command reply None none was told =
+    laws.applied base items old new seat command reply was (sym none) told.legal told.step
+tracked_on laws base items old new seat command reply (Some n) some was told =
+    subst (λ r. IsTracked base (Told (Applied seat command r) ∷ items) new) (sym told.0)
+    (subst (IsTracked base (Told (Applied seat command (Refused Frozen)) ∷ items)) (sym told.1) (laws.frozen base items old seat n command was (sym some)))
+
+-- ---- what is believed
+
+same_phases : (outs : List (Option RequestId)) (phases : List Phase) → AreGivenUp outs phases phases
+same_phases outs phases = record { count = refl; each = λ slot phase at. (phase, at, inl refl) }
+
+-- nothing but the memory changed
+pub stays_same : (old new : CoreView) → new.base ≡ old.base → new.items ≡ old.items → new.phases ≡ old.phases → new.outs ≡ old.outs → new.opener ≡ old.opener
+    → Stays old new
+stays_same old new base items phases outs opener = record {
+  base = base;
+  outs = outs;
+  phases = subst (λ p. AreGivenUp new.outs old.phases p) (sym phases) (same_phases new.outs old.phases);
+  goes_on = λ asked bodies files b. record {
+    store = b.store;
+    dump = b.dump;
+    beliefs = b.beliefs;
+    has = subst (λ x. HasStore x (history_of new) new.phases asked bodies b.store b.dump b.beliefs) (sym base)
+        (subst (λ i. HasStore old.base (entries_of i) new.phases asked bodies b.store b.dump b.beliefs) (sym items)
+        (subst (λ p. HasStore old.base (history_of old) p asked bodies b.store b.dump b.beliefs) (sym phases) b.has));
+    knows = record { sees = subst (λ o. IfSome o (Sees files asked)) (sym opener) b.knows.sees };
+  };
+}
+
+-- a command was journaled
+pub stays_applied : QuietSteps → (old new : CoreView) (seat : ℕ) (command : Command) (reply : Reply) → new.base ≡ old.base
+    → new.items ≡ Told (Applied seat command reply) ∷ old.items → new.phases ≡ old.phases → new.outs ≡ old.outs → new.opener ≡ old.opener → Stays old new
+stays_applied steps old new seat command reply base items phases outs opener = record {
+  base = base;
+  outs = outs;
+  phases = subst (λ p. AreGivenUp new.outs old.phases p) (sym phases) (same_phases new.outs old.phases);
+  goes_on = λ asked bodies files b. record {
+    store = b.store;
+    dump = b.dump;
+    beliefs = b.beliefs;
+    has = subst (λ x. HasStore x (history_of new) new.phases asked bodies b.store b.dump b.beliefs) (sym base)
+        (subst (λ i. HasStore old.base (entries_of i) new.phases asked bodies b.store b.dump b.beliefs) (sym items)
+        (subst (λ p. HasStore old.base (Applied seat command reply ∷ history_of old) p asked bodies b.store b.dump b.beliefs) (sym phases)
+        (steps.applied old.base (history_of old) old.phases asked bodies b.store b.dump b.beliefs seat command reply b.has)));
+    knows = record { sees = subst (λ o. IfSome o (Sees files asked)) (sym opener) b.knows.sees };
+  };
+}
