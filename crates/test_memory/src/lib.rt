@@ -14,7 +14,13 @@ mod loading_tests;
 #[cfg(test)]
 mod memory_tests;
 #[cfg(test)]
+mod plain_page;
+#[cfg(test)]
+mod plain_spaces;
+#[cfg(test)]
 mod procfs_tests;
+#[cfg(test)]
+mod space_tests;
 #[cfg(test)]
 mod support;
 #[cfg(test)]

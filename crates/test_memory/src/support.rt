@@ -1,6 +1,6 @@
 //! What several tests use: permissions, words, errors and a page of bytes.
 use sd_areas::{AreaError, PAGE_SIZE, PageNo, Prot, Snapshot, SnapshotPage, SpaceId};
-use sd_pagetable::{AccessError, MemoryError, MemoryRefusal};
+use sd_pagetable::{AccessError, MemoryError, MemoryRefusal, Segv};
 use std::alloc::{AllocError, Global};
 use std::process::Abort;
 
@@ -53,6 +53,27 @@ pub(crate) const ENOMEM: MemoryError = MemoryError::Denied(AccessError::Refused(
 pub(crate) const NO_FRAME: MemoryError = MemoryError::Denied(AccessError::Refused(
     MemoryRefusal::NoFrame,
 ));
+
+pub(crate) const EINVAL: MemoryError = MemoryError::Denied(AccessError::Refused(
+    MemoryRefusal::Einval,
+));
+
+pub(crate) const NO_SUCH_SPACE: MemoryError = MemoryError::Denied(AccessError::Refused(
+    MemoryRefusal::NoSuchSpace,
+));
+
+pub(crate) const TOO_MANY_SPACES: MemoryError = MemoryError::Denied(AccessError::Refused(
+    MemoryRefusal::TooManySpaces,
+));
+
+pub(crate) const LAST_SPACE: MemoryError = MemoryError::Denied(AccessError::Refused(
+    MemoryRefusal::LastSpace,
+));
+
+/// What a store returns to a page that isn't mapped, and to one that can't be written.
+pub(crate) const NOT_MAPPED: MemoryError = MemoryError::Denied(AccessError::Segv(Segv::Maperr));
+
+pub(crate) const NOT_PERMITTED: MemoryError = MemoryError::Denied(AccessError::Segv(Segv::Accerr));
 
 /// What a call on a memory returned. Want of memory alone is an error: it ends a test that is refused memory.
 pub(crate) fn told<T: Drop>(

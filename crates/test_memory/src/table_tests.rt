@@ -1,7 +1,7 @@
 //! Pages in several tables of a page table, and a plain map beside it.
-use crate::support::{DIRTY_ALONE, FRESH, READ_WRITE, page, told};
+use crate::support::{DIRTY_ALONE, FRESH, NOT_MAPPED, READ_WRITE, page, told};
 use sd_areas::{PAGE_BYTES, PageNo, SpaceId};
-use sd_pagetable::{AccessError, Memory, MemoryError, Segv};
+use sd_pagetable::{Memory, MemoryError};
 use std::alloc::AllocError;
 use std::collections::BTreeMap;
 use std::process::Abort;
@@ -9,9 +9,6 @@ use std::test::Fail;
 
 /// The first and the last page of tables of each level, in rising order.
 const BORDERS: [u64; 6] = [0, 511, 512, 1 << 18, 1 << 27, (1 << 35) - 1];
-
-/// What a store to a page returns that isn't mapped.
-const UNMAPPED: MemoryError = MemoryError::Denied(AccessError::Segv(Segv::Maperr));
 
 fn only_space() -> SpaceId {
     SpaceId::new(1)
@@ -105,7 +102,7 @@ fn made_plain(
         }
         Call::Store(page) => {
             let Some(word) = words.get_mut(&page) else {
-                return Ok(Err(UNMAPPED));
+                return Ok(Err(NOT_MAPPED));
             };
             *word = DIRTY_ALONE;
         }
