@@ -1,0 +1,5 @@
+pub mod Adds
+pub mod Consistent
+pub mod Runs
+pub mod Steps
+pub mod View
