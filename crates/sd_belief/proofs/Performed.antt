@@ -125,16 +125,18 @@ module _ (asked : List (Option Asked)) (worker : ℕ) (request : Asked) (made : 
 
   pub believes_on : (core : CoreView) (bodies : List (List ℕ)) → Believes core asked bodies files → Believes core after bodies new
   believes_on core bodies b = record {
-    store = b.store;
-    dump = b.dump;
-    beliefs = b.beliefs;
-    sound = b.sound;
-    slots = b.slots;
-    believed = b.believed;
-    stored = b.stored;
-    waiting = waiting core.phases bodies b.beliefs b.waiting;
-    last = b.last;
-    next = b.next;
+    has = record {
+      store = b.has.store;
+      dump = b.has.dump;
+      beliefs = b.has.beliefs;
+      sound = b.has.sound;
+      slots = b.has.slots;
+      believed = b.has.believed;
+      stored = b.has.stored;
+      waiting = waiting core.phases bodies b.has.beliefs b.has.waiting;
+      last = b.has.last;
+      next = b.has.next;
+    };
     knows = record { sees = sees core.opener b.knows.sees };
   }
 

@@ -35,18 +35,22 @@ pub record ShowsPending (base : Base) (history : History) (images : List Image) 
   pub is : IsPendingPair base history shown
   pub shows : ImagesShow images shown
 
--- With these bodies behind the gates, these requests out, and these files: the slots are those of a sound store, which
--- shows the last pair of the journal; and with the dump that is being opened, if one is, it would show the pending pair.
-pub record Believes (core : CoreView) (asked : List (Option Asked)) (bodies files : List (List ℕ)) : Type 0 where
+-- With these bodies behind the gates, and these requests out: the slots are those of a sound store, which shows the last
+-- pair; and with the dump that is being opened, if one is, it would show the pending pair.
+pub record HasStore (base : Base) (history : History) (phases : List Phase) (asked : List (Option Asked)) (bodies : List (List ℕ)) : Type 0 where
   pub store : Store
   pub dump : Option Image
   pub beliefs : List Belief
   pub sound : IsSound store
   pub slots : AreSlotsOf store dump beliefs
-  pub believed : AreBelieved core.phases bodies beliefs
-  pub stored : length bodies ≡ length core.phases
+  pub believed : AreBelieved phases bodies beliefs
+  pub stored : length bodies ≡ length phases
   pub waiting : (worker : ℕ) (request : Asked) → slice_get asked worker ≡ Some (Some request)
-      → IsCovered core.phases bodies beliefs request
-  pub last : ShowsLast core.base (history_of core) store.catalog
-  pub next : IfSome dump (λ image. ShowsPending core.base (history_of core) (image ∷ store.catalog))
+      → IsCovered phases bodies beliefs request
+  pub last : ShowsLast base history store.catalog
+  pub next : IfSome dump (λ image. ShowsPending base history (image ∷ store.catalog))
+
+-- What a core believes of these slots, and what it knows of these files.
+pub record Believes (core : CoreView) (asked : List (Option Asked)) (bodies files : List (List ℕ)) : Type 0 where
+  pub has : HasStore core.base (history_of core) core.phases asked bodies
   pub knows : Knows core asked files

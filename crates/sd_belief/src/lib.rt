@@ -4,5 +4,5 @@
 mod laws;
 mod standing;
 
-pub use laws::performed_law;
+pub use laws::{found_law, performed_law};
 pub use standing::Standing;

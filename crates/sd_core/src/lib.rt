@@ -2,11 +2,11 @@
 //! takes their outcomes.
 #![tactic(auto)]
 
-mod core;
 mod numbers;
 mod start;
+mod state;
 mod taken;
 
-pub use core::Core;
 pub use start::Start;
+pub use state::Core;
 pub use taken::Taken;

@@ -19,7 +19,7 @@ use crate::numbers::Numbers;
 use crate::start::Start;
 use crate::taken::Taken;
 use sd_areas::Snapshot;
-use sd_belief::Standing;
+use sd_belief::{Standing, found_law};
 use sd_chain::Catalog;
 use sd_command::{Command, Refusal, Reply};
 use sd_gate::{Outcome, Phase, RequestId, Worker};
@@ -84,6 +84,7 @@ impl Core {
             → Shows files (shown_base start.number (memory_of start.base))
             → Believes result (None ∷ None ∷ None ∷ []) (map (drop 1) files) files }
     {
+        found_law();
         let Start {
             number,
             base,
@@ -174,6 +175,7 @@ impl Core {
             → (result ≡ reply.Refused Idle) × (self.new ≡ self.old) }
         ensures handed { IsOut self.old outcome.request.id → HandedIn self.old outcome result self.new }
     {
+        let _outs = &self.outs;
         drop(outcome);
         Reply::Refused(Refusal::Idle)
     }
