@@ -27,32 +27,32 @@ use Rattle.sd_world.specs.View.{WorldView}
 -- ---- a worker's event
 
 -- its next step is made, or its next request is kept
-pub data TakesUp (worker : Worker) (old : CoreView) (kept : List Kept) (answer : Reply) (new : CoreView) (left : List Kept) : Type 0 where
-  step : MakesStep old worker answer new → left ≡ kept → TakesUp worker old kept answer new left
-  call : (request : Asked) → HandsOut old worker request new → left ≡ slice_set kept (index worker) (Request request)
-      → answer ≡ reply.Worked → TakesUp worker old kept answer new left
+pub data TakesUp (worker : Worker) (old : CoreView) (kept : List Kept) (answer : Reply) (new : CoreView) (later : List Kept) : Type 0 where
+  step : MakesStep old worker answer new → later ≡ kept → TakesUp worker old kept answer new later
+  call : (request : Asked) → HandsOut old worker request new → later ≡ slice_set kept (index worker) (Request request)
+      → answer ≡ reply.Worked → TakesUp worker old kept answer new later
 
 -- the outcome is handed in, and not kept any more
-pub record HandsIn (worker : Worker) (old : CoreView) (kept : List Kept) (made : Made) (answer : Reply) (new : CoreView) (left : List Kept) : Type 0 where
+pub record HandsIn (worker : Worker) (old : CoreView) (kept : List Kept) (made : Made) (answer : Reply) (new : CoreView) (later : List Kept) : Type 0 where
   pub handed : IsOut old made.request.id → HandedIn old made answer new
-  pub left : left ≡ slice_set kept (index worker) Nothing
+  pub left : later ≡ slice_set kept (index worker) Nothing
 
 -- refused as busy, and nothing changes
-pub record IsBusy (old : CoreView) (kept : List Kept) (answer : Reply) (new : CoreView) (left : List Kept) : Type 0 where
+pub record IsBusy (old : CoreView) (kept : List Kept) (answer : Reply) (new : CoreView) (later : List Kept) : Type 0 where
   pub refused : answer ≡ reply.Refused Busy
   pub core : new ≡ old
-  pub left : left ≡ kept
+  pub left : later ≡ kept
 
 -- by what is kept of the worker
 abbrev pub Works : Kept → Worker → CoreView → List Kept → Reply → CoreView → List Kept → Type 0
-Works Nothing worker old kept answer new left = TakesUp worker old kept answer new left
-Works (Request request) worker old kept answer new left = IsBusy old kept answer new left
-Works (Outcome made) worker old kept answer new left = HandsIn worker old kept made answer new left
+Works Nothing worker old kept answer new later = TakesUp worker old kept answer new later
+Works (Request request) worker old kept answer new later = IsBusy old kept answer new later
+Works (Outcome made) worker old kept answer new later = HandsIn worker old kept made answer new later
 
-pub record WorksOn (worker : Worker) (old : CoreView) (kept : List Kept) (answer : Reply) (new : CoreView) (left : List Kept) : Type 0 where
+pub record WorksOn (worker : Worker) (old : CoreView) (kept : List Kept) (answer : Reply) (new : CoreView) (later : List Kept) : Type 0 where
   pub first : Kept
   pub is : slice_get kept (index worker) ≡ Some first
-  pub works : Works first worker old kept answer new left
+  pub works : Works first worker old kept answer new later
 
 -- ---- a device call
 
@@ -79,27 +79,27 @@ pub record IsPerformed {D : Type 0} (g : Ghosts D) (request : Asked) (old : D) (
   pub cause : HasCause (g.failed old) (g.failed new) made.answer
 
 -- the request that is kept is performed, and its outcome kept
-pub record KeepsOutcome {D : Type 0} (g : Ghosts D) (worker : Worker) (request : Asked) (old : D) (kept : List Kept) (answer : Reply) (new : D) (left : List Kept) : Type 0 where
+pub record KeepsOutcome {D : Type 0} (g : Ghosts D) (worker : Worker) (request : Asked) (old : D) (kept : List Kept) (answer : Reply) (new : D) (later : List Kept) : Type 0 where
   pub made : Made
   pub performed : IsPerformed g request old made new
-  pub left : left ≡ slice_set kept (index worker) (Outcome made)
-  pub answer : answer ≡ reply_of made.answer
+  pub left : later ≡ slice_set kept (index worker) (Outcome made)
+  pub replied : answer ≡ reply_of made.answer
 
 -- refused as idle, and nothing changes
-pub record IsIdle {D : Type 0} (old : D) (kept : List Kept) (answer : Reply) (new : D) (left : List Kept) : Type 0 where
+pub record IsIdle {D : Type 0} (old : D) (kept : List Kept) (answer : Reply) (new : D) (later : List Kept) : Type 0 where
   pub refused : answer ≡ reply.Refused Idle
   pub disk : new ≡ old
-  pub left : left ≡ kept
+  pub left : later ≡ kept
 
 abbrev pub Performs : {D : Type 0} → Ghosts D → Kept → Worker → D → List Kept → Reply → D → List Kept → Type 0
-Performs g Nothing worker old kept answer new left = IsIdle old kept answer new left
-Performs g (Request request) worker old kept answer new left = KeepsOutcome g worker request old kept answer new left
-Performs g (Outcome made) worker old kept answer new left = IsIdle old kept answer new left
+Performs g Nothing worker old kept answer new later = IsIdle old kept answer new later
+Performs g (Request request) worker old kept answer new later = KeepsOutcome g worker request old kept answer new later
+Performs g (Outcome made) worker old kept answer new later = IsIdle old kept answer new later
 
-pub record PerformsOn {D : Type 0} (g : Ghosts D) (worker : Worker) (old : D) (kept : List Kept) (answer : Reply) (new : D) (left : List Kept) : Type 0 where
+pub record PerformsOn {D : Type 0} (g : Ghosts D) (worker : Worker) (old : D) (kept : List Kept) (answer : Reply) (new : D) (later : List Kept) : Type 0 where
   pub first : Kept
   pub is : slice_get kept (index worker) ≡ Some first
-  pub performs : Performs g first worker old kept answer new left
+  pub performs : Performs g first worker old kept answer new later
 
 -- ---- all events
 

@@ -1,9 +1,10 @@
 -- A world as callers see it.
-use Rattle.std.specs.Prelude.{Bool, true, false, List, Option, Some, None, slice_get}
+use Rattle.std.specs.Prelude.{Bool, true, false, List, Option, Some, None, slice_get, refl}
+use Rattle.std.specs.Coded.{Coded, code_by, coded×}
 use Rattle.sd_gate.specs.declared.request_id.RequestId.{RequestId}
 use Rattle.sd_gate.specs.declared.worker.Worker.{Worker}
 use Rattle.sd_gate.specs.Requests.{Asked, Made}
-use Rattle.sd_belief.specs.View.{CoreView, index}
+use Rattle.sd_belief.specs.View.{CoreView, Rest, core_code, index}
 use Rattle.sd_world.specs.declared.kept.Kept.{Kept}
 use Rattle.sd_world.specs.declared.kept.Kept.TheVariants.{Nothing, Request, Outcome}
 
@@ -12,6 +13,11 @@ pub record WorldView (D : Type 0) : Type 0 where
   pub disk : D
   -- what is kept of each worker
   pub kept : List Kept
+
+-- how it is stored as a value
+abbrev pub world_code : {D : Type 0} → Coded Rest → Coded D → Coded (List Kept) → Coded (WorldView D)
+world_code {D} rest disk kept = code_by (CoreView × (D × List Kept)) (coded× (core_code rest) (coded× disk kept))
+    (λ w. (w.core, (w.disk, w.kept))) (λ t. record { core = t.0; disk = t.1.0; kept = t.1.1 }) (λ _. refl)
 
 -- the request that is out of a worker, as it stands now
 abbrev pub asked_of : Kept → Option Asked

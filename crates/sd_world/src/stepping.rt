@@ -69,8 +69,9 @@ pub(crate) fn perform_kept<D: Disk>(disk: &mut D, kept: &mut [Kept; 3], worker: 
             put_kept(kept, worker, Kept::Outcome(outcome));
             reply_of(answer)
         }
-        other => {
-            put_kept(kept, worker, other);
+        Kept::Nothing => Reply::Refused(Refusal::Idle),
+        Kept::Outcome(outcome) => {
+            put_kept(kept, worker, Kept::Outcome(outcome));
             Reply::Refused(Refusal::Idle)
         }
     }

@@ -18,10 +18,13 @@ pub struct World<D: Disk> {
 }
 
 impl<D: Disk> Model for World<D> {
-    ghost use Rattle.sd_world.specs.View.{WorldView};
+    ghost use Rattle.std.specs.Coded.{codes};
+    ghost use Rattle.sd_world.specs.View.{WorldView, world_code};
     ghost use Rattle.sd_world.specs.Consistent.{IsWorld};
 
     ghost Value = { WorldView D };
+
+    ghost coded = { world_code (Prim.hlevel (codes)) D.code (Prim.hlevel (codes)) };
 
     ghost view = { λ w. record { core = w.core; disk = w.disk; kept = w.kept } };
 
