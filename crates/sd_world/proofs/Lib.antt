@@ -1,2 +1,4 @@
 mod Lists
 mod Calls
+mod KeptLemmas
+mod Worlds
