@@ -2,3 +2,5 @@ mod Lists
 mod Calls
 mod KeptLemmas
 mod Worlds
+mod HandInLemmas
+mod PerformLemmas

@@ -37,7 +37,7 @@ Stand contents may_leave phases kept bodies = (slot : ℕ) (phase : Phase) → s
 
 module _ (contents : List (List ℕ)) (may_leave : List (List ℕ) → Type 0) where
   -- jobs without a request are given up
-  stand_given_up : (kept : List Kept) (bodies : List (List ℕ)) (old new : List Phase) → GivenUpFits contents may_leave
+  pub stand_given_up : (kept : List Kept) (bodies : List (List ℕ)) (old new : List Phase) → GivenUpFits contents may_leave
       → AreGivenUp (map id_of kept) old new → Stand contents may_leave old kept bodies → Stand contents may_leave new kept bodies
   stand_given_up kept bodies old new gives up stand slot phase is =
       let from = up.each slot phase is in
@@ -55,7 +55,7 @@ module _ (contents : List (List ℕ)) (may_leave : List (List ℕ) → Type 0) w
 module _ {D : Type 0} (g : Ghosts D) (disk : D) where
   -- ---- a call of the core that leaves what is out
 
-  stays_world : (old new : CoreView) (kept : List Kept) → GivenUpFits (g.contents disk) (g.may_leave disk) → Stays old new
+  pub stays_world : (old new : CoreView) (kept : List Kept) → GivenUpFits (g.contents disk) (g.may_leave disk) → Stays old new
       → IsWorld g (record { core = old; disk = disk; kept = kept }) → IsWorld g (record { core = new; disk = disk; kept = kept })
   stays_world old new kept gives stays world = record {
     count = world.count ∙ sym stays.phases.count;
@@ -74,7 +74,7 @@ module _ {D : Type 0} (g : Ghosts D) (disk : D) where
 
   -- ---- a request that is handed out
 
-  hands_out_world : (old new : CoreView) (kept : List Kept) (worker : Worker) (request : Asked) → slice_get kept (index worker) ≡ Some Nothing
+  pub hands_out_world : (old new : CoreView) (kept : List Kept) (worker : Worker) (request : Asked) → slice_get kept (index worker) ≡ Some Nothing
       → HandsOut old worker request new → IsWorld g (record { core = old; disk = disk; kept = kept })
       → IsWorld g (record { core = new; disk = disk; kept = slice_set kept (index worker) (Request request) })
   hands_out_world old new kept worker request idle hands world =

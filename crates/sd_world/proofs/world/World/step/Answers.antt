@@ -1,4 +1,5 @@
-use Rattle.sd_world.proofs.Worlds.{Stand}
+use Rattle.sd_world.proofs.HandInLemmas.{handed_world}
+use Rattle.sd_world.proofs.PerformLemmas.{performed_world}
 use Rattle.sd_world.specs.declared.kept.Kept.TheVariants.{Request}
 use Rattle.std.proofs.Common.{refl}
 use Rattle.sd_belief.specs.View.{index}
