@@ -4,3 +4,5 @@ mod KeptLemmas
 mod Worlds
 mod HandInLemmas
 mod PerformLemmas
+mod AnewLemmas
+mod StepLemmas

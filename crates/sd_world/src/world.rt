@@ -2,9 +2,12 @@
 use crate::event::Event;
 use crate::kept::Kept;
 use crate::stepping::make_step;
+use sd_belief::performed_law;
 use sd_command::Reply;
 use sd_core::Core;
 use sd_disk::Disk;
+use sd_gate::given_up_fits;
+use sd_store_laws::{contents_show, left_as_believed, synced_is_found};
 use std::alloc::Global;
 use std::marker::Model;
 
@@ -34,6 +37,13 @@ impl<D: Disk> Model for World<D> {
 impl<D: Disk> World<D> {
     /// Makes one event, and answers it.
     pub fn step(&mut self, event: &Event) -> Reply {
-        make_step(&mut self.core, &mut self.disk, &mut self.kept, event)
+        performed_law();
+        left_as_believed();
+        contents_show();
+        given_up_fits(&self.disk);
+        synced_is_found(&self.disk);
+        let answer = make_step(&mut self.core, &mut self.disk, &mut self.kept, event);
+        self.core.sound();
+        answer
     }
 }
