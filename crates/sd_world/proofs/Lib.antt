@@ -6,3 +6,4 @@ mod HandInLemmas
 mod PerformLemmas
 mod AnewLemmas
 mod StepLemmas
+mod AllowedLemmas
