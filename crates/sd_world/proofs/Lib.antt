@@ -7,3 +7,5 @@ mod PerformLemmas
 mod AnewLemmas
 mod StepLemmas
 mod AllowedLemmas
+mod AddsLemmas
+mod ReplyLemmas

@@ -33,11 +33,17 @@ AddsByWork worker core (reply.Merged serial) old new = new ≡ old
 AddsByWork worker core (reply.Refused why) old new = new ≡ old
 AddsByWork worker core _ old new = ⊥
 
+-- a device call adds nothing
+abbrev pub AddsByPerform : Reply → History → History → Type 0
+AddsByPerform reply.Worked old new = new ≡ old
+AddsByPerform (reply.Refused why) old new = new ≡ old
+AddsByPerform _ old new = ⊥
+
 abbrev pub AddsBy : Event → CoreView → Reply → History → History → Type 0
 AddsBy (CommandEvent seat command) core answer old new = AddsByCommand seat command answer old new
 AddsBy (Begin rounds) core answer old new = AddsByOrder answer old new
 AddsBy (Work worker) core answer old new = AddsByWork worker core answer old new
-AddsBy (Perform worker) core answer old new = new ≡ old
+AddsBy (Perform worker) core answer old new = AddsByPerform answer old new
 AddsBy Merge core answer old new = AddsByOrder answer old new
 AddsBy Cancel core answer old new = AddsByCancel answer old new
 AddsBy Reopen core answer old new = AddsByOrder answer old new

@@ -2,6 +2,8 @@ use Rattle.std.proofs.Common.{refl}
 use Rattle.sd_belief.specs.View.{index}
 use Rattle.sd_world.specs.declared.kept.Kept.TheVariants.{Request}
 use Rattle.sd_world.proofs.StepLemmas.{step_world}
+use Rattle.sd_world.proofs.AddsLemmas.{step_adds, step_base, step_honest, step_span}
+use Rattle.sd_world.proofs.ReplyLemmas.{marked_legal, says}
 use Rattle.sd_world.proofs.AllowedLemmas.{world_allows}
 use Rattle.sd_world.proofs.world.World.step.Goals as goal
 
