@@ -2,6 +2,7 @@
 ghost use Rattle.std.specs.Prelude.{◌≡◌, ◌<◌, Some, slice_get, slice_set};
 ghost use Rattle.sd_belief.specs.View.{index};
 ghost use Rattle.sd_world.specs.declared.kept.Kept.TheVariants.{Nothing};
+ghost use Rattle.sd_world.specs.View.{is_asked};
 
 use sd_gate::{Outcome, Request, Worker};
 use std::mem;
@@ -45,6 +46,8 @@ pub(crate) fn put_kept(kept: &mut [Kept; 3], worker: Worker, new: Kept)
 }
 
 /// Whether a device call of a worker is out that wasn't made yet.
-pub(crate) fn is_asked(kept: &[Kept; 3], worker: Worker) -> bool {
+pub(crate) fn is_asked(kept: &[Kept; 3], worker: Worker) -> bool
+    ensures { result ≡ is_asked kept.now worker }
+{
     matches!(kept[place(worker)], Kept::Request(_))
 }

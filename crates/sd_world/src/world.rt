@@ -1,12 +1,27 @@
 //! A world: a core, its disk, and what is kept of the workers between events.
+ghost use Rattle.std.specs.Prelude.{◌≡◌, ℕ, List, false, true, IfOk, IfErr};
+ghost use Rattle.sd_command.specs.declared.refusal.Refusal.TheVariants.{Busy, Idle, OutOfMemory};
+ghost use Rattle.sd_command.specs.declared.reply.Reply.TheVariants as reply;
+ghost use Rattle.sd_disk.specs.Crash.{Within};
+ghost use Rattle.sd_disk.specs.Spans.{LeavesOnly};
+ghost use Rattle.sd_gate.specs.declared.worker.Worker.{Worker as WorkerKind};
+ghost use Rattle.sd_journal.specs.Marked.{IsTracked};
+ghost use Rattle.sd_belief.specs.Shown.{ShowsAllowed};
+ghost use Rattle.sd_belief.specs.View.{history_of};
+ghost use Rattle.sd_world.specs.declared.event.Event.TheVariants.{Perform, Work};
+ghost use Rattle.sd_world.specs.Adds.{Adds};
+ghost use Rattle.sd_world.specs.Runs.{Runs, ShowsAllowedBetween, ShowsReply};
+ghost use Rattle.sd_world.specs.Steps.{Does};
+ghost use Rattle.sd_world.specs.View.{is_asked};
+
 use crate::event::Event;
-use crate::kept::Kept;
+use crate::kept::{Kept, is_asked};
 use crate::stepping::make_step;
 use sd_belief::performed_law;
-use sd_command::Reply;
+use sd_command::{Refusal, Reply};
 use sd_core::Core;
 use sd_disk::Disk;
-use sd_gate::given_up_fits;
+use sd_gate::{Worker, given_up_fits};
 use sd_store_laws::{contents_show, left_as_believed, synced_is_found};
 use std::alloc::Global;
 use std::marker::Model;
@@ -35,8 +50,78 @@ impl<D: Disk> Model for World<D> {
 }
 
 impl<D: Disk> World<D> {
+    /// The core.
+    pub fn core(&self) -> &Core
+        ensures { result.now ≡ self.now.core }
+    {
+        &self.core
+    }
+
+    /// Whether a device call of a worker is out that wasn't made yet. Its next event is then `Perform`, and else `Work`.
+    pub fn is_out(&self, worker: Worker) -> bool
+        ensures { result ≡ is_asked self.now.kept worker }
+    {
+        is_asked(&self.kept, worker)
+    }
+
+    /// The disk, as it stands.
+    pub fn close(self) -> D
+        ensures { result ≡ self.disk }
+    {
+        self.disk
+    }
+
+    /// A law: whatever a crash leaves now shows a pair that the journal allows, and so do the contents as read. The
+    /// journal is legal, the memory is the one that it makes, and its bits are those that the commands and visits give.
+    pub fn sound(&self)
+        ensures allowed { D.is_honest self.now.disk → Within (D.may_leave self.now.disk)
+            (ShowsAllowed self.now.core.base (history_of self.now.core)) }
+        ensures contents { D.is_honest self.now.disk
+            → ShowsAllowed self.now.core.base (history_of self.now.core)
+            (D.contents self.now.disk) }
+        ensures tracked { IsTracked self.now.core.base self.now.core.journal.items
+            self.now.core.memory }
+    {
+        left_as_believed();
+        contents_show();
+        self.core.sound();
+    }
+
     /// Makes one event, and answers it.
-    pub fn step(&mut self, event: &Event) -> Reply {
+    pub fn step(&mut self, event: &Event) -> Reply
+        // What it does to the core, the disk and what is kept.
+        ensures does { Does D.Disk event.now self.old result self.new }
+        ensures busy { (worker : WorkerKind) → event.now ≡ Work worker
+            → is_asked self.old.kept worker ≡ true
+            → (result ≡ reply.Refused Busy) × (self.new ≡ self.old) }
+        ensures idle { (worker : WorkerKind) → event.now ≡ Perform worker
+            → is_asked self.old.kept worker ≡ false
+            → (result ≡ reply.Refused Idle) × (self.new ≡ self.old) }
+
+        // What it adds to the journal. What the run started from stays.
+        ensures adds { Adds event.now result self.old.core self.new.core }
+        ensures base { self.new.core.base ≡ self.old.core.base }
+        ensures honest { D.is_honest self.new.disk → D.is_honest self.old.disk }
+
+        // At any moment of it a crash leaves what the journal allowed with which it began.
+        ensures any_moment { D.is_honest self.new.disk
+            → LeavesOnly D.Disk self.old.disk self.new.disk
+            (ShowsAllowed self.old.core.base (history_of self.old.core)) }
+        // At its end a crash leaves what the journal allows then.
+        ensures at_end { D.is_honest self.new.disk → Within (D.may_leave self.new.disk)
+            (ShowsAllowed self.new.core.base (history_of self.new.core)) }
+        // After an acknowledgement, or a reopening, it leaves that checkpoint with the memory at its freeze, or nothing
+        // saved where the reopening found none.
+        ensures shows { D.is_honest self.new.disk → Within (D.may_leave self.new.disk)
+            (ShowsReply result self.new.core.base (history_of self.new.core)) }
+        // So do the contents as read.
+        ensures contents { D.is_honest self.new.disk
+            → ShowsAllowed self.new.core.base (history_of self.new.core)
+            (D.contents self.new.disk) }
+        ensures reads { D.is_honest self.new.disk
+            → ShowsReply result self.new.core.base (history_of self.new.core)
+            (D.contents self.new.disk) }
+    {
         performed_law();
         left_as_believed();
         contents_show();
@@ -45,5 +130,40 @@ impl<D: Disk> World<D> {
         let answer = make_step(&mut self.core, &mut self.disk, &mut self.kept, event);
         self.core.sound();
         answer
+    }
+
+    /// Makes the steps of events in order, and returns their replies.
+    ///
+    /// # Errors
+    ///
+    /// `OutOfMemory` where there is no room for the replies: no step is made.
+    pub fn run(&mut self, events: &[Event]) -> Result<Vec<Reply>, Refusal>
+        ensures runs { IfOk result
+            (λ replies. Runs self.old.core events.now replies.items self.new.core) }
+        ensures refused { IfErr result (λ why. (why ≡ OutOfMemory) × (self.new ≡ self.old)) }
+        ensures base { self.new.core.base ≡ self.old.core.base }
+        ensures honest { D.is_honest self.new.disk → D.is_honest self.old.disk }
+
+        // At any moment of it a crash leaves what the journal allowed with which it began, or with which a step ended.
+        ensures any_moment { D.is_honest self.new.disk
+            → LeavesOnly D.Disk self.old.disk self.new.disk
+            (ShowsAllowedBetween self.old.core.base (history_of self.old.core)
+            (history_of self.new.core)) }
+        // At its end a crash leaves what the journal allows then, and so do the contents as read.
+        ensures at_end { D.is_honest self.new.disk → Within (D.may_leave self.new.disk)
+            (ShowsAllowed self.new.core.base (history_of self.new.core)) }
+        ensures contents { D.is_honest self.new.disk
+            → ShowsAllowed self.new.core.base (history_of self.new.core)
+            (D.contents self.new.disk) }
+    {
+        let Ok(mut replies) = Vec::with_capacity(self.alloc, events.len()) else {
+            return Err(Refusal::OutOfMemory);
+        };
+        for event in events {
+            let answer = self.step(event);
+            replies.push_reserved(answer);
+        }
+        self.sound();
+        Ok(replies)
     }
 }
