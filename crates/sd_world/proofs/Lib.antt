@@ -9,3 +9,4 @@ mod StepLemmas
 mod AllowedLemmas
 mod AddsLemmas
 mod ReplyLemmas
+mod RunLemmas

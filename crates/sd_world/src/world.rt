@@ -156,6 +156,7 @@ impl<D: Disk> World<D> {
             → ShowsAllowed self.new.core.base (history_of self.new.core)
             (D.contents self.new.disk) }
     {
+        self.sound();
         let Ok(mut replies) = Vec::with_capacity(self.alloc, events.len()) else {
             return Err(Refusal::OutOfMemory);
         };
