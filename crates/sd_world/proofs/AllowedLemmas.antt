@@ -33,15 +33,19 @@ fits_one left phase body file belief may leaves = all.0
   where
     phases : List Phase
     phases = phase ∷ []
+
     bodies : List (List ℕ)
     bodies = body ∷ []
+
     believed : (slot : ℕ) (p : Phase) (b : Belief) → slice_get phases slot ≡ Some p → slice_get (belief ∷ []) slot ≡ Some b
         → MayBelieve p (file_at bodies slot) b
     believed zero p b is has = subst (λ q. MayBelieve q body b) (same_Some phase p is) (subst (MayBelieve phase body) (same_Some belief b has) may)
     believed (suc slot) p b is has = absurd cc
+
     lies : (slot : ℕ) (p : Phase) → slice_get phases slot ≡ Some p → Leaves p (file_at bodies slot) (file_at (file ∷ []) slot)
     lies zero p is = subst (λ q. Leaves q body file) (same_Some phase p is) leaves
     lies (suc slot) p is = absurd cc
+
     all : AllZip FitsBelief (belief ∷ []) (file ∷ [])
     all = left phases bodies (file ∷ []) (belief ∷ []) (record { count = refl; each = believed }) (record { count = refl; each = lies })
 

@@ -67,12 +67,12 @@ module _ {D : Type 0} (g : Ghosts D) (disk : D) (old new : CoreView) (kept : Lis
         let at = map_get found_phase contents slot phase (ap (λ all. slice_get all slot) (sym phases) ∙ is) in
         let same_file : file_at contents slot ≡ at.0 = get_or_from_slice_get contents slot at.0 [] at.1 in
         let same_body : file_at (map (drop 1) contents) slot ≡ drop 1 (file_at contents slot) =
-            get_or_from_slice_get (map (drop 1) contents) slot (drop 1 at.0) [] (get_map (drop 1) contents slot at.0 at.1) ∙ ap (drop 1) (sym same_file) in
+        get_or_from_slice_get (map (drop 1) contents) slot (drop 1 at.0) [] (get_map (drop 1) contents slot at.0 at.1) ∙ ap (drop 1) (sym same_file) in
         let within : slot < length old.phases = subst (λ n. slot < n) world.count (slice_get_within contents slot at.0 at.1) in
         let there = slice_get-get_or old.phases slot Raw within in
         let before = slice_index_or old.phases slot Raw in
         let it : SlotFits (found_phase (file_at contents slot)) (drop 1 (file_at contents slot)) slot contents (g.may_leave disk) =
-            found before (file_at was.bodies slot) slot (anew.refound slot before there) (fits slot before there) in
+        found before (file_at was.bodies slot) slot (anew.refound slot before there) (fits slot before there) in
         subst (λ o. SlotFits (phase_now o phase) (body_now o (file_at (map (drop 1) contents) slot)) slot contents (g.may_leave disk)) (sym (none_kept slot))
         (subst (λ b. SlotFits phase b slot contents (g.may_leave disk)) (sym same_body)
         (subst (λ p. SlotFits p (drop 1 (file_at contents slot)) slot contents (g.may_leave disk)) (ap found_phase same_file ∙ at.2) it))

@@ -58,16 +58,16 @@ module _ (kept : List Kept) (slots : ℕ) (worker : Worker) (made : Made) (at : 
             let within : id.slot < length bodies = subst (λ n. id.slot < n) (sym stored) (slice_get_within phases id.slot phase here) in
             let it : new ≡ next = same_Some new next (sym is ∙ ap (slice_get (slice_set phases id.slot next)) same ∙ get_set_same phases id.slot phase next here) in
             let fits : SlotFits next body id.slot contents may_leave =
-                subst (λ o. SlotFits (phase_now o phase) (body_now o (file_at bodies id.slot)) id.slot contents may_leave)
-                (its_own kept slots (index worker) made places at) (stand id.slot phase here) in
+            subst (λ o. SlotFits (phase_now o phase) (body_now o (file_at bodies id.slot)) id.slot contents may_leave)
+            (its_own kept slots (index worker) made places at) (stand id.slot phase here) in
             let plain : SlotFits new (file_at filled id.slot) id.slot contents may_leave =
-                subst (λ p. SlotFits p (file_at filled id.slot) id.slot contents may_leave) (sym it)
-                (subst (λ b. SlotFits next b id.slot contents may_leave) (sym (get_or-set_same bodies id.slot body [] within)) fits) in
+            subst (λ p. SlotFits p (file_at filled id.slot) id.slot contents may_leave) (sym it)
+            (subst (λ b. SlotFits next b id.slot contents may_leave) (sym (get_or-set_same bodies id.slot body [] within)) fits) in
             subst (λ s. SlotFits (phase_now (outcome_on now s) new) (body_now (outcome_on now s) (file_at filled s)) s contents may_leave) (sym same)
             (subst (λ o. SlotFits (phase_now o new) (body_now o (file_at filled id.slot)) id.slot contents may_leave) (sym cleared_none) plain)
         | inr differs ↦
             let as_before : outcome_on now slot ≡ outcome_on kept slot =
-                set_elsewhere kept (index worker) (Outcome made) Nothing slot at (outcome_off made slot (λ on. differs (sym on))) (nothing_on slot) in
+            set_elsewhere kept (index worker) (Outcome made) Nothing slot at (outcome_off made slot (λ on. differs (sym on))) (nothing_on slot) in
             let was : slice_get phases slot ≡ Some new = sym (get_set_other phases id.slot slot next differs) ∙ is in
             subst (λ o. SlotFits (phase_now o new) (body_now o (file_at filled slot)) slot contents may_leave) (sym as_before)
             (subst (λ b. SlotFits (phase_now (outcome_on kept slot) new) (body_now (outcome_on kept slot) b) slot contents may_leave)
@@ -87,7 +87,7 @@ handed_world g disk old new kept worker made answer at gives handed world =
     let own : index id.worker ≡ i = world.places.own i (Outcome made) id at refl in
     let h = handed (ap (slice_get old.outs) own ∙ ap (λ outs. slice_get outs i) world.outs ∙ get_map id_of kept i (Outcome made) at) in
     let outs : new.outs ≡ map id_of later =
-        h.outs ∙ ap (λ j. slice_set old.outs j None) own ∙ ap (λ all. slice_set all i None) world.outs ∙ sym (map_set id_of kept i Nothing) in
+    h.outs ∙ ap (λ j. slice_set old.outs j None) own ∙ ap (λ all. slice_set all i None) world.outs ∙ sym (map_set id_of kept i Nothing) in
     record {
       count = world.count ∙ sym h.count;
       outs = outs;

@@ -10,3 +10,4 @@ mod AllowedLemmas
 mod AddsLemmas
 mod ReplyLemmas
 mod RunLemmas
+mod OpenLemmas

@@ -69,8 +69,8 @@ module _ {D : Type 0} (g : Ghosts D) (core : CoreView) (kept : List Kept) (worke
         let slot = request.id.slot in
         let body = file_at was.bodies slot in
         let before : SlotFits phase body slot (g.contents old) (g.may_leave old) =
-            subst (λ o. SlotFits (phase_now o phase) (body_now o body) slot (g.contents old) (g.may_leave old))
-            (asked_alone kept (length (g.contents old)) (index worker) request world.places at) (was.stands slot phase is) in
+        subst (λ o. SlotFits (phase_now o phase) (body_now o body) slot (g.contents old) (g.may_leave old))
+        (asked_alone kept (length (g.contents old)) (index worker) request world.places at) (was.stands slot phase is) in
         subst (λ (id : RequestId). SlotFits (phase_after phase id.call (is_done made.answer)) (body_after body id.call made.request.bytes) slot files (g.may_leave new))
         (sym same_id)
         (subst (λ b. SlotFits (phase_after phase request.id.call (is_done made.answer)) b slot files (g.may_leave new))

@@ -47,7 +47,7 @@ module _ (contents : List (List ℕ)) (may_leave : List (List ℕ) → Type 0) w
         | inr (same, free) ↦
             let none : outcome_on kept slot ≡ None = free_none kept slot free in
             let was : SlotFits from.0 (file_at bodies slot) slot contents may_leave =
-                subst (λ o. SlotFits (phase_now o from.0) (body_now o (file_at bodies slot)) slot contents may_leave) none (stand slot from.0 from.1) in
+            subst (λ o. SlotFits (phase_now o from.0) (body_now o (file_at bodies slot)) slot contents may_leave) none (stand slot from.0 from.1) in
             subst (λ o. SlotFits (phase_now o phase) (body_now o (file_at bodies slot)) slot contents may_leave) (sym none)
             (subst (λ p. SlotFits p (file_at bodies slot) slot contents may_leave) (sym same) (gives from.0 (file_at bodies slot) slot was))
       ]
@@ -80,7 +80,7 @@ module _ {D : Type 0} (g : Ghosts D) (disk : D) where
   hands_out_world old new kept worker request idle hands world =
       let now = slice_set kept (index worker) (Request request) in
       let same : (slot : ℕ) → outcome_on now slot ≡ outcome_on kept slot = λ slot.
-          set_elsewhere kept (index worker) Nothing (Request request) slot idle (nothing_on slot) (request_on request slot) in
+      set_elsewhere kept (index worker) Nothing (Request request) slot idle (nothing_on slot) (request_on request slot) in
       record {
         count = world.count ∙ ap length (sym hands.phases);
         outs = hands.outs ∙ ap (λ outs. slice_set outs (index worker) (Some request.id)) world.outs ∙ sym (map_set id_of kept (index worker) (Request request));

@@ -3,3 +3,4 @@ pub mod Consistent
 pub mod Runs
 pub mod Steps
 pub mod View
+pub mod Opens

@@ -5,10 +5,7 @@ use sd_gate::Worker;
 #[derive(Debug, Drop)]
 pub enum Event {
     /// A command of a seat.
-    Command {
-        seat: usize,
-        command: Command,
-    },
+    Command { seat: usize, command: Command },
     /// The order to begin a checkpoint of so many pre-dumps and a dump.
     Begin(u64),
     /// A worker hands in the outcome of its device call, or else makes its next step or asks for its next device call.

@@ -4,8 +4,14 @@
 
 mod event;
 mod kept;
+mod looking;
+mod open_error;
+mod open_fault;
+mod opening;
 mod stepping;
 mod world;
 
 pub use event::Event;
+pub use open_error::OpenError;
+pub use open_fault::OpenFault;
 pub use world::World;

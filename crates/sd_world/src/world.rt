@@ -1,9 +1,16 @@
 //! A world: a core, its disk, and what is kept of the workers between events.
-ghost use Rattle.std.specs.Prelude.{◌≡◌, ℕ, List, false, true, IfOk, IfErr};
+ghost use Rattle.std.specs.Prelude.{◌≡◌, ◌≤◌, ◌∷◌, [], ℕ, List, None, false, true, IfOk, IfErr};
 ghost use Rattle.sd_command.specs.declared.refusal.Refusal.TheVariants.{Busy, Idle, OutOfMemory};
 ghost use Rattle.sd_command.specs.declared.reply.Reply.TheVariants as reply;
 ghost use Rattle.sd_disk.specs.Crash.{Within};
+ghost use Rattle.sd_disk.specs.Reads.{OnlyReads};
 ghost use Rattle.sd_disk.specs.Spans.{LeavesOnly};
+ghost use Rattle.sd_image.specs.Shows.{Shows};
+ghost use Rattle.sd_pagetable.specs.Contents.{plain_of};
+ghost use Rattle.sd_belief.specs.declared.standing.Standing.TheVariants.{NotOpen};
+ghost use Rattle.sd_core.specs.Starts.{shown_base};
+ghost use Rattle.sd_world.specs.declared.kept.Kept.TheVariants.{Nothing};
+ghost use Rattle.sd_world.specs.Opens.{IsFaultOf, bare_memory};
 ghost use Rattle.sd_gate.specs.declared.worker.Worker.{Worker as WorkerKind};
 ghost use Rattle.sd_journal.specs.Marked.{IsTracked};
 ghost use Rattle.sd_belief.specs.Shown.{ShowsAllowed};
@@ -16,12 +23,14 @@ ghost use Rattle.sd_world.specs.View.{is_asked};
 
 use crate::event::Event;
 use crate::kept::{Kept, is_asked};
+use crate::open_error::OpenError;
+use crate::opening::start_of;
 use crate::stepping::make_step;
 use sd_belief::performed_law;
 use sd_command::{Refusal, Reply};
 use sd_core::Core;
 use sd_disk::Disk;
-use sd_gate::{Worker, given_up_fits};
+use sd_gate::{Worker, all_found_fit, given_up_fits};
 use sd_store_laws::{contents_show, left_as_believed, synced_is_found};
 use std::alloc::Global;
 use std::marker::Model;
@@ -50,6 +59,56 @@ impl<D: Disk> Model for World<D> {
 }
 
 impl<D: Disk> World<D> {
+    /// Opens a store: syncs each slot, reads what it shows, and starts a run from it, over so many frames, 1 to 65,536.
+    /// The core's store isn't open yet. Where nothing was saved the run starts from space 1 alone, without areas.
+    ///
+    /// # Errors
+    ///
+    /// `NoFrame` where more pages than there are frames aren't all zeros. `Damaged` names a slot, as `restore` does.
+    /// `Device`, and `OutOfMemory` where a growth was refused. Each hands the disk back.
+    pub fn open(alloc: Global, mut disk: D, frames: usize) -> Result<World<D>, OpenError<D>>
+        requires least { 1 ≤ frames }
+        requires greatest { frames ≤ 65536 }
+
+        // No entry stands in the journal, the store isn't open, and nothing is out.
+        ensures journal { IfOk result (λ world. world.core.journal.items ≡ []) }
+        ensures standing { IfOk result (λ world. world.core.standing ≡ NotOpen) }
+        ensures kept { IfOk result (λ world. world.kept ≡ Nothing ∷ Nothing ∷ Nothing ∷ []) }
+
+        // The contents show the base, or nothing saved where it has no number, and so does every outcome of a crash.
+        ensures shows { IfOk result (λ world. D.is_honest world.disk → Shows (D.contents disk)
+            (shown_base world.core.base.number world.core.base.memory)) }
+        ensures everywhere { IfOk result (λ world. D.is_honest world.disk
+            → Within (D.may_leave world.disk) (λ c. Shows c
+            (shown_base world.core.base.number world.core.base.memory))) }
+        ensures bare { IfOk result (λ world. world.core.base.number ≡ None
+            → world.core.base.memory ≡ bare_memory) }
+        // The memory that the run starts with is the base's.
+        ensures memory { IfOk result
+            (λ world. plain_of world.core.memory ≡ world.core.base.memory) }
+
+        // It only reads: the contents stay, and no crash, afterwards or within it, leaves more than one before it.
+        ensures reads { IfOk result (λ world. OnlyReads D.Disk disk world.disk) }
+        ensures refused { IfErr result (λ error. OnlyReads D.Disk disk error.disk) }
+        ensures fault { IfErr result (λ error. D.is_honest error.disk
+            → IsFaultOf (D.contents disk) (D.failed disk) (D.failed error.disk) error.fault) }
+    {
+        match start_of(alloc, &mut disk, frames) {
+            Ok(start) => {
+                all_found_fit(&disk);
+                let core = Core::new(alloc, start);
+                let kept = [Kept::Nothing, Kept::Nothing, Kept::Nothing];
+                Ok(World {
+                    alloc,
+                    core,
+                    disk,
+                    kept,
+                })
+            }
+            Err(fault) => Err(OpenError { fault, disk }),
+        }
+    }
+
     /// The core.
     pub fn core(&self) -> &Core
         ensures { result.now ≡ self.now.core }
@@ -166,5 +225,32 @@ impl<D: Disk> World<D> {
         }
         self.sound();
         Ok(replies)
+    }
+}
+
+#[cfg(test)]
+mod tests {
+    use super::World;
+    use crate::event::Event;
+    use sd_areas::SpaceId;
+    use sd_command::{Command, Refusal, Reply};
+    use sd_disk::MemDisk;
+    use sd_gate::Worker;
+    use std::HostRuntime;
+
+    /// An empty store is opened, and its core refuses each event as it should.
+    #[test]
+    fn refuses(rt: HostRuntime) {
+        let disk = MemDisk::new(rt.alloc(), 2, 10_000, 100).unwrap();
+        let mut world = World::open(rt.alloc(), disk, 16).unwrap();
+        assert!(rt; !world.is_out(Worker::Dumper));
+        let events = [
+            Event::Perform(Worker::Dumper),
+            Event::Work(Worker::Merger),
+            Event::Cancel,
+            Event::Begin(1),
+        ];
+        let replies = world.run(&events).unwrap();
+        let _space = SpaceId::new(1);
     }
 }

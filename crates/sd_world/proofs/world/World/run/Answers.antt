@@ -35,7 +35,7 @@ loop-event-preserved g c =
     let event = c.event-item.result in
     let events = c.args.events.now in
     let one_more : take (i + 1) events ≡ take i events ++ event ∷ [] =
-        take_more events i event c.loop-event-test.true ∙ ap (λ e. take i events ++ e ∷ []) (sym c.event-item.is) in
+    take_more events i event c.loop-event-test.true ∙ ap (λ e. take i events ++ e ∷ []) (sym c.event-item.is) in
     record {
       runs = subst (λ asked. Runs first asked c.push_reserved.new.self.items last) (sym one_more)
           (subst (λ answers. Runs first (take i events ++ event ∷ []) answers last) (sym c.push_reserved.ensures.items)

@@ -60,7 +60,7 @@ returns-clause-any_moment g c = λ honest.
     let world = subst (IsWorld g.D.Disk) c.self.view_is c.self.invariant in
     let does = subst (λ w. Does g.D.Disk c.args.event.now w c.make_step-answer.result new) c.self.view_is c.make_step-answer.ensures in
     let before = world_allows g.D.Disk old c.left_as_believed.ensures c.contents_show.ensures (g.met.D.Disk.same_slots old.disk) world
-        (step_honest g.D.Disk old new world c.args.event.now c.make_step-answer.result does honest) in
+    (step_honest g.D.Disk old new world c.args.event.now c.make_step-answer.result does honest) in
     step_span g.D.Disk old new world (ShowsAllowed old.core.base (history_of old.core)) (g.met.D.Disk.only_now old.disk) before
     c.args.event.now c.make_step-answer.result does
     (λ same. subst (λ (core : CoreView). Within (g.D.Disk.may_leave new.disk) (ShowsAllowed core.base (history_of core))) same (returns-clause-at_end g c honest))
