@@ -227,30 +227,3 @@ impl<D: Disk> World<D> {
         Ok(replies)
     }
 }
-
-#[cfg(test)]
-mod tests {
-    use super::World;
-    use crate::event::Event;
-    use sd_areas::SpaceId;
-    use sd_command::{Command, Refusal, Reply};
-    use sd_disk::MemDisk;
-    use sd_gate::Worker;
-    use std::HostRuntime;
-
-    /// An empty store is opened, and its core refuses each event as it should.
-    #[test]
-    fn refuses(rt: HostRuntime) {
-        let disk = MemDisk::new(rt.alloc(), 2, 10_000, 100).unwrap();
-        let mut world = World::open(rt.alloc(), disk, 16).unwrap();
-        assert!(rt; !world.is_out(Worker::Dumper));
-        let events = [
-            Event::Perform(Worker::Dumper),
-            Event::Work(Worker::Merger),
-            Event::Cancel,
-            Event::Begin(1),
-        ];
-        let replies = world.run(&events).unwrap();
-        let _space = SpaceId::new(1);
-    }
-}
