@@ -11,3 +11,4 @@ mod AddsLemmas
 mod ReplyLemmas
 mod RunLemmas
 mod OpenLemmas
+mod RestoreLemmas

@@ -4,3 +4,4 @@ pub mod Runs
 pub mod Steps
 pub mod View
 pub mod Opens
+pub mod Restored

@@ -8,10 +8,12 @@ mod looking;
 mod open_error;
 mod open_fault;
 mod opening;
+mod restoring;
 mod stepping;
 mod world;
 
 pub use event::Event;
 pub use open_error::OpenError;
 pub use open_fault::OpenFault;
+pub use restoring::restore_left;
 pub use world::World;

@@ -17,6 +17,7 @@ ghost use Rattle.sd_belief.specs.Shown.{ShowsAllowed};
 ghost use Rattle.sd_belief.specs.View.{history_of};
 ghost use Rattle.sd_world.specs.declared.event.Event.TheVariants.{Perform, Work};
 ghost use Rattle.sd_world.specs.Adds.{Adds};
+ghost use Rattle.sd_world.specs.Restored.{IsRestored};
 ghost use Rattle.sd_world.specs.Runs.{Runs, ShowsAllowedBetween, ShowsReply};
 ghost use Rattle.sd_world.specs.Steps.{Does};
 ghost use Rattle.sd_world.specs.View.{is_asked};
@@ -25,12 +26,15 @@ use crate::event::Event;
 use crate::kept::{Kept, is_asked};
 use crate::open_error::OpenError;
 use crate::opening::start_of;
+use crate::restoring::restore_left;
 use crate::stepping::make_step;
+use sd_areas::Snapshot;
 use sd_belief::performed_law;
 use sd_command::{Refusal, Reply};
 use sd_core::Core;
 use sd_disk::Disk;
 use sd_gate::{Worker, all_found_fit, given_up_fits};
+use sd_restore::Fault;
 use sd_store_laws::{contents_show, left_as_believed, synced_is_found};
 use std::alloc::Global;
 use std::marker::Model;
@@ -144,6 +148,21 @@ impl<D: Disk> World<D> {
         left_as_believed();
         contents_show();
         self.core.sound();
+    }
+
+    /// Restores a disk that holds what a crash of this world's disk may leave now: exactly a pair that the journal allows,
+    /// or the empty chain where nothing was saved.
+    ///
+    /// # Errors
+    ///
+    /// Those of `restore`, but none of the store: it is never called damaged.
+    pub fn restore_crashed<C: Disk>(&self, crashed: &mut C) -> Result<Snapshot, Fault>
+        ensures { D.is_honest self.now.disk → C.is_honest crashed.new
+            → D.may_leave self.now.disk (C.contents crashed.old)
+            → IsRestored self.now.core.base (history_of self.now.core) result }
+    {
+        self.sound();
+        restore_left(self.alloc, crashed)
     }
 
     /// Makes one event, and answers it.

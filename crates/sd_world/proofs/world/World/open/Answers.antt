@@ -42,7 +42,7 @@ returns-in-Ok-clause-everywhere g c = λ honest contents may.
     let start = c.in-Ok.start in
     let read = c.in-Ok.ensures in
     let same : contents ≡ D.contents c.args.disk =
-        all_synced (D.contents c.args.disk) contents (D.may_leave disk) read.synced
-        (g.met.D.Disk.same_slots disk contents may ∙ ap length read.reads.same) may in
+    all_synced (D.contents c.args.disk) contents (D.may_leave disk) read.synced
+    (g.met.D.Disk.same_slots disk contents may ∙ ap length read.reads.same) may in
     subst (λ (base : Base). Shows contents (shown_base base.number base.memory)) (sym c.new-core.ensures.starts.base)
     (subst (λ files. Shows files (shown_base start.number (memory_of start.base))) (sym same) (read.shows honest))
