@@ -1,5 +1,5 @@
 -- What an event does to a core, a disk and what is kept.
-use Rattle.std.specs.Prelude.{◌≡◌, ◌≢◌, ◌⊎◌, ℕ, true, List, Option, Some, None, slice_get, slice_set, length}
+use Rattle.std.specs.Prelude.{◌≡◌, ◌≢◌, ◌⊎◌, ℕ, ◌<◌, true, List, Option, Some, None, slice_get, slice_set, length}
 use Rattle.sd_command.specs.declared.refusal.Refusal.TheVariants.{Busy, Idle, Device}
 use Rattle.sd_command.specs.declared.reply.Reply.{Reply}
 use Rattle.sd_command.specs.declared.reply.Reply.TheVariants as reply
@@ -60,6 +60,10 @@ abbrev pub reply_of : Answer → Reply
 reply_of Done = reply.Worked
 reply_of (Len len) = reply.Worked
 reply_of Failed = reply.Refused Device
+
+-- worked where the device did it, and refused where it failed
+abbrev pub IsAnswered : ℕ → ℕ → Reply → Type 0
+IsAnswered before now answer = ((answer ≡ reply.Worked) × (now ≡ before)) ⊎ ((answer ≡ reply.Refused Device) × (before < now))
 
 -- the call of a request is made, and no other
 pub record IsPerformed {D : Type 0} (g : Ghosts D) (request : Asked) (old : D) (made : Made) (new : D) : Type 0 where

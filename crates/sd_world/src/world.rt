@@ -1,5 +1,5 @@
 //! A world: a core, its disk, and what is kept of the workers between events.
-ghost use Rattle.std.specs.Prelude.{◌≡◌, ◌≤◌, ◌∷◌, [], ℕ, List, None, false, true, IfOk, IfErr};
+ghost use Rattle.std.specs.Prelude.{◌≡◌, ◌≢◌, ◌≤◌, ◌∷◌, [], ℕ, List, None, false, true, IfOk, IfErr};
 ghost use Rattle.sd_command.specs.declared.refusal.Refusal.TheVariants.{Busy, Idle, OutOfMemory};
 ghost use Rattle.sd_command.specs.declared.reply.Reply.TheVariants as reply;
 ghost use Rattle.sd_disk.specs.Crash.{Within};
@@ -19,7 +19,7 @@ ghost use Rattle.sd_world.specs.declared.event.Event.TheVariants.{Perform, Work}
 ghost use Rattle.sd_world.specs.Adds.{Adds};
 ghost use Rattle.sd_world.specs.Restored.{IsRestored};
 ghost use Rattle.sd_world.specs.Runs.{Runs, ShowsAllowedBetween, ShowsReply};
-ghost use Rattle.sd_world.specs.Steps.{Does};
+ghost use Rattle.sd_world.specs.Steps.{Does, IsAnswered};
 ghost use Rattle.sd_world.specs.View.{is_asked};
 
 use crate::event::Event;
@@ -175,6 +175,13 @@ impl<D: Disk> World<D> {
         ensures idle { (worker : WorkerKind) → event.now ≡ Perform worker
             → is_asked self.old.kept worker ≡ false
             → (result ≡ reply.Refused Idle) × (self.new ≡ self.old) }
+
+        // A device call is answered by how it ended, and no other event touches the disk.
+        ensures device { (worker : WorkerKind) → event.now ≡ Perform worker
+            → is_asked self.old.kept worker ≡ true
+            → IsAnswered (D.failed self.old.disk) (D.failed self.new.disk) result }
+        ensures quiet { ((worker : WorkerKind) → event.now ≢ Perform worker)
+            → self.new.disk ≡ self.old.disk }
 
         // What it adds to the journal. What the run started from stays.
         ensures adds { Adds event.now result self.old.core self.new.core }
