@@ -1,8 +1,7 @@
 -- What each event adds to the journal, and where it leaves the disk.
-use Rattle.std.proofs.Common.{◌≡◌, ◌⊎◌, ℕ, List, ◌∷◌, map, Option, Some, None, slice_get, refl, sym, ◌∙◌, ap, subst, inl, inr}
+use Rattle.std.proofs.Common.{◌≡◌, ℕ, List, Some, slice_get, refl, sym, ◌∙◌, ap, subst, inl, inr}
 use Rattle.sd_command.specs.declared.reply.Reply.{Reply}
 use Rattle.sd_command.specs.declared.reply.Reply.TheVariants as reply
-use Rattle.sd_command.specs.declared.refusal.Refusal.TheVariants.{Busy, Idle, Device}
 use Rattle.sd_disk.specs.Crash.{Within}
 use Rattle.sd_disk.specs.Spans.{LeavesOnly, nothing_called, one_call}
 use Rattle.sd_disk.specs.declared.disk.Disk.{Ghosts}
@@ -10,10 +9,9 @@ use Rattle.sd_gate.specs.declared.answer.Answer.{Answer}
 use Rattle.sd_gate.specs.declared.answer.Answer.TheVariants.{Done, Len, Failed}
 use Rattle.sd_gate.specs.declared.worker.Worker.{Worker}
 use Rattle.sd_gate.specs.declared.worker.Worker.TheVariants.{Dumper, Merger, Opener}
-use Rattle.sd_gate.specs.Requests.{Asked, Made}
-use Rattle.sd_journal.specs.declared.entry.Entry.TheVariants.{Acked}
+use Rattle.sd_gate.specs.Requests.{Made}
 use Rattle.sd_journal.specs.History.{History}
-use Rattle.sd_belief.specs.Calls.{AddsByOutcome, AddsByStep, HandedIn, IsOut}
+use Rattle.sd_belief.specs.Calls.{AddsByOutcome, AddsByStep, IsOut}
 use Rattle.sd_belief.specs.View.{CoreView, history_of, index}
 use Rattle.sd_world.specs.declared.event.Event.{Event}
 use Rattle.sd_world.specs.declared.event.Event.TheVariants.{Command, Begin, Work, Perform, Merge, Cancel, Reopen}

@@ -1,5 +1,5 @@
 -- Whatever a crash leaves of a world's disk shows what its journal allows.
-use Rattle.std.proofs.Common.{◌≡◌, ◌⊎◌, ℕ, ◌<◌, List, [], ◌∷◌, map, length, Option, Some, None, IfSome, slice_get, slice_index_or, zero, suc, refl, sym, ◌∙◌, ap, subst, inl, inr, ⊎_elim}
+use Rattle.std.proofs.Common.{◌≡◌, ℕ, ◌<◌, List, [], ◌∷◌, length, Option, Some, None, IfSome, slice_get, slice_index_or, zero, suc, refl, sym, ◌∙◌, ap, subst, inl, inr}
 use Rattle.std.specs.List.{AllZip}
 use Rattle.std.proofs.lemmas.Option.{same_Some, get_or_from_slice_get, slice_get_within, slice_get-get_or}
 use Rattle.sd_disk.specs.Contents.{file_at}
@@ -9,7 +9,7 @@ use Rattle.sd_image.specs.Image.{Image}
 use Rattle.sd_gate.specs.declared.phase.Phase.{Phase}
 use Rattle.sd_gate.specs.declared.phase.Phase.TheVariants.{Raw}
 use Rattle.sd_gate.specs.Calls.{is_done}
-use Rattle.sd_gate.specs.Fits.{DiskLeaves, Leaves, SlotFits}
+use Rattle.sd_gate.specs.Fits.{Leaves}
 use Rattle.sd_gate.specs.Phases.{after as phase_after, body_after}
 use Rattle.sd_gate.specs.Requests.{Made}
 use Rattle.sd_journal.specs.History.{Base, History}
@@ -18,8 +18,7 @@ use Rattle.sd_store_laws.specs.Gates.{LeftAsBelieved, MayBelieve}
 use Rattle.sd_store_laws.specs.Store.{IsSound, Store}
 use Rattle.sd_belief.specs.Believes.{ShowsLast, ShowsPending}
 use Rattle.sd_belief.specs.Shown.{ShowsAllowed}
-use Rattle.sd_belief.specs.View.{CoreView, history_of}
-use Rattle.sd_world.specs.declared.kept.Kept.{Kept}
+use Rattle.sd_belief.specs.View.{history_of}
 use Rattle.sd_world.specs.declared.kept.Kept.TheVariants.{Outcome}
 use Rattle.sd_world.specs.Consistent.{IsConsistent, IsWorld, body_now, outcome_on, phase_now}
 use Rattle.sd_world.specs.View.{WorldView, asked_of}

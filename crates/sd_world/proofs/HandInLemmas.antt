@@ -1,5 +1,5 @@
 -- What is so of every world stays so where an outcome is handed in.
-use Rattle.std.proofs.Common.{◌≡◌, ◌≢◌, ◌⊎◌, ℕ, ◌<◌, true, List, [], ◌∷◌, map, length, Option, Some, None, slice_get, slice_set, refl, sym, ◌∙◌, ap, subst, inl, inr}
+use Rattle.std.proofs.Common.{◌≡◌, ℕ, ◌<◌, List, [], map, length, Some, None, slice_get, slice_set, refl, sym, ◌∙◌, ap, subst, inl, inr}
 use Rattle.std.proofs.lemmas.Bool.{cases_eq}
 use Rattle.std.proofs.lemmas.List.{get_or-set_same, get_or-set_other}
 use Rattle.std.proofs.lemmas.Option.{same_Some, slice_get_within}
@@ -12,14 +12,14 @@ use Rattle.sd_gate.specs.Calls.{is_done}
 use Rattle.sd_gate.specs.Fits.{SlotFits}
 use Rattle.sd_gate.specs.Laws.{GivenUpFits}
 use Rattle.sd_gate.specs.Phases.{after as phase_after, body_after, bodies_after, phases_after}
-use Rattle.sd_gate.specs.Requests.{Asked, Made}
+use Rattle.sd_gate.specs.Requests.{Made}
 use Rattle.sd_belief.specs.Believes.{Believes}
 use Rattle.sd_belief.specs.Calls.{AreGivenUp, HandedIn, IsOut}
 use Rattle.sd_belief.specs.View.{CoreView, index}
 use Rattle.sd_world.specs.declared.kept.Kept.{Kept}
 use Rattle.sd_world.specs.declared.kept.Kept.TheVariants.{Nothing, Outcome}
 use Rattle.sd_world.specs.Consistent.{AreInPlace, IsWorld, body_now, outcome_on, phase_now}
-use Rattle.sd_world.specs.View.{WorldView, asked_of, id_of}
+use Rattle.sd_world.specs.View.{asked_of, id_of}
 use Rattle.sd_world.proofs.KeptLemmas.{cleared_places, is_set, its_own, nothing_on, outcome_at, outcome_off, set_elsewhere, which}
 use Rattle.sd_world.proofs.Lists.{get_map, get_set_other, get_set_same, map_set}
 use Rattle.sd_world.proofs.Worlds.{Stand, stand_given_up}

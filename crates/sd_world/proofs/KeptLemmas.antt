@@ -1,5 +1,5 @@
 -- Which outcome is kept on a slot, and what stays of that where one worker's changes.
-use Rattle.std.proofs.Common.{◌≡◌, ◌≢◌, ◌⊎◌, ℕ, ◌<◌, ◌==◌, Bool, true, false, cond, List, [], ◌∷◌, map, length, Option, Some, None, slice_get, slice_set, zero, suc, refl, sym, ◌∙◌, ap, subst, inl, inr, arith}
+use Rattle.std.proofs.Common.{◌≡◌, ◌≢◌, ◌⊎◌, ℕ, ◌<◌, ◌==◌, true, cond, List, [], ◌∷◌, map, length, Option, Some, None, slice_get, slice_set, zero, suc, refl, sym, ◌∙◌, ap, subst, inl, inr, arith}
 use Rattle.std.proofs.lemmas.Bool.{cases_eq, ne_eqb}
 use Rattle.std.proofs.lemmas.Bool.Decides.{nat_tests}
 use Rattle.std.proofs.lemmas.Option.{same_Some}
@@ -10,8 +10,8 @@ use Rattle.sd_belief.specs.View.{index}
 use Rattle.sd_world.specs.declared.kept.Kept.{Kept}
 use Rattle.sd_world.specs.declared.kept.Kept.TheVariants.{Nothing, Request, Outcome}
 use Rattle.sd_world.specs.Consistent.{AreInPlace, outcome_on}
-use Rattle.sd_world.specs.View.{asked_of, id_of}
-use Rattle.sd_world.proofs.Lists.{get_map, get_set_other, get_set_same, map_get, map_set}
+use Rattle.sd_world.specs.View.{id_of}
+use Rattle.sd_world.proofs.Lists.{get_map, get_set_other, get_set_same}
 
 same_number : (n : ℕ) → (n == n) ≡ true
 same_number n = grind (arith, nat_tests)

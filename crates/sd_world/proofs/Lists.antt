@@ -1,5 +1,5 @@
 -- Lists of which one element is set.
-use Rattle.std.proofs.Common.{◌≡◌, ◌≢◌, ℕ, ◌+◌, ◌<◌, List, [], ◌∷◌, map, length, Option, Some, None, slice_get, slice_set, refl, sym, ◌∙◌, ap, zero, suc}
+use Rattle.std.proofs.Common.{◌≡◌, ◌≢◌, ℕ, List, [], ◌∷◌, map, Some, slice_get, slice_set, refl, sym, ap, zero, suc}
 use Rattle.std.proofs.lemmas.Option.{same_Some}
 
 pub set_itself : {A : Type 0} (xs : List A) (i : ℕ) (x : A) → slice_get xs i ≡ Some x → slice_set xs i x ≡ xs

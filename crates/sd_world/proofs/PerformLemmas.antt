@@ -1,5 +1,5 @@
 -- What is so of every world stays so where a device call is made.
-use Rattle.std.proofs.Common.{◌≡◌, ◌≢◌, ◌⊎◌, ℕ, ◌<◌, true, List, map, length, Option, Some, None, slice_get, slice_set, refl, sym, ◌∙◌, ap, subst, inl, inr}
+use Rattle.std.proofs.Common.{◌≡◌, ◌≢◌, ℕ, true, List, map, length, Some, slice_get, slice_set, refl, sym, ◌∙◌, ap, subst, inl, inr}
 use Rattle.std.proofs.lemmas.Bool.{cases_eq}
 use Rattle.std.proofs.lemmas.Option.{same_Some}
 use Rattle.sd_disk.specs.Contents.{file_at}
@@ -19,7 +19,7 @@ use Rattle.sd_world.specs.declared.kept.Kept.{Kept}
 use Rattle.sd_world.specs.declared.kept.Kept.TheVariants.{Request, Outcome}
 use Rattle.sd_world.specs.Consistent.{AreInPlace, IsConsistent, IsWorld, body_now, outcome_on, phase_now}
 use Rattle.sd_world.specs.Steps.{IsPerformed}
-use Rattle.sd_world.specs.View.{WorldView, asked_of, id_of}
+use Rattle.sd_world.specs.View.{asked_of, id_of}
 use Rattle.sd_world.proofs.Calls.{same_body, tells_now}
 use Rattle.sd_world.proofs.KeptLemmas.{asked_alone, filled_places, is_set, its_own, outcome_off, request_on, same_outcome, set_elsewhere}
 use Rattle.sd_world.proofs.Lists.{get_map, get_set_same, map_set, set_itself}

@@ -1,5 +1,5 @@
 -- What contents show after an acknowledgement or a reopening.
-use Rattle.std.proofs.Common.{◌≡◌, ◌⊎◌, ℕ, ◌==◌, Bool, true, false, cond, List, [], ◌∷◌, Option, Some, None, MatchOption, refl, sym, ◌∙◌, ap, subst, inl, inr, is_some}
+use Rattle.std.proofs.Common.{◌≡◌, ℕ, ◌==◌, Bool, true, false, cond, List, [], ◌∷◌, Option, Some, None, MatchOption, refl, sym, ◌∙◌, ap, subst, inl, inr, is_some}
 use Rattle.std.proofs.lemmas.Option.{same_Some}
 use Rattle.std.proofs.lemmas.Bool.Decides.{nat_tests}
 use Rattle.std.proofs.Common.{arith}
@@ -12,8 +12,8 @@ use Rattle.sd_command.specs.declared.reply.Reply.{Reply}
 use Rattle.sd_command.specs.declared.reply.Reply.TheVariants as reply
 use Rattle.sd_command.specs.Replies.{Accepts, IsLegalReply, denial_in, reply_of as access_reply}
 use Rattle.sd_image.specs.Shows.{Shows}
-use Rattle.sd_journal.specs.declared.entry.Entry.TheVariants.{Applied, Acked, Reopened}
-use Rattle.sd_journal.specs.Allowed.{IsAllowed, IsLastPair, IsPendingPair, Shown}
+use Rattle.sd_journal.specs.declared.entry.Entry.TheVariants.{Acked, Reopened}
+use Rattle.sd_journal.specs.Allowed.{IsLastPair, IsPendingPair, Shown}
 use Rattle.sd_journal.specs.History.{Base, History, at_freeze, last, memory_after, pending, unless_it_is}
 use Rattle.sd_journal.specs.Legal.{IsLegal}
 use Rattle.sd_journal.specs.Marked.{IsMarked, Marked, Noted, Told, entries_of}

@@ -1,5 +1,5 @@
 -- What is restored is what is shown.
-use Rattle.std.proofs.Common.{◌≡◌, ℕ, List, Option, Some, None, Result, Ok, Err, IfOk, IfErr, IsErrOf, refl}
+use Rattle.std.proofs.Common.{ℕ, List, Some, None, Result, Ok, Err, IfOk, IfErr, IsErrOf, refl}
 use Rattle.sd_areas.specs.declared.snapshot.Snapshot.{Snapshot}
 use Rattle.sd_areas.specs.Memory.{memory_of}
 use Rattle.sd_image.specs.Laws.{ShownOnce}

@@ -1,19 +1,18 @@
 -- What each event does to a world.
-use Rattle.std.proofs.Common.{◌≡◌, ◌⊎◌, ℕ, List, ◌∷◌, map, length, Option, Some, None, slice_get, slice_set, refl, sym, ◌∙◌, ap, subst, inl, inr}
+use Rattle.std.proofs.Common.{◌≡◌, Some, slice_get, slice_set, sym, subst, inl, inr}
 use Rattle.sd_command.specs.declared.reply.Reply.{Reply}
 use Rattle.sd_disk.specs.declared.disk.Disk.{Ghosts}
 use Rattle.sd_gate.specs.declared.worker.Worker.{Worker}
 use Rattle.sd_gate.specs.Laws.{GivenUpFits}
 use Rattle.sd_store_laws.specs.GateSteps.{SyncedIsFound}
-use Rattle.sd_belief.specs.Calls.{MakesStep, StartsAnew, Stays}
 use Rattle.sd_belief.specs.Laws.{PerformedIsBelieved}
-use Rattle.sd_belief.specs.View.{CoreView, index}
+use Rattle.sd_belief.specs.View.{index}
 use Rattle.sd_world.specs.declared.event.Event.{Event}
 use Rattle.sd_world.specs.declared.event.Event.TheVariants.{Command, Begin, Work, Perform, Merge, Cancel, Reopen}
 use Rattle.sd_world.specs.declared.kept.Kept.{Kept}
 use Rattle.sd_world.specs.declared.kept.Kept.TheVariants.{Nothing, Request, Outcome}
 use Rattle.sd_world.specs.Consistent.{IsWorld}
-use Rattle.sd_world.specs.Steps.{Does, IsOrder, IsPerform, IsWork, Performs, TakesUp, Works}
+use Rattle.sd_world.specs.Steps.{Does, IsOrder, Performs, TakesUp, Works}
 use Rattle.sd_world.specs.View.{WorldView}
 use Rattle.sd_world.proofs.AnewLemmas.{anew_world}
 use Rattle.sd_world.proofs.HandInLemmas.{handed_world}

@@ -1,34 +1,21 @@
 -- What is so of every world stays so through each event.
-use Rattle.std.proofs.Common.{◌≡◌, ◌≢◌, ◌⊎◌, ℕ, ◌<◌, Bool, true, false, List, [], ◌∷◌, map, drop, length, Option, Some, None, slice_get, slice_set, refl, sym, ◌∙◌, ap, subst, inl, inr, arith}
-use Rattle.std.proofs.lemmas.Bool.{cases_eq}
-use Rattle.std.proofs.lemmas.Option.{same_Some, slice_get_within}
-use Rattle.sd_command.specs.declared.reply.Reply.{Reply}
+use Rattle.std.proofs.Common.{◌≡◌, ℕ, ◌<◌, List, map, length, Some, None, slice_get, slice_set, refl, sym, ◌∙◌, ap, subst, inl, inr}
 use Rattle.sd_disk.specs.Contents.{file_at}
 use Rattle.sd_disk.specs.declared.disk.Disk.{Ghosts}
 use Rattle.sd_gate.specs.declared.phase.Phase.{Phase}
-use Rattle.sd_gate.specs.declared.request_id.RequestId.{RequestId}
 use Rattle.sd_gate.specs.declared.worker.Worker.{Worker}
-use Rattle.sd_gate.specs.Calls.{is_done}
-use Rattle.sd_gate.specs.Fits.{Leaves, SlotFits, DiskLeaves}
-use Rattle.sd_gate.specs.Laws.{GivenUpFits, found_phase}
-use Rattle.sd_gate.specs.Looks.{IsTold}
-use Rattle.sd_gate.specs.Phases.{Waits, after as phase_after, body_after, bodies_after, given_up, phases_after}
+use Rattle.sd_gate.specs.Fits.{SlotFits}
+use Rattle.sd_gate.specs.Laws.{GivenUpFits}
 use Rattle.sd_gate.specs.Requests.{Asked, Made}
-use Rattle.sd_store_laws.specs.GateSteps.{SyncedIsFound}
 use Rattle.sd_belief.specs.Believes.{Believes}
-use Rattle.sd_belief.specs.Calls.{AreGivenUp, HandedIn, HandsOut, IsOut, MakesStep, NoneOut, StartsAnew, Stays, WasTold}
-use Rattle.sd_belief.specs.Laws.{PerformedIsBelieved}
+use Rattle.sd_belief.specs.Calls.{AreGivenUp, HandsOut, Stays}
 use Rattle.sd_belief.specs.View.{CoreView, index}
-use Rattle.sd_world.specs.declared.event.Event.{Event}
-use Rattle.sd_world.specs.declared.event.Event.TheVariants.{Command, Begin, Work, Perform, Merge, Cancel, Reopen}
 use Rattle.sd_world.specs.declared.kept.Kept.{Kept}
 use Rattle.sd_world.specs.declared.kept.Kept.TheVariants.{Nothing, Request, Outcome}
-use Rattle.sd_world.specs.Consistent.{AreInPlace, IsConsistent, IsWorld, body_now, outcome_on, phase_now}
-use Rattle.sd_world.specs.Steps.{Does, HandsIn, IsOrder, IsPerform, IsPerformed, IsWork, KeepsOutcome, TakesUp, WorksOn}
-use Rattle.sd_world.specs.View.{WorldView, asked_of, id_of}
-use Rattle.sd_world.proofs.Calls.{same_body, tells_now}
-use Rattle.sd_world.proofs.KeptLemmas.{asked_alone, cleared_places, filled_places, free_none, is_set, its_own, nothing_on, outcome_at, outcome_off, request_on, same_outcome, set_elsewhere, which}
-use Rattle.sd_world.proofs.Lists.{get_map, get_set_other, get_set_same, map_get, map_set}
+use Rattle.sd_world.specs.Consistent.{IsWorld, body_now, outcome_on, phase_now}
+use Rattle.sd_world.specs.View.{asked_of, id_of}
+use Rattle.sd_world.proofs.KeptLemmas.{filled_places, free_none, is_set, nothing_on, request_on, set_elsewhere}
+use Rattle.sd_world.proofs.Lists.{get_map, map_set}
 
 -- each slot of these phases and bodies is as they say, with the calls whose outcomes are kept
 abbrev pub Stand : (List (List ℕ)) → (List (List ℕ) → Type 0) → List Phase → List Kept → List (List ℕ) → Type 0

@@ -1,5 +1,5 @@
 -- What is restored of contents that show what a journal allows.
-use Rattle.std.specs.Prelude.{◌≡◌, ℕ, Option, Some, None, Result, Ok, Err}
+use Rattle.std.specs.Prelude.{◌≡◌, Some, None, Result, Ok, Err}
 use Rattle.sd_areas.specs.declared.snapshot.Snapshot.{Snapshot}
 use Rattle.sd_areas.specs.Memory.{memory_of}
 use Rattle.sd_journal.specs.Allowed.{IsAllowed, Shown}

@@ -1,5 +1,5 @@
 -- Whole runs, and what they show.
-use Rattle.std.specs.Prelude.{◌≡◌, ℕ, List, [], ◌∷◌, ◌++◌, Option, Some, None}
+use Rattle.std.specs.Prelude.{◌≡◌, ℕ, List, [], ◌∷◌, ◌++◌, Some, None}
 use Rattle.sd_areas.specs.PlainMemory.{PlainMemory}
 use Rattle.sd_command.specs.declared.reply.Reply.{Reply}
 use Rattle.sd_command.specs.declared.reply.Reply.TheVariants as reply

@@ -1,5 +1,5 @@
 -- What an event does to a core, a disk and what is kept.
-use Rattle.std.specs.Prelude.{◌≡◌, ◌≢◌, ◌⊎◌, ℕ, ◌<◌, true, List, Option, Some, None, slice_get, slice_set, length}
+use Rattle.std.specs.Prelude.{◌≡◌, ◌≢◌, ◌⊎◌, ℕ, ◌<◌, true, List, Some, slice_get, slice_set, length}
 use Rattle.sd_command.specs.declared.refusal.Refusal.TheVariants.{Busy, Idle, Device}
 use Rattle.sd_command.specs.declared.reply.Reply.{Reply}
 use Rattle.sd_command.specs.declared.reply.Reply.TheVariants as reply

@@ -3,7 +3,7 @@ use Rattle.std.specs.Prelude.{Bool, true, false, List, Option, Some, None, slice
 use Rattle.std.specs.Coded.{Coded, code_by, coded×}
 use Rattle.sd_gate.specs.declared.request_id.RequestId.{RequestId}
 use Rattle.sd_gate.specs.declared.worker.Worker.{Worker}
-use Rattle.sd_gate.specs.Requests.{Asked, Made}
+use Rattle.sd_gate.specs.Requests.{Asked}
 use Rattle.sd_belief.specs.View.{CoreView, Rest, core_code, index}
 use Rattle.sd_world.specs.declared.kept.Kept.{Kept}
 use Rattle.sd_world.specs.declared.kept.Kept.TheVariants.{Nothing, Request, Outcome}

@@ -1,6 +1,6 @@
 use Rattle.std.proofs.Common.{refl, ◌∙◌, ap, slice_set}
 use Rattle.sd_belief.specs.View.{index}
-use Rattle.sd_world.specs.declared.kept.Kept.TheVariants.{Nothing, Request, Outcome}
+use Rattle.sd_world.specs.declared.kept.Kept.TheVariants.{Nothing, Request}
 use Rattle.sd_world.specs.Steps.{TakesUp}
 use Rattle.sd_world.proofs.Lists.{set_back, set_itself, set_twice}
 use Rattle.sd_world.proofs.stepping.work.Goals as goal

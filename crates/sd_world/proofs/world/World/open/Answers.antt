@@ -1,8 +1,5 @@
-use Rattle.std.proofs.Common.{◌≡◌, ℕ, ◌<◌, List, map, drop, length, refl, sym, ◌∙◌, ap, subst, slice_get}
+use Rattle.std.proofs.Common.{◌≡◌, map, drop, length, sym, ◌∙◌, ap, subst, slice_get}
 use Rattle.sd_areas.specs.Memory.{memory_of}
-use Rattle.sd_disk.specs.Contents.{file_at}
-use Rattle.sd_disk.specs.Crash.{OnlyAt}
-use Rattle.sd_gate.specs.declared.phase.Phase.{Phase}
 use Rattle.sd_gate.specs.Laws.{found_phase}
 use Rattle.sd_image.specs.Shows.{Shows}
 use Rattle.sd_journal.specs.History.{Base}

@@ -1,4 +1,4 @@
-use Rattle.std.proofs.Common.{refl, sym, ◌∙◌, ap, subst}
+use Rattle.std.proofs.Common.{refl, subst}
 use Rattle.sd_disk.specs.Crash.{Within}
 use Rattle.sd_belief.specs.Shown.{ShowsAllowed}
 use Rattle.sd_belief.specs.View.{CoreView, history_of, index}
