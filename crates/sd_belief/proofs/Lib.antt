@@ -1,2 +1,5 @@
 mod Found
+mod GateSteps
 mod Performed
+mod Places
+mod QuietSteps

@@ -1,5 +1,5 @@
 -- A device call that was made leaves what is believed.
-use Rattle.std.proofs.Common.{◌≡◌, ◌≢◌, ◌⊎◌, ℕ, ◌<◌, Bool, true, false, List, length, map, take, nat_eq, Option, Some, None, IfSome, slice_get, slice_set, refl, sym, ◌∙◌, ap, subst, inl, inr, arith}
+use Rattle.std.proofs.Common.{◌≡◌, ◌⊎◌, ℕ, List, length, map, take, Option, Some, None, IfSome, slice_get, slice_set, refl, sym, ◌∙◌, ap, subst, inl, inr}
 use Rattle.std.proofs.lemmas.Bool.{cases_eq}
 use Rattle.std.proofs.lemmas.Option.{same_Some}
 use Rattle.sd_disk.specs.Contents.{file_at}
@@ -15,11 +15,11 @@ use Rattle.sd_gate.specs.Phases.{Waits, body_after, after as phase_after}
 use Rattle.sd_gate.specs.Requests.{Asked, Made}
 use Rattle.sd_store_laws.specs.Beliefs.{Belief}
 use Rattle.sd_store_laws.specs.Gates.{MayBelieve}
-use Rattle.sd_store_laws.proofs.SlotSteps.{set_other, set_same}
 use Rattle.sd_belief.specs.Believes.{Believes, IsCovered}
-use Rattle.sd_belief.specs.Knows.{AreLooks, Knows, Sees}
+use Rattle.sd_belief.specs.Knows.{AreLooks, Sees}
 use Rattle.sd_belief.specs.Laws.{IsMadeOf, PerformedIsBelieved}
 use Rattle.sd_belief.specs.View.{CoreView, Looking}
+use Rattle.sd_belief.proofs.Places.{set_other, set_same}
 
 -- a body after a call is the same where the call kept its bytes
 kept_body : (body : List ℕ) (call : Call) (old new : List ℕ) → AreKept call old new → body_after body call new ≡ body_after body call old
@@ -125,15 +125,15 @@ module _ (asked : List (Option Asked)) (worker : ℕ) (request : Asked) (made : 
 
   pub believes_on : (core : CoreView) (bodies : List (List ℕ)) → Believes core asked bodies files → Believes core after bodies new
   believes_on core bodies b = record {
+    store = b.store;
+    dump = b.dump;
+    beliefs = b.beliefs;
     has = record {
-      store = b.has.store;
-      dump = b.has.dump;
-      beliefs = b.has.beliefs;
       sound = b.has.sound;
       slots = b.has.slots;
       believed = b.has.believed;
       stored = b.has.stored;
-      waiting = waiting core.phases bodies b.has.beliefs b.has.waiting;
+      waiting = waiting core.phases bodies b.beliefs b.has.waiting;
       last = b.has.last;
       next = b.has.next;
     };

@@ -35,12 +35,10 @@ pub record ShowsPending (base : Base) (history : History) (images : List Image) 
   pub is : IsPendingPair base history shown
   pub shows : ImagesShow images shown
 
--- With these bodies behind the gates, and these requests out: the slots are those of a sound store, which shows the last
--- pair; and with the dump that is being opened, if one is, it would show the pending pair.
-pub record HasStore (base : Base) (history : History) (phases : List Phase) (asked : List (Option Asked)) (bodies : List (List ℕ)) : Type 0 where
-  pub store : Store
-  pub dump : Option Image
-  pub beliefs : List Belief
+-- With these bodies behind the gates, and these requests out: the slots are believed to be those of this sound store, which
+-- shows the last pair; and with the dump that is being opened, if one is, it would show the pending pair.
+pub record HasStore (base : Base) (history : History) (phases : List Phase) (asked : List (Option Asked)) (bodies : List (List ℕ))
+    (store : Store) (dump : Option Image) (beliefs : List Belief) : Type 0 where
   pub sound : IsSound store
   pub slots : AreSlotsOf store dump beliefs
   pub believed : AreBelieved phases bodies beliefs
@@ -52,5 +50,8 @@ pub record HasStore (base : Base) (history : History) (phases : List Phase) (ask
 
 -- What a core believes of these slots, and what it knows of these files.
 pub record Believes (core : CoreView) (asked : List (Option Asked)) (bodies files : List (List ℕ)) : Type 0 where
-  pub has : HasStore core.base (history_of core) core.phases asked bodies
+  pub store : Store
+  pub dump : Option Image
+  pub beliefs : List Belief
+  pub has : HasStore core.base (history_of core) core.phases asked bodies store dump beliefs
   pub knows : Knows core asked files

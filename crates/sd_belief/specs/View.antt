@@ -11,8 +11,7 @@ use Rattle.sd_gate.specs.declared.worker.Worker.{Worker}
 use Rattle.sd_gate.specs.declared.worker.Worker.TheVariants.{Dumper, Merger, Opener}
 use Rattle.sd_gate.specs.Plans.{Planned}
 use Rattle.sd_journal.specs.History.{Base, History}
-use Rattle.sd_journal.specs.Kept.{Kept}
-use Rattle.sd_journal.specs.Marked.{entries_of}
+use Rattle.sd_journal.specs.Marked.{Marked, entries_of}
 use Rattle.sd_rounds.specs.Dumper.{Dumping}
 use Rattle.sd_belief.specs.declared.standing.Standing.{Standing}
 
@@ -35,8 +34,11 @@ pub record Numbers : Type 0 where
 pub record CoreView : Type 0 where
   -- what the run started from
   pub base : Base
-  -- its entries and marks
-  pub journal : Kept
+  -- the entries of its journal, with the marks, the newest first
+  pub items : Marked
+  -- how many free entries are held, and the most that the journal may have with these
+  pub held : ℕ
+  pub limit : ℕ
   pub memory : Contents
   pub standing : Standing
   -- the phase of each slot, by the calls whose outcomes were handed in
@@ -58,30 +60,32 @@ base_code = code_by (Option ℕ × PlainMemory) (coded× (coded_option coded_ℕ
 
 -- all but the base and the memory
 abbrev pub Rest : Type 0
-Rest = Kept × (Standing × (List Phase × (List (Option RequestId) × (Places × (Dumping × (Option Looking × (Numbers × Bool)))))))
+Rest = Marked × (ℕ × (ℕ × (Standing × (List Phase × (List (Option RequestId) × (Places × (Dumping × (Option Looking × (Numbers × Bool)))))))))
 
 abbrev pub core_code : Coded Rest → Coded CoreView
 core_code rest = code_by (Base × (Contents × Rest)) (coded× base_code (coded× contents_code rest))
-    (λ c. (c.base, (c.memory, (c.journal, (c.standing, (c.phases, (c.outs, (c.catalog, (c.dumper, (c.opener, (c.numbers, c.grows)))))))))))
+    (λ c. (c.base, (c.memory, (c.items, (c.held, (c.limit, (c.standing, (c.phases, (c.outs, (c.catalog, (c.dumper, (c.opener, (c.numbers, c.grows)))))))))))))
     (λ t. record {
       base = t.0;
       memory = t.1.0;
-      journal = t.1.1.0;
-      standing = t.1.1.1.0;
-      phases = t.1.1.1.1.0;
-      outs = t.1.1.1.1.1.0;
-      catalog = t.1.1.1.1.1.1.0;
-      dumper = t.1.1.1.1.1.1.1.0;
-      opener = t.1.1.1.1.1.1.1.1.0;
-      numbers = t.1.1.1.1.1.1.1.1.1.0;
-      grows = t.1.1.1.1.1.1.1.1.1.1;
+      items = t.1.1.0;
+      held = t.1.1.1.0;
+      limit = t.1.1.1.1.0;
+      standing = t.1.1.1.1.1.0;
+      phases = t.1.1.1.1.1.1.0;
+      outs = t.1.1.1.1.1.1.1.0;
+      catalog = t.1.1.1.1.1.1.1.1.0;
+      dumper = t.1.1.1.1.1.1.1.1.1.0;
+      opener = t.1.1.1.1.1.1.1.1.1.1.0;
+      numbers = t.1.1.1.1.1.1.1.1.1.1.1.0;
+      grows = t.1.1.1.1.1.1.1.1.1.1.1.1;
     }) (λ _. refl)
 
 -- ---- parts of it
 
 -- the entries of its journal, the newest first
 abbrev pub history_of : CoreView → History
-history_of core = entries_of core.journal.items
+history_of core = entries_of core.items
 
 -- the place of a worker among three
 abbrev pub index : Worker → ℕ

@@ -1,7 +1,14 @@
 //! What a core goes on believing. Each law is the contract of a function that does nothing.
+ghost use Rattle.sd_belief.specs.GateSteps.{GateSteps};
 ghost use Rattle.sd_belief.specs.Laws.{FoundIsBelieved, PerformedIsBelieved};
+ghost use Rattle.sd_belief.specs.StoreSteps.{QuietSteps};
 
-use sd_store_laws::{found_is_believed, opened_is_sound, slots_are_found};
+use sd_journal::journal_laws;
+use sd_store_laws::{
+    beliefs_follow_calls, closing_retires, found_is_believed, one_belief_changes, opened_is_sound,
+    pending_shows, slots_are_found, slots_drop, slots_follow_calls, slots_follow_images,
+    slots_follow_jobs, steps_keep, steps_show,
+};
 
 /// A device call that was made leaves what is believed: its request is still out, as its outcome wasn't handed in.
 pub fn performed_law()
@@ -15,4 +22,31 @@ pub fn found_law()
     found_is_believed();
     opened_is_sound();
     slots_are_found();
+}
+
+/// Steps that leave what is believed of the slots: requests and outcomes that open and close nothing, jobs that are given
+/// up, commands, a freeze, and a checkpoint that is cancelled before its dump's gate is opened.
+pub fn quiet_steps()
+    ensures { QuietSteps }
+{
+    beliefs_follow_calls();
+    one_belief_changes();
+    journal_laws();
+}
+
+/// Steps that change the store: a gate begins to be opened or closed, an image enters the catalog or leaves it, a
+/// checkpoint or a merge begins, or a checkpoint is cancelled.
+pub fn gate_steps()
+    ensures { GateSteps }
+{
+    beliefs_follow_calls();
+    one_belief_changes();
+    steps_keep();
+    steps_show();
+    pending_shows();
+    closing_retires();
+    slots_drop();
+    slots_follow_calls();
+    slots_follow_images();
+    slots_follow_jobs();
 }

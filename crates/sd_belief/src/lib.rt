@@ -4,5 +4,5 @@
 mod laws;
 mod standing;
 
-pub use laws::{found_law, performed_law};
+pub use laws::{found_law, gate_steps, performed_law, quiet_steps};
 pub use standing::Standing;

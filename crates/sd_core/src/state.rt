@@ -58,7 +58,9 @@ impl Model for Core {
 
     ghost view = { λ c. record {
       base = record { number = c.number; memory = memory_of c.base };
-      journal = c.journal;
+      items = c.journal.items;
+      held = c.journal.held;
+      limit = c.journal.limit;
       memory = c.memory;
       standing = c.standing;
       phases = c.phases.items;
@@ -113,7 +115,7 @@ impl Core {
     /// A law: the journal is legal, the memory is the one that it makes, and its bits are those that the commands and
     /// visits give.
     pub fn sound(&self)
-        ensures { IsTracked self.now.base self.now.journal.items self.now.memory }
+        ensures { IsTracked self.now.base self.now.items self.now.memory }
     {
         let _memory = &self.memory;
     }

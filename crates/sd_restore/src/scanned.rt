@@ -1,5 +1,5 @@
 //! What was found in the slots so far.
-ghost use Rattle.std.specs.Prelude.{◌≡◌, ◌≢◌, ◌<◌, ◌≤◌, ◌+◌, ◌-◌, ◌^◌, ℕ, List, true, false, map, filter, length, IfErr, IfOk, IfSome, OnOk};
+ghost use Rattle.std.specs.Prelude.{◌≡◌, ◌≢◌, ◌<◌, ◌≤◌, ◌+◌, ◌-◌, ◌^◌, ℕ, List, true, false, map, filter, length, IfErr, IfOk, IfSome, OnErr, OnOk};
 ghost use Rattle.sd_disk.specs.Contents.{file_at};
 ghost use Rattle.sd_image.specs.Image.{Image, IsImage, is_open};
 ghost use Rattle.sd_image.specs.Table.{listing_of};
@@ -38,8 +38,8 @@ impl Scanned {
         }
     }
 
-    /// Passes a closed slot.
-    fn skip(&self, slot: usize)
+    /// A law: a closed slot is passed. One slot more was scanned.
+    pub fn skip(&self, slot: usize)
         ensures { (contents : List (List ℕ)) → slot < length contents
             → is_open (file_at contents slot) ≡ false
             → IsScanned contents slot self.now → IsScanned contents (slot + 1) self.now }
@@ -59,14 +59,18 @@ impl Scanned {
         ensures read { (count : ℕ) → slot < count → IsSound decoded → AreRead count self.old.catalog
             → OnOk result (AreRead count self.new.catalog) }
         ensures counted { OnOk result (self.new.images ≡ self.old.images + 1) }
+        ensures err { OnErr result (self.new ≡ self.old) }
     {
         open_slot();
         let Decoded { header, table } = decoded;
         let placed = PlacedTable::new(alloc, table)?;
-        self.images += 1;
         match self.catalog.add(slot, header, placed) {
-            Ok(()) => Ok(()),
+            Ok(()) => {
+                self.images += 1;
+                Ok(())
+            }
             Err(CatalogError::DoubleSerial) => {
+                self.images += 1;
                 if self.double.is_none() {
                     self.double = Some(slot);
                 }
@@ -80,7 +84,7 @@ impl Scanned {
     ///
     /// # Errors
     ///
-    /// Out of memory where the image finds no room; nothing is said of the images so far then.
+    /// Out of memory where the image finds no room: nothing changes.
     pub fn take_in(
         &mut self,
         alloc: Global,
@@ -97,6 +101,7 @@ impl Scanned {
             → AreRead count self.old.catalog
             → OnOk result (AreRead count self.new.catalog) }
         ensures counted { OnOk result (self.new.images ≤ self.old.images + 1) }
+        ensures err { OnErr result (self.new ≡ self.old) }
     {
         match opened {
             Some(decoded) => self.add(alloc, slot, decoded)?,
@@ -123,6 +128,7 @@ impl Scanned {
             → IsStore contents images → IfErr result (Names (λ _ _. ⊥)) }
         ensures empty { result ≢ Err Fault.EmptyChain }
         ensures device { result ≢ Err Fault.Device }
+        ensures memory { result ≢ Err Fault.OutOfMemory }
     {
         good_store_has_no_reason();
         one_image();

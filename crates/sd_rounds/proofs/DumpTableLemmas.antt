@@ -1,15 +1,12 @@
 -- The table of a dump has the entries of its pass, and the areas of the memory.
-use Rattle.std.proofs.Common.{◌≡◌, ◌≢◌, ℕ, ◌+◌, ◌*◌, ◌<◌, ◌≤◌, ◌^◌, Bool, true, false, nat_eq, ◌||◌, ◌&&◌, if◌then◌else◌, cond, List, [], ◌∷◌, ◌++◌, length, map, filter, sum_by, Option, Some, None, is_some, IsTrue, refl, sym, ◌∙◌, ap, subst, arith, append-nil, inl, inr}
-use Rattle.std.specs.Prelude.{Contains}
+use Rattle.std.proofs.Common.{◌≡◌, ℕ, ◌+◌, ◌<◌, ◌≤◌, ◌^◌, Bool, true, false, nat_eq, ◌||◌, ◌&&◌, if◌then◌else◌, List, [], ◌∷◌, ◌++◌, map, Option, Some, None, is_some, IsTrue, refl, sym, ◌∙◌, ap, subst, arith, inl, inr}
 use Rattle.std.specs.List.{AllByRecursion, flat_map, list_any}
 use Rattle.std.specs.Option.{option_map}
-use Rattle.std.specs.FinMap as finmap
 use Rattle.std.proofs.lemmas.Bool.{both_ways, cases_lt, eqb-true}
 use Rattle.std.proofs.lemmas.Bool.Decides.{nat_tests}
-use Rattle.std.proofs.lemmas.Grind.{flat_map-append}
 use Rattle.sd_areas.specs.declared.area.Area.{Area}
 use Rattle.sd_areas.specs.Areas.{AreMaximal, area_pages, is_area_after, prot_in}
-use Rattle.sd_areas.specs.Pages.{is_within, pages_from}
+use Rattle.sd_areas.specs.Pages.{is_within}
 use Rattle.sd_areas.specs.PlainMemory as plain
 use Rattle.sd_areas.specs.PlainMemory.{PlainMemory}
 use Rattle.sd_image.specs.declared.run.Run.{Run}
@@ -20,8 +17,8 @@ use Rattle.sd_pagetable.specs.Tracking.{is_page}
 use Rattle.sd_rounds.specs.Pass.{Place, Entry}
 use Rattle.sd_rounds.specs.Made.{entries_listed, run_entries}
 use Rattle.sd_rounds.specs.Rises.{kind_at}
-use Rattle.sd_rounds.specs.SpaceTables.{AreSpacesBelow, IsSpaceOf, Rise, runs_in}
-use Rattle.sd_rounds.specs.Tables.{AreTables, IsTableAfter}
+use Rattle.sd_rounds.specs.SpaceTables.{IsSpaceOf, Rise, runs_in}
+use Rattle.sd_rounds.specs.Tables.{AreTables}
 use Rattle.sd_rounds.proofs.RisingNumbers.{Between, between_append, between_low, has, has_append, has_pages, pages_between, same_members}
 
 -- ---- Which pages entries have

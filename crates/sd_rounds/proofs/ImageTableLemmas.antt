@@ -1,10 +1,9 @@
 -- The table of an image in the making.
-use Rattle.std.proofs.Common.{◌≡◌, ◌≢◌, ◌⊎◌, ℕ, zero, suc, ◌+◌, ◌<◌, ◌≤◌, Bool, true, false, nat_eq, ◌||◌, ◌&&◌, ◌==◌, if◌then◌else◌, cond, List, [], ◌∷◌, ◌++◌, length, map, sum_by, Contains, Option, Some, None, is_some, IsTrue, refl, sym, ◌∙◌, ap, subst, arith, inl, inr}
+use Rattle.std.proofs.Common.{◌≡◌, ◌≢◌, ◌⊎◌, ℕ, zero, suc, ◌+◌, ◌<◌, ◌≤◌, Bool, true, false, nat_eq, ◌||◌, ◌&&◌, cond, List, [], ◌∷◌, length, map, sum_by, Contains, Option, Some, None, is_some, IsTrue, refl, sym, ◌∙◌, ap, subst, arith, inl, inr}
 use Rattle.std.specs.Prelude.{slice_index_or}
 use Rattle.std.specs.List.{AllByRecursion, flat_map, list_any}
 use Rattle.std.specs.Option.{option_map, option_and_then}
 use Rattle.std.specs.FinMap as finmap
-use Rattle.std.specs.Ordering.{nat_cmp}
 use Rattle.std.proofs.lemmas.Bool.{both_ways, cases_lt}
 use Rattle.std.proofs.lemmas.Bool.Decides.{nat_tests}
 use Rattle.std.proofs.lemmas.List.{length-append, length-map}
@@ -18,22 +17,21 @@ use Rattle.sd_image.specs.declared.header.Header.{Header}
 use Rattle.sd_image.specs.declared.header.Kind.{Kind}
 use Rattle.sd_image.specs.declared.header.Kind.TheVariants.{PreDump, Dump, Merged}
 use Rattle.sd_image.specs.declared.run.Run.{Run}
-use Rattle.sd_image.specs.declared.run.RunKind.{RunKind}
-use Rattle.sd_image.specs.declared.run.RunKind.TheVariants.{Data, Parent, Zero}
+use Rattle.sd_image.specs.declared.run.RunKind.TheVariants.{Data}
 use Rattle.sd_image.specs.Shows.{page_in, pages_of}
-use Rattle.sd_image.specs.Table.{AreRuns, AreSpaces, Covers, IsSpace, IsTable, Listed, data_count, is_data, is_run_after, mapped_count, run_pages, table_text}
-use Rattle.sd_image.specs.Words.{number_bytes, run_kind_number}
+use Rattle.sd_image.specs.Table.{AreRuns, AreSpaces, Covers, Listed, data_count, is_data, is_run_after, mapped_count, run_pages, table_text}
+use Rattle.sd_image.specs.Words.{number_bytes}
 use Rattle.sd_pagetable.specs.Contents.{Contents, page_at, plain_of}
 use Rattle.sd_pagetable.specs.Law.{PlainLaw}
 use Rattle.sd_pagetable.specs.Page.{Page, plain_page}
-use Rattle.sd_rounds.specs.Made.{HasTheAreas, Lists, entries_listed, run_entries}
+use Rattle.sd_rounds.specs.Made.{Lists, entries_listed, run_entries}
 use Rattle.sd_rounds.specs.declared.image_order.ImageOrder.{ImageOrder}
 use Rattle.sd_rounds.specs.Making.{AreThePages, HasTable, TablesEntries, TablesMemory}
-use Rattle.sd_rounds.specs.Pass.{Entry, Pass, Place, data_pages, pages_by, place_of}
+use Rattle.sd_rounds.specs.Pass.{Entry, Pass, Place, data_pages}
 use Rattle.sd_rounds.specs.Rises.{kind_at}
 use Rattle.sd_rounds.specs.Rounds.{source}
-use Rattle.sd_rounds.specs.SpaceTables.{AreAllSpaces, AreSpacesBelow, IsSpaceOf, Rise, runs_in, without_areas}
-use Rattle.sd_rounds.specs.Tables.{AreTables, IsTableAfter}
+use Rattle.sd_rounds.specs.SpaceTables.{AreAllSpaces, IsSpaceOf, Rise, without_areas}
+use Rattle.sd_rounds.specs.Tables.{AreTables}
 use Rattle.sd_rounds.proofs.DumpTableLemmas.{Among, HaveRunsOf, all_listed, covers, kind_append, runs_have, runs_of_space}
 use Rattle.sd_rounds.proofs.RisingNumbers.{has, has_append, has_pages}
 use Rattle.sd_rounds.proofs.RoomLemmas.{length-pages_from}
@@ -308,12 +306,12 @@ dump_for plain order pass memory h kept spaces law is kind parent pages takes ar
     other_kind order.kind is memory pass.entries h spaces
     (dump plain pass.takes_all h memory pass.entries kept spaces law (λ e. is (sym kind ∙ e)) (takes ∙ ap (λ n. nat_eq n 0) (sym parent)) pages are same made)
 
-no_pre_dump : (kind : Kind) → Dump ≡ PreDump → ⊥
-no_pre_dump kind e = cc
+no_pre_dump : Dump ≡ PreDump → ⊥
+no_pre_dump e = cc
 
-no_merged : (kind : Kind) → Merged ≡ PreDump → ⊥
-no_merged kind e = cc
+no_merged : Merged ≡ PreDump → ⊥
+no_merged e = cc
 
 pub is_other : (kind : Kind) → (kind ≡ Dump) ⊎ (kind ≡ Merged) → kind ≢ PreDump
-is_other kind (inl e) = λ p. no_pre_dump kind (sym e ∙ p)
-is_other kind (inr e) = λ p. no_merged kind (sym e ∙ p)
+is_other kind (inl e) = λ p. no_pre_dump (sym e ∙ p)
+is_other kind (inr e) = λ p. no_merged (sym e ∙ p)

@@ -18,3 +18,8 @@ pub mod ImageTableLemmas
 pub mod MakingLemmas
 pub mod PlanLemmas
 pub mod DumperLemmas
+pub mod AheadLemmas
+pub mod LeftLemmas
+pub mod WayLemmas
+pub mod FileLemmas
+pub mod ImageVisitLemmas

@@ -1,5 +1,5 @@
 -- What the steps of an image keep.
-use Rattle.std.proofs.Common.{◌≡◌, ◌≢◌, ℕ, ◌+◌, ◌<◌, Bool, true, false, nat_eq, ◌||◌, if◌then◌else◌, List, [], ◌∷◌, ◌++◌, length, Option, Some, None, refl, sym, ◌∙◌, ap, subst, arith}
+use Rattle.std.proofs.Common.{◌≡◌, ◌≢◌, ℕ, ◌+◌, Bool, true, false, nat_eq, ◌||◌, if◌then◌else◌, List, [], ◌∷◌, ◌++◌, length, Some, refl, sym, ◌∙◌, ap, subst, arith}
 use Rattle.std.specs.List.{AllByRecursion}
 use Rattle.std.proofs.lemmas.Bool.{both_ways}
 use Rattle.std.proofs.lemmas.List.{length-append}
@@ -7,7 +7,7 @@ use Rattle.sd_image.specs.declared.header.Kind.{Kind}
 use Rattle.sd_image.specs.declared.header.Kind.TheVariants.{Dump, Merged, PreDump}
 use Rattle.sd_image.specs.declared.run.RunKind.{RunKind}
 use Rattle.sd_image.specs.declared.run.RunKind.TheVariants.{Data, Parent, Zero}
-use Rattle.sd_gate.specs.Plans.{Gives, Planned, plan_after}
+use Rattle.sd_gate.specs.Plans.{Planned, plan_after}
 use Rattle.sd_gate.specs.Requests.{Made}
 use Rattle.sd_gate.specs.Sequences.{Calls}
 use Rattle.sd_pagetable.specs.Contents.{Contents, IsSound}
@@ -21,15 +21,16 @@ use Rattle.sd_rounds.specs.declared.image_step.ImageStep.{ImageStep}
 use Rattle.sd_rounds.specs.declared.image_step.ImageStep.TheVariants.{Call, PageCall, TableCall, Frozen, Visited, Copied}
 use Rattle.sd_rounds.specs.declared.stage.Stage.{Stage}
 use Rattle.sd_rounds.specs.declared.stage.Stage.TheVariants.{Format, Freeze, Pass as PassStage, PageWrite, Close}
-use Rattle.sd_rounds.specs.Dump.{DumpLaws, IsDumped, IsDumping}
-use Rattle.sd_rounds.specs.Keeps.{Chain, Gave, IsCall, Keeps, KeepsLaws, Rests, Within}
+use Rattle.sd_rounds.specs.Dump.{DumpLaws, IsDumping}
+use Rattle.sd_rounds.specs.Keeps.{Chain, IsCall, Keeps, KeepsLaws, Rests, Within}
 use Rattle.sd_rounds.specs.Made.{listed_pages}
-use Rattle.sd_rounds.specs.Making.{Asks, CopiesSector, Freezes, GoesOn, HandsIn, Making, Steps, Visits, WritesPage, WritesTable, begun_image, closing, is_past_freeze, plan_of, stage_after, stage_behind, with_plan}
+use Rattle.sd_rounds.specs.Making.{HandsIn, Making, Steps, WritesPage, WritesTable, begun_image, closing, is_past_freeze, stage_after, stage_behind, with_plan}
 use Rattle.sd_rounds.specs.MakingLaws.{DumpsImage, IsDumpedIn, IsKeptIn, KeepsImage, MakingLaws, Pages, pages_after}
 use Rattle.sd_rounds.specs.Pass.{Pass, Place, begun_to_take, data_pages, left_to_parent, opened, pages_by, with_entry}
 use Rattle.sd_rounds.specs.Rises.{IsRising}
 use Rattle.sd_rounds.specs.Rounds.{Copies, Tests, TakesPage}
 use Rattle.sd_rounds.specs.Steps.{StepLaws}
+use Rattle.sd_rounds.proofs.KeepsLemmas.{gives_agrees}
 use Rattle.sd_rounds.proofs.Lists.{pages_append}
 use Rattle.sd_rounds.proofs.TableLemmas.{all_put}
 
@@ -197,6 +198,39 @@ calls laws pages one other making old new event sound step call within was = rec
     by (Close plan header tables) kept =
         laws.still_gave (listed_pages pages) (listed_pages pages) one other making.pass.entries old new event sound step call (λ place few. refl) within kept
 
+agrees : KeepsLaws → (pages : Pages) (one other : Chain) (making : Making) (memory : Contents) → Within one other
+    → KeepsImage pages one making memory → KeepsImage pages other making memory
+agrees laws pages one other making memory within was = record {
+  count = was.count;
+  whole = was.whole;
+  kept = by making.stage was.kept;
+}
+  where
+    passes : Keeps (listed_pages pages) one making.pass memory → Keeps (listed_pages pages) other making.pass memory
+    passes kept = laws.agrees (listed_pages pages) (listed_pages pages) one other making.pass memory (λ place few. refl) within kept
+
+    by : (stage : Stage) → IsKeptIn stage pages one making.pass memory → IsKeptIn stage pages other making.pass memory
+    by (Format plan) kept = passes kept
+    by Freeze kept = passes kept
+    by PassStage kept = passes kept
+    by (PageWrite plan) kept = passes kept
+    by (Close plan header tables) kept = λ space number bytes clean.
+        gives_agrees (listed_pages pages) (listed_pages pages) one other making.pass.entries (space, number) bytes (λ place few. refl) within (kept space number bytes clean)
+
+agrees_dump : (cut : Contents) (pages : Pages) (one other : Chain) (making : Making) (memory : Contents) → Within one other
+    → DumpsImage cut pages one making memory → DumpsImage cut pages other making memory
+agrees_dump cut pages one other making memory within was = by making.stage was
+  where
+    by : (stage : Stage) → IsDumpedIn stage cut pages one making.pass memory → IsDumpedIn stage cut pages other making.pass memory
+    by (Format plan) is = tt
+    by Freeze is = tt
+    by PassStage is = is
+    by (PageWrite plan) is = is
+    by (Close plan header tables) is = record {
+      kinds = is.kinds;
+      bytes = λ at page there. gives_agrees (listed_pages pages) (listed_pages pages) one other making.pass.entries at page.bytes (λ place few. refl) within (is.bytes at page there);
+    }
+
 -- ---- the dump
 
 freezes : DumpLaws → (ticket : ℕ) (pages : Pages) (chain : Chain) (old new : Making) (before after : Contents) → Steps ticket old before Frozen new after
@@ -259,6 +293,8 @@ making_laws keeps dump laws = record {
   steps = steps keeps laws;
   hands = hands;
   calls = calls keeps;
+  agrees = agrees keeps;
+  agrees_dump = agrees_dump;
   freezes = freezes dump;
   dumps = dumps dump laws;
   hands_dump = hands_dump;

@@ -1,8 +1,6 @@
 -- A plan that writes, from outcome to outcome.
-use Rattle.std.proofs.Common.{◌≡◌, ◌≢◌, ℕ, ◌+◌, ◌<◌, ◌≤◌, ◌^◌, Bool, true, false, if◌then◌else◌, List, [], ◌∷◌, ◌++◌, length, Option, Some, None, refl, sym, ◌∙◌, ap, subst, arith}
-use Rattle.std.proofs.lemmas.Bool.{both_ways}
+use Rattle.std.proofs.Common.{◌≡◌, ℕ, ◌<◌, ◌≤◌, ◌^◌, Bool, true, false, if◌then◌else◌, List, [], ◌∷◌, length, Option, Some, None, refl, sym, ◌∙◌, ap, subst, arith}
 use Rattle.sd_gate.specs.declared.settled.Settled.{Settled}
-use Rattle.sd_gate.specs.declared.settled.Settled.TheVariants.{More, Finished, Failed, Strange}
 use Rattle.sd_gate.specs.declared.answer.Answer.{Answer}
 use Rattle.sd_gate.specs.Calls.{is_done, buffer_back}
 use Rattle.sd_gate.specs.Inspections.{Awaits, Following, calls_then, nothing}
@@ -11,7 +9,8 @@ use Rattle.sd_gate.specs.Plans.{Gives, Planned, begun, calls_after, is_one, plan
 use Rattle.sd_gate.specs.Requests.{Asked, Made}
 use Rattle.sd_gate.specs.Sequences.{Calls, IsBody, body_calls}
 use Rattle.sd_image.specs.declared.header.Header.{Header}
-use Rattle.sd_rounds.specs.Making.{IsUnderWay, Settles, outcomes_of}
+use Rattle.sd_rounds.specs.Making.{IsUnderWay}
+use Rattle.sd_rounds.specs.PlanSteps.{Settles}
 
 then_same : (calls : Calls) (answer : Answer) (buffer : Option (List ℕ)) → calls_then calls nothing answer buffer ≡ (calls, nothing)
 then_same [] answer buffer = refl

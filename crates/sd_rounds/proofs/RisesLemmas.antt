@@ -44,7 +44,7 @@ above_last before [] at rising above = above
 above_last before (entry ∷ entries) at rising above = above_more before entry.place at rising.0 (above_last (Some entry.place) entries at rising.1 above)
 
 -- a page above another is another
-above_apart : (a b : Place) → is_above (Some a) b.0 b.1 ≡ true → a ≡ b → ⊥
+pub above_apart : (a b : Place) → is_above (Some a) b.0 b.1 ≡ true → a ≡ b → ⊥
 above_apart a b above e =
     both_ways (has_passed (Some a) b) (above_not_passed (Some a) b above) (subst (λ (q : Place). has_passed (Some a) q ≡ true) e (passed_here a))
 

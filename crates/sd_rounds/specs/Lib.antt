@@ -8,6 +8,12 @@ pub mod Tables
 pub mod Rounds
 pub mod Steps
 pub mod Making
+pub mod PlanSteps
 pub mod SpaceTables
 pub mod Dumper
+pub mod Sound
+pub mod Room
+pub mod Left
 pub mod MakingLaws
+pub mod Files
+pub mod ImageVisits

@@ -1,15 +1,13 @@
 -- An image in the making, as it is seen, and what its steps do.
 use Rattle.std.specs.Prelude.{◌≡◌, ◌≢◌, ℕ, ◌≤◌, ◌^◌, Bool, true, false, ◌==◌, ◌&&◌, ◌+◌, List, [], ◌∷◌, length, Option, Some, None, is_some}
-use Rattle.sd_areas.specs.PlainMemory.{PlainMemory}
 use Rattle.sd_image.specs.declared.header.Header.{Header}
 use Rattle.sd_image.specs.declared.header.Kind.{Kind}
 use Rattle.sd_image.specs.declared.header.Kind.TheVariants.{PreDump, Dump, Merged}
+use Rattle.sd_image.specs.Header.{HasWords}
 use Rattle.sd_image.specs.Table.{IsTable, Listed, table_text}
 use Rattle.sd_image.specs.Words.{kind_number}
 use Rattle.sd_gate.specs.declared.call.Call.TheVariants.{Write}
 use Rattle.sd_gate.specs.declared.request_id.RequestId.{RequestId}
-use Rattle.sd_gate.specs.declared.settled.Settled.{Settled}
-use Rattle.sd_gate.specs.declared.settled.Settled.TheVariants.{More as PlanMore, Finished as PlanFinished, Failed as PlanFailed, Strange as PlanStrange}
 use Rattle.sd_gate.specs.declared.worker.Worker.TheVariants.{Dumper}
 use Rattle.sd_gate.specs.Calls.{is_done}
 use Rattle.sd_gate.specs.Inspections.{nothing}
@@ -32,7 +30,7 @@ use Rattle.sd_rounds.specs.declared.stage.Stage.TheVariants.{Format, Freeze, Pas
 use Rattle.sd_rounds.specs.Made.{HasTheAreas, Lists}
 use Rattle.sd_rounds.specs.Pass.{Entry, Pass, data_pages, opened}
 use Rattle.sd_rounds.specs.Rises.{kind_at}
-use Rattle.sd_rounds.specs.Rounds.{Copies, IsOver, TakesPage, Tests}
+use Rattle.sd_rounds.specs.Rounds.{Copies, TakesPage, Tests}
 
 -- an image in the making: what is fixed of it, its pass, and how far it is
 pub record Making : Type 0 where
@@ -195,6 +193,7 @@ pub record WritesTable (old : Making) (memory : Contents) (request : Asked) (new
   pub tables : List Listed
   pub header : Header
   pub numbers : header ≡ header_of old.order (data_pages old.pass.entries) (length (table_text tables))
+  pub words : HasWords header
   pub table : HasTable old.order.kind memory old.pass.entries header tables
   pub next : Planned
   pub gives : Gives (begun old.order.slot (body_calls header (table_text tables)) nothing) next request
@@ -272,42 +271,3 @@ HandsIn old made Strange new = (out_of old.stage ≢ Some made.request.id) × (n
 HandsIn old made Failed new = Fails old made new
 HandsIn old made More new = GoesOn old made new
 HandsIn old made (Opened image) new = Opens old made image
-
--- ---- In code
-
--- what the outcome of the request that is out is to a plan
-abbrev pub Settles : Planned → Made → Settled → Planned → Type 0
-Settles old made PlanMore new = (is_done made.answer ≡ true) × (new ≡ plan_after old made) × (new.calls ≢ []) × IsUnderWay new × (outcomes_of new + 1 ≡ outcomes_of old)
-Settles old made PlanFinished new = (is_done made.answer ≡ true) × (new ≡ plan_after old made) × (new.calls ≡ []) × (outcomes_of new + 1 ≡ outcomes_of old)
-Settles old made PlanFailed new = is_done made.answer ≡ false
-Settles old made PlanStrange new = ⊥
-
-abbrev pub at_stage : Making → Stage → Making
-at_stage making stage = record making { stage = stage }
-
--- it is a call of a plan, and its request is such
-abbrev pub IsCallOf : (Asked → Type 0) → ImageStep → Type 0
-IsCallOf P (Call request) = P request
-IsCallOf P (PageCall request) = ⊥
-IsCallOf P (TableCall request) = ⊥
-IsCallOf P Frozen = ⊥
-IsCallOf P (Visited visit) = ⊥
-IsCallOf P (Copied copied) = ⊥
-
--- it is the write of a page
-abbrev pub IsPageCallOf : (Asked → Type 0) → ImageStep → Type 0
-IsPageCallOf P (Call request) = ⊥
-IsPageCallOf P (PageCall request) = P request
-IsPageCallOf P (TableCall request) = ⊥
-IsPageCallOf P Frozen = ⊥
-IsPageCallOf P (Visited visit) = ⊥
-IsPageCallOf P (Copied copied) = ⊥
-
--- it is the write of the table
-abbrev pub IsTableCallOf : (Asked → Type 0) → ImageStep → Type 0
-IsTableCallOf P (Call request) = ⊥
-IsTableCallOf P (PageCall request) = ⊥
-IsTableCallOf P (TableCall request) = P request
-IsTableCallOf P Frozen = ⊥
-IsTableCallOf P (Visited visit) = ⊥
-IsTableCallOf P (Copied copied) = ⊥

@@ -1,13 +1,11 @@
 -- What the steps of an image keep.
-use Rattle.std.specs.Prelude.{◌≡◌, ◌≢◌, ℕ, ◌<◌, ◌^◌, true, List, [], ◌∷◌, ◌++◌, length}
+use Rattle.std.specs.Prelude.{◌≡◌, ◌≢◌, ℕ, ◌<◌, true, List, [], ◌∷◌, ◌++◌, length}
 use Rattle.std.specs.List.{AllByRecursion}
 use Rattle.sd_image.specs.declared.header.Header.{Header}
-use Rattle.sd_image.specs.declared.header.Kind.TheVariants.{Dump}
-use Rattle.sd_image.specs.Image.{Image, IsImage, gate, image_text}
-use Rattle.sd_image.specs.Shows.{IsMemory}
+use Rattle.sd_image.specs.Image.{Image}
 use Rattle.sd_image.specs.Table.{Listed}
-use Rattle.sd_gate.specs.Requests.{Asked, Made}
-use Rattle.sd_pagetable.specs.Contents.{Contents, IsSound, plain_of}
+use Rattle.sd_gate.specs.Requests.{Made}
+use Rattle.sd_pagetable.specs.Contents.{Contents, IsSound}
 use Rattle.sd_pagetable.specs.Tracking.{Event, Step}
 use Rattle.sd_rounds.specs.declared.image_order.ImageOrder.{ImageOrder}
 use Rattle.sd_rounds.specs.declared.image_progress.ImageProgress.TheVariants.{More}
@@ -17,8 +15,8 @@ use Rattle.sd_rounds.specs.declared.stage.Stage.{Stage}
 use Rattle.sd_rounds.specs.declared.stage.Stage.TheVariants.{Format, Freeze, Pass as PassStage, PageWrite, Close}
 use Rattle.sd_rounds.specs.Dump.{IsDumped, IsDumping}
 use Rattle.sd_rounds.specs.Keeps.{Chain, Gave, IsCall, Keeps, Rests, Within}
-use Rattle.sd_rounds.specs.Made.{IsImageOf, listed_pages}
-use Rattle.sd_rounds.specs.Making.{HandsIn, Making, Steps, WritesTable, begun_image, is_past_freeze}
+use Rattle.sd_rounds.specs.Made.{listed_pages}
+use Rattle.sd_rounds.specs.Making.{HandsIn, Making, Steps, begun_image, is_past_freeze}
 use Rattle.sd_rounds.specs.Pass.{Pass, data_pages}
 use Rattle.sd_rounds.specs.Rises.{IsRising}
 
@@ -77,6 +75,11 @@ pub record MakingLaws : Type 0 where
   -- whatever is called on the memory, and while images below are merged or closed
   pub calls : (pages : Pages) (one other : Chain) (making : Making) (old new : Contents) (event : Event) → IsSound old → Step old event new → IsCall event → Within one other
       → KeepsImage pages one making old → KeepsImage pages other making new
+  -- images below are merged or closed while the memory stays
+  pub agrees : (pages : Pages) (one other : Chain) (making : Making) (memory : Contents) → Within one other
+      → KeepsImage pages one making memory → KeepsImage pages other making memory
+  pub agrees_dump : (cut : Contents) (pages : Pages) (one other : Chain) (making : Making) (memory : Contents) → Within one other
+      → DumpsImage cut pages one making memory → DumpsImage cut pages other making memory
   pub freezes : (ticket : ℕ) (pages : Pages) (chain : Chain) (old new : Making) (before after : Contents) → Steps ticket old before Frozen new after
       → DumpsImage before pages chain new after
   pub dumps : (ticket : ℕ) (cut : Contents) (pages : Pages) (chain : Chain) (old new : Making) (before after : Contents) (step : ImageStep) → Steps ticket old before step new after

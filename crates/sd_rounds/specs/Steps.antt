@@ -1,5 +1,5 @@
 -- What a step of a pass in code keeps.
-use Rattle.std.specs.Prelude.{◌≡◌, ℕ, false, List, [], ◌∷◌, ◌++◌, length, None}
+use Rattle.std.specs.Prelude.{◌≡◌, ℕ, List, [], ◌∷◌, ◌++◌, length, None}
 use Rattle.sd_pagetable.specs.Contents.{Contents}
 use Rattle.sd_rounds.specs.declared.copied.Copied.{Copied}
 use Rattle.sd_rounds.specs.declared.visit.Visit.{Visit}

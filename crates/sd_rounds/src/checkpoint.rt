@@ -2,12 +2,17 @@
 ghost use Rattle.std.specs.Prelude.{◌≡◌, ◌↔◌, ◌⊎◌, Err, IsSome, IfOk, IfErr, OnErr, true, false};
 ghost use Rattle.sd_rounds.specs.declared.progress.Progress.TheVariants.{Dump as DumpOpen, PreDump as PreDumpOpen};
 ghost use Rattle.sd_rounds.specs.declared.work_error.WorkError.TheVariants.{Busy, OutOfMemory};
+ghost use Rattle.sd_pagetable.specs.Contents.{plain_of};
+ghost use Rattle.sd_rounds.specs.Left.{running_left};
+ghost use Rattle.sd_rounds.specs.Room.{MakingWants};
+ghost use Rattle.sd_rounds.specs.Sound.{IsSoundMaking};
 ghost use Rattle.sd_rounds.specs.Dumper.{HandsTo, HasFewPages, WorksOn, after_pre_dump, is_frozen_image, is_last, kind_of, order_of, out_of_image, running_of, slot_of};
 
 use crate::image_maker::ImageMaker;
 use crate::image_order::ImageOrder;
 use crate::image_progress::ImageProgress;
 use crate::image_step::ImageStep;
+use crate::left::{CLOSE, END, FORMAT, FREEZE, PAGE_AHEAD, pages_ahead};
 use crate::new_image::NewImage;
 use crate::next_image::NextImage;
 use crate::progress::Progress;
@@ -87,6 +92,7 @@ impl Checkpoint {
         ensures works { IfOk result (λ step. WorksOn image.serial image.state ticket
             (running_of self.old) memory.old step (running_of self.new) memory.new) }
         ensures busy { result ≡ Err Busy ↔ IsSome (out_of_image (running_of self.old).image) }
+        ensures wanted { result ≡ Err OutOfMemory → MakingWants (running_of self.old).image memory.old }
         ensures errors { IfErr result (λ e. (e ≡ Busy) ⊎ (e ≡ OutOfMemory)) }
         ensures err { OnErr result (running_of self.new ≡ running_of self.old) }
         ensures err_memory { OnErr result (memory.new ≡ memory.old) }
@@ -101,6 +107,20 @@ impl Checkpoint {
         Ok(step)
     }
 
+    /// How many steps and outcomes the checkpoint has before it, at most.
+    pub(crate) fn left(&self, memory: &Memory) -> u128
+        ensures { result ≡ running_left (running_of self.now) (plain_of memory.now) }
+    {
+        let pass = u128::from(PAGE_AHEAD * pages_ahead(memory, None));
+        let next = FORMAT + FREEZE + pass + CLOSE;
+        let image = match &self.maker {
+            Some(maker) => maker.left(memory),
+            None => next,
+        };
+        let later = self.pre_dumps.len().saturating_sub(self.opened);
+        image + later as u128 * next + END
+    }
+
     /// Whether the dump of a frozen memory is being made.
     pub(crate) fn is_frozen(&self) -> bool
         ensures frozen { result ≡ is_frozen_image (running_of self.now).image }
@@ -109,6 +129,15 @@ impl Checkpoint {
         match &self.maker {
             Some(maker) => maker.is_frozen(),
             None => false,
+        }
+    }
+
+    /// What holds of the image that is being made. It does nothing: a caller learns it.
+    pub(crate) fn sound(&self)
+        ensures { IsSoundMaking (running_of self.now).image }
+    {
+        if let Some(maker) = &self.maker {
+            maker.sound();
         }
     }
 

@@ -2,7 +2,11 @@
 ghost use Rattle.std.specs.Prelude.{◌≡◌, ◌↔◌, ◌⊎◌, Err, None, Some, IsSome, IfOk, IfErr, OnOk, OnErr, is_none};
 ghost use Rattle.std.specs.Option.{option_map};
 ghost use Rattle.sd_rounds.specs.declared.work_error.WorkError.TheVariants.{Busy, Idle, OutOfMemory};
-ghost use Rattle.sd_rounds.specs.Dumper.{Dumping, Hands, HasCounted, Works, begun_checkpoint, ends, idle, is_strange, next_slot, out_of_running};
+ghost use Rattle.sd_pagetable.specs.Contents.{plain_of};
+ghost use Rattle.sd_rounds.specs.Left.{left_of};
+ghost use Rattle.sd_rounds.specs.Room.{StepWants};
+ghost use Rattle.sd_rounds.specs.Sound.{HasSoundImage};
+ghost use Rattle.sd_rounds.specs.Dumper.{AreRunning, Dumping, Hands, HasCounted, Works, begun_checkpoint, ends, idle, is_strange, next_slot, out_of_running};
 
 use crate::checkpoint::Checkpoint;
 use crate::image_step::ImageStep;
@@ -128,7 +132,7 @@ impl Dumper {
     /// # Errors
     ///
     /// Idle where no checkpoint runs, Busy where a request is out. Out of memory where an entry, a sector or the table
-    /// finds no room. Nothing changed.
+    /// finds no room, and only where one is wanted. Nothing changed.
     pub fn work(
         &mut self,
         memory: &mut Memory,
@@ -139,6 +143,7 @@ impl Dumper {
             step self.new memory.new) }
         ensures idle { result ≡ Err Idle ↔ self.old.running ≡ None }
         ensures busy { result ≡ Err Busy ↔ IsSome (out_of_running self.old.running) }
+        ensures wanted { result ≡ Err OutOfMemory → StepWants self.old.running memory.old }
         ensures err { OnErr result (self.new ≡ self.old) }
         ensures err_memory { OnErr result (memory.new ≡ memory.old) }
     {
@@ -174,11 +179,34 @@ impl Dumper {
         progress
     }
 
+    /// What holds of every dumper: how its checkpoint, the image that is being made and the count since the freeze go
+    /// together, and that the image's entries rise. It does nothing: a caller learns it.
+    pub fn sound(&self)
+        ensures running { AreRunning self.now.since_freeze self.now.running }
+        ensures image { HasSoundImage self.now.running }
+    {
+        if let Some(checkpoint) = &self.checkpoint {
+            checkpoint.sound();
+        }
+    }
+
     /// Gives the checkpoint up, if one runs.
     pub fn cancel(&mut self)
         ensures { self.new ≡ idle self.old.since_freeze }
     {
         end(&mut self.checkpoint);
+    }
+
+    /// How many steps and outcomes the checkpoint has before it, at most: 0 exactly while none runs. Each step lowers it,
+    /// and so does each outcome of the request that is out. It goes over the mapped pages one by one, and isn't for a step.
+    pub fn left(&self, memory: &Memory) -> u128
+        ensures left { result ≡ left_of self.now.running (plain_of memory.now) }
+        ensures idle { result ≡ 0 ↔ self.now.running ≡ None }
+    {
+        match &self.checkpoint {
+            Some(checkpoint) => checkpoint.left(memory),
+            None => 0,
+        }
     }
 
     /// How many outcomes were handed in since the last freeze.

@@ -1,20 +1,27 @@
 //! One image in the making: its slot is formatted, the pages of a memory are passed, and its gate is opened.
-ghost use Rattle.std.specs.Prelude.{◌≡◌, ◌↔◌, ◌⊎◌, ◌<◌, ◌≤◌, ◌^◌, ◌==◌, None, Some, Err, IsSome, IsTrue, IfOk, IfErr, OnErr, MatchOption, length, map, []};
+ghost use Rattle.std.specs.Prelude.{◌≡◌, ◌↔◌, ◌⊎◌, ◌<◌, ◌≤◌, ◌^◌, ◌==◌, None, Some, Err, IsSome, IsTrue, IsErr, IfOk, IfErr, OnErr, MatchOption, length, map, []};
+ghost use Rattle.sd_image.specs.Header.{HasWords};
 ghost use Rattle.sd_image.specs.Table.{listing_of};
 ghost use Rattle.sd_gate.specs.PlanRuns.{AreChanges};
 ghost use Rattle.sd_gate.specs.Plans.{Gives};
 ghost use Rattle.sd_rounds.specs.declared.work_error.WorkError.TheVariants.{Busy, OutOfMemory};
 ghost use Rattle.sd_rounds.specs.declared.stage.Stage.TheVariants.{Close, Format, PageWrite, Pass as PassStage};
 ghost use Rattle.sd_image.specs.declared.header.Header.{Header};
+ghost use Rattle.sd_pagetable.specs.Contents.{plain_of};
 ghost use Rattle.sd_pagetable.specs.Order.{IsNextPage};
-ghost use Rattle.sd_rounds.specs.Making.{Asks, HandsIn, HasTable, IsAskedBy, IsCallOf, IsUnderWay, Making, IsPageCallOf, IsTableCallOf, Settles, Steps, WritesPage, WritesTable, at_stage, begun_image, header_of, is_frozen, out_of};
+ghost use Rattle.sd_rounds.specs.Left.{image_left, plan_left};
+ghost use Rattle.sd_rounds.specs.Making.{HandsIn, HasTable, IsAskedBy, IsUnderWay, Steps, WritesPage, WritesTable, begun_image, header_of, is_frozen, out_of};
+ghost use Rattle.sd_rounds.specs.PlanSteps.{IsCallOf, IsPageCallOf, IsTableCallOf, Settles, at_stage};
 ghost use Rattle.sd_rounds.specs.Pass.{data_pages, opened};
+ghost use Rattle.sd_rounds.specs.Room.{ImageWants, PassWants};
 ghost use Rattle.sd_rounds.specs.Rounds.{IsCopied};
+ghost use Rattle.sd_rounds.specs.Sound.{IsSoundImage};
 
 use crate::image_order::ImageOrder;
 use crate::image_progress::ImageProgress;
 use crate::image_step::ImageStep;
 use crate::laws::made_law;
+use crate::left::{CLOSE, FREEZE};
 use crate::new_image::NewImage;
 use crate::round::Round;
 use crate::stage::Stage;
@@ -86,6 +93,31 @@ fn first_request(plan: &mut Plan, ticket: u64) -> Request
     }
 }
 
+/// The header of an image that stands for itself.
+fn own_header(order: ImageOrder, pages: u64, table_len: u64) -> Header
+    ensures numbers { result ≡ header_of order pages table_len }
+    ensures words { HasWords result }
+{
+    Header {
+        kind: order.kind,
+        serial: order.serial,
+        stands_for: order.serial,
+        parent: order.parent,
+        checkpoint: order.checkpoint,
+        pages,
+        table_len,
+    }
+}
+
+/// How many requests and outcomes a plan has before it.
+fn plan_left(plan: &Plan) -> u128
+    requires { IsUnderWay plan.now }
+    ensures left { result ≡ plan_left plan.now }
+    ensures few { result < 2 ^ 64 }
+{
+    plan.left() as u128
+}
+
 /// Takes the outcome of the request of a plan that is out.
 fn settle(plan: &mut Plan, outcome: Outcome) -> Settled
     requires under_way { IsUnderWay plan.old }
@@ -118,7 +150,7 @@ impl ImageMaker {
     pub(crate) fn work(&mut self, memory: &mut Memory, ticket: u64) -> Result<ImageStep, WorkError>
         ensures steps { IfOk result (λ step. Steps ticket self.old memory.old step self.new memory.new) }
         ensures busy { result ≡ Err Busy ↔ IsSome (out_of self.old.stage) }
-        ensures wanted { result ≡ Err OutOfMemory → self.old.stage ≡ PassStage }
+        ensures wanted { result ≡ Err OutOfMemory → ImageWants self.old memory.old }
         ensures errors { IfErr result (λ e. (e ≡ Busy) ⊎ (e ≡ OutOfMemory)) }
         ensures err { OnErr result (self.new ≡ self.old) }
         ensures err_memory { OnErr result (memory.new ≡ memory.old) }
@@ -139,6 +171,7 @@ impl ImageMaker {
     fn pass(&mut self, memory: &mut Memory, ticket: u64) -> Result<ImageStep, AllocError>
         requires { self.old.stage ≡ PassStage }
         ensures steps { IfOk result (λ step. Steps ticket self.old memory.old step self.new memory.new) }
+        ensures wanted { IsErr result → PassWants self.old.pass memory.old }
         ensures err { OnErr result (self.new ≡ self.old) }
         ensures err_memory { OnErr result (memory.new ≡ memory.old) }
     {
@@ -210,16 +243,25 @@ impl ImageMaker {
 
     /// The header of the image.
     fn header(&self, table_len: u64) -> Header
-        ensures { result ≡ header_of self.now.order (data_pages self.now.pass.entries) table_len }
+        ensures numbers { result
+            ≡ header_of self.now.order (data_pages self.now.pass.entries) table_len }
+        ensures words { HasWords result }
     {
-        Header {
-            kind: self.order.kind,
-            serial: self.order.serial,
-            stands_for: self.order.serial,
-            parent: self.order.parent,
-            checkpoint: self.order.checkpoint,
-            pages: self.stored as u64,
-            table_len,
+        own_header(self.order, self.stored as u64, table_len)
+    }
+
+    /// How many steps and outcomes the image has before it, at most.
+    pub(crate) fn left(&self, memory: &Memory) -> u128
+        ensures left { result ≡ image_left self.now (plain_of memory.now) }
+        ensures few { result ≤ 2 ^ 65 }
+    {
+        let pass = u128::from(self.round.left(memory));
+        match &self.stage {
+            Stage::Format(plan) => plan_left(plan) + FREEZE + pass + CLOSE,
+            Stage::Freeze => FREEZE + pass + CLOSE,
+            Stage::Pass => pass + CLOSE,
+            Stage::PageWrite(plan) => plan_left(plan) + pass + CLOSE,
+            Stage::Close { plan, .. } => plan_left(plan),
         }
     }
 
@@ -233,6 +275,13 @@ impl ImageMaker {
             Stage::Pass | Stage::PageWrite(_) | Stage::Close { .. } => true,
         };
         self.order.kind == Kind::Dump && is_past
+    }
+
+    /// What holds of every image in the making. It does nothing: a caller learns it.
+    pub(crate) fn sound(&self)
+        ensures { IsSoundImage self.now }
+    {
+        self.round.rising();
     }
 
     /// Whether this is the request that is out.

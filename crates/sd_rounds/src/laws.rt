@@ -1,12 +1,17 @@
 //! Laws of a pass over a memory, each the contract of a function that does nothing.
 ghost use Rattle.sd_rounds.specs.Dump.{DumpLaws};
+ghost use Rattle.sd_rounds.specs.Files.{FileLaws};
+ghost use Rattle.sd_rounds.specs.ImageVisits.{ImageVisitLaws};
 ghost use Rattle.sd_rounds.specs.Keeps.{KeepsLaws};
+ghost use Rattle.sd_rounds.specs.Left.{LeftLaws};
 ghost use Rattle.sd_rounds.specs.Made.{MadeLaws};
 ghost use Rattle.sd_rounds.specs.MakingLaws.{MakingLaws};
 ghost use Rattle.sd_rounds.specs.Rises.{RisesLaws};
 ghost use Rattle.sd_rounds.specs.Steps.{StepLaws};
 ghost use Rattle.sd_rounds.specs.Visits.{VisitLaws};
 
+use sd_gate::bodies_fill;
+use sd_image::text_is_image;
 use sd_pagetable::{clean_law, clear_law, plain_law};
 
 /// What an image in the making and the images below it give of a memory, through each step of its pass and through
@@ -60,4 +65,30 @@ pub fn making_law()
     keeps_law();
     dump_law();
     step_law();
+}
+
+/// The file of an image is an image with its entries, and that of a dump shows the memory at the freeze.
+pub fn file_law()
+    ensures { FileLaws }
+{
+    text_is_image();
+    bodies_fill();
+    plain_law();
+    made_law();
+    making_law();
+}
+
+/// Which pages an image visits, and which of them it leaves to its parent.
+pub fn image_visits_law()
+    ensures { ImageVisitLaws }
+{
+    visits_law();
+}
+
+/// How many steps and outcomes a checkpoint has before it: none exactly where none runs, and fewer with each step and with
+/// each outcome of a request that was out.
+pub fn left_law()
+    ensures { LeftLaws }
+{
+    plain_law();
 }

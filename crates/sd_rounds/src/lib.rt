@@ -10,6 +10,7 @@ mod image_order;
 mod image_progress;
 mod image_step;
 mod laws;
+mod left;
 mod new_image;
 mod next_image;
 mod progress;
@@ -22,16 +23,15 @@ mod work_error;
 
 pub use copied::Copied;
 pub use dumper::Dumper;
-pub use image_maker::ImageMaker;
-pub use image_order::ImageOrder;
-pub use image_progress::ImageProgress;
 pub use image_step::ImageStep;
-pub use laws::{dump_law, keeps_law, made_law, making_law, rises_law, step_law, visits_law};
+pub use laws::{
+    dump_law, file_law, image_visits_law, keeps_law, left_law, made_law, making_law, rises_law,
+    step_law, visits_law,
+};
 pub use new_image::NewImage;
 pub use next_image::NextImage;
 pub use progress::Progress;
 pub use round::Round;
-pub use stage::Stage;
 pub use standing::Standing;
 pub use visit::Visit;
 pub use work_error::WorkError;

@@ -1,22 +1,25 @@
 //! A pass over the pages of a memory, which makes the entries of an image.
-ghost use Rattle.std.specs.Prelude.{◌≡◌, ◌≢◌, ◌<◌, ◌≤◌, ◌^◌, true, false, None, Some, IsTrue, IsSome, ◌↔◌, IfOk, OnOk, OnErr, MatchOption, ◌==◌, ◌++◌};
+ghost use Rattle.std.specs.Prelude.{◌≡◌, ◌≢◌, ◌||◌, ◌*◌, ◌<◌, ◌≤◌, ◌^◌, true, false, None, Some, IsTrue, IsSome, IsErr, ◌↔◌, IfOk, OnOk, OnErr, MatchOption, ◌==◌, ◌++◌};
 ghost use Rattle.std.specs.List.{list_all};
 ghost use Rattle.sd_image.specs.declared.run.RunKind.TheVariants.{Parent};
-ghost use Rattle.sd_pagetable.specs.Contents.{page_at};
+ghost use Rattle.sd_pagetable.specs.Contents.{page_at, plain_of};
 ghost use Rattle.sd_pagetable.specs.Order.{is_above};
 ghost use Rattle.sd_pagetable.specs.Page.{Page};
+ghost use Rattle.sd_rounds.specs.Left.{pass_left};
 ghost use Rattle.sd_rounds.specs.Pass.{Taking, begun_to_take, copied_more, data_pages, dropped, left_to_parent, opened, place_taken, visited, with_entry};
 ghost use Rattle.sd_rounds.specs.Rises.{IsRising};
+ghost use Rattle.sd_rounds.specs.Room.{LeavesNext};
 ghost use Rattle.sd_rounds.specs.Rounds.{Copies, IsCopied, IsCopying, IsOver, Stands, TakesPage, Tests, is_page_of_zeros, source};
 ghost use Rattle.sd_rounds.specs.Tables.{AreTables, entries_in, listed};
 
 use crate::copied::Copied;
 use crate::entries::push_entry;
+use crate::left::{PAGE_AHEAD, WRITE, pages_ahead};
 use crate::standing::Standing;
 use crate::visit::Visit;
 use sd_areas::{PAGE_SIZE, PageNo, SpaceId};
 use sd_image::{RunKind, SpaceTable};
-use sd_pagetable::{Memory, SECTOR_SIZE};
+use sd_pagetable::{Memory, SECTOR_SIZE, SECTORS};
 use std::alloc::{AllocError, Global};
 use std::marker::Model;
 use std::mem;
@@ -105,17 +108,30 @@ impl Round {
         let _takes_all = self.takes_all;
     }
 
+    /// How many steps and outcomes the pass has before it, at most.
+    pub(crate) fn left(&self, memory: &Memory) -> u64
+        ensures left { result ≡ pass_left self.now (plain_of memory.now) }
+        ensures few { result ≤ 2 ^ 44 }
+    {
+        let ahead = PAGE_AHEAD * pages_ahead(memory, self.after);
+        match self.taking {
+            Some(_) => ahead + (SECTORS - self.buffer.len() / SECTOR_SIZE) as u64 + WRITE,
+            None => ahead,
+        }
+    }
+
     /// Tests and clears the next mapped page, and begins to take it or leaves it to the parent. None where there is no
     /// further page.
     ///
     /// # Errors
     ///
-    /// Out of memory where the page's entry finds no room: nothing changed.
+    /// Out of memory where the entry of a page that is left to the parent finds no room: nothing changed.
     pub fn visit(&mut self, memory: &mut Memory) -> Result<Option<Visit>, AllocError>
         requires free { self.old.taking ≡ None }
         ensures visit { IfOk result (λ found. MatchOption found
             (IsOver self.old memory.old self.new memory.new)
             (λ visit. Tests self.old memory.old visit self.new memory.new)) }
+        ensures wanted { IsErr result → LeavesNext self.old memory.old }
         ensures err { OnErr result (self.new ≡ self.old) }
         ensures err_memory { OnErr result (memory.new ≡ memory.old) }
     {
@@ -142,6 +158,8 @@ impl Round {
     pub fn copy_sector(&mut self, memory: &Memory) -> Result<Copied, AllocError>
         requires { IsCopying self.old }
         ensures copied { IfOk result (λ copied. Copies self.old memory.now copied self.new) }
+        ensures wanted { IsErr result → (taking : Taking) → self.old.taking ≡ Some taking
+            → IsSome (page_at memory.now taking.place.0 taking.place.1) }
         ensures err { OnErr result (self.new ≡ self.old) }
     {
         let Some((space, page)) = self.taking else {
@@ -234,6 +252,7 @@ impl Round {
         requires least { 1 ≤ space }
         requires greatest { space ≤ 16 }
         ensures entered { OnOk result (self.new ≡ visited self.old (space, page) soft_dirty) }
+        ensures wanted { IsErr result → (self.old.takes_all || soft_dirty) ≡ false }
         ensures err { OnErr result (self.new ≡ self.old) }
     {
         if self.takes_all || soft_dirty {

@@ -1,4 +1,5 @@
 pub mod Fields
 pub mod Lines
 pub mod Numerals
+pub mod Pairs
 pub mod Parsing

@@ -2,6 +2,7 @@
 #![tactic(auto)]
 
 mod answer;
+mod digits;
 mod line;
 mod line_error;
 mod line_fault;

@@ -3,6 +3,7 @@
 ghost use Rattle.std.specs.Prelude.{◌≡◌, ◌≤◌, map};
 ghost use Rattle.sd_script.specs.Line.{Gives, GivesBytes, asked_by, asked_by_word, at_least_one, checkpoint_of, exit_of, fault_of, fork_of, hex_of, load_of, mmap_of, mprotect_of, munmap_of, number_of, numeral_of, prot_of, store_of, try_of, words_of};
 
+use crate::digits::decode_into;
 use crate::line_error::LineError;
 use sd_areas::{Prot, SpaceId};
 use sd_command::{Bytes, Command};
@@ -248,8 +249,14 @@ pub(crate) fn hex_bytes(alloc: Global, text: &str) -> Result<Vec<u8>, LineError>
     if text.is_empty() {
         return Err(LineError::Unfit);
     }
-    hex::decode(alloc, text).map_err(|error| match error {
-        hex::FromHexError::OutOfMemory => LineError::OutOfMemory,
-        _ => LineError::Unfit,
-    })
+    let digits = text.as_bytes();
+    if digits.len() % 2 == 1 {
+        return Err(LineError::Unfit);
+    }
+    let mut bytes = vec![in alloc; 0; digits.len() / 2]?;
+    if decode_into(digits, &mut bytes) {
+        Ok(bytes)
+    } else {
+        Err(LineError::Unfit)
+    }
 }

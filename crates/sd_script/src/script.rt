@@ -1,12 +1,12 @@
 //! Scripts: what a user asks for, line by line.
 
 ghost use Rattle.std.specs.Prelude.{◌≡◌, map, OnOk, IfOk};
-ghost use Rattle.sd_script.specs.Script.{GivesMeaning, IfUnfit, first_unfit_line, meaning_of, requests_of};
+ghost use Rattle.sd_script.specs.Script.{GivesMeaning, IfUnfit, first_unfit_line, lines_of, meaning_of, requests_of};
 
 use crate::line::{self, Line};
 use crate::line_error::LineError;
 use crate::script_error::ScriptError;
-use std::alloc::Global;
+use std::alloc::{AllocError, Global};
 use std::str;
 
 /// The requests of a script, in order.
@@ -23,7 +23,7 @@ impl Script {
         ensures requests { IfOk result (λ s. s.lines.items ≡ requests_of script.now) }
         ensures unfit { IfUnfit result (λ n. first_unfit_line script.now ≡ Some n) }
     {
-        let texts: Vec<&[u8]> = script.split(|byte| *byte == b'\n').collect(alloc)?;
+        let texts = lines_of(alloc, script)?;
         let mut lines = Vec::new(alloc);
         for (index, text) in texts.iter().enumerate() {
             let asked = match request(alloc, text) {
@@ -37,6 +37,28 @@ impl Script {
         }
         Ok(Script { lines })
     }
+}
+
+/// The lines of a script. Their ends are found many bytes at a time where all of it is UTF-8.
+fn lines_of<'a>(alloc: Global, script: &'a [u8]) -> Result<Vec<&'a [u8]>, AllocError>
+    ensures { IfOk result (λ lines. map (λ line. line.now) lines.items ≡ lines_of script.now) }
+{
+    match str::from_utf8(script) {
+        Ok(text) => lines_of_text(alloc, text),
+        Err(_) => lines_of_bytes(alloc, script),
+    }
+}
+
+fn lines_of_text<'a>(alloc: Global, text: &'a str) -> Result<Vec<&'a [u8]>, AllocError>
+    ensures { IfOk result (λ lines. map (λ line. line.now) lines.items ≡ lines_of text.now) }
+{
+    text.split('\n').map(|line| line.as_bytes()).collect(alloc)
+}
+
+fn lines_of_bytes<'a>(alloc: Global, script: &'a [u8]) -> Result<Vec<&'a [u8]>, AllocError>
+    ensures { IfOk result (λ lines. map (λ line. line.now) lines.items ≡ lines_of script.now) }
+{
+    script.split(|byte| *byte == b'\n').collect(alloc)
 }
 
 /// What a line asks for, if anything.

@@ -1,7 +1,7 @@
 //! Calls on the areas of one space, and snapshots.
 ghost use Rattle.std.specs.Prelude.{◌≡◌, IfOk};
 
-use crate::support::{READ, READ_WRITE, page, snapshot_of};
+use crate::support::{READ, READ_WRITE, page, snapshot_of, told_of_areas};
 use sd_areas::{Area, AreaError, AreaMap, Errno, PAGE_SIZE, Prot, SnapshotPage, SpaceId, areas_in};
 use std::alloc::{AllocError, Global};
 use std::collections::BTreeMap;
@@ -61,7 +61,7 @@ fn copied(map: &AreaMap) -> Result<AreaMap, AllocError>
 }
 
 #[test]
-fn rounds_lengths_up_to_pages(rt: HostRuntime) {
+fn rounds_lengths_up_to_pages(rt: HostRuntime) -> Result<(), Fail> {
     for (bytes, count) in [
         (1, 1),
         (4095, 1),
@@ -72,22 +72,23 @@ fn rounds_lengths_up_to_pages(rt: HostRuntime) {
         (8193, 3),
     ] {
         let mut map = AreaMap::new(rt.alloc());
-        assert_eq!(rt; map.map(0x10000, bytes, READ), Ok(()));
+        map.map(0x10000, bytes, READ)?;
         assert!(rt; has_areas(&map, &[(16, count, READ)]), "mapped {bytes}");
-        assert_eq!(rt; map.map(0x10000, 0x4000, READ), Ok(()));
-        assert_eq!(rt; map.protect(0x10000, bytes, READ_WRITE), Ok(()));
+        map.map(0x10000, 0x4000, READ)?;
+        map.protect(0x10000, bytes, READ_WRITE)?;
         let parts = [(16, count, READ_WRITE), (16 + count, 4 - count, READ)];
         assert!(rt; has_areas(&map, &parts), "protected {bytes}");
-        assert_eq!(rt; map.unmap(0x10000, bytes), Ok(()));
+        map.unmap(0x10000, bytes)?;
         assert!(rt;
             has_areas(&map, &[(16 + count, 4 - count, READ)]),
             "unmapped {bytes}"
         );
     }
+    Ok(())
 }
 
 #[test]
-fn reaches_the_last_page(rt: HostRuntime) {
+fn reaches_the_last_page(rt: HostRuntime) -> Result<(), Fail> {
     for (address, bytes, first, count) in [
         (0, 1, 0, 1),
         (LAST_PAGE, 1, 0x7_FFFF_FFFF, 1),
@@ -98,26 +99,33 @@ fn reaches_the_last_page(rt: HostRuntime) {
         (0, END, 0, 0x8_0000_0000),
     ] {
         let mut map = AreaMap::new(rt.alloc());
-        assert_eq!(rt; map.map(address, bytes, READ), Ok(()));
+        map.map(address, bytes, READ)?;
         assert!(rt;
             has_areas(&map, &[(first, count, READ)]),
             "mapped {address} {bytes}"
         );
-        assert_eq!(rt; map.protect(address, bytes, READ_WRITE), Ok(()));
+        map.protect(address, bytes, READ_WRITE)?;
         assert!(rt;
             has_areas(&map, &[(first, count, READ_WRITE)]),
             "protected {address} {bytes}"
         );
-        assert_eq!(rt; map.unmap(address, bytes), Ok(()));
+        map.unmap(address, bytes)?;
         assert_eq!(rt; map.areas().len(), 0, "unmapped {address} {bytes}");
     }
+    Ok(())
 }
 
 /// Makes a call that leaves the two areas of `returns_each` as they are.
-fn keeps(rt: &impl Abort, map: &mut AreaMap, call: Call, wanted: Result<(), AreaError>) {
-    assert_eq!(rt; made(map, call), wanted, "{call:?}");
+fn keeps(
+    rt: &impl Abort,
+    map: &mut AreaMap,
+    call: Call,
+    wanted: Result<(), AreaError>,
+) -> Result<(), AllocError> {
+    assert_eq!(rt; told_of_areas(made(map, call))?, wanted, "{call:?}");
     let kept = [(16, 1, READ), (0x7_FFFF_FFFF, 1, READ)];
     assert!(rt; has_areas(map, &kept), "after {call:?}");
+    Ok(())
 }
 
 /// Makes each call on two areas over each of these ranges: each returns so, and the areas stay.
@@ -128,29 +136,30 @@ fn returns_each(
     mapped: Result<(), AreaError>,
     unmapped: Result<(), AreaError>,
     protected: Result<(), AreaError>,
-) {
+) -> Result<(), Fail> {
     let mut map = AreaMap::new(alloc);
-    assert_eq!(rt; map.map(0x10000, 4096, READ), Ok(()));
-    assert_eq!(rt; map.map(LAST_PAGE, 4096, READ), Ok(()));
+    map.map(0x10000, 4096, READ)?;
+    map.map(LAST_PAGE, 4096, READ)?;
     for (address, bytes) in ranges {
         keeps(
             rt,
             &mut map,
             Call::Map(*address, *bytes, READ_WRITE),
             mapped,
-        );
-        keeps(rt, &mut map, Call::Unmap(*address, *bytes), unmapped);
+        )?;
+        keeps(rt, &mut map, Call::Unmap(*address, *bytes), unmapped)?;
         keeps(
             rt,
             &mut map,
             Call::Protect(*address, *bytes, READ_WRITE),
             protected,
-        );
+        )?;
     }
+    Ok(())
 }
 
 #[test]
-fn refuses_length_zero_but_to_protect(rt: HostRuntime) {
+fn refuses_length_zero_but_to_protect(rt: HostRuntime) -> Result<(), Fail> {
     let ranges = [
         (0x10000, 0),
         (0x20000, 0),
@@ -158,11 +167,11 @@ fn refuses_length_zero_but_to_protect(rt: HostRuntime) {
         (END, 0),
         (LAST_MULTIPLE, 0),
     ];
-    returns_each(&rt, rt.alloc(), &ranges, Err(EINVAL), Err(EINVAL), Ok(()));
+    returns_each(&rt, rt.alloc(), &ranges, Err(EINVAL), Err(EINVAL), Ok(()))
 }
 
 #[test]
-fn refuses_addresses_between_pages(rt: HostRuntime) {
+fn refuses_addresses_between_pages(rt: HostRuntime) -> Result<(), Fail> {
     let ranges = [
         (0x10001, 0),
         (0x10001, 4096),
@@ -181,11 +190,11 @@ fn refuses_addresses_between_pages(rt: HostRuntime) {
         Err(EINVAL),
         Err(EINVAL),
         Err(EINVAL),
-    );
+    )
 }
 
 #[test]
-fn refuses_pages_past_the_last(rt: HostRuntime) {
+fn refuses_pages_past_the_last(rt: HostRuntime) -> Result<(), Fail> {
     let ranges = [
         (LAST_PAGE, 4097),
         (LAST_PAGE, 8192),
@@ -208,7 +217,7 @@ fn refuses_pages_past_the_last(rt: HostRuntime) {
         Err(ENOMEM),
         Err(EINVAL),
         Err(ENOMEM),
-    );
+    )
 }
 
 /// Makes calls in turn, each with the areas after it.
@@ -302,10 +311,10 @@ fn maps_six_areas(rt: HostRuntime) {
 }
 
 #[test]
-fn protects_no_hole(rt: HostRuntime) {
+fn protects_no_hole(rt: HostRuntime) -> Result<(), Fail> {
     let mut map = AreaMap::new(rt.alloc());
-    assert_eq!(rt; map.map(0x10000, 0x2000, READ), Ok(()));
-    assert_eq!(rt; map.map(0x13000, 0x2000, READ), Ok(()));
+    map.map(0x10000, 0x2000, READ)?;
+    map.map(0x13000, 0x2000, READ)?;
     for (address, bytes) in [
         (0x10000, 0x2001),
         (0x10000, 0x5000),
@@ -318,7 +327,7 @@ fn protects_no_hole(rt: HostRuntime) {
         (0, END),
     ] {
         assert_eq!(rt;
-            map.protect(address, bytes, READ_WRITE),
+            told_of_areas(map.protect(address, bytes, READ_WRITE))?,
             Err(ENOMEM),
             "{address} {bytes}"
         );
@@ -340,22 +349,23 @@ fn protects_no_hole(rt: HostRuntime) {
     ] {
         assert_eq!(rt; map.prot_of(page(&rt, number)), prot, "{number}");
     }
+    Ok(())
 }
 
 /// A space of 1,024 areas: three pages each, with one page between them.
-fn full_space(rt: &impl Abort, alloc: Global) -> AreaMap {
+fn full_space(rt: &impl Abort, alloc: Global) -> Result<AreaMap, AreaError> {
     let mut full = AreaMap::new(alloc);
     for number in 0u64..1024 {
-        assert_eq!(rt; full.map(number * 0x4000, 0x3000, READ), Ok(()));
+        full.map(number * 0x4000, 0x3000, READ)?;
     }
     assert_eq!(rt; full.areas().len(), 1024);
-    full
+    Ok(full)
 }
 
 /// Each call is made on 1,024 areas.
 #[test]
 fn holds_1024_areas(rt: HostRuntime) -> Result<(), Fail> {
-    let full = full_space(&rt, rt.alloc());
+    let full = full_space(&rt, rt.alloc())?;
     for (call, wanted, count) in [
         (Call::Map(0x3000, 0x1000, READ_WRITE), Err(ENOMEM), 1024),
         (Call::Map(0x100_0000, 0x1000, READ), Err(ENOMEM), 1024),
@@ -374,7 +384,7 @@ fn holds_1024_areas(rt: HostRuntime) -> Result<(), Fail> {
         (Call::Protect(0x4000, 0x3000, READ_WRITE), Ok(()), 1024),
     ] {
         let mut map = copied(&full)?;
-        assert_eq!(rt; made(&mut map, call), wanted, "{call:?}");
+        assert_eq!(rt; told_of_areas(made(&mut map, call))?, wanted, "{call:?}");
         assert_eq!(rt; map.areas().len(), count, "{call:?}");
         if wanted.is_err() {
             assert!(rt; map.areas() == full.areas(), "unchanged by {call:?}");
@@ -385,8 +395,8 @@ fn holds_1024_areas(rt: HostRuntime) -> Result<(), Fail> {
 
 /// The calls are made in turn, from 1,024 areas on.
 #[test]
-fn frees_an_area(rt: HostRuntime) {
-    let mut map = full_space(&rt, rt.alloc());
+fn frees_an_area(rt: HostRuntime) -> Result<(), Fail> {
+    let mut map = full_space(&rt, rt.alloc())?;
     for (call, wanted, count) in [
         (Call::Unmap(0, 0x3000), Ok(()), 1023),
         (Call::Protect(0x5000, 1, READ_WRITE), Err(ENOMEM), 1023),
@@ -394,9 +404,10 @@ fn frees_an_area(rt: HostRuntime) {
         (Call::Unmap(0x5000, 1), Ok(()), 1024),
         (Call::Unmap(0x9000, 1), Err(ENOMEM), 1024),
     ] {
-        assert_eq!(rt; made(&mut map, call), wanted, "{call:?}");
+        assert_eq!(rt; told_of_areas(made(&mut map, call))?, wanted, "{call:?}");
         assert_eq!(rt; map.areas().len(), count, "{call:?}");
     }
+    Ok(())
 }
 
 #[test]
@@ -426,7 +437,8 @@ fn begins_with_pages(rt: HostRuntime) -> Result<(), Fail> {
         let bytes = Box::new(rt.alloc(), [0; PAGE_SIZE])?;
         pages.insert(page(&rt, 2 * number), SnapshotPage { prot: READ, bytes })?;
     }
-    assert_eq!(rt; AreaMap::from_pages(rt.alloc(), &pages).err(), Some(ENOMEM));
+    let refused = told_of_areas(AreaMap::from_pages(rt.alloc(), &pages).map(|_| ()))?;
+    assert_eq!(rt; refused, Err(ENOMEM));
     let bytes = Box::new(rt.alloc(), [0; PAGE_SIZE])?;
     pages.insert(page(&rt, 7), SnapshotPage { prot: READ, bytes })?;
     let map = AreaMap::from_pages(rt.alloc(), &pages)?;

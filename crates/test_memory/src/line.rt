@@ -1,8 +1,9 @@
 //! Scripts of calls on a memory, each with what it returns.
+use crate::support::told;
 use sd_areas::{PageNo, Prot, SpaceId};
 use sd_pagetable::{AccessError, Memory, MemoryError, MemoryRefusal, Segv, StoreOutcome};
 use sd_procfs::clear_refs;
-use std::alloc::Global;
+use std::alloc::{AllocError, Global};
 use std::test::Fail;
 
 /// A line of a script, with what it returns. First comes the number of the space, and then the
@@ -49,14 +50,23 @@ fn refused<T>(refusal: MemoryRefusal) -> Result<T, MemoryError> {
 }
 
 /// Whether a store is done, with a fault exactly where one is wanted.
-fn stores(memory: &mut Memory, space: SpaceId, address: u64, bytes: &[u8], faults: bool) -> bool {
+fn stores(
+    memory: &mut Memory,
+    space: SpaceId,
+    address: u64,
+    bytes: &[u8],
+    faults: bool,
+) -> Result<bool, AllocError> {
     let tried = memory.try_store(space, address, bytes);
     if !faults {
-        return tried == Ok(StoreOutcome::Done);
+        return Ok(tried == Ok(StoreOutcome::Done));
     }
-    tried == Ok(StoreOutcome::NeedsFault)
-        && memory.fault(space, address) == Ok(())
-        && memory.try_store(space, address, bytes) == Ok(StoreOutcome::Done)
+    if tried != Ok(StoreOutcome::NeedsFault) {
+        return Ok(false);
+    }
+    let faulted = told(memory.fault(space, address))?;
+    let stored = memory.try_store(space, address, bytes);
+    Ok(faulted == Ok(()) && stored == Ok(StoreOutcome::Done))
 }
 
 /// Whether a load gives these bytes.
@@ -81,58 +91,60 @@ fn shows(memory: &Memory, space: SpaceId, address: u64, words: &[u64]) -> bool {
 }
 
 /// Whether a call over a range, a fork or an exit returns what its line says. None of another line.
-fn range_returns(memory: &mut Memory, line: Line) -> Option<bool> {
-    Some(match line {
+fn range_returns(memory: &mut Memory, line: Line) -> Result<Option<bool>, AllocError> {
+    Ok(Some(match line {
         Line::Mmap(space, address, bytes, prot) => {
-            memory.mmap(SpaceId::new(space), address, bytes, prot) == Ok(())
+            told(memory.mmap(SpaceId::new(space), address, bytes, prot))? == Ok(())
         }
         Line::MmapRefused(space, address, bytes, prot, refusal) => {
-            memory.mmap(SpaceId::new(space), address, bytes, prot) == refused(refusal)
+            told(memory.mmap(SpaceId::new(space), address, bytes, prot))? == refused(refusal)
         }
         Line::Munmap(space, address, bytes) => {
-            memory.munmap(SpaceId::new(space), address, bytes) == Ok(())
+            told(memory.munmap(SpaceId::new(space), address, bytes))? == Ok(())
         }
         Line::MunmapRefused(space, address, bytes, refusal) => {
-            memory.munmap(SpaceId::new(space), address, bytes) == refused(refusal)
+            told(memory.munmap(SpaceId::new(space), address, bytes))? == refused(refusal)
         }
         Line::Mprotect(space, address, bytes, prot) => {
-            memory.mprotect(SpaceId::new(space), address, bytes, prot) == Ok(())
+            told(memory.mprotect(SpaceId::new(space), address, bytes, prot))? == Ok(())
         }
         Line::MprotectRefused(space, address, bytes, prot, refusal) => {
-            memory.mprotect(SpaceId::new(space), address, bytes, prot) == refused(refusal)
+            told(memory.mprotect(SpaceId::new(space), address, bytes, prot))? == refused(refusal)
         }
-        Line::Fork(space, child) => memory.fork(SpaceId::new(space)) == Ok(SpaceId::new(child)),
-        Line::ForkRefused(space, refusal) => memory.fork(SpaceId::new(space)) == refused(refusal),
+        Line::Fork(space, child) => told(memory.fork(SpaceId::new(space)))?
+            == Ok(SpaceId::new(child)),
+        Line::ForkRefused(space, refusal) => told(memory.fork(SpaceId::new(space)))?
+            == refused(refusal),
         Line::Exit(space) => memory.exit(SpaceId::new(space)) == Ok(()),
         Line::ExitRefused(space, refusal) => {
             memory.exit(SpaceId::new(space)) == Err(AccessError::Refused(refusal))
         }
         Line::Clear(space) => clear_refs(memory, SpaceId::new(space), b"4") == Ok(()),
-        _ => return None,
-    })
+        _ => return Ok(None),
+    }))
 }
 
 /// Whether a call on one page returns what its line says. Any other line doesn't.
-fn page_returns(memory: &mut Memory, line: Line) -> bool {
-    match line {
+fn page_returns(memory: &mut Memory, line: Line) -> Result<bool, AllocError> {
+    Ok(match line {
         Line::Store(space, address, bytes, faults) => {
-            stores(memory, SpaceId::new(space), address, bytes, faults)
+            stores(memory, SpaceId::new(space), address, bytes, faults)?
         }
         Line::StoreStopped(space, address, bytes, segv) => {
             memory.try_store(SpaceId::new(space), address, bytes) == Err(AccessError::Segv(segv))
         }
         Line::StoreNow(space, address, bytes) => {
-            memory.store_now(SpaceId::new(space), address, bytes) == Ok(())
+            told(memory.store_now(SpaceId::new(space), address, bytes))? == Ok(())
         }
         Line::StoreNowRefused(space, address, bytes, refusal) => {
-            memory.store_now(SpaceId::new(space), address, bytes) == refused(refusal)
+            told(memory.store_now(SpaceId::new(space), address, bytes))? == refused(refusal)
         }
-        Line::Fault(space, address) => memory.fault(SpaceId::new(space), address) == Ok(()),
+        Line::Fault(space, address) => told(memory.fault(SpaceId::new(space), address))? == Ok(()),
         Line::FaultRefused(space, address, refusal) => {
-            memory.fault(SpaceId::new(space), address) == refused(refusal)
+            told(memory.fault(SpaceId::new(space), address))? == refused(refusal)
         }
         Line::FaultStopped(space, address, segv) => {
-            memory.fault(SpaceId::new(space), address)
+            told(memory.fault(SpaceId::new(space), address))?
                 == Err(MemoryError::Denied(AccessError::Segv(segv)))
         }
         Line::Load(space, address, bytes) => loads(memory, SpaceId::new(space), address, bytes),
@@ -154,7 +166,7 @@ fn page_returns(memory: &mut Memory, line: Line) -> bool {
         ),
         Line::Words(space, address, words) => shows(memory, SpaceId::new(space), address, words),
         _ => false,
-    }
+    })
 }
 
 /// The first line of a script that returns something else from a memory over so many frames.
@@ -165,9 +177,9 @@ pub(crate) fn first_difference(
 ) -> Result<Option<usize>, Fail> {
     let mut memory = Memory::new(alloc, frames.clamp(1, 65_536))?;
     for (index, line) in script.iter().enumerate() {
-        let returns = match range_returns(&mut memory, *line) {
+        let returns = match range_returns(&mut memory, *line)? {
             Some(returns) => returns,
-            None => page_returns(&mut memory, *line),
+            None => page_returns(&mut memory, *line)?,
         };
         if !returns {
             return Ok(Some(index));

@@ -1,5 +1,7 @@
 //! Memories that begin with a snapshot.
-use crate::support::{DIRTY_ALONE, ENOMEM, FRESH, NO_FRAME, READ, READ_WRITE, page, snapshot_of};
+use crate::support::{
+    DIRTY_ALONE, ENOMEM, FRESH, NO_FRAME, READ, READ_WRITE, page, snapshot_of, told,
+};
 use sd_areas::SpaceId;
 use sd_pagetable::{Memory, StoreOutcome};
 use std::test::Fail;
@@ -29,9 +31,9 @@ fn begins_with_a_snapshot(rt: HostRuntime) -> Result<(), Fail> {
         memory.try_store(one, 0x10000, &[1]),
         Ok(StoreOutcome::NeedsFault)
     );
-    assert_eq!(rt; memory.store_now(one, 0x10001, &[1]), Ok(()));
-    assert_eq!(rt; memory.store_now(one, 0x11000, &[1]), Err(NO_FRAME));
-    assert_eq!(rt; memory.fork(one), Ok(SpaceId::new(2)));
+    memory.store_now(one, 0x10001, &[1])?;
+    assert_eq!(rt; told(memory.store_now(one, 0x11000, &[1]))?, Err(NO_FRAME));
+    assert_eq!(rt; memory.fork(one)?, SpaceId::new(2));
     let base = Memory::from_snapshot(rt.alloc(), 2, &snapshot)?;
     let mut bytes = [9; 2];
     assert_eq!(rt; base.load(one, 0x10000, &mut bytes), Ok(()));

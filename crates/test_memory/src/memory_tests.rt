@@ -1,7 +1,7 @@
 //! Rows of calls on a memory, and calls whose results no row can hold.
 use crate::line::{Line, first_difference};
 use crate::support::{
-    CLEAN_ALONE, CLEAN_SHARED, DIRTY_ALONE, DIRTY_SHARED, FRESH, READ, READ_WRITE, page,
+    CLEAN_ALONE, CLEAN_SHARED, DIRTY_ALONE, DIRTY_SHARED, FRESH, READ, READ_WRITE, page, told,
 };
 use sd_areas::SpaceId;
 use sd_pagetable::{AccessError, Memory, MemoryError, MemoryRefusal, Segv, StoreOutcome};
@@ -122,7 +122,7 @@ fn exact_bits(rt: HostRuntime) -> Result<(), Fail> {
     assert_eq!(rt; memory.word(space, page), FRESH);
     let needs_fault = Ok(StoreOutcome::NeedsFault);
     assert_eq!(rt; memory.try_store(space, 0x10000, &[0x61]), needs_fault);
-    assert_eq!(rt; memory.store_now(space, 0x10000, &[0x61]), Ok(()));
+    memory.store_now(space, 0x10000, &[0x61])?;
     assert_eq!(rt; memory.word(space, page), DIRTY_ALONE);
     assert_eq!(rt; memory.test_and_clear(space, page), Some(true));
     assert_eq!(rt; memory.word(space, page), CLEAN_ALONE);
@@ -141,10 +141,13 @@ fn sixteen_spaces(rt: HostRuntime) -> Result<(), Fail> {
     let mut memory = Memory::new(rt.alloc(), 16)?;
     let first = SpaceId::new(1);
     for number in 2..=16 {
-        assert_eq!(rt; memory.fork(first), Ok(SpaceId::new(number)));
+        assert_eq!(rt; memory.fork(first)?, SpaceId::new(number));
     }
     let refused = AccessError::Refused(MemoryRefusal::TooManySpaces);
-    assert_eq!(rt; memory.fork(first), Err(MemoryError::Denied(refused)));
+    assert_eq!(rt;
+        told(memory.fork(first))?,
+        Err(MemoryError::Denied(refused))
+    );
     Ok(())
 }
 
@@ -156,11 +159,11 @@ fn many_stores(rt: HostRuntime) -> Result<(), Fail> {
     memory.mmap(space, 0, 2_000 * 4096, READ_WRITE)?;
     for turn in 0..20_000u64 {
         let address = turn % 1000 * 4096;
-        assert_eq!(rt; memory.store_now(space, address, &[1, 2, 3, 4]), Ok(()));
+        memory.store_now(space, address, &[1, 2, 3, 4])?;
     }
     let child = memory.fork(space)?;
     for page in 0..2_000u64 {
-        assert_eq!(rt; memory.store_now(child, page * 4096, &[2]), Ok(()));
+        memory.store_now(child, page * 4096, &[2])?;
     }
     Ok(())
 }

@@ -1,5 +1,5 @@
 //! What several tests use: permissions, words, errors and a page of bytes.
-use sd_areas::{PAGE_SIZE, PageNo, Prot, Snapshot, SnapshotPage, SpaceId};
+use sd_areas::{AreaError, PAGE_SIZE, PageNo, Prot, Snapshot, SnapshotPage, SpaceId};
 use sd_pagetable::{AccessError, MemoryError, MemoryRefusal};
 use std::alloc::{AllocError, Global};
 use std::process::Abort;
@@ -53,6 +53,27 @@ pub(crate) const ENOMEM: MemoryError = MemoryError::Denied(AccessError::Refused(
 pub(crate) const NO_FRAME: MemoryError = MemoryError::Denied(AccessError::Refused(
     MemoryRefusal::NoFrame,
 ));
+
+/// What a call on a memory returned. Want of memory alone is an error: it ends a test that is refused memory.
+pub(crate) fn told<T: Drop>(
+    returned: Result<T, MemoryError>,
+) -> Result<Result<T, MemoryError>, AllocError> {
+    match returned {
+        Ok(value) => Ok(Ok(value)),
+        Err(MemoryError::OutOfMemory) => Err(AllocError),
+        Err(error) => Ok(Err(error)),
+    }
+}
+
+/// The same of a call on areas.
+pub(crate) fn told_of_areas(
+    returned: Result<(), AreaError>,
+) -> Result<Result<(), AreaError>, AllocError> {
+    match returned {
+        Err(AreaError::OutOfMemory) => Err(AllocError),
+        Ok(()) | Err(AreaError::Refused(_)) => Ok(returned),
+    }
+}
 
 pub(crate) fn page(rt: &impl Abort, number: u64) -> PageNo {
     PageNo::new(number).expect(rt, "a page number")

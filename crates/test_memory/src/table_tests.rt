@@ -1,7 +1,7 @@
 //! Pages in several tables of a page table, and a plain map beside it.
-use crate::support::{DIRTY_ALONE, FRESH, READ_WRITE, page};
+use crate::support::{DIRTY_ALONE, FRESH, READ_WRITE, page, told};
 use sd_areas::{PAGE_BYTES, PageNo, SpaceId};
-use sd_pagetable::{Memory, MemoryError};
+use sd_pagetable::{AccessError, Memory, MemoryError, Segv};
 use std::alloc::AllocError;
 use std::collections::BTreeMap;
 use std::process::Abort;
@@ -9,6 +9,9 @@ use std::test::Fail;
 
 /// The first and the last page of tables of each level, in rising order.
 const BORDERS: [u64; 6] = [0, 511, 512, 1 << 18, 1 << 27, (1 << 35) - 1];
+
+/// What a store to a page returns that isn't mapped.
+const UNMAPPED: MemoryError = MemoryError::Denied(AccessError::Segv(Segv::Maperr));
 
 fn only_space() -> SpaceId {
     SpaceId::new(1)
@@ -33,17 +36,14 @@ fn next_after(rt: &impl Abort, memory: &Memory, number: u64) -> Option<u64> {
 fn pages_at_the_borders_of_tables(rt: HostRuntime) -> Result<(), Fail> {
     let mut memory = Memory::new(rt.alloc(), 64)?;
     for number in BORDERS.iter().rev() {
-        assert_eq!(rt; map(&mut memory, *number), Ok(()));
+        map(&mut memory, *number)?;
     }
     assert_eq!(rt; memory.next_page(None), Some((only_space(), page(&rt, 0))));
     for (number, next) in BORDERS.iter().zip(&BORDERS[1..]) {
         assert_eq!(rt; next_after(&rt, &memory, *number), Some(*next));
     }
     assert_eq!(rt; next_after(&rt, &memory, (1 << 35) - 1), None);
-    assert_eq!(rt;
-        memory.munmap(only_space(), 512 * PAGE_BYTES, PAGE_BYTES),
-        Ok(())
-    );
+    memory.munmap(only_space(), 512 * PAGE_BYTES, PAGE_BYTES)?;
     assert_eq!(rt; next_after(&rt, &memory, 511), Some(1 << 18));
     Ok(())
 }
@@ -90,8 +90,11 @@ fn made(memory: &mut Memory, call: Call) -> Result<(), MemoryError> {
     }
 }
 
-/// The words of a space's pages after a call, in a plain map.
-fn made_plain(words: &mut BTreeMap<u64, u64>, call: Call) -> Result<(), AllocError> {
+/// Makes a call on a plain map of the words of a space's pages, and returns what a memory returns.
+fn made_plain(
+    words: &mut BTreeMap<u64, u64>,
+    call: Call,
+) -> Result<Result<(), MemoryError>, AllocError> {
     match call {
         Call::Map(page) => {
             words.insert(page, FRESH)?;
@@ -101,9 +104,10 @@ fn made_plain(words: &mut BTreeMap<u64, u64>, call: Call) -> Result<(), AllocErr
             words.remove(&page.saturating_add(1));
         }
         Call::Store(page) => {
-            if let Some(word) = words.get_mut(&page) {
-                *word = DIRTY_ALONE;
-            }
+            let Some(word) = words.get_mut(&page) else {
+                return Ok(Err(UNMAPPED));
+            };
+            *word = DIRTY_ALONE;
         }
         Call::Clear(page) => {
             if let Some(word) = words.get_mut(&page) {
@@ -111,7 +115,7 @@ fn made_plain(words: &mut BTreeMap<u64, u64>, call: Call) -> Result<(), AllocErr
             }
         }
     }
-    Ok(())
+    Ok(Ok(()))
 }
 
 fn place_of(number: Option<u64>) -> Option<(SpaceId, PageNo)> {
@@ -146,8 +150,8 @@ fn calls_by_chance(rt: HostRuntime) -> Result<(), Fail> {
     let mut seed = 1;
     for _ in 0..400 {
         let call = by_chance(&mut seed);
-        let _ = made(&mut memory, call);
-        made_plain(&mut words, call)?;
+        let returned = told(made(&mut memory, call))?;
+        assert_eq!(rt; returned, made_plain(&mut words, call)?, "{call:?}");
         assert!(rt; is_plain(&memory, &words), "after {call:?}");
     }
     Ok(())

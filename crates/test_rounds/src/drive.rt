@@ -1,5 +1,5 @@
 //! A dumper that is driven by hand over a memory and a disk.
-use sd_areas::{PageNo, Prot, SpaceId};
+use sd_areas::{PageNo, Prot, Snapshot, SpaceId};
 use sd_disk::{Disk, MemDisk};
 use sd_gate::{Request, SlotState, perform};
 use sd_image::Header;
@@ -21,11 +21,11 @@ pub(crate) const PROT: Prot = Prot {
     execute: false,
 };
 
-const SLOTS: usize = 16;
+const SLOTS: usize = 12;
 
 const SLOT_SIZE: usize = 0x8000;
 
-const CALLS: usize = 1000;
+const CALLS: usize = 1_000_000;
 
 /// More steps than any of the checkpoints has.
 const MOST: usize = 1000;
@@ -69,14 +69,15 @@ impl Drive {
         rounds: Vec<usize>,
         dump: usize,
         parent: u64,
-    ) -> bool {
+    ) -> Result<(), Fail> {
         self.events = 0;
         self.frozen = 0;
-        self.dumper.begin(number, rounds, dump, parent).is_ok()
+        self.dumper.begin(number, rounds, dump, parent)?;
+        Ok(())
     }
 
     /// Makes one step, with its device call. Returns whether the dump is open then.
-    fn step(&mut self) -> Result<bool, Fail> {
+    pub(crate) fn step(&mut self) -> Result<bool, Fail> {
         if self.dumper.next_slot().is_some() {
             self.serials = self.serials.wrapping_add(1);
         }
@@ -87,9 +88,7 @@ impl Drive {
         };
         let step = self
             .dumper
-            .work(&mut self.memory, image, self.events as u64)
-            .ok()
-            .ok_or("a step")?;
+            .work(&mut self.memory, image, self.events as u64)?;
         match step {
             ImageStep::Call(request)
             | ImageStep::PageCall(request)
@@ -151,10 +150,20 @@ impl Drive {
         self.dumper.since_freeze()
     }
 
+    /// The number of the image that was begun last.
+    pub(crate) fn serials(&self) -> u64 {
+        self.serials
+    }
+
+    /// The memory that the disk is restored to.
+    pub(crate) fn restore(&mut self, alloc: Global) -> Result<Snapshot, Fail> {
+        Ok(restore(alloc, &mut self.disk)?)
+    }
+
     /// The checkpoint that the disk is restored to, and the first bytes of two sectors of its page, if it has one.
     pub(crate) fn restored(&mut self, alloc: Global) -> Result<(u64, Option<(u8, u8)>), Fail> {
         let page = PageNo::new(FIRST / PAGE).ok_or("a page")?;
-        let snapshot = restore(alloc, &mut self.disk).ok().ok_or("a checkpoint")?;
+        let snapshot = self.restore(alloc)?;
         let own = snapshot.spaces.get(&SpaceId::new(SPACE)).ok_or("a space")?;
         let bytes = own
             .get(&page)

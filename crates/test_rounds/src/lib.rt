@@ -2,7 +2,15 @@
 #![tactic(auto)]
 
 #[cfg(test)]
+mod by_chance;
+#[cfg(test)]
+mod calls;
+#[cfg(test)]
+mod chance;
+#[cfg(test)]
 mod drive;
+#[cfg(test)]
+mod moment;
 #[cfg(test)]
 mod passes;
 #[cfg(test)]

@@ -20,8 +20,7 @@ fn listed(header: Option<Header>) -> Option<(Kind, u64, u64, u64, u64)> {
 /// Stores a byte to the page, and begins a checkpoint of one round.
 fn begin_round(alloc: Global, drive: &mut Drive) -> Result<(), Fail> {
     drive.memory.store_now(SpaceId::new(SPACE), FIRST, &[0x61])?;
-    drive.begin(1, vec![in alloc; 0]?, 1, 0);
-    Ok(())
+    drive.begin(1, vec![in alloc; 0]?, 1, 0)
 }
 
 /// Stores between two sectors of the pre-dump's copy, and returns whether the page was writable before and after its
@@ -52,7 +51,7 @@ fn torn_copy(rt: HostRuntime) -> Result<(), Fail> {
 fn race(alloc: Global, drive: &mut Drive) -> Result<(bool, bool), Fail> {
     drive.memory.fault(SpaceId::new(SPACE), FIRST)?;
     let before = drive.store(FIRST, 0x61)?;
-    drive.begin(1, vec![in alloc; 0]?, 1, 0);
+    drive.begin(1, vec![in alloc; 0]?, 1, 0)?;
     drive.up_to(10)?;
     Ok((before, drive.store(FIRST, 0x62)?))
 }
@@ -69,11 +68,11 @@ fn lost_race(rt: HostRuntime) -> Result<(), Fail> {
 /// Makes a checkpoint, maps the region anew, and makes another.
 fn renew(alloc: Global, drive: &mut Drive) -> Result<(), Fail> {
     drive.memory.store_now(SpaceId::new(SPACE), FIRST, &[0x61])?;
-    drive.begin(1, Vec::new(alloc), 0, 0);
+    drive.begin(1, Vec::new(alloc), 0, 0)?;
     drive.finish()?;
     drive.memory.munmap(SpaceId::new(SPACE), FIRST, PAGE)?;
     drive.memory.mmap(SpaceId::new(SPACE), FIRST, PAGE, PROT)?;
-    drive.begin(2, Vec::new(alloc), 1, 1);
+    drive.begin(2, Vec::new(alloc), 1, 1)?;
     drive.finish()
 }
 
@@ -111,7 +110,7 @@ fn vanished_page(rt: HostRuntime) -> Result<(), Fail> {
 /// Makes a checkpoint of no rounds over one page of data.
 fn dump(alloc: Global, drive: &mut Drive) -> Result<(), Fail> {
     drive.memory.store_now(SpaceId::new(SPACE), FIRST, &[0x61])?;
-    drive.begin(1, Vec::new(alloc), 0, 0);
+    drive.begin(1, Vec::new(alloc), 0, 0)?;
     drive.finish()
 }
 

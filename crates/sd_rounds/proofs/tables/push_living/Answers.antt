@@ -1,10 +1,10 @@
-use Rattle.std.proofs.Common.{◌≡◌, ◌≤◌, ◌+◌, List, map, length, is_some, sym, ◌∙◌, ap, subst, rules}
+use Rattle.std.proofs.Common.{◌≡◌, ◌≤◌, ◌+◌, List, length, is_some, sym, ◌∙◌, ap, subst, rules}
 use Rattle.std.proofs.lemmas.List.{map-append}
 use Rattle.sd_areas.specs.declared.area.Area.{Area}
 use Rattle.sd_areas.specs.Areas.{AreAreasOf}
 use Rattle.sd_image.specs.Table.{Listed, listing_of, mapped_count}
 use Rattle.sd_pagetable.specs.Contents.{plain_of}
-use Rattle.sd_rounds.specs.SpaceTables.{AreSpacesBelow, IsSpaceOf, runs_in}
+use Rattle.sd_rounds.specs.SpaceTables.{AreSpacesBelow, IsSpaceOf}
 use Rattle.sd_rounds.specs.Tables.{listed}
 use Rattle.sd_rounds.proofs.SpaceTableLemmas.{HasOwnTable, has_table, no_table, same_prot, nothing_more, one_table_more, count_of_none, count_of_table}
 use Rattle.sd_rounds.proofs.tables.push_living.Goals as goal

@@ -11,5 +11,5 @@ returns-clause-believes c files found shows =
     let number = c.args.start.number in
     let base = memory_of c.args.start.base in
     c.found_law.ensures _ nobody files (shown_base number base) found refl none_of shows
-      (subst (λ items. IsLastPair (record { number = number; memory = base }) (entries_of items) (shown_base number base))
-        (sym c.new.ensures.items) (base_is_last number base))
+    (subst (λ items. IsLastPair (record { number = number; memory = base }) (entries_of items) (shown_base number base))
+    (sym c.new.ensures.items) (base_is_last number base))

@@ -1,4 +1,4 @@
-use Rattle.std.proofs.Common.{◌≡◌, Option, Some, sym, ◌∙◌, ap, subst}
+use Rattle.std.proofs.Common.{Option, sym, ◌∙◌, ap}
 use Rattle.std.specs.Option.{option_map}
 use Rattle.sd_rounds.specs.declared.checkpoint.Checkpoint.{Checkpoint}
 use Rattle.sd_rounds.specs.Dumper.{Dumping, ends, running_of}

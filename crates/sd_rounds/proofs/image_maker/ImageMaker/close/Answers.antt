@@ -6,7 +6,7 @@ use Rattle.sd_gate.specs.Plans.{Gives, Planned, begun}
 use Rattle.sd_gate.specs.Sequences.{IsBody, body_calls}
 use Rattle.sd_rounds.specs.declared.stage.Stage.TheVariants.{Close}
 use Rattle.sd_rounds.specs.Making.{HasTable, IsUnderWay, Making, header_of}
-use Rattle.sd_rounds.specs.Pass.{Pass, data_pages}
+use Rattle.sd_rounds.specs.Pass.{data_pages}
 use Rattle.sd_rounds.proofs.ImageTableLemmas.{table_is_long}
 use Rattle.sd_rounds.proofs.PlanLemmas.{body_under_way, gives_under_way, is_body}
 use Rattle.sd_rounds.proofs.image_maker.ImageMaker.close.Goals as goal
@@ -15,7 +15,7 @@ pub first_request-request-requires-clause-under_way : goal.first_request-request
 first_request-request-requires-clause-under_way c =
     let few : data_pages c.args.self.now.pass.entries ≤ 2 ^ 39 = subst (λ (m : Making). data_pages m.pass.entries ≤ 2 ^ 39) c.self.view_is (subst (λ n. n ≤ 2 ^ 39) c.self.invariant.counted c.self.invariant.few) in
     let body : IsBody c.header-header.result c.in_ok-text.text.items =
-    is_body c.header-header.result _ c.in_ok-text.text.items (data_pages c.args.self.now.pass.entries) c.header-header.ensures refl few
+    is_body c.header-header.result _ c.in_ok-text.text.items (data_pages c.args.self.now.pass.entries) c.header-header.ensures.numbers refl few
     (subst (λ (t : List ℕ). 0 < length t) (sym c.in_ok-text.ensures.text) (table_is_long _)) in
     subst (λ (p : Planned). IsUnderWay p) (sym (c.close_body-plan.ensures.body body)) (body_under_way _ _ _)
 
@@ -23,14 +23,14 @@ pub invariant_of-self : goal.invariant_of-self
 invariant_of-self c =
     let few : data_pages c.args.self.now.pass.entries ≤ 2 ^ 39 = subst (λ (m : Making). data_pages m.pass.entries ≤ 2 ^ 39) c.self.view_is (subst (λ n. n ≤ 2 ^ 39) c.self.invariant.counted c.self.invariant.few) in
     let body : IsBody c.header-header.result c.in_ok-text.text.items =
-    is_body c.header-header.result _ c.in_ok-text.text.items (data_pages c.args.self.now.pass.entries) c.header-header.ensures refl few
+    is_body c.header-header.result _ c.in_ok-text.text.items (data_pages c.args.self.now.pass.entries) c.header-header.ensures.numbers refl few
     (subst (λ (t : List ℕ). 0 < length t) (sym c.in_ok-text.ensures.text) (table_is_long _)) in
     record {
       takes = c.self.invariant.takes;
       counted = c.self.invariant.counted;
       few = c.self.invariant.few;
       ready = (
-        ap (λ (h : Header). h.pages) c.header-header.ensures ∙ ap (λ (m : Making). data_pages m.pass.entries) (sym c.self.view_is),
+        ap (λ (h : Header). h.pages) c.header-header.ensures.numbers ∙ ap (λ (m : Making). data_pages m.pass.entries) (sym c.self.view_is),
         gives_under_way c.close_body-plan.result c.first_request-request.new.plan c.first_request-request.result
             (subst (λ (p : Planned). IsUnderWay p) (sym (c.close_body-plan.ensures.body body)) (body_under_way _ _ _)) c.first_request-request.ensures.gives,
       );
@@ -40,7 +40,7 @@ pub returns-clause-table : goal.returns-clause-table
 returns-clause-table c =
     let few : data_pages c.args.self.now.pass.entries ≤ 2 ^ 39 = subst (λ (m : Making). data_pages m.pass.entries ≤ 2 ^ 39) c.self.view_is (subst (λ n. n ≤ 2 ^ 39) c.self.invariant.counted c.self.invariant.few) in
     let body : IsBody c.header-header.result c.in_ok-text.text.items =
-    is_body c.header-header.result _ c.in_ok-text.text.items (data_pages c.args.self.now.pass.entries) c.header-header.ensures refl few
+    is_body c.header-header.result _ c.in_ok-text.text.items (data_pages c.args.self.now.pass.entries) c.header-header.ensures.numbers refl few
     (subst (λ (t : List ℕ). 0 < length t) (sym c.in_ok-text.ensures.text) (table_is_long _)) in
     let text : c.in_ok-text.text.items ≡ table_text c.in_ok-table-2.table = c.in_ok-text.ensures.text ∙ ap table_text (sym c.in_ok-table-2.ensures) in (
       record {
@@ -49,11 +49,12 @@ returns-clause-table c =
         over = c.requires.over;
         tables = c.in_ok-table-2.table;
         header = c.header-header.result;
-        numbers = c.header-header.ensures ∙ ap (header_of c.args.self.now.order (data_pages c.args.self.now.pass.entries))
+        numbers = c.header-header.ensures.numbers ∙ ap (header_of c.args.self.now.order (data_pages c.args.self.now.pass.entries))
             (c.len.ensures ∙ c.in_ok-text.text.ok.0 ∙ ap (λ (t : List ℕ). length t) text);
+        words = c.header-header.ensures.words;
         table = subst (λ (l : List Listed). HasTable c.args.self.now.order.kind c.args.memory.now c.args.self.now.pass.entries c.header-header.result l) (sym c.in_ok-table-2.ensures)
-            (c.in_ok-table.ensures c.header-header.result (ap (λ (h : Header). h.kind) c.header-header.ensures) (ap (λ (h : Header). h.parent) c.header-header.ensures)
-            (ap (λ (h : Header). h.pages) c.header-header.ensures));
+            (c.in_ok-table.ensures c.header-header.result (ap (λ (h : Header). h.kind) c.header-header.ensures.numbers) (ap (λ (h : Header). h.parent) c.header-header.ensures.numbers)
+            (ap (λ (h : Header). h.pages) c.header-header.ensures.numbers));
         next = c.first_request-request.new.plan;
         gives = subst (λ (p : Planned). Gives p c.first_request-request.new.plan c.first_request-request.result)
             (c.close_body-plan.ensures.body body ∙ ap (λ (t : List ℕ). begun c.self.inside.order.slot (body_calls c.header-header.result t) nothing) text

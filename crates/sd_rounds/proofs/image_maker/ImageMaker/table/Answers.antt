@@ -1,14 +1,10 @@
-use Rattle.std.proofs.Common.{◌≡◌, ◌≢◌, List, map, sym, ◌∙◌, ap, subst}
+use Rattle.std.proofs.Common.{◌≡◌, subst}
 use Rattle.std.specs.Prelude.{IfOk}
 use Rattle.std.proofs.lemmas.Result.{IfOk-weaker}
 use Rattle.sd_image.specs.declared.header.Header.{Header}
-use Rattle.sd_image.specs.declared.header.Kind.{Kind}
-use Rattle.sd_image.specs.declared.header.Kind.TheVariants.{Dump, Merged, PreDump}
 use Rattle.sd_image.specs.declared.table.Table.{Table}
-use Rattle.sd_pagetable.specs.Contents.{Contents, plain_of}
 use Rattle.sd_rounds.specs.Making.{HasTable, Making}
-use Rattle.sd_rounds.specs.Pass.{Pass, data_pages}
-use Rattle.sd_rounds.specs.SpaceTables.{AreAllSpaces, without_areas}
+use Rattle.sd_rounds.specs.Pass.{data_pages}
 use Rattle.sd_rounds.specs.Tables.{listed}
 use Rattle.sd_rounds.proofs.ImageTableLemmas.{dump_for, is_other, pre_dump_for}
 use Rattle.sd_rounds.proofs.image_maker.ImageMaker.table.Goals as goal

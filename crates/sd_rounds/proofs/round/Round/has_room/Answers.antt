@@ -1,5 +1,5 @@
-use Rattle.std.proofs.Common.{◌≡◌, ◌<◌, ◌^◌, Some, sym, subst, ap}
-use Rattle.sd_rounds.specs.Pass.{Pass, Place, Taking, data_pages}
+use Rattle.std.proofs.Common.{◌<◌, ◌^◌, subst}
+use Rattle.sd_rounds.specs.Pass.{Pass, Place, data_pages}
 use Rattle.sd_rounds.specs.Rounds.{source}
 use Rattle.sd_rounds.specs.Tables.{listed}
 use Rattle.sd_rounds.proofs.RoomLemmas.{has_room}

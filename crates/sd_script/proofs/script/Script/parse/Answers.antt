@@ -1,19 +1,14 @@
 -- Each line adds its request to those before it, or is the first that is blamed.
-use Rattle.std.proofs.Common.{arith, rules, ◌≡◌, ◌==◌, map, refl, ◌++◌, ◌∷◌, []}
-use Rattle.std.proofs.lemmas.Iterator.Consumers.{map_from_collect}
-use Rattle.std.proofs.lemmas.Iterator.Splits.{YieldsList-from_slice_split}
+use Rattle.std.proofs.Common.{arith, ◌≡◌, refl, ◌++◌, ◌∷◌, []}
 use Rattle.sd_script.specs.Script.{lines_of}
 use Rattle.sd_script.proofs.Fields.{texts}
 use Rattle.sd_script.proofs.Parsing.{parsed_request, parsed_nothing, blamed, all_fit, all_requests}
 use Rattle.sd_script.proofs.script.Script.parse.Goals.{in-Some+in_ok-push, in_default}
-use borrow.Author.Tests.{tests}
 use Rattle.sd_script.proofs.script.Script.parse.Goals as goal
 
 pub loop-index-init : goal.loop-index-init
 loop-index-init c =
-    let parts = map_from_collect _ c.collect.ensures.ran
-    (YieldsList-from_slice_split _ (λ b. b == 10) c.args.script.now c.split.ensures.rest c.split.ensures.done c.split.ensures.closure (λ x b q h. search (rules, tests))) in
-    let own = rw c.in_ok-texts.was at parts in
+    let own = rw c.in_ok-texts.was at c.lines_of.ensures in
     let parted : texts c.deref-text-items.result.now ≡ lines_of c.args.script.now = rw c.deref-text-items.ensures.value own in
     rw c.new-lines.ensures.items (record {
       parted = parted;

@@ -1,5 +1,4 @@
 -- The lines so far fit, and made the requests so far.
-use Rattle.std.proofs.Common.{map}
 use Rattle.sd_script.proofs.Parsing.{Parsed}
 use Rattle.sd_script.proofs.script.Script.parse.Given as goal
 

@@ -1,0 +1,79 @@
+//! `rounds_bench`: dumps of a memory, step by step, to be timed from outside.
+#![tactic(auto)]
+
+mod bench;
+
+use crate::bench::{Bench, BenchError};
+use std::alloc::Global;
+use std::io;
+use std::process::ExitCode;
+
+/// How often a case is repeated.
+const TURNS: u64 = 20;
+
+/// Touches pages, some times.
+fn touched(bench: &mut Bench) -> Result<(), BenchError> {
+    for _ in 0..TURNS {
+        bench.touch()?;
+    }
+    Ok(())
+}
+
+/// Touches pages, and reads and writes them, some times.
+fn plain(bench: &mut Bench) -> Result<(), BenchError> {
+    for _ in 0..TURNS {
+        bench.touch()?;
+        bench.copy_touched()?;
+    }
+    Ok(())
+}
+
+/// Touches pages, and makes a dump, some times.
+fn dumps(alloc: Global, bench: &mut Bench) -> Result<(), BenchError> {
+    for _ in 0..TURNS {
+        bench.touch()?;
+        bench.dump(Vec::new(alloc))?;
+    }
+    Ok(())
+}
+
+/// Looks all pages up, some times.
+fn walks(bench: &mut Bench) {
+    for _ in 0..TURNS + 1 {
+        bench.look_up();
+    }
+}
+
+/// Makes rounds over clean pages, and a dump.
+fn rounds(alloc: Global, bench: &mut Bench) -> Result<(), BenchError> {
+    bench.dump(vec![in alloc; 0; TURNS as usize]?)
+}
+
+/// Makes what a word names, and tells how it ended.
+fn timed(alloc: Global, word: &str) -> Result<&'static str, BenchError> {
+    let mut bench = Bench::new(alloc)?;
+    match word {
+        "made" => {}
+        "touched" => touched(&mut bench)?,
+        "plain" => plain(&mut bench)?,
+        "dumps" => dumps(alloc, &mut bench)?,
+        "walks" => walks(&mut bench),
+        "rounds" => rounds(alloc, &mut bench)?,
+        _ => return Ok("usage: rounds_bench made|touched|plain|dumps|walks|rounds"),
+    }
+    Ok("done")
+}
+
+fn main(rt: HostRuntime) -> io::Result<ExitCode> {
+    let alloc = rt.alloc();
+    let words: Vec<String> = std::env::args(&rt)?.collect(alloc)?;
+    let word = match words.get(1) {
+        Some(word) => word.as_str(),
+        None => "",
+    };
+    match timed(alloc, word) {
+        Ok(ending) => println!(rt; "{ending}")?,
+        Err(error) => println!(rt; "{error:?}")?,
+    }
+    Ok(ExitCode::from(0))
+}

@@ -1,0 +1,10 @@
+/// What an outcome was to the opener.
+#[derive(Clone, Copy, Debug, PartialEq, Eq, Hash)]
+pub enum OpenerProgress {
+    /// It is of no request that is out. Nothing changed.
+    Strange,
+    /// The device failed.
+    Failed,
+    /// The opener goes on.
+    More,
+}

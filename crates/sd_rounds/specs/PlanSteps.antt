@@ -1,0 +1,48 @@
+-- What the functions of an image in the making promise of its plans to one another.
+use Rattle.std.specs.Prelude.{◌≡◌, ◌≢◌, ◌+◌, true, false, []}
+use Rattle.sd_gate.specs.declared.settled.Settled.{Settled}
+use Rattle.sd_gate.specs.declared.settled.Settled.TheVariants.{More as PlanMore, Finished as PlanFinished, Failed as PlanFailed, Strange as PlanStrange}
+use Rattle.sd_gate.specs.Calls.{is_done}
+use Rattle.sd_gate.specs.Plans.{Planned, plan_after}
+use Rattle.sd_gate.specs.Requests.{Asked, Made}
+use Rattle.sd_rounds.specs.declared.image_step.ImageStep.{ImageStep}
+use Rattle.sd_rounds.specs.declared.image_step.ImageStep.TheVariants.{Call, PageCall, TableCall, Frozen, Visited, Copied}
+use Rattle.sd_rounds.specs.declared.stage.Stage.{Stage}
+use Rattle.sd_rounds.specs.Making.{IsUnderWay, Making, outcomes_of}
+
+-- what the outcome of the request that is out is to a plan
+abbrev pub Settles : Planned → Made → Settled → Planned → Type 0
+Settles old made PlanMore new = (is_done made.answer ≡ true) × (new ≡ plan_after old made) × (new.calls ≢ []) × IsUnderWay new × (outcomes_of new + 1 ≡ outcomes_of old)
+Settles old made PlanFinished new = (is_done made.answer ≡ true) × (new ≡ plan_after old made) × (new.calls ≡ []) × (outcomes_of new + 1 ≡ outcomes_of old)
+Settles old made PlanFailed new = is_done made.answer ≡ false
+Settles old made PlanStrange new = ⊥
+
+abbrev pub at_stage : Making → Stage → Making
+at_stage making stage = record making { stage = stage }
+
+-- it is a call of a plan, and its request is such
+abbrev pub IsCallOf : (Asked → Type 0) → ImageStep → Type 0
+IsCallOf P (Call request) = P request
+IsCallOf P (PageCall request) = ⊥
+IsCallOf P (TableCall request) = ⊥
+IsCallOf P Frozen = ⊥
+IsCallOf P (Visited visit) = ⊥
+IsCallOf P (Copied copied) = ⊥
+
+-- it is the write of a page
+abbrev pub IsPageCallOf : (Asked → Type 0) → ImageStep → Type 0
+IsPageCallOf P (Call request) = ⊥
+IsPageCallOf P (PageCall request) = P request
+IsPageCallOf P (TableCall request) = ⊥
+IsPageCallOf P Frozen = ⊥
+IsPageCallOf P (Visited visit) = ⊥
+IsPageCallOf P (Copied copied) = ⊥
+
+-- it is the write of the table
+abbrev pub IsTableCallOf : (Asked → Type 0) → ImageStep → Type 0
+IsTableCallOf P (Call request) = ⊥
+IsTableCallOf P (PageCall request) = ⊥
+IsTableCallOf P (TableCall request) = P request
+IsTableCallOf P Frozen = ⊥
+IsTableCallOf P (Visited visit) = ⊥
+IsTableCallOf P (Copied copied) = ⊥

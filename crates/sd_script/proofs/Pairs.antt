@@ -1,0 +1,57 @@
+-- Digits and pairs of them, as `hex` decodes them.
+use Rattle.std.proofs.Common.{◌≡◌, ℕ, zero, suc, ◌+◌, ◌*◌, ◌<◌, ◌==◌, ◌&&◌, Bool, true, inl, inr, List, [], ◌∷◌, length, take, drop, slice_index, slice_index_or, Option, Some, None, unwrap_or, Result, Ok, Err, refl, sym, ap, arith}
+use Rattle.std.proofs.lemmas.Bool.{and_parts, cases_lt, eqb-true}
+use Rattle.std.specs.Result.{result_ok}
+use Rattle.hex.specs.Hex.{decode_pairs, hex_digit_value, pair_value}
+use Rattle.hex.specs.declared.error.FromHexError.{FromHexError}
+use Rattle.hex.proofs.Pairs.{prepend, decode_err}
+
+-- the values of bytes as digits, from one byte on
+abbrev pub values_from : ℕ → ℕ → List ℕ
+values_from byte zero = []
+values_from byte (suc n) = unwrap_or (hex_digit_value byte) 16 ∷ values_from (byte + 1) n
+
+-- the test of one place of a table, which computes
+abbrev reads : List ℕ → ℕ → Bool
+reads table byte = slice_index_or table byte 0 == unwrap_or (hex_digit_value byte) 16
+
+-- the test of the first places
+abbrev all_read : List ℕ → ℕ → Bool
+all_read table zero = true
+all_read table (suc n) = reads table n && all_read table n
+
+-- a place below n passed the test
+all_read-at : (table : List ℕ) (n byte : ℕ) → all_read table n ≡ true → byte < n → reads table byte ≡ true
+all_read-at table zero byte h lt = absurd (omega arith)
+all_read-at table (suc n) byte h lt =
+    let parts = and_parts (reads table n) (all_read table n) h in
+    elim (cases_lt byte n) [
+      | inl below ↦ all_read-at table n byte parts.1 below
+      | inr top ↦
+          let e : byte ≡ n = omega arith in
+          rw e parts.0
+    ]
+
+-- the value of each byte, in a table that passes the test
+pub digit_read : (table : List ℕ) → all_read table 256 ≡ true → (byte : ℕ) → byte < 256
+    → slice_index_or table byte 0 ≡ unwrap_or (hex_digit_value byte) 16
+digit_read table h byte lt =
+    eqb-true (slice_index_or table byte 0) (unwrap_or (hex_digit_value byte) 16) (all_read-at table 256 byte h lt)
+
+-- a result with a value
+pub ok_from : (r : Result ℕ FromHexError) (value : ℕ) → Some value ≡ result_ok r → r ≡ Ok value
+ok_from (Ok x) value e = ap (λ (o : Option ℕ). Ok (unwrap_or o 0)) (sym e)
+ok_from (Err _) value e = cc e
+
+-- a pair that isn't of digits
+pub unfit_from : (s bytes : List ℕ) (i : ℕ) → 2 * i + 1 < length s
+    → None ≡ result_ok (pair_value (slice_index s (2 * i)) (slice_index s (2 * i + 1)) (2 * i))
+    → decode_pairs 0 s ≡ prepend (take i bytes) (decode_pairs (2 * i) (drop (2 * i) s))
+    → result_ok (decode_pairs 0 s) ≡ None
+unfit_from s bytes i fits none invariant =
+    go (pair_value (slice_index s (2 * i)) (slice_index s (2 * i + 1)) (2 * i)) refl none
+  where
+    go : (r : Result ℕ FromHexError) → pair_value (slice_index s (2 * i)) (slice_index s (2 * i + 1)) (2 * i) ≡ r
+        → None ≡ result_ok r → result_ok (decode_pairs 0 s) ≡ None
+    go (Ok value) is e = cc e
+    go (Err error) is e = rw (decode_err s bytes i error fits is invariant) refl

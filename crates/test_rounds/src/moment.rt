@@ -1,0 +1,102 @@
+//! The memory of a moment, to be compared.
+use sd_areas::{PAGE_SIZE, PageNo, Prot, Snapshot, SnapshotPage, SpaceId};
+use sd_pagetable::{Memory, SECTOR_SIZE};
+use std::alloc::{AllocError, Global};
+
+/// More pages than the spaces of a test have.
+const MOST: usize = 64;
+
+/// A mapped page: where it is, its permissions and its bytes.
+#[derive(Debug, PartialEq, Eq, Drop)]
+struct MomentPage {
+    space: SpaceId,
+    page: PageNo,
+    prot: Option<Prot>,
+    bytes: Vec<u8>,
+}
+
+/// The memory of a moment: the living spaces, and all their pages.
+#[derive(Debug, PartialEq, Eq, Drop)]
+pub(crate) struct Moment {
+    spaces: Vec<SpaceId>,
+    pages: Vec<MomentPage>,
+}
+
+impl Moment {
+    /// What a memory is now.
+    pub(crate) fn of_memory(alloc: Global, memory: &Memory) -> Result<Self, AllocError> {
+        let mut pages = Vec::new(alloc);
+        let mut after = None;
+        for _ in 0..MOST {
+            let Some((space, page)) = memory.next_page(after) else {
+                break;
+            };
+            pages.push(page_of_memory(alloc, memory, space, page)?)?;
+            after = Some((space, page));
+        }
+        let spaces = living(alloc, memory)?;
+        Ok(Moment { spaces, pages })
+    }
+
+    /// What a snapshot has.
+    pub(crate) fn of_snapshot(alloc: Global, snapshot: &Snapshot) -> Result<Self, AllocError> {
+        let mut spaces = Vec::new(alloc);
+        let mut pages = Vec::new(alloc);
+        for (space, own) in &snapshot.spaces {
+            spaces.push(*space)?;
+            for (page, found) in own {
+                pages.push(page_of_snapshot(alloc, *space, *page, found)?)?;
+            }
+        }
+        Ok(Moment { spaces, pages })
+    }
+}
+
+fn living(alloc: Global, memory: &Memory) -> Result<Vec<SpaceId>, AllocError> {
+    let mut spaces = Vec::new(alloc);
+    for number in 1..=16 {
+        let space = SpaceId::new(number);
+        if memory.areas(space).is_some() {
+            spaces.push(space)?;
+        }
+    }
+    Ok(spaces)
+}
+
+fn page_of_memory(
+    alloc: Global,
+    memory: &Memory,
+    space: SpaceId,
+    page: PageNo,
+) -> Result<MomentPage, AllocError> {
+    let mut bytes = Vec::with_capacity(alloc, PAGE_SIZE)?;
+    for number in 0..8 {
+        let mut sector = [0; SECTOR_SIZE];
+        memory.read_sector(space, page, number, &mut sector);
+        bytes.extend_from_slice(&sector)?;
+    }
+    let prot = match memory.areas(space) {
+        Some(areas) => areas.prot_of(page),
+        None => None,
+    };
+    Ok(MomentPage {
+        space,
+        page,
+        prot,
+        bytes,
+    })
+}
+
+fn page_of_snapshot(
+    alloc: Global,
+    space: SpaceId,
+    page: PageNo,
+    found: &SnapshotPage,
+) -> Result<MomentPage, AllocError> {
+    Ok(MomentPage {
+        space,
+        page,
+        prot: Some(found.prot),
+        bytes: found.bytes.to_vec(alloc)?,
+    })
+}
