@@ -74,7 +74,7 @@ shows_allowed show base history store (Some image) beliefs c sound slots fits la
 module _ {D : Type 0} (g : Ghosts D) (world : WorldView D) (left : LeftAsBelieved) (was : IsConsistent g world) where
   -- what is believed of a slot holds with the call whose outcome is kept
   believed_now : (slot : ℕ) (phase : Phase) (belief : Belief) (o : Option Made) → outcome_on world.kept slot ≡ o
-      → slice_get world.core.phases slot ≡ Some phase → slice_get was.believes.has.beliefs slot ≡ Some belief
+      → slice_get world.core.phases slot ≡ Some phase → slice_get was.believes.beliefs slot ≡ Some belief
       → MayBelieve (phase_now o phase) (body_now o (file_at was.bodies slot)) belief
   believed_now slot phase belief None none at has = was.believes.has.believed.each slot phase belief at has
   believed_now slot phase belief (Some made) some at has =
@@ -82,17 +82,17 @@ module _ {D : Type 0} (g : Ghosts D) (world : WorldView D) (left : LeftAsBelieve
       let id = made.request.id in
       let cover = was.believes.has.waiting there.worker made.request (get_map asked_of world.kept there.worker (Outcome made) there.at) in
       let same_phase : cover.phase ≡ phase = same_Some cover.phase phase (sym cover.waits.is ∙ ap (slice_get world.core.phases) there.on ∙ at) in
-      let same_belief : cover.belief ≡ belief = same_Some cover.belief belief (sym cover.is ∙ ap (slice_get was.believes.has.beliefs) there.on ∙ has) in
+      let same_belief : cover.belief ≡ belief = same_Some cover.belief belief (sym cover.is ∙ ap (slice_get was.believes.beliefs) there.on ∙ has) in
       subst (λ s. MayBelieve (phase_after phase id.call (is_done made.answer)) (body_after (file_at was.bodies s) id.call made.request.bytes) belief) there.on
       (subst (λ p. MayBelieve (phase_after p id.call (is_done made.answer)) (body_after (file_at was.bodies id.slot) id.call made.request.bytes) belief) same_phase
       (subst (MayBelieve (phase_after cover.phase id.call (is_done made.answer)) (body_after (file_at was.bodies id.slot) id.call made.request.bytes)) same_belief
       (cover.believed (is_done made.answer))))
 
   fits_at : (c : List (List ℕ)) → g.may_leave world.disk c → (slot : ℕ) (belief : Belief) (file : List ℕ)
-      → slice_get was.believes.has.beliefs slot ≡ Some belief → slice_get c slot ≡ Some file → FitsBelief belief file
+      → slice_get was.believes.beliefs slot ≡ Some belief → slice_get c slot ≡ Some file → FitsBelief belief file
   fits_at c may slot belief file has at =
-      let count : length was.believes.has.beliefs ≡ length world.core.phases = was.believes.has.believed.count in
-      let within : slot < length world.core.phases = subst (λ n. slot < n) count (slice_get_within was.believes.has.beliefs slot belief has) in
+      let count : length was.believes.beliefs ≡ length world.core.phases = was.believes.has.believed.count in
+      let within : slot < length world.core.phases = subst (λ n. slot < n) count (slice_get_within was.believes.beliefs slot belief has) in
       let phase = slice_index_or world.core.phases slot Raw in
       let there = slice_get-get_or world.core.phases slot Raw within in
       let o = outcome_on world.kept slot in
@@ -107,6 +107,6 @@ pub world_allows : {D : Type 0} (g : Ghosts D) (world : WorldView D) → LeftAsB
 world_allows g world left show same_slots is honest c may =
     let was = is.consistent honest in
     let has = was.believes.has in
-    let count : length c ≡ length has.beliefs = same_slots c may ∙ is.count ∙ sym has.believed.count in
-    shows_allowed show world.core.base (history_of world.core) has.store has.dump has.beliefs c has.sound has.slots
-    (all_zipped FitsBelief has.beliefs c count (fits_at g world left was c may)) has.last has.next
+    let count : length c ≡ length was.believes.beliefs = same_slots c may ∙ is.count ∙ sym has.believed.count in
+    shows_allowed show world.core.base (history_of world.core) was.believes.store was.believes.dump was.believes.beliefs c has.sound has.slots
+    (all_zipped FitsBelief was.believes.beliefs c count (fits_at g world left was c may)) has.last has.next

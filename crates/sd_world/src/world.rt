@@ -75,7 +75,7 @@ impl<D: Disk> World<D> {
         requires greatest { frames ≤ 65536 }
 
         // No entry stands in the journal, the store isn't open, and nothing is out.
-        ensures journal { IfOk result (λ world. world.core.journal.items ≡ []) }
+        ensures journal { IfOk result (λ world. world.core.items ≡ []) }
         ensures standing { IfOk result (λ world. world.core.standing ≡ NotOpen) }
         ensures kept { IfOk result (λ world. world.kept ≡ Nothing ∷ Nothing ∷ Nothing ∷ []) }
 
@@ -142,7 +142,7 @@ impl<D: Disk> World<D> {
         ensures contents { D.is_honest self.now.disk
             → ShowsAllowed self.now.core.base (history_of self.now.core)
             (D.contents self.now.disk) }
-        ensures tracked { IsTracked self.now.core.base self.now.core.journal.items
+        ensures tracked { IsTracked self.now.core.base self.now.core.items
             self.now.core.memory }
     {
         left_as_believed();

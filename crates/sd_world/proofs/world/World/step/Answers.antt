@@ -47,7 +47,7 @@ pub returns-clause-shows : goal.returns-clause-shows
 returns-clause-shows g c = λ honest contents may.
     let core = c.make_step-answer.new.core in
     says c.args.event.now c.make_step-answer.result c.args.self.now.core core contents (returns-clause-adds g c)
-    (marked_legal core.base core.journal.items c.sound.ensures.marked) (returns-clause-at_end g c honest contents may)
+    (marked_legal core.base core.items c.sound.ensures.marked) (returns-clause-at_end g c honest contents may)
 
 pub returns-clause-reads : goal.returns-clause-reads
 returns-clause-reads g c = λ honest. returns-clause-shows g c honest (g.D.Disk.contents c.make_step-answer.new.disk)
