@@ -12,3 +12,4 @@ mod ReplyLemmas
 mod RunLemmas
 mod OpenLemmas
 mod RestoreLemmas
+mod LimitLemmas

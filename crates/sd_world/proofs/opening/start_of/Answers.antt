@@ -2,6 +2,7 @@ use Rattle.std.proofs.Common.{rules}
 use Rattle.sd_areas.specs.Memory.{memory_of}
 use Rattle.sd_world.specs.Opens.{IsFaultOf}
 use Rattle.sd_world.proofs.OpenLemmas.{fault_of_want}
+use Rattle.sd_world.proofs.LimitLemmas.{due_is_frames, limits_fit}
 use Rattle.sd_world.proofs.opening.start_of.Goals as goal
 
 pub returns-in_err-memory-clause-fault : goal.returns-in_err-memory-clause-fault
