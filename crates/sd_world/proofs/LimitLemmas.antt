@@ -12,7 +12,11 @@ use Rattle.sd_pagetable.specs.Contents.{page_count}
 use Rattle.sd_pagetable.specs.Due.{prots_in}
 use Rattle.sd_pagetable.specs.Loaded.{is_over_in_space, is_over_limits, nonzero_pages, snapshot_due}
 use Rattle.sd_pagetable.specs.Nested.{map_entries, map_values, total, total_within}
-use Rattle.sd_restore.specs.Fits.{IsSpaceWithin, IsWithinLimits, prots_in as prots_of}
+use Rattle.sd_image.specs.Shows.{Shows}
+use Rattle.sd_restore.specs.Fits.{IsSpaceWithin, IsWithinLimits, ShownIsWithinLimits, prots_in as prots_of}
+use Rattle.sd_world.specs.declared.open_fault.OpenFault.{OpenFault}
+use Rattle.sd_world.specs.declared.open_fault.OpenFault.TheVariants.{NoFrame as NoFrameFault}
+use Rattle.sd_world.specs.Opens.{HasNoFrame, IsWantOf}
 
 none_any : {X : Type 0} (p : X → Bool) (xs : List X) → ((x : X) → Contains xs x → p x ≡ false) → list_any p xs ≡ false
 none_any p [] each = refl
@@ -65,6 +69,17 @@ due_is_frames frames memory why fits due = go (nat_lt frames (nonzero_pages memo
     go true is = ltb-true frames (nonzero_pages memory) is
     go false is =
         let none : None ≡ Some why =
-            ap (λ b. cond b (Some (Refused Enomem)) None) (sym fits)
-            ∙ ap (λ b. cond b (Some (Refused NoFrame)) (cond (is_over_limits memory) (Some (Refused Enomem)) None)) (sym is) ∙ due in
+        ap (λ b. cond b (Some (Refused Enomem)) None) (sym fits)
+        ∙ ap (λ b. cond b (Some (Refused NoFrame)) (cond (is_over_limits memory) (Some (Refused Enomem)) None)) (sym is) ∙ due in
         absurd cc
+
+pub no_frame : ShownIsWithinLimits → (contents : List (List ℕ)) (frames number : ℕ) (memory : PlainMemory) (fault : OpenFault) → fault ≡ NoFrameFault
+    → IsWantOf frames memory fault → Shows contents (Some (number, memory)) → HasNoFrame contents frames
+no_frame within contents frames number memory fault is want shows =
+    let wanted = subst (IsWantOf frames memory) is want in
+    record {
+      number = number;
+      memory = memory;
+      shows = shows;
+      few = due_is_frames frames memory wanted.0 (limits_fit memory (within contents number memory shows)) wanted.1;
+    }

@@ -3,9 +3,10 @@ use Rattle.std.specs.Prelude.{◌≡◌, ◌⊎◌, ℕ, ◌<◌, List, Some}
 use Rattle.std.specs.FinMap as finmap
 use Rattle.sd_areas.specs.PlainMemory.{PlainMemory}
 use Rattle.sd_pagetable.specs.declared.access_error.AccessError.{AccessError}
-use Rattle.sd_pagetable.specs.Loaded.{snapshot_due}
+use Rattle.sd_pagetable.specs.Loaded.{nonzero_pages, snapshot_due}
 use Rattle.sd_disk.specs.Contents.{file_at}
 use Rattle.sd_disk.specs.Crash.{OnlyAt}
+use Rattle.sd_image.specs.Shows.{Shows}
 use Rattle.sd_restore.specs.Faulty.{IsBrokenChain, IsDamage}
 use Rattle.sd_world.specs.declared.open_fault.OpenFault.{OpenFault}
 use Rattle.sd_world.specs.declared.open_fault.OpenFault.TheVariants.{NoFrame, Damaged, Device, OutOfMemory}
@@ -24,6 +25,13 @@ IsWantOf frames memory NoFrame = (why : AccessError) × (snapshot_due frames mem
 IsWantOf frames memory (Damaged slot reason) = ⊥
 IsWantOf frames memory Device = ⊥
 IsWantOf frames memory OutOfMemory = Unit {0}
+
+-- more pages of the memory that is shown than there are frames aren't all zeros
+pub record HasNoFrame (contents : List (List ℕ)) (frames : ℕ) : Type 0 where
+  pub number : ℕ
+  pub memory : PlainMemory
+  pub shows : Shows contents (Some (number, memory))
+  pub few : frames < nonzero_pages memory
 
 -- why these contents weren't read: the slot that is named is damaged, or breaks a chain; or the device failed
 abbrev pub IsFaultOf : List (List ℕ) → ℕ → ℕ → OpenFault → Type 0

@@ -1,5 +1,5 @@
 //! What a run starts from: a store that is synced and read.
-ghost use Rattle.std.specs.Prelude.{◌≡◌, ◌≤◌, ◌<◌, ℕ, None, OnOk, IfOk, IfErr, IsErrOf, length, map};
+ghost use Rattle.std.specs.Prelude.{◌≡◌, ◌≢◌, ◌≤◌, ◌<◌, ℕ, None, OnOk, IfOk, IfErr, IsErrOf, length, map};
 ghost use Rattle.std.specs.FinMap as finmap;
 ghost use Rattle.sd_areas.specs.Memory.{memory_of};
 ghost use Rattle.sd_disk.specs.Reads.{OnlyReads};
@@ -8,7 +8,7 @@ ghost use Rattle.sd_image.specs.Shows.{Shows};
 ghost use Rattle.sd_pagetable.specs.Contents.{plain_of};
 ghost use Rattle.sd_pagetable.specs.Tracking.{IsBeginning};
 ghost use Rattle.sd_core.specs.Starts.{shown_base};
-ghost use Rattle.sd_world.specs.Opens.{AreSynced, IsFaultOf, IsWantOf, bare_memory};
+ghost use Rattle.sd_world.specs.Opens.{AreSynced, HasNoFrame, IsFaultOf, IsWantOf, bare_memory};
 
 use crate::looking::{phase_in, sync_slot};
 use crate::open_fault::OpenFault;
@@ -17,7 +17,7 @@ use sd_core::Start;
 use sd_disk::Disk;
 use sd_gate::Phase;
 use sd_pagetable::{Memory, MemoryError};
-use sd_restore::{Fault, restore};
+use sd_restore::{Fault, restore, shown_is_within_limits};
 use std::alloc::{AllocError, Global};
 
 /// Syncs each slot.
@@ -26,6 +26,7 @@ fn sync_all<D: Disk>(disk: &mut D) -> Result<(), OpenFault>
         (AreSynced (length (D.contents disk.old)) (D.contents disk.old) (D.may_leave disk.new)) }
     ensures reads { OnlyReads D.Disk disk.old disk.new }
     ensures fault { IfErr result (IsFaultOf (D.contents disk.old) (D.failed disk.old) (D.failed disk.new)) }
+    ensures frames { result ≢ Err OpenFault.NoFrame }
 {
     for slot in 0..disk.slots() {
         sync_slot(disk, slot)?;
@@ -40,6 +41,7 @@ fn phases_in<D: Disk>(alloc: Global, disk: &mut D) -> Result<Vec<Phase>, OpenFau
     ensures count { IfOk result (λ phases. length phases.items ≡ length (D.contents disk.old)) }
     ensures reads { OnlyReads D.Disk disk.old disk.new }
     ensures fault { IfErr result (IsFaultOf (D.contents disk.old) (D.failed disk.old) (D.failed disk.new)) }
+    ensures frames { result ≢ Err OpenFault.NoFrame }
 {
     let mut phases = Vec::new(alloc);
     for slot in 0..disk.slots() {
@@ -64,6 +66,7 @@ fn base_of<D: Disk>(alloc: Global, disk: &mut D) -> Result<(Option<u64>, Snapsho
     ensures bare { IfOk result (λ base. base.0 ≡ None → memory_of base.1 ≡ bare_memory) }
     ensures reads { OnlyReads D.Disk disk.old disk.new }
     ensures fault { D.is_honest disk.new → IfErr result (IsFaultOf (D.contents disk.old) (D.failed disk.old) (D.failed disk.new)) }
+    ensures frames { result ≢ Err OpenFault.NoFrame }
 {
     match restore(alloc, disk) {
         Ok(snapshot) => Ok((Some(snapshot.checkpoint), snapshot)),
@@ -111,11 +114,17 @@ pub(crate) fn start_of<D: Disk>(
     ensures reads { OnlyReads D.Disk disk.old disk.new }
     ensures fault { D.is_honest disk.new → IfErr result
         (IsFaultOf (D.contents disk.old) (D.failed disk.old) (D.failed disk.new)) }
+    ensures no_frame { D.is_honest disk.new → IsErrOf result OpenFault.NoFrame
+        → HasNoFrame (D.contents disk.old) frames }
 {
+    shown_is_within_limits();
     sync_all(disk)?;
     let (number, base) = base_of(alloc, disk)?;
     let phases = phases_in(alloc, disk)?;
-    let memory = load(alloc, frames, &base)?;
+    let memory = match number {
+        Some(_) => load(alloc, frames, &base)?,
+        None => Memory::new(alloc, frames)?,
+    };
     Ok(Start {
         number,
         base,

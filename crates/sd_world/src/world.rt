@@ -10,7 +10,7 @@ ghost use Rattle.sd_pagetable.specs.Contents.{plain_of};
 ghost use Rattle.sd_belief.specs.declared.standing.Standing.TheVariants.{NotOpen};
 ghost use Rattle.sd_core.specs.Starts.{shown_base};
 ghost use Rattle.sd_world.specs.declared.kept.Kept.TheVariants.{Nothing};
-ghost use Rattle.sd_world.specs.Opens.{IsFaultOf, bare_memory};
+ghost use Rattle.sd_world.specs.Opens.{HasNoFrame, IsFaultOf, bare_memory};
 ghost use Rattle.sd_gate.specs.declared.worker.Worker.{Worker as WorkerKind};
 ghost use Rattle.sd_journal.specs.Marked.{IsTracked};
 ghost use Rattle.sd_belief.specs.Shown.{ShowsAllowed};
@@ -25,6 +25,7 @@ ghost use Rattle.sd_world.specs.View.{is_asked};
 use crate::event::Event;
 use crate::kept::{Kept, is_asked};
 use crate::open_error::OpenError;
+use crate::open_fault::OpenFault;
 use crate::opening::start_of;
 use crate::restoring::restore_left;
 use crate::stepping::make_step;
@@ -96,6 +97,8 @@ impl<D: Disk> World<D> {
         ensures refused { IfErr result (λ error. OnlyReads D.Disk disk error.disk) }
         ensures fault { IfErr result (λ error. D.is_honest error.disk
             → IsFaultOf (D.contents disk) (D.failed disk) (D.failed error.disk) error.fault) }
+        ensures no_frame { IfErr result (λ error. D.is_honest error.disk
+            → error.fault ≡ OpenFault.NoFrame → HasNoFrame (D.contents disk) frames) }
     {
         match start_of(alloc, &mut disk, frames) {
             Ok(start) => {
