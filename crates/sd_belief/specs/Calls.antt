@@ -158,6 +158,7 @@ pub record WasTold (phases : List Phase) (bodies files : List (List ℕ)) (made 
 pub record HandedIn (old : CoreView) (made : Made) (answer : Reply) (new : CoreView) : Type 0 where
   pub base : new.base ≡ old.base
   pub outs : new.outs ≡ slice_set old.outs (index made.request.id.worker) None
+  pub count : length new.phases ≡ length old.phases
   pub phases : (phase : Phase) → Waits old.phases made.request.id phase
       → AreGivenUp new.outs (phases_after old.phases made.request.id phase (is_done made.answer)) new.phases
   pub goes_on : (asked : List (Option Asked)) (bodies files : List (List ℕ))

@@ -1,0 +1,15 @@
+mod Lists
+mod Calls
+mod KeptLemmas
+mod Worlds
+mod HandInLemmas
+mod PerformLemmas
+mod AnewLemmas
+mod StepLemmas
+mod AllowedLemmas
+mod AddsLemmas
+mod ReplyLemmas
+mod RunLemmas
+mod OpenLemmas
+mod RestoreLemmas
+mod LimitLemmas

@@ -1,0 +1,89 @@
+-- Slots that are synced and looked at, one after the other.
+use Rattle.std.proofs.Common.{◌≡◌, ℕ, ◌+◌, ◌<◌, ◌≤◌, List, [], ◌∷◌, ◌++◌, map, take, length, Some, None, slice_get, zero, suc, refl, sym, ◌∙◌, ap, subst, inl, inr, arith}
+use Rattle.std.proofs.lemmas.Bool.{cases_eq}
+use Rattle.std.proofs.lemmas.List.{ext_get_or, map-append, take_more}
+use Rattle.std.proofs.lemmas.Option.{same_Some}
+use Rattle.sd_areas.specs.PlainMemory.{PlainMemory}
+use Rattle.sd_disk.specs.Contents.{file_at}
+use Rattle.sd_disk.specs.Crash.{OnlyAt, Within}
+use Rattle.sd_gate.specs.declared.phase.Phase.{Phase}
+use Rattle.sd_gate.specs.Laws.{found_phase}
+use Rattle.sd_gate.specs.declared.request_id.RequestId.{RequestId}
+use Rattle.sd_gate.specs.Requests.{Made}
+use Rattle.sd_world.specs.declared.kept.Kept.{Kept}
+use Rattle.sd_world.specs.declared.kept.Kept.TheVariants.{Nothing, Outcome}
+use Rattle.sd_world.specs.Consistent.{AreInPlace}
+use Rattle.sd_world.specs.View.{id_of}
+use Rattle.sd_world.specs.declared.open_fault.OpenFault.{OpenFault}
+use Rattle.sd_world.specs.declared.open_fault.OpenFault.TheVariants.{NoFrame, Damaged, Device, OutOfMemory}
+use Rattle.sd_world.specs.Opens.{AreSynced, IsFaultOf, IsWantOf}
+
+-- one slot more is synced
+pub synced_more : (contents : List (List ℕ)) (slot : ℕ) (old new : List (List ℕ) → Type 0) → AreSynced slot contents old → Within new old
+    → OnlyAt slot (file_at contents slot) new → AreSynced (slot + 1) contents new
+synced_more contents slot old new before crash now other within c may = elim (cases_eq other slot) [
+  | inl same ↦ subst (λ s. file_at c s ≡ file_at contents s) (sym same) (now c may)
+  | inr differs ↦ before other (omega (arith, within, differs)) c (crash c may)
+]
+
+pub synced_later : (contents : List (List ℕ)) (count : ℕ) (old new : List (List ℕ) → Type 0) → AreSynced count contents old → Within new old
+    → AreSynced count contents new
+synced_later contents count old new before crash slot within c may = before slot within c (crash c may)
+
+-- one phase more
+pub phases_more : (contents : List (List ℕ)) (slot : ℕ) (phases : List Phase) (phase : Phase) → slot < length contents
+    → phases ≡ map found_phase (take slot contents) → phase ≡ found_phase (file_at contents slot)
+    → phases ++ phase ∷ [] ≡ map found_phase (take (slot + 1) contents)
+phases_more contents slot phases phase within before now =
+    ap (λ all. all ++ phase ∷ []) before ∙ ap (λ p. map found_phase (take slot contents) ++ p ∷ []) now
+    ∙ sym (map-append found_phase (take slot contents) (file_at contents slot ∷ [])) ∙ ap (map found_phase) (sym (take_more contents slot [] within))
+
+-- a fault that was met later
+pub fault_later : (contents : List (List ℕ)) (first before now : ℕ) (fault : OpenFault) → first ≤ before → IsFaultOf contents before now fault
+    → IsFaultOf contents first now fault
+fault_later contents first before now NoFrame later is = tt
+fault_later contents first before now (Damaged slot reason) later is = is
+fault_later contents first before now Device later is = omega (arith, later, is)
+fault_later contents first before now OutOfMemory later is = tt
+
+-- or by memory alone
+pub fault_of_want : (contents : List (List ℕ)) (before now frames : ℕ) (memory : PlainMemory) (fault : OpenFault) → IsWantOf frames memory fault
+    → IsFaultOf contents before now fault
+fault_of_want contents before now frames memory NoFrame is = tt
+fault_of_want contents before now frames memory (Damaged slot reason) is = absurd is
+fault_of_want contents before now frames memory Device is = absurd is
+fault_of_want contents before now frames memory OutOfMemory is = tt
+
+-- ---- a world in which nothing is out
+
+abbrev pub nobody : List Kept
+nobody = Nothing ∷ Nothing ∷ Nothing ∷ []
+
+pub at_nobody : (worker : ℕ) (k : Kept) → slice_get nobody worker ≡ Some k → k ≡ Nothing
+at_nobody zero k at = same_Some k Nothing (sym at)
+at_nobody (suc zero) k at = same_Some k Nothing (sym at)
+at_nobody (suc (suc zero)) k at = same_Some k Nothing (sym at)
+at_nobody (suc (suc (suc worker))) k at = absurd cc
+
+nothing_out : (worker : ℕ) (k : Kept) (id : RequestId) → slice_get nobody worker ≡ Some k → id_of k ≡ Some id → ⊥
+nothing_out worker k id at has =
+    let none : None ≡ Some id = sym (ap id_of (at_nobody worker k at)) ∙ has in
+    cc
+
+pub nobody_places : (slots : ℕ) → AreInPlace nobody slots
+nobody_places slots = record {
+  three = refl;
+  own = λ worker k id at has. absurd (nothing_out worker k id at has);
+  range = λ worker k id at has. absurd (nothing_out worker k id at has);
+  apart = λ worker other j k m n at_j at_k has_m has_n on. absurd (nothing_out worker j m at_j has_m);
+}
+
+pub nothing_made : (worker : ℕ) (made : Made) → slice_get nobody worker ≡ Some (Outcome made) → ⊥
+nothing_made worker made at =
+    let gone : Outcome made ≡ Nothing = at_nobody worker (Outcome made) at in
+    cc
+
+-- where every slot was synced, a crash leaves the contents
+pub all_synced : (contents c : List (List ℕ)) (may_leave : List (List ℕ) → Type 0) → AreSynced (length contents) contents may_leave
+    → length c ≡ length contents → may_leave c → c ≡ contents
+all_synced contents c may_leave synced count may = ext_get_or [] c contents count (λ slot within. synced slot (subst (λ n. slot < n) count within) c may)

@@ -1,0 +1,208 @@
+-- What contents show after an acknowledgement or a reopening.
+use Rattle.std.proofs.Common.{◌≡◌, ℕ, ◌==◌, Bool, true, false, cond, List, [], ◌∷◌, Option, Some, None, MatchOption, refl, sym, ◌∙◌, ap, subst, inl, inr, is_some}
+use Rattle.std.proofs.lemmas.Option.{same_Some}
+use Rattle.std.proofs.lemmas.Bool.Decides.{nat_tests}
+use Rattle.std.proofs.Common.{arith}
+use Rattle.sd_areas.specs.PlainMemory.{PlainMemory}
+use Rattle.sd_pagetable.specs.declared.access_error.AccessError.{AccessError}
+use Rattle.sd_pagetable.specs.declared.access_error.AccessError.TheVariants.{Refused, Segv}
+use Rattle.sd_command.specs.declared.command.Command.{Command}
+use Rattle.sd_command.specs.declared.command.Command.TheVariants as command
+use Rattle.sd_command.specs.declared.reply.Reply.{Reply}
+use Rattle.sd_command.specs.declared.reply.Reply.TheVariants as reply
+use Rattle.sd_command.specs.Replies.{Accepts, IsLegalReply, denial_in, reply_of as access_reply}
+use Rattle.sd_image.specs.Shows.{Shows}
+use Rattle.sd_journal.specs.declared.entry.Entry.TheVariants.{Acked, Reopened}
+use Rattle.sd_journal.specs.Allowed.{IsLastPair, IsPendingPair, Shown}
+use Rattle.sd_journal.specs.History.{Base, History, at_freeze, last, memory_after, pending, unless_it_is}
+use Rattle.sd_journal.specs.Legal.{IsLegal}
+use Rattle.sd_journal.specs.Marked.{IsMarked, Marked, Noted, Told, entries_of}
+use Rattle.sd_belief.specs.Calls.{AddsByCancel, AddsByOrder}
+use Rattle.sd_belief.specs.Shown.{ShowsAllowed}
+use Rattle.sd_belief.specs.View.{CoreView, history_of}
+use Rattle.sd_gate.specs.declared.worker.Worker.{Worker}
+use Rattle.sd_world.specs.declared.event.Event.{Event}
+use Rattle.sd_world.specs.declared.event.Event.TheVariants.{Command as CommandEvent, Begin, Work, Perform, Merge, Cancel, Reopen}
+use Rattle.sd_world.specs.Adds.{Adds, AddsByCommand, AddsByPerform, AddsByWork}
+use Rattle.sd_world.specs.Runs.{ShowsFreeze, ShowsReply}
+
+pub marked_legal : (base : Base) (items : Marked) → IsMarked base items → IsLegal base (entries_of items)
+marked_legal base [] marked = tt
+marked_legal base (Told entry ∷ earlier) marked = (marked.0, marked_legal base earlier marked.1)
+marked_legal base (Noted mark ∷ earlier) marked = marked_legal base earlier marked.1
+
+-- ---- replies of which nothing is said
+
+module _ (base : Base) (history : History) (contents : List (List ℕ)) where
+  abbrev pub Says : Reply → Type 0
+  Says answer = ShowsReply answer base history contents
+
+  says_done : (answer : Reply) → answer ≡ reply.Done → Says answer
+  says_done answer is = subst (λ a. ShowsReply a base history contents) (sym is) tt
+
+  says_access : (why : AccessError) → ShowsReply (access_reply why) base history contents
+  says_access (Refused why) = tt
+  says_access (Segv why) = tt
+
+  says_accepted : (asked : Command) (memory : PlainMemory) (answer : Reply) → Accepts asked memory answer → Says answer
+  says_accepted (command.Mmap space address bytes prot) memory answer is = says_done answer is
+  says_accepted (command.Munmap space address bytes) memory answer is = says_done answer is
+  says_accepted (command.Mprotect space address bytes prot) memory answer is = says_done answer is
+  says_accepted (command.Fork space) memory answer is = subst (λ a. ShowsReply a base history contents) (sym is.1) tt
+  says_accepted (command.Exit space) memory answer is = says_done answer is
+  says_accepted (command.Load space address count) memory answer is = subst (λ a. ShowsReply a base history contents) (sym is.2) tt
+  says_accepted (command.TryStore space address bytes) memory answer is = elim is [
+    | inl done ↦ says_done answer done
+    | inr needs ↦ subst (λ a. ShowsReply a base history contents) (sym needs) tt
+  ]
+  says_accepted (command.Fault space address) memory answer is = elim is [
+    | inl done ↦ says_done answer done
+    | inr refused ↦ subst (λ a. ShowsReply a base history contents) (sym refused) tt
+  ]
+  says_accepted (command.Store space address bytes) memory answer is = elim is [
+    | inl done ↦ says_done answer done
+    | inr refused ↦ subst (λ a. ShowsReply a base history contents) (sym refused) tt
+  ]
+
+  says_judged : (due : Option AccessError) (asked : Command) (memory : PlainMemory) (answer : Reply)
+      → MatchOption due (Accepts asked memory answer) (λ why. answer ≡ access_reply why) → Says answer
+  says_judged None asked memory answer is = says_accepted asked memory answer is
+  says_judged (Some why) asked memory answer is = subst (λ a. ShowsReply a base history contents) (sym is) (says_access why)
+
+  says_legal : (memory : PlainMemory) (frozen : Bool) (asked : Command) (answer : Reply) → IsLegalReply memory frozen asked answer → Says answer
+  says_legal memory true asked answer is = subst (λ a. ShowsReply a base history contents) (sym is) tt
+  says_legal memory false asked answer is = says_judged (denial_in memory asked) asked memory answer is
+
+  says_order : (answer : Reply) (old new : History) → AddsByOrder answer old new → Says answer
+  says_order reply.Done old new adds = tt
+  says_order (reply.Bytes bytes) old new adds = tt
+  says_order (reply.Child space) old new adds = tt
+  says_order reply.NeedsFault old new adds = tt
+  says_order (reply.Segv why) old new adds = tt
+  says_order (reply.Begun n) old new adds = tt
+  says_order reply.Worked old new adds = tt
+  says_order (reply.Acked n) old new adds = absurd adds
+  says_order (reply.Cancelled n) old new adds = tt
+  says_order (reply.Merged serial) old new adds = tt
+  says_order (reply.Reopened m) old new adds = absurd adds
+  says_order (reply.Refused why) old new adds = tt
+
+  says_cancel : (answer : Reply) (old new : History) → AddsByCancel answer old new → Says answer
+  says_cancel reply.Done old new adds = tt
+  says_cancel (reply.Bytes bytes) old new adds = tt
+  says_cancel (reply.Child space) old new adds = tt
+  says_cancel reply.NeedsFault old new adds = tt
+  says_cancel (reply.Segv why) old new adds = tt
+  says_cancel (reply.Begun n) old new adds = tt
+  says_cancel reply.Worked old new adds = tt
+  says_cancel (reply.Acked n) old new adds = absurd adds
+  says_cancel (reply.Cancelled n) old new adds = tt
+  says_cancel (reply.Merged serial) old new adds = tt
+  says_cancel (reply.Reopened m) old new adds = absurd adds
+  says_cancel (reply.Refused why) old new adds = tt
+
+  says_perform : (answer : Reply) (old new : History) → AddsByPerform answer old new → Says answer
+  says_perform reply.Done old new adds = tt
+  says_perform (reply.Bytes bytes) old new adds = tt
+  says_perform (reply.Child space) old new adds = tt
+  says_perform reply.NeedsFault old new adds = tt
+  says_perform (reply.Segv why) old new adds = tt
+  says_perform (reply.Begun n) old new adds = tt
+  says_perform reply.Worked old new adds = tt
+  says_perform (reply.Acked n) old new adds = absurd adds
+  says_perform (reply.Cancelled n) old new adds = tt
+  says_perform (reply.Merged serial) old new adds = tt
+  says_perform (reply.Reopened m) old new adds = absurd adds
+  says_perform (reply.Refused why) old new adds = tt
+
+-- ---- an acknowledgement, and a reopening
+
+same_test : (n : ℕ) → (n == n) ≡ true
+same_test n = grind (arith, nat_tests)
+
+ended : (n : ℕ) (was : Option ℕ) → was ≡ Some n → unless_it_is n was ≡ None
+ended n None is = absurd cc
+ended n (Some m) is = ap (λ k. unless_it_is n (Some k)) (same_Some m n is) ∙ ap (λ b. cond b None (Some n)) (same_test n)
+
+module _ (base : Base) (earlier : History) (contents : List (List ℕ)) where
+  last_shown : (history : History) (n : ℕ) (shown : Shown) → last base history ≡ Some n → IsLastPair base history shown → Shows contents shown
+      → ShowsFreeze base history n contents
+  last_shown history n None is pair shows = absurd (none_some (sym pair ∙ is))
+    where
+      none_some : (let none : Option ℕ = None in none ≡ Some n) → ⊥
+      none_some e = cc
+  last_shown history n (Some pair) is it shows =
+      let same : pair.0 ≡ n = same_Some pair.0 n (sym it.0 ∙ is) in
+      record {
+        memory = pair.1;
+        freeze = ap (at_freeze base history) (sym same) ∙ it.1;
+        shows = subst (λ k. Shows contents (Some (k, pair.1))) same shows;
+      }
+
+  none_shown : (history : History) (shown : Shown) → last base history ≡ None → IsLastPair base history shown → Shows contents shown → Shows contents None
+  none_shown history None is pair shows = shows
+  none_shown history (Some pair) is it shows = absurd (none_some (sym is ∙ it.0))
+    where
+      none_some : (let none : Option ℕ = None in none ≡ Some pair.0) → ⊥
+      none_some e = cc
+
+  not_pending : (history : History) (shown : Shown) → pending history ≡ None → IsPendingPair base history shown → ⊥
+  not_pending history None is pair = pair
+  not_pending history (Some pair) is it = none_some (sym is ∙ it.0)
+    where
+      none_some : (let none : Option ℕ = None in none ≡ Some pair.0) → ⊥
+      none_some e = cc
+
+  acked_shows : (n : ℕ) → IsLegal base (Acked n ∷ earlier) → ShowsAllowed base (Acked n ∷ earlier) contents → ShowsFreeze base (Acked n ∷ earlier) n contents
+  acked_shows n legal allowed = elim allowed.allowed [
+    | inl it ↦ last_shown (Acked n ∷ earlier) n allowed.shown refl it allowed.shows
+    | inr it ↦ absurd (not_pending (Acked n ∷ earlier) allowed.shown (ended n (pending earlier) legal.0) it)
+  ]
+
+  reopened_shows : (m : Option ℕ) → ShowsAllowed base (Reopened m ∷ earlier) contents → ShowsReply (reply.Reopened m) base (Reopened m ∷ earlier) contents
+  reopened_shows None allowed = elim allowed.allowed [
+    | inl it ↦ none_shown (Reopened None ∷ earlier) allowed.shown refl it allowed.shows
+    | inr it ↦ absurd (not_pending (Reopened None ∷ earlier) allowed.shown refl it)
+  ]
+  reopened_shows (Some n) allowed = elim allowed.allowed [
+    | inl it ↦ last_shown (Reopened (Some n) ∷ earlier) n allowed.shown refl it allowed.shows
+    | inr it ↦ absurd (not_pending (Reopened (Some n) ∷ earlier) allowed.shown refl it)
+  ]
+
+says_work : (base : Base) (contents : List (List ℕ)) (worker : Worker) (core : CoreView) (answer : Reply) (old new : History)
+    → AddsByWork worker core answer old new → IsLegal base new → ShowsAllowed base new contents → ShowsReply answer base new contents
+says_work base contents worker core reply.Done old new adds legal allowed = tt
+says_work base contents worker core (reply.Bytes bytes) old new adds legal allowed = tt
+says_work base contents worker core (reply.Child space) old new adds legal allowed = tt
+says_work base contents worker core reply.NeedsFault old new adds legal allowed = tt
+says_work base contents worker core (reply.Segv why) old new adds legal allowed = tt
+says_work base contents worker core (reply.Begun n) old new adds legal allowed = tt
+says_work base contents worker core reply.Worked old new adds legal allowed = tt
+says_work base contents worker core (reply.Acked n) old new adds legal allowed =
+    subst (λ h. ShowsFreeze base h n contents) (sym adds.1)
+    (acked_shows base old contents n (subst (IsLegal base) adds.1 legal) (subst (λ h. ShowsAllowed base h contents) adds.1 allowed))
+says_work base contents worker core (reply.Cancelled n) old new adds legal allowed = tt
+says_work base contents worker core (reply.Merged serial) old new adds legal allowed = tt
+says_work base contents worker core (reply.Reopened m) old new adds legal allowed =
+    subst (λ h. ShowsReply (reply.Reopened m) base h contents) (sym adds.1)
+    (reopened_shows base old contents m (subst (λ h. ShowsAllowed base h contents) adds.1 allowed))
+says_work base contents worker core (reply.Refused why) old new adds legal allowed = tt
+
+says_command : (base : Base) (contents : List (List ℕ)) (seat : ℕ) (asked : Command) (answer : Reply) (old new : History)
+    → AddsByCommand seat asked answer old new → IsLegal base new → ShowsReply answer base new contents
+says_command base contents seat asked answer old new adds legal = elim adds [
+  | inl (journaled, is) ↦ says_legal base new contents (memory_after base old) (is_some (pending old)) asked answer (subst (IsLegal base) is legal).0
+  | inr (unjournaled, is) ↦ subst (λ a. ShowsReply a base new contents) (sym unjournaled.is) tt
+]
+
+pub says : (event : Event) (answer : Reply) (old new : CoreView) (contents : List (List ℕ)) → Adds event answer old new → IsLegal new.base (history_of new)
+    → ShowsAllowed new.base (history_of new) contents → ShowsReply answer new.base (history_of new) contents
+says (CommandEvent seat asked) answer old new contents adds legal allowed =
+    says_command new.base contents seat asked answer (history_of old) (history_of new) adds legal
+says (Begin rounds) answer old new contents adds legal allowed = says_order new.base (history_of new) contents answer (history_of old) (history_of new) adds
+says (Work worker) answer old new contents adds legal allowed =
+    says_work new.base contents worker old answer (history_of old) (history_of new) adds legal allowed
+says (Perform worker) answer old new contents adds legal allowed = says_perform new.base (history_of new) contents answer (history_of old) (history_of new) adds
+says Merge answer old new contents adds legal allowed = says_order new.base (history_of new) contents answer (history_of old) (history_of new) adds
+says Cancel answer old new contents adds legal allowed = says_cancel new.base (history_of new) contents answer (history_of old) (history_of new) adds
+says Reopen answer old new contents adds legal allowed = says_order new.base (history_of new) contents answer (history_of old) (history_of new) adds

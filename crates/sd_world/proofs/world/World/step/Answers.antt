@@ -1,0 +1,66 @@
+use Rattle.std.proofs.Common.{refl, subst}
+use Rattle.sd_disk.specs.Crash.{Within}
+use Rattle.sd_belief.specs.Shown.{ShowsAllowed}
+use Rattle.sd_belief.specs.View.{CoreView, history_of, index}
+use Rattle.sd_world.specs.declared.kept.Kept.TheVariants.{Request}
+use Rattle.sd_world.specs.Consistent.{IsWorld}
+use Rattle.sd_world.specs.Steps.{Does}
+use Rattle.sd_world.specs.View.{WorldView}
+use Rattle.sd_world.proofs.AddsLemmas.{step_adds, step_base, step_honest, step_span}
+use Rattle.sd_world.proofs.AllowedLemmas.{world_allows}
+use Rattle.sd_world.proofs.ReplyLemmas.{marked_legal, says}
+use Rattle.sd_world.proofs.StepLemmas.{step_world}
+use Rattle.sd_world.proofs.world.World.step.Goals as goal
+
+pub make_step-answer-requires : goal.make_step-answer-requires
+make_step-answer-requires g c = λ worker request at. c.self.invariant.places.range (index worker) (Request request) request.id at refl
+
+pub invariant_of-self : goal.invariant_of-self
+invariant_of-self g c = step_world g.D.Disk (record { core = c.self.inside.core; disk = c.self.inside.disk; kept = c.self.inside.kept })
+    (record { core = c.make_step-answer.new.core; disk = c.make_step-answer.new.disk; kept = c.make_step-answer.new.kept })
+    c.given_up_fits.ensures c.synced_is_found.ensures (g.met.D.Disk.as_read c.self.inside.disk) c.performed_law.ensures c.self.invariant
+    c.args.event.now c.make_step-answer.result c.make_step-answer.ensures
+
+pub returns-clause-adds : goal.returns-clause-adds
+returns-clause-adds g c =
+    let new : WorldView g.row.D.Denot = record { core = c.make_step-answer.new.core; disk = c.make_step-answer.new.disk; kept = c.make_step-answer.new.kept } in
+    step_adds g.D.Disk c.args.self.now new (subst (IsWorld g.D.Disk) c.self.view_is c.self.invariant) c.args.event.now c.make_step-answer.result
+    (subst (λ w. Does g.D.Disk c.args.event.now w c.make_step-answer.result new) c.self.view_is c.make_step-answer.ensures)
+
+pub returns-clause-base : goal.returns-clause-base
+returns-clause-base g c =
+    let new : WorldView g.row.D.Denot = record { core = c.make_step-answer.new.core; disk = c.make_step-answer.new.disk; kept = c.make_step-answer.new.kept } in
+    step_base g.D.Disk c.args.self.now new (subst (IsWorld g.D.Disk) c.self.view_is c.self.invariant) c.args.event.now c.make_step-answer.result
+    (subst (λ w. Does g.D.Disk c.args.event.now w c.make_step-answer.result new) c.self.view_is c.make_step-answer.ensures)
+
+pub returns-clause-at_end : goal.returns-clause-at_end
+returns-clause-at_end g c =
+    let new : WorldView g.row.D.Denot = record { core = c.make_step-answer.new.core; disk = c.make_step-answer.new.disk; kept = c.make_step-answer.new.kept } in
+    world_allows g.D.Disk new c.left_as_believed.ensures c.contents_show.ensures (g.met.D.Disk.same_slots c.make_step-answer.new.disk)
+    (invariant_of-self g c)
+
+pub returns-clause-contents : goal.returns-clause-contents
+returns-clause-contents g c = λ honest. returns-clause-at_end g c honest (g.D.Disk.contents c.make_step-answer.new.disk)
+    (g.met.D.Disk.as_read c.make_step-answer.new.disk)
+
+pub returns-clause-shows : goal.returns-clause-shows
+returns-clause-shows g c = λ honest contents may.
+    let core = c.make_step-answer.new.core in
+    says c.args.event.now c.make_step-answer.result c.args.self.now.core core contents (returns-clause-adds g c)
+    (marked_legal core.base core.items c.sound.ensures.marked) (returns-clause-at_end g c honest contents may)
+
+pub returns-clause-reads : goal.returns-clause-reads
+returns-clause-reads g c = λ honest. returns-clause-shows g c honest (g.D.Disk.contents c.make_step-answer.new.disk)
+    (g.met.D.Disk.as_read c.make_step-answer.new.disk)
+
+pub returns-clause-any_moment : goal.returns-clause-any_moment
+returns-clause-any_moment g c = λ honest.
+    let new : WorldView g.row.D.Denot = record { core = c.make_step-answer.new.core; disk = c.make_step-answer.new.disk; kept = c.make_step-answer.new.kept } in
+    let old = c.args.self.now in
+    let world = subst (IsWorld g.D.Disk) c.self.view_is c.self.invariant in
+    let does = subst (λ w. Does g.D.Disk c.args.event.now w c.make_step-answer.result new) c.self.view_is c.make_step-answer.ensures in
+    let before = world_allows g.D.Disk old c.left_as_believed.ensures c.contents_show.ensures (g.met.D.Disk.same_slots old.disk) world
+    (step_honest g.D.Disk old new world c.args.event.now c.make_step-answer.result does honest) in
+    step_span g.D.Disk old new world (ShowsAllowed old.core.base (history_of old.core)) (g.met.D.Disk.only_now old.disk) before
+    c.args.event.now c.make_step-answer.result does
+    (λ same. subst (λ (core : CoreView). Within (g.D.Disk.may_leave new.disk) (ShowsAllowed core.base (history_of core))) same (returns-clause-at_end g c honest))

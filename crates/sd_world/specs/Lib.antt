@@ -1,0 +1,7 @@
+pub mod Adds
+pub mod Consistent
+pub mod Runs
+pub mod Steps
+pub mod View
+pub mod Opens
+pub mod Restored

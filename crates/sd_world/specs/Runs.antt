@@ -1,0 +1,44 @@
+-- Whole runs, and what they show.
+use Rattle.std.specs.Prelude.{◌≡◌, ℕ, List, [], ◌∷◌, ◌++◌, Some, None}
+use Rattle.sd_areas.specs.PlainMemory.{PlainMemory}
+use Rattle.sd_command.specs.declared.reply.Reply.{Reply}
+use Rattle.sd_command.specs.declared.reply.Reply.TheVariants as reply
+use Rattle.sd_image.specs.Shows.{Shows}
+use Rattle.sd_journal.specs.History.{Base, History, at_freeze}
+use Rattle.sd_belief.specs.Shown.{ShowsAllowed}
+use Rattle.sd_belief.specs.View.{CoreView}
+use Rattle.sd_world.specs.declared.event.Event.{Event}
+use Rattle.sd_world.specs.Adds.{Adds}
+
+-- a checkpoint with the memory at its freeze
+pub record ShowsFreeze (base : Base) (history : History) (n : ℕ) (contents : List (List ℕ)) : Type 0 where
+  pub memory : PlainMemory
+  pub freeze : at_freeze base history n ≡ Some memory
+  pub shows : Shows contents (Some (n, memory))
+
+-- after this reply contents show that checkpoint, or nothing saved; other replies say nothing of it
+abbrev pub ShowsReply : Reply → Base → History → List (List ℕ) → Type 0
+ShowsReply (reply.Acked n) base history contents = ShowsFreeze base history n contents
+ShowsReply (reply.Reopened (Some n)) base history contents = ShowsFreeze base history n contents
+ShowsReply (reply.Reopened None) base history contents = Shows contents None
+ShowsReply _ base history contents = Unit {0}
+
+-- a journal that begins with the first, and with which the last begins
+pub record IsBetween (first some last : History) : Type 0 where
+  pub added : History
+  pub grown : some ≡ added ++ first
+  pub more : History
+  pub grows : last ≡ more ++ some
+
+-- contents show what such a journal allows
+pub record ShowsAllowedBetween (base : Base) (first last : History) (contents : List (List ℕ)) : Type 0 where
+  pub history : History
+  pub between : IsBetween first history last
+  pub shows : ShowsAllowed base history contents
+
+-- the core goes from the first state to the last, event by event, each answered by its reply
+abbrev pub Runs : CoreView → List Event → List Reply → CoreView → Type 0
+Runs first [] [] last = last ≡ first
+Runs first (event ∷ events) (answer ∷ answers) last = (next : CoreView) × Adds event answer first next × Runs next events answers last
+Runs first [] (answer ∷ answers) last = ⊥
+Runs first (event ∷ events) [] last = ⊥

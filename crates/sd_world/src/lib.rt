@@ -1,0 +1,19 @@
+//! A core over a disk: whatever events are run, and wherever a crash comes, the disk holds what one freeze of the journal
+//! says.
+#![tactic(auto)]
+
+mod event;
+mod kept;
+mod looking;
+mod open_error;
+mod open_fault;
+mod opening;
+mod restoring;
+mod stepping;
+mod world;
+
+pub use event::Event;
+pub use open_error::OpenError;
+pub use open_fault::OpenFault;
+pub use restoring::restore_left;
+pub use world::World;

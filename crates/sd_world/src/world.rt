@@ -1,0 +1,258 @@
+//! A world: a core, its disk, and what is kept of the workers between events.
+ghost use Rattle.std.specs.Prelude.{◌≡◌, ◌≢◌, ◌≤◌, ◌∷◌, [], ℕ, List, None, false, true, IfOk, IfErr};
+ghost use Rattle.sd_command.specs.declared.refusal.Refusal.TheVariants.{Busy, Idle, OutOfMemory};
+ghost use Rattle.sd_command.specs.declared.reply.Reply.TheVariants as reply;
+ghost use Rattle.sd_disk.specs.Crash.{Within};
+ghost use Rattle.sd_disk.specs.Reads.{OnlyReads};
+ghost use Rattle.sd_disk.specs.Spans.{LeavesOnly};
+ghost use Rattle.sd_image.specs.Shows.{Shows};
+ghost use Rattle.sd_pagetable.specs.Contents.{plain_of};
+ghost use Rattle.sd_belief.specs.declared.standing.Standing.TheVariants.{NotOpen};
+ghost use Rattle.sd_core.specs.Starts.{shown_base};
+ghost use Rattle.sd_world.specs.declared.kept.Kept.TheVariants.{Nothing};
+ghost use Rattle.sd_world.specs.Opens.{HasNoFrame, IsFaultOf, bare_memory};
+ghost use Rattle.sd_gate.specs.declared.worker.Worker.{Worker as WorkerKind};
+ghost use Rattle.sd_journal.specs.Marked.{IsTracked};
+ghost use Rattle.sd_belief.specs.Shown.{ShowsAllowed};
+ghost use Rattle.sd_belief.specs.View.{history_of};
+ghost use Rattle.sd_world.specs.declared.event.Event.TheVariants.{Perform, Work};
+ghost use Rattle.sd_world.specs.Adds.{Adds};
+ghost use Rattle.sd_world.specs.Restored.{IsRestored};
+ghost use Rattle.sd_world.specs.Runs.{Runs, ShowsAllowedBetween, ShowsReply};
+ghost use Rattle.sd_world.specs.Steps.{Does, IsAnswered};
+ghost use Rattle.sd_world.specs.View.{is_asked};
+
+use crate::event::Event;
+use crate::kept::{Kept, is_asked};
+use crate::open_error::OpenError;
+use crate::open_fault::OpenFault;
+use crate::opening::start_of;
+use crate::restoring::restore_left;
+use crate::stepping::make_step;
+use sd_areas::Snapshot;
+use sd_belief::performed_law;
+use sd_command::{Refusal, Reply};
+use sd_core::Core;
+use sd_disk::Disk;
+use sd_gate::{Worker, all_found_fit, given_up_fits};
+use sd_restore::Fault;
+use sd_store_laws::{contents_show, left_as_believed, synced_is_found};
+use std::alloc::Global;
+use std::marker::Model;
+
+/// A core, its disk, and what is kept of the workers between events.
+#[derive(Drop)]
+pub struct World<D: Disk> {
+    alloc: Global,
+    core: Core,
+    disk: D,
+    kept: [Kept; 3],
+}
+
+impl<D: Disk> Model for World<D> {
+    ghost use Rattle.std.specs.Coded.{codes};
+    ghost use Rattle.sd_world.specs.View.{WorldView, world_code};
+    ghost use Rattle.sd_world.specs.Consistent.{IsWorld};
+
+    ghost Value = { WorldView D };
+
+    ghost coded = { world_code (Prim.hlevel (codes)) D.code (Prim.hlevel (codes)) };
+
+    ghost view = { λ w. record { core = w.core; disk = w.disk; kept = w.kept } };
+
+    ghost invariant = { λ w. IsWorld D.Disk (record { core = w.core; disk = w.disk; kept = w.kept }) };
+}
+
+impl<D: Disk> World<D> {
+    /// Opens a store: syncs each slot, reads what it shows, and starts a run from it, over so many frames, 1 to 65,536.
+    /// The core's store isn't open yet. Where nothing was saved the run starts from space 1 alone, without areas.
+    ///
+    /// # Errors
+    ///
+    /// `NoFrame` where more pages than there are frames aren't all zeros. `Damaged` names a slot, as `restore` does.
+    /// `Device`, and `OutOfMemory` where a growth was refused. Each hands the disk back.
+    pub fn open(alloc: Global, mut disk: D, frames: usize) -> Result<World<D>, OpenError<D>>
+        requires least { 1 ≤ frames }
+        requires greatest { frames ≤ 65536 }
+
+        // No entry stands in the journal, the store isn't open, and nothing is out.
+        ensures journal { IfOk result (λ world. world.core.items ≡ []) }
+        ensures standing { IfOk result (λ world. world.core.standing ≡ NotOpen) }
+        ensures kept { IfOk result (λ world. world.kept ≡ Nothing ∷ Nothing ∷ Nothing ∷ []) }
+
+        // The contents show the base, or nothing saved where it has no number, and so does every outcome of a crash.
+        ensures shows { IfOk result (λ world. D.is_honest world.disk → Shows (D.contents disk)
+            (shown_base world.core.base.number world.core.base.memory)) }
+        ensures everywhere { IfOk result (λ world. D.is_honest world.disk
+            → Within (D.may_leave world.disk) (λ c. Shows c
+            (shown_base world.core.base.number world.core.base.memory))) }
+        ensures bare { IfOk result (λ world. world.core.base.number ≡ None
+            → world.core.base.memory ≡ bare_memory) }
+        // The memory that the run starts with is the base's.
+        ensures memory { IfOk result
+            (λ world. plain_of world.core.memory ≡ world.core.base.memory) }
+
+        // It only reads: the contents stay, and no crash, afterwards or within it, leaves more than one before it.
+        ensures reads { IfOk result (λ world. OnlyReads D.Disk disk world.disk) }
+        ensures refused { IfErr result (λ error. OnlyReads D.Disk disk error.disk) }
+        ensures fault { IfErr result (λ error. D.is_honest error.disk
+            → IsFaultOf (D.contents disk) (D.failed disk) (D.failed error.disk) error.fault) }
+        ensures no_frame { IfErr result (λ error. D.is_honest error.disk
+            → error.fault ≡ OpenFault.NoFrame → HasNoFrame (D.contents disk) frames) }
+    {
+        match start_of(alloc, &mut disk, frames) {
+            Ok(start) => {
+                all_found_fit(&disk);
+                let core = Core::new(alloc, start);
+                let kept = [Kept::Nothing, Kept::Nothing, Kept::Nothing];
+                Ok(World {
+                    alloc,
+                    core,
+                    disk,
+                    kept,
+                })
+            }
+            Err(fault) => Err(OpenError { fault, disk }),
+        }
+    }
+
+    /// The core.
+    pub fn core(&self) -> &Core
+        ensures { result.now ≡ self.now.core }
+    {
+        &self.core
+    }
+
+    /// Whether a device call of a worker is out that wasn't made yet. Its next event is then `Perform`, and else `Work`.
+    pub fn is_out(&self, worker: Worker) -> bool
+        ensures { result ≡ is_asked self.now.kept worker }
+    {
+        is_asked(&self.kept, worker)
+    }
+
+    /// The disk, as it stands.
+    pub fn close(self) -> D
+        ensures { result ≡ self.disk }
+    {
+        self.disk
+    }
+
+    /// A law: whatever a crash leaves now shows a pair that the journal allows, and so do the contents as read. The
+    /// journal is legal, the memory is the one that it makes, and its bits are those that the commands and visits give.
+    pub fn sound(&self)
+        ensures allowed { D.is_honest self.now.disk → Within (D.may_leave self.now.disk)
+            (ShowsAllowed self.now.core.base (history_of self.now.core)) }
+        ensures contents { D.is_honest self.now.disk
+            → ShowsAllowed self.now.core.base (history_of self.now.core)
+            (D.contents self.now.disk) }
+        ensures tracked { IsTracked self.now.core.base self.now.core.items
+            self.now.core.memory }
+    {
+        left_as_believed();
+        contents_show();
+        self.core.sound();
+    }
+
+    /// Restores a disk that holds what a crash of this world's disk may leave now: exactly a pair that the journal allows,
+    /// or the empty chain where nothing was saved.
+    ///
+    /// # Errors
+    ///
+    /// Those of `restore`, but none of the store: it is never called damaged.
+    pub fn restore_crashed<C: Disk>(&self, crashed: &mut C) -> Result<Snapshot, Fault>
+        ensures { D.is_honest self.now.disk → C.is_honest crashed.new
+            → D.may_leave self.now.disk (C.contents crashed.old)
+            → IsRestored self.now.core.base (history_of self.now.core) result }
+    {
+        self.sound();
+        restore_left(self.alloc, crashed)
+    }
+
+    /// Makes one event, and answers it.
+    pub fn step(&mut self, event: &Event) -> Reply
+        // What it does to the core, the disk and what is kept.
+        ensures does { Does D.Disk event.now self.old result self.new }
+        ensures busy { (worker : WorkerKind) → event.now ≡ Work worker
+            → is_asked self.old.kept worker ≡ true
+            → (result ≡ reply.Refused Busy) × (self.new ≡ self.old) }
+        ensures idle { (worker : WorkerKind) → event.now ≡ Perform worker
+            → is_asked self.old.kept worker ≡ false
+            → (result ≡ reply.Refused Idle) × (self.new ≡ self.old) }
+
+        // A device call is answered by how it ended, and no other event touches the disk.
+        ensures device { (worker : WorkerKind) → event.now ≡ Perform worker
+            → is_asked self.old.kept worker ≡ true
+            → IsAnswered (D.failed self.old.disk) (D.failed self.new.disk) result }
+        ensures quiet { ((worker : WorkerKind) → event.now ≢ Perform worker)
+            → self.new.disk ≡ self.old.disk }
+
+        // What it adds to the journal. What the run started from stays.
+        ensures adds { Adds event.now result self.old.core self.new.core }
+        ensures base { self.new.core.base ≡ self.old.core.base }
+        ensures honest { D.is_honest self.new.disk → D.is_honest self.old.disk }
+
+        // At any moment of it a crash leaves what the journal allowed with which it began.
+        ensures any_moment { D.is_honest self.new.disk
+            → LeavesOnly D.Disk self.old.disk self.new.disk
+            (ShowsAllowed self.old.core.base (history_of self.old.core)) }
+        // At its end a crash leaves what the journal allows then.
+        ensures at_end { D.is_honest self.new.disk → Within (D.may_leave self.new.disk)
+            (ShowsAllowed self.new.core.base (history_of self.new.core)) }
+        // After an acknowledgement, or a reopening, it leaves that checkpoint with the memory at its freeze, or nothing
+        // saved where the reopening found none.
+        ensures shows { D.is_honest self.new.disk → Within (D.may_leave self.new.disk)
+            (ShowsReply result self.new.core.base (history_of self.new.core)) }
+        // So do the contents as read.
+        ensures contents { D.is_honest self.new.disk
+            → ShowsAllowed self.new.core.base (history_of self.new.core)
+            (D.contents self.new.disk) }
+        ensures reads { D.is_honest self.new.disk
+            → ShowsReply result self.new.core.base (history_of self.new.core)
+            (D.contents self.new.disk) }
+    {
+        performed_law();
+        left_as_believed();
+        contents_show();
+        given_up_fits(&self.disk);
+        synced_is_found(&self.disk);
+        let answer = make_step(&mut self.core, &mut self.disk, &mut self.kept, event);
+        self.core.sound();
+        answer
+    }
+
+    /// Makes the steps of events in order, and returns their replies.
+    ///
+    /// # Errors
+    ///
+    /// `OutOfMemory` where there is no room for the replies: no step is made.
+    pub fn run(&mut self, events: &[Event]) -> Result<Vec<Reply>, Refusal>
+        ensures runs { IfOk result
+            (λ replies. Runs self.old.core events.now replies.items self.new.core) }
+        ensures refused { IfErr result (λ why. (why ≡ OutOfMemory) × (self.new ≡ self.old)) }
+        ensures base { self.new.core.base ≡ self.old.core.base }
+        ensures honest { D.is_honest self.new.disk → D.is_honest self.old.disk }
+
+        // At any moment of it a crash leaves what the journal allowed with which it began, or with which a step ended.
+        ensures any_moment { D.is_honest self.new.disk
+            → LeavesOnly D.Disk self.old.disk self.new.disk
+            (ShowsAllowedBetween self.old.core.base (history_of self.old.core)
+            (history_of self.new.core)) }
+        // At its end a crash leaves what the journal allows then, and so do the contents as read.
+        ensures at_end { D.is_honest self.new.disk → Within (D.may_leave self.new.disk)
+            (ShowsAllowed self.new.core.base (history_of self.new.core)) }
+        ensures contents { D.is_honest self.new.disk
+            → ShowsAllowed self.new.core.base (history_of self.new.core)
+            (D.contents self.new.disk) }
+    {
+        self.sound();
+        let Ok(mut replies) = Vec::with_capacity(self.alloc, events.len()) else {
+            return Err(Refusal::OutOfMemory);
+        };
+        for event in events {
+            let answer = self.step(event);
+            replies.push_reserved(answer);
+        }
+        self.sound();
+        Ok(replies)
+    }
+}

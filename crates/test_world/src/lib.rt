@@ -1,0 +1,5 @@
+//! Tests of worlds by their public names.
+#![tactic(auto)]
+
+#[cfg(test)]
+mod opening;
