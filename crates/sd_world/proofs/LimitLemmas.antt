@@ -1,9 +1,9 @@
 -- A memory within the limits is refused for want of frames alone.
-use Rattle.std.proofs.Common.{◌≡◌, ◌≢◌, ℕ, ◌+◌, ◌<◌, ◌≤◌, ◌==◌, ◌||◌, nat_lt, Bool, true, false, cond, List, [], ◌∷◌, map, length, sum_by, Option, Some, None, Contains, zero, suc, refl, sym, ◌∙◌, ap, subst, arith}
+use Rattle.std.proofs.Common.{◌≡◌, ℕ, ◌+◌, ◌<◌, ◌≤◌, ◌||◌, nat_lt, Bool, true, false, cond, List, [], ◌∷◌, length, sum_by, Some, None, Contains, suc, refl, sym, ◌∙◌, ap, subst, arith}
 use Rattle.std.proofs.lemmas.Bool.{le-ltb, ltb-true, ne_eqb}
 use Rattle.std.specs.List.{fold, list_any}
 use Rattle.std.specs.FinMap as finmap
-use Rattle.sd_areas.specs.Areas.{PageMap, areas_of}
+use Rattle.sd_areas.specs.Areas.{areas_of}
 use Rattle.sd_areas.specs.PlainMemory.{Page, PlainMemory, Space}
 use Rattle.sd_pagetable.specs.declared.access_error.AccessError.{AccessError}
 use Rattle.sd_pagetable.specs.declared.access_error.AccessError.TheVariants.{Refused}

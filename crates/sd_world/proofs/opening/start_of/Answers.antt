@@ -1,4 +1,4 @@
-use Rattle.std.proofs.Common.{rules, ◌≡◌, ℕ, List, Some, sym, subst, ap, ◌∙◌}
+use Rattle.std.proofs.Common.{rules, ◌≡◌, ℕ, List, Some, subst}
 use Rattle.sd_areas.specs.Memory.{memory_of}
 use Rattle.sd_world.specs.Opens.{IsFaultOf}
 use Rattle.sd_areas.specs.PlainMemory.{PlainMemory}
