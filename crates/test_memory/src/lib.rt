@@ -20,6 +20,8 @@ mod plain_spaces;
 #[cfg(test)]
 mod procfs_tests;
 #[cfg(test)]
+mod run;
+#[cfg(test)]
 mod space_tests;
 #[cfg(test)]
 mod support;

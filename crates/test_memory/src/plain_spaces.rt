@@ -1,5 +1,6 @@
 //! Calls on plain maps of pages, and what a memory returns of each.
 use crate::plain_page::PlainPage;
+use crate::run::Run;
 use crate::support::{
     EINVAL, ENOMEM, LAST_SPACE, NO_SUCH_SPACE, NOT_MAPPED, NOT_PERMITTED, TOO_MANY_SPACES,
 };
@@ -13,19 +14,6 @@ type Pages = BTreeMap<u64, PlainPage>;
 
 /// The pages of each living space.
 pub(crate) type PlainSpaces = BTreeMap<SpaceId, Pages>;
-
-/// A run of pages: `count` of them, from `first` on.
-#[derive(Clone, Copy, Debug)]
-pub(crate) struct Run {
-    pub first: u64,
-    pub count: u64,
-}
-
-impl Run {
-    fn end(self) -> u64 {
-        self.first.saturating_add(self.count)
-    }
-}
 
 /// Adds a space with these pages.
 pub(crate) fn add_space(

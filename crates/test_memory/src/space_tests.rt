@@ -1,6 +1,7 @@
 //! Calls by chance on a few spaces of a memory, and on plain maps beside it.
 use crate::plain_page::PlainPage;
-use crate::plain_spaces::{self, PlainSpaces, Run};
+use crate::plain_spaces::{self, PlainSpaces};
+use crate::run::Run;
 use crate::support::{NONE, READ, READ_WRITE, told};
 use sd_areas::{AreaMap, PAGE_BYTES, PageNo, Prot, SPACE_LIMIT, SpaceId};
 use sd_pagetable::{Memory, MemoryError, SECTOR_SIZE, SECTORS};
