@@ -3,3 +3,4 @@ mod GateSteps
 mod Performed
 mod Places
 mod QuietSteps
+mod Reopened

@@ -1,12 +1,17 @@
 -- What a core goes on believing.
-use Rattle.std.specs.Prelude.{◌≡◌, ℕ, List, drop, map, Option, Some, None, slice_get, slice_set}
+use Rattle.std.specs.Prelude.{◌≡◌, ℕ, List, ◌∷◌, drop, map, Option, Some, None, slice_get, slice_set}
 use Rattle.sd_gate.specs.Calls.{AreKept, IsLook}
+use Rattle.sd_gate.specs.Fits.{DiskLeaves}
 use Rattle.sd_gate.specs.Laws.{found_phase}
 use Rattle.sd_gate.specs.Requests.{Asked, Made}
 use Rattle.sd_image.specs.Shows.{Shows}
-use Rattle.sd_journal.specs.Allowed.{Shown, IsLastPair}
+use Rattle.sd_journal.specs.declared.entry.Entry.TheVariants.{Reopened}
+use Rattle.sd_journal.specs.Allowed.{Shown, IsLastPair, shown_number}
+use Rattle.sd_journal.specs.Legal.{IsLegal}
+use Rattle.sd_journal.specs.Marked.{Told}
 use Rattle.sd_belief.specs.Believes.{Believes}
 use Rattle.sd_belief.specs.Calls.{NoneOut}
+use Rattle.sd_belief.specs.Shown.{ShowsAllowed}
 use Rattle.sd_belief.specs.View.{CoreView, history_of}
 
 -- what a device call makes of a request: the bytes of a read, and of the files: nothing where it only looks
@@ -28,3 +33,24 @@ abbrev pub FoundIsBelieved : Type 0
 FoundIsBelieved = (core : CoreView) (asked : List (Option Asked)) (files : List (List ℕ)) (shown : Shown)
     → core.phases ≡ map found_phase files → core.opener ≡ None → NoneOut asked
     → Shows files shown → IsLastPair core.base (history_of core) shown → Believes core asked (map (drop 1) files) files
+
+-- Whatever a crash leaves of the slots shows a pair that the journal allows.
+abbrev pub LeftShowsAllowed : Type 0
+LeftShowsAllowed = (core : CoreView) (asked : List (Option Asked)) (bodies files left : List (List ℕ))
+    → Believes core asked bodies files → DiskLeaves core.phases bodies left
+    → ShowsAllowed core.base (history_of core) left
+
+-- a store was opened again: the journal has the checkpoint that its files show, and each slot is in the phase that its file tells
+pub record IsReopened (old new : CoreView) (files : List (List ℕ)) (found : Option ℕ) : Type 0 where
+  pub base : new.base ≡ old.base
+  pub items : new.items ≡ Told (Reopened found) ∷ old.items
+  pub legal : IsLegal old.base (Reopened found ∷ history_of old)
+  pub number : (shown : Shown) → Shows files shown → shown_number shown ≡ found
+  pub phases : new.phases ≡ map found_phase files
+  pub opener : new.opener ≡ None
+
+-- What is believed then starts anew from the files, which are as a crash could have left them.
+abbrev pub ReopenedIsBelieved : Type 0
+ReopenedIsBelieved = (old new : CoreView) (asked : List (Option Asked)) (bodies files : List (List ℕ)) (found : Option ℕ)
+    → NoneOut asked → Believes old asked bodies files → DiskLeaves old.phases bodies files → IsReopened old new files found
+    → Believes new asked (map (drop 1) files) files

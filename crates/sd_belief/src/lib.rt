@@ -4,5 +4,5 @@
 mod laws;
 mod standing;
 
-pub use laws::{found_law, gate_steps, performed_law, quiet_steps};
+pub use laws::{found_law, gate_steps, left_law, performed_law, quiet_steps, reopened_law};
 pub use standing::Standing;
