@@ -1,5 +1,9 @@
-//! Tests of worlds by their public names.
+//! Tests of worlds and openers by their public names.
 #![tactic(auto)]
 
 #[cfg(test)]
+mod commands;
+#[cfg(test)]
 mod opening;
+#[cfg(test)]
+mod reopening;
