@@ -16,7 +16,8 @@ use Rattle.sd_belief.specs.View.{CoreView, history_of}
 use Rattle.sd_world.specs.declared.event.Event.{Event}
 use Rattle.sd_world.specs.declared.event.Event.TheVariants.{Command, Begin, Work, Perform, Merge, Cancel, Reopen}
 use Rattle.sd_world.specs.Adds.{Adds, AddsByPerform, AddsByWork}
-use Rattle.sd_world.specs.Runs.{Runs, ShowsAllowedBetween}
+use Rattle.sd_world.specs.Runs.{IsStep, Runs, ShowsAllowedBetween}
+use Rattle.sd_world.specs.View.{WorldView}
 
 -- a journal begins with an earlier one
 pub record HasGrown (old new : History) : Type 0 where
@@ -107,13 +108,13 @@ grown_more first mid last a b = record {
 }
 
 -- one event more
-pub runs_more : (first mid last : CoreView) (events : List Event) (answers : List Reply) (event : Event) (answer : Reply)
-    → Runs first events answers mid → Adds event answer mid last → Runs first (events ++ event ∷ []) (answers ++ answer ∷ []) last
-runs_more first mid last [] [] event answer runs adds = (last, subst (λ core. Adds event answer core last) runs adds, refl)
-runs_more first mid last [] (r ∷ rs) event answer runs adds = absurd runs
-runs_more first mid last (e ∷ es) [] event answer runs adds = absurd runs
-runs_more first mid last (e ∷ es) (r ∷ rs) event answer runs adds =
-    (runs.0, runs.1, runs_more runs.0 mid last es rs event answer runs.2 adds)
+pub runs_more : {D : Type 0} (g : Ghosts D) (first mid last : WorldView D) (events : List Event) (answers : List Reply) (event : Event) (answer : Reply)
+    → Runs g first events answers mid → IsStep g event mid answer last → Runs g first (events ++ event ∷ []) (answers ++ answer ∷ []) last
+runs_more g first mid last [] [] event answer runs step = (last, subst (λ world. IsStep g event world answer last) runs step, refl)
+runs_more g first mid last [] (r ∷ rs) event answer runs step = absurd runs
+runs_more g first mid last (e ∷ es) [] event answer runs step = absurd runs
+runs_more g first mid last (e ∷ es) (r ∷ rs) event answer runs step =
+    (runs.0, runs.1, runs_more g runs.0 mid last es rs event answer runs.2 step)
 
 -- what is shown within a run is so within a longer one
 shown_longer : (base : Base) (first mid last : History) → HasGrown mid last

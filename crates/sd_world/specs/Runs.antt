@@ -3,12 +3,14 @@ use Rattle.std.specs.Prelude.{◌≡◌, ℕ, List, [], ◌∷◌, ◌++◌, Som
 use Rattle.sd_areas.specs.PlainMemory.{PlainMemory}
 use Rattle.sd_command.specs.declared.reply.Reply.{Reply}
 use Rattle.sd_command.specs.declared.reply.Reply.TheVariants as reply
+use Rattle.sd_disk.specs.declared.disk.Disk.{Ghosts}
 use Rattle.sd_image.specs.Shows.{Shows}
 use Rattle.sd_journal.specs.History.{Base, History, at_freeze}
 use Rattle.sd_belief.specs.Shown.{ShowsAllowed}
-use Rattle.sd_belief.specs.View.{CoreView}
 use Rattle.sd_world.specs.declared.event.Event.{Event}
 use Rattle.sd_world.specs.Adds.{Adds}
+use Rattle.sd_world.specs.Steps.{Does}
+use Rattle.sd_world.specs.View.{WorldView}
 
 -- a checkpoint with the memory at its freeze
 pub record ShowsFreeze (base : Base) (history : History) (n : ℕ) (contents : List (List ℕ)) : Type 0 where
@@ -36,9 +38,14 @@ pub record ShowsAllowedBetween (base : Base) (first last : History) (contents : 
   pub between : IsBetween first history last
   pub shows : ShowsAllowed base history contents
 
--- the core goes from the first state to the last, event by event, each answered by its reply
-abbrev pub Runs : CoreView → List Event → List Reply → CoreView → Type 0
-Runs first [] [] last = last ≡ first
-Runs first (event ∷ events) (answer ∷ answers) last = (next : CoreView) × Adds event answer first next × Runs next events answers last
-Runs first [] (answer ∷ answers) last = ⊥
-Runs first (event ∷ events) [] last = ⊥
+-- what an event does to a world, and what it adds to the journal
+pub record IsStep {D : Type 0} (g : Ghosts D) (event : Event) (old : WorldView D) (answer : Reply) (new : WorldView D) : Type 0 where
+  pub does : Does g event old answer new
+  pub adds : Adds event answer old.core new.core
+
+-- the world goes from the first state to the last, event by event, each answered by its reply
+abbrev pub Runs : {D : Type 0} → Ghosts D → WorldView D → List Event → List Reply → WorldView D → Type 0
+Runs g first [] [] last = last ≡ first
+Runs {D} g first (event ∷ events) (answer ∷ answers) last = (next : WorldView D) × IsStep g event first answer next × Runs g next events answers last
+Runs g first [] (answer ∷ answers) last = ⊥
+Runs g first (event ∷ events) [] last = ⊥

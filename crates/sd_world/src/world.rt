@@ -227,7 +227,7 @@ impl<D: Disk> World<D> {
     /// `OutOfMemory` where there is no room for the replies: no step is made.
     pub fn run(&mut self, events: &[Event]) -> Result<Vec<Reply>, Refusal>
         ensures runs { IfOk result
-            (λ replies. Runs self.old.core events.now replies.items self.new.core) }
+            (λ replies. Runs D.Disk self.old events.now replies.items self.new) }
         ensures refused { IfErr result (λ why. (why ≡ OutOfMemory) × (self.new ≡ self.old)) }
         ensures base { self.new.core.base ≡ self.old.core.base }
         ensures honest { D.is_honest self.new.disk → D.is_honest self.old.disk }

@@ -13,7 +13,7 @@ returns-in_default-clause-any_moment g c = λ honest. span_none g.D.Disk c.args.
 
 pub loop-event-init : goal.loop-event-init
 loop-event-init g c = record {
-  runs = subst (λ answers. Runs c.args.self.now.core [] answers c.args.self.now.core) (sym c.in-Ok.ensures.items) refl;
+  runs = subst (λ answers. Runs g.D.Disk c.args.self.now [] answers c.args.self.now) (sym c.in-Ok.ensures.items) refl;
   count = c.in-Ok.ensures.len;
   room = c.in-Ok.ensures.exact;
   base = refl;
@@ -37,9 +37,10 @@ loop-event-preserved g c =
     let one_more : take (i + 1) events ≡ take i events ++ event ∷ [] =
     take_more events i event c.loop-event-test.true ∙ ap (λ e. take i events ++ e ∷ []) (sym c.event-item.is) in
     record {
-      runs = subst (λ asked. Runs first asked c.push_reserved.new.self.items last) (sym one_more)
-          (subst (λ answers. Runs first (take i events ++ event ∷ []) answers last) (sym c.push_reserved.ensures.items)
-          (runs_more first mid last (take i events) c.loop-event.replies.items event c.step-answer.result before.runs step.adds));
+      runs = subst (λ asked. Runs g.D.Disk c.args.self.now asked c.push_reserved.new.self.items c.step-answer.new.self) (sym one_more)
+          (subst (λ answers. Runs g.D.Disk c.args.self.now (take i events ++ event ∷ []) answers c.step-answer.new.self) (sym c.push_reserved.ensures.items)
+          (runs_more g.D.Disk c.args.self.now c.loop-event.self c.step-answer.new.self (take i events) c.loop-event.replies.items event c.step-answer.result before.runs
+          (record { does = step.does; adds = step.adds })));
       count = c.push_reserved.ensures.len ∙ ap (λ n. n + 1) before.count;
       room = c.push_reserved.ensures.capacity ∙ before.room;
       base = step.base ∙ before.base;

@@ -7,7 +7,7 @@ use Rattle.sd_world.proofs.world.World.run.Given as goal
 
 abbrev pub invariant-loop-event : goal.invariant-loop-event
 invariant-loop-event g l = record {
-  runs : Runs l.fn.self.core (take l.event-index l.events) l.replies.items l.self.core;
+  runs : Runs g.D.Disk l.fn.self (take l.event-index l.events) l.replies.items l.self;
   count : vec_len l.replies ≡ l.event-index;
   room : vec_capacity l.replies ≡ length l.events;
   base : l.self.core.base ≡ l.fn.self.core.base;
