@@ -131,6 +131,12 @@ impl Bench {
         self.open_slot()
     }
 
+    /// Closes, cuts and opens the slot, as an image without pages does.
+    pub(crate) fn empty_slot(&mut self) -> Result<(), BenchError> {
+        self.clear_slot()?;
+        self.open_slot()
+    }
+
     /// Closes and cuts the slot.
     fn clear_slot(&mut self) -> Result<(), BenchError> {
         if SLOT < self.disk.slots() {
@@ -196,15 +202,17 @@ impl Bench {
             serial: self.serial,
             state: SlotState::Raw,
         };
-        match self.dumper.work(&mut self.memory, image, 1)? {
-            ImageStep::Call(request)
-            | ImageStep::PageCall(request)
-            | ImageStep::TableCall(request) => self.call(request),
-            ImageStep::Frozen | ImageStep::Visited(_) | ImageStep::Copied(_) => Ok(false),
+        match self.dumper.work(&mut self.memory, image, 1) {
+            Ok(ImageStep::Visited(_) | ImageStep::Copied(_) | ImageStep::Frozen) => Ok(false),
+            Ok(ImageStep::Call(request))
+            | Ok(ImageStep::PageCall(request))
+            | Ok(ImageStep::TableCall(request)) => self.call(request),
+            Err(error) => Err(error.into()),
         }
     }
 
-    /// Makes a device call, and hands its outcome in.
+    /// Makes a device call, and hands its outcome in. It is apart from the steps, which need no room for a request.
+    #[inline(never)]
     fn call(&mut self, request: Request) -> Result<bool, BenchError> {
         if self.disk.slots() <= request.id().slot {
             return Err(BenchError::Device);

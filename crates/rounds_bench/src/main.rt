@@ -44,6 +44,14 @@ fn walks(bench: &mut Bench) {
     }
 }
 
+/// Closes, cuts and opens a slot, as often as `rounds` does.
+fn emptied(bench: &mut Bench) -> Result<(), BenchError> {
+    for _ in 0..TURNS + 1 {
+        bench.empty_slot()?;
+    }
+    Ok(())
+}
+
 /// Makes rounds over clean pages, and a dump.
 fn rounds(alloc: Global, bench: &mut Bench) -> Result<(), BenchError> {
     bench.dump(vec![in alloc; 0; TURNS as usize]?)
@@ -58,8 +66,9 @@ fn timed(alloc: Global, word: &str) -> Result<&'static str, BenchError> {
         "plain" => plain(&mut bench)?,
         "dumps" => dumps(alloc, &mut bench)?,
         "walks" => walks(&mut bench),
+        "emptied" => emptied(&mut bench)?,
         "rounds" => rounds(alloc, &mut bench)?,
-        _ => return Ok("usage: rounds_bench made|touched|plain|dumps|walks|rounds"),
+        _ => return Ok("usage: rounds_bench made|touched|plain|dumps|walks|emptied|rounds"),
     }
     Ok("done")
 }

@@ -23,7 +23,8 @@ use Rattle.sd_store_laws.specs.Steps.{StepsKeep, added, begun, cancelled, commit
 use Rattle.sd_store_laws.specs.Store.{IsNextDump, IsNextPreDump, IsSound, Store}
 use Rattle.sd_belief.specs.Believes.{HasStore, IsCovered, ShowsLast, ShowsPending}
 use Rattle.sd_belief.specs.GateSteps.{GateSteps, GateStepsAt, IsOnlyTwin, MayClose}
-use Rattle.sd_belief.specs.StoreSteps.{IsOpened, IsShut, MayOpen, NoneAt}
+use Rattle.sd_belief.specs.InUse.{NoneAt}
+use Rattle.sd_belief.specs.StoreSteps.{IsOpened, IsShut, MayOpen}
 use Rattle.sd_belief.proofs.Places.{body_again, get_contains, in_front, set_again, set_other, set_same}
 use Rattle.sd_belief.proofs.QuietSteps.{asked_cases}
 

@@ -1,5 +1,5 @@
 -- A device call that was made leaves what is believed.
-use Rattle.std.proofs.Common.{◌≡◌, ◌⊎◌, ℕ, List, length, map, take, Option, Some, None, IfSome, slice_get, slice_set, refl, sym, ◌∙◌, ap, subst, inl, inr}
+use Rattle.std.proofs.Common.{◌≡◌, ◌⊎◌, ℕ, Bool, true, List, [], ◌∷◌, length, map, Option, Some, None, IfSome, slice_get, slice_set, refl, sym, ◌∙◌, ap, subst, inl, inr}
 use Rattle.std.proofs.lemmas.Bool.{cases_eq}
 use Rattle.std.proofs.lemmas.Option.{same_Some}
 use Rattle.sd_disk.specs.Contents.{file_at}
@@ -8,7 +8,6 @@ use Rattle.sd_gate.specs.declared.call.Call.TheVariants.{Len, Read, Write, Write
 use Rattle.sd_gate.specs.declared.phase.Phase.{Phase}
 use Rattle.sd_gate.specs.Calls.{AreKept, IsLook}
 use Rattle.sd_gate.specs.declared.request_id.RequestId.{RequestId}
-use Rattle.sd_gate.specs.Laws.{found_phase}
 use Rattle.sd_gate.specs.Looks.{LooksAt, IsCallAt, Look, asks}
 use Rattle.sd_gate.specs.Plans.{Planned}
 use Rattle.sd_gate.specs.Phases.{Waits, body_after, after as phase_after}
@@ -16,10 +15,30 @@ use Rattle.sd_gate.specs.Requests.{Asked, Made}
 use Rattle.sd_store_laws.specs.Beliefs.{Belief}
 use Rattle.sd_store_laws.specs.Gates.{MayBelieve}
 use Rattle.sd_belief.specs.Believes.{Believes, IsCovered}
-use Rattle.sd_belief.specs.Knows.{AreLooks, Sees}
+use Rattle.sd_belief.specs.Knows.{AreLooks, SeesStore}
 use Rattle.sd_belief.specs.Laws.{IsMadeOf, PerformedIsBelieved}
-use Rattle.sd_belief.specs.View.{CoreView, Looking}
-use Rattle.sd_belief.proofs.Places.{set_other, set_same}
+use Rattle.sd_image.specs.Table.{table_text}
+use Rattle.sd_image.specs.Image.{Image, image_text}
+use Rattle.sd_chain.specs.Catalog.{Places}
+use Rattle.sd_gate.specs.declared.phase.Phase.TheVariants.{Bare, Whole as WholePhase}
+use Rattle.sd_gate.specs.Laws.{Leads, one_call, pages_body}
+use Rattle.sd_gate.specs.Sequences.{Calls, body_calls, format_calls}
+use Rattle.sd_journal.specs.History.{Base, History}
+use Rattle.sd_pagetable.specs.Contents.{Contents}
+use Rattle.sd_rounds.specs.declared.image_order.ImageOrder.{ImageOrder}
+use Rattle.sd_rounds.specs.declared.stage.Stage.{Stage as RoundStage}
+use Rattle.sd_rounds.specs.declared.stage.Stage.TheVariants.{Format, Freeze, Pass as PassStage, PageWrite, Close as CloseStage}
+use Rattle.sd_rounds.specs.Dumper.{Running}
+use Rattle.sd_rounds.specs.Making.{Making}
+use Rattle.sd_rounds.specs.MakingLaws.{Pages, image_of}
+use Rattle.sd_store_laws.specs.Store.{Store}
+use Rattle.sd_belief.specs.InUse.{AreLeft, IsAtWork, IsImageOn, IsInUseOn, IsSlotFor, NoneAt, call_of, calls_left}
+use Rattle.sd_belief.specs.View.{CoreView, history_of}
+use Rattle.sd_opener.specs.declared.stage.Stage.{Stage}
+use Rattle.sd_opener.specs.declared.stage.Stage.TheVariants.{Asking, Read as ReadStage, Broken}
+use Rattle.sd_opener.specs.Looking.{Looking}
+use Rattle.sd_opener.specs.Sees.{Sees, SeesSlot}
+use Rattle.sd_belief.proofs.Places.{ids_same, set_other, set_same}
 
 -- a body after a call is the same where the call kept its bytes
 kept_body : (body : List ℕ) (call : Call) (old new : List ℕ) → AreKept call old new → body_after body call new ≡ body_after body call old
@@ -41,6 +60,12 @@ kept_length Close old new kept = ap length kept
 kept_length Open old new kept = ap length kept
 kept_length Cut old new kept = ap length kept
 kept_length Sync old new kept = ap length kept
+
+leads_kept : (phase last : Phase) (body final : List ℕ) (call : Call) (old new : List ℕ) (calls : Calls) → AreKept call old new
+    → Leads phase body ((call, old) ∷ calls) last final → Leads phase body ((call, new) ∷ calls) last final
+leads_kept _ _ _ _ _ _ new _ kept (one_call phase last body final call old calls ready rest) =
+    one_call phase last body final call new calls ready
+    (subst (λ b. Leads (phase_after phase call true) b calls last final) (sym (kept_body body call old new kept)) rest)
 
 module _ (asked : List (Option Asked)) (worker : ℕ) (request : Asked) (made : Made) (files new : List (List ℕ))
     (at : slice_get asked worker ≡ Some (Some request)) (is : IsMadeOf request made files new) where
@@ -96,8 +121,21 @@ module _ (asked : List (Option Asked)) (worker : ℕ) (request : Asked) (made : 
   plan_looks slot file plan (look, there, same, on, here) =
       (look, there, same ∙ ap (asks slot file look) (sym is.id), ap (λ (id : RequestId). id.slot) is.id ∙ on, made_at look here)
 
-  sees_more : (opener : Looking) → Sees files asked opener → new ≡ files → Sees new after opener
-  sees_more opener s same = elim (cases_eq 2 worker) [
+  slot_looks : (slot : ℕ) (file : List ℕ) (stage : Stage) → SeesSlot slot file (Some request) stage → SeesSlot slot file (Some made.request) stage
+  slot_looks slot file (Asking plan) s = plan_looks slot file plan s
+  slot_looks slot file (ReadStage header table) s = absurd (let no : Some request ≡ None = s.0 in cc)
+  slot_looks slot file (Broken reason) s = absurd (let no : Some request ≡ None = s.0 in cc)
+
+  sees_made : (opener : Looking) → Sees files (Some request) opener → Sees files (Some made.request) opener
+  sees_made opener s = record {
+    count = s.count;
+    told = s.told;
+    scanned = s.scanned;
+    slot = slot_looks (length opener.told) (file_at files (length opener.told)) opener.stage s.slot;
+  }
+
+  sees_more : (phases : List Phase) (opener : Looking) → SeesStore files phases asked opener → new ≡ files → SeesStore new phases after opener
+  sees_more phases opener s same = elim (cases_eq 2 worker) [
     | inl its ↦
         let told : Some s.request ≡ Some (Some request) = sym s.own ∙ ap (slice_get asked) its ∙ at in
         let asks_it : s.request ≡ Some request = same_Some s.request (Some request) told in
@@ -105,23 +143,151 @@ module _ (asked : List (Option Asked)) (worker : ℕ) (request : Asked) (made : 
           looks = looks s.looks;
           request = Some made.request;
           own = ap (slice_get after) its ∙ after_at;
-          told = s.told ∙ ap (λ all. map found_phase (take opener.slot all)) (sym same);
-          plan = subst (λ all. LooksAt opener.slot (file_at all opener.slot) (Some made.request) opener.plan) (sym same)
-              (plan_looks opener.slot (file_at files opener.slot) opener.plan
-              (subst (λ r. LooksAt opener.slot (file_at files opener.slot) r opener.plan) asks_it s.plan));
+          sees = subst (λ all. Sees all (Some made.request) opener) (sym same) (sees_made opener (subst (λ r. Sees files r opener) asks_it s.sees));
+          syncs = s.syncs;
+          told = s.told;
+          current = s.current;
         }
     | inr differs ↦ record {
       looks = looks s.looks;
       request = s.request;
       own = set_other asked worker 2 (Some made.request) differs ∙ s.own;
-      told = s.told ∙ ap (λ all. map found_phase (take opener.slot all)) (sym same);
-      plan = subst (λ all. LooksAt opener.slot (file_at all opener.slot) s.request opener.plan) (sym same) s.plan;
+      sees = subst (λ all. Sees all s.request opener) (sym same) s.sees;
+      syncs = s.syncs;
+      told = s.told;
+      current = s.current;
     }
   ]
 
-  sees : (opener : Option Looking) → IfSome opener (Sees files asked) → IfSome opener (Sees new after)
-  sees None before = before
-  sees (Some opener) s = sees_more opener s (is.looks (s.looks worker request at))
+  sees : (phases : List Phase) (opener : Option Looking) → IfSome opener (SeesStore files phases asked) → IfSome opener (SeesStore new phases after)
+  sees phases None before = before
+  sees phases (Some opener) s = sees_more phases opener s (is.looks (s.looks worker request at))
+
+  -- ---- what is known of a store that is open
+
+  none_before : (slot : ℕ) → NoneAt after slot → NoneAt asked slot
+  none_before slot none other r out same = elim (cases_eq other worker) [
+    | inl its ↦
+        let own : r ≡ request = same_Some r request (same_Some (Some r) (Some request) (sym out ∙ ap (slice_get asked) its ∙ at)) in
+        none worker made.request after_at (ap (λ (id : RequestId). id.slot) is.id ∙ ap (λ (q : Asked). q.id.slot) (sym own) ∙ same)
+    | inr differs ↦ none other r (set_other asked worker other (Some made.request) differs ∙ out) same
+  ]
+
+  still_free : slice_get asked 0 ≡ Some None → slice_get after 0 ≡ Some None
+  still_free free = elim (cases_eq 0 worker) [
+    | inl its ↦ absurd (let no : Some None ≡ Some (Some request) = sym free ∙ ap (slice_get asked) its ∙ at in cc)
+    | inr differs ↦ set_other asked worker 0 (Some made.request) differs ∙ free
+  ]
+
+  leads_made : (phase last : Phase) (body final : List ℕ) (plan : Planned) → Leads phase body (calls_left (Some request) plan) last final
+      → Leads phase body (calls_left (Some made.request) plan) last final
+  leads_made phase last body final plan leads =
+      subst (λ (id : RequestId). Leads phase body ((id.call, made.request.bytes) ∷ plan.calls) last final) (sym is.id)
+      (leads_kept phase last body final request.id.call request.bytes made.request.bytes plan.calls is.bytes leads)
+
+  left_made : (all : Calls) (place : ℕ) (plan : Planned) → AreLeft all place (Some request) plan → AreLeft all place (Some made.request) plan
+  left_made all place plan left = ap (λ (id : RequestId). id.call ∷ map call_of plan.calls) is.id ∙ left
+
+  slot_made : (stage : RoundStage) (order : ImageOrder) (pages : Pages) (phase : Phase) (body : List ℕ) (belief : Belief) (dump : Option Image)
+      → IsSlotFor stage order pages phase body (Some request) belief dump → IsSlotFor stage order pages phase body (Some made.request) belief dump
+  slot_made (Format plan) order pages phase body belief dump s = (
+    record {
+      place = s.0.place;
+      on = s.0.on;
+      left = left_made (format_calls order.state) s.0.place plan s.0.left;
+      leads = leads_made phase Bare body [] plan s.0.leads;
+      formatted = (
+        λ closes. s.0.formatted.0 (ap (λ (id : RequestId). id.call) (sym is.id) ∙ closes),
+        λ other. s.0.formatted.1 (λ closes. other (ap (λ (id : RequestId). id.call) is.id ∙ closes)),
+      );
+    },
+    s.1,
+  )
+  slot_made Freeze order pages phase body belief dump s = absurd (let no : Some request ≡ None = s.1 in cc)
+  slot_made PassStage order pages phase body belief dump s = absurd (let no : Some request ≡ None = s.1 in cc)
+  slot_made (PageWrite plan) order pages phase body belief dump s = (
+    record {
+      place = s.0.place;
+      on = s.0.on;
+      left = left_made ((Write s.0.place, []) ∷ []) 0 plan s.0.left;
+      last = s.0.last;
+      leads = leads_made phase s.0.last body (pages_body pages) plan s.0.leads;
+      writes = s.0.writes;
+      fills = s.0.fills;
+      closed = s.0.closed;
+    },
+    s.1,
+  )
+  slot_made (CloseStage plan header tables) order pages phase body belief dump s = record {
+    place = s.place;
+    on = s.on;
+    left = left_made (body_calls header (table_text tables)) s.place plan s.left;
+    leads = leads_made phase WholePhase body (image_text (image_of header pages tables)) plan s.leads;
+    shut = s.shut;
+    opening = s.opening;
+  }
+
+  own_made : (r : Option Asked) → slice_get asked 0 ≡ Some r → (stage : RoundStage) (order : ImageOrder) (pages : Pages) (phase : Phase) (body : List ℕ) (belief : Belief) (dump : Option Image)
+      → IsSlotFor stage order pages phase body r belief dump → IfSome r (λ x. x.id.slot ≡ order.slot)
+      → (q : Option Asked) × (slice_get after 0 ≡ Some q) × IsSlotFor stage order pages phase body q belief dump × IfSome q (λ x. x.id.slot ≡ order.slot)
+  own_made r own stage order pages phase body belief dump s here = elim (cases_eq 0 worker) [
+    | inl its ↦
+        let told : Some r ≡ Some (Some request) = sym own ∙ ap (slice_get asked) its ∙ at in (
+          Some made.request,
+          ap (slice_get after) its ∙ after_at,
+          slot_made stage order pages phase body belief dump (subst (λ q. IsSlotFor stage order pages phase body q belief dump) (same_Some r (Some request) told) s),
+          ap (λ (id : RequestId). id.slot) is.id ∙ subst (λ q. IfSome q (λ x. x.id.slot ≡ order.slot)) (same_Some r (Some request) told) here,
+        )
+    | inr differs ↦ (r, set_other asked worker 0 (Some made.request) differs ∙ own, s, here)
+  ]
+
+  module _ (base : Base) (history : History) (memory : Contents) (phases : List Phase) (bodies : List (List ℕ)) (last : ℕ) (store : Store) (dump : Option Image) (beliefs : List Belief) where
+    image_made : (parent number : ℕ) (image : Option Making) → IsImageOn base history memory phases asked bodies last store dump beliefs parent number image
+        → IsImageOn base history memory phases after bodies last store dump beliefs parent number image
+    image_made parent number None m = record { rests = m.rests; none = still_free m.none; alone = m.alone }
+    image_made parent number (Some image) m =
+        let own = own_made m.request m.own image.stage image.order m.pages m.phase (file_at bodies image.order.slot) m.belief dump m.slot_is m.asked_at in
+        record {
+          pages = m.pages;
+          keeps = m.keeps;
+          files = m.files;
+          frozen = m.frozen;
+          serial = m.serial;
+          fresh = m.fresh;
+          others = m.others;
+          phase = m.phase;
+          phase_is = m.phase_is;
+          belief = m.belief;
+          belief_is = m.belief_is;
+          request = own.0;
+          own = own.1;
+          asked_at = own.3;
+          slot_is = own.2;
+        }
+
+    work_made : (grows : Bool) (running : Option Running) → IsAtWork base history grows memory phases asked bodies last store dump beliefs running
+        → IsAtWork base history grows memory phases after bodies last store dump beliefs running
+    work_made grows None w = record { gives = w.gives; none = still_free w.none; alone = w.alone; idle = w.idle }
+    work_made grows (Some running) w = record {
+      some = w.some;
+      chain = w.chain;
+      newest = w.newest;
+      within = w.within;
+      unneeded = w.unneeded;
+      apart = w.apart;
+      image = image_made running.parent running.number running.image w.image;
+    }
+
+    in_use_made : (places : Places) (grows : Bool) (running : Option Running) → IsInUseOn base history places grows memory phases asked bodies last store dump beliefs running
+        → IsInUseOn base history places grows memory phases after bodies last store dump beliefs running
+    in_use_made places grows running u = record {
+      catalog = u.catalog;
+      grows_is = u.grows_is;
+      alone = u.alone;
+      used = u.used;
+      exact = λ slot phase belief here of none. u.exact slot phase belief here of (none_before slot none);
+      job = work_made grows running u.job;
+    }
 
   pub believes_on : (core : CoreView) (bodies : List (List ℕ)) → Believes core asked bodies files → Believes core after bodies new
   believes_on core bodies b = record {
@@ -137,7 +303,14 @@ module _ (asked : List (Option Asked)) (worker : ℕ) (request : Asked) (made : 
       last = b.has.last;
       next = b.has.next;
     };
-    knows = record { sees = sees core.opener b.knows.sees };
+    knows = record {
+      count = is.count ∙ b.knows.count;
+      out = ids_same asked worker made.request request at is.id ∙ b.knows.out;
+      sees = sees core.phases core.opener b.knows.sees;
+      sure = b.knows.sure;
+      in_use = λ stands. in_use_made core.base (history_of core) core.memory core.phases bodies core.numbers.serial b.store b.dump b.beliefs
+          core.catalog core.grows core.dumper.running (b.knows.in_use stands);
+    };
   }
 
 pub performed_lem : PerformedIsBelieved

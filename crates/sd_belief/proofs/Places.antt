@@ -1,9 +1,14 @@
 -- Lists of which one place changes.
-use Rattle.std.proofs.Common.{◌≡◌, ◌≢◌, ◌⊎◌, ℕ, zero, suc, ◌<◌, List, [], ◌∷◌, length, Some, slice_get, slice_index_or, slice_set, Contains, refl, sym, ap, inl, inr, arith}
+use Rattle.std.proofs.Common.{◌≡◌, ◌≢◌, ◌⊎◌, ℕ, zero, suc, ◌<◌, List, [], ◌∷◌, length, Option, Some, None, slice_get, slice_index_or, slice_set, Contains, refl, sym, ◌∙◌, ap, inl, inr, arith}
 use Rattle.std.proofs.lemmas.Option.{slice_get_within}
 use Rattle.sd_disk.specs.Contents.{file_at}
+use Rattle.sd_gate.specs.declared.request_id.RequestId.{RequestId}
+use Rattle.sd_gate.specs.Requests.{Asked}
 use Rattle.sd_image.specs.Image.{Image}
 use Rattle.sd_store_laws.specs.Steps.{Adds}
+use Rattle.sd_belief.specs.Calls.{NoneOut}
+use Rattle.sd_belief.specs.Knows.{id_of, ids_of}
+use Rattle.std.specs.Option.{option_map}
 
 -- lists of one length have values at the same places
 pub has_too : {X Y : Type 0} (xs : List X) (ys : List Y) (at : ℕ) (x : X) → length ys ≡ length xs → slice_get xs at ≡ Some x
@@ -72,3 +77,48 @@ get_contains (y ∷ xs) zero x is = (0, omega arith, some_here is)
     some_here : Some y ≡ Some x → y ≡ x
     some_here e = cc
 get_contains (y ∷ xs) (suc at) x is = let rest = get_contains xs at x is in (suc rest.0, omega arith, rest.2)
+
+-- ---- the ids of requests that are out
+
+-- a request that takes the place of one with its id
+pub ids_same : (asked : List (Option Asked)) (at : ℕ) (r was : Asked) → slice_get asked at ≡ Some (Some was) → r.id ≡ was.id
+    → ids_of (slice_set asked at (Some r)) ≡ ids_of asked
+ids_same [] at r was is same = refl
+ids_same (a ∷ asked) zero r was is same = ap (λ o. o ∷ ids_of asked) (ap Some same ∙ ap (option_map id_of) (sym (first is)))
+  where
+    first : Some a ≡ Some (Some was) → a ≡ Some was
+    first e = cc
+ids_same (a ∷ asked) (suc at) r was is same = ap (λ all. option_map id_of a ∷ all) (ids_same asked at r was is same)
+
+pub ids_set : (asked : List (Option Asked)) (at : ℕ) (o : Option Asked) → ids_of (slice_set asked at o) ≡ slice_set (ids_of asked) at (option_map id_of o)
+ids_set [] at o = refl
+ids_set (a ∷ asked) zero o = refl
+ids_set (a ∷ asked) (suc at) o = ap (λ all. option_map id_of a ∷ all) (ids_set asked at o)
+
+-- where an id is, its request is out
+pub id_there : (asked : List (Option Asked)) (at : ℕ) (request : Asked) → slice_get asked at ≡ Some (Some request) → slice_get (ids_of asked) at ≡ Some (Some request.id)
+id_there [] at request is = absurd cc
+id_there (a ∷ asked) zero request is = ap Some (ap (option_map id_of) (first is))
+  where
+    first : Some a ≡ Some (Some request) → a ≡ Some request
+    first e = cc
+id_there (a ∷ asked) (suc at) request is = id_there asked at request is
+
+-- where none is, none is out
+pub free_there : (asked : List (Option Asked)) (at : ℕ) → slice_get (ids_of asked) at ≡ Some None → slice_get asked at ≡ Some None
+free_there [] at is = absurd cc
+free_there (None ∷ asked) zero is = refl
+free_there (Some r ∷ asked) zero is = absurd (let no : Some (Some r.id) ≡ Some None = is in cc)
+free_there (a ∷ asked) (suc at) is = free_there asked at is
+
+abbrev pub nobody : List (Option RequestId)
+nobody = None ∷ None ∷ None ∷ []
+
+pub nobody_out : (asked : List (Option Asked)) → ids_of asked ≡ nobody → NoneOut asked
+nobody_out asked is worker request out = none_at worker (ap (λ ids. slice_get ids worker) (sym is) ∙ id_there asked worker request out)
+  where
+    none_at : (w : ℕ) → slice_get nobody w ≡ Some (Some request.id) → ⊥
+    none_at zero e = cc
+    none_at (suc zero) e = cc
+    none_at (suc (suc zero)) e = cc
+    none_at (suc (suc (suc w))) e = cc

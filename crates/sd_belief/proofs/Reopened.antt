@@ -1,5 +1,5 @@
 -- What a crash leaves of a store, and a store that is opened again.
-use Rattle.std.proofs.Common.{◌≡◌, ℕ, List, ◌∷◌, Option, Some, None, sym, subst, inl, inr}
+use Rattle.std.proofs.Common.{◌≡◌, ℕ, List, ◌∷◌, Option, Some, None, sym, ◌∙◌, subst, inl, inr}
 use Rattle.sd_gate.specs.Fits.{DiskLeaves}
 use Rattle.sd_gate.specs.Requests.{Asked}
 use Rattle.sd_image.specs.Image.{Image}
@@ -54,6 +54,6 @@ reopened_lem shows found_is laws old new asked bodies files found none b left is
     let now = shows old asked bodies files files b left in
     let last : IsLastPair old.base (Reopened found ∷ history_of old) now.shown =
     last_then laws old.base (history_of old) found now.shown is.legal now.allowed (is.number now.shown now.shows) in
-    found_is new asked files now.shown is.phases is.opener none now.shows
+    found_is new asked files now.shown is.phases is.opener none (b.knows.out ∙ sym is.outs) (λ stands. is.open_as) now.shows
     (subst (λ base. IsLastPair base (history_of new) now.shown) (sym is.base)
     (subst (λ items. IsLastPair old.base (entries_of items) now.shown) (sym is.items) last))

@@ -54,4 +54,4 @@ pub record Believes (core : CoreView) (asked : List (Option Asked)) (bodies file
   pub dump : Option Image
   pub beliefs : List Belief
   pub has : HasStore core.base (history_of core) core.phases asked bodies store dump beliefs
-  pub knows : Knows core asked files
+  pub knows : Knows core asked bodies files store dump beliefs

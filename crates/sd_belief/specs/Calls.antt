@@ -7,12 +7,11 @@ use Rattle.sd_command.specs.declared.refusal.Refusal.TheVariants.{JournalFull, O
 use Rattle.sd_command.specs.declared.reply.Reply.{Reply}
 use Rattle.sd_command.specs.declared.reply.Reply.TheVariants as reply
 use Rattle.sd_gate.specs.declared.phase.Phase.{Phase}
-use Rattle.sd_gate.specs.declared.phase.Phase.TheVariants.{Raw}
 use Rattle.sd_gate.specs.declared.request_id.RequestId.{RequestId}
 use Rattle.sd_gate.specs.declared.worker.Worker.{Worker}
 use Rattle.sd_gate.specs.declared.worker.Worker.TheVariants.{Dumper, Opener}
 use Rattle.sd_gate.specs.Calls.{is_done}
-use Rattle.sd_gate.specs.Fits.{DiskLeaves, Reads, is_synced}
+use Rattle.sd_gate.specs.Fits.{DiskLeaves, Reads}
 use Rattle.sd_gate.specs.Laws.{found_phase}
 use Rattle.sd_gate.specs.Looks.{IsTold}
 use Rattle.sd_gate.specs.Phases.{Waits, after, body_after, bodies_after, given_up, phases_after}
@@ -21,6 +20,7 @@ use Rattle.sd_journal.specs.declared.entry.Entry.TheVariants.{Applied, Freeze, A
 use Rattle.sd_journal.specs.History.{History}
 use Rattle.sd_rounds.specs.Dumper.{Running}
 use Rattle.sd_belief.specs.Believes.{Believes}
+use Rattle.sd_belief.specs.Knows.{IsRefound}
 use Rattle.sd_belief.specs.View.{CoreView, history_of, index}
 
 -- the core believes as much as before, with these requests out
@@ -50,17 +50,14 @@ pub record Stays (old new : CoreView) : Type 0 where
 abbrev pub NoneOut : List (Option Asked) → Type 0
 NoneOut asked = (worker : ℕ) (request : Asked) → slice_get asked worker ≡ Some (Some request) → ⊥
 
--- a slot whose file tells its phase
-abbrev pub IsRefound : Phase → Type 0
-IsRefound phase = (is_synced phase ≡ true) ⊎ (phase ≡ Raw)
-
 -- The store was read: each slot was synced, nothing is out, and what is believed starts anew from the files.
 pub record StartsAnew (old new : CoreView) : Type 0 where
   pub base : new.base ≡ old.base
   pub outs : new.outs ≡ old.outs
   pub none : (worker : ℕ) (id : RequestId) → slice_get old.outs worker ≡ Some (Some id) → ⊥
   pub count : length new.phases ≡ length old.phases
-  pub refound : (slot : ℕ) (phase : Phase) → slice_get old.phases slot ≡ Some phase → IsRefound phase
+  pub refound : (asked : List (Option Asked)) (bodies files : List (List ℕ)) → NoneOut asked → Believes old asked bodies files
+      → (slot : ℕ) (phase : Phase) → slice_get old.phases slot ≡ Some phase → IsRefound phase
   pub phases : (asked : List (Option Asked)) (bodies files : List (List ℕ)) → NoneOut asked → Believes old asked bodies files
       → DiskLeaves old.phases bodies files → new.phases ≡ map found_phase files
   pub believes : (asked : List (Option Asked)) (bodies files : List (List ℕ)) → NoneOut asked → Believes old asked bodies files

@@ -1,5 +1,7 @@
 -- What a core goes on believing.
-use Rattle.std.specs.Prelude.{◌≡◌, ℕ, List, ◌∷◌, drop, map, Option, Some, None, slice_get, slice_set}
+use Rattle.std.specs.Prelude.{◌≡◌, ℕ, List, [], ◌∷◌, ◌≤◌, drop, false, length, map, Option, Some, None, slice_get, slice_set}
+use Rattle.sd_chain.specs.Catalog.{AreInOrder, Opened, place_of}
+use Rattle.sd_chain.specs.Store.{IsCatalogOf}
 use Rattle.sd_gate.specs.Calls.{AreKept, IsLook}
 use Rattle.sd_gate.specs.Fits.{DiskLeaves}
 use Rattle.sd_gate.specs.Laws.{found_phase}
@@ -9,8 +11,10 @@ use Rattle.sd_journal.specs.declared.entry.Entry.TheVariants.{Reopened}
 use Rattle.sd_journal.specs.Allowed.{Shown, IsLastPair, shown_number}
 use Rattle.sd_journal.specs.Legal.{IsLegal}
 use Rattle.sd_journal.specs.Marked.{Told}
+use Rattle.sd_belief.specs.declared.standing.Standing.TheVariants.{Open}
 use Rattle.sd_belief.specs.Believes.{Believes}
 use Rattle.sd_belief.specs.Calls.{NoneOut}
+use Rattle.sd_belief.specs.Knows.{ids_of}
 use Rattle.sd_belief.specs.Shown.{ShowsAllowed}
 use Rattle.sd_belief.specs.View.{CoreView, history_of}
 
@@ -19,6 +23,7 @@ pub record IsMadeOf (request : Asked) (made : Made) (files new : List (List ℕ)
   pub id : made.request.id ≡ request.id
   pub bytes : AreKept request.id.call request.bytes made.request.bytes
   pub looks : IsLook request.id.call → new ≡ files
+  pub count : length new ≡ length files
 
 -- Where the call of a request that is out was made, the core believes the same, with the request as it stands in the outcome.
 abbrev pub PerformedIsBelieved : Type 0
@@ -27,11 +32,21 @@ PerformedIsBelieved = (core : CoreView) (asked : List (Option Asked)) (bodies fi
     → slice_get asked worker ≡ Some (Some request) → IsMadeOf request made files new
     → Believes core asked bodies files → Believes core (slice_set asked worker (Some made.request)) bodies new
 
+-- an open store has the catalog of its files, and nothing runs in it
+pub record IsOpenAs (core : CoreView) (files : List (List ℕ)) : Type 0 where
+  pub catalog : IsCatalogOf files core.catalog
+  pub order : AreInOrder core.catalog
+  pub serials : (serial : ℕ) (i : Opened) → place_of core.catalog serial ≡ Some (Some i) → i.header.serial ≤ core.numbers.serial
+  pub grows : core.grows ≡ false
+  pub idle : core.dumper.running ≡ None
+  pub outs : core.outs ≡ None ∷ None ∷ None ∷ []
+
 -- Files that show the last pair are believed, where each slot is in the phase that its file tells, nothing is out, and no
 -- opener runs: so a core begins, and so it is when a store was opened again.
 abbrev pub FoundIsBelieved : Type 0
 FoundIsBelieved = (core : CoreView) (asked : List (Option Asked)) (files : List (List ℕ)) (shown : Shown)
-    → core.phases ≡ map found_phase files → core.opener ≡ None → NoneOut asked
+    → core.phases ≡ map found_phase files → core.opener ≡ None → NoneOut asked → ids_of asked ≡ core.outs
+    → (core.standing ≡ Open → IsOpenAs core files)
     → Shows files shown → IsLastPair core.base (history_of core) shown → Believes core asked (map (drop 1) files) files
 
 -- Whatever a crash leaves of the slots shows a pair that the journal allows.
@@ -47,7 +62,9 @@ pub record IsReopened (old new : CoreView) (files : List (List ℕ)) (found : Op
   pub legal : IsLegal old.base (Reopened found ∷ history_of old)
   pub number : (shown : Shown) → Shows files shown → shown_number shown ≡ found
   pub phases : new.phases ≡ map found_phase files
+  pub outs : new.outs ≡ old.outs
   pub opener : new.opener ≡ None
+  pub open_as : IsOpenAs new files
 
 -- What is believed then starts anew from the files, which are as a crash could have left them.
 abbrev pub ReopenedIsBelieved : Type 0

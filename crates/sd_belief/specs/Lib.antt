@@ -1,8 +1,14 @@
 pub mod Believes
 pub mod Calls
+pub mod CheckpointSteps
+pub mod CoreSteps
+pub mod DumperOutcomes
+pub mod DumperSteps
 pub mod GateSteps
+pub mod InUse
 pub mod Knows
 pub mod Laws
+pub mod OpenerSteps
 pub mod Shown
 pub mod StoreSteps
 pub mod View

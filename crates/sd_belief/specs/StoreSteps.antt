@@ -17,10 +17,7 @@ use Rattle.sd_journal.specs.Legal.{IsLegal}
 use Rattle.sd_store_laws.specs.Beliefs.{Belief, Closed, Opening, image_at}
 use Rattle.sd_store_laws.specs.Store.{Store}
 use Rattle.sd_belief.specs.Believes.{HasStore}
-
--- no request is out on a slot
-abbrev pub NoneAt : List (Option Asked) → ℕ → Type 0
-NoneAt asked slot = (worker : ℕ) (request : Asked) → slice_get asked worker ≡ Some (Some request) → request.id.slot ≢ slot
+use Rattle.sd_belief.specs.InUse.{NoneAt}
 
 -- a worker may ask for a call: it has none out, none is out on the slot, and the slot is ready for the call
 pub record MayAsk (phases : List Phase) (asked : List (Option Asked)) (worker : ℕ) (request : Asked) : Type 0 where

@@ -9,18 +9,11 @@ use Rattle.sd_gate.specs.declared.phase.Phase.{Phase}
 use Rattle.sd_gate.specs.declared.request_id.RequestId.{RequestId}
 use Rattle.sd_gate.specs.declared.worker.Worker.{Worker}
 use Rattle.sd_gate.specs.declared.worker.Worker.TheVariants.{Dumper, Merger, Opener}
-use Rattle.sd_gate.specs.Plans.{Planned}
 use Rattle.sd_journal.specs.History.{Base, History}
 use Rattle.sd_journal.specs.Marked.{Marked, entries_of}
+use Rattle.sd_opener.specs.Looking.{Looking}
 use Rattle.sd_rounds.specs.Dumper.{Dumping}
 use Rattle.sd_belief.specs.declared.standing.Standing.{Standing}
-
--- an opener: the slot that it looks at, how far its inspection is, and the phases and images of the slots below
-pub record Looking : Type 0 where
-  pub slot : ℕ
-  pub plan : Planned
-  pub told : List Phase
-  pub found : Places
 
 -- the numbers that were used
 pub record Numbers : Type 0 where
@@ -51,6 +44,8 @@ pub record CoreView : Type 0 where
   pub numbers : Numbers
   -- a checkpoint was acknowledged since the store was opened or a checkpoint cancelled
   pub grows : Bool
+  -- the opening of the gate of the pending checkpoint's dump was taken up
+  pub committing : Bool
 
 -- ---- how a view is stored as a value
 
@@ -60,11 +55,11 @@ base_code = code_by (Option ℕ × PlainMemory) (coded× (coded_option coded_ℕ
 
 -- all but the base and the memory
 abbrev pub Rest : Type 0
-Rest = Marked × (ℕ × (ℕ × (Standing × (List Phase × (List (Option RequestId) × (Places × (Dumping × (Option Looking × (Numbers × Bool)))))))))
+Rest = Marked × (ℕ × (ℕ × (Standing × (List Phase × (List (Option RequestId) × (Places × (Dumping × (Option Looking × (Numbers × (Bool × Bool))))))))))
 
 abbrev pub core_code : Coded Rest → Coded CoreView
 core_code rest = code_by (Base × (Contents × Rest)) (coded× base_code (coded× contents_code rest))
-    (λ c. (c.base, (c.memory, (c.items, (c.held, (c.limit, (c.standing, (c.phases, (c.outs, (c.catalog, (c.dumper, (c.opener, (c.numbers, c.grows)))))))))))))
+    (λ c. (c.base, (c.memory, (c.items, (c.held, (c.limit, (c.standing, (c.phases, (c.outs, (c.catalog, (c.dumper, (c.opener, (c.numbers, (c.grows, c.committing))))))))))))))
     (λ t. record {
       base = t.0;
       memory = t.1.0;
@@ -78,7 +73,8 @@ core_code rest = code_by (Base × (Contents × Rest)) (coded× base_code (coded�
       dumper = t.1.1.1.1.1.1.1.1.1.0;
       opener = t.1.1.1.1.1.1.1.1.1.1.0;
       numbers = t.1.1.1.1.1.1.1.1.1.1.1.0;
-      grows = t.1.1.1.1.1.1.1.1.1.1.1.1;
+      grows = t.1.1.1.1.1.1.1.1.1.1.1.1.0;
+      committing = t.1.1.1.1.1.1.1.1.1.1.1.1.1;
     }) (λ _. refl)
 
 -- ---- parts of it

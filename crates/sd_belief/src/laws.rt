@@ -1,13 +1,23 @@
 //! What a core goes on believing. Each law is the contract of a function that does nothing.
+ghost use Rattle.sd_belief.specs.CheckpointSteps.{BeginningIsBelieved, CancellingIsBelieved};
+ghost use Rattle.sd_belief.specs.CoreSteps.{CoreSteps};
+ghost use Rattle.sd_belief.specs.DumperOutcomes.{DumperOutcomes};
+ghost use Rattle.sd_belief.specs.DumperSteps.{DumperSteps};
 ghost use Rattle.sd_belief.specs.GateSteps.{GateSteps};
 ghost use Rattle.sd_belief.specs.Laws.{FoundIsBelieved, LeftShowsAllowed, PerformedIsBelieved, ReopenedIsBelieved};
+ghost use Rattle.sd_belief.specs.OpenerSteps.{OpenerSteps};
 ghost use Rattle.sd_belief.specs.StoreSteps.{QuietSteps};
 
+use sd_chain::Catalog;
+use sd_gate::{bodies_fill, plans_lead};
 use sd_journal::journal_laws;
+use sd_rounds::{file_law, keeps_law, made_law, making_law};
 use sd_store_laws::{
-    beliefs_follow_calls, closing_retires, contents_show, found_is_believed, left_as_believed,
-    one_belief_changes, opened_is_sound, pending_shows, slots_are_found, slots_drop,
-    slots_follow_calls, slots_follow_images, slots_follow_jobs, steps_keep, steps_show,
+    above_is_fresh, beliefs_follow_calls, catalog_follows, catalog_in_use_tells, catalog_is_found,
+    closing_retires, contents_show, dump_shows, found_is_believed, found_is_exact, given_up_syncs,
+    left_as_believed, needed_is_reached, needs_no_more, one_belief_changes, opened_is_sound,
+    pending_shows, slots_are_found, slots_drop, slots_follow_calls, slots_follow_images,
+    slots_follow_jobs, steps_give, steps_keep, steps_show, told_reaches_so,
 };
 
 /// A device call that was made leaves what is believed: its request is still out, as its outcome wasn't handed in.
@@ -19,7 +29,9 @@ pub fn performed_law()
 pub fn found_law()
     ensures { FoundIsBelieved }
 {
+    catalog_is_found();
     found_is_believed();
+    found_is_exact();
     opened_is_sound();
     slots_are_found();
 }
@@ -49,6 +61,76 @@ pub fn quiet_steps()
     beliefs_follow_calls();
     one_belief_changes();
     journal_laws();
+}
+
+/// Steps that leave the store: nothing that is known of it changes, or a command is applied.
+pub fn core_steps()
+    ensures { CoreSteps }
+{
+    quiet_steps();
+    keeps_law();
+    making_law();
+}
+
+/// Steps of a dumper: the next image begins, a device call is asked for, a page is visited or a sector copied, and the
+/// memory is frozen.
+pub fn dumper_steps()
+    ensures { DumperSteps }
+{
+    quiet_steps();
+    gate_steps();
+    catalog_follows();
+    above_is_fresh();
+    dump_shows();
+    making_law();
+    made_law();
+    file_law();
+    plans_lead();
+    bodies_fill();
+}
+
+/// Outcomes of a dumper's calls: one that failed, after which the store is down, one with which the image goes on, and
+/// the last of a pre-dump, which enters the catalog.
+pub fn dumper_outcomes()
+    ensures { DumperOutcomes }
+{
+    above_is_fresh();
+    file_law();
+    quiet_steps();
+    gate_steps();
+    making_law();
+    closing_retires();
+    steps_give();
+    needs_no_more();
+    catalog_follows();
+}
+
+/// A checkpoint begins, over the catalog of the store.
+pub fn beginning_law(catalog: &Catalog)
+    ensures { BeginningIsBelieved catalog.now }
+{
+    gate_steps();
+    needs_no_more();
+    needed_is_reached();
+    catalog_in_use_tells(catalog);
+    told_reaches_so(catalog);
+    catalog.agrees();
+}
+
+/// A checkpoint is cancelled, before anybody began to open its dump's gate.
+pub fn cancelling_law()
+    ensures { CancellingIsBelieved }
+{
+    quiet_steps();
+    gate_steps();
+}
+
+/// Steps of an opener: it begins, asks for its next call, decodes an open slot, takes an outcome, and ends.
+pub fn opener_steps()
+    ensures { OpenerSteps }
+{
+    quiet_steps();
+    given_up_syncs();
 }
 
 /// Steps that change the store: a gate begins to be opened or closed, an image enters the catalog or leaves it, a

@@ -12,15 +12,12 @@ use Rattle.sd_journal.specs.declared.entry.Entry.TheVariants.{Applied}
 use Rattle.sd_journal.specs.History.{Base, pending}
 use Rattle.sd_journal.specs.Marked.{Told, Marked, IsTracked, entries_of}
 use Rattle.sd_journal.specs.TrackedLaws.{TrackedLaws}
-use Rattle.sd_pagetable.specs.Contents.{Contents}
+use Rattle.sd_pagetable.specs.Contents.{Contents, IsSound}
 use Rattle.sd_pagetable.specs.Tracking.{Step}
-use Rattle.sd_belief.specs.Believes.{HasStore}
+use Rattle.sd_belief.specs.CoreSteps.{CoreSteps, IsApplied, IsCommanded, SameCore}
 use Rattle.sd_belief.specs.Calls.{AreGivenUp, Stays}
-use Rattle.sd_belief.specs.Knows.{Sees}
-use Rattle.sd_belief.specs.StoreSteps.{QuietSteps}
-use Rattle.sd_belief.specs.View.{CoreView, history_of}
+use Rattle.sd_belief.specs.View.{CoreView}
 use Rattle.sd_core.specs.Answering.{IsAnswered}
-use Rattle.std.specs.Prelude.{IfSome}
 
 -- ---- what a reply with bytes changes: nothing
 
@@ -53,42 +50,29 @@ tracked_on laws base items old new seat command reply (Some n) some was told =
 
 -- ---- what is believed
 
-same_phases : (outs : List (Option RequestId)) (phases : List Phase) → AreGivenUp outs phases phases
+pub same_phases : (outs : List (Option RequestId)) (phases : List Phase) → AreGivenUp outs phases phases
 same_phases outs phases = record { count = refl; each = λ slot phase at. (phase, at, inl refl) }
 
--- nothing but the memory changed
-pub stays_same : (old new : CoreView) → new.base ≡ old.base → new.items ≡ old.items → new.phases ≡ old.phases → new.outs ≡ old.outs → new.opener ≡ old.opener
-    → Stays old new
-stays_same old new base items phases outs opener = record {
-  base = base;
-  outs = outs;
-  phases = subst (λ p. AreGivenUp new.outs old.phases p) (sym phases) (same_phases new.outs old.phases);
-  goes_on = λ asked bodies files b. record {
-    store = b.store;
-    dump = b.dump;
-    beliefs = b.beliefs;
-    has = subst (λ x. HasStore x (history_of new) new.phases asked bodies b.store b.dump b.beliefs) (sym base)
-        (subst (λ i. HasStore old.base (entries_of i) new.phases asked bodies b.store b.dump b.beliefs) (sym items)
-        (subst (λ p. HasStore old.base (history_of old) p asked bodies b.store b.dump b.beliefs) (sym phases) b.has));
-    knows = record { sees = subst (λ o. IfSome o (Sees files asked)) (sym opener) b.knows.sees };
-  };
+-- nothing that is known of the store changed
+pub stays_same : CoreSteps → (old new : CoreView) → SameCore old new → Stays old new
+stays_same steps old new same = record {
+  base = same.store.base;
+  outs = same.store.outs;
+  phases = subst (λ p. AreGivenUp new.outs old.phases p) (sym same.store.phases) (same_phases new.outs old.phases);
+  goes_on = λ asked bodies files b. steps.same old new asked bodies files same b;
 }
 
 -- a command was journaled
-pub stays_applied : QuietSteps → (old new : CoreView) (seat : ℕ) (command : Command) (reply : Reply) → new.base ≡ old.base
-    → new.items ≡ Told (Applied seat command reply) ∷ old.items → new.phases ≡ old.phases → new.outs ≡ old.outs → new.opener ≡ old.opener → Stays old new
-stays_applied steps old new seat command reply base items phases outs opener = record {
-  base = base;
-  outs = outs;
-  phases = subst (λ p. AreGivenUp new.outs old.phases p) (sym phases) (same_phases new.outs old.phases);
-  goes_on = λ asked bodies files b. record {
-    store = b.store;
-    dump = b.dump;
-    beliefs = b.beliefs;
-    has = subst (λ x. HasStore x (history_of new) new.phases asked bodies b.store b.dump b.beliefs) (sym base)
-        (subst (λ i. HasStore old.base (entries_of i) new.phases asked bodies b.store b.dump b.beliefs) (sym items)
-        (subst (λ p. HasStore old.base (Applied seat command reply ∷ history_of old) p asked bodies b.store b.dump b.beliefs) (sym phases)
-        (steps.applied old.base (history_of old) old.phases asked bodies b.store b.dump b.beliefs seat command reply b.has)));
-    knows = record { sees = subst (λ o. IfSome o (Sees files asked)) (sym opener) b.knows.sees };
-  };
+pub stays_applied : CoreSteps → (old new : CoreView) (seat : ℕ) (command : Command) (reply : Reply) → IsApplied old seat command reply new → Stays old new
+stays_applied steps old new seat command reply a = record {
+  base = a.store.base;
+  outs = a.store.outs;
+  phases = subst (λ p. AreGivenUp new.outs old.phases p) (sym a.store.phases) (same_phases new.outs old.phases);
+  goes_on = λ asked bodies files b. steps.applied old new seat command reply asked bodies files a b;
 }
+
+-- what the memory does, by what is pending
+pub commanded : (waiting : Option ℕ) (command : Command) (reply : Reply) (old new : Contents) → IsSound old → IsAnswered (is_some waiting) command reply old new
+    → IsCommanded waiting command reply old new
+commanded None command reply old new sound answered = (sound, answered.step)
+commanded (Some n) command reply old new sound answered = answered.1

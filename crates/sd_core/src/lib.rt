@@ -5,6 +5,7 @@
 mod answering;
 mod copies;
 mod numbers;
+mod opening;
 mod start;
 mod state;
 mod taken;

@@ -1,5 +1,5 @@
 //! The opener.
-ghost use Rattle.std.specs.Prelude.{◌≡◌, ◌≢◌, ◌↔◌, ◌<◌, ◌+◌, ℕ, List, Option, None, Some, false, length, Err, IsErr, IsSome, IfOk, IfErr, MatchOption, OnOk, OnErr};
+ghost use Rattle.std.specs.Prelude.{◌≡◌, ◌≢◌, ◌↔◌, ◌<◌, ◌+◌, ℕ, List, [], Option, None, Some, false, length, Err, IsErr, IsSome, IfOk, IfErr, MatchOption, OnOk, OnErr};
 ghost use Rattle.sd_disk.specs.Contents.{file_at};
 ghost use Rattle.sd_gate.specs.Calls.{is_done};
 ghost use Rattle.sd_gate.specs.Inspections.{the_length};
@@ -8,7 +8,7 @@ ghost use Rattle.sd_gate.specs.Requests.{Asked};
 ghost use Rattle.sd_gate.specs.Sequences.{first_looks};
 ghost use Rattle.sd_opener.specs.declared.open_error.OpenError.TheVariants.{Busy};
 ghost use Rattle.sd_opener.specs.declared.opener_progress.OpenerProgress.TheVariants.{Strange as IsStrange, Failed as HasFailed, More as GoesOn};
-ghost use Rattle.sd_opener.specs.Looking.{Looking, out_of};
+ghost use Rattle.sd_opener.specs.Looking.{Looking, MovesOn, StepMoves, out_of};
 ghost use Rattle.sd_opener.specs.Sees.{IsNoStore, IsOpened, IsToldOf, Sees, SeesAfter};
 
 use crate::open_error::OpenError;
@@ -87,6 +87,9 @@ impl Opener {
     pub fn new(alloc: Global, slots: usize) -> Result<Opener, AllocError>
         ensures slots { IfOk result (λ opener. opener.slots ≡ slots) }
         ensures free { IfOk result (λ opener. out_of opener.stage ≡ None) }
+        ensures told { IfOk result (λ opener. opener.told ≡ []) }
+        ensures stage { IfOk result (λ opener. opener.stage
+            ≡ Stage.Asking (begun 0 first_looks the_length)) }
         ensures sees { IfOk result (λ opener. (files : List (List ℕ)) → length files ≡ slots
             → Sees files None opener) }
     {
@@ -108,6 +111,7 @@ impl Opener {
     pub fn work(&mut self, ticket: u64) -> Result<OpenerStep, OpenError>
         ensures sees { IfOk result (λ step. (files : List (List ℕ)) → Sees files None self.old
             → SeesAfter files step self.new) }
+        ensures moves { IfOk result (λ step. StepMoves ticket self.old step self.new) }
         ensures slots { self.new.slots ≡ self.old.slots }
         ensures busy { result ≡ Err Busy → IsSome (out_of self.old.stage) }
         ensures out { IsSome (out_of self.old.stage) → IsErr result }
@@ -153,6 +157,7 @@ impl Opener {
         ensures sees { (files : List (List ℕ)) (request : Asked)
             → IsToldOf (file_at files (length self.old.told)) request outcome
             → Sees files (Some request) self.old → (result ≡ GoesOn) × Sees files None self.new }
+        ensures moves { MovesOn self.old self.new }
         ensures slots { self.new.slots ≡ self.old.slots }
         ensures free { out_of self.old.stage ≡ Some outcome.request.id → out_of self.new.stage ≡ None }
     {
@@ -195,6 +200,7 @@ impl Opener {
     pub fn finish(self) -> Result<Opened, Fault>
         ensures opened { (files : List (List ℕ)) → Sees files None self → length self.told ≡ length files
             → IfOk result (IsOpened files) }
+        ensures told { IfOk result (λ opened. opened.phases.items ≡ self.told) }
         ensures damaged { (files : List (List ℕ)) → Sees files None self → length self.told ≡ length files
             → IfErr result (λ _. IsNoStore files) }
     {

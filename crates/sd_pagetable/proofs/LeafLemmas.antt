@@ -1,5 +1,5 @@
 -- A leaf: what it has at a page after a change.
-use Rattle.std.proofs.Common.{◌≡◌, ℕ, ◌<◌, Bool, true, false, cond, ◌||◌, nat_eq, is_some, IsSome, List, [], ◌∷◌, zero, suc, length, set, Option, Some, None, refl, sym, ◌∙◌, ap, subst, inl, inr, arith}
+use Rattle.std.proofs.Common.{◌≡◌, ℕ, ◌<◌, true, false, cond, ◌||◌, nat_eq, is_some, IsSome, List, [], ◌∷◌, zero, suc, length, set, Option, Some, None, refl, sym, ◌∙◌, ap, subst, inl, inr, arith}
 use Rattle.std.specs.List.{slice_get}
 use Rattle.std.specs.Option.{option_map}
 use Rattle.std.proofs.lemmas.Bool.{cases_eq, eq-eqb, ne_eqb, or_left, cond-true, cond-false}
@@ -33,3 +33,8 @@ leaf_has words entries l (Some place) e next = (
   next.1,
   subst (λ (o : Option Entry). IsSome o) (sym (cond-true (is_used words place) (option_map entry_in (slice_get entries place)) None next.2)) (there entries place (let n = next.1 in omega arith)),
 )
+
+-- a used place has an entry
+pub leaf_there : (words : List ℕ) (entries : List LeafEntry) (place : ℕ) → place < length entries → is_used words place ≡ true → IsSome (leaf_at words entries place)
+leaf_there words entries place l used =
+    subst (λ (o : Option Entry). IsSome o) (sym (cond-true (is_used words place) (option_map entry_in (slice_get entries place)) None used)) (there entries place l)

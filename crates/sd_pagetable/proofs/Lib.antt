@@ -37,3 +37,6 @@ pub mod LevelLemmas
 pub mod TableOfLemmas
 pub mod LeafLemmas
 pub mod SlotLemmas
+pub mod RunLemmas
+pub mod RunKept
+pub mod RunSteps

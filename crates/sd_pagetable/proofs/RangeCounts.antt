@@ -1,5 +1,5 @@
 -- How many pages of a run are holes, and how many pages there are.
-use Rattle.std.proofs.Common.{◌≡◌, ℕ, ◌+◌, ◌-◌, ◌<◌, ◌≤◌, zero, suc, Bool, true, false, not, cond, is_some, IsSome, List, [], ◌∷◌, Option, Some, None, refl, sym, ◌∙◌, ap, arith}
+use Rattle.std.proofs.Common.{◌≡◌, ℕ, ◌+◌, ◌-◌, ◌<◌, ◌≤◌, zero, suc, Bool, true, false, cond, IsSome, List, [], ◌∷◌, Option, Some, None, refl, ◌∙◌, ap, arith}
 use Rattle.std.specs.Prelude.{count_by}
 use Rattle.std.specs.Option.{option_map_or}
 use Rattle.std.proofs.lemmas.List.Sums.{sum_by-cons}
@@ -48,11 +48,6 @@ left_to_count p k end less =
     ap (λ n. count_by p (pages_from k n)) (let z : end - k ≡ suc (end - (k + 1)) = omega (arith, less) in z) ∙ front p k (end - (k + 1))
     ∙ ap (λ n. one_if (p k) + count_by p (pages_from n (end - (k + 1)))) (let z : suc k ≡ k + 1 = omega arith in z)
 
--- the same pages are counted where the tests agree
-pub same_count : (p q : ℕ → Bool) (pages : List ℕ) → ((page : ℕ) → p page ≡ q page) → count_by p pages ≡ count_by q pages
-same_count p q [] same = refl
-same_count p q (page ∷ pages) same = (let e : one_if (p page) ≡ one_if (q page) = ap one_if (same page) in omega (arith, e, same_count p q pages same, counted p page pages, counted q page pages))
-
 -- ---- how many pages there are
 pub one_more : (c : Contents) (s p : ℕ) (x : Page) → page_at c s p ≡ None → page_count (put_page c s p x).spaces ≡ page_count c.spaces + 1
 one_more c s p x none =
@@ -69,11 +64,3 @@ one_less c s p there =
     of_some : (o : Option Page) → IsSome o → ◌≡◌ {A = ℕ} (option_map_or (λ (_ : Page). 1) o 0) 1
     of_some (Some x) e = refl
     of_some None e = absurd (let f : false ≡ true = e in cc)
-
-pub one_hole : {A : Type 0} (b : Bool) (o : Option A) → is_some o ≡ not b → one_if b ≡ one_if (not (is_some o))
-one_hole true o e = ap (λ s. one_if (not s)) (sym e)
-one_hole false o e = ap (λ s. one_if (not s)) (sym e)
-
-pub at_most_one : (b : Bool) → one_if b ≤ 1
-at_most_one true = omega arith
-at_most_one false = omega arith

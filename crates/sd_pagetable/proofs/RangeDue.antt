@@ -1,5 +1,5 @@
 -- Which refusal a call over a range is due, and the areas after it.
-use Rattle.std.proofs.Common.{◌≡◌, ◌⊎◌, ℕ, ◌+◌, ◌-◌, ◌%◌, ◌<◌, ◌≤◌, ◌^◌, Bool, true, false, not, cond, nat_eq, nat_lt, ◌&&◌, ◌||◌, is_some, IsSome, List, Option, Some, None, Result, Ok, Err, refl, sym, ◌∙◌, ap, subst, inl, inr, arith}
+use Rattle.std.proofs.Common.{◌≡◌, ◌⊎◌, ℕ, ◌+◌, ◌-◌, ◌%◌, ◌<◌, ◌≤◌, ◌^◌, Bool, true, false, not, cond, nat_eq, nat_lt, ◌&&◌, ◌||◌, is_some, IsSome, Option, Some, None, Result, Ok, Err, refl, sym, ◌∙◌, ap, subst, inl, inr, arith}
 use Rattle.std.proofs.lemmas.Bool.Decides.{nat_tests}
 use Rattle.std.proofs.lemmas.Bool.{eq-eqb, ne_eqb, cond-true, cond-false}
 use Rattle.std.specs.Ordering.{nat_cmp}
@@ -27,11 +27,10 @@ use Rattle.sd_pagetable.specs.RangeCalls.{Refuses}
 use Rattle.sd_pagetable.specs.Ranges.{IsCleared}
 use Rattle.sd_pagetable.specs.Tracking.{with_space}
 use Rattle.sd_pagetable.proofs.TableLemmas.{same_table, get-map_values, get-set_within, get-remove_within, get-change_within, get-fill_within}
-use Rattle.std.specs.Prelude.{count_by, nat_le}
+use Rattle.std.specs.Prelude.{nat_le}
 use Rattle.sd_pagetable.specs.Contents.{page_at}
 use Rattle.sd_pagetable.proofs.MemoryLemmas.{plain_alive}
 use Rattle.sd_pagetable.proofs.RangeLemmas.{with_itself, with_twice, inside_with, at_table, change_none}
-use Rattle.sd_pagetable.proofs.RangeCounts.{same_count}
 use Rattle.sd_pagetable.proofs.PlainRanges.{prots_seen, plain_mapped, plain_many}
 
 -- ---- what is due, by the contents
@@ -165,14 +164,10 @@ no_bytes c s address bytes change alive none =
     let count : pages_for bytes ≡ page_of address - page_of address = omega (arith, none) in
     sym (ap (λ n. with_space c s (change_within change (inside c.spaces s) (page_of address) n)) count ∙ ap (with_space c s) (change_none change (inside c.spaces s) (page_of address)) ∙ with_itself c s alive)
 
--- the holes by the areas are those by the pages
+-- a hole by the areas is one by the pages
 hole_by_areas : (o : Option Page) → not (is_some (option_map (λ (page : Page). page.prot) o)) ≡ not (is_some o)
 hole_by_areas None = refl
 hole_by_areas (Some x) = refl
-
-pub holes_seen : (c : Contents) (s : ℕ) (own : PageMap) (pages : List ℕ) → own ≡ prots_of (inside c.spaces s)
-    → count_by (λ q. not (is_some (finmap.get own q))) pages ≡ count_by (λ q. not (is_some (page_at c s q))) pages
-holes_seen c s own pages are = same_count _ _ pages (λ q. ap (λ m. not (is_some (finmap.get m q))) are ∙ ap (λ o. not (is_some o)) (get-map_values (λ (page : Page). page.prot) (inside c.spaces s) q) ∙ hole_by_areas (finmap.get (inside c.spaces s) q))
 
 -- what a failed call was due
 pub refuses_first : (error : MemoryError) (c : Contents) (s : ℕ) (first second : Option AccessError) → Refuses error (in_space c.spaces s first) → Refuses error (in_space c.spaces s (or_else first second))

@@ -21,3 +21,4 @@ pub mod Ranges
 pub mod RangeCalls
 pub mod Loaded
 pub mod Radix
+pub mod Runs

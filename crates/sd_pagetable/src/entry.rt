@@ -37,6 +37,18 @@ impl Entry {
         }
     }
 
+    /// The entry with these permissions, where the next store needs a fault.
+    pub(crate) fn protected(self, prot: Prot) -> Self
+        ensures { result ≡ record self { prot = prot; writable = false } }
+    {
+        Entry {
+            prot,
+            frame: self.frame,
+            writable: false,
+            soft_dirty: self.soft_dirty,
+        }
+    }
+
     /// The entry with a frame, and all else as before.
     pub(crate) fn with_frame(self, frame: u32) -> Self
         ensures { result ≡ record self { frame = Some frame } }

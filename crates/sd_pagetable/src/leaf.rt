@@ -1,8 +1,9 @@
-ghost use Rattle.std.specs.Prelude.{◌≡◌, ℕ, ◌==◌, ◌<◌, if◌then◌else◌, Some, None};
+ghost use Rattle.std.specs.Prelude.{◌≡◌, ℕ, ◌+◌, ◌==◌, ◌<◌, if◌then◌else◌, true, false, Some, None};
 
 use crate::entry::Entry;
 use crate::leaf_entry::LeafEntry;
 use crate::node::Node;
+use crate::run_change::RunChange;
 use crate::used_places::{PLACES, UsedPlaces};
 use std::alloc::{AllocError, Global};
 
@@ -15,6 +16,7 @@ pub(crate) struct Leaf {
 
 impl Leaf {
     ghost use Rattle.sd_pagetable.specs.Radix.{leaf_at};
+    ghost use Rattle.sd_pagetable.specs.Runs.{ChangesRun};
 
     /// A leaf without pages.
     fn new() -> Self
@@ -35,6 +37,26 @@ impl Leaf {
     {
         self.entries[place] = LeafEntry::of(entry);
         self.used.add(place);
+    }
+
+    /// Changes the entry in a place, and returns whether there is one that keeps its frame.
+    #[inline]
+    fn change(&mut self, place: usize, change: RunChange) -> bool
+        requires { place < 512 }
+        ensures changed { result ≡ true
+            → ChangesRun change (leaf_at self.old.used.words self.old.entries)
+            (leaf_at self.new.used.words self.new.entries) place (place + 1) }
+        ensures same { result ≡ false → (page : ℕ) → leaf_at self.new.used.words self.new.entries page
+            ≡ leaf_at self.old.used.words self.old.entries page }
+    {
+        if !self.used.has(place) {
+            return false;
+        }
+        let Some(entry) = change.of(self.entries[place].entry()) else {
+            return false;
+        };
+        self.entries[place] = LeafEntry::of(entry);
+        true
     }
 }
 
@@ -84,6 +106,43 @@ impl Node for Leaf {
         let before = self.get(page);
         self.used.remove(page as usize);
         before
+    }
+
+    fn mapped_to(&self, from: u64, end: u64) -> u64 {
+        let end = end.min(PLACES as u64);
+        for page in from..end {
+            if !self.used.has(page as usize) {
+                return page;
+            }
+        }
+        end
+    }
+
+    fn fill_run(
+        &mut self,
+        _alloc: Global,
+        from: u64,
+        end: u64,
+        entry: Entry,
+    ) -> Result<u64, AllocError> {
+        let end = end.min(PLACES as u64);
+        for page in from..end {
+            if self.get(page).is_some() {
+                return Ok(page);
+            }
+            self.put(page as usize, entry);
+        }
+        Ok(end)
+    }
+
+    fn change_run(&mut self, from: u64, end: u64, change: RunChange) -> u64 {
+        let end = end.min(PLACES as u64);
+        for page in from..end {
+            if !self.change(page as usize, change) {
+                return page;
+            }
+        }
+        end
     }
 
     fn first_from(&self, page: u64) -> Option<u64> {

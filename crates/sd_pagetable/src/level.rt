@@ -3,7 +3,8 @@ ghost use Rattle.sd_pagetable.specs.Radix.{is_used, table_in, level_at, IsFirstI
 
 use crate::entry::Entry;
 use crate::node::Node;
-use crate::slot::{first_in, get_in, insert_in, remove_in};
+use crate::run_change::RunChange;
+use crate::slot::{change_in, fill_in, first_in, get_in, insert_in, mapped_in, remove_in};
 use crate::used_places::{PLACES, UsedPlaces};
 use std::alloc::{AllocError, Global};
 use std::array;
@@ -85,6 +86,34 @@ impl<T: Node> Node for Level<T> {
             self.used.remove(place);
         }
         before
+    }
+
+    fn mapped_to(&self, from: u64, end: u64) -> u64 {
+        let place = (from / T::span()) as usize;
+        let first = place as u64 * T::span();
+        first + mapped_in(&self.tables[place], from % T::span(), end - first)
+    }
+
+    fn fill_run(
+        &mut self,
+        alloc: Global,
+        from: u64,
+        end: u64,
+        entry: Entry,
+    ) -> Result<u64, AllocError> {
+        let place = (from / T::span()) as usize;
+        let first = place as u64 * T::span();
+        let slot = &mut self.tables[place];
+        let reached = fill_in(slot, alloc, from % T::span(), end - first, entry)?;
+        self.used.add(place);
+        Ok(first + reached)
+    }
+
+    fn change_run(&mut self, from: u64, end: u64, change: RunChange) -> u64 {
+        let place = (from / T::span()) as usize;
+        let first = place as u64 * T::span();
+        let slot = &mut self.tables[place];
+        first + change_in(slot, from % T::span(), end - first, change)
     }
 
     fn first_from(&self, page: u64) -> Option<u64> {

@@ -22,6 +22,7 @@ mod page_table;
 mod paging;
 mod range_calls;
 mod ranges;
+mod run_change;
 mod segv;
 mod slot;
 mod store_outcome;

@@ -1,12 +1,14 @@
-ghost use Rattle.std.specs.Prelude.{◌≡◌, ◌<◌, ◌≤◌, ◌^◌, ℕ, Bool, true, false, Some, None, IsSome, OnOk, OnErr};
+ghost use Rattle.std.specs.Prelude.{◌≡◌, ◌<◌, ◌≤◌, ◌^◌, ℕ, Bool, true, false, Some, None, IsSome, OnOk, OnErr, IfOk};
 ghost use Rattle.std.specs.FinMap as finmap;
 ghost use Rattle.sd_pagetable.specs.Firsts.{start_of, IsFirstFrom};
+ghost use Rattle.sd_pagetable.specs.Runs.{AreMapped, ChangesRun, FillsRun};
 
 use crate::entry::Entry;
 use crate::leaf::Leaf;
 use crate::level::Level;
 use crate::node::Node;
-use crate::slot::{first_in, get_in, insert_in, remove_in};
+use crate::run_change::RunChange;
+use crate::slot::{change_in, fill_in, first_in, get_in, insert_in, mapped_in, remove_in};
 use sd_areas::PageNo;
 use std::alloc::{AllocError, Global};
 use std::marker::Model;
@@ -105,6 +107,56 @@ impl PageTable {
         if remove_in(&mut self.top, page.number()).is_some() {
             self.mapped -= 1;
         }
+    }
+
+    /// The page up to which those from one on are mapped, at most an end.
+    pub(crate) fn mapped_to(&self, first: PageNo, end: u64) -> u64
+        requires ordered { first ≤ end }
+        requires within { end ≤ 2 ^ 35 }
+        ensures reached { first ≤ result }
+        ensures end { result ≤ end }
+        ensures mapped { AreMapped (finmap.get self.now) first result }
+    {
+        mapped_in(&self.top, first.number(), end)
+    }
+
+    /// Puts an entry at the pages from one on, up to an end or one that is mapped. It returns the page
+    /// that it came to.
+    ///
+    /// # Errors
+    ///
+    /// Out of memory where the table can't grow: nothing changes.
+    pub(crate) fn fill_run(
+        &mut self,
+        first: PageNo,
+        end: u64,
+        entry: Entry,
+    ) -> Result<u64, AllocError>
+        requires some { first < end }
+        requires within { end ≤ 2 ^ 35 }
+        ensures reached { IfOk result (λ to. first ≤ to) }
+        ensures more { IfOk result (λ to. finmap.get self.old first ≡ None → first < to) }
+        ensures end { IfOk result (λ to. to ≤ end) }
+        ensures run { IfOk result
+            (λ to. FillsRun entry (finmap.get self.old) (finmap.get self.new) first to) }
+        ensures err { OnErr result (self.new ≡ self.old) }
+    {
+        let from = first.number();
+        let reached = fill_in(&mut self.top, self.alloc, from, end, entry)?;
+        self.mapped += (reached - from) as usize;
+        Ok(reached)
+    }
+
+    /// Changes the pages from one on, up to an end or one that isn't mapped or would give up its
+    /// frame. It returns the page that it came to.
+    pub(crate) fn change_run(&mut self, first: PageNo, end: u64, change: RunChange) -> u64
+        requires ordered { first ≤ end }
+        requires within { end ≤ 2 ^ 35 }
+        ensures reached { first ≤ result }
+        ensures end { result ≤ end }
+        ensures run { ChangesRun change (finmap.get self.old) (finmap.get self.new) first result }
+    {
+        change_in(&mut self.top, first.number(), end, change)
     }
 
     /// The first mapped page from a bound on.

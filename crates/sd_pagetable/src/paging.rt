@@ -14,7 +14,10 @@ ghost use Rattle.sd_pagetable.specs.Frames.{count_at, HasFree};
 ghost use Rattle.sd_pagetable.specs.Owning.{ReleasesFrame, SharesFrame, is_own, TakesFrame, OwnsFrame, FailsToTake};
 ghost use Rattle.sd_pagetable.specs.declared.memory_error.MemoryError.TheVariants.{OutOfMemory};
 ghost use Rattle.sd_pagetable.specs.Due.{Answers, frame_due, needs_frame};
-ghost use Rattle.sd_pagetable.specs.Tracking.{MakesWritable};
+ghost use Rattle.std.specs.Prelude.{◌-◌};
+ghost use Rattle.sd_pagetable.specs.Nested.{change_within, fill_within};
+ghost use Rattle.sd_pagetable.specs.Runs.{changed_page};
+ghost use Rattle.sd_pagetable.specs.Tracking.{MakesWritable, with_space};
 ghost use Rattle.sd_pagetable.specs.View.{entry_of};
 ghost use Rattle.sd_areas.specs.Memory.{page_of_snapshot};
 ghost use Rattle.sd_pagetable.specs.Loaded.{is_zero_page, Loads, GivesFrame};
@@ -25,6 +28,7 @@ use crate::frames::Frames;
 use crate::loading::is_zero;
 use crate::memory_error::MemoryError;
 use crate::memory_refusal::MemoryRefusal;
+use crate::run_change::RunChange;
 use crate::tables::Tables;
 use sd_areas::{PAGE_BYTES, PAGE_SIZE, PageNo, Prot, SnapshotPage, SpaceId};
 use std::alloc::{AllocError, Global};
@@ -176,6 +180,72 @@ impl Paging {
     {
         let _mapped = self.mapped;
         self.first_from(space, Bound::Unbounded)
+    }
+
+    /// The page up to which those of a space from one on are mapped, at most an end.
+    pub(crate) fn mapped_to(&self, space: SpaceId, first: PageNo, end: u64) -> u64
+        requires ordered { first ≤ end }
+        requires within { end ≤ 2 ^ 35 }
+        ensures reached { first ≤ result }
+        ensures end { result ≤ end }
+        ensures mapped { (page : ℕ) → first ≤ page → page < result
+            → IsSome (page_at self.now space page) }
+    {
+        self.tables.mapped_to(space, first, end)
+    }
+
+    /// Maps the pages of a space from one on, up to an end or one that is mapped. It returns the page
+    /// that it came to.
+    ///
+    /// # Errors
+    ///
+    /// Out of memory where the table can't grow: nothing changes.
+    pub(crate) fn fill_run(
+        &mut self,
+        space: SpaceId,
+        first: PageNo,
+        end: u64,
+        prot: Prot,
+    ) -> Result<u64, AllocError>
+        requires alive { is_alive self.old.spaces space ≡ true }
+        requires some { first < end }
+        requires within { end ≤ 2 ^ 35 }
+        requires few { page_count self.old.spaces + (end - first) ≤ 65536 }
+        ensures more { IfOk result (λ to. page_at self.old space first ≡ None → first < to) }
+        ensures end { IfOk result (λ to. to ≤ end) }
+        ensures value { IfOk result (λ to. self.new
+            ≡ with_space self.old space
+            (fill_within (inside self.old.spaces space) first (to - first) (fresh_page prot))) }
+        ensures err { OnErr result (self.new ≡ self.old) }
+    {
+        let from = first.number();
+        let reached = self.tables.fill_run(space, first, end, Entry::fresh(prot))?;
+        self.mapped += reached - from;
+        Ok(reached)
+    }
+
+    /// Changes the pages of a space from one on, up to an end or one that isn't mapped or would give
+    /// up its frame. It returns the page that it came to.
+    pub(crate) fn change_run(
+        &mut self,
+        space: SpaceId,
+        first: PageNo,
+        end: u64,
+        change: RunChange,
+    ) -> u64
+        requires alive { is_alive self.old.spaces space ≡ true }
+        requires ordered { first ≤ end }
+        requires within { end ≤ 2 ^ 35 }
+        ensures reached { first ≤ result }
+        ensures end { result ≤ end }
+        ensures mapped { (page : ℕ) → first ≤ page → page < result
+            → IsSome (page_at self.old space page) }
+        ensures value { self.new
+            ≡ with_space self.old space
+            (change_within (changed_page change) (inside self.old.spaces space) first
+            (result - first)) }
+    {
+        self.tables.change_run(space, first, end, change)
     }
 
     /// Adds a space without pages.

@@ -109,15 +109,14 @@ fn protect_areas(
 }
 
 /// Whether a run can be mapped without passing the limit of pages.
-fn has_room(paging: &Paging, own: &AreaMap, first: u64, end: u64) -> bool
+fn has_room(paging: &Paging, space: SpaceId, first: u64, end: u64) -> bool
     requires ordered { first ≤ end }
     requires within { end ≤ 2 ^ 35 }
-    ensures fits { (space : ℕ) → own.now ≡ prots_of (inside paging.now.spaces space) → result ≡ true
+    ensures fits { result ≡ true
         → page_count paging.now.spaces + count_by
         (λ page. not (is_some (page_at paging.now space page)))
         (pages_from first (end - first)) ≤ 65536 }
-    ensures full { (space : ℕ) (page : Page) → own.now ≡ prots_of (inside paging.now.spaces space)
-        → result ≡ false
+    ensures full { (page : Page) → result ≡ false
         → 65536 < page_count
         (with_space paging.now space
         (set_within (inside paging.now.spaces space) first (end - first) page)).spaces }
@@ -125,7 +124,7 @@ fn has_room(paging: &Paging, own: &AreaMap, first: u64, end: u64) -> bool
     if end - first > MAPPED_PAGE_LIMIT {
         return false;
     }
-    paging.mapped() + holes(own, first, end) <= MAPPED_PAGE_LIMIT
+    paging.mapped() + holes(paging, space, first, end) <= MAPPED_PAGE_LIMIT
 }
 
 /// Maps each page of a run that isn't mapped as a fresh one.
@@ -152,7 +151,7 @@ fn fill_holes(
     ensures errors { IfErr result (λ e. (e ≡ OutOfMemory) ⊎ (e ≡ DeniedError (Refused Enomem))) }
     ensures err { OnErr result (paging.new ≡ paging.old) }
 {
-    if !has_room(paging, own, first, end) {
+    if !has_room(paging, space, first, end) {
         return Err(MemoryRefusal::Enomem.into());
     }
     let reached = fill(paging, space, first, end, prot);

@@ -1,5 +1,5 @@
-//! Runs of pages, mapped, unmapped and protected page by page, and the pages of a child.
-ghost use Rattle.std.specs.Prelude.{◌≡◌, ◌+◌, ◌-◌, ◌<◌, ◌≤◌, ◌^◌, ◌&&◌, ℕ, ◌==◌, true, false, not, cond, None, Some, is_some, IsSome, IfSome, OnOk, OnErr, count_by};
+//! Runs of pages, mapped, unmapped and protected, and the pages of a child.
+ghost use Rattle.std.specs.Prelude.{◌≡◌, ◌+◌, ◌-◌, ◌<◌, ◌≤◌, ◌^◌, ◌&&◌, ℕ, ◌==◌, true, false, not, cond, None, Some, is_some, IsSome, IfSome, IfOk, OnOk, OnErr, count_by};
 ghost use Rattle.std.specs.FinMap as finmap;
 ghost use Rattle.sd_areas.specs.Pages.{pages_from, is_within};
 ghost use Rattle.sd_pagetable.specs.Nested.{inside, is_alive, set_within, remove_within, change_within, fill_within, map_values};
@@ -9,61 +9,98 @@ ghost use Rattle.sd_pagetable.specs.Ranges.{bare_page, IsCleared};
 ghost use Rattle.sd_pagetable.specs.Tracking.{with_space};
 
 use crate::paging::Paging;
+use crate::run_change::RunChange;
 use sd_areas::{AreaMap, PageNo, Prot, SpaceId};
 use std::alloc::AllocError;
 use std::ops::Bound;
 
-/// 1 for a page that isn't mapped, and 0 for one that is.
-fn hole_at(areas: &AreaMap, page: PageNo) -> u64
-    ensures hole { result ≡ cond {A = ℕ} (not (is_some (finmap.get areas.now page))) 1 0 }
-    ensures least { result ≤ 1 }
+/// The first mapped page of a run, or its end.
+fn next_mapped(paging: &Paging, space: SpaceId, first: u64, end: u64) -> u64
+    requires ordered { first ≤ end }
+    requires within { end ≤ 2 ^ 35 }
+    ensures reached { first ≤ result }
+    ensures end { result ≤ end }
+    ensures holes { (page : ℕ) → first ≤ page → page < result
+        → page_at paging.now space page ≡ None }
+    ensures there { result < end → IsSome (page_at paging.now space result) }
 {
-    match areas.prot_of(page) {
-        Some(_) => 0,
-        None => 1,
+    let Some(start) = PageNo::new(first) else {
+        return end;
+    };
+    match paging.first_from(space, Bound::Included(start)) {
+        Some(page) => page.number().min(end),
+        None => end,
+    }
+}
+
+/// The page up to which those from one on are mapped, at most an end.
+fn next_hole(paging: &Paging, space: SpaceId, first: u64, end: u64) -> u64
+    requires ordered { first ≤ end }
+    requires within { end ≤ 2 ^ 35 }
+    ensures reached { first ≤ result }
+    ensures end { result ≤ end }
+    ensures mapped { (page : ℕ) → first ≤ page → page < result
+        → IsSome (page_at paging.now space page) }
+{
+    match PageNo::new(first) {
+        Some(start) => paging.mapped_to(space, start, end),
+        None => first,
     }
 }
 
 /// How many pages of a run aren't mapped.
-pub(crate) fn holes(areas: &AreaMap, first: u64, end: u64) -> u64
+pub(crate) fn holes(paging: &Paging, space: SpaceId, first: u64, end: u64) -> u64
     requires ordered { first ≤ end }
     requires within { end ≤ 2 ^ 35 }
     ensures counted { result
-        ≡ count_by (λ page. not (is_some (finmap.get areas.now page)))
+        ≡ count_by (λ page. not (is_some (page_at paging.now space page)))
         (pages_from first (end - first)) }
     ensures few { result ≤ end - first }
 {
     let mut count = 0;
-    for number in first..end {
-        let page = PageNo::new(number).unwrap();
-        count += hole_at(areas, page);
+    let mut reached = first;
+    while reached < end {
+        let mapped = next_mapped(paging, space, reached, end);
+        count += mapped - reached;
+        if mapped == end {
+            return count;
+        }
+        reached = next_hole(paging, space, mapped + 1, end);
     }
     count
 }
 
-/// Maps a page, where it isn't mapped.
+/// Maps pages of a run that aren't mapped, or passes those that are, from its first on. It returns the
+/// page that it came to.
 ///
 /// # Errors
 ///
 /// Out of memory where the table can't grow: nothing changes.
-fn fill_page(
+fn fill_next(
     paging: &mut Paging,
     space: SpaceId,
-    page: PageNo,
+    first: u64,
+    end: u64,
     prot: Prot,
-) -> Result<(), AllocError>
+) -> Result<u64, AllocError>
+    requires less { first < end }
+    requires within { end ≤ 2 ^ 35 }
     requires alive { is_alive paging.old.spaces space ≡ true }
-    requires few { page_at paging.old space page ≡ None → page_count paging.old.spaces < 65536 }
-    ensures added { OnOk result
-        (page_at paging.old space page ≡ None
-        → paging.new ≡ put_page paging.old space page (fresh_page prot)) }
-    ensures there { IsSome (page_at paging.old space page) → paging.new ≡ paging.old }
+    requires room { (to : ℕ) → first ≤ to → to ≤ end
+        → ((page : ℕ) → first ≤ page → page < to → page_at paging.old space page ≡ None)
+        → page_count paging.old.spaces + (to - first) ≤ 65536 }
+    ensures more { IfOk result (λ to. first < to) }
+    ensures end { IfOk result (λ to. to ≤ end) }
+    ensures value { IfOk result (λ to. paging.new
+        ≡ with_space paging.old space
+        (fill_within (inside paging.old.spaces space) first (to - first) (fresh_page prot))) }
     ensures err { OnErr result (paging.new ≡ paging.old) }
 {
-    if paging.entry(space, page).is_some() {
-        return Ok(());
+    let mapped = next_mapped(paging, space, first, end);
+    if mapped == first {
+        return Ok(next_hole(paging, space, first + 1, end));
     }
-    paging.add(space, page, prot)
+    paging.fill_run(space, PageNo::new(first).unwrap(), mapped, prot)
 }
 
 /// Maps the pages of a run that aren't mapped, from its first page on. It returns the page that
@@ -81,11 +118,12 @@ pub(crate) fn fill(paging: &mut Paging, space: SpaceId, first: u64, end: u64, pr
         ≡ with_space paging.old space
         (fill_within (inside paging.old.spaces space) first (result - first) (fresh_page prot)) }
 {
-    for number in first..end {
-        let page = PageNo::new(number).unwrap();
-        if fill_page(paging, space, page, prot).is_err() {
-            return number;
-        }
+    let mut reached = first;
+    while reached < end {
+        let Ok(next) = fill_next(paging, space, reached, end, prot) else {
+            return reached;
+        };
+        reached = next;
     }
     end
 }
@@ -127,6 +165,28 @@ pub(crate) fn unfill(paging: &mut Paging, space: SpaceId, first: u64, end: u64, 
     }
 }
 
+/// Replaces pages of a run, all of them mapped, by fresh ones, from its first on. It returns the page
+/// that it came to.
+fn renew_next(paging: &mut Paging, space: SpaceId, first: u64, end: u64, prot: Prot) -> u64
+    requires less { first < end }
+    requires within { end ≤ 2 ^ 35 }
+    requires alive { is_alive paging.old.spaces space ≡ true }
+    requires there { IsSome (page_at paging.old space first) }
+    ensures more { first < result }
+    ensures end { result ≤ end }
+    ensures value { paging.new
+        ≡ with_space paging.old space
+        (set_within (inside paging.old.spaces space) first (result - first) (fresh_page prot)) }
+{
+    let page = PageNo::new(first).unwrap();
+    let reached = paging.change_run(space, page, end, RunChange::Renew(prot));
+    if reached > first {
+        return reached;
+    }
+    paging.renew(space, page, prot);
+    first + 1
+}
+
 /// Replaces each page of a run, all of them mapped, by a fresh one.
 pub(crate) fn renew(paging: &mut Paging, space: SpaceId, first: u64, end: u64, prot: Prot)
     requires ordered { first ≤ end }
@@ -138,8 +198,9 @@ pub(crate) fn renew(paging: &mut Paging, space: SpaceId, first: u64, end: u64, p
         ≡ with_space paging.old space
         (set_within (inside paging.old.spaces space) first (end - first) (fresh_page prot)) }
 {
-    for number in first..end {
-        paging.renew(space, PageNo::new(number).unwrap(), prot);
+    let mut reached = first;
+    while reached < end {
+        reached = renew_next(paging, space, reached, end, prot);
     }
 }
 
@@ -171,6 +232,28 @@ fn protect_page(paging: &mut Paging, space: SpaceId, page: PageNo, prot: Prot)
     paging.write_protect(space, page, prot, entry.soft_dirty);
 }
 
+/// Sets the permissions of pages of a run that are mapped, and write-protects them, from its first on. It
+/// returns the page that it came to.
+fn protect_next(paging: &mut Paging, space: SpaceId, first: u64, end: u64, prot: Prot) -> u64
+    requires less { first < end }
+    requires within { end ≤ 2 ^ 35 }
+    requires alive { is_alive paging.old.spaces space ≡ true }
+    ensures more { first < result }
+    ensures end { result ≤ end }
+    ensures value { paging.new
+        ≡ with_space paging.old space
+        (change_within (protected_page prot) (inside paging.old.spaces space) first
+        (result - first)) }
+{
+    let page = PageNo::new(first).unwrap();
+    let reached = paging.change_run(space, page, end, RunChange::Protect(prot));
+    if reached > first {
+        return reached;
+    }
+    protect_page(paging, space, page, prot);
+    first + 1
+}
+
 /// Sets the permissions of each page of a run that is mapped, and write-protects it.
 pub(crate) fn protect(paging: &mut Paging, space: SpaceId, first: u64, end: u64, prot: Prot)
     requires ordered { first ≤ end }
@@ -180,9 +263,9 @@ pub(crate) fn protect(paging: &mut Paging, space: SpaceId, first: u64, end: u64,
         ≡ with_space paging.old space
         (change_within (protected_page prot) (inside paging.old.spaces space) first (end - first)) }
 {
-    for number in first..end {
-        let page = PageNo::new(number).unwrap();
-        protect_page(paging, space, page, prot);
+    let mut reached = first;
+    while reached < end {
+        reached = protect_next(paging, space, reached, end, prot);
     }
 }
 

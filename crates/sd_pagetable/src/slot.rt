@@ -2,9 +2,11 @@
 ghost use Rattle.std.specs.Prelude.{◌≡◌, ℕ, ◌<◌, ◌≤◌, ◌^◌, ◌==◌, if◌then◌else◌, is_some, true, false, None, Some, IfOk, OnOk, OnErr};
 ghost use Rattle.std.specs.Option.{ForSome};
 ghost use Rattle.sd_pagetable.specs.Radix.{slot_at, IsSlot, IsFirstAt};
+ghost use Rattle.sd_pagetable.specs.Runs.{AreMapped, ChangesRun, FillsRun};
 
 use crate::entry::Entry;
 use crate::node::Node;
+use crate::run_change::RunChange;
 use std::alloc::{AllocError, Global};
 
 /// The entry of a page, if there is a table that has it.
@@ -33,6 +35,89 @@ pub(crate) fn first_in<T: Node>(slot: &Option<Box<T>>, page: u64) -> Option<u64>
         Some(table) => table.first_from(page),
         None => None,
     }
+}
+
+/// The page up to which those from one on are mapped, at most an end.
+#[inline]
+pub(crate) fn mapped_in<T: Node>(slot: &Option<Box<T>>, from: u64, end: u64) -> u64
+    requires fits { T.span ≤ 2 ^ 36 }
+    requires kept { IsSlot (λ table. T.at table.value) (λ table. T.IsKept table.value) T.span slot.now }
+    requires within { from < T.span }
+    requires ordered { from ≤ end }
+    ensures reached { from ≤ result }
+    ensures end { result ≤ end }
+    ensures span { result ≤ T.span }
+    ensures mapped { AreMapped (slot_at (λ table. T.at table.value) slot.now) from result }
+{
+    match slot {
+        Some(table) => table.mapped_to(from, end),
+        None => from,
+    }
+}
+
+/// Changes the pages from one on, up to an end or one that isn't mapped or would give up its frame. It
+/// returns the page that it came to.
+#[inline]
+pub(crate) fn change_in<T: Node>(
+    slot: &mut Option<Box<T>>,
+    from: u64,
+    end: u64,
+    change: RunChange,
+) -> u64
+    requires fits { T.span ≤ 2 ^ 36 }
+    requires kept { IsSlot (λ table. T.at table.value) (λ table. T.IsKept table.value) T.span slot.old }
+    requires within { from < T.span }
+    requires ordered { from ≤ end }
+    ensures kept { IsSlot (λ table. T.at table.value) (λ table. T.IsKept table.value) T.span slot.new }
+    ensures there { is_some slot.new ≡ is_some slot.old }
+    ensures reached { from ≤ result }
+    ensures end { result ≤ end }
+    ensures span { result ≤ T.span }
+    ensures run { ChangesRun change (slot_at (λ table. T.at table.value) slot.old)
+        (slot_at (λ table. T.at table.value) slot.new) from result }
+{
+    match slot {
+        Some(table) => table.change_run(from, end, change),
+        None => from,
+    }
+}
+
+/// Puts an entry at the pages from one on, up to an end or one that is mapped. It returns the page that
+/// it came to: where there is no table, one with the first of them is made.
+///
+/// # Errors
+///
+/// Out of memory where a table can't be allocated: nothing changes.
+#[inline]
+pub(crate) fn fill_in<T: Node>(
+    slot: &mut Option<Box<T>>,
+    alloc: Global,
+    from: u64,
+    end: u64,
+    entry: Entry,
+) -> Result<u64, AllocError>
+    requires fits { T.span ≤ 2 ^ 36 }
+    requires kept { IsSlot (λ table. T.at table.value) (λ table. T.IsKept table.value) T.span slot.old }
+    requires within { from < T.span }
+    requires some { from < end }
+    ensures kept { IsSlot (λ table. T.at table.value) (λ table. T.IsKept table.value) T.span slot.new }
+    ensures there { OnOk result (is_some slot.new ≡ true) }
+    ensures reached { IfOk result (λ to. from ≤ to) }
+    ensures more { IfOk result (λ to. slot_at (λ table. T.at table.value) slot.old from ≡ None
+        → from < to) }
+    ensures end { IfOk result (λ to. to ≤ end) }
+    ensures span { IfOk result (λ to. to ≤ T.span) }
+    ensures run { IfOk result (λ to. FillsRun entry (slot_at (λ table. T.at table.value) slot.old)
+        (slot_at (λ table. T.at table.value) slot.new) from to) }
+    ensures same { OnErr result (is_some slot.new ≡ is_some slot.old) }
+    ensures err { OnErr result ((other : ℕ) → slot_at (λ table. T.at table.value) slot.new other
+        ≡ slot_at (λ table. T.at table.value) slot.old other) }
+{
+    if let Some(table) = slot {
+        return table.fill_run(alloc, from, end, entry);
+    }
+    *slot = Some(T::with_page(alloc, from, entry)?);
+    Ok(from + 1)
 }
 
 /// Puts the entry of a page, into a table made for it where there is none. It returns the entry that

@@ -1,10 +1,12 @@
-ghost use Rattle.std.specs.Prelude.{◌≡◌, true, false, IsSome, OnOk, OnErr};
+ghost use Rattle.std.specs.Prelude.{◌≡◌, ◌<◌, ◌≤◌, ◌^◌, true, false, None, IsSome, OnOk, OnErr, IfOk};
 ghost use Rattle.std.specs.FinMap as finmap;
 ghost use Rattle.sd_pagetable.specs.Nested.{inside, value_at, is_alive, put_at, remove_at};
 ghost use Rattle.sd_pagetable.specs.Firsts.{IsFirstFrom};
+ghost use Rattle.sd_pagetable.specs.Runs.{AreMapped, ChangesRun, FillsRun};
 
 use crate::entry::Entry;
 use crate::page_table::PageTable;
+use crate::run_change::RunChange;
 use sd_areas::{PageNo, SpaceId};
 use std::alloc::{AllocError, Global};
 use std::collections::BTreeMap;
@@ -79,6 +81,74 @@ impl Tables {
         ensures { IsFirstFrom (inside self.now space) start result }
     {
         self.spaces.get(&space)?.first_from(start)
+    }
+
+    /// The page up to which those of a space from one on are mapped, at most an end.
+    pub(crate) fn mapped_to(&self, space: SpaceId, first: PageNo, end: u64) -> u64
+        requires ordered { first ≤ end }
+        requires within { end ≤ 2 ^ 35 }
+        ensures reached { first ≤ result }
+        ensures end { result ≤ end }
+        ensures mapped { AreMapped (value_at self.now space) first result }
+    {
+        match self.spaces.get(&space) {
+            Some(table) => table.mapped_to(first, end),
+            None => first.number(),
+        }
+    }
+
+    /// Puts an entry at the pages of a space from one on, up to an end or one that is mapped. It returns
+    /// the page that it came to.
+    ///
+    /// # Errors
+    ///
+    /// Out of memory where the table can't grow: nothing changes.
+    pub(crate) fn fill_run(
+        &mut self,
+        space: SpaceId,
+        first: PageNo,
+        end: u64,
+        entry: Entry,
+    ) -> Result<u64, AllocError>
+        requires alive { is_alive self.old space ≡ true }
+        requires some { first < end }
+        requires within { end ≤ 2 ^ 35 }
+        ensures reached { IfOk result (λ to. first ≤ to) }
+        ensures more { IfOk result (λ to. value_at self.old space first ≡ None → first < to) }
+        ensures end { IfOk result (λ to. to ≤ end) }
+        ensures run { IfOk result
+            (λ to. FillsRun entry (value_at self.old space) (value_at self.new space) first to) }
+        ensures others { OnOk result
+            (self.new ≡ finmap.insert self.old space (inside self.new space)) }
+        ensures err { OnErr result (self.new ≡ self.old) }
+    {
+        let Some(table) = self.spaces.get_mut(&space) else {
+            return Ok(first.number());
+        };
+        table.fill_run(first, end, entry)
+    }
+
+    /// Changes the pages of a space from one on, up to an end or one that isn't mapped or would give
+    /// up its frame. It returns the page that it came to.
+    pub(crate) fn change_run(
+        &mut self,
+        space: SpaceId,
+        first: PageNo,
+        end: u64,
+        change: RunChange,
+    ) -> u64
+        requires alive { is_alive self.old space ≡ true }
+        requires ordered { first ≤ end }
+        requires within { end ≤ 2 ^ 35 }
+        ensures reached { first ≤ result }
+        ensures end { result ≤ end }
+        ensures run { ChangesRun change (value_at self.old space) (value_at self.new space) first result }
+        ensures others { self.new ≡ finmap.insert self.old space (inside self.new space) }
+    {
+        let Some(table) = self.spaces.get_mut(&space) else {
+            return first.number();
+        };
+        table.change_run(first, end, change)
     }
 
     /// Adds a space without pages.

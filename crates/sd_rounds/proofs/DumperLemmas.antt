@@ -1,5 +1,6 @@
 -- What holds of every checkpoint that runs, from step to step.
 use Rattle.std.proofs.Common.{◌≡◌, ℕ, ◌+◌, ◌≤◌, Bool, true, false, nat_eq, nat_le, ◌&&◌, if◌then◌else◌, [], ◌∷◌, length, Option, Some, None, refl, sym, ◌∙◌, ap, subst, arith}
+use Rattle.std.specs.Prelude.{Result, Ok, Err, IfOk, OnErr}
 use Rattle.std.specs.Option.{option_map}
 use Rattle.std.proofs.lemmas.Bool.{both_ways, and_parts}
 use Rattle.std.proofs.lemmas.Bool.Decides.{nat_tests}
@@ -18,10 +19,12 @@ use Rattle.sd_rounds.specs.declared.image_step.ImageStep.TheVariants.{Call, Page
 use Rattle.sd_rounds.specs.declared.progress.Progress.{Progress}
 use Rattle.sd_rounds.specs.declared.progress.Progress.TheVariants.{Strange, Failed as HasFailed, More as GoesOnWith, PreDump as PreDumpOpen, Dump as DumpOpen}
 use Rattle.sd_rounds.specs.declared.stage.Stage.{Stage}
+use Rattle.sd_rounds.specs.declared.work_error.WorkError.{WorkError}
 use Rattle.sd_rounds.specs.declared.stage.Stage.TheVariants.{Format, Freeze, Pass as PassStage, PageWrite, Close}
 use Rattle.sd_rounds.specs.Dumper.{AreRunning, AreCounted, Dumping, Hands, HandsTo, IsHanded, HasCounted, IsCounted, IsItsImage, IsRunning, Running, WorksOn, counted, ends, freezes, image_from, is_frozen_image, is_strange, order_of, running_of}
 use Rattle.sd_rounds.specs.Making.{GoesOn, Making, Steps, closing, is_frozen, is_past_freeze, outcomes_left, outcomes_of, plan_of, stage_after, stage_behind, with_plan}
 use Rattle.sd_rounds.specs.Pass.{data_pages}
+use Rattle.sd_rounds.specs.PlanSteps.{is_freeze, is_to_freeze}
 use Rattle.sd_rounds.proofs.MakingLemmas.{copy_counts, take_counts, visit_counts}
 
 -- ---- a step
@@ -317,21 +320,59 @@ handed old new made GoesOnWith strange is = is
 handed old new made (PreDumpOpen opened) strange is = is
 handed old new made (DumpOpen opened) strange is = is
 
-not_frozen : (step : ImageStep) → (step ≡ Frozen → ⊥) → freezes step ≡ false
-not_frozen (Call request) other = refl
-not_frozen (PageCall request) other = refl
-not_frozen (TableCall request) other = refl
-not_frozen Frozen other = absurd (other refl)
-not_frozen (Visited visit) other = refl
-not_frozen (Copied c) other = refl
+-- a step freezes the memory exactly where the image is behind its format
+freezes_is : (ticket : ℕ) (old new : Making) (before after : Contents) (step : ImageStep) → Steps ticket old before step new after → freezes step ≡ is_freeze old.stage
+freezes_is ticket old new before after (Call request) s = sym (has_plan old.stage s.0.plan s.0.was)
+  where
+    has_plan : (stage : Stage) (plan : Planned) → plan_of stage ≡ Some plan → is_freeze stage ≡ false
+    has_plan (Format p) plan e = refl
+    has_plan Freeze plan e = absurd (let f : None ≡ Some plan = e in cc)
+    has_plan PassStage plan e = refl
+    has_plan (PageWrite p) plan e = refl
+    has_plan (Close p header tables) plan e = refl
+freezes_is ticket old new before after (PageCall request) s = sym (ap is_freeze s.0.stage)
+freezes_is ticket old new before after (TableCall request) s = sym (ap is_freeze s.0.stage)
+freezes_is ticket old new before after Frozen s = sym (ap is_freeze s.0.stage)
+freezes_is ticket old new before after (Visited visit) s = sym (ap is_freeze s.passes.0)
+freezes_is ticket old new before after (Copied c) s = sym (ap is_freeze s.0.passes.0)
 
--- a step other than the freeze
-pub works_on : (since serial : ℕ) (state : SlotState) (ticket : ℕ) (old : Option Checkpoint) (checkpoint : Checkpoint) (new : Running) (before after : Contents) (step : ImageStep)
-    → AreRunning since (option_map running_of old) → old ≡ Some checkpoint → (step ≡ Frozen → ⊥)
-    → WorksOn serial state ticket (running_of checkpoint) before step new after → IsRunning since new
-works_on since serial state ticket old checkpoint new before after step are is other works =
-    subst (λ b. IsRunning (if b then 0 else since) new) (not_frozen step other)
-    (works_running since serial state ticket (running_of checkpoint) new before after step (subst (λ (o : Option Checkpoint). AreRunning since (option_map running_of o)) is are) works)
+from_freeze : (running : Running) (serial : ℕ) (state : SlotState) (image : Option Making) → is_freeze (image_from running serial state image).stage ≡ is_to_freeze image
+from_freeze running serial state None = refl
+from_freeze running serial state (Some image) = refl
+
+-- before its freeze a memory isn't frozen, so nothing is counted
+freeze_counts : (image : Option Making) → is_to_freeze image ≡ true → AreCounted 0 image
+freeze_counts None e = absurd (both_ways false refl e)
+freeze_counts (Some image) e =
+    λ frozen. absurd (both_ways (is_past_freeze image.stage) (not_past image.stage e) (and_parts (nat_eq (kind_number image.order.kind) 2) (is_past_freeze image.stage) frozen).1)
+  where
+    not_past : (stage : Stage) → is_freeze stage ≡ true → is_past_freeze stage ≡ false
+    not_past (Format plan) e = refl
+    not_past Freeze e = refl
+    not_past PassStage e = absurd (both_ways false refl e)
+    not_past (PageWrite plan) e = absurd (both_ways false refl e)
+    not_past (Close plan header tables) e = absurd (both_ways false refl e)
+
+-- a step, or none where it was refused
+pub worked : (since now serial : ℕ) (state : SlotState) (ticket : ℕ) (old : Option Checkpoint) (checkpoint : Checkpoint) (new : Running) (before after : Contents) (result : Result ImageStep WorkError)
+    → AreRunning since (option_map running_of old) → old ≡ Some checkpoint → now ≡ (if is_to_freeze (running_of checkpoint).image then 0 else since)
+    → IfOk result (λ step. WorksOn serial state ticket (running_of checkpoint) before step new after)
+    → OnErr result (new ≡ running_of checkpoint) → IsRunning now new
+worked since now serial state ticket old checkpoint new before after (Ok step) are is reset works err =
+    let own = running_of checkpoint in
+    let was : IsRunning since own = subst (λ (o : Option Checkpoint). AreRunning since (option_map running_of o)) is are in
+    subst (λ n. IsRunning n new)
+    (ap (λ b. if b then 0 else since) (freezes_is ticket (image_from own serial state own.image) works.image before after step works.steps ∙ from_freeze own serial state own.image) ∙ sym reset)
+    (works_running since serial state ticket own new before after step was works)
+worked since now serial state ticket old checkpoint new before after (Err e) are is reset works err =
+    subst (λ (r : Running). IsRunning now r) (sym err) (subst (λ n. IsRunning n (running_of checkpoint)) (sym reset) (by (is_to_freeze (running_of checkpoint).image) refl))
+  where
+    was : IsRunning since (running_of checkpoint)
+    was = subst (λ (o : Option Checkpoint). AreRunning since (option_map running_of o)) is are
+
+    by : (b : Bool) → is_to_freeze (running_of checkpoint).image ≡ b → IsRunning (if b then 0 else since) (running_of checkpoint)
+    by true e = record { few = was.few; own = was.own; counts = freeze_counts (running_of checkpoint).image e }
+    by false e = was
 
 pub same_dumping : (a b : Option Running) (m n : ℕ) → a ≡ b → m ≡ n → ◌≡◌ {A = Dumping} (record { running = a; since_freeze = m }) (record { running = b; since_freeze = n })
 same_dumping a b m n e f = ap (λ o. record { running = o; since_freeze = m }) e ∙ ap (λ k. record { running = b; since_freeze = k }) f

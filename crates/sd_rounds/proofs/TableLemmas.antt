@@ -1,6 +1,8 @@
 -- Entries that are kept as runs, with one page more.
-use Rattle.std.proofs.Common.{◌≡◌, ◌≢◌, ◌⊎◌, ℕ, ◌+◌, ◌<◌, ◌≤◌, List, [], ◌∷◌, ◌++◌, length, map, None, Result, Ok, Err, OnOk, refl, sym, ◌∙◌, ap, subst, inl, inr, arith}
-use Rattle.std.specs.List.{flat_map, AllByRecursion}
+use Rattle.std.proofs.Common.{◌≡◌, ◌≢◌, ◌⊎◌, ℕ, zero, suc, ◌+◌, ◌-◌, ◌<◌, ◌≤◌, Bool, true, false, ◌==◌, nat_eq, eq-eqb, List, [], ◌∷◌, ◌++◌, length, map, get_or, set, Some, None, Result, Ok, Err, OnOk, refl, sym, ◌∙◌, ap, subst, inl, inr, arith}
+use Rattle.std.specs.List.{flat_map, slice_get, AllByRecursion}
+use Rattle.std.specs.Option.{option_map_or}
+use Rattle.std.proofs.lemmas.Bool.{both_ways, eqb-true}
 use Rattle.std.proofs.lemmas.List.{map-append, flat_map_more, append_assoc, length-append}
 use Rattle.sd_image.specs.declared.run.Run.{Run}
 use Rattle.sd_image.specs.declared.run.RunKind.{RunKind}
@@ -204,3 +206,73 @@ same_listed front last new space areas runs = listed_put front new ∙ ap (λ (t
     same = ap (λ n. record { space = n; areas = new.areas.items; runs = new.runs.items }) space
         ∙ ap (λ a. record { space = last.space; areas = a; runs = new.runs.items }) areas
         ∙ ap (λ r. record { space = last.space; areas = last.areas.items; runs = r }) runs
+
+-- ---- the last table, by its place
+
+-- what is before the last of a list, and the list with another last
+record EndsAt {X : Type 0} (xs : List X) (place : ℕ) (d : X) : Type 0 where
+  front : List X
+  is : xs ≡ front ++ get_or xs place d ∷ []
+  put : (x : X) → set xs place x ≡ front ++ x ∷ []
+  got : slice_get xs place ≡ Some (get_or xs place d)
+
+at_end : {X : Type 0} (xs : List X) (place : ℕ) (d : X) → length xs ≡ suc place → EndsAt xs place d
+at_end [] place d long = absurd (omega arith)
+at_end (x ∷ []) zero d long = record { front = []; is = refl; put = λ _. refl; got = refl }
+at_end (x ∷ []) (suc place) d long = absurd (omega arith)
+at_end (x ∷ y ∷ xs) zero d long = absurd (omega arith)
+at_end (x ∷ y ∷ xs) (suc place) d long =
+    let behind : EndsAt (y ∷ xs) place d = at_end (y ∷ xs) place d (omega arith) in
+    record {
+      front = x ∷ behind.front;
+      is = ap (λ l. x ∷ l) behind.is;
+      put = λ z. ap (λ l. x ∷ l) (behind.put z);
+      got = behind.got;
+    }
+
+-- the last of some tables is of a space
+abbrev pub end_in : List SpaceTable → ℕ → Bool
+end_in tables space = option_map_or (λ (last : SpaceTable). last.space == space) (slice_get tables (length tables - 1)) false
+
+-- the last table is of the space, and stands at this place
+pub record IsLast (tables : List SpaceTable) (space place : ℕ) (last : SpaceTable) : Type 0 where
+  pub front : List SpaceTable
+  pub is : tables ≡ front ++ last ∷ []
+  pub here : last.space ≡ space
+  pub put : (t : SpaceTable) → set tables place t ≡ front ++ t ∷ []
+
+in_last : (t : SpaceTable) (tables : List SpaceTable) (space : ℕ) (last : SpaceTable)
+    → end_in (t ∷ tables) space ≡ (get_or (t ∷ tables) (length tables) last).space == space
+in_last t tables space last =
+    let place : length (t ∷ tables) - 1 ≡ length tables = omega arith in
+    ap (λ n. option_map_or (λ (l : SpaceTable). l.space == space) (slice_get (t ∷ tables) n) false) place
+    ∙ ap (λ o. option_map_or (λ (l : SpaceTable). l.space == space) o false) (at_end (t ∷ tables) (length tables) last refl).got
+
+pub last_is : (tables : List SpaceTable) (space place : ℕ) (last : SpaceTable) → place ≡ length tables - 1 → end_in tables space ≡ true
+    → last ≡ get_or tables place last → IsLast tables space place last
+last_is [] space place last at there read = absurd (both_ways false refl there)
+last_is (t ∷ tables) space place last at there read =
+    let same : place ≡ length tables = omega arith in
+    let end : EndsAt (t ∷ tables) (length tables) last = at_end (t ∷ tables) (length tables) last refl in
+    let now : last ≡ get_or (t ∷ tables) (length tables) last = read ∙ ap (λ n. get_or (t ∷ tables) n last) same in
+    record {
+      front = end.front;
+      is = end.is ∙ ap (λ l. end.front ++ l ∷ []) (sym now);
+      here = ap (λ (l : SpaceTable). l.space) now ∙ eqb-true (get_or (t ∷ tables) (length tables) last).space space (sym (in_last t tables space last) ∙ there);
+      put = λ x. ap (λ n. set (t ∷ tables) n x) same ∙ end.put x;
+    }
+
+-- a space that isn't the last begins
+pub begun_table : (parent : ℕ) (old new : List SpaceTable) (at : Place) (kind : RunKind) → AreTables parent 0 (listed old) → EndBefore at (listed old)
+    → end_in old at.0 ≡ false → 1 ≤ at.0 → at.0 ≤ 16 → IsSourced parent kind → IsBegun old new at kind → IsPushed parent (listed old) (listed new) at kind
+begun_table parent [] new at kind are ends other least within sourced begun = first_table parent new at kind least within sourced begun
+begun_table parent (t ∷ tables) new at kind are ends other least within sourced begun =
+    let last : SpaceTable = get_or (t ∷ tables) (length tables) t in
+    let end : EndsAt (t ∷ tables) (length tables) t = at_end (t ∷ tables) (length tables) t refl in
+    subst (λ (l : List SpaceTable). IsPushed parent (listed l) (listed new) at kind) (sym end.is)
+    (next_table parent end.front last new at kind
+    (subst (λ (l : List SpaceTable). AreTables parent 0 (listed l)) end.is are)
+    (subst (λ (l : List SpaceTable). EndBefore at (listed l)) end.is ends)
+    (λ same. both_ways (nat_eq last.space at.0) (sym (in_last t tables at.0 t) ∙ other) (eq-eqb last.space at.0 same))
+    within sourced
+    (subst (λ (l : List SpaceTable). IsBegun l new at kind) end.is begun))

@@ -1,5 +1,5 @@
 -- What the functions of an image in the making promise of its plans to one another.
-use Rattle.std.specs.Prelude.{◌≡◌, ◌≢◌, ◌+◌, true, false, []}
+use Rattle.std.specs.Prelude.{◌≡◌, ◌≢◌, ◌+◌, Bool, true, false, [], Option, Some, None}
 use Rattle.sd_gate.specs.declared.settled.Settled.{Settled}
 use Rattle.sd_gate.specs.declared.settled.Settled.TheVariants.{More as PlanMore, Finished as PlanFinished, Failed as PlanFailed, Strange as PlanStrange}
 use Rattle.sd_gate.specs.Calls.{is_done}
@@ -8,6 +8,7 @@ use Rattle.sd_gate.specs.Requests.{Asked, Made}
 use Rattle.sd_rounds.specs.declared.image_step.ImageStep.{ImageStep}
 use Rattle.sd_rounds.specs.declared.image_step.ImageStep.TheVariants.{Call, PageCall, TableCall, Frozen, Visited, Copied}
 use Rattle.sd_rounds.specs.declared.stage.Stage.{Stage}
+use Rattle.sd_rounds.specs.declared.stage.Stage.TheVariants.{Format, Freeze, Pass as PassStage, PageWrite, Close}
 use Rattle.sd_rounds.specs.Making.{IsUnderWay, Making, outcomes_of}
 
 -- what the outcome of the request that is out is to a plan
@@ -46,3 +47,15 @@ IsTableCallOf P (TableCall request) = P request
 IsTableCallOf P Frozen = ⊥
 IsTableCallOf P (Visited visit) = ⊥
 IsTableCallOf P (Copied copied) = ⊥
+
+-- the next step freezes the memory
+abbrev pub is_freeze : Stage → Bool
+is_freeze (Format plan) = false
+is_freeze Freeze = true
+is_freeze PassStage = false
+is_freeze (PageWrite plan) = false
+is_freeze (Close plan header tables) = false
+
+abbrev pub is_to_freeze : Option Making → Bool
+is_to_freeze None = false
+is_to_freeze (Some image) = is_freeze image.stage

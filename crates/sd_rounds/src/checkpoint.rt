@@ -1,9 +1,10 @@
 //! A checkpoint that is made: its images, one after the other.
-ghost use Rattle.std.specs.Prelude.{◌≡◌, ◌↔◌, ◌⊎◌, Err, IsSome, IfOk, IfErr, OnErr, true, false};
+ghost use Rattle.std.specs.Prelude.{◌≡◌, ◌↔◌, ◌⊎◌, Err, IsOk, IsSome, IfOk, IfErr, None, OnErr, true, false};
 ghost use Rattle.sd_rounds.specs.declared.progress.Progress.TheVariants.{Dump as DumpOpen, PreDump as PreDumpOpen};
 ghost use Rattle.sd_rounds.specs.declared.work_error.WorkError.TheVariants.{Busy, OutOfMemory};
 ghost use Rattle.sd_pagetable.specs.Contents.{plain_of};
 ghost use Rattle.sd_rounds.specs.Left.{running_left};
+ghost use Rattle.sd_rounds.specs.PlanSteps.{is_to_freeze};
 ghost use Rattle.sd_rounds.specs.Room.{MakingWants};
 ghost use Rattle.sd_rounds.specs.Sound.{IsSoundMaking};
 ghost use Rattle.sd_rounds.specs.Dumper.{HandsTo, HasFewPages, WorksOn, after_pre_dump, is_frozen_image, is_last, kind_of, order_of, out_of_image, running_of, slot_of};
@@ -82,6 +83,7 @@ impl Checkpoint {
     }
 
     /// Makes the next step of the image that is being made, or begins the next image.
+    #[inline(always)]
     pub(crate) fn work(
         &mut self,
         alloc: Global,
@@ -100,11 +102,39 @@ impl Checkpoint {
         if let Some(maker) = &mut self.maker {
             return maker.work(memory, ticket);
         }
+        self.begin_image(alloc, memory, image, ticket)
+    }
+
+    /// Begins the next image, with its first step. It is apart from the other steps, which need no room for an image.
+    #[inline(never)]
+    fn begin_image(
+        &mut self,
+        alloc: Global,
+        memory: &mut Memory,
+        image: NextImage,
+        ticket: u64,
+    ) -> Result<ImageStep, WorkError>
+        requires { (running_of self.old).image ≡ None }
+        ensures works { IfOk result (λ step. WorksOn image.serial image.state ticket
+            (running_of self.old) memory.old step (running_of self.new) memory.new) }
+        ensures ok { IsOk result }
+    {
         let order = self.order(image.serial, image.state);
         let mut maker = ImageMaker::new(alloc, order);
         let step = maker.work(memory, ticket)?;
         self.maker = Some(maker);
         Ok(step)
+    }
+
+    /// Whether the next step freezes the memory.
+    #[inline(always)]
+    pub(crate) fn is_to_freeze(&self) -> bool
+        ensures { result ≡ is_to_freeze (running_of self.now).image }
+    {
+        match &self.maker {
+            Some(maker) => maker.is_to_freeze(),
+            None => false,
+        }
     }
 
     /// How many steps and outcomes the checkpoint has before it, at most.

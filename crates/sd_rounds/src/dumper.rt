@@ -1,5 +1,5 @@
 //! The dumper: the images of a checkpoint, step by step.
-ghost use Rattle.std.specs.Prelude.{◌≡◌, ◌↔◌, ◌⊎◌, Err, None, Some, IsSome, IfOk, IfErr, OnOk, OnErr, is_none};
+ghost use Rattle.std.specs.Prelude.{◌≡◌, ◌↔◌, ◌⊎◌, Err, None, Some, IsSome, IfOk, IfErr, OnOk, OnErr, is_none, if◌then◌else◌};
 ghost use Rattle.std.specs.Option.{option_map};
 ghost use Rattle.sd_rounds.specs.declared.work_error.WorkError.TheVariants.{Busy, Idle, OutOfMemory};
 ghost use Rattle.sd_pagetable.specs.Contents.{plain_of};
@@ -59,6 +59,14 @@ fn ends(progress: &Progress) -> bool
     ensures { result ≡ ends progress.now }
 {
     matches!(progress, Progress::Failed | Progress::Dump(_))
+}
+
+/// How many outcomes are counted behind a step: none where it freezes the memory.
+#[inline(always)]
+fn counted(freezes: bool, since_freeze: u64) -> u64
+    ensures { result ≡ (if freezes then 0 else since_freeze) }
+{
+    if freezes { 0 } else { since_freeze }
 }
 
 impl Dumper {
@@ -150,11 +158,8 @@ impl Dumper {
         let Some(checkpoint) = &mut self.checkpoint else {
             return Err(WorkError::Idle);
         };
-        let step = checkpoint.work(self.alloc, memory, image, ticket)?;
-        if let ImageStep::Frozen = &step {
-            self.since_freeze = 0;
-        }
-        Ok(step)
+        self.since_freeze = counted(checkpoint.is_to_freeze(), self.since_freeze);
+        checkpoint.work(self.alloc, memory, image, ticket)
     }
 
     /// Takes the outcome of the request that is out. After one that failed no checkpoint runs.

@@ -1,5 +1,7 @@
 //! Entries of an image, as the runs of each space.
-ghost use Rattle.std.specs.Prelude.{◌≡◌, ℕ, ◌≤◌, OnOk, OnErr};
+ghost use Rattle.std.specs.Prelude.{◌≡◌, ◌-◌, ◌==◌, ℕ, ◌≤◌, false, length, slice_get, OnOk, OnErr};
+ghost use Rattle.std.specs.Option.{option_map_or};
+ghost use Rattle.sd_image.specs.declared.table.SpaceTable.{SpaceTable};
 ghost use Rattle.sd_image.specs.Runs.{IsSourced};
 ghost use Rattle.sd_rounds.specs.Tables.{AreTables, EndBefore, IsBegun, IsPushed, listed};
 
@@ -12,6 +14,7 @@ use std::alloc::{AllocError, Global};
 /// # Errors
 ///
 /// Out of memory where a run or a table finds no room: the entries stay.
+#[inline]
 pub(crate) fn push_entry(
     alloc: Global,
     tables: &mut Vec<SpaceTable>,
@@ -26,19 +29,27 @@ pub(crate) fn push_entry(
         (space, page) kind) }
     ensures err { OnErr result (listed tables.new.items ≡ listed tables.old.items) }
 {
-    let Some(mut last) = tables.pop() else {
-        return push_space(alloc, tables, space, page, kind);
-    };
-    if last.space.number() != space.number() {
-        tables.push(last)?;
+    if !end_in(tables, space) {
         return push_space(alloc, tables, space, page, kind);
     }
-    let pushed = push_page(&mut last.runs, page, kind);
-    tables.push(last)?;
-    pushed
+    let place = tables.len() - 1;
+    let last = &mut tables[place];
+    push_page(&mut last.runs, page, kind)
+}
+
+/// Whether the last of some tables is of a space.
+#[inline]
+fn end_in(tables: &[SpaceTable], space: SpaceId) -> bool
+    ensures { result ≡ option_map_or (λ (last : SpaceTable). last.space == space) (slice_get tables.now (length tables.now - 1)) false }
+{
+    match tables.last() {
+        Some(last) => last.space.number() == space.number(),
+        None => false,
+    }
 }
 
 /// Puts the first page of a space behind the entries.
+#[inline(never)]
 fn push_space(
     alloc: Global,
     tables: &mut Vec<SpaceTable>,

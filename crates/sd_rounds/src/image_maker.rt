@@ -1,5 +1,5 @@
 //! One image in the making: its slot is formatted, the pages of a memory are passed, and its gate is opened.
-ghost use Rattle.std.specs.Prelude.{◌≡◌, ◌↔◌, ◌⊎◌, ◌<◌, ◌≤◌, ◌^◌, ◌==◌, None, Some, Err, IsSome, IsTrue, IsErr, IfOk, IfErr, OnErr, MatchOption, length, map, []};
+ghost use Rattle.std.specs.Prelude.{◌≡◌, ◌≢◌, ◌↔◌, ◌⊎◌, ◌<◌, ◌≤◌, ◌^◌, ◌==◌, None, Some, Err, IsSome, IsTrue, IsErr, IfOk, IfErr, OnErr, MatchOption, length, map, []};
 ghost use Rattle.sd_image.specs.Header.{HasWords};
 ghost use Rattle.sd_image.specs.Table.{listing_of};
 ghost use Rattle.sd_gate.specs.PlanRuns.{AreChanges};
@@ -7,11 +7,11 @@ ghost use Rattle.sd_gate.specs.Plans.{Gives};
 ghost use Rattle.sd_rounds.specs.declared.work_error.WorkError.TheVariants.{Busy, OutOfMemory};
 ghost use Rattle.sd_rounds.specs.declared.stage.Stage.TheVariants.{Close, Format, PageWrite, Pass as PassStage};
 ghost use Rattle.sd_image.specs.declared.header.Header.{Header};
-ghost use Rattle.sd_pagetable.specs.Contents.{plain_of};
+ghost use Rattle.sd_pagetable.specs.Contents.{Contents, plain_of};
 ghost use Rattle.sd_pagetable.specs.Order.{IsNextPage};
 ghost use Rattle.sd_rounds.specs.Left.{image_left, plan_left};
 ghost use Rattle.sd_rounds.specs.Making.{HandsIn, HasTable, IsAskedBy, IsUnderWay, Steps, WritesPage, WritesTable, begun_image, header_of, is_frozen, out_of};
-ghost use Rattle.sd_rounds.specs.PlanSteps.{IsCallOf, IsPageCallOf, IsTableCallOf, Settles, at_stage};
+ghost use Rattle.sd_rounds.specs.PlanSteps.{IsCallOf, IsPageCallOf, IsTableCallOf, Settles, at_stage, is_freeze};
 ghost use Rattle.sd_rounds.specs.Pass.{data_pages, opened};
 ghost use Rattle.sd_rounds.specs.Room.{ImageWants, PassWants};
 ghost use Rattle.sd_rounds.specs.Rounds.{IsCopied};
@@ -147,6 +147,7 @@ impl ImageMaker {
     ///
     /// Busy where a request is out. Out of memory where an entry, a sector or the table finds no room, which is in the
     /// pass alone. Nothing changed.
+    #[inline(always)]
     pub(crate) fn work(&mut self, memory: &mut Memory, ticket: u64) -> Result<ImageStep, WorkError>
         ensures steps { IfOk result (λ step. Steps ticket self.old memory.old step self.new memory.new) }
         ensures busy { result ≡ Err Busy ↔ IsSome (out_of self.old.stage) }
@@ -155,42 +156,62 @@ impl ImageMaker {
         ensures err { OnErr result (self.new ≡ self.old) }
         ensures err_memory { OnErr result (memory.new ≡ memory.old) }
     {
+        let Stage::Pass = &self.stage else {
+            return self.go_on(ticket);
+        };
+        match self.round.standing() {
+            Standing::Free => {
+                if let Some(visit) = self.round.visit(memory)? {
+                    return Ok(ImageStep::Visited(visit));
+                }
+                self.close(memory, ticket)
+            }
+            Standing::Copying => {
+                let copied = self.round.copy_sector(memory)?;
+                Ok(ImageStep::Copied(copied))
+            }
+            Standing::Copied => self.write_page(ticket),
+        }
+    }
+
+    /// Makes the next step outside the pass: the freeze, or a request for the next call of a plan.
+    #[inline(never)]
+    fn go_on(&mut self, ticket: u64) -> Result<ImageStep, WorkError>
+        requires { self.old.stage ≢ PassStage }
+        ensures steps { (memory : Contents)
+            → IfOk result (λ step. Steps ticket self.old memory step self.new memory) }
+        ensures busy { result ≡ Err Busy ↔ IsSome (out_of self.old.stage) }
+        ensures errors { IfErr result (λ e. e ≡ Busy) }
+        ensures err { OnErr result (self.new ≡ self.old) }
+    {
         match &mut self.stage {
             Stage::Freeze => {
                 self.stage = Stage::Pass;
                 Ok(ImageStep::Frozen)
             }
-            Stage::Pass => Ok(self.pass(memory, ticket)?),
+            Stage::Pass => unreachable!(),
             Stage::Format(plan) => ask(plan, ticket),
             Stage::PageWrite(plan) => ask(plan, ticket),
             Stage::Close { plan, .. } => ask(plan, ticket),
         }
     }
 
-    /// Makes the next step of the pass.
-    fn pass(&mut self, memory: &mut Memory, ticket: u64) -> Result<ImageStep, AllocError>
-        requires { self.old.stage ≡ PassStage }
-        ensures steps { IfOk result (λ step. Steps ticket self.old memory.old step self.new memory.new) }
-        ensures wanted { IsErr result → PassWants self.old.pass memory.old }
-        ensures err { OnErr result (self.new ≡ self.old) }
-        ensures err_memory { OnErr result (memory.new ≡ memory.old) }
+    /// Whether the next step freezes the memory.
+    #[inline(always)]
+    pub(crate) fn is_to_freeze(&self) -> bool
+        ensures { result ≡ is_freeze self.now.stage }
     {
-        match self.round.standing() {
-            Standing::Free => match self.round.visit(memory)? {
-                Some(visit) => Ok(ImageStep::Visited(visit)),
-                None => self.close(memory, ticket),
-            },
-            Standing::Copying => Ok(ImageStep::Copied(self.round.copy_sector(memory)?)),
-            Standing::Copied => self.write_page(ticket),
-        }
+        matches!(self.stage, Stage::Freeze)
     }
 
     /// Takes the page that was copied, and asks for its write.
-    fn write_page(&mut self, ticket: u64) -> Result<ImageStep, AllocError>
+    #[inline(never)]
+    fn write_page(&mut self, ticket: u64) -> Result<ImageStep, WorkError>
         requires stage { self.old.stage ≡ PassStage }
         requires copied { IsCopied self.old.pass }
         ensures page { IfOk result (IsPageCallOf (λ request. WritesPage self.old request self.new
             × IsAskedBy ticket request)) }
+        ensures errors { IfErr result (λ e. e ≡ OutOfMemory) }
         ensures err { OnErr result (self.new ≡ self.old) }
     {
         self.round.has_room();
@@ -203,12 +224,14 @@ impl ImageMaker {
     }
 
     /// Makes the table, and asks for its write.
-    fn close(&mut self, memory: &Memory, ticket: u64) -> Result<ImageStep, AllocError>
+    #[inline(never)]
+    fn close(&mut self, memory: &Memory, ticket: u64) -> Result<ImageStep, WorkError>
         requires stage { self.old.stage ≡ PassStage }
         requires free { self.old.pass.taking ≡ None }
         requires over { IsNextPage memory.now.spaces self.old.pass.after None }
         ensures table { IfOk result (IsTableCallOf (λ request. WritesTable self.old memory.now request self.new
             × IsAskedBy ticket request)) }
+        ensures errors { IfErr result (λ e. e ≡ OutOfMemory) }
         ensures err { OnErr result (self.new ≡ self.old) }
     {
         let table = self.table(memory)?;

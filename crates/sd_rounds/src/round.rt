@@ -1,10 +1,11 @@
 //! A pass over the pages of a memory, which makes the entries of an image.
-ghost use Rattle.std.specs.Prelude.{◌≡◌, ◌≢◌, ◌||◌, ◌*◌, ◌<◌, ◌≤◌, ◌^◌, true, false, None, Some, IsTrue, IsSome, IsErr, ◌↔◌, IfOk, OnOk, OnErr, MatchOption, ◌==◌, ◌++◌};
+ghost use Rattle.std.specs.Prelude.{◌≡◌, ◌≢◌, length, ◌||◌, ◌*◌, ◌<◌, ◌≤◌, ◌^◌, true, false, None, Some, IsTrue, IsSome, IsErr, ◌↔◌, IfOk, OnOk, OnErr, MatchOption, ◌==◌, ◌++◌};
 ghost use Rattle.std.specs.List.{list_all};
 ghost use Rattle.sd_image.specs.declared.run.RunKind.TheVariants.{Parent};
 ghost use Rattle.sd_pagetable.specs.Contents.{page_at, plain_of};
 ghost use Rattle.sd_pagetable.specs.Order.{is_above};
 ghost use Rattle.sd_pagetable.specs.Page.{Page};
+ghost use Rattle.sd_pagetable.specs.Tracking.{Cleared, Step};
 ghost use Rattle.sd_rounds.specs.Left.{pass_left};
 ghost use Rattle.sd_rounds.specs.Pass.{Taking, begun_to_take, copied_more, data_pages, dropped, left_to_parent, opened, place_taken, visited, with_entry};
 ghost use Rattle.sd_rounds.specs.Rises.{IsRising};
@@ -49,11 +50,16 @@ impl Model for Round {
     ghost invariant = { λ r. IsRound r.takes_all r.tables.items r.after r.taking r.buffer.items };
 }
 
-/// Whether bytes are zeros alone.
+/// A page of zeros, which is compared with others many bytes at a time.
+static ZEROS: [u8; PAGE_SIZE] = [0; PAGE_SIZE];
+
+/// Whether bytes, a page of them at most, are zeros alone.
+#[inline]
 fn is_zero(bytes: &[u8]) -> bool
+    requires { length bytes.now ≤ 4096 }
     ensures { result ≡ list_all (λ byte. byte == 0) bytes.now }
 {
-    bytes.iter().all(|byte| *byte == 0)
+    bytes == &ZEROS[..bytes.len()]
 }
 
 impl Round {
@@ -72,6 +78,7 @@ impl Round {
     }
 
     /// How far the page is that is being taken.
+    #[inline(always)]
     pub fn standing(&self) -> Standing
         ensures { Stands self.now result }
     {
@@ -126,6 +133,7 @@ impl Round {
     /// # Errors
     ///
     /// Out of memory where the entry of a page that is left to the parent finds no room: nothing changed.
+    #[inline(always)]
     pub fn visit(&mut self, memory: &mut Memory) -> Result<Option<Visit>, AllocError>
         requires free { self.old.taking ≡ None }
         ensures visit { IfOk result (λ found. MatchOption found
@@ -141,7 +149,7 @@ impl Round {
         memory.sound();
         let soft_dirty = is_soft_dirty(memory, space, page);
         self.enter(space, page, soft_dirty)?;
-        let _was = memory.test_and_clear(space, page);
+        clear(memory, space, page, soft_dirty);
         Ok(Some(Visit {
             space,
             page,
@@ -155,6 +163,7 @@ impl Round {
     /// # Errors
     ///
     /// Out of memory where the sector or the page's entry finds no room: nothing changed.
+    #[inline]
     pub fn copy_sector(&mut self, memory: &Memory) -> Result<Copied, AllocError>
         requires { IsCopying self.old }
         ensures copied { IfOk result (λ copied. Copies self.old memory.now copied self.new) }
@@ -206,14 +215,16 @@ impl Round {
     }
 
     /// Whether the page that is being taken is whole with this sector, and all zeros.
+    #[inline]
     fn ends_in_zeros(&self, sector: &[u8; SECTOR_SIZE]) -> bool
         ensures { (taking : Taking) → self.now.taking ≡ Some taking
             → result ≡ is_page_of_zeros (taking.copied ++ sector.now) }
     {
-        self.buffer.len() + SECTOR_SIZE == PAGE_SIZE && is_zero(sector) && is_zero(&self.buffer)
+        self.buffer.len() + SECTOR_SIZE == PAGE_SIZE && is_zero(&self.buffer) && is_zero(sector)
     }
 
     /// The page that was being taken is no longer mapped.
+    #[inline]
     fn drop_page(&mut self)
         ensures { self.new ≡ dropped self.old }
     {
@@ -233,6 +244,7 @@ impl Round {
     }
 
     /// Puts a sector behind those that were copied.
+    #[inline]
     fn append(&mut self, sector: &[u8; SECTOR_SIZE]) -> Result<(), AllocError>
         requires copying { IsCopying self.old }
         requires some { (taking : Taking) → self.old.taking ≡ Some taking
@@ -246,6 +258,7 @@ impl Round {
     }
 
     /// Begins to take a page ahead of the cursor, or leaves it to the parent.
+    #[inline]
     fn enter(&mut self, space: SpaceId, page: PageNo, soft_dirty: bool) -> Result<(), AllocError>
         requires free { self.old.taking ≡ None }
         requires above { is_above self.old.after space page ≡ true }
@@ -263,6 +276,7 @@ impl Round {
     }
 
     /// Begins to take a page ahead of the cursor.
+    #[inline]
     fn begin_to_take(&mut self, space: SpaceId, page: PageNo)
         requires free { self.old.taking ≡ None }
         requires above { is_above self.old.after space page ≡ true }
@@ -276,6 +290,7 @@ impl Round {
     }
 
     /// Leaves a page ahead of the cursor to the parent.
+    #[inline]
     fn leave(&mut self, space: SpaceId, page: PageNo) -> Result<(), AllocError>
         requires parent { self.old.takes_all ≡ false }
         requires free { self.old.taking ≡ None }
@@ -292,9 +307,25 @@ impl Round {
 }
 
 /// Whether a page is soft-dirty.
+#[inline]
 fn is_soft_dirty(memory: &Memory, space: SpaceId, page: PageNo) -> bool
     ensures { (found : Page) → page_at memory.now space page ≡ Some found
         → result ≡ found.soft_dirty }
 {
     memory.word(space, page) & SOFT_DIRTY != 0
+}
+
+/// Clears a mapped page, whose soft-dirty bit is this one. A clean page is write-protected already, and stays as it is.
+#[inline]
+fn clear(memory: &mut Memory, space: SpaceId, page: PageNo, soft_dirty: bool)
+    requires there { IsSome (page_at memory.old space page) }
+    requires bit { (found : Page) → page_at memory.old space page ≡ Some found
+        → soft_dirty ≡ found.soft_dirty }
+    ensures cleared { Step memory.old (Cleared space page) memory.new }
+    ensures plain { plain_of memory.new ≡ plain_of memory.old }
+{
+    memory.sound();
+    if soft_dirty {
+        let _was = memory.test_and_clear(space, page);
+    }
 }

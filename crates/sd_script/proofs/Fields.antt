@@ -1,6 +1,9 @@
 -- Lemmas on the fields of a line.
-use Rattle.std.proofs.Common.{◌≡◌, ◌≢◌, ◌≤◌, ℕ, List, [], ◌∷◌, map, length, take, drop, get_or, ◌-◌, Bor, None, refl, arith, ap, sym, suc}
-use Rattle.std.proofs.lemmas.List.{take_all}
+use Rattle.std.proofs.Common.{◌≡◌, ◌≢◌, ◌<◌, ◌≤◌, ◌+◌, ◌==◌, ◌++◌, ℕ, Bool, List, [], ◌∷◌, map, length, take, drop, get_or, ◌-◌, Bor, None, refl, arith, ap, sym, ◌∙◌, suc, inl, inr, append_assoc, length-drop}
+use Rattle.std.specs.List.{slice_split, onto_first, position_or_len, before_first, after_first}
+use Rattle.std.proofs.lemmas.Bool.{cases_Bool}
+use Rattle.std.proofs.lemmas.List.{take_all, map-append}
+use Rattle.std.proofs.lemmas.List.Splits.{slice_split_first, slice_split-cons_no}
 use Rattle.sd_script.specs.Line.{mmap_of, munmap_of, mprotect_of, fork_of, exit_of, try_of, fault_of, words_of, store_of, load_of, checkpoint_of, asked_by_word, asked_by_fields}
 
 -- the texts of fields
@@ -86,3 +89,42 @@ asked_by_fields-parts [] h = absurd (omega arith)
 asked_by_fields-parts (x ∷ xs) h =
     let e : take (suc (length xs) - 1) xs ≡ xs = take_all _ xs (omega arith) in
     ap (λ ys. asked_by_word x.now (texts ys)) (sym e)
+
+-- ---- a line, taken apart field by field
+abbrev pub is_space : ℕ → Bool
+is_space byte = byte == 32
+
+-- the fields so far, and those of the rest
+abbrev pub Splits : List ℕ → List (Bor (List ℕ)) → List ℕ → Type 0
+Splits line fields rest = texts fields ++ slice_split is_space rest ≡ slice_split is_space line
+
+-- a field more
+pub splits-more : (line rest : List ℕ) (fields : List (Bor (List ℕ))) (field : Bor (List ℕ)) (others : List ℕ) → Splits line fields rest
+    → position_or_len is_space rest < length rest → field.now ≡ before_first is_space rest → others ≡ after_first is_space rest → Splits line (fields ++ field ∷ []) others
+splits-more line rest fields field others splits within first after =
+    let parts : slice_split is_space rest ≡ field.now ∷ slice_split is_space others = slice_split_first is_space rest 0 within
+    ∙ ap (λ x. x ∷ slice_split is_space (after_first is_space rest)) (sym first) ∙ ap (λ xs. field.now ∷ slice_split is_space xs) (sym after) in
+    ap (λ xs. xs ++ slice_split is_space others) (map-append (λ (x : Bor (List ℕ)). x.now) fields (field ∷ []))
+    ∙ append_assoc (texts fields) (field.now ∷ []) (slice_split is_space others) ∙ ap (λ xs. texts fields ++ xs) (sym parts) ∙ splits
+
+pub splits-less : (rest others : List ℕ) → position_or_len is_space rest < length rest → others ≡ after_first is_space rest → length others < length rest
+splits-less rest others within after =
+    let e : length others ≡ length (drop (position_or_len is_space rest + 1) rest) = ap length after in
+    let f = length-drop (position_or_len is_space rest + 1) rest in
+    omega arith
+
+-- without an end it is one part
+pub one_part : (p : ℕ → Bool) (rest : List ℕ) → position_or_len p rest ≡ length rest → slice_split p rest ≡ rest ∷ []
+one_part p [] none = refl
+one_part p (b ∷ bs) none = elim (cases_Bool (p b)) [
+  | inl here ↦ absurd (let f : position_or_len p (b ∷ bs) ≡ 0 = rw here refl in omega arith)
+  | inr there ↦
+      let f : position_or_len p (b ∷ bs) ≡ 1 + position_or_len p bs = rw there refl in
+      slice_split-cons_no p b bs there ∙ ap (onto_first b) (one_part p bs (omega arith))
+]
+
+-- the last field
+pub splits-all : (line rest : List ℕ) (fields : List (Bor (List ℕ))) (field : Bor (List ℕ)) → Splits line fields rest
+    → position_or_len is_space rest ≡ length rest → field.now ≡ rest → texts (fields ++ field ∷ []) ≡ slice_split is_space line
+splits-all line rest fields field splits none is =
+    map-append (λ (x : Bor (List ℕ)). x.now) fields (field ∷ []) ∙ ap (λ x. texts fields ++ x ∷ []) is ∙ ap (λ xs. texts fields ++ xs) (sym (one_part is_space rest none)) ∙ splits

@@ -1,12 +1,16 @@
--- What `from_str_radix` reads, in the words of the script language.
-use Rattle.std.proofs.Common.{◌≡◌, ◌≢◌, ◌<◌, ◌^◌, ◌&&◌, ℕ, Bool, true, false, List, [], ◌∷◌, length, get_or, Some, None, Result, Ok, Err, refl, sym, nat_lt, if◌then◌else◌}
+-- Numbers in digits, read one digit after the other.
+use Rattle.std.proofs.Common.{◌≡◌, ◌<◌, ◌≤◌, ◌+◌, ◌-◌, ◌*◌, ◌/◌, ◌^◌, ◌&&◌, ◌==◌, ℕ, zero, suc, inl, inr, Bool, true, false, List, [], ◌∷◌, length, take, get_or, Some, None, refl, sym, ◌∙◌, ap, subst, nat_lt, if◌then◌else◌, arith}
 use Rattle.std.specs.List.{list_all}
 use Rattle.std.specs.Bool.{Decides}
 use Rattle.std.specs.Char.{is_digit, digit_value}
-use Rattle.std.specs.Str.Parse.{AllDigits, IsNumeral, digits_value, ParsesUnsigned}
-use Rattle.std.specs.Result.{result_ok}
-use Rattle.std.proofs.lemmas.Str.Parse.{without_leading_plus_none}
-use Rattle.std.proofs.lemmas.Bool.Decides.{Decides-and, Decides-ltb}
+use Rattle.std.specs.Str.Parse.{AllDigits, IsNumeral, digits_value}
+use Rattle.std.proofs.lemmas.Bool.{cases_lt}
+use Rattle.std.proofs.lemmas.Bool.Decides.{Decides-and, Decides-ltb, nat_tests}
+use Rattle.std.proofs.lemmas.Int.Digits.{digits_more, digits_value_more}
+use Rattle.std.proofs.lemmas.List.{take_all}
+use Rattle.std.proofs.lemmas.Nat.{le-div}
+use Rattle.std.proofs.lemmas.Str.Parse.{digits_value-take-le}
+use Rattle.std.proofs.Math.Nat.{div-mul-le_self, mul-le-mul_right}
 use Rattle.sd_script.specs.Line.{numeral_of}
 
 Decides-digits : (radix : ℕ) (ds : List ℕ) → Decides (list_all (λ c. is_digit c radix) ds) (AllDigits radix ds)
@@ -25,10 +29,66 @@ not_chosen : (b : Bool) (P : Type 0) (n : ℕ) → Decides b P → (P → ⊥) �
 not_chosen true P n d not_so = absurd (not_so (d.0 refl))
 not_chosen false P n d not_so = refl
 
-pub parsed-numeral : {E : Type 0} (radix : ℕ) (ds : List ℕ) (r : Result ℕ E) → get_or ds 0 0 ≢ 43 → ParsesUnsigned 64 radix ds r → result_ok r ≡ numeral_of radix ds
-parsed-numeral radix ds (Ok x) unsigned parses =
-    let own = rw (without_leading_plus_none ds unsigned) at parses in
-    rw own.1 (sym (chosen _ _ (digits_value radix ds) (Decides-numeral radix ds) own.0))
-parsed-numeral radix ds (Err e) unsigned parses =
-    let own = rw (without_leading_plus_none ds unsigned) at parses in
-    sym (not_chosen _ _ (digits_value radix ds) (Decides-numeral radix ds) own)
+-- the value of one of the digits
+digit_below : (radix : ℕ) (ds : List ℕ) (i : ℕ) → AllDigits radix ds → i < length ds → digit_value (get_or ds i 0) < radix
+digit_below radix [] i all within = absurd (omega arith)
+digit_below radix (c ∷ cs) zero all within = all.0
+digit_below radix (c ∷ cs) (suc i) all within = digit_below radix cs i all.1 (omega arith)
+
+-- a number that a digit more leaves below 2^64, and one that it doesn't
+pub fits-more : (radix number : ℕ) → number ≤ (2 ^ 64 - 1) / radix → number * radix < 2 ^ 64
+fits-more radix number le =
+    let most = div-mul-le_self (2 ^ 64 - 1) radix in
+    let product : number * radix ≤ (2 ^ 64 - 1) / radix * radix = mul-le-mul_right radix le in
+    omega arith
+
+pub large-more : (radix number : ℕ) → 1 ≤ radix → (2 ^ 64 - 1) / radix < number → 2 ^ 64 ≤ number * radix
+large-more radix number some less = elim (cases_lt (number * radix) (2 ^ 64)) [
+  | inl below ↦ (let most = le-div number (2 ^ 64 - 1) radix some (omega arith) in absurd (omega arith))
+  | inr above ↦ above
+]
+
+-- no digits at all
+pub numeral-empty : (radix : ℕ) (ds : List ℕ) → length ds ≡ 0 → numeral_of radix ds ≡ None
+numeral-empty radix ds none = not_chosen _ _ (digits_value radix ds) (Decides-numeral radix ds) (λ own. let some = own.0.0 in omega arith)
+
+-- a byte that is no digit
+pub numeral-unfit : (radix : ℕ) (ds : List ℕ) (i : ℕ) → i < length ds → radix ≤ digit_value (get_or ds i 0) → numeral_of radix ds ≡ None
+numeral-unfit radix ds i within unfit =
+    not_chosen _ _ (digits_value radix ds) (Decides-numeral radix ds) (λ own. let below = digit_below radix ds i own.0.1 within in omega arith)
+
+-- what is known after some digits
+pub record Reads (radix : ℕ) (ds : List ℕ) (i number : ℕ) : Type 0 where
+  pub digits : AllDigits radix (take i ds)
+  pub value : number ≡ digits_value radix (take i ds)
+  pub small : number < 2 ^ 64
+
+pub reads-none : (radix : ℕ) (ds : List ℕ) → Reads radix ds 0 0
+reads-none radix ds = record { digits = tt; value = refl; small = omega arith }
+
+pub reads-more : (radix : ℕ) (ds : List ℕ) (i number : ℕ) → Reads radix ds i number → i < length ds → digit_value (get_or ds i 0) < radix
+    → number * radix + digit_value (get_or ds i 0) < 2 ^ 64 → Reads radix ds (i + 1) (number * radix + digit_value (get_or ds i 0))
+reads-more radix ds i number reads within below small = record {
+  digits = digits_more radix ds i within reads.digits below;
+  value = ap (λ n. n * radix + digit_value (get_or ds i 0)) reads.value ∙ sym (digits_value_more radix ds i within);
+  small = small;
+}
+
+pub numeral-read : (radix : ℕ) (ds : List ℕ) (i number : ℕ) → Reads radix ds i number → 0 < length ds → i ≡ length ds → numeral_of radix ds ≡ Some number
+numeral-read radix ds i number reads some at_end =
+    let all : take i ds ≡ ds = take_all i ds (omega arith) in
+    let digits : AllDigits radix ds = subst (AllDigits radix) all reads.digits in
+    let value : number ≡ digits_value radix ds = reads.value ∙ ap (digits_value radix) all in
+    let small : digits_value radix ds < 2 ^ 64 = subst (λ n. n < 2 ^ 64) value reads.small in
+    chosen _ _ (digits_value radix ds) (Decides-numeral radix ds) ((some, digits), small) ∙ ap Some (sym value)
+
+-- one digit more makes it too large
+pub numeral-large : (radix : ℕ) (ds : List ℕ) (i number : ℕ) → Reads radix ds i number → 1 ≤ radix → i < length ds → 2 ^ 64 ≤ number * radix + digit_value (get_or ds i 0) → numeral_of radix ds ≡ None
+numeral-large radix ds i number reads some within large =
+    let more = digits_value_more radix ds i within in
+    let same : number * radix ≡ digits_value radix (take i ds) * radix = ap (λ n. n * radix) reads.value in
+    let least = digits_value-take-le radix ds (i + 1) some in
+    not_chosen _ _ (digits_value radix ds) (Decides-numeral radix ds) (λ own. let below = own.1 in omega arith)
+
+pub some_digits : (n : ℕ) → false ≡ (n == 0) → 0 < n
+some_digits n e = grind (arith, nat_tests)

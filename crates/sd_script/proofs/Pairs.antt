@@ -12,31 +12,31 @@ values_from byte zero = []
 values_from byte (suc n) = unwrap_or (hex_digit_value byte) 16 ∷ values_from (byte + 1) n
 
 -- the test of one place of a table, which computes
-abbrev reads : List ℕ → ℕ → Bool
-reads table byte = slice_index_or table byte 0 == unwrap_or (hex_digit_value byte) 16
+abbrev reads : (ℕ → ℕ) → List ℕ → ℕ → Bool
+reads value table byte = slice_index_or table byte 0 == value byte
 
 -- the test of the first places
-abbrev all_read : List ℕ → ℕ → Bool
-all_read table zero = true
-all_read table (suc n) = reads table n && all_read table n
+abbrev all_read : (ℕ → ℕ) → List ℕ → ℕ → Bool
+all_read value table zero = true
+all_read value table (suc n) = reads value table n && all_read value table n
 
 -- a place below n passed the test
-all_read-at : (table : List ℕ) (n byte : ℕ) → all_read table n ≡ true → byte < n → reads table byte ≡ true
-all_read-at table zero byte h lt = absurd (omega arith)
-all_read-at table (suc n) byte h lt =
-    let parts = and_parts (reads table n) (all_read table n) h in
+all_read-at : (value : ℕ → ℕ) (table : List ℕ) (n byte : ℕ) → all_read value table n ≡ true → byte < n → reads value table byte ≡ true
+all_read-at value table zero byte h lt = absurd (omega arith)
+all_read-at value table (suc n) byte h lt =
+    let parts = and_parts (reads value table n) (all_read value table n) h in
     elim (cases_lt byte n) [
-      | inl below ↦ all_read-at table n byte parts.1 below
+      | inl below ↦ all_read-at value table n byte parts.1 below
       | inr top ↦
           let e : byte ≡ n = omega arith in
           rw e parts.0
     ]
 
 -- the value of each byte, in a table that passes the test
-pub digit_read : (table : List ℕ) → all_read table 256 ≡ true → (byte : ℕ) → byte < 256
-    → slice_index_or table byte 0 ≡ unwrap_or (hex_digit_value byte) 16
-digit_read table h byte lt =
-    eqb-true (slice_index_or table byte 0) (unwrap_or (hex_digit_value byte) 16) (all_read-at table 256 byte h lt)
+pub digit_read : (value : ℕ → ℕ) (table : List ℕ) → all_read value table 256 ≡ true → (byte : ℕ) → byte < 256
+    → slice_index_or table byte 0 ≡ value byte
+digit_read value table h byte lt =
+    eqb-true (slice_index_or table byte 0) (value byte) (all_read-at value table 256 byte h lt)
 
 -- a result with a value
 pub ok_from : (r : Result ℕ FromHexError) (value : ℕ) → Some value ≡ result_ok r → r ≡ Ok value

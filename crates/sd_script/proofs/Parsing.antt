@@ -1,98 +1,120 @@
 -- What is known of a script while its lines are parsed.
-use Rattle.std.proofs.Common.{◌≡◌, ℕ, ◌+◌, ◌<◌, Bool, false, List, [], ◌∷◌, ◌++◌, length, get_or, take, Bor, Some, None, refl, arith, sym, ap, ◌∙◌, nat_lt, append-nil}
+use Rattle.std.proofs.Common.{◌≡◌, ℕ, ◌+◌, ◌<◌, ◌≤◌, ◌==◌, Bool, true, false, List, [], ◌∷◌, ◌++◌, length, get_or, take, drop, Some, None, Err, refl, arith, sym, ap, inl, inr, ◌∙◌, nat_lt, append_assoc, length-append}
 use Rattle.std.specs.List.{filter_map, position_or_len}
-use Rattle.std.specs.Prelude.{position}
-use Rattle.std.proofs.lemmas.List.{take_more, take_all, get_or-map, length-map}
-use Rattle.std.proofs.lemmas.List.Elements.{filter_map-append}
-use Rattle.std.proofs.lemmas.List.Sums.{position_or_len_is}
-use Rattle.std.proofs.lemmas.Bool.Decides.{nat_tests, Decides-ltb}
 use Rattle.std.specs.Option.{option_map}
-use borrow.Author.Count.{below_more}
+use Rattle.std.specs.Prelude.{position}
+use Rattle.std.proofs.lemmas.Bool.{cases_Bool}
+use Rattle.std.proofs.lemmas.Bool.Decides.{nat_tests, Decides-ltb}
+use Rattle.std.proofs.lemmas.List.Elements.{filter_map-append}
+use Rattle.std.proofs.lemmas.List.Splits.{slice_split_first}
+use Rattle.std.proofs.lemmas.List.Sums.{position_or_len_is}
+use Rattle.memchr.specs.Find.{IsFirstByte, is_byte}
 use Rattle.sd_script.specs.declared.line.Line.{Line}
-use Rattle.sd_script.specs.Script.{meaning_of, is_unfit, is_unfit_meaning, request_in, lines_of, requests_of, first_unfit_line, unfit, nothing, asks}
-use Rattle.sd_script.proofs.Fields.{texts}
+use Rattle.sd_script.specs.declared.script.Script.{Script}
+use Rattle.sd_script.specs.declared.script_error.ScriptError.{ScriptError}
+use Rattle.sd_script.specs.declared.script_error.ScriptError.TheVariants as error
+use Rattle.sd_script.specs.Script.{IfUnfit, is_unfit, request_in, lines_of, requests_of, first_unfit_line}
+use Rattle.sd_script.proofs.Fields.{one_part}
 
--- the lines before the one at this index fit, and made these requests
-pub record Parsed (script : List ℕ) (items : List (Bor (List ℕ))) (index : ℕ) (requests : List Line) : Type 0 where
-  pub parted : texts items ≡ lines_of script
-  pub fit : (k : ℕ) → k < index → is_unfit (get_or (lines_of script) k []) ≡ false
-  pub in_order : requests ≡ filter_map request_in (take index (lines_of script))
+abbrev pub is_newline : ℕ → Bool
+is_newline byte = byte == 10
 
--- the line at an index, of the parts and of the script
-line_at : (script : List ℕ) (items : List (Bor (List ℕ))) (index : ℕ) (d : Bor (List ℕ)) → texts items ≡ lines_of script → index < length items
-    → (get_or items index d).now ≡ get_or (lines_of script) index []
-line_at script items index d parted within =
-    sym (get_or-map (λ (x : Bor (List ℕ)). x.now) items index d [] within) ∙ ap (λ ls. get_or ls index []) parted
+-- the lines before the rest of a script fit, and made these requests; the rest begins with the line of this number
+pub record Parsed (script rest : List ℕ) (number : ℕ) (requests : List Line) : Type 0 where
+  pub before : List (List ℕ)
+  pub parted : before ++ lines_of rest ≡ lines_of script
+  pub counted : length before + 1 ≡ number
+  pub fit : position_or_len is_unfit before ≡ length before
+  pub in_order : requests ≡ filter_map request_in before
+  pub room : number + length rest ≤ length script + 1
 
-length_lines : (script : List ℕ) (items : List (Bor (List ℕ))) → texts items ≡ lines_of script → length items ≡ length (lines_of script)
-length_lines script items parted = sym (length-map items (λ (x : Bor (List ℕ)). x.now)) ∙ ap length parted
+pub parsed-none : (script : List ℕ) → Parsed script script 1 []
+parsed-none script = record { before = []; parted = refl; counted = omega arith; fit = refl; in_order = refl; room = omega arith }
 
--- one line more, which fits
-one_more : (lines : List (List ℕ)) (index : ℕ) (line : List ℕ) → index < length lines → get_or lines index [] ≡ line
-    → filter_map request_in (take (index + 1) lines) ≡ filter_map request_in (take index lines) ++ filter_map request_in (line ∷ [])
-one_more lines index line within is =
-    rw (take_more lines index [] within, is) (filter_map-append request_in (take index lines) (line ∷ []))
+-- ---- where a text's first line ends
+not_so : (b : Bool) → (b ≡ true → ⊥) → b ≡ false
+not_so true never = absurd (never refl)
+not_so false never = refl
 
-still_fit : (lines : List (List ℕ)) (index : ℕ) → ((k : ℕ) → k < index → is_unfit (get_or lines k []) ≡ false) → is_unfit (get_or lines index []) ≡ false
-    → (k : ℕ) → k < index + 1 → is_unfit (get_or lines k []) ≡ false
-still_fit lines index fit here = below_more (λ k. is_unfit (get_or lines k []) ≡ false) index fit here
+pub line_at : (text : List ℕ) (end : ℕ) → IsFirstByte (is_byte 10) text (Some end) → lines_of text ≡ take end text ∷ lines_of (drop (end + 1) text)
+line_at text end first =
+    let within = first.0.high in
+    let place = position_or_len_is is_newline text end 0 (omega arith) (λ k l. not_so (is_newline (get_or text k 0)) (first.0.before k (omega arith) l)) (λ _. first.1) in
+    slice_split_first is_newline text 0 (omega arith) ∙ ap (λ k. take k text ∷ lines_of (drop (k + 1) text)) place
 
-first_is : {X : Type 0} (p : X → Bool) (xs : List X) (i : ℕ) → position_or_len p xs ≡ i → i < length xs → position p xs ≡ Some i
-first_is p xs i e within = rw (e, (Decides-ltb i (length xs)).1 within) refl
+pub line_alone : (text : List ℕ) → IsFirstByte (is_byte 10) text None → lines_of text ≡ text ∷ []
+line_alone text none = one_part is_newline text
+    (position_or_len_is is_newline text (length text) 0 (omega arith) (λ k l. not_so (is_newline (get_or text k 0)) (none k (omega arith) l)) (λ l. absurd (omega arith)))
 
-none_is : {X : Type 0} (p : X → Bool) (xs : List X) → position_or_len p xs ≡ length xs → position p xs ≡ None
-none_is p xs e = let out : nat_lt (length xs) (length xs) ≡ false = grind (arith, nat_tests) in rw (e, out) refl
+-- ---- lists of which none passes a test
+module _ {X : Type 0} (p : X → Bool) where
+  passes_not : (x : X) (xs : List X) → position_or_len p (x ∷ xs) ≡ length (x ∷ xs) → (p x ≡ false) × (position_or_len p xs ≡ length xs)
+  passes_not x xs none = elim (cases_Bool (p x)) [
+    | inl here ↦ absurd (let f : position_or_len p (x ∷ xs) ≡ 0 = rw here refl in omega arith)
+    | inr there ↦ (there, (let f : position_or_len p (x ∷ xs) ≡ 1 + position_or_len p xs = rw there refl in omega arith))
+  ]
 
-pub parsed_request : (script : List ℕ) (items : List (Bor (List ℕ))) (index : ℕ) (requests : List Line) (d : Bor (List ℕ)) (request : Line)
-    → Parsed script items index requests → index < length items → meaning_of (get_or items index d).now ≡ asks request
-    → Parsed script items (index + 1) (requests ++ request ∷ [])
-parsed_request script items index requests d request parsed within means =
-    let e = line_at script items index d parsed.parted within in
-    let n = length_lines script items parsed.parted in
-    let here : meaning_of (get_or (lines_of script) index []) ≡ asks request = sym (ap meaning_of e) ∙ means in
-    let more = one_more (lines_of script) index (get_or (lines_of script) index []) (omega arith) refl in
-    let made : filter_map request_in (get_or (lines_of script) index [] ∷ []) ≡ request ∷ [] = rw here refl in
+  none_more : (xs : List X) (y : X) → position_or_len p xs ≡ length xs → p y ≡ false → position_or_len p (xs ++ y ∷ []) ≡ length (xs ++ y ∷ [])
+  none_more [] y none fails = rw fails refl
+  none_more (x ∷ xs) y none fails =
+      let parts = passes_not x xs none in
+      let more = none_more xs y parts.1 fails in
+      let e : position_or_len p (x ∷ xs ++ y ∷ []) ≡ 1 + position_or_len p (xs ++ y ∷ []) = rw parts.0 refl in
+      omega arith
+
+  first_at : (xs ys : List X) (y : X) → position_or_len p xs ≡ length xs → p y ≡ true → position_or_len p (xs ++ y ∷ ys) ≡ length xs
+  first_at [] ys y none passes = rw passes refl
+  first_at (x ∷ xs) ys y none passes =
+      let parts = passes_not x xs none in
+      let more = first_at xs ys y parts.1 passes in
+      let e : position_or_len p (x ∷ xs ++ y ∷ ys) ≡ 1 + position_or_len p (xs ++ y ∷ ys) = rw parts.0 refl in
+      omega arith
+
+  first_is : (xs : List X) (i : ℕ) → position_or_len p xs ≡ i → i < length xs → position p xs ≡ Some i
+  first_is xs i e within = rw (e, (Decides-ltb i (length xs)).1 within) refl
+
+  none_is : (xs : List X) → position_or_len p xs ≡ length xs → position p xs ≡ None
+  none_is xs e = let out : nat_lt (length xs) (length xs) ≡ false = grind (arith, nat_tests) in rw (e, out) refl
+
+-- ---- a line more, which fits
+pub parsed-more : (script rest line others : List ℕ) (number : ℕ) (requests : List Line) → Parsed script rest number requests → lines_of rest ≡ line ∷ lines_of others
+    → length others < length rest → is_unfit line ≡ false → Parsed script others (number + 1) (requests ++ filter_map request_in (line ∷ []))
+parsed-more script rest line others number requests parsed parts shorter fits =
+    let long = length-append parsed.before (line ∷ []) in
+    let counted = parsed.counted in
+    let room = parsed.room in
     record {
-      parted = parsed.parted;
-      fit = still_fit (lines_of script) index parsed.fit (ap is_unfit_meaning here);
-      in_order = sym (more ∙ rw (made, ← parsed.in_order) refl);
+      before = parsed.before ++ line ∷ [];
+      parted = append_assoc parsed.before (line ∷ []) (lines_of others) ∙ ap (λ xs. parsed.before ++ xs) (sym parts) ∙ parsed.parted;
+      counted = omega arith;
+      fit = none_more is_unfit parsed.before line parsed.fit fits;
+      in_order = ap (λ xs. xs ++ filter_map request_in (line ∷ [])) parsed.in_order ∙ sym (filter_map-append request_in parsed.before (line ∷ []));
+      room = omega arith;
     }
 
-pub parsed_nothing : (script : List ℕ) (items : List (Bor (List ℕ))) (index : ℕ) (requests : List Line) (d : Bor (List ℕ))
-    → Parsed script items index requests → index < length items → meaning_of (get_or items index d).now ≡ nothing
-    → Parsed script items (index + 1) requests
-parsed_nothing script items index requests d parsed within means =
-    let e = line_at script items index d parsed.parted within in
-    let n = length_lines script items parsed.parted in
-    let here : meaning_of (get_or (lines_of script) index []) ≡ nothing = sym (ap meaning_of e) ∙ means in
-    let more = one_more (lines_of script) index (get_or (lines_of script) index []) (omega arith) refl in
-    let made : filter_map request_in (get_or (lines_of script) index [] ∷ []) ≡ [] = rw here refl in
-    record {
-      parted = parsed.parted;
-      fit = still_fit (lines_of script) index parsed.fit (ap is_unfit_meaning here);
-      in_order = sym (more ∙ rw (made, append-nil, ← parsed.in_order) refl);
-    }
+-- ---- the first line that doesn't fit
+pub blamed : (script rest line : List ℕ) (more : List (List ℕ)) (number n : ℕ) (requests : List Line) → Parsed script rest number requests → lines_of rest ≡ line ∷ more
+    → (n ≡ number) × (is_unfit line ≡ true) → first_unfit_line script ≡ Some n
+blamed script rest line more number n requests parsed parts unfit =
+    let lines : parsed.before ++ line ∷ more ≡ lines_of script = ap (λ xs. parsed.before ++ xs) (sym parts) ∙ parsed.parted in
+    let first = first_at is_unfit parsed.before more line parsed.fit unfit.1 in
+    let long = length-append parsed.before (line ∷ more) in
+    let found = first_is is_unfit (parsed.before ++ line ∷ more) (length parsed.before) first (omega arith) in
+    ap (λ xs. option_map (λ place. place + 1) (position is_unfit xs)) (sym lines) ∙ ap (option_map (λ place. place + 1)) found ∙ ap Some (parsed.counted ∙ sym unfit.0)
 
-pub blamed : (script : List ℕ) (items : List (Bor (List ℕ))) (index : ℕ) (requests : List Line) (d : Bor (List ℕ))
-    → Parsed script items index requests → index < length items → meaning_of (get_or items index d).now ≡ unfit
-    → first_unfit_line script ≡ Some (index + 1)
-blamed script items index requests d parsed within means =
-    let e = line_at script items index d parsed.parted within in
-    let n = length_lines script items parsed.parted in
-    let here : meaning_of (get_or (lines_of script) index []) ≡ unfit = sym (ap meaning_of e) ∙ means in
-    let first = position_or_len_is is_unfit (lines_of script) index [] (omega arith) parsed.fit (λ _. ap is_unfit_meaning here) in
-    ap (option_map (λ place. place + 1)) (first_is is_unfit (lines_of script) index first (omega arith))
+pub blamed-by : (script rest line : List ℕ) (more : List (List ℕ)) (number : ℕ) (requests : List Line) → Parsed script rest number requests → lines_of rest ≡ line ∷ more → (e : ScriptError)
+    → IfUnfit {T = Unit {0}} (Err e) (λ n. (n ≡ number) × (is_unfit line ≡ true)) → IfUnfit {T = Script} (Err e) (λ n. first_unfit_line script ≡ Some n)
+blamed-by script rest line more number requests parsed parts (error.Line n) unfit = blamed script rest line more number n requests parsed parts unfit
+blamed-by script rest line more number requests parsed parts error.OutOfMemory unfit = tt
 
-pub all_fit : (script : List ℕ) (items : List (Bor (List ℕ))) (index : ℕ) (requests : List Line)
-    → Parsed script items index requests → index ≡ length items → first_unfit_line script ≡ None
-all_fit script items index requests parsed at_end =
-    let n = length_lines script items parsed.parted in
-    let first = position_or_len_is is_unfit (lines_of script) index [] (omega arith) parsed.fit (λ within. absurd (omega arith)) in
-    ap (option_map (λ place. place + 1)) (none_is is_unfit (lines_of script) (first ∙ at_end ∙ n))
+-- ---- all lines fit
+module _ (script rest : List ℕ) (number : ℕ) (requests : List Line) (parsed : Parsed script rest number requests) (alone : lines_of rest ≡ rest ∷ []) where
+  all_lines : parsed.before ++ rest ∷ [] ≡ lines_of script
+  all_lines = ap (λ xs. parsed.before ++ xs) (sym alone) ∙ parsed.parted
 
-pub all_requests : (script : List ℕ) (items : List (Bor (List ℕ))) (index : ℕ) (requests : List Line)
-    → Parsed script items index requests → index ≡ length items → requests ≡ requests_of script
-all_requests script items index requests parsed at_end =
-    let n = length_lines script items parsed.parted in
-    let all : take index (lines_of script) ≡ lines_of script = take_all index (lines_of script) (omega arith) in
-    parsed.in_order ∙ ap (filter_map request_in) all
+  pub all_fit : is_unfit rest ≡ false → first_unfit_line script ≡ None
+  all_fit fits = ap (λ xs. option_map (λ place. place + 1) (position is_unfit xs)) (sym all_lines)
+      ∙ ap (option_map (λ place. place + 1)) (none_is is_unfit (parsed.before ++ rest ∷ []) (none_more is_unfit parsed.before rest parsed.fit fits))
+
+  pub all_requests : requests ++ filter_map request_in (rest ∷ []) ≡ requests_of script
+  all_requests = ap (λ xs. xs ++ filter_map request_in (rest ∷ [])) parsed.in_order ∙ sym (filter_map-append request_in parsed.before (rest ∷ [])) ∙ ap (filter_map request_in) all_lines

@@ -1,5 +1,6 @@
 //! Bytes in hexadecimal digits.
-ghost use Rattle.std.specs.Prelude.{◌≡◌, ◌*◌, ℕ, true, false, length, None, Ok, unwrap_or};
+ghost use Rattle.std.specs.Prelude.{◌≡◌, ◌*◌, ℕ, true, false, length, min, None, Ok, unwrap_or};
+ghost use Rattle.std.specs.Char.{digit_value};
 ghost use Rattle.std.specs.Result.{result_ok};
 ghost use Rattle.hex.specs.Hex.{decode_pairs, hex_digit_value, pair_value};
 
@@ -20,8 +21,10 @@ const VALUES: [u8; 256] = [
 ];
 
 /// The value of a digit in either case, or 16 for a byte that is none.
-fn digit(byte: u8) -> u8
-    ensures { result ≡ unwrap_or (hex_digit_value byte) 16 }
+#[inline]
+pub(crate) fn digit(byte: u8) -> u8
+    ensures hex { result ≡ unwrap_or (hex_digit_value byte) 16 }
+    ensures value { result ≡ min (digit_value byte) 16 }
 {
     VALUES[byte as usize]
 }

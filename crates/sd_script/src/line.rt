@@ -1,13 +1,14 @@
 //! One line of a script.
 
-ghost use Rattle.std.specs.Prelude.{◌≡◌, ◌≤◌, map};
+ghost use Rattle.std.specs.Prelude.{◌≡◌, ◌==◌, ◌≤◌, map, OnOk};
+ghost use Rattle.std.specs.List.{slice_split};
 ghost use Rattle.sd_script.specs.Line.{Gives, GivesBytes, asked_by, asked_by_word, at_least_one, checkpoint_of, exit_of, fault_of, fork_of, hex_of, load_of, mmap_of, mprotect_of, munmap_of, number_of, numeral_of, prot_of, store_of, try_of, words_of};
 
-use crate::digits::decode_into;
+use crate::digits::{decode_into, digit};
 use crate::line_error::LineError;
 use sd_areas::{Prot, SpaceId};
 use sd_command::{Bytes, Command};
-use std::alloc::Global;
+use std::alloc::{AllocError, Global};
 
 /// What a line asks for.
 #[derive(Debug, Drop)]
@@ -23,15 +24,34 @@ pub enum Line {
     Checkpoint,
 }
 
-/// What a line asks for. Its fields are separated by single spaces.
-pub fn parse(alloc: Global, line: &str) -> Result<Line, LineError>
+/// What a line asks for. Its fields, separated by single spaces, take the place of those in the list.
+pub fn parse<'a>(alloc: Global, fields: &mut Vec<&'a str>, line: &'a str) -> Result<Line, LineError>
     ensures { Gives result (asked_by line.now) }
 {
-    let fields: Vec<&str> = line.split(' ').collect(alloc)?;
+    split_into(fields, line)?;
     match fields.as_slice() {
         [word, arguments @ ..] => request(alloc, word, arguments),
         [] => Err(LineError::Unfit),
     }
+}
+
+/// Puts the fields of a line in place of those in the list.
+///
+/// # Errors
+///
+/// Out of memory where the list can't grow.
+fn split_into<'a>(fields: &mut Vec<&'a str>, line: &'a str) -> Result<(), AllocError>
+    ensures { OnOk result
+        (map (λ field. field.now) fields.new.items ≡ slice_split (λ byte. byte == 32) line.now) }
+{
+    fields.clear();
+    let mut rest = line;
+    while let Some((field, others)) = rest.split_once(' ') {
+        fields.push(field)?;
+        rest = others;
+    }
+    fields.push(rest)?;
+    Ok(())
 }
 
 fn request(alloc: Global, word: &str, arguments: &[&str]) -> Result<Line, LineError>
@@ -209,15 +229,25 @@ pub(crate) fn number(text: &str) -> Option<u64>
 }
 
 /// A number below 2^64 in digits, without a sign.
-fn numeral(digits: &str, radix: u32) -> Option<u64>
+#[inline]
+fn numeral(digits: &str, radix: u64) -> Option<u64>
     requires low { 2 ≤ radix }
-    requires high { radix ≤ 36 }
+    requires high { radix ≤ 16 }
     ensures { result ≡ numeral_of radix digits.now }
 {
-    if digits.starts_with('+') {
+    if digits.is_empty() {
         return None;
     }
-    u64::from_str_radix(digits, radix).ok()
+    let most = u64::MAX / radix;
+    let mut number: u64 = 0;
+    for byte in digits.as_bytes() {
+        let value = digit(*byte) as u64;
+        if value >= radix || number > most {
+            return None;
+        }
+        number = (number * radix).checked_add(value)?;
+    }
+    Some(number)
 }
 
 /// `none`, or some of the letters r, w, x in this order.

@@ -1,12 +1,14 @@
 //! Scripts: what a user asks for, line by line.
 
-ghost use Rattle.std.specs.Prelude.{◌≡◌, map, OnOk, IfOk};
-ghost use Rattle.sd_script.specs.Script.{GivesMeaning, IfUnfit, first_unfit_line, lines_of, meaning_of, requests_of};
+ghost use Rattle.std.specs.Prelude.{◌≡◌, ◌<◌, ◌++◌, [], ◌∷◌, length, true, false, OnOk, IfOk, IfSome, IfNone};
+ghost use Rattle.std.specs.List.{filter_map};
+ghost use Rattle.sd_script.specs.Script.{GivesMeaning, IfUnfit, first_unfit_line, is_unfit, lines_of, meaning_of, request_in, requests_of};
 
 use crate::line::{self, Line};
 use crate::line_error::LineError;
 use crate::script_error::ScriptError;
-use std::alloc::{AllocError, Global};
+use memchr::memchr;
+use std::alloc::Global;
 use std::str;
 
 /// The requests of a script, in order.
@@ -23,46 +25,59 @@ impl Script {
         ensures requests { IfOk result (λ s. s.lines.items ≡ requests_of script.now) }
         ensures unfit { IfUnfit result (λ n. first_unfit_line script.now ≡ Some n) }
     {
-        let texts = lines_of(alloc, script)?;
+        let mut fields = Vec::new(alloc);
         let mut lines = Vec::new(alloc);
-        for (index, text) in texts.iter().enumerate() {
-            let asked = match request(alloc, text) {
-                Ok(asked) => asked,
-                Err(LineError::Unfit) => return Err(ScriptError::Line(index + 1)),
-                Err(LineError::OutOfMemory) => return Err(ScriptError::OutOfMemory),
-            };
-            if let Some(line) = asked {
-                lines.push(line)?;
-            }
+        let mut rest = script;
+        let mut number = 1;
+        while let Some((line, others)) = first_line(rest) {
+            take_line(alloc, &mut fields, line, number, &mut lines)?;
+            rest = others;
+            number += 1;
         }
+        take_line(alloc, &mut fields, rest, number, &mut lines)?;
         Ok(Script { lines })
     }
 }
 
-/// The lines of a script. Their ends are found many bytes at a time where all of it is UTF-8.
-fn lines_of<'a>(alloc: Global, script: &'a [u8]) -> Result<Vec<&'a [u8]>, AllocError>
-    ensures { IfOk result (λ lines. map (λ line. line.now) lines.items ≡ lines_of script.now) }
+/// The first line of a text and what stands behind its end, if byte 10 ends it.
+fn first_line(text: &[u8]) -> Option<(&[u8], &[u8])>
+    ensures first { IfSome result
+        (λ parts. lines_of text.now ≡ parts.0.now ∷ lines_of parts.1.now) }
+    ensures shorter { IfSome result (λ parts. length parts.1.now < length text.now) }
+    ensures last { IfNone result (lines_of text.now ≡ text.now ∷ []) }
 {
-    match str::from_utf8(script) {
-        Ok(text) => lines_of_text(alloc, text),
-        Err(_) => lines_of_bytes(alloc, script),
+    let end = memchr(b'\n', text)?;
+    Some((&text[..end], &text[end + 1..]))
+}
+
+/// Adds what a line asks for, if anything, to the requests. The list of fields is for its own.
+fn take_line<'a>(
+    alloc: Global,
+    fields: &mut Vec<&'a str>,
+    line: &'a [u8],
+    number: usize,
+    lines: &mut Vec<Line>,
+) -> Result<(), ScriptError>
+    ensures fits { OnOk result (is_unfit line.now ≡ false) }
+    ensures asked { OnOk result
+        (lines.new.items ≡ lines.old.items ++ filter_map request_in (line.now ∷ [])) }
+    ensures unfit { IfUnfit result (λ n. (n ≡ number) × (is_unfit line.now ≡ true)) }
+{
+    match request(alloc, fields, line) {
+        Ok(Some(asked)) => lines.push(asked)?,
+        Ok(None) => {}
+        Err(LineError::Unfit) => return Err(ScriptError::Line(number)),
+        Err(LineError::OutOfMemory) => return Err(ScriptError::OutOfMemory),
     }
+    Ok(())
 }
 
-fn lines_of_text<'a>(alloc: Global, text: &'a str) -> Result<Vec<&'a [u8]>, AllocError>
-    ensures { IfOk result (λ lines. map (λ line. line.now) lines.items ≡ lines_of text.now) }
-{
-    text.split('\n').map(|line| line.as_bytes()).collect(alloc)
-}
-
-fn lines_of_bytes<'a>(alloc: Global, script: &'a [u8]) -> Result<Vec<&'a [u8]>, AllocError>
-    ensures { IfOk result (λ lines. map (λ line. line.now) lines.items ≡ lines_of script.now) }
-{
-    script.split(|byte| *byte == b'\n').collect(alloc)
-}
-
-/// What a line asks for, if anything.
-fn request(alloc: Global, bytes: &[u8]) -> Result<Option<Line>, LineError>
+/// What a line asks for, if anything. The list is for its fields.
+fn request<'a>(
+    alloc: Global,
+    fields: &mut Vec<&'a str>,
+    bytes: &'a [u8],
+) -> Result<Option<Line>, LineError>
     ensures { GivesMeaning result (meaning_of bytes.now) }
 {
     let Ok(text) = str::from_utf8(bytes) else {
@@ -71,5 +86,5 @@ fn request(alloc: Global, bytes: &[u8]) -> Result<Option<Line>, LineError>
     if text.is_empty() || text.starts_with('#') {
         return Ok(None);
     }
-    Ok(Some(line::parse(alloc, text)?))
+    Ok(Some(line::parse(alloc, fields, text)?))
 }

@@ -1,5 +1,5 @@
 -- How what may be believed of a slot follows the calls on it, and what is believed of a slot that was found.
-use Rattle.std.specs.Prelude.{◌≡◌, ◌≢◌, ◌⊎◌, ℕ, ◌<◌, Bool, true, List, ◌∷◌, drop, length, map, slice_set}
+use Rattle.std.specs.Prelude.{◌≡◌, ◌≢◌, ◌⊎◌, ℕ, ◌<◌, Bool, true, List, ◌∷◌, drop, length, map, Some, slice_get, slice_set}
 use Rattle.std.specs.List.{AllZip}
 use Rattle.sd_disk.specs.Contents.{file_at}
 use Rattle.sd_image.specs.Image.{Image, IsImage, gate}
@@ -12,7 +12,7 @@ use Rattle.sd_gate.specs.Laws.{found_phase}
 use Rattle.sd_gate.specs.Phases.{after, body_after, given_up, is_ready, synced}
 use Rattle.sd_store_laws.specs.Beliefs.{Belief, Closed, Kept, Closing, Opening}
 use Rattle.sd_store_laws.specs.SlotSteps.{IsFoundAs}
-use Rattle.sd_store_laws.specs.Gates.{AreBelieved, MayBelieve}
+use Rattle.sd_store_laws.specs.Gates.{AreBelieved, IsBelievedAs, MayBelieve}
 
 -- A belief that a slot's phase allows is allowed after each call for which it is ready, done or failed, but an open and the close of a
 -- whole file; these make it weaker first, and a sync that is done makes it strong again.
@@ -39,6 +39,12 @@ OneBeliefChanges = (phases : List Phase) (bodies : List (List ℕ)) (beliefs : L
 abbrev pub FoundIsBelieved : Type 0
 FoundIsBelieved = (contents : List (List ℕ)) (beliefs : List Belief) → AllZip IsFoundAs beliefs contents
     → AreBelieved (map found_phase contents) (map (drop 1) contents) beliefs
+
+-- It is exactly what its phase says.
+abbrev pub FoundIsExact : Type 0
+FoundIsExact = (contents : List (List ℕ)) (beliefs : List Belief) → AllZip IsFoundAs beliefs contents
+    → (slot : ℕ) (phase : Phase) (belief : Belief) → slice_get (map found_phase contents) slot ≡ Some phase → slice_get beliefs slot ≡ Some belief
+    → IsBelievedAs phase (file_at (map (drop 1) contents) slot) belief
 
 -- a slot that was synced, or was never more than a short file, is in the phase that its file tells, whatever was known of it
 abbrev pub SyncedIsFound : List (List ℕ) → (List (List ℕ) → Type 0) → Type 0

@@ -15,8 +15,8 @@ pub use laws::{
 };
 pub use slot_laws::{
     beliefs_follow_calls, beliefs_weaken, catalog_follows, catalog_in_use_tells, catalog_is_found,
-    closing_retires, found_is_believed, given_up_is_believed, given_up_syncs, one_belief_changes,
-    slots_drop, synced_is_found, told_reaches_so,
+    closing_retires, found_is_believed, found_is_exact, given_up_is_believed, given_up_syncs,
+    one_belief_changes, slots_drop, synced_is_found, told_reaches_so,
 };
 pub use use_laws::{
     above_is_fresh, below_stays, dump_shows, in_use_is_needed, merged_repeats, needs_no_more,

@@ -1,6 +1,6 @@
 //! How the beliefs about slots follow the phases of the slots, and the catalog the beliefs.
 ghost use Rattle.sd_store_laws.specs.Gates.{BeliefsWeaken, GivenUpIsBelieved};
-ghost use Rattle.sd_store_laws.specs.GateSteps.{BeliefsFollowCalls, FoundIsBelieved, GivenUpSyncs, OneBeliefChanges, SyncedIsFound};
+ghost use Rattle.sd_store_laws.specs.GateSteps.{BeliefsFollowCalls, FoundIsBelieved, FoundIsExact, GivenUpSyncs, OneBeliefChanges, SyncedIsFound};
 ghost use Rattle.sd_store_laws.specs.InUse.{CatalogFollows, CatalogInUseTells, CatalogIsFound, ToldReachesSo};
 ghost use Rattle.sd_store_laws.specs.SlotSteps.{ClosingRetires, SlotsDrop};
 
@@ -53,6 +53,11 @@ pub fn synced_is_found<D: Disk>(disk: &D)
 {
     found_fits(disk);
 }
+
+/// Slots that were found are believed to be exactly what the phases say that their files tell.
+pub fn found_is_exact()
+    ensures { FoundIsExact }
+{}
 
 /// After its job was given up and it was synced, each slot is such a one.
 pub fn given_up_syncs()

@@ -11,6 +11,7 @@ use Rattle.sd_gate.specs.Laws.{found_phase}
 use Rattle.sd_gate.specs.Requests.{Asked}
 use Rattle.sd_store_laws.specs.GateSteps.{SyncedIsFound}
 use Rattle.sd_belief.specs.Calls.{NoneOut, StartsAnew}
+use Rattle.sd_belief.specs.Knows.{IsRefound}
 use Rattle.sd_belief.specs.View.{CoreView}
 use Rattle.sd_world.specs.declared.kept.Kept.{Kept}
 use Rattle.sd_world.specs.declared.kept.Kept.TheVariants.{Nothing, Request, Outcome}
@@ -58,11 +59,15 @@ module _ {D : Type 0} (g : Ghosts D) (disk : D) (old new : CoreView) (kept : Lis
     left : g.may_leave disk (g.contents disk) → DiskLeaves old.phases was.bodies (g.contents disk)
     left as_read = record { count = world.count; each = λ slot phase is. (fits slot phase is).leaves (g.contents disk) as_read }
 
-    stands_anew : SyncedIsFound (g.contents disk) (g.may_leave disk) → new.phases ≡ map found_phase (g.contents disk)
+    refound : g.may_leave disk (g.contents disk) → (slot : ℕ) (phase : Phase) → slice_get old.phases slot ≡ Some phase → IsRefound phase
+    refound as_read = anew.refound (map asked_of kept) was.bodies (g.contents disk) none_asked was.believes
+
+    stands_anew : ((slot : ℕ) (phase : Phase) → slice_get old.phases slot ≡ Some phase → IsRefound phase)
+        → SyncedIsFound (g.contents disk) (g.may_leave disk) → new.phases ≡ map found_phase (g.contents disk)
         → (slot : ℕ) (phase : Phase) → slice_get new.phases slot ≡ Some phase
         → SlotFits (phase_now (outcome_on kept slot) phase) (body_now (outcome_on kept slot) (file_at (map (drop 1) (g.contents disk)) slot)) slot
         (g.contents disk) (g.may_leave disk)
-    stands_anew found phases slot phase is =
+    stands_anew refounds found phases slot phase is =
         let contents = g.contents disk in
         let at = map_get found_phase contents slot phase (ap (λ all. slice_get all slot) (sym phases) ∙ is) in
         let same_file : file_at contents slot ≡ at.0 = get_or_from_slice_get contents slot at.0 [] at.1 in
@@ -72,7 +77,7 @@ module _ {D : Type 0} (g : Ghosts D) (disk : D) (old new : CoreView) (kept : Lis
         let there = slice_get-get_or old.phases slot Raw within in
         let before = slice_index_or old.phases slot Raw in
         let it : SlotFits (found_phase (file_at contents slot)) (drop 1 (file_at contents slot)) slot contents (g.may_leave disk) =
-        found before (file_at was.bodies slot) slot (anew.refound slot before there) (fits slot before there) in
+        found before (file_at was.bodies slot) slot (refounds slot before there) (fits slot before there) in
         subst (λ o. SlotFits (phase_now o phase) (body_now o (file_at (map (drop 1) contents) slot)) slot contents (g.may_leave disk)) (sym (none_kept slot))
         (subst (λ b. SlotFits phase b slot contents (g.may_leave disk)) (sym same_body)
         (subst (λ p. SlotFits p (drop 1 (file_at contents slot)) slot contents (g.may_leave disk)) (ap found_phase same_file ∙ at.2) it))
@@ -89,7 +94,7 @@ module _ {D : Type 0} (g : Ghosts D) (disk : D) (old new : CoreView) (kept : Lis
         record {
           bodies = map (drop 1) (g.contents disk);
           believes = anew.believes (map asked_of kept) was.bodies (g.contents disk) none_asked was.believes (left was as_read);
-          stands = stands_anew was found phases;
+          stands = stands_anew was (refound was as_read) found phases;
           told = λ worker made is. absurd (idle worker made.request.id (get_map id_of kept worker (Outcome made) is));
         };
   }

@@ -8,6 +8,8 @@ mod calls;
 #[cfg(test)]
 mod chance;
 #[cfg(test)]
+mod countdown;
+#[cfg(test)]
 mod drive;
 #[cfg(test)]
 mod moment;

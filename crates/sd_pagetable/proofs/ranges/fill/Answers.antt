@@ -1,29 +1,33 @@
-use Rattle.std.proofs.Common.{rules, ◌≡◌, ap, sym, ◌∙◌}
+use Rattle.std.proofs.Common.{◌∙◌, ap, arith}
 use Rattle.sd_pagetable.specs.Nested.{is_alive}
 use Rattle.sd_pagetable.specs.Page.{fresh_page}
-use Rattle.sd_pagetable.specs.Contents.{Contents, page_at}
-use Rattle.sd_pagetable.proofs.RangeSteps.{alive_with, none_filled, has_room, filled_more}
+use Rattle.sd_pagetable.specs.Contents.{Contents}
+use Rattle.sd_pagetable.proofs.RangeSteps.{alive_with, none_filled}
+use Rattle.sd_pagetable.proofs.RunSteps.{room_for, filled_to}
 use Rattle.sd_pagetable.proofs.ranges.fill.Goals as goal
 
-pub loop-number-init : goal.loop-number-init
-loop-number-init c = record {
-  done = none_filled c.args.paging.now c.args.space c.args.first (fresh_page c.args.prot) c.requires.alive;
-  few = c.requires.few;
+pub loop-reached-init : goal.loop-reached-init
+loop-reached-init c = record {
+  begun = omega arith;
+  within = c.requires.ordered;
+  fills = record { done = none_filled c.args.paging.now c.args.space c.args.first (fresh_page c.args.prot) c.requires.alive; few = c.requires.few };
 }
 
-pub fill_page-requires-clause-alive : goal.fill_page-requires-clause-alive
-fill_page-requires-clause-alive c = ap (λ (m : Contents). is_alive m.spaces c.args.space) c.loop-number.invariant.done ∙ alive_with c.args.paging.now c.args.space _
+pub fill_next-requires-clause-alive : goal.fill_next-requires-clause-alive
+fill_next-requires-clause-alive c = ap (λ (m : Contents). is_alive m.spaces c.args.space) c.loop-reached.invariant.fills.done ∙ alive_with c.args.paging.now c.args.space _
 
-pub fill_page-requires-clause-few : goal.fill_page-requires-clause-few
-fill_page-requires-clause-few c = λ none.
-    let is : c.unwrap-page.result ≡ c.loop-number.number = search rules in
-    has_room c.args.paging.now c.loop-number.paging c.args.space c.args.first c.loop-number.number c.args.end (fresh_page c.args.prot) c.loop-number-test.true
-    c.loop-number.invariant.done c.loop-number.invariant.few (ap (page_at c.loop-number.paging c.args.space) (sym is) ∙ none)
+pub fill_next-requires-clause-room : goal.fill_next-requires-clause-room
+fill_next-requires-clause-room c = λ to le within holes.
+    room_for c.args.paging.now c.loop-reached.paging c.args.space c.args.first c.loop-reached.reached c.args.end to (fresh_page c.args.prot) c.loop-reached.invariant.fills le within holes
 
-pub loop-number-preserved : goal.loop-number-preserved
-loop-number-preserved c =
-    let is : c.unwrap-page.result ≡ c.loop-number.number = search rules in
-    let more = filled_more c.args.paging.now c.loop-number.paging c.fill_page.new.paging c.args.space c.args.first c.loop-number.number c.args.end (fresh_page c.args.prot)
-    c.loop-number.auto.number c.loop-number-test.true (record { done = c.loop-number.invariant.done; few = c.loop-number.invariant.few })
-    (search rules) (rw is at c.fill_page.ensures.there) in
-    record { done = more.done; few = more.few }
+pub loop-reached-preserved : goal.loop-reached-preserved
+loop-reached-preserved c =
+    let was = c.loop-reached.invariant in
+    let more = c.in-Ok.ensures.more in
+    let alive = ap (λ (m : Contents). is_alive m.spaces c.args.space) was.fills.done ∙ alive_with c.args.paging.now c.args.space _ in
+    record {
+      begun = (let b = was.begun in omega arith);
+      within = c.in-Ok.ensures.end;
+      fills = filled_to c.args.paging.now c.loop-reached.paging c.fill_next.new.paging c.args.space c.args.first c.loop-reached.reached c.in-Ok.next c.args.end (fresh_page c.args.prot)
+          was.begun (omega arith) c.in-Ok.ensures.end alive was.fills c.in-Ok.ensures.value;
+    }

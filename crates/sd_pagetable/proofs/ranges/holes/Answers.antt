@@ -1,16 +1,38 @@
-use Rattle.std.proofs.Common.{rules, ◌≡◌, not, is_some, sym, ap, ◌∙◌, arith}
-use Rattle.std.specs.FinMap as finmap
-use Rattle.sd_pagetable.proofs.RangeCounts.{none_counted, counted_more, one_if}
+use Rattle.std.proofs.Common.{rules, ◌≡◌, ◌+◌, ◌-◌, ◌<◌, subst, not, is_some, sym, arith}
+use Rattle.std.specs.Prelude.{count_by}
+use Rattle.sd_areas.specs.Pages.{pages_from}
+use Rattle.sd_pagetable.specs.Contents.{page_at}
+use Rattle.sd_pagetable.proofs.RangeCounts.{none_counted}
+use Rattle.sd_pagetable.proofs.RunSteps.{mapped_from, holes_more}
 use Rattle.sd_pagetable.proofs.ranges.holes.Goals as goal
 
-pub loop-number-init : goal.loop-number-init
-loop-number-init c = record { counted = sym (none_counted (λ page. not (is_some (finmap.get c.args.areas.now page))) c.args.first); few = omega arith }
+pub loop-reached-init : goal.loop-reached-init
+loop-reached-init c = record {
+  begun = omega arith;
+  within = c.requires.ordered;
+  counted = sym (none_counted (λ page. not (is_some (page_at c.args.paging.now c.args.space page))) c.args.first);
+  few = omega arith;
+}
 
-pub loop-number-preserved : goal.loop-number-preserved
-loop-number-preserved c =
-    let k = c.loop-number.number in
-    let was = c.loop-number.invariant in
-    let is : c.unwrap-page.result ≡ k = search rules in
-    let more = counted_more (λ page. not (is_some (finmap.get c.args.areas.now page))) c.args.first k c.loop-number.auto.number in
-    let hole : c.hole_at-count.result ≡ one_if (not (is_some (finmap.get c.args.areas.now k))) = c.hole_at-count.ensures.hole ∙ ap (λ p. one_if (not (is_some (finmap.get c.args.areas.now p)))) is in
-    record { counted = omega (arith, was.counted, more, hole); few = omega (arith, was.few, c.hole_at-count.ensures.least, c.loop-number.auto.number) }
+pub loop-reached-preserved : goal.loop-reached-preserved
+loop-reached-preserved c =
+    let was = c.loop-reached.invariant in
+    let mapped = c.next_mapped-mapped.result in
+    let to = c.next_hole-reached.result in
+    let less : mapped < c.args.end = omega arith in
+    let there = mapped_from c.args.paging.now c.args.space mapped to (c.next_mapped-mapped.ensures.there less) c.next_hole-reached.ensures.mapped in
+    record {
+      begun = omega arith;
+      within = c.next_hole-reached.ensures.end;
+      counted = holes_more c.args.paging.now c.args.space c.args.first c.loop-reached.reached mapped to c.loop-reached.count was.begun c.next_mapped-mapped.ensures.reached (omega arith) was.counted c.next_mapped-mapped.ensures.holes there;
+      few = omega arith;
+    }
+
+pub returns-then-mapped-end-clause-counted : goal.returns-then-mapped-end-clause-counted
+returns-then-mapped-end-clause-counted c =
+    let was = c.loop-reached.invariant in
+    let mapped = c.next_mapped-mapped.result in
+    let all : mapped ≡ c.args.end = search rules in
+    subst (λ n. c.loop-reached.count + (mapped - c.loop-reached.reached) ≡ count_by (λ page. not (is_some (page_at c.args.paging.now c.args.space page))) (pages_from c.args.first (n - c.args.first))) all
+    (holes_more c.args.paging.now c.args.space c.args.first c.loop-reached.reached mapped mapped c.loop-reached.count was.begun c.next_mapped-mapped.ensures.reached (omega arith) was.counted c.next_mapped-mapped.ensures.holes
+    (λ page l m. absurd (omega arith)))

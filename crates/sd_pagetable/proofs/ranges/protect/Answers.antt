@@ -1,15 +1,31 @@
-use Rattle.std.proofs.Common.{rules, ◌≡◌}
+use Rattle.std.proofs.Common.{◌≡◌, ◌-◌, ◌∙◌, ap, subst, arith}
+use Rattle.sd_pagetable.specs.Nested.{inside, is_alive, change_within}
+use Rattle.sd_pagetable.specs.Contents.{Contents}
 use Rattle.sd_pagetable.specs.Page.{protected_page}
-use Rattle.sd_pagetable.proofs.RangeSteps.{none_changed, changed_more}
+use Rattle.sd_pagetable.specs.Tracking.{with_space}
+use Rattle.sd_pagetable.proofs.RangeSteps.{none_changed, alive_with}
+use Rattle.sd_pagetable.proofs.RunSteps.{changed_run}
 use Rattle.sd_pagetable.proofs.ranges.protect.Goals as goal
 
-pub loop-number-init : goal.loop-number-init
-loop-number-init c = record { done = none_changed (protected_page c.args.prot) c.args.paging.now c.args.space c.args.first c.requires.alive }
+pub loop-reached-init : goal.loop-reached-init
+loop-reached-init c = record {
+  begun = omega arith;
+  within = c.requires.ordered;
+  done = none_changed (protected_page c.args.prot) c.args.paging.now c.args.space c.args.first c.requires.alive;
+}
 
-pub loop-number-preserved : goal.loop-number-preserved
-loop-number-preserved c =
-    let is : c.unwrap-page.result ≡ c.loop-number.number = search rules in
-    record {
-      done = changed_more (protected_page c.args.prot) c.args.paging.now c.loop-number.paging c.protect_page.new.paging c.args.space c.args.first c.loop-number.number
-          c.loop-number.auto.number c.loop-number.invariant.done (rw is at c.protect_page.ensures.mapped) (rw is at c.protect_page.ensures.hole);
-    }
+pub protect_next-reached-requires-clause-alive : goal.protect_next-reached-requires-clause-alive
+protect_next-reached-requires-clause-alive c = ap (λ (m : Contents). is_alive m.spaces c.args.space) c.loop-reached.invariant.done ∙ alive_with c.args.paging.now c.args.space _
+
+pub loop-reached-preserved : goal.loop-reached-preserved
+loop-reached-preserved c = record {
+  begun = (let was = c.loop-reached.invariant.begun in let more = c.protect_next-reached.ensures.more in omega arith);
+  within = c.protect_next-reached.ensures.end;
+  done = changed_run (protected_page c.args.prot) c.args.paging.now c.loop-reached.paging c.protect_next-reached.new.paging c.args.space c.args.first c.loop-reached.reached c.protect_next-reached.result
+      c.loop-reached.invariant.begun (let more = c.protect_next-reached.ensures.more in omega arith) c.loop-reached.invariant.done c.protect_next-reached.ensures.value;
+}
+
+pub returns : goal.returns
+returns c =
+    let all : c.loop-reached.reached ≡ c.args.end = (let l = c.loop-reached.invariant.within in let n = c.loop-reached-test.false in omega arith) in
+    subst (λ n. c.loop-reached.paging ≡ with_space c.args.paging.now c.args.space (change_within (protected_page c.args.prot) (inside c.args.paging.now.spaces c.args.space) c.args.first (n - c.args.first))) all c.loop-reached.invariant.done

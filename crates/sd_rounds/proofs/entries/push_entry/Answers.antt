@@ -1,66 +1,57 @@
-use Rattle.std.proofs.Common.{◌≡◌, [], ◌∷◌, ◌++◌, List, refl, sym, ◌∙◌, ap, subst}
+use Rattle.std.proofs.Common.{◌≡◌, ◌-◌, false, true, [], ◌∷◌, ◌++◌, List, refl, sym, ◌∙◌, ap, subst}
 use Rattle.std.specs.List.{flat_map}
-use Rattle.std.proofs.lemmas.List.{nil_from_length, append-nil}
 use Rattle.std.proofs.lemmas.Result.{on_ok_weaker, on_err_weaker}
 use Rattle.sd_image.specs.declared.table.SpaceTable.{SpaceTable}
 use Rattle.sd_image.specs.Runs.{run_ways}
-use Rattle.sd_rounds.specs.Tables.{AreTables, EndBefore, IsPushed, IsBegun, listed}
-use Rattle.sd_rounds.proofs.TableLemmas.{first_table, next_table, longer_table, last_ends, last_runs, on_ok_both, same_listed}
+use Rattle.sd_rounds.specs.Tables.{AreTables, EndBefore, IsPushed, listed}
+use Rattle.sd_rounds.proofs.TableLemmas.{IsLast, begun_table, end_in, last_is, longer_table, last_ends, last_runs, on_ok_both, same_listed}
 use Rattle.sd_rounds.proofs.entries.push_entry.Goals as goal
 
-pub returns-in_default-clause-more : goal.returns-in_default-clause-more
-returns-in_default-clause-more c = λ parent are sourced least within.
-    let none : c.args.tables.now.items ≡ [] = nil_from_length c.args.tables.now.items (sym c.args.tables.now.ok.0 ∙ c.in_default.ensures.cases.0) in
-    let left : c.pop.new.self.items ≡ [] = nil_from_length c.pop.new.self.items (sym c.pop.new.self.ok.0 ∙ c.in_default.ensures.cases.1) in
+pub returns-then-not-end_in-clause-more : goal.returns-then-not-end_in-clause-more
+returns-then-not-end_in-clause-more c = λ parent are sourced least within.
+    let other : end_in c.args.tables.now.items c.args.space ≡ false = ap (λ l. end_in l c.args.space) (sym c.deref.ensures.value) ∙ sym c.end_in.ensures ∙ c.if-not-end_in.true in
     on_ok_weaker c.push_space.result
-    (λ begun. subst (λ (l : List SpaceTable). IsPushed parent (listed l) (listed c.push_space.new.tables.items) (c.args.space, c.args.page) c.args.kind) (sym none)
-    (first_table parent c.push_space.new.tables.items (c.args.space, c.args.page) c.args.kind least within sourced
-    (subst (λ (l : List SpaceTable). IsBegun l c.push_space.new.tables.items (c.args.space, c.args.page) c.args.kind) left begun)))
+    (λ begun. begun_table parent c.args.tables.now.items c.push_space.new.tables.items (c.args.space, c.args.page) c.args.kind are c.requires.behind other least within sourced begun)
     c.push_space.ensures.begun
 
-pub returns-in_default-clause-err : goal.returns-in_default-clause-err
-returns-in_default-clause-err c = on_err_weaker c.push_space.result
-    (λ e. e ∙ ap listed (sym (c.in_default.ensures.items ∙ append-nil c.pop.new.self.items))) c.push_space.ensures.err
-
-pub returns-then-number-clause-more : goal.returns-then-number-clause-more
-returns-then-number-clause-more c = λ parent are sourced least within.
-    on_ok_weaker c.push_space-then-number.result
-    (λ begun. subst (λ (l : List SpaceTable). IsPushed parent (listed l) (listed c.push_space-then-number.new.tables.items) (c.args.space, c.args.page) c.args.kind) (sym c.in-Some.ensures.items)
-    (next_table parent c.pop.new.self.items c.in-Some.last c.push_space-then-number.new.tables.items (c.args.space, c.args.page) c.args.kind
-    (subst (λ (l : List SpaceTable). AreTables parent 0 (listed l)) c.in-Some.ensures.items are)
-    (subst (λ (l : List SpaceTable). EndBefore (c.args.space, c.args.page) (listed l)) c.in-Some.ensures.items c.requires.behind)
-    (λ e. c.if-number.true (c.number.ensures ∙ e ∙ sym c.number-2.ensures)) within sourced
-    (subst (λ (l : List SpaceTable). IsBegun l c.push_space-then-number.new.tables.items (c.args.space, c.args.page) c.args.kind) c.in_ok-push.ensures.items begun)))
-    c.push_space-then-number.ensures.begun
-
-pub returns-then-number-clause-err : goal.returns-then-number-clause-err
-returns-then-number-clause-err c = on_err_weaker c.push_space-then-number.result
-    (λ e. e ∙ ap listed (c.in_ok-push.ensures.items ∙ sym c.in-Some.ensures.items)) c.push_space-then-number.ensures.err
-
-pub push_page-pushed-requires : goal.push_page-pushed-requires
-push_page-pushed-requires c = record {
-  behind = last_ends c.pop.new.self.items c.in-Some.last (c.args.space, c.args.page)
-      (subst (λ (t : List SpaceTable). EndBefore (c.args.space, c.args.page) (listed t)) c.in-Some.ensures.items c.requires.behind)
-      (sym c.number.ensures ∙ c.if-number.false ∙ c.number-2.ensures);
-}
+pub push_page-requires : goal.push_page-requires
+push_page-requires c =
+    let there : end_in c.args.tables.now.items c.args.space ≡ true = ap (λ l. end_in l c.args.space) (sym c.deref.ensures.value) ∙ sym c.end_in.ensures ∙ c.if-not-end_in.false in
+    let last : IsLast c.args.tables.now.items c.args.space (c.len-place.result - 1) c.index_mut-last.result.now =
+    last_is c.args.tables.now.items c.args.space (c.len-place.result - 1) c.index_mut-last.result.now
+    (ap (λ n. n - 1) (c.len-place.ensures ∙ c.args.tables.now.ok.0)) there c.index_mut-last.ensures.value in
+    record {
+      behind = last_ends last.front c.index_mut-last.result.now (c.args.space, c.args.page)
+          (subst (λ (t : List SpaceTable). EndBefore (c.args.space, c.args.page) (listed t)) last.is c.requires.behind) last.here;
+    }
 
 pub returns-clause-more : goal.returns-clause-more
 returns-clause-more c = λ parent are sourced least within.
-    let new : SpaceTable = record { space = c.in-Some.last.space; areas = c.in-Some.last.areas; runs = c.push_page-pushed.new.runs } in
-    let was : AreTables parent 0 (listed (c.pop.new.self.items ++ c.in-Some.last ∷ [])) = subst (λ (l : List SpaceTable). AreTables parent 0 (listed l)) c.in-Some.ensures.items are in
-    on_ok_weaker c.push_page-pushed.result
-    (λ both. subst (λ (l : List SpaceTable). IsPushed parent (listed c.args.tables.now.items) (listed l) (c.args.space, c.args.page) c.args.kind) (sym c.in_ok-push-2.ensures.items)
-    (subst (λ (l : List SpaceTable). IsPushed parent (listed l) (listed (c.pop.new.self.items ++ new ∷ [])) (c.args.space, c.args.page) c.args.kind) (sym c.in-Some.ensures.items)
-    (longer_table parent c.pop.new.self.items c.in-Some.last new (c.args.space, c.args.page) c.args.kind was
-    (subst (λ (l : List SpaceTable). EndBefore (c.args.space, c.args.page) (listed l)) c.in-Some.ensures.items c.requires.behind)
-    (sym c.number.ensures ∙ c.if-number.false ∙ c.number-2.ensures) refl refl both.0 both.1)))
-    (on_ok_both _ _ c.push_page-pushed.result
-    (c.push_page-pushed.ensures.more parent (flat_map run_ways c.in-Some.last.runs.items) (record { maximal = last_runs parent c.pop.new.self.items c.in-Some.last was; list = refl }) sourced)
-    c.push_page-pushed.ensures.end)
+    let there : end_in c.args.tables.now.items c.args.space ≡ true = ap (λ l. end_in l c.args.space) (sym c.deref.ensures.value) ∙ sym c.end_in.ensures ∙ c.if-not-end_in.false in
+    let old : SpaceTable = c.index_mut-last.result.now in
+    let new : SpaceTable = record { space = old.space; areas = old.areas; runs = c.push_page.new.runs } in
+    let last : IsLast c.args.tables.now.items c.args.space (c.len-place.result - 1) old =
+    last_is c.args.tables.now.items c.args.space (c.len-place.result - 1) old
+    (ap (λ n. n - 1) (c.len-place.ensures ∙ c.args.tables.now.ok.0)) there c.index_mut-last.ensures.value in
+    let was : AreTables parent 0 (listed (last.front ++ old ∷ [])) = subst (λ (l : List SpaceTable). AreTables parent 0 (listed l)) last.is are in
+    on_ok_weaker c.push_page.result
+    (λ both. subst (λ (l : List SpaceTable). IsPushed parent (listed c.args.tables.now.items) (listed l) (c.args.space, c.args.page) c.args.kind) (sym (last.put new))
+    (subst (λ (l : List SpaceTable). IsPushed parent (listed l) (listed (last.front ++ new ∷ [])) (c.args.space, c.args.page) c.args.kind) (sym last.is)
+    (longer_table parent last.front old new (c.args.space, c.args.page) c.args.kind was
+    (subst (λ (l : List SpaceTable). EndBefore (c.args.space, c.args.page) (listed l)) last.is c.requires.behind)
+    last.here refl refl both.0 both.1)))
+    (on_ok_both _ _ c.push_page.result
+    (c.push_page.ensures.more parent (flat_map run_ways old.runs.items) (record { maximal = last_runs parent last.front old was; list = refl }) sourced)
+    c.push_page.ensures.end)
 
 pub returns-clause-err : goal.returns-clause-err
 returns-clause-err c =
-    let new : SpaceTable = record { space = c.in-Some.last.space; areas = c.in-Some.last.areas; runs = c.push_page-pushed.new.runs } in
-    on_err_weaker c.push_page-pushed.result
-    (λ e. ap listed c.in_ok-push-2.ensures.items ∙ same_listed c.pop.new.self.items c.in-Some.last new refl refl e ∙ sym (ap listed c.in-Some.ensures.items))
-    c.push_page-pushed.ensures.err
+    let there : end_in c.args.tables.now.items c.args.space ≡ true = ap (λ l. end_in l c.args.space) (sym c.deref.ensures.value) ∙ sym c.end_in.ensures ∙ c.if-not-end_in.false in
+    let old : SpaceTable = c.index_mut-last.result.now in
+    let new : SpaceTable = record { space = old.space; areas = old.areas; runs = c.push_page.new.runs } in
+    let last : IsLast c.args.tables.now.items c.args.space (c.len-place.result - 1) old =
+    last_is c.args.tables.now.items c.args.space (c.len-place.result - 1) old
+    (ap (λ n. n - 1) (c.len-place.ensures ∙ c.args.tables.now.ok.0)) there c.index_mut-last.ensures.value in
+    on_err_weaker c.push_page.result
+    (λ e. ap listed (last.put new) ∙ same_listed last.front old new refl refl e ∙ sym (ap listed last.is))
+    c.push_page.ensures.err

@@ -18,7 +18,13 @@ returns-in-Request g c =
       performs = record {
         made = made;
         performed = record {
-          made_of = record { id = did.id; bytes = did.bytes; looks = did.looks };
+          made_of = record {
+            id = did.id;
+            bytes = did.bytes;
+            looks = did.looks;
+            count = makes_count request.id.call request.bytes request.id.slot (D.contents c.args.disk.now)
+                (D.contents c.perform-outcome.new.disk) did.torn;
+          };
           count = makes_count request.id.call request.bytes request.id.slot (D.contents c.args.disk.now)
               (D.contents c.perform-outcome.new.disk) did.torn;
           answers = did.answer;

@@ -1,0 +1,89 @@
+-- A checkpoint is cancelled.
+use Rattle.std.proofs.Common.{◌≡◌, ◌↔◌, ℕ, ◌<◌, ◌+◌, true, false, List, [], ◌∷◌, ◌++◌, length, Option, Some, None, IfSome, slice_get, refl, sym, ◌∙◌, ap, subst, arith}
+use Rattle.sd_chain.specs.Catalog.{Opened, Places, place_of}
+use Rattle.sd_gate.specs.Requests.{Asked}
+use Rattle.sd_journal.specs.declared.entry.Entry.TheVariants.{Cancelled}
+use Rattle.sd_journal.specs.Marked.{entries_of}
+use Rattle.sd_store_laws.specs.Beliefs.{Belief}
+use Rattle.sd_store_laws.specs.InUse.{IsCatalogInUse}
+use Rattle.sd_store_laws.specs.Makers.{IsAbove}
+use Rattle.sd_store_laws.specs.Steps.{cancelled}
+use Rattle.sd_store_laws.specs.Store.{Store}
+use Rattle.sd_belief.specs.Believes.{Believes, HasStore}
+use Rattle.sd_belief.specs.CheckpointSteps.{CancellingIsBelieved, CancelsCheckpoint}
+use Rattle.sd_belief.specs.GateSteps.{GateSteps}
+use Rattle.sd_belief.specs.Knows.{SeesStore}
+use Rattle.sd_belief.specs.StoreSteps.{QuietSteps}
+use Rattle.sd_belief.specs.View.{CoreView, history_of}
+use Rattle.sd_belief.proofs.OpenCore.{in_use_parts}
+use Rattle.sd_belief.proofs.Places.{free_there}
+
+same_images : (old new : Places) (beliefs : List Belief) → ((serial : ℕ) (o : Opened) → place_of new serial ≡ Some (Some o) ↔ place_of old serial ≡ Some (Some o))
+    → IsCatalogInUse old beliefs → IsCatalogInUse new beliefs
+same_images old new beliefs same u = record {
+  image = λ serial o at. u.image serial o ((same serial o).0 at);
+  opened = λ slot i has. (let o = u.opened slot i has in (o.0, (same i.header.serial o.0).1 o.1, o.2, o.3));
+}
+
+above_idle : (store : Store) (number : ℕ) → store.work ≡ [] → IsAbove store number → IsAbove (cancelled store) number
+above_idle store number idle is = record {
+  serials = is.serials;
+  stands = is.stands;
+  parents = is.parents;
+  jobs = λ asked member. absurd (let within : member.0 < 0 = subst (λ work. member.0 < length ([] ++ work)) idle member.1 in omega (arith, within));
+  source = is.source;
+}
+
+module _ (quiet : QuietSteps) (gates : GateSteps) (old new : CoreView) (n : ℕ) (asked : List (Option Asked)) (bodies files : List (List ℕ))
+    (s : CancelsCheckpoint old n new) (b : Believes old asked bodies files) where
+  has_none : HasStore old.base (history_of old) old.phases asked bodies b.store None b.beliefs
+  has_none = subst (λ d. HasStore old.base (history_of old) old.phases asked bodies b.store d b.beliefs) (b.knows.sure s.sure) b.has
+
+  has_then : HasStore old.base (Cancelled n ∷ history_of old) old.phases asked bodies (cancelled b.store) None b.beliefs
+  has_then = (gates old.base (Cancelled n ∷ history_of old) old.phases asked bodies).cancels b.store b.beliefs
+      (quiet.cancelled old.base (history_of old) old.phases asked bodies b.store b.beliefs n has_none)
+
+  cancels_lem : Believes new asked bodies files
+  cancels_lem = record {
+    store = cancelled b.store;
+    dump = None;
+    beliefs = b.beliefs;
+    has = subst (λ x. HasStore x (history_of new) new.phases asked bodies (cancelled b.store) None b.beliefs) (sym s.base)
+        (subst (λ h. HasStore old.base h new.phases asked bodies (cancelled b.store) None b.beliefs) (sym (ap entries_of s.items))
+        (subst (λ p. HasStore old.base (Cancelled n ∷ history_of old) p asked bodies (cancelled b.store) None b.beliefs) (sym s.phases) has_then));
+    knows = record {
+      count = b.knows.count ∙ ap length (sym s.phases);
+      out = b.knows.out ∙ sym s.outs;
+      sees = subst (λ o. IfSome o (SeesStore files new.phases asked)) (sym s.closed) tt;
+      sure = λ is. refl;
+      in_use = λ stands. in_use_parts new old.base (Cancelled n ∷ history_of old) new.catalog false old.memory old.phases old.numbers.serial None
+          (record {
+            base_is = s.base;
+            history_is = ap entries_of s.items;
+            places_is = refl;
+            grows_is = s.grows;
+            memory_is = s.memory;
+            phases_is = s.phases;
+            last_is = s.serial;
+            running_is = s.is;
+            closed = s.closed;
+          })
+          asked bodies files (cancelled b.store) None b.beliefs
+          (let u = b.knows.in_use (sym s.standing ∙ stands) in record {
+            catalog = same_images old.catalog new.catalog b.beliefs s.images u.catalog;
+            grows_is = refl;
+            alone = u.alone;
+            used = record { above = above_idle b.store (old.numbers.serial + 1) u.alone.1 u.used.above; slots = u.used.slots };
+            exact = u.exact;
+            job = record {
+              gives = λ grows. absurd (let no : false ≡ true = grows in cc);
+              none = free_there asked 0 (ap (λ ids. slice_get ids 0) b.knows.out ∙ s.free);
+              alone = refl;
+              idle = refl;
+            };
+          });
+    };
+  }
+
+pub cancelling_lem : QuietSteps → GateSteps → CancellingIsBelieved
+cancelling_lem quiet gates old new n asked bodies files s b = cancels_lem quiet gates old new n asked bodies files s b

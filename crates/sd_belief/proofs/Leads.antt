@@ -1,0 +1,34 @@
+-- The calls of a plan, as they lead a slot from phase to phase.
+use Rattle.std.proofs.Common.{◌≡◌, ◌≢◌, ◌⊎◌, ℕ, true, List, [], ◌∷◌, refl, inl, inr}
+use Rattle.sd_gate.specs.declared.call.Call.{Call}
+use Rattle.sd_gate.specs.declared.phase.Phase.{Phase}
+use Rattle.sd_gate.specs.declared.phase.Phase.TheVariants.{Raw, RawClosing, Whole, Closing, Shut, ShutSynced, Bare, Writing, Ready, Opening, Doubt, DoubtSynced}
+use Rattle.sd_gate.specs.Laws.{Leads, no_call, one_call}
+use Rattle.sd_gate.specs.Phases.{after, body_after, is_ready}
+use Rattle.sd_gate.specs.Sequences.{Calls}
+
+pub record HasLed (phase : Phase) (body : List ℕ) (call : Call) (bytes : List ℕ) (calls : Calls) (last : Phase) (final : List ℕ) : Type 0 where
+  pub ready : is_ready phase call ≡ true
+  pub rest : Leads (after phase call true) (body_after body call bytes) calls last final
+
+-- the next call is one for which the slot is ready, and the others follow
+pub leads_head : (phase last : Phase) (body final : List ℕ) (call : Call) (bytes : List ℕ) (calls : Calls) → Leads phase body ((call, bytes) ∷ calls) last final
+    → HasLed phase body call bytes calls last final
+leads_head _ _ _ _ _ _ _ (one_call phase last body final call bytes calls ready rest) = record { ready = ready; rest = rest }
+
+pub leads_end : (phase last : Phase) (body final : List ℕ) → Leads phase body [] last final → (phase ≡ last) × (body ≡ final)
+leads_end _ _ _ _ (no_call phase body) = (refl, refl)
+
+pub is_whole : (phase : Phase) → (phase ≡ Whole) ⊎ (phase ≢ Whole)
+is_whole Raw = inr (λ same. cc)
+is_whole RawClosing = inr (λ same. cc)
+is_whole Whole = inl refl
+is_whole Closing = inr (λ same. cc)
+is_whole Shut = inr (λ same. cc)
+is_whole ShutSynced = inr (λ same. cc)
+is_whole Bare = inr (λ same. cc)
+is_whole Writing = inr (λ same. cc)
+is_whole Ready = inr (λ same. cc)
+is_whole Opening = inr (λ same. cc)
+is_whole Doubt = inr (λ same. cc)
+is_whole DoubtSynced = inr (λ same. cc)

@@ -1,0 +1,64 @@
+-- A core whose store is open, from what is known of its parts.
+use Rattle.std.proofs.Common.{◌≡◌, ℕ, Bool, false, List, length, Option, None, IfSome, sym, ◌∙◌, ap, subst}
+use Rattle.sd_image.specs.Image.{Image}
+use Rattle.sd_chain.specs.Catalog.{Places}
+use Rattle.sd_gate.specs.declared.phase.Phase.{Phase}
+use Rattle.sd_gate.specs.Requests.{Asked}
+use Rattle.sd_journal.specs.History.{Base, History}
+use Rattle.sd_pagetable.specs.Contents.{Contents}
+use Rattle.sd_rounds.specs.Dumper.{Running}
+use Rattle.sd_store_laws.specs.Beliefs.{Belief}
+use Rattle.sd_store_laws.specs.Store.{Store}
+use Rattle.sd_belief.specs.Believes.{Believes, HasStore}
+use Rattle.sd_belief.specs.InUse.{IsInUseOn}
+use Rattle.sd_belief.specs.Knows.{SeesStore, ids_of}
+use Rattle.sd_belief.specs.View.{CoreView, history_of}
+
+-- the fields of a core
+pub record HasParts (core : CoreView) (base : Base) (history : History) (places : Places) (grows : Bool) (memory : Contents) (phases : List Phase) (last : ℕ) (running : Option Running) : Type 0 where
+  pub base_is : core.base ≡ base
+  pub history_is : history_of core ≡ history
+  pub places_is : core.catalog ≡ places
+  pub grows_is : core.grows ≡ grows
+  pub memory_is : core.memory ≡ memory
+  pub phases_is : core.phases ≡ phases
+  pub last_is : core.numbers.serial ≡ last
+  pub running_is : core.dumper.running ≡ running
+  pub closed : core.opener ≡ None
+
+module _ (core : CoreView) (base : Base) (history : History) (places : Places) (grows : Bool) (memory : Contents) (phases : List Phase) (last : ℕ) (running : Option Running)
+    (is : HasParts core base history places grows memory phases last running)
+    (asked : List (Option Asked)) (bodies files : List (List ℕ)) (store : Store) (dump : Option Image) (beliefs : List Belief) where
+  has_parts : HasStore base history phases asked bodies store dump beliefs → HasStore core.base (history_of core) core.phases asked bodies store dump beliefs
+  has_parts has =
+      subst (λ x. HasStore x (history_of core) core.phases asked bodies store dump beliefs) (sym is.base_is)
+      (subst (λ x. HasStore base x core.phases asked bodies store dump beliefs) (sym is.history_is)
+      (subst (λ x. HasStore base history x asked bodies store dump beliefs) (sym is.phases_is) has))
+
+  pub in_use_parts : IsInUseOn base history places grows memory phases asked bodies last store dump beliefs running
+      → IsInUseOn core.base (history_of core) core.catalog core.grows core.memory core.phases asked bodies core.numbers.serial store dump beliefs core.dumper.running
+  in_use_parts u =
+      subst (λ x. IsInUseOn x (history_of core) core.catalog core.grows core.memory core.phases asked bodies core.numbers.serial store dump beliefs core.dumper.running) (sym is.base_is)
+      (subst (λ x. IsInUseOn base x core.catalog core.grows core.memory core.phases asked bodies core.numbers.serial store dump beliefs core.dumper.running) (sym is.history_is)
+      (subst (λ x. IsInUseOn base history x core.grows core.memory core.phases asked bodies core.numbers.serial store dump beliefs core.dumper.running) (sym is.places_is)
+      (subst (λ x. IsInUseOn base history places x core.memory core.phases asked bodies core.numbers.serial store dump beliefs core.dumper.running) (sym is.grows_is)
+      (subst (λ x. IsInUseOn base history places grows x core.phases asked bodies core.numbers.serial store dump beliefs core.dumper.running) (sym is.memory_is)
+      (subst (λ x. IsInUseOn base history places grows memory x asked bodies core.numbers.serial store dump beliefs core.dumper.running) (sym is.phases_is)
+      (subst (λ x. IsInUseOn base history places grows memory phases asked bodies x store dump beliefs core.dumper.running) (sym is.last_is)
+      (subst (λ x. IsInUseOn base history places grows memory phases asked bodies last store dump beliefs x) (sym is.running_is) u)))))))
+
+  pub believes_parts : (core.committing ≡ false → dump ≡ None) → length files ≡ length phases → ids_of asked ≡ core.outs → HasStore base history phases asked bodies store dump beliefs
+      → IsInUseOn base history places grows memory phases asked bodies last store dump beliefs running → Believes core asked bodies files
+  believes_parts sure count out has u = record {
+    store = store;
+    dump = dump;
+    beliefs = beliefs;
+    has = has_parts has;
+    knows = record {
+      count = count ∙ ap length (sym is.phases_is);
+      out = out;
+      sees = subst (λ o. IfSome o (SeesStore files core.phases asked)) (sym is.closed) tt;
+      sure = sure;
+      in_use = λ stands. in_use_parts u;
+    };
+  }

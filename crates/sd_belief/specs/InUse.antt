@@ -1,0 +1,210 @@
+-- What a core knows of a store that is open: of its catalog, of the numbers that were used, and of the checkpoint that runs.
+use Rattle.std.specs.Prelude.{◌≡◌, ◌≢◌, ℕ, ◌+◌, ◌<◌, ◌≤◌, Bool, true, false, ◌==◌, ◌&&◌, ◌||◌, nat_lt, is_some, List, [], ◌∷◌, drop, length, map, Option, Some, None, Contains, IfSome, slice_get}
+use Rattle.sd_disk.specs.Contents.{file_at}
+use Rattle.sd_image.specs.declared.header.Kind.{Kind}
+use Rattle.sd_image.specs.declared.header.Kind.TheVariants.{PreDump, Dump, Merged}
+use Rattle.sd_image.specs.Image.{Image, image_text}
+use Rattle.sd_image.specs.Shows.{IsRestorable, IsTip}
+use Rattle.sd_image.specs.Table.{table_text}
+use Rattle.sd_chain.specs.Catalog.{Places}
+use Rattle.sd_gate.specs.declared.call.Call.{Call}
+use Rattle.sd_gate.specs.declared.call.Call.TheVariants.{Write, Close as CloseCall}
+use Rattle.sd_gate.specs.declared.phase.Phase.{Phase}
+use Rattle.sd_gate.specs.declared.phase.Phase.TheVariants.{Bare, Whole, Writing}
+use Rattle.sd_gate.specs.Laws.{Leads, pages_body}
+use Rattle.sd_gate.specs.Phases.{closing, filled, may_write}
+use Rattle.sd_gate.specs.Plans.{Planned}
+use Rattle.sd_gate.specs.Requests.{Asked}
+use Rattle.sd_gate.specs.Sequences.{Calls, body_calls, format_calls}
+use Rattle.sd_journal.specs.History.{Base, History, at_freeze, pending}
+use Rattle.sd_pagetable.specs.Contents.{Contents, plain_of}
+use Rattle.sd_rounds.specs.declared.image_order.ImageOrder.{ImageOrder}
+use Rattle.sd_rounds.specs.declared.stage.Stage.{Stage}
+use Rattle.sd_rounds.specs.declared.stage.Stage.TheVariants.{Format, Freeze, Pass as PassStage, PageWrite, Close}
+use Rattle.sd_rounds.specs.Dumper.{Running, slot_of}
+use Rattle.sd_rounds.specs.Files.{FilesImage, HasAreas}
+use Rattle.sd_rounds.specs.Keeps.{Chain, Rests}
+use Rattle.sd_rounds.specs.Making.{Making, is_frozen}
+use Rattle.sd_rounds.specs.MakingLaws.{DumpsImage, KeepsImage, Pages, image_of}
+use Rattle.sd_store_laws.specs.Beliefs.{Belief, Closed, Opening, image_at}
+use Rattle.sd_store_laws.specs.Gates.{IsBelievedAs}
+use Rattle.sd_store_laws.specs.InUse.{IsCatalogInUse}
+use Rattle.sd_store_laws.specs.Makers.{IsAbove}
+use Rattle.sd_store_laws.specs.Needs.{IsNeededIn}
+use Rattle.sd_store_laws.specs.Store.{Store}
+
+-- the images of a store, below an image with this number as its parent
+abbrev pub chain_of : Store → ℕ → Chain
+chain_of store number = record { images = store.catalog; number = number }
+
+-- no request is out on a slot
+abbrev pub NoneAt : List (Option Asked) → ℕ → Type 0
+NoneAt asked slot = (worker : ℕ) (request : Asked) → slice_get asked worker ≡ Some (Some request) → request.id.slot ≢ slot
+
+-- ---- numbers
+
+-- The last serial that was given out, or found, is above none of the store's numbers, and of none that stands in a slot.
+pub record AreUsed (last : ℕ) (store : Store) (beliefs : List Belief) : Type 0 where
+  pub above : IsAbove store (last + 1)
+  pub slots : (slot : ℕ) (i : Image) → image_at beliefs slot ≡ Some i → i.header.serial ≤ last
+
+-- ---- the slot of the image that is being made
+
+-- the calls that its plan makes from now on, with the one that is out
+abbrev pub calls_left : Option Asked → Planned → Calls
+calls_left None plan = plan.calls
+calls_left (Some request) plan = (request.id.call, request.bytes) ∷ plan.calls
+
+-- the kinds of these calls
+abbrev pub call_of : Call × List ℕ → Call
+call_of c = c.0
+
+-- so many of these calls were made, and the others are left, with the one that is out
+abbrev pub AreLeft : Calls → ℕ → Option Asked → Planned → Type 0
+AreLeft all place request plan = map call_of (calls_left request plan) ≡ drop place (map call_of all)
+
+-- what a slot is believed to be while it is formatted, also while a close of it is out
+abbrev pub IsFormatted : Phase → List ℕ → Option Asked → Belief → Type 0
+IsFormatted phase body None belief = IsBelievedAs phase body belief
+IsFormatted phase body (Some request) belief = (request.id.call ≡ CloseCall → IsBelievedAs (closing phase) body belief)
+    × (request.id.call ≢ CloseCall → IsBelievedAs phase body belief)
+
+-- a slot that is closed for sure, and has these data pages behind the gate
+pub record IsFilled (pages : Pages) (phase : Phase) (body : List ℕ) (belief : Belief) : Type 0 where
+  pub writes : may_write phase ≡ true
+  pub fills : filled phase ≡ Writing
+  pub spelled : body ≡ pages_body pages
+  pub closed : belief ≡ Closed
+
+-- one that is being formatted
+pub record IsFormatting (order : ImageOrder) (plan : Planned) (phase : Phase) (body : List ℕ) (request : Option Asked) (belief : Belief) : Type 0 where
+  pub place : ℕ
+  pub on : plan.slot ≡ order.slot
+  pub left : AreLeft (format_calls order.state) place request plan
+  pub leads : Leads phase body (calls_left request plan) Bare []
+  pub formatted : IsFormatted phase body request belief
+
+-- one that is filled once the write of its last data page is done
+pub record IsFilling (order : ImageOrder) (pages : Pages) (plan : Planned) (phase : Phase) (body : List ℕ) (request : Option Asked) (belief : Belief) : Type 0 where
+  pub place : ℕ
+  pub on : plan.slot ≡ order.slot
+  pub left : AreLeft ((Write place, []) ∷ []) 0 request plan
+  pub last : Phase
+  pub leads : Leads phase body (calls_left request plan) last (pages_body pages)
+  pub writes : may_write last ≡ true
+  pub fills : filled last ≡ Writing
+  pub closed : belief ≡ Closed
+
+-- the dump of a running checkpoint whose gate is being opened is the pending one
+abbrev pub pending_dump : Kind → Image → Option Image
+pending_dump PreDump i = None
+pending_dump Dump i = Some i
+pending_dump Merged i = None
+
+-- the gate's opening, which is the fourth call of a body that is closed, was taken up
+abbrev pub is_opening_at : ℕ → Option Asked → Bool
+is_opening_at place request = nat_lt 3 place || (place == 3 && is_some request)
+
+-- one that holds the image in the end: it is closed until the gate's opening is taken up, and then being opened
+pub record IsClosing (order : ImageOrder) (i : Image) (plan : Planned) (phase : Phase) (body : List ℕ) (request : Option Asked) (belief : Belief) (dump : Option Image) : Type 0 where
+  pub place : ℕ
+  pub on : plan.slot ≡ order.slot
+  pub left : AreLeft (body_calls i.header (table_text i.spaces)) place request plan
+  pub leads : Leads phase body (calls_left request plan) Whole (image_text i)
+  pub shut : is_opening_at place request ≡ false → (belief ≡ Closed) × (dump ≡ None)
+  pub opening : is_opening_at place request ≡ true → (belief ≡ Opening i) × (dump ≡ pending_dump order.kind i)
+
+abbrev pub IsSlotFor : Stage → ImageOrder → Pages → Phase → List ℕ → Option Asked → Belief → Option Image → Type 0
+IsSlotFor (Format plan) order pages phase body request belief dump = IsFormatting order plan phase body request belief × (dump ≡ None)
+IsSlotFor Freeze order pages phase body request belief dump = IsFilled pages phase body belief × (request ≡ None) × (dump ≡ None)
+IsSlotFor PassStage order pages phase body request belief dump = IsFilled pages phase body belief × (request ≡ None) × (dump ≡ None)
+IsSlotFor (PageWrite plan) order pages phase body request belief dump = IsFilling order pages plan phase body request belief × (dump ≡ None)
+IsSlotFor (Close plan header tables) order pages phase body request belief dump =
+    IsClosing order (image_of header pages tables) plan phase body request belief dump
+
+-- ---- the checkpoint that runs
+
+-- the memory was frozen as `cut` for the running checkpoint
+pub record IsFrozenAs (base : Base) (history : History) (number : ℕ) (memory : Contents) (pages : Pages) (chain : Chain) (image : Making) : Type 0 where
+  pub cut : Contents
+  pub pends : pending history ≡ Some number
+  pub shown : at_freeze base history number ≡ Some (plain_of cut)
+  pub still : plain_of memory ≡ plain_of cut
+  pub dumps : DumpsImage cut pages chain image memory
+  pub areas : HasAreas cut image
+
+-- an image that is being made
+pub record IsMakingOn (base : Base) (history : History) (memory : Contents) (phases : List Phase) (asked : List (Option Asked)) (bodies : List (List ℕ))
+    (last : ℕ) (store : Store) (dump : Option Image) (beliefs : List Belief) (parent number : ℕ) (image : Making) : Type 0 where
+  pub pages : Pages
+  pub keeps : KeepsImage pages (chain_of store parent) image memory
+  pub files : FilesImage pages image
+  pub frozen : is_frozen image ≡ true → IsFrozenAs base history number memory pages (chain_of store parent) image
+  pub serial : image.order.serial ≡ last
+  pub fresh : IsAbove store image.order.serial
+  pub others : (slot : ℕ) (i : Image) → image_at beliefs slot ≡ Some i → slot ≢ image.order.slot → i.header.serial < image.order.serial
+  pub phase : Phase
+  pub phase_is : slice_get phases image.order.slot ≡ Some phase
+  pub belief : Belief
+  pub belief_is : slice_get beliefs image.order.slot ≡ Some belief
+  pub request : Option Asked
+  pub own : slice_get asked 0 ≡ Some request
+  pub asked_at : IfSome request (λ r. r.id.slot ≡ image.order.slot)
+  pub slot_is : IsSlotFor image.stage image.order pages phase (file_at bodies image.order.slot) request belief dump
+
+-- between two images the parent's number gives each clean page
+pub record IsBetween (memory : Contents) (asked : List (Option Asked)) (store : Store) (dump : Option Image) (parent : ℕ) : Type 0 where
+  pub rests : parent ≢ 0 → Rests (chain_of store parent) memory
+  pub none : slice_get asked 0 ≡ Some None
+  pub alone : dump ≡ None
+
+abbrev pub IsImageOn : Base → History → Contents → List Phase → List (Option Asked) → List (List ℕ) → ℕ → Store → Option Image → List Belief → ℕ → ℕ → Option Making → Type 0
+IsImageOn base history memory phases asked bodies last store dump beliefs parent number None = IsBetween memory asked store dump parent
+IsImageOn base history memory phases asked bodies last store dump beliefs parent number (Some image) =
+    IsMakingOn base history memory phases asked bodies last store dump beliefs parent number image
+
+-- a slot that the checkpoint is still to fill, or fills
+pub record IsReserved (running : Running) (slot : ℕ) : Type 0 where
+  pub place : ℕ
+  pub from : running.opened ≤ place
+  pub is : slot ≡ slot_of (record running { opened = place })
+
+-- the checkpoint that runs asks for its parent's number; nobody needs what stands in its slots
+pub record IsRunningOn (base : Base) (history : History) (memory : Contents) (phases : List Phase) (asked : List (Option Asked)) (bodies : List (List ℕ))
+    (last : ℕ) (store : Store) (dump : Option Image) (beliefs : List Belief) (running : Running) : Type 0 where
+  pub some : 0 < running.number
+  pub chain : store.chain ≡ running.parent ∷ []
+  pub newest : (j : Image) → Contains store.catalog j → IsRestorable j → j.header.checkpoint < running.number
+  pub within : (slot : ℕ) → IsReserved running slot → slot < length phases
+  pub unneeded : (slot : ℕ) (i : Image) → IsReserved running slot → image_at beliefs slot ≡ Some i → IsNeededIn store i → ⊥
+  pub apart : (one other : ℕ) → running.opened ≤ one → one < other → other ≤ length running.pre_dumps
+      → slot_of (record running { opened = one }) ≢ slot_of (record running { opened = other })
+  pub image : IsImageOn base history memory phases asked bodies last store dump beliefs running.parent running.number running.image
+
+-- none runs: where a checkpoint was acknowledged since the store was opened or one cancelled, the tip's number gives each clean page
+pub record IsAtRest (grows : Bool) (memory : Contents) (asked : List (Option Asked)) (store : Store) (dump : Option Image) : Type 0 where
+  pub gives : grows ≡ true → (tip : Image) → IsTip store.catalog tip → Rests (chain_of store tip.header.stands_for) memory
+  pub none : slice_get asked 0 ≡ Some None
+  pub alone : dump ≡ None
+  pub idle : store.chain ≡ []
+
+abbrev pub IsAtWork : Base → History → Bool → Contents → List Phase → List (Option Asked) → List (List ℕ) → ℕ → Store → Option Image → List Belief → Option Running → Type 0
+IsAtWork base history grows memory phases asked bodies last store dump beliefs None = IsAtRest grows memory asked store dump
+IsAtWork base history grows memory phases asked bodies last store dump beliefs (Some running) =
+    IsRunningOn base history memory phases asked bodies last store dump beliefs running
+
+-- ---- all of it
+
+-- each slot on which no request is out is believed to be what its phase says
+abbrev pub AreExact : List Phase → List (Option Asked) → List (List ℕ) → List Belief → Type 0
+AreExact phases asked bodies beliefs = (slot : ℕ) (phase : Phase) (belief : Belief) → slice_get phases slot ≡ Some phase → slice_get beliefs slot ≡ Some belief
+    → NoneAt asked slot → IsBelievedAs phase (file_at bodies slot) belief
+
+pub record IsInUseOn (base : Base) (history : History) (places : Places) (grows : Bool) (memory : Contents) (phases : List Phase) (asked : List (Option Asked))
+    (bodies : List (List ℕ)) (last : ℕ) (store : Store) (dump : Option Image) (beliefs : List Belief) (running : Option Running) : Type 0 where
+  pub catalog : IsCatalogInUse places beliefs
+  pub grows_is : store.grows ≡ grows
+  pub alone : (store.source ≡ None) × (store.work ≡ [])
+  pub used : AreUsed last store beliefs
+  pub exact : AreExact phases asked bodies beliefs
+  pub job : IsAtWork base history grows memory phases asked bodies last store dump beliefs running

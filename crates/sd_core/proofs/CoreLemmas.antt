@@ -1,0 +1,113 @@
+-- What is so of every core, while its opener works.
+use Rattle.std.proofs.Common.{◌≡◌, ◌≢◌, ℕ, zero, suc, ◌<◌, Bool, true, false, List, [], ◌∷◌, length, Option, Some, None, IfSome, slice_get, slice_index_or, slice_set, refl, sym, ◌∙◌, ap, subst, arith}
+use Rattle.std.proofs.lemmas.Option.{slice_get-get_or}
+use Rattle.sd_gate.specs.declared.phase.Phase.{Phase}
+use Rattle.sd_gate.specs.declared.phase.Phase.TheVariants.{Raw}
+use Rattle.sd_gate.specs.Phases.{after, phases_after}
+use Rattle.sd_gate.specs.Requests.{Made}
+use Rattle.sd_gate.specs.declared.request_id.RequestId.{RequestId}
+use Rattle.sd_journal.specs.Kept.{Kept}
+use Rattle.sd_opener.specs.Looking.{Looking}
+use Rattle.sd_rounds.specs.Dumper.{Running, out_of_running}
+use Rattle.sd_belief.specs.declared.standing.Standing.{Standing}
+use Rattle.sd_belief.specs.declared.standing.Standing.TheVariants.{Open}
+use Rattle.sd_belief.specs.OpenerSteps.{nobody, opener_alone}
+use Rattle.sd_core.specs.Opening.{GoesOn, LetsGo, TeachesOpener}
+use Rattle.sd_core.specs.Sound.{AreOuts, IsOpening, held_for, out_of_opener}
+
+pub held_opening : (frozen : Option ℕ) (running : Option Running) (opener : Looking) → running ≡ None → held_for frozen running (Some opener) ≡ 1
+held_opening (Some n) running opener none = refl
+held_opening None running opener none = ap (λ r. held_for None r (Some opener)) none
+
+pub held_idle : (running : Option Running) → running ≡ None → held_for None running None ≡ 0
+held_idle running none = ap (λ r. held_for None r None) none
+
+-- once the opener let go of its entry, a pending checkpoint's is held
+pub held_let_go : (frozen : Option ℕ) (running : Option Running) (opener : Looking) (old new : Kept) → running ≡ None
+    → old.held ≡ held_for frozen running (Some opener) → LetsGo frozen old new → new.held ≡ held_for frozen running None
+held_let_go (Some n) running opener old new none held gone = gone.held ∙ held
+held_let_go None running opener old new none held gone =
+    let one : old.held ≡ 1 = held ∙ held_opening None running opener none in
+    let less = gone.held in
+    let zero_is : new.held ≡ 0 = omega (arith, one, less) in
+    zero_is ∙ sym (held_idle running none)
+
+pub nobody_is : (outs : List (Option RequestId)) (phases : List Phase) (running : Option Running) (opener : Option Looking) → AreOuts outs phases running opener
+    → running ≡ None → out_of_opener opener ≡ None → outs ≡ nobody
+nobody_is outs phases running opener are none rests =
+    are.are ∙ ap (λ o. o ∷ None ∷ out_of_opener opener ∷ []) (ap out_of_running none) ∙ ap (λ o. None ∷ None ∷ o ∷ []) rests
+
+pub alone_is : (outs : List (Option RequestId)) (phases : List Phase) (running : Option Running) (opener : Option Looking) (id : RequestId) → AreOuts outs phases running opener
+    → running ≡ None → slice_get outs 2 ≡ Some (Some id) → (out_of_opener opener ≡ Some id) × (outs ≡ opener_alone id)
+alone_is outs phases running opener id are none out = (own, are.are ∙ ap (λ o. o ∷ None ∷ out_of_opener opener ∷ []) (ap out_of_running none) ∙ ap (λ o. None ∷ None ∷ o ∷ []) own)
+  where
+    last_of : Some (out_of_opener opener) ≡ Some (Some id) → out_of_opener opener ≡ Some id
+    last_of e = cc
+
+    own : out_of_opener opener ≡ Some id
+    own = last_of (ap (λ all. slice_get all 2) (sym are.are) ∙ out)
+
+-- no worker has a request out
+pub none_out : (outs : List (Option RequestId)) (phases : List Phase) (running : Option Running) (opener : Option Looking) → running ≡ None → out_of_opener opener ≡ None
+    → outs ≡ nobody → AreOuts outs phases running opener
+none_out outs phases running opener none rests is = record {
+  are = is ∙ ap (λ o. None ∷ None ∷ o ∷ []) (sym rests) ∙ ap (λ o. o ∷ None ∷ out_of_opener opener ∷ []) (sym (ap out_of_running none));
+  within = λ worker id out. absurd (none_at id worker (ap (λ all. slice_get all worker) (sym is) ∙ out));
+}
+  where
+    none_at : (id : RequestId) (w : ℕ) → slice_get nobody w ≡ Some (Some id) → ⊥
+    none_at id zero e = cc
+    none_at id (suc zero) e = cc
+    none_at id (suc (suc zero)) e = cc
+    none_at id (suc (suc (suc w))) e = cc
+
+-- the opener's alone is
+pub one_out : (outs : List (Option RequestId)) (phases : List Phase) (running : Option Running) (opener : Option Looking) (id : RequestId) → running ≡ None → out_of_opener opener ≡ Some id
+    → outs ≡ opener_alone id → id.slot < length phases → AreOuts outs phases running opener
+one_out outs phases running opener id none own is within = record {
+  are = is ∙ ap (λ o. None ∷ None ∷ o ∷ []) (sym own) ∙ ap (λ o. o ∷ None ∷ out_of_opener opener ∷ []) (sym (ap out_of_running none));
+  within = λ worker other out. subst (λ (i : RequestId). i.slot < length phases) (sym (its other worker (ap (λ all. slice_get all worker) (sym is) ∙ out))) within;
+}
+  where
+    its : (other : RequestId) (w : ℕ) → slice_get (opener_alone id) w ≡ Some (Some other) → other ≡ id
+    its other zero e = absurd (let no : Some None ≡ Some (Some other) = e in cc)
+    its other (suc zero) e = absurd (let no : Some None ≡ Some (Some other) = e in cc)
+    its other (suc (suc zero)) e = cc
+    its other (suc (suc (suc w))) e = absurd (let no : None ≡ Some (Some other) = e in cc)
+
+pub set_alone : (outs : List (Option RequestId)) (id : RequestId) → outs ≡ nobody → slice_set outs 2 (Some id) ≡ opener_alone id
+set_alone outs id none = ap (λ all. slice_set all 2 (Some id)) none
+
+pub set_nobody : (outs : List (Option RequestId)) (id : RequestId) → outs ≡ opener_alone id → slice_set outs 2 None ≡ nobody
+set_nobody outs id alone = ap (λ all. slice_set all 2 None) alone
+
+-- ---- outcomes
+
+set_count : (phases : List Phase) (at : ℕ) (phase : Phase) → length (slice_set phases at phase) ≡ length phases
+set_count [] at phase = refl
+set_count (p ∷ phases) zero phase = refl
+set_count (p ∷ phases) (suc at) phase = ap suc (set_count phases at phase)
+
+pub after_count : (phases new : List Phase) (id : RequestId) (done : Bool) → id.slot < length phases
+    → ((phase : Phase) → slice_get phases id.slot ≡ Some phase → new ≡ phases_after phases id phase done) → length new ≡ length phases
+after_count phases new id done within follows =
+    let phase = slice_index_or phases id.slot Raw in
+    ap length (follows phase (slice_get-get_or phases id.slot Raw within)) ∙ set_count phases id.slot (after phase id.call done)
+
+-- an opener that goes on was there, and is
+pub record IsTaughtOn (old : Option Looking) (made : Made) (new : Option Looking) : Type 0 where
+  pub opener : Looking
+  pub next : Looking
+  pub was : old ≡ Some opener
+  pub is : new ≡ Some next
+  pub goes_on : GoesOn opener made next
+
+pub taught_opener : (old : Option Looking) (made : Made) (new : Option Looking) → TeachesOpener old made true new → IsTaughtOn old made new
+taught_opener None made new taught = absurd (let no : true ≡ false = taught.0 in cc)
+taught_opener (Some opener) made new taught = record { opener = opener; next = taught.0; was = refl; is = taught.1; goes_on = taught.2 }
+
+-- an opener whose request is out runs while the store isn't open
+pub closed_by : (opener : Option Looking) (id : RequestId) (standing : Standing) (phases : List Phase) → IfSome opener (IsOpening standing phases) → out_of_opener opener ≡ Some id
+    → standing ≢ Open
+closed_by None id standing phases opening out = absurd (let no : None ≡ Some id = out in cc)
+closed_by (Some opener) id standing phases opening out = opening.closed

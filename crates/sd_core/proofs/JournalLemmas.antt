@@ -1,0 +1,58 @@
+-- A journal tells its memory, what is pending and what is last.
+use Rattle.std.proofs.Common.{◌≡◌, ◌≢◌, ◌⊎◌, ℕ, ◌∷◌, Option, None, is_some, refl, sym, ◌∙◌, ap, subst}
+use Rattle.sd_command.specs.declared.command.Command.{Command}
+use Rattle.sd_command.specs.declared.reply.Reply.{Reply}
+use Rattle.sd_journal.specs.declared.entry.Entry.TheVariants.{Applied, Reopened}
+use Rattle.sd_journal.specs.History.{Base, last, pending}
+use Rattle.sd_journal.specs.Kept.{Kept}
+use Rattle.sd_journal.specs.Legal.{MayFollow}
+use Rattle.sd_journal.specs.Marked.{Told, IsTracked, entries_of}
+use Rattle.sd_journal.specs.TrackedLaws.{TrackedLaws}
+use Rattle.sd_pagetable.specs.Contents.{Contents}
+use Rattle.sd_core.specs.Answering.{IsAnswered}
+use Rattle.sd_core.specs.Sound.{IsJournal}
+use Rattle.sd_core.proofs.ApplyLemmas.{tracked_on}
+
+-- the entries are the same
+pub same_journal : (base : Base) (old new : Kept) (memory : Contents) (frozen newest : Option ℕ) → new.first ≡ old.first → new.items ≡ old.items → new.limit ≡ old.limit
+    → IsJournal base old memory frozen newest → IsJournal base new memory frozen newest
+same_journal base old new memory frozen newest first items limit was = record {
+  tracked = subst (λ all. IsTracked base all memory) (sym items) was.tracked;
+  first = first ∙ was.first;
+  limit = limit ∙ was.limit;
+  frozen_for = was.frozen_for ∙ ap (λ all. pending (entries_of all)) (sym items);
+  newest_is = was.newest_is ∙ ap (λ all. last base (entries_of all)) (sym items);
+}
+
+-- a command was journaled
+pub applied_journal : TrackedLaws → (base : Base) (old new : Kept) (before after : Contents) (frozen newest : Option ℕ) (seat : ℕ) (command : Command) (reply : Reply)
+    → new.items ≡ Told (Applied seat command reply) ∷ old.items → new.first ≡ old.first → new.limit ≡ old.limit
+    → IsJournal base old before frozen newest → IsAnswered (is_some frozen) command reply before after → IsJournal base new after frozen newest
+applied_journal laws base old new before after frozen newest seat command reply items first limit was answered = record {
+  tracked = subst (λ all. IsTracked base all after) (sym items)
+      (tracked_on laws base old.items before after seat command reply frozen was.frozen_for was.tracked answered);
+  first = first ∙ was.first;
+  limit = limit ∙ was.limit;
+  frozen_for = was.frozen_for ∙ ap (λ all. pending (entries_of all)) (sym items);
+  newest_is = was.newest_is ∙ ap (λ all. last base (entries_of all)) (sym items);
+}
+
+-- the store was opened again
+pub reopened_journal : TrackedLaws → (base : Base) (old new : Kept) (memory : Contents) (frozen newest found : Option ℕ)
+    → new.items ≡ Told (Reopened found) ∷ old.items → new.first ≡ old.first → new.limit ≡ old.limit
+    → (found ≡ newest) ⊎ ((frozen ≢ None) × (found ≡ frozen))
+    → IsJournal base old memory frozen newest → IsJournal base new memory None found × MayFollow base (entries_of old.items) (Reopened found)
+reopened_journal laws base old new memory frozen newest found items first limit expected was = (
+  record {
+    tracked = subst (λ all. IsTracked base all memory) (sym items) (laws.told base old.items memory (Reopened found) was.tracked may refl);
+    first = first ∙ was.first;
+    limit = limit ∙ was.limit;
+    frozen_for = ap (λ all. pending (entries_of all)) (sym items);
+    newest_is = ap (λ all. last base (entries_of all)) (sym items);
+  },
+  may,
+)
+  where
+    may : MayFollow base (entries_of old.items) (Reopened found)
+    may = subst (λ n. (found ≡ n) ⊎ ((pending (entries_of old.items) ≢ None) × (found ≡ pending (entries_of old.items)))) was.newest_is
+        (subst (λ f. (found ≡ newest) ⊎ ((f ≢ None) × (found ≡ f))) was.frozen_for expected)

@@ -1,0 +1,68 @@
+use Rattle.std.proofs.Common.{◌≡◌, length, Some, None, IfSome, refl, sym, ◌∙◌, ap, subst, arith}
+use Rattle.std.proofs.lemmas.Option.{same_Some}
+use Rattle.sd_areas.specs.Memory.{memory_of}
+use Rattle.sd_gate.specs.declared.worker.Worker.TheVariants as its
+use Rattle.sd_command.specs.declared.reply.Reply.TheVariants as reply
+use Rattle.sd_journal.specs.History.{Base}
+use Rattle.sd_opener.specs.Looking.{Looking, out_of}
+use Rattle.sd_belief.specs.declared.standing.Standing.TheVariants.{Open}
+use Rattle.sd_belief.specs.View.{CoreView}
+use Rattle.sd_core.specs.Sound.{IsOpening, held_for, out_of_opener}
+use Rattle.sd_core.proofs.CoreLemmas.{held_idle, held_opening, nobody_is, none_out}
+use Rattle.sd_core.proofs.JournalLemmas.{reopened_journal}
+use Rattle.sd_core.proofs.OpeningLemmas.{starts_anew, step_seen}
+use Rattle.sd_core.proofs.state.Core.finish_opening.Goals as goal
+
+pub invariant_of-self-2 : goal.invariant_of-self-2
+invariant_of-self-2 c =
+    let base : Base = record { number = c.self.inside.number; memory = memory_of c.self.inside.base } in
+    let o = c.in-Some.opener in
+    let is : c.self.inside.opener ≡ Some o = sym c.take_opener.ensures.taken ∙ c.in-Some.is in
+    let same : c.requires.looking ≡ o = same_Some c.requires.looking o (sym c.requires.is ∙ sym (ap (λ (v : CoreView). v.opener) c.self.view_is) ∙ is) in
+    let rests : out_of_opener c.self.inside.opener ≡ None = ap out_of_opener is ∙ subst (λ (l : Looking). out_of l.stage ≡ None) same c.requires.rests in
+    let none = c.self.invariant.idle in
+    let held : c.self.inside.journal.held ≡ 1 = c.self.invariant.held ∙ ap (held_for c.self.inside.pending c.self.inside.dumper.running) is ∙ held_opening c.self.inside.pending c.self.inside.dumper.running o none in
+    let less = c.append_held.ensures.held in
+    let zero_is : c.append_held.new.self.held ≡ 0 = omega (arith, held, less) in
+    record {
+      journal_is = (reopened_journal c.tracked_laws.ensures base c.self.inside.journal c.append_held.new.self c.self.inside.memory c.self.inside.pending c.self.inside.last c.in-Some-read_by.found
+          c.append_held.ensures.items c.append_held.ensures.numbers.first c.append_held.ensures.numbers.limit c.in-Some-read_by.ensures.expected c.self.invariant.journal_is).0;
+      held = zero_is ∙ sym (held_idle c.self.inside.dumper.running none) ∙ ap (held_for None c.self.inside.dumper.running) (sym c.take_opener.ensures.left);
+      outs_are = none_out c.self.inside.outs c.in-Some-read_by.opened.phases.items c.self.inside.dumper.running c.take_opener.new.opener none (ap out_of_opener c.take_opener.ensures.left)
+          (nobody_is c.self.inside.outs c.self.inside.phases.items c.self.inside.dumper.running c.self.inside.opener c.self.invariant.outs_are none rests);
+      opening = subst (λ x. IfSome x (IsOpening Open c.in-Some-read_by.opened.phases.items)) (sym c.take_opener.ensures.left) tt;
+      idle = none;
+    }
+
+pub returns : goal.returns
+returns c =
+    let base : Base = record { number = c.self.inside.number; memory = memory_of c.self.inside.base } in
+    let o = c.in-Some.opener in
+    let is : c.self.inside.opener ≡ Some o = sym c.take_opener.ensures.taken ∙ c.in-Some.is in
+    let same : c.requires.looking ≡ o = same_Some c.requires.looking o (sym c.requires.is ∙ sym (ap (λ (v : CoreView). v.opener) c.self.view_is) ∙ is) in
+    let rests : out_of_opener c.self.inside.opener ≡ None = ap out_of_opener is ∙ subst (λ (l : Looking). out_of l.stage ≡ None) same c.requires.rests in
+    let all : length o.told ≡ o.slots = subst (λ (l : Looking). length l.told ≡ l.slots) same c.requires.all in
+    let slots : o.slots ≡ length c.self.inside.phases.items = (subst (λ x. IfSome x (IsOpening c.self.inside.standing c.self.inside.phases.items)) is c.self.invariant.opening).slots in
+    let opens = c.in-Some-read_by.ensures in
+    let legal = reopened_journal c.tracked_laws.ensures base c.self.inside.journal c.append_held.new.self c.self.inside.memory c.self.inside.pending c.self.inside.last c.in-Some-read_by.found
+    c.append_held.ensures.items c.append_held.ensures.numbers.first c.append_held.ensures.numbers.limit opens.expected c.self.invariant.journal_is in
+    step_seen its.Opener (reply.Reopened c.in-Some-read_by.found) _ _ _ c.self.view_is
+    (starts_anew c.reopened_law.ensures c.opener_steps.ensures _ _ o c.in-Some-read_by.found (record {
+      base = refl;
+      items = c.append_held.ensures.items;
+      outs = refl;
+      none = nobody_is c.self.inside.outs c.self.inside.phases.items c.self.inside.dumper.running c.self.inside.opener c.self.invariant.outs_are c.self.invariant.idle rests;
+      legal = (legal.1, c.tracked_laws.ensures.legal base c.self.inside.journal.items c.self.invariant.journal_is.tracked.marked);
+      was = is;
+      all = all;
+      slots = slots;
+      closed = c.take_opener.ensures.left;
+      count = ap length opens.told ∙ all ∙ slots;
+    }) (λ files sees count. (opens.read files sees count).phases) opens.number (λ files sees count. record {
+      catalog = (opens.read files sees count).catalog;
+      order = c.sound.ensures.order;
+      serials = c.found.ensures.serials;
+      grows = refl;
+      idle = c.self.invariant.idle;
+      outs = nobody_is c.self.inside.outs c.self.inside.phases.items c.self.inside.dumper.running c.self.inside.opener c.self.invariant.outs_are c.self.invariant.idle rests;
+    }))

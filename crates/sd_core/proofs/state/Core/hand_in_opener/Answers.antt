@@ -1,0 +1,96 @@
+use Rattle.std.proofs.Common.{◌≡◌, Some, None, IfSome, slice_get, refl, sym, ◌∙◌, ap, subst}
+use Rattle.sd_gate.specs.declared.phase.Phase.{Phase}
+use Rattle.sd_gate.specs.declared.request_id.RequestId.{RequestId}
+use Rattle.sd_gate.specs.Calls.{is_done}
+use Rattle.sd_gate.specs.Phases.{phases_after}
+use Rattle.sd_command.specs.declared.reply.Reply.TheVariants as reply
+use Rattle.sd_command.specs.declared.refusal.Refusal.TheVariants.{StoreDown}
+use Rattle.sd_belief.specs.View.{CoreView, index}
+use Rattle.sd_core.specs.Sound.{IsOpening, held_for, out_of_opener}
+use Rattle.sd_core.proofs.CoreLemmas.{alone_is, after_count, closed_by, held_opening, none_out, set_nobody, taught_opener}
+use Rattle.sd_core.proofs.OpeningLemmas.{handed_failed, handed_on, handed_seen}
+use Rattle.sd_core.proofs.state.Core.hand_in_opener.Goals as goal
+
+pub invariant_of-self : goal.invariant_of-self
+invariant_of-self c =
+    let id = c.args.outcome.request.id in
+    let own : slice_get c.self.inside.outs 2 ≡ Some (Some id) = ap (λ w. slice_get c.self.inside.outs (index w)) (sym c.requires.opener)
+    ∙ ap (λ (v : CoreView). slice_get v.outs (index id.worker)) c.self.view_is ∙ c.requires.out in
+    let none = c.self.invariant.idle in
+    let alone = alone_is c.self.inside.outs c.self.inside.phases.items c.self.inside.dumper.running c.self.inside.opener id c.self.invariant.outs_are none own in
+    let follows : (phase : Phase) → slice_get c.self.inside.phases.items id.slot ≡ Some phase → c.follow_call.new.phases.items ≡ phases_after c.self.inside.phases.items id phase (is_done c.args.outcome.answer) =
+    (λ phase is. c.follow_call.ensures phase (ap (λ (i : RequestId). slice_get c.self.inside.phases.items i.slot) c.id-id.ensures ∙ is)
+    ∙ ap (λ i. phases_after c.self.inside.phases.items i phase c.is_done-done.result) c.id-id.ensures
+    ∙ ap (phases_after c.self.inside.phases.items id phase) (c.is_done-done.ensures ∙ ap is_done c.answer.ensures)) in
+    let count = after_count c.self.inside.phases.items c.follow_call.new.phases.items id (is_done c.args.outcome.answer) (c.self.invariant.outs_are.within 2 id own) follows in
+    let closed = closed_by c.self.inside.opener id c.self.inside.standing c.self.inside.phases.items c.self.invariant.opening alone.0 in
+    let none_now = c.put_out.ensures ∙ set_nobody c.self.inside.outs id alone.1 in
+    let t = taught_opener c.self.inside.opener c.args.outcome c.teach.new.opener c.if-teach.ensures in
+    let before = subst (λ x. IfSome x (IsOpening c.self.inside.standing c.self.inside.phases.items)) t.was c.self.invariant.opening in
+    let rests : out_of_opener c.teach.new.opener ≡ None = ap out_of_opener t.is ∙ t.goes_on.free (ap out_of_opener (sym t.was) ∙ alone.0) in
+    record {
+      journal_is = c.self.invariant.journal_is;
+      held = c.self.invariant.held ∙ ap (held_for c.self.inside.pending c.self.inside.dumper.running) t.was
+          ∙ held_opening c.self.inside.pending c.self.inside.dumper.running t.opener none ∙ sym (held_opening c.self.inside.pending c.self.inside.dumper.running t.next none)
+          ∙ ap (held_for c.self.inside.pending c.self.inside.dumper.running) (sym t.is);
+      outs_are = none_out c.put_out.new.outs c.follow_call.new.phases.items c.self.inside.dumper.running c.teach.new.opener none rests none_now;
+      opening = subst (λ x. IfSome x (IsOpening c.self.inside.standing c.follow_call.new.phases.items)) (sym t.is)
+          (record { closed = before.closed; slots = t.goes_on.slots ∙ before.slots ∙ sym count });
+      idle = none;
+    }
+
+pub returns-then-teach : goal.returns-then-teach
+returns-then-teach c =
+    let id = c.args.outcome.request.id in
+    let own : slice_get c.self.inside.outs 2 ≡ Some (Some id) = ap (λ w. slice_get c.self.inside.outs (index w)) (sym c.requires.opener)
+    ∙ ap (λ (v : CoreView). slice_get v.outs (index id.worker)) c.self.view_is ∙ c.requires.out in
+    let none = c.self.invariant.idle in
+    let alone = alone_is c.self.inside.outs c.self.inside.phases.items c.self.inside.dumper.running c.self.inside.opener id c.self.invariant.outs_are none own in
+    let follows : (phase : Phase) → slice_get c.self.inside.phases.items id.slot ≡ Some phase → c.follow_call.new.phases.items ≡ phases_after c.self.inside.phases.items id phase (is_done c.args.outcome.answer) =
+    (λ phase is. c.follow_call.ensures phase (ap (λ (i : RequestId). slice_get c.self.inside.phases.items i.slot) c.id-id.ensures ∙ is)
+    ∙ ap (λ i. phases_after c.self.inside.phases.items i phase c.is_done-done.result) c.id-id.ensures
+    ∙ ap (phases_after c.self.inside.phases.items id phase) (c.is_done-done.ensures ∙ ap is_done c.answer.ensures)) in
+    let count = after_count c.self.inside.phases.items c.follow_call.new.phases.items id (is_done c.args.outcome.answer) (c.self.invariant.outs_are.within 2 id own) follows in
+    let closed = closed_by c.self.inside.opener id c.self.inside.standing c.self.inside.phases.items c.self.invariant.opening alone.0 in
+    let none_now = c.put_out.ensures ∙ set_nobody c.self.inside.outs id alone.1 in
+    let t = taught_opener c.self.inside.opener c.args.outcome c.teach.new.opener c.if-teach.ensures in
+    handed_seen c.args.outcome reply.Worked _ _ _ c.self.view_is
+    (handed_on c.opener_steps.ensures _ _ c.args.outcome t.opener t.next (record {
+      rest = record { closed = closed; base = refl; items = refl; memory = refl; standing = refl; catalog = refl; dumper = refl; numbers = refl; grows = refl };
+      alone = alone.1;
+      outs = none_now;
+      whose = c.requires.opener;
+      count = count;
+      phases = follows;
+    }) (λ phase handed. record {
+      handed = handed;
+      done = t.goes_on.done (ap out_of_opener (sym t.was) ∙ alone.0);
+      was = t.was;
+      is = t.is;
+      moves = t.goes_on.moves;
+      sees = t.goes_on.sees;
+    }))
+
+pub returns : goal.returns
+returns c =
+    let id = c.args.outcome.request.id in
+    let own : slice_get c.self.inside.outs 2 ≡ Some (Some id) = ap (λ w. slice_get c.self.inside.outs (index w)) (sym c.requires.opener)
+    ∙ ap (λ (v : CoreView). slice_get v.outs (index id.worker)) c.self.view_is ∙ c.requires.out in
+    let none = c.self.invariant.idle in
+    let alone = alone_is c.self.inside.outs c.self.inside.phases.items c.self.inside.dumper.running c.self.inside.opener id c.self.invariant.outs_are none own in
+    let follows : (phase : Phase) → slice_get c.self.inside.phases.items id.slot ≡ Some phase → c.follow_call.new.phases.items ≡ phases_after c.self.inside.phases.items id phase (is_done c.args.outcome.answer) =
+    (λ phase is. c.follow_call.ensures phase (ap (λ (i : RequestId). slice_get c.self.inside.phases.items i.slot) c.id-id.ensures ∙ is)
+    ∙ ap (λ i. phases_after c.self.inside.phases.items i phase c.is_done-done.result) c.id-id.ensures
+    ∙ ap (phases_after c.self.inside.phases.items id phase) (c.is_done-done.ensures ∙ ap is_done c.answer.ensures)) in
+    let count = after_count c.self.inside.phases.items c.follow_call.new.phases.items id (is_done c.args.outcome.answer) (c.self.invariant.outs_are.within 2 id own) follows in
+    let closed = closed_by c.self.inside.opener id c.self.inside.standing c.self.inside.phases.items c.self.invariant.opening alone.0 in
+    let none_now = c.put_out.ensures ∙ set_nobody c.self.inside.outs id alone.1 in
+    handed_seen c.args.outcome (reply.Refused StoreDown) _ _ _ c.self.view_is
+    (handed_failed c.opener_steps.ensures _ _ c.args.outcome StoreDown (record {
+      rest = record { closed = closed; base = refl; items = c.let_go.ensures.journal.items; memory = refl; standing = refl; catalog = refl; dumper = refl; numbers = refl; grows = refl };
+      alone = alone.1;
+      outs = none_now;
+      whose = c.requires.opener;
+      count = count;
+      phases = follows;
+    }) c.let_go.ensures.opener)

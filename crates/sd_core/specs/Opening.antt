@@ -1,0 +1,79 @@
+-- The opener of a core.
+use Rattle.std.specs.Prelude.{◌≡◌, ◌≢◌, ◌⊎◌, ℕ, ◌+◌, Bool, true, false, List, length, Option, Some, None, Result, Ok, Err}
+use Rattle.sd_command.specs.declared.refusal.Refusal.{Refusal}
+use Rattle.sd_disk.specs.Contents.{file_at}
+use Rattle.sd_gate.specs.Calls.{is_done}
+use Rattle.sd_gate.specs.Requests.{Made}
+use Rattle.sd_image.specs.Shows.{Shows}
+use Rattle.sd_journal.specs.Allowed.{Shown, shown_number}
+use Rattle.sd_journal.specs.Kept.{Kept}
+use Rattle.sd_opener.specs.declared.opened.Opened.{Opened}
+use Rattle.sd_opener.specs.declared.opener_step.OpenerStep.{OpenerStep}
+use Rattle.sd_opener.specs.Looking.{Looking, MovesOn, StepMoves, out_of}
+use Rattle.sd_opener.specs.Sees.{IsOpened, IsToldOf, Sees, SeesAfter}
+
+-- a step of the opener
+pub record WorksOpener (old : Option Looking) (number : ℕ) (step : OpenerStep) (new : Option Looking) : Type 0 where
+  pub opener : Looking
+  pub next : Looking
+  pub was : old ≡ Some opener
+  pub is : new ≡ Some next
+  pub moves : StepMoves number opener step next
+  pub slots : next.slots ≡ opener.slots
+  pub rests : out_of opener.stage ≡ None
+  pub sees : (files : List (List ℕ)) → Sees files None opener → SeesAfter files step next
+
+-- the held entries with the opener's: while a checkpoint is pending its own serves
+abbrev pub with_opening : Option ℕ → ℕ → ℕ
+with_opening None held = held + 1
+with_opening (Some n) held = held
+
+-- the entries and the limit are as before, and so many are held
+pub record Holds (old : Kept) (count : ℕ) (new : Kept) : Type 0 where
+  pub first : new.first ≡ old.first
+  pub items : new.items ≡ old.items
+  pub limit : new.limit ≡ old.limit
+  pub held : new.held ≡ count
+
+abbrev pub HoldsForOpening : Option ℕ → Kept → Result (Unit {0}) Refusal → Kept → Type 0
+HoldsForOpening pending old (Ok done) new = Holds old (with_opening pending old.held) new
+HoldsForOpening pending old (Err why) new = new ≡ old
+
+pub record LetsGo (pending : Option ℕ) (old new : Kept) : Type 0 where
+  pub first : new.first ≡ old.first
+  pub items : new.items ≡ old.items
+  pub limit : new.limit ≡ old.limit
+  pub held : with_opening pending new.held ≡ old.held
+
+-- the number that a store shows is the last or the pending one
+abbrev pub IsExpected : Option ℕ → Option ℕ → Option ℕ → Type 0
+IsExpected last pending found = (found ≡ last) ⊎ ((pending ≢ None) × (found ≡ pending))
+
+-- What was read of a store that shows the last checkpoint or the pending one.
+pub record OpensAnew (opener : Looking) (last pending : Option ℕ) (opened : Opened) (found : Option ℕ) : Type 0 where
+  pub expected : IsExpected last pending found
+  pub told : opened.phases.items ≡ opener.told
+  pub read : (files : List (List ℕ)) → Sees files None opener → length opener.told ≡ length files → IsOpened files opened
+  pub number : (files : List (List ℕ)) → Sees files None opener → length opener.told ≡ length files
+      → (shown : Shown) → Shows files shown → shown_number shown ≡ found
+
+-- an outcome that is handed to the opener, and whether it goes on
+pub record GoesOn (old : Looking) (made : Made) (new : Looking) : Type 0 where
+  pub done : out_of old.stage ≡ Some made.request.id → is_done made.answer ≡ true
+  pub moves : MovesOn old new
+  pub slots : new.slots ≡ old.slots
+  pub free : out_of old.stage ≡ Some made.request.id → out_of new.stage ≡ None
+  pub sees : (files : List (List ℕ)) → IsToldOf (file_at files (length old.told)) made.request made
+      → Sees files (Some made.request) old → Sees files None new
+
+abbrev pub TeachesOpener : Option Looking → Made → Bool → Option Looking → Type 0
+TeachesOpener None made goes new = (goes ≡ false) × (new ≡ None)
+TeachesOpener (Some opener) made true new = (next : Looking) × (new ≡ Some next) × GoesOn opener made next
+TeachesOpener (Some opener) made false new = Unit {0}
+
+-- every slot was read
+pub record IsAllRead (opener : Option Looking) : Type 0 where
+  pub looking : Looking
+  pub is : opener ≡ Some looking
+  pub all : length looking.told ≡ looking.slots
+  pub rests : out_of looking.stage ≡ None

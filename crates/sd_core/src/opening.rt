@@ -1,0 +1,212 @@
+//! The opener of a core: its steps, and what it leaves.
+ghost use Rattle.std.specs.Prelude.{◌≡◌, ◌<◌, ◌↔◌, ◌⊎◌, None, Some, Err, IsSome, IsErr, IfOk, IfSome, OnErr, length, map, true, IsTrue, List, ℕ};
+ghost use Rattle.sd_chain.specs.Store.{IsCatalogOf};
+ghost use Rattle.sd_image.specs.Shows.{Shows};
+ghost use Rattle.sd_journal.specs.Allowed.{Shown, shown_number};
+ghost use Rattle.sd_gate.specs.Phases.{given_up, phases_after};
+ghost use Rattle.sd_gate.specs.declared.phase.Phase.{Phase};
+ghost use Rattle.sd_gate.specs.declared.request_id.RequestId.{RequestId};
+ghost use Rattle.sd_belief.specs.OpenerSteps.{nobody};
+ghost use Rattle.sd_belief.specs.View.{index};
+ghost use Rattle.std.specs.Prelude.{slice_get, slice_set};
+ghost use Rattle.sd_core.specs.Opening.{HoldsForOpening, IsExpected, LetsGo, OpensAnew, TeachesOpener, WorksOpener};
+
+use sd_belief::Standing;
+use sd_chain::Catalog;
+use sd_command::Refusal;
+use sd_gate::{Outcome, Phase, RequestId, Worker};
+use sd_image::{one_store, tip_once};
+use sd_journal::Journal;
+use sd_opener::{OpenError, Opened, Opener, OpenerProgress, OpenerStep};
+use std::mem;
+
+/// The place of a worker among three.
+fn place(worker: Worker) -> usize
+    ensures place { result ≡ index worker }
+    ensures within { result < 3 }
+{
+    match worker {
+        Worker::Dumper => 0,
+        Worker::Merger => 1,
+        Worker::Opener => 2,
+    }
+}
+
+/// Notes which request of a worker is out.
+pub(crate) fn put_out(outs: &mut [Option<RequestId>; 3], worker: Worker, id: Option<RequestId>)
+    ensures { outs.new ≡ slice_set outs.old (index worker) id }
+{
+    outs[place(worker)] = id;
+}
+
+/// Whether this is the request that is out.
+fn is_this(out: &Option<RequestId>, id: &RequestId) -> bool
+    ensures { IsTrue result ↔ out.now ≡ Some id.now }
+{
+    *out == Some(*id)
+}
+
+/// Whether the request with this id is out of its worker.
+pub(crate) fn is_out(outs: &[Option<RequestId>; 3], id: &RequestId) -> bool
+    ensures { IsTrue result ↔ slice_get outs.now (index id.now.worker) ≡ Some (Some id.now) }
+{
+    is_this(&outs[place(id.worker)], id)
+}
+
+/// Whether a store is open.
+pub(crate) fn is_open(standing: Standing) -> bool
+    ensures { IsTrue result ↔ standing ≡ Standing.Open }
+{
+    matches!(standing, Standing::Open)
+}
+
+/// Whether no request is out.
+pub(crate) fn is_nobody_out(outs: &[Option<RequestId>; 3]) -> bool
+    ensures { result ≡ true ↔ outs.now ≡ nobody }
+{
+    outs[0].is_none() && outs[1].is_none() && outs[2].is_none()
+}
+
+/// Gives up the job of each slot.
+pub(crate) fn give_up_all(phases: &mut Vec<Phase>)
+    ensures { phases.new.items ≡ map given_up phases.old.items }
+{
+    for phase in phases.iter_mut() {
+        *phase = phase.given_up();
+    }
+}
+
+/// A slot is in the phase that follows a call on it.
+pub(crate) fn follow_call(phases: &mut Vec<Phase>, id: &RequestId, done: bool)
+    requires { id.now.slot < length phases.old.items }
+    ensures { (phase : Phase) → slice_get phases.old.items id.now.slot ≡ Some phase
+        → phases.new.items ≡ phases_after phases.old.items id.now phase done }
+{
+    phases[id.slot] = phases[id.slot].after(id.call, done);
+}
+
+/// Holds an entry for an opener: while a checkpoint is pending, one is held already.
+///
+/// # Errors
+///
+/// `JournalFull` where none is free, `OutOfMemory` where it finds no room. Nothing changed.
+pub(crate) fn hold_for_opening(journal: &mut Journal, pending: Option<u64>) -> Result<(), Refusal>
+    ensures { HoldsForOpening pending journal.old result journal.new }
+{
+    if pending.is_some() {
+        return Ok(());
+    }
+    if journal.free() == 0 {
+        return Err(Refusal::JournalFull);
+    }
+    let Ok(()) = journal.hold(1) else {
+        return Err(Refusal::OutOfMemory);
+    };
+    Ok(())
+}
+
+/// Lets go of the entry that was held for an opener.
+pub(crate) fn release_for_opening(journal: &mut Journal, pending: Option<u64>)
+    requires { pending ≡ None → 0 < journal.old.held }
+    ensures { LetsGo pending journal.old journal.new }
+{
+    if pending.is_none() {
+        journal.release(1);
+    }
+}
+
+/// Lets go of an opener, and of the entry that was held for it.
+pub(crate) fn let_go(opener: &mut Option<Opener>, journal: &mut Journal, pending: Option<u64>)
+    requires { pending ≡ None → 0 < journal.old.held }
+    ensures opener { opener.new ≡ None }
+    ensures journal { LetsGo pending journal.old journal.new }
+{
+    *opener = None;
+    release_for_opening(journal, pending);
+}
+
+/// An opener begins.
+pub(crate) fn put_opener(opener: &mut Option<Opener>, next: Opener)
+    ensures { opener.new ≡ Some next }
+{
+    *opener = Some(next);
+}
+
+/// Takes the opener out, which ends it.
+pub(crate) fn take_opener(opener: &mut Option<Opener>) -> Option<Opener>
+    ensures taken { result ≡ opener.old }
+    ensures left { opener.new ≡ None }
+{
+    mem::replace(opener, None)
+}
+
+/// Hands an outcome to the opener. Returns whether it goes on.
+pub(crate) fn teach(opener: &mut Option<Opener>, outcome: Outcome) -> bool
+    ensures { TeachesOpener opener.old outcome result opener.new }
+{
+    match opener {
+        Some(opener) => matches!(opener.hand_in(outcome), OpenerProgress::More),
+        None => {
+            drop(outcome);
+            false
+        }
+    }
+}
+
+/// Makes an opener's next step.
+///
+/// # Errors
+///
+/// `Idle` where there is none, `Busy` where its request is out, `OutOfMemory` where a growth was refused. Nothing changed.
+pub(crate) fn step_opener(opener: &mut Option<Opener>, ticket: u64) -> Result<OpenerStep, Refusal>
+    ensures works { IfOk result (λ step. WorksOpener opener.old ticket step opener.new) }
+    ensures err { OnErr result (opener.new ≡ opener.old) }
+{
+    let Some(opener) = opener else {
+        return Err(Refusal::Idle);
+    };
+    match opener.work(ticket) {
+        Ok(step) => Ok(step),
+        Err(OpenError::Busy) => Err(Refusal::Busy),
+        Err(OpenError::OutOfMemory) => Err(Refusal::OutOfMemory),
+    }
+}
+
+/// The checkpoint that a catalog shows, if any.
+fn shown_by(catalog: &Catalog) -> Option<u64>
+    ensures { (files : List (List ℕ)) → IsCatalogOf files catalog.now
+        → (shown : Shown) → Shows files shown → shown_number shown ≡ result }
+{
+    one_store();
+    tip_once();
+    Some(catalog.tip()?.header().checkpoint)
+}
+
+/// Whether a store that shows this checkpoint is the one that the run wrote: it is the last one, or the pending one.
+fn is_expected(found: Option<u64>, last: Option<u64>, pending: Option<u64>) -> bool
+    ensures { IsTrue result ↔ IsExpected last pending found }
+{
+    if found == last {
+        return true;
+    }
+    pending.is_some() && found == pending
+}
+
+/// What an opener read, and the checkpoint that the store shows. None where a serial stands twice, or the checkpoint is
+/// neither the last nor the pending one.
+pub(crate) fn read_by(
+    opener: Opener,
+    last: Option<u64>,
+    pending: Option<u64>,
+) -> Option<(Opened, Option<u64>)>
+    ensures { IfSome result (λ read. OpensAnew opener last pending read.0 read.1) }
+{
+    let Ok(opened) = opener.finish() else {
+        return None;
+    };
+    let found = shown_by(&opened.catalog);
+    if !is_expected(found, last, pending) {
+        return None;
+    }
+    Some((opened, found))
+}

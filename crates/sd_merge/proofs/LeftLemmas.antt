@@ -1,0 +1,309 @@
+-- Each step and each outcome leaves fewer before a merge.
+use Rattle.std.proofs.Common.{◌≡◌, ◌≢◌, ◌↔◌, ℕ, zero, suc, ◌+◌, ◌-◌, ◌*◌, ◌<◌, ◌≤◌, Bool, true, false, if◌then◌else◌, List, [], ◌∷◌, length, Option, Some, None, refl, sym, ◌∙◌, ap, subst, inl, inr, arith}
+use Rattle.std.specs.Prelude.{slice_get}
+use Rattle.std.proofs.lemmas.Bool.{both_ways}
+use Rattle.sd_chain.specs.Catalog.{Places}
+use Rattle.sd_gate.specs.declared.slot_state.SlotState.{SlotState}
+use Rattle.sd_gate.specs.declared.slot_state.SlotState.TheVariants.{Raw, Closed, Open as OpenSlot, Writing}
+use Rattle.sd_gate.specs.Plans.{Gives, Planned, is_one, plan_after}
+use Rattle.sd_gate.specs.Requests.{Asked, Made}
+use Rattle.sd_gate.specs.Sequences.{Calls, format_calls}
+use Rattle.sd_rounds.specs.Left.{plan_left}
+use Rattle.sd_rounds.specs.Making.{IsUnderWay}
+use Rattle.sd_rounds.specs.declared.new_image.NewImage.{NewImage}
+use Rattle.sd_merge.specs.declared.merge_progress.MergeProgress.{MergeProgress}
+use Rattle.sd_merge.specs.declared.merge_progress.MergeProgress.TheVariants as progress
+use Rattle.sd_merge.specs.declared.merge_step.MergeStep.{MergeStep}
+use Rattle.sd_merge.specs.declared.merge_step.MergeStep.TheVariants as step
+use Rattle.sd_merge.specs.declared.retired.Retired.{Retired}
+use Rattle.sd_merge.specs.declared.stage.Stage.{Stage}
+use Rattle.sd_merge.specs.declared.stage.Stage.TheVariants.{Format, Pass as PassStage, PageRead, PageWrite, Close}
+use Rattle.sd_merge.specs.Copying.{Copying, GoesOn, IsClosing, Opens, Steps, begun_copy, is_taking, plan_of, stage_after, with_plan}
+use Rattle.sd_merge.specs.Sources.{few_pages}
+use Rattle.sd_merge.specs.Left.{LeftLaws, copy_left, doing_left, left_of, pages_left, retiring_left, running_left, stage_left}
+use Rattle.sd_merge.specs.Merger.{AreRunning, CopiesOn, Doing, EndsOne, GoesOnWith, Hands, HandsAt, HandsClosing, HandsCopying, HandsTo, IsLastOf, IsHanded, IsRunning, IsRunningAt, Retires, Retiring, Running, StaysStrange, Works, WorksAt, awaited_in, copying, due, ends, is_strange, opened, order_of, retiring}
+
+-- ---- a plan
+
+one_plan : (a b : Planned) → Some a ≡ Some b → a ≡ b
+one_plan a b e = cc
+
+-- a plan that gives out a call has one event less before it
+gives_fewer : (old new : Planned) (request : Asked) → Gives old new request → plan_left new + 1 ≡ plan_left old
+gives_fewer old new request g =
+    let calls : length old.calls ≡ length new.calls + 1 = ap (λ (c : Calls). length c) g.next ∙ omega arith in
+    let before : is_one old.out ≡ 0 = ap is_one g.free in
+    let after : is_one new.out ≡ 1 = ap is_one g.out in
+    omega arith
+
+out_one : (plan : Planned) (made : Made) → plan.out ≡ Some made.request.id → is_one plan.out ≡ 1
+out_one plan made e = ap is_one e
+
+-- and so does one whose outcome is in
+settled_fewer : (plan : Planned) (made : Made) → plan.out ≡ Some made.request.id
+    → length (plan_after plan made).calls + 0 + 1 ≡ length plan.calls + is_one plan.out → plan_left (plan_after plan made) + 1 ≡ plan_left plan
+settled_fewer plan made out one = (let o : is_one plan.out ≡ 1 = out_one plan made out in omega arith)
+
+asked_fewer : (stage : Stage) (old new : Planned) (taking pages : ℕ) → plan_of stage ≡ Some old → plan_left new + 1 ≡ plan_left old
+    → stage_left (with_plan stage new) taking pages < stage_left stage taking pages
+asked_fewer (Format plan) old new taking pages is fewer = (let same : plan_left plan ≡ plan_left old = ap plan_left (one_plan plan old is) in omega arith)
+asked_fewer PassStage old new taking pages is fewer = absurd (let f : None ≡ Some old = is in cc)
+asked_fewer (PageRead plan) old new taking pages is fewer = (let same : plan_left plan ≡ plan_left old = ap plan_left (one_plan plan old is) in omega arith)
+asked_fewer (PageWrite plan) old new taking pages is fewer = (let same : plan_left plan ≡ plan_left old = ap plan_left (one_plan plan old is) in omega arith)
+asked_fewer (Close plan header tables) old new taking pages is fewer = (let same : plan_left plan ≡ plan_left old = ap plan_left (one_plan plan old is) in omega arith)
+
+-- ---- a step of the merged image
+
+-- in the pass
+passing : (old : Copying) → old.stage ≡ PassStage → copy_left old ≡ pages_left (is_taking old.taking) old.ahead
+passing old e = ap (λ (s : Stage). stage_left s (is_taking old.taking) old.ahead) e
+
+step_fewer : (ticket : ℕ) (places : Places) (old new : Copying) (made : MergeStep) → Steps ticket places old made new → copy_left new < copy_left old
+step_fewer ticket places old new (step.Call request) s =
+    subst (λ (m : Copying). copy_left m < copy_left old) (sym s.0.is)
+    (asked_fewer old.stage s.0.plan s.0.next (is_taking old.taking) old.ahead s.0.was (gives_fewer s.0.plan s.0.next request s.0.gives))
+step_fewer ticket places old new (step.ReadCall request) s =
+    let now : copy_left new ≡ plan_left s.0.reads.next + pages_left 1 new.ahead = ap copy_left s.0.reads.is in
+    let one : plan_left s.0.reads.next + 1 ≡ 2 = gives_fewer _ s.0.reads.next request s.0.reads.gives in
+    let was : copy_left old ≡ pages_left (is_taking old.taking) old.ahead = passing old s.0.reads.stage in
+    let free : is_taking old.taking ≡ 0 = ap is_taking s.0.reads.free in
+    let more : old.ahead ≡ new.ahead + 1 = s.0.reads.fewer in
+    omega arith
+step_fewer ticket places old new (step.PageCall request) s =
+    let now : copy_left new ≡ plan_left s.0.next + pages_left 0 old.ahead = ap copy_left s.0.is in
+    let one : plan_left s.0.next + 1 ≡ 2 = gives_fewer _ s.0.next request s.0.gives in
+    let was : copy_left old ≡ pages_left (is_taking old.taking) old.ahead = passing old s.0.stage in
+    let taking : is_taking old.taking ≡ 1 = ap is_taking s.0.taking in
+    omega arith
+step_fewer ticket places old new (step.TableCall request) s =
+    let now : copy_left new ≡ plan_left s.0.writes.next = ap copy_left s.0.writes.is in
+    let one : plan_left s.0.writes.next + 1 ≡ 10 = gives_fewer _ s.0.writes.next request s.0.writes.gives in
+    let was : copy_left old ≡ pages_left (is_taking old.taking) old.ahead = passing old s.0.writes.stage in
+    omega arith
+step_fewer ticket places old new step.Zero s =
+    let now : copy_left new ≡ stage_left old.stage (is_taking old.taking) new.ahead = ap copy_left s.takes.is in
+    let pass : stage_left old.stage (is_taking old.taking) new.ahead ≡ pages_left (is_taking old.taking) new.ahead = ap (λ (g : Stage). stage_left g (is_taking old.taking) new.ahead) s.takes.stage in
+    let was : copy_left old ≡ pages_left (is_taking old.taking) old.ahead = passing old s.takes.stage in
+    let more : old.ahead ≡ new.ahead + 1 = s.takes.fewer in
+    omega arith
+
+-- ---- a step of a merge
+
+few_calls : (state : SlotState) → length (format_calls state) ≤ 3
+few_calls Raw = omega arith
+few_calls Closed = omega arith
+few_calls OpenSlot = omega arith
+few_calls Writing = omega arith
+
+plus_list : (a b list n : ℕ) → a < b → n ≡ a + list → n < b + list
+plus_list a b list n l e = omega arith
+
+more_list : (b list n : ℕ) → 0 < b → n ≡ list → n < b + list
+more_list b list n some e = omega arith
+
+copies_fewer : (ticket : ℕ) (places : Places) (running : Running) (old : Copying) (made : MergeStep) (new : Doing) (most : ℕ) → CopiesOn ticket places old made new
+    → copy_left old ≤ most → doing_left running new < most + (6 * length running.before + 1)
+copies_fewer ticket places running old made new most c few =
+    plus_list (copy_left c.copy) most (6 * length running.before + 1) (doing_left running new)
+    (less (copy_left c.copy) (copy_left old) most (step_fewer ticket places old c.copy made c.steps) few) (ap (doing_left running) c.is)
+  where
+    less : (a b m : ℕ) → a < b → b ≤ m → a < m
+    less a b m l e = omega arith
+
+due_most : (running : Running) (serial : ℕ) (state : SlotState) → copy_left (begun_copy (order_of running serial state)) ≤ 16 + 4 * few_pages running.source.pages
+due_most running serial state = sums (length (format_calls state)) (few_pages running.source.pages) (few_calls state)
+  where
+    sums : (n pages : ℕ) → n ≤ 3 → 2 * n + 0 + (2 * 0 + 4 * pages + 10) ≤ 16 + 4 * pages
+    sums n pages few = omega arith
+
+works_at : (serial : ℕ) (state : SlotState) (ticket : ℕ) (places : Places) (running : Running) (old : Doing) (made : MergeStep) (new : Doing)
+    → WorksAt serial state ticket places running old made new → doing_left running new < doing_left running old
+works_at serial state ticket places running due made new w =
+    copies_fewer ticket places running (begun_copy (order_of running serial state)) made new _ w (due_most running serial state)
+works_at serial state ticket places running (copying copy) made new w = copies_fewer ticket places running copy made new (copy_left copy) w (omega arith)
+works_at serial state ticket places running (opened number) made new w = absurd w
+works_at serial state ticket places running (retiring r) made new w =
+    plus (plan_left w.next) (plan_left r.plan) _ (doing_left running new) (gives_fewer r.plan w.next w.request w.gives) (ap (doing_left running) w.is)
+  where
+    plus : (a b later n : ℕ) → a + 1 ≡ b → n ≡ a + later → n < b + later
+    plus a b later n l e = omega arith
+
+-- the source and the images that were there stay
+same_doing : (old new : Running) → new ≡ record old { doing = new.doing } → running_left new ≡ doing_left old new.doing
+same_doing old new e = ap running_left e
+
+works : (serial : ℕ) (state : SlotState) (ticket : ℕ) (places : Places) (old : Option Running) (made : MergeStep) (new : Option Running)
+    → Works serial state ticket places old made new → left_of new < left_of old
+works serial state ticket places old made new w =
+    subst (λ (o : Option Running). left_of o < left_of old) (sym w.is)
+    (subst (λ (o : Option Running). running_left w.next < left_of o) (sym w.was)
+    (subst (λ n. n < running_left w.running) (sym (same_doing w.running w.next w.works.is))
+    (works_at serial state ticket places w.running w.running.doing made w.next.doing w.works.works)))
+
+-- ---- an outcome
+
+goes_on_fewer : (old new : Copying) (made : Made) → GoesOn old made new → copy_left new < copy_left old
+goes_on_fewer old new made g =
+    subst (λ (m : Copying). copy_left m < copy_left old) (sym g.is)
+    (by (plan_after g.plan made).calls refl)
+  where
+    fewer : plan_left (plan_after g.plan made) + 1 ≡ plan_left g.plan
+    fewer = settled_fewer g.plan made g.awaited.out g.one
+
+    ended : (stage : Stage) → plan_of stage ≡ Some g.plan → (IsClosing stage → ⊥) → stage_left PassStage (is_taking old.taking) old.ahead < stage_left stage (is_taking old.taking) old.ahead
+    ended (Format plan) is none = (let same : plan_left plan ≡ plan_left g.plan = ap plan_left (one_plan plan g.plan is) in omega (arith, fewer))
+    ended PassStage is none = absurd (let f : None ≡ Some g.plan = is in cc)
+    ended (PageRead plan) is none = (let same : plan_left plan ≡ plan_left g.plan = ap plan_left (one_plan plan g.plan is) in omega (arith, fewer))
+    ended (PageWrite plan) is none = (let same : plan_left plan ≡ plan_left g.plan = ap plan_left (one_plan plan g.plan is) in omega (arith, fewer))
+    ended (Close plan header tables) is none = absurd (none tt)
+
+    by : (calls : Calls) → (plan_after g.plan made).calls ≡ calls
+        → stage_left (stage_after old.stage (plan_after g.plan made) calls) (is_taking old.taking) old.ahead < copy_left old
+    by [] e = ended old.stage g.awaited.was (λ closing. g.closes closing e)
+    by (call ∷ calls) e = asked_fewer old.stage g.plan (plan_after g.plan made) (is_taking old.taking) old.ahead g.awaited.was fewer
+
+opens_some : (old : Copying) (made : Made) (one : NewImage) → Opens old made one → 0 < copy_left old
+opens_some old made one o =
+    let is : copy_left old ≡ plan_left o.plan = ap (λ (s : Stage). stage_left s (is_taking old.taking) old.ahead) o.was in
+    let out : is_one o.plan.out ≡ 1 = out_one o.plan made o.out in
+    omega arith
+
+-- an image of the list has something before it
+retiring_some : (r : Retiring) → IsUnderWay r.plan → 0 < retiring_left r
+retiring_some r under = by r.plan.out refl
+  where
+    calls : (cs : Calls) → (cs ≢ []) → 0 < length cs
+    calls [] some = absurd (some refl)
+    calls (c ∷ cs) some = omega arith
+
+    by : (o : Option _) → r.plan.out ≡ o → 0 < retiring_left r
+    by None e = (let n : 0 < length r.plan.calls = calls r.plan.calls (under.some e) in omega arith)
+    by (Some id) e = (let n : is_one r.plan.out ≡ 1 = ap is_one e in omega arith)
+
+doing_some : (running : Running) (doing : Doing) → IsRunningAt running doing → 0 < doing_left running doing
+doing_some running due is = omega arith
+doing_some running (copying copy) is = omega arith
+doing_some running (opened serial) is = omega arith
+doing_some running (retiring r) is = retiring_some r is.under_way
+
+hands_due : (running : Running) (old : Doing) (done : MergeProgress) (new : Doing) → StaysStrange old done new → is_strange done ≡ false → doing_left running new < doing_left running old
+hands_due running old progress.Strange new h strange = absurd (both_ways true strange refl)
+hands_due running old progress.Failed new h strange = absurd h
+hands_due running old progress.More new h strange = absurd h
+hands_due running old (progress.Opened one) new h strange = absurd h
+hands_due running old (progress.Closed one) new h strange = absurd h
+hands_due running old (progress.Merged serial) new h strange = absurd h
+
+hands_copying : (running : Running) (old : Copying) (made : Made) (done : MergeProgress) (new : Doing) → HandsCopying old made done new → is_strange done ≡ false → ends done ≡ false
+    → doing_left running new < doing_left running (copying old)
+hands_copying running old made progress.Strange new h strange goes = absurd (both_ways true strange refl)
+hands_copying running old made progress.Failed new h strange goes = absurd (both_ways true goes refl)
+hands_copying running old made progress.More new h strange goes =
+    plus_list (copy_left h.copy) (copy_left old) (6 * length running.before + 1) (doing_left running new) (goes_on_fewer old h.copy made h.hands) (ap (doing_left running) h.is)
+hands_copying running old made (progress.Opened one) new h strange goes =
+    more_list (copy_left old) (6 * length running.before + 1) (doing_left running new) (opens_some old made one h.hands) (ap (doing_left running) h.is)
+hands_copying running old made (progress.Closed one) new h strange goes = absurd h
+hands_copying running old made (progress.Merged serial) new h strange goes = absurd h
+
+within_list : {X : Type 0} (xs : List X) (k : ℕ) (x : X) → slice_get xs k ≡ Some x → k < length xs
+within_list {X} [] k x e = absurd (let f : ◌≡◌ {A = Option X} None (Some x) = e in cc)
+within_list (y ∷ xs) zero x e = omega arith
+within_list (y ∷ xs) (suc k) x e = (let l : k < length xs = within_list xs k x e in omega arith)
+
+-- the image that was closed had one event left, and the next has six
+next_fewer : (one later length ended n : ℕ) → one ≡ 1 → later ≡ 6 * (length - (ended + 1)) → ended + 1 < length → n ≡ 6 + 6 * (length - (ended + 1 + 1)) → n < one + later
+next_fewer one later length ended n o l some e = (let f : length - (ended + 1) ≡ (length - (ended + 1 + 1)) + 1 = omega arith in omega arith)
+
+goes_with_fewer : (old new : Retiring) (made : Made) → GoesOnWith old made new → retiring_left new < retiring_left old
+goes_with_fewer old new made g =
+    subst (λ (r : Retiring). retiring_left r < retiring_left old) (sym g.is)
+    (plus (plan_left (plan_after old.plan made)) (plan_left old.plan) (6 * (length old.list - (old.ended + 1))) (settled_fewer old.plan made g.done.out g.done.one))
+  where
+    plus : (a b later : ℕ) → a + 1 ≡ b → a + later < b + later
+    plus a b later e = omega arith
+
+ends_fewer : (old new : Retiring) (made : Made) → IsLastOf old made → EndsOne old new → retiring_left new < retiring_left old
+ends_fewer old new made last e =
+    next_fewer (plan_left old.plan) (6 * (length old.list - (old.ended + 1))) (length old.list) old.ended (retiring_left new)
+    (let o : is_one old.plan.out ≡ 1 = out_one old.plan made last.done.out in
+    let n : length (plan_after old.plan made).calls ≡ 0 = ap (λ (c : Calls). length c) last.last in
+    let s : length (plan_after old.plan made).calls + 0 + 1 ≡ length old.plan.calls + is_one old.plan.out = last.done.one in
+    omega arith)
+    refl (within_list old.list (old.ended + 1) e.next e.there) (ap retiring_left e.is)
+
+hands_closing : (old new : Retiring) (made : Made) (done : MergeProgress) → HandsClosing old made done new → is_strange done ≡ false → ends done ≡ false → retiring_left new < retiring_left old
+hands_closing old new made progress.Strange h strange goes = absurd (both_ways true strange refl)
+hands_closing old new made progress.Failed h strange goes = absurd (both_ways true goes refl)
+hands_closing old new made progress.More (inl h) strange goes = goes_with_fewer old new made h.0
+hands_closing old new made progress.More (inr h) strange goes = ends_fewer old new made h.0 h.1
+hands_closing old new made (progress.Opened one) h strange goes = absurd h
+hands_closing old new made (progress.Closed one) h strange goes = goes_with_fewer old new made h.goes
+hands_closing old new made (progress.Merged serial) h strange goes = absurd (both_ways true goes refl)
+
+hands_at : (running : Running) (old : Doing) (made : Made) (done : MergeProgress) (new : Doing) → HandsAt old made done new → is_strange done ≡ false → ends done ≡ false
+    → doing_left running new < doing_left running old
+hands_at running due made done new h strange goes = hands_due running due done new h strange
+hands_at running (copying copy) made done new h strange goes = hands_copying running copy made done new h strange goes
+hands_at running (opened serial) made done new h strange goes = hands_due running (opened serial) done new h strange
+hands_at running (retiring r) made done new h strange goes =
+    subst (λ (d : Doing). doing_left running d < retiring_left r) (sym h.is) (hands_closing r h.next made done h.hands strange goes)
+
+-- what goes on has less, and what ends has nothing
+hands_to : (old next : Running) (made : Made) (done : MergeProgress) → HandsTo old made done next → is_strange done ≡ false → IsRunning old
+    → left_of (if ends done then None else Some next) < running_left old
+hands_to old next made done h strange is = by (ends done) refl
+  where
+    by : (b : Bool) → ends done ≡ b → left_of (if b then None else Some next) < running_left old
+    by true e = doing_some old old.doing is
+    by false e = subst (λ n. n < running_left old) (sym (same_doing old next h.is)) (hands_at old old.doing made done next.doing h.hands strange e)
+
+handed : (old : Option Running) (made : Made) (done : MergeProgress) (new : Option Running) → IsHanded old made done new → is_strange done ≡ false → AreRunning old → left_of new < left_of old
+handed old made done new h strange are =
+    subst (λ (o : Option Running). left_of o < left_of old) (sym h.is)
+    (subst (λ (o : Option Running). left_of (if ends done then None else Some h.next) < left_of o) (sym h.was)
+    (hands_to h.running h.next made done h.hands strange (subst AreRunning h.was are)))
+
+hands : (old : Option Running) (made : Made) (done : MergeProgress) (new : Option Running) → Hands old made done new → is_strange done ≡ false → AreRunning old → left_of new < left_of old
+hands old made progress.Strange new h strange are = absurd (both_ways true strange refl)
+hands old made progress.Failed new h strange are = handed old made progress.Failed new h strange are
+hands old made progress.More new h strange are = handed old made progress.More new h strange are
+hands old made (progress.Opened one) new h strange are = handed old made (progress.Opened one) new h strange are
+hands old made (progress.Closed one) new h strange are = handed old made (progress.Closed one) new h strange are
+hands old made (progress.Merged serial) new h strange are = handed old made (progress.Merged serial) new h strange are
+
+-- ---- the list
+
+retires : (running : Running) (list : List Retired) (done : MergeProgress) (new : Option Running) → Retires (Some running) list done new → is_strange done ≡ false
+    → length list ≤ length running.before → left_of new < left_of (Some running)
+retires running list progress.Strange new h strange few = absurd (both_ways true strange refl)
+retires running list progress.Failed new h strange few = absurd h
+retires running list progress.More new h strange few =
+    let is : running ≡ h.running = one_running running h.running h.was in
+    let was : running_left running ≡ 6 * length running.before + 1 = ap (doing_left running) (ap (λ (r : Running). r.doing) is ∙ h.opened) in
+    let now : left_of new ≡ 2 * 3 + 0 + 6 * (length list - (0 + 1)) = ap left_of h.is in
+    let some : 0 < length list = within_list list 0 h.first h.there in
+    omega arith
+  where
+    one_running : (a b : Running) → Some a ≡ Some b → a ≡ b
+    one_running a b e = cc
+retires running list (progress.Opened one) new h strange few = absurd h
+retires running list (progress.Closed one) new h strange few = absurd h
+retires running list (progress.Merged serial) new h strange few = by running.doing h.awaited (ap left_of h.is)
+  where
+    by : (d : Doing) → awaited_in d ≡ Some serial → left_of new ≡ 0 → left_of new < doing_left running d
+    by due e none = absurd (let f : ◌≡◌ {A = Option ℕ} None (Some serial) = e in cc)
+    by (copying copy) e none = absurd (let f : ◌≡◌ {A = Option ℕ} None (Some serial) = e in cc)
+    by (opened number) e none = omega arith
+    by (retiring r) e none = absurd (let f : ◌≡◌ {A = Option ℕ} None (Some serial) = e in cc)
+
+idle : (running : Option Running) → AreRunning running → left_of running ≡ 0 ↔ running ≡ None
+idle None are = (λ e. refl, λ e. refl)
+idle (Some running) are = (λ e. absurd (omega (arith, e, doing_some running running.doing are)), λ e. absurd (let f : Some running ≡ None = e in cc))
+
+pub left_laws : LeftLaws
+left_laws = record {
+  idle = idle;
+  works = works;
+  hands = hands;
+  retires = retires;
+}

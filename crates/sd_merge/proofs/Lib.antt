@@ -1,0 +1,9 @@
+pub mod PageLemmas
+pub mod PlanLemmas
+pub mod PassLemmas
+pub mod LeftLemmas
+pub mod GatheredLemmas
+pub mod TableLemmas
+pub mod OrderLemmas
+pub mod MergingLemmas
+pub mod FileLemmas

@@ -1,0 +1,53 @@
+-- A plan that a merged image begins, and what holds of the image then.
+use Rattle.std.proofs.Common.{◌≡◌, ℕ, ◌+◌, ◌<◌, ◌≤◌, ◌^◌, List, length, Option, Some, None, refl, sym, ◌∙◌, ap, subst, arith}
+use Rattle.sd_gate.specs.Inspections.{nothing}
+use Rattle.sd_gate.specs.PlanRuns.{AreChanges}
+use Rattle.sd_gate.specs.Plans.{Gives, Planned, begun}
+use Rattle.sd_gate.specs.Requests.{Asked}
+use Rattle.sd_gate.specs.Sequences.{Calls, IsBody, body_calls}
+use Rattle.sd_image.specs.declared.header.Header.{Header}
+use Rattle.sd_image.specs.Table.{Listed, table_text}
+use Rattle.sd_image.specs.Words.{number_bytes}
+use Rattle.sd_rounds.specs.Making.{IsUnderWay}
+use Rattle.sd_rounds.specs.Pass.{Entry, Place}
+use Rattle.sd_merge.specs.declared.copy_order.CopyOrder.{CopyOrder}
+use Rattle.sd_merge.specs.declared.stage.Stage.{Stage}
+use Rattle.sd_merge.specs.declared.stage.Stage.TheVariants.{Pass as PassStage}
+use Rattle.sd_merge.specs.Copying.{IsFree, IsFreeOrRead, IsReadyFor, header_of}
+
+-- a table's text has bytes
+table_is_long : (spaces : List Listed) → 0 < length (table_text spaces)
+unfolding table_text number_bytes
+table_is_long spaces = omega arith
+
+pub gives_under_way : (old new : Planned) (request : Asked) → IsUnderWay old → Gives old new request → IsUnderWay new
+gives_under_way old new request under g = record {
+  known = g.same_awaits ∙ under.known;
+  changes = (subst AreChanges g.next under.changes).1;
+  some = λ free none. absurd (let e : None ≡ Some request.id = sym free ∙ g.out in cc);
+}
+
+body_under_way : (slot : ℕ) (header : Header) (table : List ℕ) → IsUnderWay (begun slot (body_calls header table) nothing)
+body_under_way slot header table = record {
+  known = refl;
+  changes = (tt, (tt, (tt, (tt, (tt, tt)))));
+  some = λ free none. absurd (let f : 5 ≡ 0 = ap (λ (c : Calls). length c) none in omega (arith, f));
+}
+
+-- few data pages, and a table
+pub is_body : (order : CopyOrder) (header : Header) (text : List ℕ) (tables : List Listed) (stored taking ahead len : ℕ) → header ≡ header_of order stored len
+    → stored + taking + ahead ≤ 65536 → text ≡ table_text tables → IsBody header text
+is_body order header text tables stored taking ahead len is few same = record {
+  few = subst (λ n. n ≤ 2 ^ 39) (sym (ap (λ (h : Header). h.pages) is)) (omega arith);
+  some = subst (λ (t : List ℕ). 0 < length t) (sym same) (table_is_long tables);
+}
+
+pub closes_under_way : (slot : ℕ) (header : Header) (text : List ℕ) (plan : Planned) → plan ≡ begun slot (body_calls header text) nothing → IsUnderWay plan
+closes_under_way slot header text plan is = subst (λ (p : Planned). IsUnderWay p) (sym is) (body_under_way slot header text)
+
+-- in the pass, where no page is being taken, none was read
+pub free_in_pass : (entries : List Entry) (taking : Option Place) (read : Option (List ℕ)) (stage : Stage) → stage ≡ PassStage → taking ≡ None → IsReadyFor entries taking read stage → IsFree taking read
+free_in_pass entries taking read stage pass none ready = record {
+  taking = none;
+  read = subst (λ (t : Option Place). IsFreeOrRead entries t read) none (subst (λ (s : Stage). IsReadyFor entries taking read s) pass ready);
+}

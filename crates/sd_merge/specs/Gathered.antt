@@ -1,0 +1,81 @@
+-- The pages of a source that were taken, kept as the runs of each space that has any, and the table that they make.
+use Rattle.std.specs.Prelude.{◌≡◌, ◌≢◌, ℕ, ◌+◌, ◌≤◌, ◌==◌, if◌then◌else◌, List, [], ◌∷◌, ◌++◌, map, Option, Some, None}
+use Rattle.sd_areas.specs.declared.area.Area.{Area}
+use Rattle.sd_image.specs.declared.header.Header.{Header}
+use Rattle.sd_image.specs.declared.header.Kind.TheVariants.{PreDump, Merged}
+use Rattle.sd_image.specs.declared.run.Run.{Run}
+use Rattle.sd_image.specs.declared.run.RunKind.{RunKind}
+use Rattle.sd_image.specs.declared.table.SpaceTable.{SpaceTable}
+use Rattle.sd_image.specs.Runs.{AreRunsOf, end_of}
+use Rattle.sd_image.specs.Table.{AreRuns, IsTable, Listed}
+use Rattle.sd_rounds.specs.Made.{entries_listed}
+use Rattle.sd_rounds.specs.Making.{TablesEntries}
+use Rattle.sd_rounds.specs.Pass.{Entry, Place, data_pages, place_of}
+use Rattle.sd_rounds.specs.Rises.{last_of}
+use Rattle.sd_rounds.specs.Tables.{EndBefore, entries_in, listed}
+
+-- a space with some pages, none of them in a parent, at a number or above it
+pub record IsGathered (number : ℕ) (t : Listed) : Type 0 where
+  pub least : number ≤ t.space
+  pub runs : AreRuns 0 None t.runs
+  pub some : t.runs ≢ []
+
+-- spaces rising by number
+abbrev pub AreGathered : ℕ → List Listed → Type 0
+AreGathered least [] = Unit {0}
+AreGathered least (t ∷ tables) = IsGathered least t × AreGathered (t.space + 1) tables
+
+-- they end behind a page, or there is none
+abbrev pub EndBehind : Option Place → List Listed → Type 0
+EndBehind None tables = tables ≡ []
+EndBehind (Some at) tables = EndBefore (at.0, at.1 + 1) tables
+
+-- what holds of the pages that were taken, with the last of them
+pub record AreCopies (spaces : List SpaceTable) (last : Option Place) : Type 0 where
+  pub gathered : AreGathered 0 (listed spaces)
+  pub is_last : last ≡ last_of None (entries_in spaces)
+  pub ends : EndBehind last (listed spaces)
+
+-- a page was put behind the others
+pub record IsPut (old new : List Listed) (at : Place) (kind : RunKind) : Type 0 where
+  pub entries : entries_listed new ≡ entries_listed old ++ (record { place = at; kind = kind }) ∷ []
+  pub gathered : AreGathered 0 new
+  pub ends : EndBefore (at.0, at.1 + 1) new
+
+-- a space with one page was put behind the others
+pub record IsBegun (old new : List SpaceTable) (at : Place) (kind : RunKind) : Type 0 where
+  pub table : SpaceTable
+  pub behind : new ≡ old ++ table ∷ []
+  pub space : table.space ≡ at.0
+  pub runs : AreRunsOf 0 ((at.1, kind) ∷ []) table.runs.items
+  pub end : end_of table.runs.items ≡ at.1 + 1
+
+-- ---- The table of the merged image
+
+-- the runs of the first space, if it has this number
+abbrev pub front_runs : ℕ → List Listed → List Run
+front_runs space [] = []
+front_runs space (t ∷ tables) = if t.space == space then t.runs else []
+
+-- the spaces behind it
+abbrev pub behind_space : ℕ → List Listed → List Listed
+behind_space space [] = []
+behind_space space (t ∷ tables) = if t.space == space then tables else t ∷ tables
+
+-- the spaces and areas of a source, each with the runs that were taken of it
+abbrev pub tables_of : List Listed → List Listed → List Listed
+tables_of [] taken = []
+tables_of (s ∷ source) taken =
+    (record { space = s.space; areas = s.areas; runs = front_runs s.space taken }) ∷ tables_of source (behind_space s.space taken)
+
+abbrev pub own_areas : Listed → ℕ × List Area
+own_areas s = (s.space, s.areas)
+
+-- Where these are all pages of a source, in its order, they make a table of a merged image, with the source's areas.
+pub record RepeatsTable (source : List Listed) (entries : List Entry) (header : Header) (tables : List Listed) : Type 0 where
+  pub table : TablesEntries entries header tables
+  pub areas : map own_areas tables ≡ map own_areas source
+
+abbrev pub IsTableOf : List Listed → List Entry → List Listed → Type 0
+IsTableOf source entries tables = (old header : Header) → IsTable old source → old.kind ≢ PreDump → map place_of entries ≡ map place_of (entries_listed source)
+    → header.kind ≡ Merged → header.parent ≡ 0 → header.pages ≡ data_pages entries → RepeatsTable source entries header tables

@@ -1,0 +1,489 @@
+//! One merged image in the making: its slot is formatted, the pages of its source are taken, and its gate is opened.
+ghost use Rattle.std.specs.Prelude.{◌≡◌, ◌≢◌, ◌↔◌, ◌<◌, ◌≤◌, ◌^◌, ◌∷◌, [], None, Some, Err, IsSome, IsNone, IsTrue, IfSome, IfOk, IfErr, OnOk, OnErr, MatchOption, length, true, false};
+ghost use Rattle.sd_image.specs.Header.{HasWords};
+ghost use Rattle.sd_gate.specs.declared.call.Call.TheVariants.{Read};
+ghost use Rattle.sd_gate.specs.Calls.{is_done};
+ghost use Rattle.sd_gate.specs.Inspections.{nothing};
+ghost use Rattle.sd_gate.specs.Plans.{Gives, begun};
+ghost use Rattle.sd_gate.specs.Sequences.{data_place};
+ghost use Rattle.sd_chain.specs.Passes.{IsBehind, IsNextPage};
+ghost use Rattle.sd_chain.specs.Ways.{AreImages};
+ghost use Rattle.sd_rounds.specs.Making.{IsUnderWay};
+ghost use Rattle.sd_rounds.specs.Pass.{data_pages};
+ghost use Rattle.sd_merge.specs.declared.stage.Stage.TheVariants.{Close, Format, PageWrite, Pass as PassStage};
+ghost use Rattle.sd_merge.specs.declared.work_error.WorkError.TheVariants.{Busy, Idle, Lost, OutOfMemory};
+ghost use Rattle.sd_merge.specs.Copying.{HandsIn, IsAskedBy, IsLost, IsAbsent, IsReading, IsSoundCopying, ReadsPage, Steps, TakesZero, WritesPage, WritesTable, begun_copy, cursor, header_of, out_of, page_of};
+ghost use Rattle.sd_merge.specs.Left.{copy_left};
+ghost use Rattle.sd_merge.specs.PlanSteps.{IsPageCallOf, IsReadCallOf, IsTableCallOf, IsZeroStep, at_stage};
+
+use crate::copies::Copies;
+use crate::copy_order::CopyOrder;
+use crate::copy_progress::CopyProgress;
+use crate::merge_step::MergeStep;
+use crate::plans::{ask, first_request, plan_left, settle};
+use crate::source::PAGE_LIMIT;
+use crate::stage::Stage;
+use crate::work_error::WorkError;
+use sd_areas::{PAGE_SIZE, PageNo, SpaceId};
+use sd_chain::{Catalog, Found, PlacedTable};
+use sd_gate::{Outcome, Plan, Request, RequestId, Settled, Worker};
+use sd_image::{Header, Kind, RunKind, encode_table, few_pages};
+use sd_rounds::NewImage;
+use std::alloc::{AllocError, Global};
+use std::marker::Model;
+use std::mem;
+
+/// A merged image that is made of its source, page by page.
+#[derive(Debug, Drop)]
+pub struct Copier {
+    alloc: Global,
+    order: CopyOrder,
+    copies: Copies,
+    /// How many data pages were taken up.
+    stored: usize,
+    /// How many pages of the source are left.
+    ahead: u64,
+    /// The page that is read, or that was read and isn't taken yet.
+    taking: Option<(SpaceId, PageNo)>,
+    /// What was read.
+    read: Option<Vec<u8>>,
+    /// The buffer of the page before.
+    spare: Vec<u8>,
+    stage: Stage,
+}
+
+impl Model for Copier {
+    ghost use Rattle.std.specs.Option.{option_map};
+    ghost use Rattle.sd_merge.specs.Copying.{Copying, IsCopying, page_of};
+
+    ghost Value = { Copying };
+
+    ghost view = { λ m. record {
+      order = m.order;
+      entries = m.copies;
+      ahead = m.ahead;
+      taking = m.taking;
+      read = option_map (λ b. page_of b.items) m.read;
+      stage = m.stage;
+    } };
+
+    ghost invariant = { λ m. IsCopying m.order.slot m.copies m.stored m.ahead m.taking
+        (option_map (λ b. page_of b.items) m.read) m.stage };
+}
+
+/// The header of a merged image: it stands for what its source stands for, and has no parent.
+fn merged_header(order: CopyOrder, pages: u64, table_len: u64) -> Header
+    ensures numbers { result ≡ header_of order pages table_len }
+    ensures words { HasWords result }
+{
+    Header {
+        kind: Kind::Merged,
+        serial: order.serial,
+        stands_for: order.source.stands_for,
+        parent: 0,
+        checkpoint: order.source.checkpoint,
+        pages,
+        table_len,
+    }
+}
+
+/// Whether a page is behind this one, or behind none.
+fn is_behind(after: Option<(SpaceId, PageNo)>, space: SpaceId, page: PageNo) -> bool
+    ensures { IsTrue result ↔ IsBehind after (space, page) }
+{
+    let Some((last, number)) = after else {
+        return true;
+    };
+    last.number() < space.number()
+        || last.number() == space.number() && number.number() < page.number()
+}
+
+/// The number of the data page that begins at a byte of a file.
+fn place_at(offset: u64) -> usize
+    ensures { (place : _) → offset ≡ data_place place → result ≡ place }
+{
+    (offset.saturating_sub(PAGE_SIZE as u64) / PAGE_SIZE as u64) as usize
+}
+
+/// Asks for the read of a data page. None where its number is beyond those that an image can have.
+fn read_request(slot: usize, place: usize, buffer: Vec<u8>, ticket: u64) -> Option<(Plan, Request)>
+    requires whole { length buffer.items ≡ 4096 }
+    ensures gives { IfSome result (λ read. Gives
+        (begun slot ((Read (data_place place), buffer.items) ∷ []) nothing) read.0 read.1
+        × IsReading read.0 × IsAskedBy ticket read.1) }
+    ensures none { IsNone result → 2 ^ 39 ≤ place }
+{
+    let mut plan = Plan::read_page(slot, place, buffer);
+    match plan.take(Worker::Merger, ticket) {
+        Ok(Some(request)) => Some((plan, request)),
+        Ok(None) | Err(_) => None,
+    }
+}
+
+impl Copier {
+    /// An image that begins.
+    pub(crate) fn new(alloc: Global, order: CopyOrder) -> Self
+        ensures { result ≡ begun_copy order }
+    {
+        Copier {
+            alloc,
+            order,
+            copies: Copies::new(alloc),
+            stored: 0,
+            ahead: order.source.pages.min(PAGE_LIMIT),
+            taking: None,
+            read: None,
+            spare: Vec::new(alloc),
+            stage: Stage::Format(Plan::format(order.slot, order.state)),
+        }
+    }
+
+    /// Makes the next step.
+    ///
+    /// # Errors
+    ///
+    /// Busy where a request is out. Lost where the catalog doesn't have the next page. Out of memory where a page, its
+    /// entry or the table finds no room, which is in the pass alone. Nothing changed.
+    pub(crate) fn work(&mut self, catalog: &Catalog, ticket: u64) -> Result<MergeStep, WorkError>
+        ensures steps { IfOk result (λ step. Steps ticket catalog.now self.old step self.new) }
+        ensures busy { result ≡ Err Busy ↔ IsSome (out_of self.old.stage) }
+        ensures wanted { result ≡ Err OutOfMemory → self.old.stage ≡ PassStage }
+        ensures lost { result ≡ Err Lost → IsLost catalog.now self.old }
+        ensures errors { IfErr result (λ e. e ≢ Idle) }
+        ensures err { OnErr result (self.new ≡ self.old) }
+    {
+        match &mut self.stage {
+            Stage::Pass => self.pass(catalog, ticket),
+            Stage::Format(plan) => ask(plan, ticket),
+            Stage::PageRead(_) => Err(WorkError::Busy),
+            Stage::PageWrite(plan) => ask(plan, ticket),
+            Stage::Close { plan, .. } => ask(plan, ticket),
+        }
+    }
+
+    /// Makes the next step of the pass.
+    fn pass(&mut self, catalog: &Catalog, ticket: u64) -> Result<MergeStep, WorkError>
+        requires { self.old.stage ≡ PassStage }
+        ensures steps { IfOk result (λ step. Steps ticket catalog.now self.old step self.new) }
+        ensures lost { result ≡ Err Lost → IsLost catalog.now self.old }
+        ensures errors { IfErr result (λ e. (e ≢ Idle) × (e ≢ Busy)) }
+        ensures err { OnErr result (self.new ≡ self.old) }
+    {
+        if let Some((space, page)) = self.taking {
+            return self.write_page(space, page, ticket);
+        }
+        let serial = self.order.source.serial;
+        let Some((space, page)) = catalog.next_page(serial, self.copies.last()) else {
+            return self.close(catalog, ticket);
+        };
+        self.take(catalog, space, page, ticket)
+    }
+
+    /// Takes the page that the source lists next.
+    fn take(
+        &mut self,
+        catalog: &Catalog,
+        space: SpaceId,
+        page: PageNo,
+        ticket: u64,
+    ) -> Result<MergeStep, WorkError>
+        requires stage { self.old.stage ≡ PassStage }
+        requires free { self.old.taking ≡ None }
+        requires next { AreImages catalog.now → IsNextPage catalog.now self.old.order.source.serial
+            (cursor self.old) (Some (space, page)) }
+        ensures steps { IfOk result (λ step. Steps ticket catalog.now self.old step self.new) }
+        ensures lost { result ≡ Err Lost → IsLost catalog.now self.old }
+        ensures errors { IfErr result (λ e. (e ≢ Idle) × (e ≢ Busy)) }
+        ensures err { OnErr result (self.new ≡ self.old) }
+    {
+        few_pages();
+        catalog.sound();
+        let serial = self.order.source.serial;
+        let last = self.copies.last();
+        if self.ahead == 0 || !is_behind(last, space, page) {
+            return Err(WorkError::Lost);
+        }
+        match catalog.resolve(serial, space, page) {
+            Some(Found::Zero) => self.take_zero(space, page),
+            Some(Found::Data { slot, offset }) => {
+                self.read_page(space, page, slot, place_at(offset), ticket)
+            }
+            None => Err(WorkError::Lost),
+        }
+    }
+
+    /// Takes the next page, which has only zeros.
+    fn take_zero(&mut self, space: SpaceId, page: PageNo) -> Result<MergeStep, WorkError>
+        requires stage { self.old.stage ≡ PassStage }
+        requires free { self.old.taking ≡ None }
+        requires some { 0 < self.old.ahead }
+        requires behind { IsBehind (cursor self.old) (space, page) }
+        ensures zero { IfOk result (λ step. IsZeroStep step × TakesZero (space, page) self.old self.new) }
+        ensures errors { IfErr result (λ e. e ≡ OutOfMemory) }
+        ensures err { OnErr result (self.new ≡ self.old) }
+    {
+        self.copies.put(space, page, RunKind::Zero)?;
+        self.ahead -= 1;
+        Ok(MergeStep::Zero)
+    }
+
+    /// Asks for the read of the next page, which has data.
+    fn read_page(
+        &mut self,
+        space: SpaceId,
+        page: PageNo,
+        slot: usize,
+        place: usize,
+        ticket: u64,
+    ) -> Result<MergeStep, WorkError>
+        requires stage { self.old.stage ≡ PassStage }
+        requires free { self.old.taking ≡ None }
+        requires some { 0 < self.old.ahead }
+        requires behind { IsBehind (cursor self.old) (space, page) }
+        ensures read { IfOk result (IsReadCallOf
+            (λ request. ReadsPage (space, page) slot place self.old request self.new
+            × IsAskedBy ticket request)) }
+        ensures beyond { result ≡ Err Lost → 2 ^ 39 ≤ place }
+        ensures errors { IfErr result (λ e. (e ≢ Idle) × (e ≢ Busy)) }
+        ensures err { OnErr result (self.new ≡ self.old) }
+    {
+        let mut buffer = mem::replace(&mut self.spare, Vec::new(self.alloc));
+        buffer.clear();
+        buffer.extend_from_slice(&[0; PAGE_SIZE])?;
+        let Some((plan, request)) = read_request(slot, place, buffer, ticket) else {
+            return Err(WorkError::Lost);
+        };
+        self.ahead -= 1;
+        self.taking = Some((space, page));
+        self.stage = Stage::PageRead(plan);
+        Ok(MergeStep::ReadCall(request))
+    }
+
+    /// Takes the page that was read, and asks for its write.
+    fn write_page(
+        &mut self,
+        space: SpaceId,
+        page: PageNo,
+        ticket: u64,
+    ) -> Result<MergeStep, WorkError>
+        requires stage { self.old.stage ≡ PassStage }
+        requires taking { self.old.taking ≡ Some (space, page) }
+        ensures page { IfOk result (IsPageCallOf (λ request. WritesPage self.old request self.new
+            × IsAskedBy ticket request)) }
+        ensures errors { IfErr result (λ e. e ≡ OutOfMemory) }
+        ensures err { OnErr result (self.new ≡ self.old) }
+    {
+        let Some(read) = &mut self.read else {
+            unreachable!()
+        };
+        make_whole(read)?;
+        self.copies.put(space, page, RunKind::Data)?;
+        let Some(buffer) = self.read.take() else {
+            unreachable!()
+        };
+        let mut plan = Plan::write_page(self.order.slot, self.stored, buffer);
+        let request = first_request(&mut plan, ticket);
+        self.stored += 1;
+        self.taking = None;
+        self.stage = Stage::PageWrite(plan);
+        Ok(MergeStep::PageCall(request))
+    }
+
+    /// Makes the table, and asks for its write.
+    fn close(&mut self, catalog: &Catalog, ticket: u64) -> Result<MergeStep, WorkError>
+        requires stage { self.old.stage ≡ PassStage }
+        requires free { self.old.taking ≡ None }
+        ensures table { IfOk result (IsTableCallOf (λ request. WritesTable catalog.now self.old request self.new
+            × IsAskedBy ticket request)) }
+        ensures lost { result ≡ Err Lost → IsAbsent catalog.now self.old.order.source.serial }
+        ensures errors { IfErr result (λ e. (e ≢ Idle) × (e ≢ Busy)) }
+        ensures err { OnErr result (self.new ≡ self.old) }
+    {
+        let Some(source) = catalog.image(self.order.source.serial) else {
+            return Err(WorkError::Lost);
+        };
+        let table = self.copies.table(source.table())?;
+        let text = encode_table(self.alloc, &table)?;
+        let header = merged_header(self.order, self.stored as u64, text.len() as u64);
+        let table = PlacedTable::new(self.alloc, table)?;
+        let mut plan = Plan::close_body(self.order.slot, header, text);
+        let request = first_request(&mut plan, ticket);
+        self.stage = Stage::Close {
+            plan,
+            header,
+            table,
+        };
+        Ok(MergeStep::TableCall(request))
+    }
+
+    /// What holds of every merged image in the making. It does nothing: a caller learns it.
+    pub(crate) fn sound(&self)
+        ensures { IsSoundCopying self.now }
+    {
+        let _stored = self.stored;
+    }
+
+    /// How many steps and outcomes the image has before it, at most.
+    pub(crate) fn left(&self) -> u128
+        ensures left { result ≡ copy_left self.now }
+        ensures few { result ≤ 2 ^ 65 }
+    {
+        let taking = u128::from(self.taking.is_some());
+        let pages = 2 * taking + 4 * u128::from(self.ahead) + 10;
+        match &self.stage {
+            Stage::Format(plan) => plan_left(plan) + pages,
+            Stage::Pass => pages,
+            Stage::PageRead(plan) => plan_left(plan) + pages,
+            Stage::PageWrite(plan) => plan_left(plan) + pages,
+            Stage::Close { plan, .. } => plan_left(plan),
+        }
+    }
+
+    /// Whether this is the request that is out.
+    fn is_out(&self, id: &RequestId) -> bool
+        ensures { IsTrue result ↔ out_of self.now.stage ≡ Some id.now }
+    {
+        match &self.stage {
+            Stage::Format(plan) => plan.is_out(id),
+            Stage::PageRead(plan) => plan.is_out(id),
+            Stage::PageWrite(plan) => plan.is_out(id),
+            Stage::Close { plan, .. } => plan.is_out(id),
+            Stage::Pass => false,
+        }
+    }
+
+    /// Takes the outcome of the request that is out.
+    pub(crate) fn hand_in(&mut self, outcome: Outcome) -> CopyProgress
+        ensures { HandsIn self.old outcome result self.new }
+    {
+        if !self.is_out(&outcome.id()) {
+            return CopyProgress::Strange;
+        }
+        match mem::replace(&mut self.stage, Stage::Pass) {
+            Stage::Format(plan) => self.end_format(plan, outcome),
+            Stage::PageRead(plan) => match read_of(plan, outcome) {
+                Some(buffer) => {
+                    self.read = Some(buffer);
+                    CopyProgress::More
+                }
+                None => {
+                    self.taking = None;
+                    CopyProgress::Failed
+                }
+            },
+            Stage::PageWrite(plan) => self.end_page(plan, outcome),
+            Stage::Close {
+                plan,
+                header,
+                table,
+            } => self.end_close(plan, header, table, outcome),
+            Stage::Pass => unreachable!(),
+        }
+    }
+
+    /// Takes the outcome of a call of the format.
+    fn end_format(&mut self, mut plan: Plan, outcome: Outcome) -> CopyProgress
+        requires stage { self.old.stage ≡ PassStage }
+        requires fresh { self.old.entries ≡ [] }
+        requires free { self.old.taking ≡ None }
+        requires under_way { IsUnderWay plan }
+        requires own { plan.slot ≡ self.old.order.slot }
+        requires out { plan.out ≡ Some outcome.request.id }
+        ensures { HandsIn (at_stage self.old (Format plan)) outcome result self.new }
+    {
+        match settle(&mut plan, outcome) {
+            Settled::Strange | Settled::Failed => CopyProgress::Failed,
+            Settled::More => {
+                self.stage = Stage::Format(plan);
+                CopyProgress::More
+            }
+            Settled::Finished => CopyProgress::More,
+        }
+    }
+
+    /// Takes the outcome of a page's write, and keeps its buffer for the next.
+    fn end_page(&mut self, mut plan: Plan, outcome: Outcome) -> CopyProgress
+        requires stage { self.old.stage ≡ PassStage }
+        requires free { self.old.taking ≡ None }
+        requires under_way { IsUnderWay plan }
+        requires own { plan.slot ≡ self.old.order.slot }
+        requires out { plan.out ≡ Some outcome.request.id }
+        ensures { HandsIn (at_stage self.old (PageWrite plan)) outcome result self.new }
+    {
+        match settle(&mut plan, outcome) {
+            Settled::Strange | Settled::Failed => CopyProgress::Failed,
+            Settled::More => {
+                self.stage = Stage::PageWrite(plan);
+                CopyProgress::More
+            }
+            Settled::Finished => {
+                let sd_gate::Found { first, .. } = plan.into_found();
+                if let Some(buffer) = first {
+                    self.spare = buffer;
+                }
+                CopyProgress::More
+            }
+        }
+    }
+
+    /// Takes the outcome of a call that closes the body. Behind the last the image is open.
+    fn end_close(
+        &mut self,
+        mut plan: Plan,
+        header: Header,
+        table: PlacedTable,
+        outcome: Outcome,
+    ) -> CopyProgress
+        requires stage { self.old.stage ≡ PassStage }
+        requires free { self.old.taking ≡ None }
+        requires pages { header.pages ≡ data_pages self.old.entries }
+        requires under_way { IsUnderWay plan }
+        requires own { plan.slot ≡ self.old.order.slot }
+        requires out { plan.out ≡ Some outcome.request.id }
+        ensures { HandsIn (at_stage self.old (Close plan header table)) outcome result self.new }
+    {
+        match settle(&mut plan, outcome) {
+            Settled::Strange | Settled::Failed => CopyProgress::Failed,
+            Settled::More => {
+                self.stage = Stage::Close {
+                    plan,
+                    header,
+                    table,
+                };
+                CopyProgress::More
+            }
+            Settled::Finished => CopyProgress::Opened(NewImage {
+                slot: self.order.slot,
+                header,
+                table,
+            }),
+        }
+    }
+}
+
+/// Makes a buffer that was read as long as a page. One that came back with another length is of no page: it becomes
+/// zeros.
+fn make_whole(buffer: &mut Vec<u8>) -> Result<(), AllocError>
+    ensures whole { OnOk result (length buffer.new.items ≡ 4096) }
+    ensures same { page_of buffer.new.items ≡ page_of buffer.old.items }
+{
+    if buffer.len() == PAGE_SIZE {
+        return Ok(());
+    }
+    buffer.clear();
+    buffer.extend_from_slice(&[0; PAGE_SIZE])?;
+    Ok(())
+}
+
+/// The buffer that a read filled. None where the device failed.
+fn read_of(mut plan: Plan, outcome: Outcome) -> Option<Vec<u8>>
+    requires reading { IsReading plan }
+    requires out { plan.out ≡ Some outcome.request.id }
+    ensures { MatchOption result (is_done outcome.answer ≡ false)
+        (λ buffer. (is_done outcome.answer ≡ true) × (buffer.items ≡ outcome.request.bytes)) }
+{
+    match plan.settle(outcome) {
+        Settled::Finished => plan.into_found().first,
+        Settled::More | Settled::Strange | Settled::Failed => None,
+    }
+}

@@ -1,0 +1,14 @@
+use sd_rounds::NewImage;
+
+/// What an outcome was to a merged image in the making.
+#[derive(Debug, Drop)]
+pub enum CopyProgress {
+    /// It is of no request that is out. Nothing changed.
+    Strange,
+    /// The device failed: the image makes no further call.
+    Failed,
+    /// It was done, and the image goes on.
+    More,
+    /// It was the last: the image is open.
+    Opened(NewImage),
+}

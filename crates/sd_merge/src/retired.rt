@@ -1,0 +1,6 @@
+/// An image that is closed once the merged one is open.
+#[derive(Clone, Copy, Debug, PartialEq, Eq, Hash)]
+pub struct Retired {
+    pub serial: u64,
+    pub slot: usize,
+}

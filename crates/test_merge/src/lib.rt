@@ -1,0 +1,7 @@
+//! Tests of the merger by its public names.
+#![tactic(auto)]
+
+#[cfg(test)]
+mod drive;
+#[cfg(test)]
+mod rows;
