@@ -58,6 +58,7 @@ pub struct Core {
     opener: Option<Opener>,
     numbers: Numbers,
     grows: bool,
+    committing: bool,
 }
 
 impl Model for Core {
@@ -84,6 +85,7 @@ impl Model for Core {
       opener = c.opener;
       numbers = record { checkpoint = c.numbers.checkpoint; serial = c.numbers.serial; ticket = c.numbers.ticket };
       grows = c.grows;
+      committing = c.committing;
     } };
 
     ghost invariant = { λ c. IsCore (record { number = c.number; memory = memory_of c.base })
@@ -130,6 +132,7 @@ impl Core {
                 ticket: 0,
             },
             grows: false,
+            committing: false,
         }
     }
 
@@ -309,6 +312,7 @@ impl Core {
         self.catalog = catalog;
         self.phases = phases;
         self.grows = false;
+        self.committing = false;
         Reply::Reopened(found)
     }
 

@@ -56,7 +56,7 @@ returns-then-teach c =
     let t = taught_opener c.self.inside.opener c.args.outcome c.teach.new.opener c.if-teach.ensures in
     handed_seen c.args.outcome reply.Worked _ _ _ c.self.view_is
     (handed_on c.opener_steps.ensures _ _ c.args.outcome t.opener t.next (record {
-      rest = record { closed = closed; base = refl; items = refl; memory = refl; standing = refl; catalog = refl; dumper = refl; numbers = refl; grows = refl };
+      rest = record { closed = closed; base = refl; items = refl; memory = refl; standing = refl; catalog = refl; dumper = refl; numbers = refl; grows = refl; committing = refl };
       alone = alone.1;
       outs = none_now;
       whose = c.requires.opener;
@@ -87,7 +87,7 @@ returns c =
     let none_now = c.put_out.ensures ∙ set_nobody c.self.inside.outs id alone.1 in
     handed_seen c.args.outcome (reply.Refused StoreDown) _ _ _ c.self.view_is
     (handed_failed c.opener_steps.ensures _ _ c.args.outcome StoreDown (record {
-      rest = record { closed = closed; base = refl; items = c.let_go.ensures.journal.items; memory = refl; standing = refl; catalog = refl; dumper = refl; numbers = refl; grows = refl };
+      rest = record { closed = closed; base = refl; items = c.let_go.ensures.journal.items; memory = refl; standing = refl; catalog = refl; dumper = refl; numbers = refl; grows = refl; committing = refl };
       alone = alone.1;
       outs = none_now;
       whose = c.requires.opener;

@@ -10,7 +10,7 @@ pub returns-in-Err-clause-keeps : goal.returns-in-Err-clause-keeps
 returns-in-Err-clause-keeps c =
     let same = subst (λ r. HoldsForOpening c.self.inside.pending c.self.inside.journal r c.hold_for_opening.new.journal) c.in-Err.is c.hold_for_opening.ensures in
     stays_seen _ _ _ c.self.view_is (stays_same c.core_steps.ensures _ _ (record {
-      store = record { base = refl; phases = refl; outs = refl; opener = refl; standing = refl; catalog = refl; grows = refl; dumper = refl; serial = refl };
+      store = record { base = refl; phases = refl; outs = refl; opener = refl; standing = refl; catalog = refl; grows = refl; committing = refl; dumper = refl; serial = refl };
       history = ap (λ j. entries_of j.items) same;
       memory = refl;
     }))
@@ -20,7 +20,7 @@ returns-in-Ok-hold_for_opening-clause-keeps c =
     let held = subst (λ r. HoldsForOpening c.self.inside.pending c.self.inside.journal r c.hold_for_opening.new.journal) c.in-Ok-hold_for_opening.is c.hold_for_opening.ensures in
     stays_seen _ _ _ c.self.view_is
     (stays_reopened c.opener_steps.ensures _ _ c.in-Ok.opener (record {
-      rest = record { closed = λ is. false≢true (sym c.if-is_open.false ∙ c.is_open.ensures.1 is); base = refl; items = held.items; memory = refl; standing = refl; catalog = refl; dumper = refl; numbers = refl; grows = refl };
+      rest = record { closed = λ is. false≢true (sym c.if-is_open.false ∙ c.is_open.ensures.1 is); base = refl; items = held.items; memory = refl; standing = refl; catalog = refl; dumper = refl; numbers = refl; grows = refl; committing = refl };
       outs = refl;
       none = c.is_nobody_out.ensures.0 c.if-not-is_nobody_out.false;
       phases = c.give_up_all.ensures;

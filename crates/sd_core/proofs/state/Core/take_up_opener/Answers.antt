@@ -18,7 +18,7 @@ returns-in-Call c =
     let slots = opening.slots in
     hands_seen its.Opener c.in-Call.request _ _ _ c.self.view_is
     (hands_out c.opener_steps.ensures _ _ w.opener w.next c.self.inside.numbers.ticket c.in-Call.request (record {
-      rest = record { closed = closed; base = refl; items = refl; memory = refl; standing = refl; catalog = refl; dumper = refl; numbers = refl; grows = refl };
+      rest = record { closed = closed; base = refl; items = refl; memory = refl; standing = refl; catalog = refl; dumper = refl; numbers = refl; grows = refl; committing = refl };
       none = none;
       outs = c.put_out.ensures ∙ set_alone c.self.inside.outs c.id.result none ∙ ap opener_alone c.id.ensures;
       phases = refl;
@@ -35,7 +35,7 @@ returns-in-Decoded c =
     let closed = (subst (λ x. IfSome x (IsOpening c.self.inside.standing c.self.inside.phases.items)) w.was c.self.invariant.opening).closed in
     step_seen its.Opener reply.Worked _ _ _ c.self.view_is
     (decoded c.opener_steps.ensures _ _ w.opener w.next (record {
-      rest = record { closed = closed; base = refl; items = refl; memory = refl; standing = refl; catalog = refl; dumper = refl; numbers = refl; grows = refl };
+      rest = record { closed = closed; base = refl; items = refl; memory = refl; standing = refl; catalog = refl; dumper = refl; numbers = refl; grows = refl; committing = refl };
       outs = refl;
       none = none;
       phases = refl;
@@ -51,7 +51,7 @@ returns-in-Damaged c =
     let closed = (subst (λ x. IfSome x (IsOpening c.self.inside.standing c.self.inside.phases.items)) w.was c.self.invariant.opening).closed in
     step_seen its.Opener (reply.Refused DamagedStore) _ _ _ c.self.view_is
     (ends_refused c.opener_steps.ensures _ _ DamagedStore (record {
-      rest = record { closed = closed; base = refl; items = c.let_go.ensures.journal.items; memory = refl; standing = refl; catalog = refl; dumper = refl; numbers = refl; grows = refl };
+      rest = record { closed = closed; base = refl; items = c.let_go.ensures.journal.items; memory = refl; standing = refl; catalog = refl; dumper = refl; numbers = refl; grows = refl; committing = refl };
       outs = refl;
       phases = refl;
       opener = c.let_go.ensures.opener;
