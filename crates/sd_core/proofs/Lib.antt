@@ -1,7 +1,14 @@
 mod ApplyLemmas
+mod BeginningLemmas
 mod CoreLemmas
 mod GiveUp
+mod ImageLemmas
 mod JournalLemmas
+mod MarkLemmas
 mod OpeningLemmas
+mod OutcomeLemmas
 mod ShownLemmas
+mod StageLemmas
 mod StartLemmas
+mod StepLemmas
+mod WorkLemmas

@@ -1,15 +1,25 @@
 -- What is so of every core.
-use Rattle.std.specs.Prelude.{◌≡◌, ◌≢◌, ℕ, ◌<◌, List, [], ◌∷◌, length, Option, Some, None, IfSome, slice_get}
+use Rattle.std.specs.Prelude.{◌≡◌, ◌≢◌, ℕ, ◌+◌, ◌<◌, ◌≤◌, ◌^◌, Bool, true, false, if◌then◌else◌, List, [], ◌∷◌, length, Option, Some, None, IfSome, slice_get}
+use Rattle.std.specs.List.{list_any}
+use Rattle.sd_chain.specs.Catalog.{IsHeld, Opened, Places, place_of}
 use Rattle.sd_gate.specs.declared.phase.Phase.{Phase}
 use Rattle.sd_gate.specs.declared.request_id.RequestId.{RequestId}
 use Rattle.sd_journal.specs.Kept.{Kept}
 use Rattle.sd_journal.specs.History.{Base, last, pending}
-use Rattle.sd_journal.specs.Marked.{IsTracked, entries_of}
+use Rattle.sd_journal.specs.Legal.{IsAbove}
+use Rattle.sd_journal.specs.Marked.{IsTracked, Marked, entries_of, is_of, last_visit, visiting}
 use Rattle.sd_opener.specs.Looking.{Looking, out_of}
 use Rattle.sd_pagetable.specs.Contents.{Contents}
-use Rattle.sd_rounds.specs.Dumper.{Dumping, Running, out_of_running}
+use Rattle.sd_rounds.specs.declared.image_order.ImageOrder.{ImageOrder}
+use Rattle.sd_rounds.specs.declared.stage.Stage.{Stage}
+use Rattle.sd_rounds.specs.declared.stage.Stage.TheVariants.{Format, Freeze, Pass as PassStage, PageWrite, Close}
+use Rattle.sd_rounds.specs.Dumper.{Dumping, Running, is_frozen_image, out_of_running}
+use Rattle.sd_rounds.specs.Making.{Making}
+use Rattle.sd_rounds.specs.Pass.{Pass}
 use Rattle.sd_belief.specs.declared.standing.Standing.{Standing}
 use Rattle.sd_belief.specs.declared.standing.Standing.TheVariants.{Open}
+use Rattle.sd_belief.specs.InUse.{IsReserved}
+use Rattle.sd_core.specs.declared.numbers.Numbers.{Numbers}
 
 -- how many entries are held: two for a checkpoint before its freeze, one while it is pending, and one for an opener with none pending
 abbrev pub held_for : Option ℕ → Option Running → Option Looking → ℕ
@@ -41,10 +51,99 @@ pub record IsJournal (base : Base) (journal : Kept) (memory : Contents) (frozen 
   pub frozen_for : frozen ≡ pending (entries_of journal.items)
   pub newest_is : newest ≡ last base (entries_of journal.items)
 
-pub record IsCore (base : Base) (journal : Kept) (memory : Contents) (frozen newest : Option ℕ) (standing : Standing) (phases : List Phase)
-    (outs : List (Option RequestId)) (dumper : Dumping) (opener : Option Looking) : Type 0 where
-  pub journal_is : IsJournal base journal memory frozen newest
-  pub held : journal.held ≡ held_for frozen dumper.running opener
-  pub outs_are : AreOuts outs phases dumper.running opener
-  pub opening : IfSome opener (IsOpening standing phases)
-  pub idle : dumper.running ≡ None
+-- ---- numbers
+
+-- The checkpoint begun last has the greatest number of all that the journal speaks of, and is the pending one if there is one; no
+-- mark has a serial that wasn't given out. What was found in the store doesn't lower the next numbers.
+pub record AreNumbers (base : Base) (items : Marked) (frozen newest : Option ℕ) (numbers : Numbers) : Type 0 where
+  pub used : (n : ℕ) → numbers.begun < n → IsAbove base (entries_of items) n
+  pub newest_used : IfSome newest (λ n. n ≤ numbers.begun)
+  pub frozen_used : IfSome frozen (λ n. n ≡ numbers.begun)
+  pub marks : (serial : ℕ) → numbers.given < serial → list_any (is_of serial) items ≡ false
+  pub checkpoints : numbers.begun ≤ numbers.checkpoint
+  pub serials : numbers.given ≤ numbers.serial
+
+-- no image has a greater checkpoint number than the greatest that was used
+abbrev pub AreCounted : Numbers → Places → Type 0
+AreCounted numbers places = (serial : ℕ) (o : Opened) → place_of places serial ≡ Some (Some o) → o.header.checkpoint ≤ numbers.checkpoint
+
+-- ---- the checkpoint that runs
+
+-- the plan of an image is one on its slot, and the header that it ends with has its numbers
+abbrev pub IsStageOf : ImageOrder → Stage → Type 0
+IsStageOf order (Format plan) = plan.slot ≡ order.slot
+IsStageOf order Freeze = Unit {0}
+IsStageOf order PassStage = Unit {0}
+IsStageOf order (PageWrite plan) = plan.slot ≡ order.slot
+IsStageOf order (Close plan header tables) = (plan.slot ≡ order.slot) × (header.serial ≡ order.serial) × (header.checkpoint ≡ order.checkpoint)
+
+-- up to its table the journal's marks tell which page it visited last
+pub record IsVisiting (items : Marked) (serial : ℕ) (pass : Pass) : Type 0 where
+  pub started : visiting items ≡ Some serial
+  pub cursor : last_visit items serial ≡ pass.after
+
+abbrev pub IsVisitingIn : Marked → ℕ → Pass → Stage → Type 0
+IsVisitingIn items serial pass (Format plan) = IsVisiting items serial pass
+IsVisitingIn items serial pass Freeze = IsVisiting items serial pass
+IsVisitingIn items serial pass PassStage = IsVisiting items serial pass
+IsVisitingIn items serial pass (PageWrite plan) = IsVisiting items serial pass
+IsVisitingIn items serial pass (Close plan header tables) = Unit {0}
+
+-- An image in the making has the serial that was given out last, whose place in the catalog is held.
+pub record IsImageOf (items : Marked) (places : Places) (numbers : Numbers) (image : Making) : Type 0 where
+  pub serial : image.order.serial ≡ numbers.serial
+  pub given : image.order.serial ≡ numbers.given
+  pub held : IsHeld places image.order.serial
+  pub stage : IsStageOf image.order image.stage
+  pub visiting_in : IsVisitingIn items image.order.serial image.pass image.stage
+
+-- its checkpoint is pending from the freeze on
+abbrev pub frozen_by : Running → Option ℕ
+frozen_by running = if is_frozen_image running.image then Some running.number else None
+
+-- an image that begins counts as one
+abbrev pub begun_images : Running → Option Making → ℕ
+begun_images running None = running.opened
+begun_images running (Some image) = running.opened + 1
+
+-- A checkpoint runs while the store is open, under the number that was begun last, in slots of the store.
+pub record IsAtWork (base : Base) (items : Marked) (frozen : Option ℕ) (standing : Standing) (phases : List Phase) (places : Places)
+    (opener : Option Looking) (numbers : Numbers) (running : Running) : Type 0 where
+  pub stands : standing ≡ Open
+  pub closed : opener ≡ None
+  pub pends : frozen ≡ frozen_by running
+  pub above : frozen ≡ None → IsAbove base (entries_of items) running.number
+  pub some : 0 < running.number
+  pub number : running.number ≡ numbers.begun
+  pub few : length running.pre_dumps ≤ 8
+  pub serials : numbers.serial < 2 ^ 63 + begun_images running running.image
+  pub within : (slot : ℕ) → IsReserved running slot → slot < length phases
+  pub image : IfSome running.image (IsImageOf items places numbers)
+
+-- ---- all of it
+
+-- the parts of a core
+pub record Parts : Type 0 where
+  pub base : Base
+  pub journal : Kept
+  pub memory : Contents
+  pub frozen : Option ℕ
+  pub newest : Option ℕ
+  pub standing : Standing
+  pub phases : List Phase
+  pub outs : List (Option RequestId)
+  pub places : Places
+  pub dumper : Dumping
+  pub opener : Option Looking
+  pub numbers : Numbers
+
+pub record IsCore (core : Parts) : Type 0 where
+  pub journal_is : IsJournal core.base core.journal core.memory core.frozen core.newest
+  pub held : core.journal.held ≡ held_for core.frozen core.dumper.running core.opener
+  pub outs_are : AreOuts core.outs core.phases core.dumper.running core.opener
+  pub opening : IfSome core.opener (IsOpening core.standing core.phases)
+  pub numbers_are : AreNumbers core.base core.journal.items core.frozen core.newest core.numbers
+  pub counted : AreCounted core.numbers core.places
+  -- while the store is open a checkpoint is pending only while it runs
+  pub rests : core.dumper.running ≡ None → core.standing ≡ Open → core.frozen ≡ None
+  pub work : IfSome core.dumper.running (IsAtWork core.base core.journal.items core.frozen core.standing core.phases core.places core.opener core.numbers)

@@ -3,7 +3,9 @@
 #![tactic(auto)]
 
 mod answering;
+mod beginning;
 mod copies;
+mod dumping;
 mod numbers;
 mod opening;
 mod start;

@@ -46,6 +46,13 @@ fn is_this(out: &Option<RequestId>, id: &RequestId) -> bool
     *out == Some(*id)
 }
 
+/// Whether a worker has no request out.
+pub(crate) fn is_resting(outs: &[Option<RequestId>; 3], worker: Worker) -> bool
+    ensures { IsTrue result ↔ slice_get outs.now (index worker) ≡ Some None }
+{
+    outs[place(worker)].is_none()
+}
+
 /// Whether the request with this id is out of its worker.
 pub(crate) fn is_out(outs: &[Option<RequestId>; 3], id: &RequestId) -> bool
     ensures { IsTrue result ↔ slice_get outs.now (index id.now.worker) ≡ Some (Some id.now) }

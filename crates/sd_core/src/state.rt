@@ -1,5 +1,5 @@
 //! The state behind one lock.
-ghost use Rattle.std.specs.Prelude.{◌≡◌, ◌↔◌, ◌+◌, ℕ, List, [], ◌∷◌, length, map, drop, Option, Some, None, Err, is_some, IfOk};
+ghost use Rattle.std.specs.Prelude.{◌≡◌, ◌↔◌, ◌+◌, ℕ, List, [], ◌∷◌, length, map, drop, slice_get, Option, Some, None, Err, is_some, IfOk};
 ghost use Rattle.sd_areas.specs.Memory.{memory_of};
 ghost use Rattle.sd_areas.specs.PlainMemory.{PlainMemory};
 ghost use Rattle.sd_pagetable.specs.Contents.{plain_of};
@@ -15,28 +15,39 @@ ghost use Rattle.sd_belief.specs.Believes.{Believes};
 ghost use Rattle.sd_belief.specs.Calls.{AddsByCancel, AddsByOrder, Applies, HandedIn, HandsOut, IsOut, MakesStep, Stays};
 ghost use Rattle.sd_belief.specs.View.{CoreView, history_of};
 ghost use Rattle.sd_gate.specs.declared.worker.Worker.TheVariants as its;
+ghost use Rattle.sd_command.specs.declared.refusal.Refusal.{Refusal as Why};
+ghost use Rattle.sd_rounds.specs.Dumper.{next_slot};
 ghost use Rattle.sd_core.specs.Answering.{IsAnswered};
+ghost use Rattle.sd_core.specs.Beginning.{begin_refusal};
 ghost use Rattle.sd_core.specs.Opening.{IsAllRead};
 ghost use Rattle.sd_core.specs.Starts.{TakesUp, IsStart, shown_base};
 
 use crate::answering::answer;
+use crate::beginning::{first_of, first_parent, is_down, is_not_open, reserve_slots};
 use crate::copies::{copy_command, copy_reply};
+use crate::dumping::{
+    begin_checkpoint, begin_next, closes_for_sure, enter_catalog, is_committing, leave_catalog,
+    release_unfrozen, step_on,
+};
 use crate::numbers::Numbers;
 use crate::opening::{
-    follow_call, give_up_all, hold_for_opening, is_nobody_out, is_open, is_out, let_go, put_opener,
+    follow_call, give_up_all, hold_for_opening, is_nobody_out, is_open, is_out, is_resting, let_go, put_opener,
     put_out, read_by, release_for_opening, step_opener, take_opener, teach,
 };
 use crate::start::Start;
 use crate::taken::Taken;
 use sd_areas::Snapshot;
-use sd_belief::{Standing, core_steps, found_law, opener_steps, reopened_law};
+use sd_belief::{
+    Standing, beginning_law, cancelling_law, core_steps, dumper_outcomes, dumper_steps, found_law,
+    opener_steps, reopened_law,
+};
 use sd_chain::Catalog;
 use sd_command::{Command, Refusal, Reply};
 use sd_gate::{Outcome, Phase, RequestId, Worker};
-use sd_journal::{Entry, Journal, tracked_laws};
+use sd_journal::{Entry, Journal, Mark, tracked_laws};
 use sd_opener::{Opened, Opener, OpenerStep};
 use sd_pagetable::Memory;
-use sd_rounds::Dumper;
+use sd_rounds::{Dumper, ImageStep, NextImage, Progress, rises_law};
 use std::alloc::Global;
 use std::marker::Model;
 
@@ -88,8 +99,20 @@ impl Model for Core {
       committing = c.committing;
     } };
 
-    ghost invariant = { λ c. IsCore (record { number = c.number; memory = memory_of c.base })
-        c.journal c.memory c.pending c.last c.standing c.phases.items c.outs c.dumper c.opener };
+    ghost invariant = { λ c. IsCore (record {
+      base = record { number = c.number; memory = memory_of c.base };
+      journal = c.journal;
+      memory = c.memory;
+      frozen = c.pending;
+      newest = c.last;
+      standing = c.standing;
+      phases = c.phases.items;
+      outs = c.outs;
+      places = c.catalog;
+      dumper = c.dumper;
+      opener = c.opener;
+      numbers = c.numbers;
+    }) };
 }
 
 impl Core {
@@ -124,13 +147,7 @@ impl Core {
             catalog: Catalog::new(alloc),
             dumper: Dumper::new(alloc),
             opener: None,
-            numbers: Numbers {
-                checkpoint: 0,
-                serial: 0,
-                begun: 0,
-                given: 0,
-                ticket: 0,
-            },
+            numbers: Numbers::start(number),
             grows: false,
             committing: false,
         }
@@ -191,12 +208,64 @@ impl Core {
         Ok((number, told))
     }
 
-    /// Begins a checkpoint of so many pre-dumps and a dump.
-    pub fn begin(&mut self, _rounds: u64) -> Reply
+    /// Why a checkpoint of so many pre-dumps can't begin, before its slots are looked for.
+    fn refusal_of_begin(&self, rounds: u64) -> Option<Refusal>
+        ensures { result ≡ begin_refusal self.now rounds }
+    {
+        first_of(&[
+            (is_not_open(self.standing), Refusal::NotOpen),
+            (is_down(self.standing), Refusal::StoreDown),
+            (!self.dumper.is_idle(), Refusal::Busy),
+            (rounds > 8, Refusal::Einval),
+            (self.journal.free() < 2, Refusal::JournalFull),
+            (self.numbers.are_used_up(), Refusal::NumbersUsed),
+        ])
+    }
+
+    /// Begins a checkpoint of so many pre-dumps, at most 8, and a dump. Its number is above all that were used.
+    ///
+    /// # Errors
+    ///
+    /// The first of these whose condition holds: `NotOpen`; `StoreDown`; `Busy` where a checkpoint runs; `Einval` where
+    /// there are over 8 pre-dumps; `JournalFull` where fewer than two entries are free; `NumbersUsed` where a checkpoint
+    /// number or a serial of 2^63 or more was used; `NoSlot` where fewer slots are free than pre-dumps and two;
+    /// `OutOfMemory` where a growth was refused. Nothing changed.
+    pub fn begin(&mut self, rounds: u64) -> Reply
+        ensures adds { AddsByOrder result (history_of self.old) (history_of self.new) }
+        ensures keeps { Stays self.old self.new }
+        ensures refused { (why : Why) → begin_refusal self.old rounds ≡ Some why
+            → (result ≡ reply.Refused why) × (self.new ≡ self.old) }
+    {
+        core_steps();
+        match self.refusal_of_begin(rounds) {
+            Some(why) => Reply::Refused(why),
+            None => self.begin_in_slots(rounds as usize),
+        }
+    }
+
+    /// Begins a checkpoint in the lowest free slots.
+    ///
+    /// # Errors
+    ///
+    /// `NoSlot`, `OutOfMemory`: as `begin`.
+    fn begin_in_slots(&mut self, rounds: usize) -> Reply
+        requires { begin_refusal self.old rounds ≡ None }
         ensures adds { AddsByOrder result (history_of self.old) (history_of self.new) }
         ensures keeps { Stays self.old self.new }
     {
-        Reply::Refused(Refusal::NotOpen)
+        core_steps();
+        beginning_law(&self.catalog);
+        let slots = match reserve_slots(self.alloc, &self.catalog, self.phases.len(), rounds) {
+            Ok(slots) => slots,
+            Err(why) => return Reply::Refused(why),
+        };
+        let Ok(()) = self.journal.hold(2) else {
+            return Reply::Refused(Refusal::OutOfMemory);
+        };
+        let parent = first_parent(&self.catalog, self.grows);
+        let number = self.numbers.begin();
+        begin_checkpoint(&mut self.dumper, number, slots, parent);
+        Reply::Begun(number)
     }
 
     /// Begins a merge.
@@ -207,12 +276,36 @@ impl Core {
         Reply::Refused(Refusal::NotOpen)
     }
 
-    /// Cancels the checkpoint that runs or is pending.
+    /// Cancels the checkpoint that runs or is pending, also while the store is down. The next one takes every page.
+    ///
+    /// # Errors
+    ///
+    /// `Idle` where none runs or is pending. `Busy` where an opener runs, a request of the dumper is out, or the opening
+    /// of the dump's gate was ever taken up. Nothing changed.
     pub fn cancel(&mut self) -> Reply
         ensures adds { AddsByCancel result (history_of self.old) (history_of self.new) }
         ensures keeps { Stays self.old self.new }
+        ensures idle { result ≡ reply.Refused Idle
+            ↔ (self.old.dumper.running ≡ None) × (pending (history_of self.old) ≡ None) }
     {
-        Reply::Refused(Refusal::Idle)
+        core_steps();
+        cancelling_law();
+        tracked_laws();
+        if self.dumper.is_idle() && self.pending.is_none() {
+            return Reply::Refused(Refusal::Idle);
+        }
+        if self.opener.is_some() || !is_resting(&self.outs, Worker::Dumper) || self.committing {
+            return Reply::Refused(Refusal::Busy);
+        }
+        let number = self.numbers.begun;
+        self.journal.append_held(Entry::Cancelled(number));
+        let held = self.journal.held();
+        self.journal.release(held);
+        self.pending = None;
+        self.dumper.cancel();
+        self.catalog.release(self.numbers.serial);
+        self.grows = false;
+        Reply::Cancelled(number)
     }
 
     /// Begins to open the store again: each slot's job is given up, and an opener begins.
@@ -254,8 +347,118 @@ impl Core {
         ensures { TakesUp self.old worker result self.new }
     {
         match worker {
+            Worker::Dumper => self.take_up_dumper(),
+            Worker::Merger => Taken::Step(Reply::Refused(Refusal::Idle)),
             Worker::Opener => self.take_up_opener(),
-            Worker::Dumper | Worker::Merger => Taken::Step(Reply::Refused(Refusal::Idle)),
+        }
+    }
+
+    /// Makes the dumper's next step, or hands out its next device call.
+    fn take_up_dumper(&mut self) -> Taken
+        ensures { TakesUp self.old its.Dumper result self.new }
+    {
+        core_steps();
+        if self.dumper.is_idle() {
+            return Taken::Step(Reply::Refused(Refusal::Idle));
+        }
+        if !is_resting(&self.outs, Worker::Dumper) {
+            return Taken::Step(Reply::Refused(Refusal::Busy));
+        }
+        match self.dumper.next_slot() {
+            Some(slot) => self.begin_image(slot),
+            None => self.go_on_image(),
+        }
+    }
+
+    /// Begins the next image of the checkpoint, which gets the next serial, and hands out the first device call on its slot.
+    ///
+    /// # Errors
+    ///
+    /// `OutOfMemory` where a growth was refused.
+    fn begin_image(&mut self, slot: usize) -> Taken
+        requires next { next_slot self.old.dumper.running ≡ Some slot }
+        ensures { TakesUp self.old its.Dumper result self.new }
+    {
+        core_steps();
+        dumper_steps();
+        rises_law();
+        tracked_laws();
+        self.dumper.sound();
+        let Ok(()) = self.journal.reserve_mark() else {
+            return Taken::Step(Reply::Refused(Refusal::OutOfMemory));
+        };
+        let serial = self.numbers.serial + 1;
+        let Ok(()) = self.catalog.hold(serial) else {
+            return Taken::Step(Reply::Refused(Refusal::OutOfMemory));
+        };
+        let image = NextImage {
+            serial,
+            state: self.phases[slot].state(),
+        };
+        let request = begin_next(
+            &mut self.dumper,
+            &mut self.memory,
+            image,
+            self.numbers.ticket,
+        );
+        self.numbers.give();
+        self.numbers.tick();
+        self.journal.note(Mark::Start(serial));
+        put_out(&mut self.outs, Worker::Dumper, Some(request.id()));
+        self.committing = is_committing(self.committing, &self.dumper, request.id().call);
+        Taken::Call(request)
+    }
+
+    /// Makes the next step of the image in the making, or hands out its next device call.
+    ///
+    /// # Errors
+    ///
+    /// `OutOfMemory` where a growth was refused.
+    fn go_on_image(&mut self) -> Taken
+        requires begun { next_slot self.old.dumper.running ≡ None }
+        requires rests { slice_get self.old.outs 0 ≡ Some None }
+        ensures { TakesUp self.old its.Dumper result self.new }
+    {
+        core_steps();
+        dumper_steps();
+        tracked_laws();
+        self.dumper.sound();
+        let Ok(()) = self.journal.reserve_mark() else {
+            return Taken::Step(Reply::Refused(Refusal::OutOfMemory));
+        };
+        let step = match step_on(&mut self.dumper, &mut self.memory, self.numbers.ticket) {
+            Ok(step) => step,
+            Err(why) => return Taken::Step(Reply::Refused(why)),
+        };
+        let serial = self.numbers.serial;
+        match step {
+            ImageStep::Call(request) | ImageStep::PageCall(request) => {
+                self.numbers.tick();
+                put_out(&mut self.outs, Worker::Dumper, Some(request.id()));
+                self.committing = is_committing(self.committing, &self.dumper, request.id().call);
+                Taken::Call(request)
+            }
+            ImageStep::TableCall(request) => {
+                self.journal.note(Mark::Table(serial));
+                self.numbers.tick();
+                put_out(&mut self.outs, Worker::Dumper, Some(request.id()));
+                self.committing = is_committing(self.committing, &self.dumper, request.id().call);
+                Taken::Call(request)
+            }
+            ImageStep::Frozen => {
+                self.journal.append_held(Entry::Freeze(self.numbers.begun));
+                self.pending = Some(self.numbers.begun);
+                Taken::Step(Reply::Worked)
+            }
+            ImageStep::Visited(visit) => {
+                self.journal.note(Mark::Visit {
+                    serial,
+                    space: visit.space,
+                    page: visit.page,
+                });
+                Taken::Step(Reply::Worked)
+            }
+            ImageStep::Copied(_) => Taken::Step(Reply::Worked),
         }
     }
 
@@ -270,7 +473,7 @@ impl Core {
         };
         match step {
             OpenerStep::Call(request) => {
-                self.numbers.ticket = self.numbers.ticket.wrapping_add(1);
+                self.numbers.tick();
                 put_out(&mut self.outs, Worker::Opener, Some(request.id()));
                 Taken::Call(request)
             }
@@ -332,10 +535,53 @@ impl Core {
             return Reply::Refused(Refusal::Idle);
         }
         match id.worker {
-            Worker::Opener => self.hand_in_opener(outcome),
-            Worker::Dumper | Worker::Merger => {
+            Worker::Dumper => self.hand_in_dumper(outcome),
+            Worker::Merger => {
                 drop(outcome);
                 Reply::Refused(Refusal::Idle)
+            }
+            Worker::Opener => self.hand_in_opener(outcome),
+        }
+    }
+
+    /// Takes the outcome of the dumper's call.
+    fn hand_in_dumper(&mut self, outcome: Outcome) -> Reply
+        requires out { IsOut self.old outcome.request.id }
+        requires dumper { outcome.request.id.worker ≡ its.Dumper }
+        ensures { HandedIn self.old outcome result self.new }
+    {
+        dumper_outcomes();
+        tracked_laws();
+        self.dumper.sound();
+        let id = outcome.id();
+        let done = outcome.answer().is_done();
+        let closed = closes_for_sure(self.phases[id.slot], id.call);
+        follow_call(&mut self.phases, &id, done);
+        put_out(&mut self.outs, Worker::Dumper, None);
+        match self.dumper.hand_in(outcome) {
+            Progress::Strange => unreachable!(),
+            Progress::Failed => {
+                self.standing = Standing::Down;
+                release_unfrozen(&mut self.journal, self.pending);
+                Reply::Refused(Refusal::StoreDown)
+            }
+            Progress::More => {
+                leave_catalog(&mut self.catalog, id.slot, closed);
+                Reply::Worked
+            }
+            Progress::PreDump(image) => {
+                enter_catalog(&mut self.catalog, image);
+                Reply::Worked
+            }
+            Progress::Dump(image) => {
+                enter_catalog(&mut self.catalog, image);
+                let number = self.numbers.begun;
+                self.journal.append_held(Entry::Acked(number));
+                self.pending = None;
+                self.last = Some(number);
+                self.grows = true;
+                self.committing = false;
+                Reply::Acked(number)
             }
         }
     }

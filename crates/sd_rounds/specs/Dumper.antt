@@ -127,6 +127,11 @@ abbrev pub next_slot : Option Running → Option ℕ
 next_slot None = None
 next_slot (Some running) = slot_before running running.image
 
+-- the dump of the checkpoint that runs is next, or is being made
+abbrev pub is_dumping : Option Running → Bool
+is_dumping None = false
+is_dumping (Some running) = is_last running
+
 -- ---- Outcomes
 
 -- an outcome of the image that is being made, which goes on or fails

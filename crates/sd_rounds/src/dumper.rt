@@ -6,7 +6,7 @@ ghost use Rattle.sd_pagetable.specs.Contents.{plain_of};
 ghost use Rattle.sd_rounds.specs.Left.{left_of};
 ghost use Rattle.sd_rounds.specs.Room.{StepWants};
 ghost use Rattle.sd_rounds.specs.Sound.{HasSoundImage};
-ghost use Rattle.sd_rounds.specs.Dumper.{AreRunning, Dumping, Hands, HasCounted, Works, begun_checkpoint, ends, idle, is_strange, next_slot, out_of_running};
+ghost use Rattle.sd_rounds.specs.Dumper.{AreRunning, Dumping, Hands, HasCounted, Works, begun_checkpoint, ends, idle, is_dumping, is_strange, next_slot, out_of_running};
 
 use crate::checkpoint::Checkpoint;
 use crate::image_step::ImageStep;
@@ -86,6 +86,16 @@ impl Dumper {
         ensures { result ≡ is_none self.now.running }
     {
         self.checkpoint.is_none()
+    }
+
+    /// Whether the dump of the checkpoint that runs is next, or is being made.
+    pub fn is_dumping(&self) -> bool
+        ensures { result ≡ is_dumping self.now.running }
+    {
+        match &self.checkpoint {
+            Some(checkpoint) => checkpoint.is_last(),
+            None => false,
+        }
     }
 
     /// Begins a checkpoint: a pre-dump in each of these slots, and then a dump. The first image names the parent with

@@ -1,0 +1,122 @@
+-- What the steps and outcomes of an image leave of its plan, its cursor and its freeze.
+use Rattle.std.proofs.Common.{◌≡◌, ◌≢◌, ℕ, ◌==◌, ◌&&◌, ◌||◌, Bool, true, false, if◌then◌else◌, List, [], ◌∷◌, Option, Some, None, refl, sym, ◌∙◌, ap, subst}
+use Rattle.std.proofs.lemmas.Option.{same_Some}
+use Rattle.sd_gate.specs.declared.request_id.RequestId.{RequestId}
+use Rattle.sd_gate.specs.Plans.{Gives, Planned, begun, plan_after}
+use Rattle.sd_gate.specs.Requests.{Asked, Made}
+use Rattle.sd_gate.specs.Sequences.{Calls}
+use Rattle.sd_image.specs.declared.header.Kind.{Kind}
+use Rattle.sd_image.specs.declared.header.Kind.TheVariants.{PreDump, Dump, Merged}
+use Rattle.sd_image.specs.Words.{kind_number}
+use Rattle.sd_journal.specs.Marked.{Marked}
+use Rattle.sd_pagetable.specs.Contents.{Contents}
+use Rattle.sd_rounds.specs.declared.copied.Copied.{Copied}
+use Rattle.sd_rounds.specs.declared.copied.Copied.TheVariants.{More, Zero, Gone}
+use Rattle.sd_rounds.specs.declared.image_order.ImageOrder.{ImageOrder}
+use Rattle.sd_rounds.specs.declared.stage.Stage.{Stage}
+use Rattle.sd_rounds.specs.declared.stage.Stage.TheVariants.{Format, Freeze, Pass as PassStage, PageWrite, Close}
+use Rattle.sd_rounds.specs.Making.{Making, closing, is_past_freeze, out_of, plan_of, stage_after, stage_behind, with_plan}
+use Rattle.sd_rounds.specs.Pass.{Pass, Place, begun_to_take, left_to_parent, visited}
+use Rattle.sd_rounds.specs.Rounds.{Copies}
+use Rattle.sd_core.specs.Sound.{IsStageOf, IsVisitingIn}
+
+-- ---- a call of its plan is asked for
+
+-- the slot, and what is out then
+pub record IsAskedIn (order : ImageOrder) (stage : Stage) (next : Planned) (request : Asked) : Type 0 where
+  pub stage_is : IsStageOf order (with_plan stage next)
+  pub slot : request.id.slot ≡ order.slot
+  pub out : out_of (with_plan stage next) ≡ Some request.id
+
+pub asked_in : (order : ImageOrder) (stage : Stage) (plan next : Planned) (request : Asked) → plan_of stage ≡ Some plan → Gives plan next request
+    → IsStageOf order stage → IsAskedIn order stage next request
+asked_in order (Format p) plan next request was gives is = record { stage_is = own next.slot gives.same_slot; slot = own request.id.slot gives.slot; out = gives.out }
+  where
+    own : (slot : ℕ) → slot ≡ plan.slot → slot ≡ order.slot
+    own slot same = same ∙ ap (λ (q : Planned). q.slot) (sym (same_Some p plan was)) ∙ is
+asked_in order Freeze plan next request was gives is = absurd (let no : None ≡ Some plan = was in cc)
+asked_in order PassStage plan next request was gives is = absurd (let no : None ≡ Some plan = was in cc)
+asked_in order (PageWrite p) plan next request was gives is = record { stage_is = own next.slot gives.same_slot; slot = own request.id.slot gives.slot; out = gives.out }
+  where
+    own : (slot : ℕ) → slot ≡ plan.slot → slot ≡ order.slot
+    own slot same = same ∙ ap (λ (q : Planned). q.slot) (sym (same_Some p plan was)) ∙ is
+asked_in order (Close p header tables) plan next request was gives is =
+    record { stage_is = (own next.slot gives.same_slot, is.1, is.2); slot = own request.id.slot gives.slot; out = gives.out }
+  where
+    own : (slot : ℕ) → slot ≡ plan.slot → slot ≡ order.slot
+    own slot same = same ∙ ap (λ (q : Planned). q.slot) (sym (same_Some p plan was)) ∙ is.0
+
+pub visiting_asked : (items : Marked) (serial : ℕ) (pass : Pass) (stage : Stage) (next : Planned) → IsVisitingIn items serial pass stage
+    → IsVisitingIn items serial pass (with_plan stage next)
+visiting_asked items serial pass (Format p) next is = is
+visiting_asked items serial pass Freeze next is = is
+visiting_asked items serial pass PassStage next is = is
+visiting_asked items serial pass (PageWrite p) next is = is
+visiting_asked items serial pass (Close p header tables) next is = tt
+
+pub frozen_asked : (stage : Stage) (next : Planned) → is_past_freeze (with_plan stage next) ≡ is_past_freeze stage
+frozen_asked (Format p) next = refl
+frozen_asked Freeze next = refl
+frozen_asked PassStage next = refl
+frozen_asked (PageWrite p) next = refl
+frozen_asked (Close p header tables) next = refl
+
+-- ---- an outcome with which it goes on
+
+pub record IsBehind (items : Marked) (order : ImageOrder) (pass : Pass) (stage new : Stage) : Type 0 where
+  pub stage_is : IsStageOf order stage → IsStageOf order new
+  pub rests : out_of new ≡ None
+  pub frozen : ((kind_number order.kind == 2) && is_past_freeze new) ≡ ((kind_number order.kind == 2) && is_past_freeze stage)
+  pub visiting_in : IsVisitingIn items order.serial pass stage → IsVisitingIn items order.serial pass new
+
+slot_on : (p plan next : Planned) (slot : ℕ) → Some p ≡ Some plan → next.slot ≡ plan.slot → p.slot ≡ slot → next.slot ≡ slot
+slot_on p plan next slot was same is = same ∙ ap (λ (q : Planned). q.slot) (sym (same_Some p plan was)) ∙ is
+
+format_behind : (items : Marked) (order : ImageOrder) (pass : Pass) (plan : Planned) (kind : Kind) → order.kind ≡ kind
+    → IsBehind items order pass (Format plan) (stage_behind kind (Format plan))
+format_behind items order pass plan Dump is = record { stage_is = λ at. tt; rests = refl; frozen = refl; visiting_in = λ v. v }
+format_behind items order pass plan PreDump is = record {
+  stage_is = λ at. tt;
+  rests = refl;
+  frozen = ap (λ k. (kind_number k == 2) && true) is ∙ sym (ap (λ k. (kind_number k == 2) && false) is);
+  visiting_in = λ v. v;
+}
+format_behind items order pass plan Merged is = record {
+  stage_is = λ at. tt;
+  rests = refl;
+  frozen = ap (λ k. (kind_number k == 2) && true) is ∙ sym (ap (λ k. (kind_number k == 2) && false) is);
+  visiting_in = λ v. v;
+}
+
+pub behind : (items : Marked) (order : ImageOrder) (pass : Pass) (stage : Stage) (plan next : Planned) (calls : Calls) → plan_of stage ≡ Some plan
+    → next.slot ≡ plan.slot → next.out ≡ None → (closing stage ≢ 0 → calls ≢ []) → IsBehind items order pass stage (stage_after order.kind stage next calls)
+behind items order pass (Format p) plan next [] was same rests closes = format_behind items order pass p order.kind refl
+behind items order pass (Format p) plan next (call ∷ calls) was same rests closes =
+    record { stage_is = slot_on p plan next order.slot was same; rests = rests; frozen = refl; visiting_in = λ v. v }
+behind items order pass Freeze plan next calls was same rests closes = absurd (let no : None ≡ Some plan = was in cc)
+behind items order pass PassStage plan next calls was same rests closes = absurd (let no : None ≡ Some plan = was in cc)
+behind items order pass (PageWrite p) plan next [] was same rests closes = page_behind order.kind
+  where
+    page_behind : (kind : Kind) → IsBehind items order pass (PageWrite p) (stage_behind kind (PageWrite p))
+    page_behind Dump = record { stage_is = λ at. tt; rests = refl; frozen = refl; visiting_in = λ v. v }
+    page_behind PreDump = record { stage_is = λ at. tt; rests = refl; frozen = refl; visiting_in = λ v. v }
+    page_behind Merged = record { stage_is = λ at. tt; rests = refl; frozen = refl; visiting_in = λ v. v }
+behind items order pass (PageWrite p) plan next (call ∷ calls) was same rests closes =
+    record { stage_is = slot_on p plan next order.slot was same; rests = rests; frozen = refl; visiting_in = λ v. v }
+behind items order pass (Close p header tables) plan next [] was same rests closes = absurd (closes (λ is. cc) refl)
+behind items order pass (Close p header tables) plan next (call ∷ calls) was same rests closes =
+    record { stage_is = λ at. (slot_on p plan next order.slot was same at.0, at.1, at.2); rests = rests; frozen = refl; visiting_in = λ v. tt }
+
+-- ---- its cursor
+
+pub visited_after : (pass : Pass) (at : Place) (soft_dirty : Bool) → (visited pass at soft_dirty).after ≡ Some at
+visited_after pass at soft_dirty = either (pass.takes_all || soft_dirty)
+  where
+    either : (takes : Bool) → (if takes then begun_to_take pass at else left_to_parent pass at).after ≡ Some at
+    either true = refl
+    either false = refl
+
+pub copied_after : (old new : Pass) (memory : Contents) (copied : Copied) → Copies old memory copied new → new.after ≡ old.after
+copied_after old new memory More copies = ap (λ (p : Pass). p.after) copies.is
+copied_after old new memory Zero copies = ap (λ (p : Pass). p.after) copies.is
+copied_after old new memory Gone copies = ap (λ (p : Pass). p.after) copies.is

@@ -1,0 +1,101 @@
+-- The dumper's steps, as the calls of a core tell them.
+use Rattle.std.proofs.Common.{◌≡◌, ◌⊎◌, ℕ, zero, suc, ◌<◌, List, [], ◌∷◌, length, Option, Some, None, slice_get, slice_set, refl, sym, ◌∙◌, ap, subst, inl, inr}
+use Rattle.sd_gate.specs.declared.phase.Phase.{Phase}
+use Rattle.sd_gate.specs.declared.request_id.RequestId.{RequestId}
+use Rattle.sd_gate.specs.declared.worker.Worker.TheVariants.{Dumper}
+use Rattle.sd_gate.specs.Requests.{Asked}
+use Rattle.sd_command.specs.declared.reply.Reply.TheVariants as reply
+use Rattle.sd_journal.specs.Marked.{entries_of}
+use Rattle.sd_rounds.specs.declared.image_step.ImageStep.{ImageStep}
+use Rattle.sd_rounds.specs.declared.image_step.ImageStep.TheVariants.{Call, PageCall}
+use Rattle.sd_rounds.specs.Dumper.{Running}
+use Rattle.sd_rounds.specs.Making.{IsAskedBy, Making}
+use Rattle.sd_belief.specs.Believes.{Believes}
+use Rattle.sd_belief.specs.Calls.{AreGivenUp, HandsOut, IsFree, MakesStep, running_number}
+use Rattle.sd_belief.specs.DumperSteps.{AsksFor, BeginsImage, DumperSteps, FreezesMemory, IsOnPages, WorksOnMemory}
+use Rattle.sd_belief.specs.OpenerSteps.{nobody}
+use Rattle.sd_belief.specs.View.{CoreView}
+use Rattle.sd_core.proofs.ApplyLemmas.{same_phases}
+
+-- no request is out on any slot
+pub free_of_none : (outs : List (Option RequestId)) (slot : ℕ) → outs ≡ nobody → IsFree outs slot
+free_of_none outs slot is worker id out same = none_at worker (ap (λ all. slice_get all worker) (sym is) ∙ out)
+  where
+    none_at : (w : ℕ) → slice_get nobody w ≡ Some (Some id) → ⊥
+    none_at zero e = cc
+    none_at (suc zero) e = cc
+    none_at (suc (suc zero)) e = cc
+    none_at (suc (suc (suc w))) e = cc
+
+-- a device call is asked for
+pub hands_asked : (old new : CoreView) (running : Running) (image next : Making) (number : ℕ) (step : ImageStep) (request : Asked)
+    → AsksFor old running image number step request next new → IsAskedBy number request → request.id.slot < length old.phases
+    → ((asked : List (Option Asked)) (bodies files : List (List ℕ)) → AsksFor old running image number step request next new → Believes old asked bodies files
+        → Believes new (slice_set asked 0 (Some request)) bodies files)
+    → HandsOut old Dumper request new
+hands_asked old new running image next number step request a whose slot goes = record {
+  free = a.free;
+  base = a.rest.base;
+  history = a.history;
+  phases = a.phases;
+  outs = a.outs;
+  whose = whose.worker;
+  slot = slot;
+  alone = a.apart;
+  goes_on = λ asked bodies files b. goes asked bodies files a b;
+}
+
+-- the next call of a plan, or the write of a page
+pub hands_call : DumperSteps → (old new : CoreView) (running : Running) (image next : Making) (number : ℕ) (step : ImageStep) (request : Asked)
+    → (step ≡ Call request) ⊎ (step ≡ PageCall request) → AsksFor old running image number step request next new → IsAskedBy number request
+    → request.id.slot < length old.phases → HandsOut old Dumper request new
+hands_call steps old new running image next number step request (inl is) a whose slot =
+    hands_asked old new running image next number (Call request) request (subst (λ s. AsksFor old running image number s request next new) is a) whose slot
+    (λ asked bodies files. steps.asks old new running image next number request asked bodies files)
+hands_call steps old new running image next number step request (inr is) a whose slot =
+    hands_asked old new running image next number (PageCall request) request (subst (λ s. AsksFor old running image number s request next new) is a) whose slot
+    (λ asked bodies files. steps.writes_page old new running image next number request asked bodies files)
+
+-- a page is visited, or a sector copied
+pub works_on : DumperSteps → (old new : CoreView) (running : Running) (image next : Making) (number : ℕ) (step : ImageStep) → IsOnPages step
+    → WorksOnMemory old running image number step next new → MakesStep old Dumper reply.Worked new
+works_on steps old new running image next number step on works = record {
+  keeps = inl (record {
+    base = works.rest.base;
+    outs = works.outs;
+    phases = subst (λ p. AreGivenUp new.outs old.phases p) (sym works.phases) (same_phases new.outs old.phases);
+    goes_on = λ asked bodies files b. steps.works old new running image next number step asked bodies files on works b;
+  });
+  adds = inl works.history;
+}
+
+-- the memory is frozen
+pub freezes_it : DumperSteps → (old new : CoreView) (running : Running) (image next : Making) (number : ℕ) → FreezesMemory old running image number next new
+    → MakesStep old Dumper reply.Worked new
+freezes_it steps old new running image next number f = record {
+  keeps = inl (record {
+    base = f.rest.base;
+    outs = f.outs;
+    phases = subst (λ p. AreGivenUp new.outs old.phases p) (sym f.phases) (same_phases new.outs old.phases);
+    goes_on = λ asked bodies files b. steps.freezes old new running image next number asked bodies files f b;
+  });
+  adds = inr (running.number, record { dumper = refl; number = ap running_number f.was }, ap entries_of f.items);
+}
+
+-- the next image begins, and asks for its first call
+pub begins_asking : DumperSteps → (old mid new : CoreView) (running : Running) (phase : Phase) (image next : Making) (number : ℕ) (request : Asked)
+    → BeginsImage old running phase mid → AsksFor mid (record running { image = Some image }) image number (Call request) request next new
+    → IsAskedBy number request → request.id.slot < length old.phases → HandsOut old Dumper request new
+begins_asking steps old mid new running phase image next number request b a whose slot = record {
+  free = ap (λ outs. slice_get outs 0) (sym b.outs) ∙ a.free;
+  base = a.rest.base ∙ b.rest.base;
+  history = a.history ∙ b.history;
+  phases = a.phases ∙ b.phases;
+  outs = a.outs ∙ ap (λ outs. slice_set outs 0 (Some request.id)) b.outs;
+  whose = whose.worker;
+  slot = slot;
+  alone = subst (λ outs. IsFree outs request.id.slot) b.outs a.apart;
+  goes_on = λ asked bodies files believed.
+      steps.asks mid new (record running { image = Some image }) image next number request asked bodies files a
+      (steps.begins_image old mid running phase asked bodies files b believed);
+}

@@ -1,0 +1,181 @@
+use Rattle.std.proofs.Common.{◌≡◌, ℕ, ◌+◌, ◌^◌, ◌<◌, ◌≤◌, ◌||◌, ◌&&◌, if◌then◌else◌, ◌∷◌, [], Some, None, length, slice_get, slice_index_or, slice_set, refl, sym, ◌∙◌, ap, subst, inl, arith}
+use Rattle.std.proofs.lemmas.Option.{same_Some, slice_get-get_or}
+use Rattle.std.proofs.Math.Bool.{and-false}
+use Rattle.sd_areas.specs.Memory.{memory_of}
+use Rattle.sd_chain.specs.Catalog.{Opened, place_of}
+use Rattle.sd_gate.specs.Phases.{state_of}
+use Rattle.sd_gate.specs.declared.request_id.RequestId.{RequestId}
+use Rattle.sd_gate.specs.declared.worker.Worker.TheVariants as its
+use Rattle.sd_command.specs.declared.refusal.Refusal.TheVariants.{OutOfMemory}
+use Rattle.sd_command.specs.declared.reply.Reply.TheVariants as reply
+use Rattle.sd_journal.specs.declared.mark.Mark.TheVariants.{Start}
+use Rattle.sd_journal.specs.History.{Base}
+use Rattle.sd_journal.specs.Legal.{IsAbove}
+use Rattle.sd_journal.specs.Marked.{entries_of}
+use Rattle.sd_rounds.specs.Dumper.{AreRunning, is_dumping, is_frozen_image, is_last, next_slot, order_of, slot_of}
+use Rattle.sd_rounds.specs.Making.{begun_image}
+use Rattle.sd_belief.specs.DumperSteps.{opens_gate}
+use Rattle.sd_belief.specs.View.{CoreView}
+use Rattle.sd_core.specs.declared.numbers.Numbers.{Numbers}
+use Rattle.sd_core.specs.Sound.{AreNumbers, IsImageOf, IsJournal, begun_images}
+use Rattle.sd_core.proofs.ApplyLemmas.{stays_same}
+use Rattle.sd_core.proofs.ImageLemmas.{begun_asked}
+use Rattle.sd_core.proofs.MarkLemmas.{counted_held, held_place, next_is, none_visited, start_numbers}
+use Rattle.sd_core.proofs.OpeningLemmas.{hands_seen, step_seen}
+use Rattle.sd_core.proofs.StageLemmas.{asked_in}
+use Rattle.sd_core.proofs.StepLemmas.{begins_asking, free_of_none}
+use Rattle.sd_core.proofs.WorkLemmas.{at_work, core_working, grown_core, held_at_work, held_same, noted_journal, out_at_work, outs_within, rests_before, slot_within}
+use Rattle.sd_core.proofs.state.Core.begin_image.Goals as goal
+
+pub overflow_add-serial : goal.overflow_add-serial
+overflow_add-serial c =
+    let n = next_is c.self.inside.dumper.running c.args.slot (ap (λ v. next_slot v.dumper.running) c.self.view_is ∙ c.requires.next) in
+    let work = at_work _ n.running c.self.invariant n.was in
+    let few = work.few in
+    let opened = (subst (AreRunning c.self.inside.dumper.since_freeze) n.was c.sound.ensures.running).few in
+    let serials : c.self.inside.numbers.serial < 2 ^ 63 + n.running.opened = subst (λ i. c.self.inside.numbers.serial < 2 ^ 63 + begun_images n.running i) n.none work.serials in
+    omega (arith, serials, few, opened)
+
+pub index-requires : goal.index-requires
+index-requires c =
+    let n = next_is c.self.inside.dumper.running c.args.slot (ap (λ v. next_slot v.dumper.running) c.self.view_is ∙ c.requires.next) in
+    let within = slot_within _ n.running c.self.invariant n.was in
+    let slot = n.slot_is in
+    let count = c.self.inside.phases.ok.0 in
+    omega (arith, within, slot, count)
+
+pub give-requires : goal.give-requires
+give-requires c =
+    let n = next_is c.self.inside.dumper.running c.args.slot (ap (λ v. next_slot v.dumper.running) c.self.view_is ∙ c.requires.next) in
+    let work = at_work _ n.running c.self.invariant n.was in
+    let few = work.few in
+    let opened = (subst (AreRunning c.self.inside.dumper.since_freeze) n.was c.sound.ensures.running).few in
+    let serials : c.self.inside.numbers.serial < 2 ^ 63 + n.running.opened = subst (λ i. c.self.inside.numbers.serial < 2 ^ 63 + begun_images n.running i) n.none work.serials in
+    omega (arith, serials, few, opened)
+
+pub returns-in_default-hold : goal.returns-in_default-hold
+returns-in_default-hold c =
+    let same = c.in_default-hold.ensures.err in
+    step_seen its.Dumper (reply.Refused OutOfMemory) _ _ _ c.self.view_is (record {
+      keeps = inl (stays_same c.core_steps.ensures _ _ (record {
+        store = record { base = refl; phases = refl; outs = refl; opener = refl; standing = refl; catalog = same; grows = refl; committing = refl; dumper = refl; serial = refl };
+        history = ap entries_of c.in-Ok.ensures.grown.items;
+        memory = refl;
+      }));
+      adds = ap entries_of c.in-Ok.ensures.grown.items;
+    })
+
+pub invariant_of-self-2 : goal.invariant_of-self-2
+invariant_of-self-2 c =
+    let base : Base = record { number = c.self.inside.number; memory = memory_of c.self.inside.base } in
+    let old = c.self.inside.numbers in
+    let serial = old.serial + 1 in
+    let w = c.begin_next-request.ensures in
+    let core = grown_core _ c.reserve_mark.new.self c.self.invariant c.in-Ok.ensures.grown in
+    let out = out_at_work _ w.running None core w.was (ap (λ outs. slice_get outs 0) (rests_before _ w.running core w.was w.none)) in
+    let work = at_work _ w.running core w.was in
+    let begun = c.tick.ensures.begun ∙ ap (λ (n : Numbers). n.begun) c.give.ensures in
+    let checkpoint = c.tick.ensures.checkpoint ∙ ap (λ (n : Numbers). n.checkpoint) c.give.ensures in
+    let given = c.tick.ensures.given ∙ ap (λ (n : Numbers). n.given) c.give.ensures in
+    let now = c.tick.ensures.serial ∙ ap (λ (n : Numbers). n.serial) c.give.ensures in
+    let above = core.numbers_are.serials in
+    let fresh = core.numbers_are.marks serial (omega (arith, above)) in
+    let t = begun_asked c.reserve_mark.new.self.items c.hold.new.self c.tick.new.self (order_of w.running serial c.state.result) w.next c.begin_next-request.result
+        now given (held_place c.self.inside.catalog c.hold.new.self serial c.in-Ok-hold.ensures.held) (none_visited c.reserve_mark.new.self.items serial fresh) w.steps.0 in
+    let within = slot_within _ w.running core w.was in
+    let serials : old.serial < 2 ^ 63 + w.running.opened = subst (λ i. old.serial < 2 ^ 63 + begun_images w.running i) w.none work.serials in
+    core_working _ _ w.is (record {
+      journal_is = subst (λ m. IsJournal base c.note.new.self m c.self.inside.pending c.self.inside.last) (sym w.steps.2)
+          (noted_journal base c.reserve_mark.new.self c.note.new.self c.self.inside.memory c.self.inside.memory c.self.inside.pending c.self.inside.last (Start serial)
+          c.note.ensures.items c.note.ensures.numbers.first c.note.ensures.numbers.limit
+          (c.tracked_laws.ensures.started base c.reserve_mark.new.self.items c.self.inside.memory serial core.journal_is.tracked fresh) core.journal_is);
+      held = c.note.ensures.held ∙ held_at_work _ w.running core w.was ∙ held_same c.self.inside.pending w.running (record w.running { image = Some w.next }) None;
+      outs_are = record {
+        are = c.put_out.ensures ∙ ap (λ outs. slice_set outs 0 (Some c.id.result)) out.1 ∙ ap (λ o. o ∷ None ∷ None ∷ []) (ap Some c.id.ensures ∙ sym t.out_is);
+        within = outs_within c.put_out.new.outs c.self.inside.phases.items (Some c.begin_next-request.result.id)
+            (c.put_out.ensures ∙ ap (λ outs. slice_set outs 0 (Some c.id.result)) out.1 ∙ ap (λ o. o ∷ None ∷ None ∷ []) (ap Some c.id.ensures))
+            (λ id is. subst (λ (i : RequestId). i.slot < length c.self.inside.phases.items) (same_Some c.begin_next-request.result.id id is)
+            (subst (λ slot. slot < length c.self.inside.phases.items) (sym t.slot) within));
+      };
+      numbers_are = subst (λ all. AreNumbers base all c.self.inside.pending c.self.inside.last c.tick.new.self) (sym c.note.ensures.items)
+          (start_numbers base c.reserve_mark.new.self.items c.self.inside.pending c.self.inside.last old c.tick.new.self begun checkpoint given now core.numbers_are);
+      counted = subst (λ n. (s : ℕ) (o : Opened) → place_of c.hold.new.self s ≡ Some (Some o) → o.header.checkpoint ≤ n) (sym checkpoint)
+          (counted_held old c.self.inside.catalog c.hold.new.self serial c.in-Ok-hold.ensures.held core.counted);
+      work = record {
+        stands = work.stands;
+        closed = work.closed;
+        pends = work.pends ∙ ap (λ i. if is_frozen_image i then Some w.running.number else None) w.none ∙ ap (λ b. if b then Some w.running.number else None) (sym (t.still ∙ and-false _));
+        above = λ none. subst (λ all. IsAbove base all w.running.number) (sym (ap entries_of c.note.ensures.items)) (work.above none);
+        some = work.some;
+        number = work.number ∙ sym begun;
+        few = work.few;
+        serials = omega (arith, now, serials);
+        within = λ slot reserved. work.within slot (record { place = reserved.place; from = reserved.from; is = reserved.is });
+        image = subst (λ all. IsImageOf all c.hold.new.self c.tick.new.self w.next) (sym c.note.ensures.items) t.image_is;
+      };
+    })
+
+pub returns : goal.returns
+returns c =
+    let base : Base = record { number = c.self.inside.number; memory = memory_of c.self.inside.base } in
+    let serial = c.self.inside.numbers.serial + 1 in
+    let w = c.begin_next-request.ensures in
+    let order = order_of w.running serial c.state.result in
+    let work = at_work _ w.running c.self.invariant w.was in
+    let none = rests_before _ w.running c.self.invariant w.was w.none in
+    let within = slot_within _ w.running c.self.invariant w.was in
+    let slot = (asked_in order (begun_image order).stage w.steps.0.plan w.steps.0.next c.begin_next-request.result w.steps.0.was w.steps.0.gives refl).slot in
+    let n = next_is c.self.inside.dumper.running c.args.slot (ap (λ v. next_slot v.dumper.running) c.self.view_is ∙ c.requires.next) in
+    let same = same_Some n.running w.running (sym n.was ∙ w.was) in
+    let at : slot_of w.running ≡ c.args.slot = sym (ap slot_of same) ∙ n.slot_is in
+    let phase = slice_index_or c.self.inside.phases.items (slot_of w.running) c.index.result.now in
+    let mid : CoreView = record {
+      base = base;
+      items = c.note.new.self.items;
+      held = c.note.new.self.held;
+      limit = c.note.new.self.limit;
+      memory = c.self.inside.memory;
+      standing = c.self.inside.standing;
+      phases = c.self.inside.phases.items;
+      outs = c.self.inside.outs;
+      catalog = c.hold.new.self;
+      dumper = record { running = Some (record w.running { image = Some (begun_image order) }); since_freeze = 0 };
+      opener = c.self.inside.opener;
+      numbers = record { checkpoint = c.self.inside.numbers.checkpoint; serial = serial; ticket = c.self.inside.numbers.ticket };
+      grows = c.self.inside.grows;
+      committing = c.self.inside.committing;
+    } in
+    hands_seen its.Dumper c.begin_next-request.result _ _ _ c.self.view_is
+    (begins_asking c.dumper_steps.ensures _ mid _ w.running phase (begun_image order) w.next c.self.inside.numbers.ticket c.begin_next-request.result (record {
+      rest = record { stands = work.stands; base = refl; closed = work.closed; grows = refl };
+      history = ap entries_of c.note.ensures.items ∙ ap entries_of c.in-Ok.ensures.grown.items;
+      memory = refl;
+      phases = refl;
+      outs = refl;
+      free = free_of_none _ (slot_of w.running) none;
+      was = w.was;
+      none = w.none;
+      phase_is = slice_get-get_or c.self.inside.phases.items (slot_of w.running) c.index.result.now within;
+      serial = refl;
+      held = c.in-Ok-hold.ensures.held;
+      is = ap (λ s. Some (record w.running { image = Some (begun_image (order_of w.running serial s)) }))
+          (c.state.ensures ∙ ap state_of c.index.ensures ∙ ap (λ k. state_of (slice_index_or c.self.inside.phases.items k c.index.result.now)) (sym at));
+    }) (record {
+      rest = record { stands = work.stands; base = refl; closed = work.closed; grows = refl };
+      history = refl;
+      catalog = refl;
+      memory = w.steps.2;
+      phases = refl;
+      serial = c.tick.ensures.serial ∙ ap (λ (n : Numbers). n.serial) c.give.ensures;
+      free = ap (λ outs. slice_get outs 0) none;
+      apart = free_of_none _ c.begin_next-request.result.id.slot none;
+      outs = c.put_out.ensures ∙ ap (λ id. slice_set c.self.inside.outs 0 (Some id)) c.id.ensures;
+      was = refl;
+      making = refl;
+      rising = c.rises_law.ensures.opens _;
+      own = refl;
+      steps = w.steps;
+      committing = c.is_committing-self-inside.ensures ∙ ap (λ r. c.self.inside.committing || is_dumping r && opens_gate c.id-2.result.call) w.is
+          ∙ ap (λ (i : RequestId). c.self.inside.committing || is_last w.running && opens_gate i.call) c.id-2.ensures;
+      is = w.is;
+    }) w.steps.1 (subst (λ s. s < length c.self.inside.phases.items) (sym slot) within))

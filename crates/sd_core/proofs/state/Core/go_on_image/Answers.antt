@@ -1,0 +1,326 @@
+use Rattle.std.proofs.Common.{◌≡◌, ℕ, ◌+◌, ◌<◌, ◌^◌, if◌then◌else◌, ◌||◌, ◌&&◌, length, Option, Some, None, slice_get, slice_set, ◌∷◌, [], refl, sym, ◌∙◌, ap, subst, inl, inr, arith}
+use Rattle.sd_areas.specs.Memory.{memory_of}
+use Rattle.std.proofs.lemmas.Option.{same_Some}
+use Rattle.sd_gate.specs.declared.request_id.RequestId.{RequestId}
+use Rattle.sd_gate.specs.declared.worker.Worker.TheVariants as its
+use Rattle.sd_command.specs.declared.reply.Reply.TheVariants as reply
+use Rattle.sd_journal.specs.declared.entry.Entry.TheVariants.{Freeze}
+use Rattle.sd_journal.specs.History.{Base}
+use Rattle.sd_journal.specs.Legal.{IsLegal}
+use Rattle.sd_journal.specs.declared.mark.Mark.TheVariants.{Table, Visit}
+use Rattle.sd_journal.specs.Marked.{Noted, Told, entries_of}
+use Rattle.sd_rounds.specs.declared.image_step.ImageStep.TheVariants.{TableCall, Frozen, Visited, Copied}
+use Rattle.sd_pagetable.specs.Contents.{plain_of}
+use Rattle.sd_rounds.specs.Dumper.{is_dumping, is_last}
+use Rattle.sd_belief.specs.DumperSteps.{opens_gate}
+use Rattle.sd_core.specs.Dumping.{StepsOn}
+use Rattle.sd_core.specs.Sound.{AreNumbers, IsImageOf, IsJournal, begun_images, held_for}
+use Rattle.sd_core.proofs.ImageLemmas.{image_calls, image_frozen, image_table, image_visited, image_copied}
+use Rattle.sd_core.proofs.MarkLemmas.{asks_or_writes, before_freeze, freeze_journal, freeze_numbers, frozen_next, may_freeze, sound_image, table_journal, visit_journal}
+use Rattle.sd_core.proofs.OpeningLemmas.{hands_seen, step_seen}
+use Rattle.sd_core.proofs.WorkLemmas.{SameNumbers, at_work, core_working, counted_same, grown_core, held_at_work, image_of_work, image_within, numbers_noted, numbers_same, out_at_work, own_order, same_numbers, turned}
+use Rattle.sd_core.proofs.StepLemmas.{free_of_none, freezes_it, hands_asked, hands_call, works_on}
+use Rattle.sd_core.proofs.state.Core.go_on_image.Goals as goal
+
+pub invariant_of-self-in-Copied-1 : goal.invariant_of-self-in-Copied-1
+invariant_of-self-in-Copied-1 c =
+    let base : Base = record { number = c.self.inside.number; memory = memory_of c.self.inside.base } in
+    let w = subst (λ step. StepsOn c.self.inside.numbers.ticket c.self.inside.dumper c.self.inside.memory step c.step_on.new.dumper c.step_on.new.memory) c.in-Copied.is c.in-Ok-step_on.ensures.steps in
+    let core = grown_core _ c.reserve_mark.new.self c.self.invariant c.in-Ok.ensures.grown in
+    let rests = ap (λ v. slice_get v.outs 0) c.self.view_is ∙ c.requires.rests in
+    let out = out_at_work _ w.running None core w.was rests in
+    let image = image_of_work _ w.running w.image core w.was w.making in
+    let within = image_within _ c.self.inside.dumper.since_freeze w.running w.image core c.sound.ensures.running w.was w.making in
+    let t = image_copied _ _ _ w.image w.next c.self.inside.memory _ image w.steps.0 in
+    core_working _ _ w.is (turned _ _ w.running w.image w.next core (record {
+      was = w.was;
+      making = w.making;
+      base = refl;
+      frozen = refl;
+      standing = refl;
+      opener = refl;
+      count = refl;
+      numbers = same_numbers _;
+      entries = refl;
+      held = refl;
+      journal_is = subst (λ m. IsJournal base c.reserve_mark.new.self m c.self.inside.pending c.self.inside.last) (sym w.steps.1) core.journal_is;
+      numbers_are = core.numbers_are;
+      counted = core.counted;
+      outs = out.1 ∙ ap (λ o. o ∷ None ∷ None ∷ []) (sym t.out_is);
+      slot = λ id is. absurd (let no : None ≡ Some id = sym t.out_is ∙ is in cc);
+      image_is = t.image_is;
+      still = t.still;
+    }))
+
+pub invariant_of-self-in-Visited-1 : goal.invariant_of-self-in-Visited-1
+invariant_of-self-in-Visited-1 c =
+    let base : Base = record { number = c.self.inside.number; memory = memory_of c.self.inside.base } in
+    let w = subst (λ step. StepsOn c.self.inside.numbers.ticket c.self.inside.dumper c.self.inside.memory step c.step_on.new.dumper c.step_on.new.memory) c.in-Visited.is c.in-Ok-step_on.ensures.steps in
+    let core = grown_core _ c.reserve_mark.new.self c.self.invariant c.in-Ok.ensures.grown in
+    let rests = ap (λ v. slice_get v.outs 0) c.self.view_is ∙ c.requires.rests in
+    let out = out_at_work _ w.running None core w.was rests in
+    let image = image_of_work _ w.running w.image core w.was w.making in
+    let within = image_within _ c.self.inside.dumper.since_freeze w.running w.image core c.sound.ensures.running w.was w.making in
+    let t = image_visited _ _ _ w.image w.next c.self.inside.memory _ _ image w.steps in
+    let given = image.given in
+    let items = c.note-in-Visited.ensures.items ∙ ap (λ s. Noted (Visit s c.in-Visited.visit.space c.in-Visited.visit.page) ∷ c.reserve_mark.new.self.items) (sym image.serial) in
+    core_working _ _ w.is (turned _ _ w.running w.image w.next core (record {
+      was = w.was;
+      making = w.making;
+      base = refl;
+      frozen = refl;
+      standing = refl;
+      opener = refl;
+      count = refl;
+      numbers = same_numbers _;
+      entries = ap entries_of items;
+      held = c.note-in-Visited.ensures.held;
+      journal_is = visit_journal c.tracked_laws.ensures _ w.running w.image w.next _ _ c.note-in-Visited.new.self core w.was w.making w.steps items c.note-in-Visited.ensures.numbers.first c.note-in-Visited.ensures.numbers.limit;
+      numbers_are = subst (λ all. AreNumbers base all c.self.inside.pending c.self.inside.last c.self.inside.numbers) (sym items)
+          (numbers_noted base c.reserve_mark.new.self.items c.self.inside.pending c.self.inside.last c.self.inside.numbers (Visit w.image.order.serial c.in-Visited.visit.space c.in-Visited.visit.page) (omega (arith, given)) core.numbers_are);
+      counted = core.counted;
+      outs = out.1 ∙ ap (λ o. o ∷ None ∷ None ∷ []) (sym t.out_is);
+      slot = λ id is. absurd (let no : None ≡ Some id = sym t.out_is ∙ is in cc);
+      image_is = subst (λ all. IsImageOf all c.self.inside.catalog c.self.inside.numbers w.next) (sym items) t.image_is;
+      still = t.still;
+    }))
+
+pub invariant_of-self-in-Call : goal.invariant_of-self-in-Call
+invariant_of-self-in-Call c =
+    let base : Base = record { number = c.self.inside.number; memory = memory_of c.self.inside.base } in
+    let w = c.in-Ok-step_on.ensures.steps in
+    let core = grown_core _ c.reserve_mark.new.self c.self.invariant c.in-Ok.ensures.grown in
+    let rests = ap (λ v. slice_get v.outs 0) c.self.view_is ∙ c.requires.rests in
+    let out = out_at_work _ w.running None core w.was rests in
+    let image = image_of_work _ w.running w.image core w.was w.making in
+    let within = image_within _ c.self.inside.dumper.since_freeze w.running w.image core c.sound.ensures.running w.was w.making in
+    let numbers : SameNumbers c.self.inside.numbers c.tick-in-Call.new.self = record { begun = c.tick-in-Call.ensures.begun; given = c.tick-in-Call.ensures.given; checkpoint = c.tick-in-Call.ensures.checkpoint; serial = c.tick-in-Call.ensures.serial } in
+    let a = asks_or_writes c.self.inside.numbers.ticket w.image c.self.inside.memory c.in-Ok-step_on.step c.in-Call.request w.next c.step_on.new.memory c.in-Call.is w.steps in
+    let t = image_calls _ _ _ c.tick-in-Call.new.self w.image w.next c.in-Call.request numbers image a.either in
+    core_working _ _ w.is (turned _ _ w.running w.image w.next core (record {
+      was = w.was;
+      making = w.making;
+      base = refl;
+      frozen = refl;
+      standing = refl;
+      opener = refl;
+      count = refl;
+      numbers = numbers;
+      entries = refl;
+      held = refl;
+      journal_is = subst (λ m. IsJournal base c.reserve_mark.new.self m c.self.inside.pending c.self.inside.last) (sym a.same) core.journal_is;
+      numbers_are = numbers_same base c.reserve_mark.new.self.items c.self.inside.pending c.self.inside.last c.self.inside.numbers c.tick-in-Call.new.self numbers core.numbers_are;
+      counted = counted_same c.self.inside.catalog c.self.inside.numbers c.tick-in-Call.new.self numbers core.counted;
+      outs = c.put_out-in-Call.ensures ∙ ap (λ outs. slice_set outs 0 (Some c.id-in-Call.result)) out.1 ∙ ap (λ o. o ∷ None ∷ None ∷ []) (ap Some c.id-in-Call.ensures ∙ sym t.out_is);
+      slot = λ id is. subst (λ (i : RequestId). i.slot < length c.self.inside.phases.items) (same_Some c.in-Call.request.id id (sym t.out_is ∙ is)) (subst (λ slot. slot < length c.self.inside.phases.items) (sym t.slot) within);
+      image_is = t.image_is;
+      still = t.still;
+    }))
+
+pub invariant_of-self-in-TableCall-1 : goal.invariant_of-self-in-TableCall-1
+invariant_of-self-in-TableCall-1 c =
+    let base : Base = record { number = c.self.inside.number; memory = memory_of c.self.inside.base } in
+    let w = subst (λ step. StepsOn c.self.inside.numbers.ticket c.self.inside.dumper c.self.inside.memory step c.step_on.new.dumper c.step_on.new.memory) c.in-TableCall.is c.in-Ok-step_on.ensures.steps in
+    let core = grown_core _ c.reserve_mark.new.self c.self.invariant c.in-Ok.ensures.grown in
+    let rests = ap (λ v. slice_get v.outs 0) c.self.view_is ∙ c.requires.rests in
+    let out = out_at_work _ w.running None core w.was rests in
+    let image = image_of_work _ w.running w.image core w.was w.making in
+    let within = image_within _ c.self.inside.dumper.since_freeze w.running w.image core c.sound.ensures.running w.was w.making in
+    let numbers : SameNumbers c.self.inside.numbers c.tick.new.self = record { begun = c.tick.ensures.begun; given = c.tick.ensures.given; checkpoint = c.tick.ensures.checkpoint; serial = c.tick.ensures.serial } in
+    let t = image_table _ _ _ c.tick.new.self w.image w.next c.self.inside.memory c.in-TableCall.request numbers image w.steps.0 in
+    let given = image.given in
+    let items = c.note.ensures.items ∙ ap (λ s. Noted (Table s) ∷ c.reserve_mark.new.self.items) (sym image.serial) in
+    core_working _ _ w.is (turned _ _ w.running w.image w.next core (record {
+      was = w.was;
+      making = w.making;
+      base = refl;
+      frozen = refl;
+      standing = refl;
+      opener = refl;
+      count = refl;
+      numbers = numbers;
+      entries = ap entries_of items;
+      held = c.note.ensures.held;
+      journal_is = subst (λ m. IsJournal base c.note.new.self m c.self.inside.pending c.self.inside.last) (sym w.steps.2)
+          (table_journal c.tracked_laws.ensures _ w.running w.image w.next c.in-TableCall.request c.note.new.self core w.was w.making w.steps.0 items c.note.ensures.numbers.first c.note.ensures.numbers.limit);
+      numbers_are = subst (λ all. AreNumbers base all c.self.inside.pending c.self.inside.last c.tick.new.self) (sym items)
+          (numbers_same base _ c.self.inside.pending c.self.inside.last c.self.inside.numbers c.tick.new.self numbers
+          (numbers_noted base c.reserve_mark.new.self.items c.self.inside.pending c.self.inside.last c.self.inside.numbers (Table w.image.order.serial) (omega (arith, given)) core.numbers_are));
+      counted = counted_same c.self.inside.catalog c.self.inside.numbers c.tick.new.self numbers core.counted;
+      outs = c.put_out.ensures ∙ ap (λ outs. slice_set outs 0 (Some c.id.result)) out.1 ∙ ap (λ o. o ∷ None ∷ None ∷ []) (ap Some c.id.ensures ∙ sym t.out_is);
+      slot = λ id is. subst (λ (i : RequestId). i.slot < length c.self.inside.phases.items) (same_Some c.in-TableCall.request.id id (sym t.out_is ∙ is)) (subst (λ slot. slot < length c.self.inside.phases.items) (sym t.slot) within);
+      image_is = subst (λ all. IsImageOf all c.self.inside.catalog c.tick.new.self w.next) (sym items) t.image_is;
+      still = t.still;
+    }))
+
+pub invariant_of-self-in-Frozen-1 : goal.invariant_of-self-in-Frozen-1
+invariant_of-self-in-Frozen-1 c =
+    let base : Base = record { number = c.self.inside.number; memory = memory_of c.self.inside.base } in
+    let w = subst (λ step. StepsOn c.self.inside.numbers.ticket c.self.inside.dumper c.self.inside.memory step c.step_on.new.dumper c.step_on.new.memory) c.in-Frozen.is c.in-Ok-step_on.ensures.steps in
+    let core = grown_core _ c.reserve_mark.new.self c.self.invariant c.in-Ok.ensures.grown in
+    let rests = ap (λ v. slice_get v.outs 0) c.self.view_is ∙ c.requires.rests in
+    let out = out_at_work _ w.running None core w.was rests in
+    let image = image_of_work _ w.running w.image core w.was w.making in
+    let within = image_within _ c.self.inside.dumper.since_freeze w.running w.image core c.sound.ensures.running w.was w.making in
+    let b = before_freeze _ w.running w.image w.next core w.was w.making c.sound.ensures.image w.steps.0 in
+    let work = at_work _ w.running core w.was in
+    let t = image_frozen _ _ _ w.image w.next image w.steps.0 in
+    let held = c.append_held.ensures.held in
+    let two = held_at_work _ w.running core w.was ∙ ap (λ f. held_for f (Some w.running) None) b.none in
+    let next = frozen_next w.image w.next b.kind w.steps.0 in
+    let serials = subst (λ i. c.self.inside.numbers.serial < 2 ^ 63 + begun_images w.running i) w.making work.serials in
+    core_working _ _ w.is (record {
+      journal_is = subst (λ m. IsJournal base c.append_held.new.self m (Some c.self.inside.numbers.begun) c.self.inside.last) (sym w.steps.1)
+          (freeze_journal c.tracked_laws.ensures _ w.running c.append_held.new.self core w.was b.none c.append_held.ensures.items c.append_held.ensures.numbers.first c.append_held.ensures.numbers.limit);
+      held = omega (arith, held, two);
+      outs_are = record { are = out.1 ∙ ap (λ o. o ∷ None ∷ None ∷ []) (sym t.out_is); within = core.outs_are.within };
+      numbers_are = subst (λ all. AreNumbers base all (Some c.self.inside.numbers.begun) c.self.inside.last c.self.inside.numbers) (sym c.append_held.ensures.items)
+          (freeze_numbers base c.reserve_mark.new.self.items c.self.inside.last c.self.inside.numbers
+          (subst (λ f. AreNumbers base c.reserve_mark.new.self.items f c.self.inside.last c.self.inside.numbers) b.none core.numbers_are));
+      counted = core.counted;
+      work = record {
+        stands = work.stands;
+        closed = work.closed;
+        pends = ap Some (sym work.number) ∙ ap (λ b. if b then Some w.running.number else None) (sym next);
+        above = λ is. absurd (let no : Some c.self.inside.numbers.begun ≡ None = is in cc);
+        some = work.some;
+        number = work.number;
+        few = work.few;
+        serials = serials;
+        within = λ slot reserved. work.within slot (record { place = reserved.place; from = reserved.from; is = reserved.is });
+        image = subst (λ all. IsImageOf all c.self.inside.catalog c.self.inside.numbers w.next) (sym c.append_held.ensures.items) t.image_is;
+      };
+    })
+
+pub returns-in-Copied : goal.returns-in-Copied
+returns-in-Copied c =
+    let base : Base = record { number = c.self.inside.number; memory = memory_of c.self.inside.base } in
+    let w = subst (λ step. StepsOn c.self.inside.numbers.ticket c.self.inside.dumper c.self.inside.memory step c.step_on.new.dumper c.step_on.new.memory) c.in-Copied.is c.in-Ok-step_on.ensures.steps in
+    let rests = ap (λ v. slice_get v.outs 0) c.self.view_is ∙ c.requires.rests in
+    let out = out_at_work _ w.running None c.self.invariant w.was rests in
+    let work = at_work _ w.running c.self.invariant w.was in
+    step_seen its.Dumper reply.Worked _ _ _ c.self.view_is (works_on c.dumper_steps.ensures _ _ w.running w.image w.next c.self.inside.numbers.ticket (Copied c.in-Copied.field-0) tt (record {
+      rest = record { stands = work.stands; base = refl; closed = work.closed; grows = refl };
+      history = ap entries_of c.in-Ok.ensures.grown.items;
+      catalog = refl;
+      phases = refl;
+      serial = refl;
+      outs = refl;
+      was = w.was;
+      making = w.making;
+      rising = (sound_image _ w.running w.image c.sound.ensures.image w.was w.making).rising;
+      steps = w.steps;
+      plain = ap plain_of w.steps.1;
+      committing = refl;
+      is = w.is;
+    }))
+
+pub returns-in-Visited : goal.returns-in-Visited
+returns-in-Visited c =
+    let base : Base = record { number = c.self.inside.number; memory = memory_of c.self.inside.base } in
+    let w = subst (λ step. StepsOn c.self.inside.numbers.ticket c.self.inside.dumper c.self.inside.memory step c.step_on.new.dumper c.step_on.new.memory) c.in-Visited.is c.in-Ok-step_on.ensures.steps in
+    let rests = ap (λ v. slice_get v.outs 0) c.self.view_is ∙ c.requires.rests in
+    let out = out_at_work _ w.running None c.self.invariant w.was rests in
+    let work = at_work _ w.running c.self.invariant w.was in
+    step_seen its.Dumper reply.Worked _ _ _ c.self.view_is (works_on c.dumper_steps.ensures _ _ w.running w.image w.next c.self.inside.numbers.ticket (Visited c.in-Visited.visit) tt (record {
+      rest = record { stands = work.stands; base = refl; closed = work.closed; grows = refl };
+      history = ap entries_of (c.note-in-Visited.ensures.items) ∙ ap entries_of c.in-Ok.ensures.grown.items;
+      catalog = refl;
+      phases = refl;
+      serial = refl;
+      outs = refl;
+      was = w.was;
+      making = w.making;
+      rising = (sound_image _ w.running w.image c.sound.ensures.image w.was w.making).rising;
+      steps = w.steps;
+      plain = w.steps.tests.plain;
+      committing = refl;
+      is = w.is;
+    }))
+
+pub returns-in-Frozen : goal.returns-in-Frozen
+returns-in-Frozen c =
+    let base : Base = record { number = c.self.inside.number; memory = memory_of c.self.inside.base } in
+    let w = subst (λ step. StepsOn c.self.inside.numbers.ticket c.self.inside.dumper c.self.inside.memory step c.step_on.new.dumper c.step_on.new.memory) c.in-Frozen.is c.in-Ok-step_on.ensures.steps in
+    let rests = ap (λ v. slice_get v.outs 0) c.self.view_is ∙ c.requires.rests in
+    let out = out_at_work _ w.running None c.self.invariant w.was rests in
+    let work = at_work _ w.running c.self.invariant w.was in
+    let b = before_freeze _ w.running w.image w.next c.self.invariant w.was w.making c.sound.ensures.image w.steps.0 in
+    let items = c.self.inside.journal.items in
+    let tracked = c.self.invariant.journal_is.tracked in
+    step_seen its.Dumper reply.Worked _ _ _ c.self.view_is (freezes_it c.dumper_steps.ensures _ _ w.running w.image w.next c.self.inside.numbers.ticket (record {
+      rest = record { stands = work.stands; base = refl; closed = work.closed; grows = refl };
+      items = c.append_held.ensures.items ∙ ap (λ all. Told (Freeze c.self.inside.numbers.begun) ∷ all) c.in-Ok.ensures.grown.items ∙ ap (λ n. Told (Freeze n) ∷ items) (sym work.number);
+      legal = subst (λ n. IsLegal base (Freeze n ∷ entries_of items)) (sym work.number)
+          (may_freeze _ w.running c.self.invariant w.was b.none, c.tracked_laws.ensures.legal base items tracked.marked);
+      made = tracked.memory;
+      catalog = refl;
+      memory = w.steps.1;
+      phases = refl;
+      serial = refl;
+      outs = refl;
+      was = w.was;
+      making = w.making;
+      steps = w.steps;
+      committing = refl;
+      is = w.is;
+    }))
+
+pub returns-in-TableCall : goal.returns-in-TableCall
+returns-in-TableCall c =
+    let base : Base = record { number = c.self.inside.number; memory = memory_of c.self.inside.base } in
+    let w = subst (λ step. StepsOn c.self.inside.numbers.ticket c.self.inside.dumper c.self.inside.memory step c.step_on.new.dumper c.step_on.new.memory) c.in-TableCall.is c.in-Ok-step_on.ensures.steps in
+    let rests = ap (λ v. slice_get v.outs 0) c.self.view_is ∙ c.requires.rests in
+    let out = out_at_work _ w.running None c.self.invariant w.was rests in
+    let work = at_work _ w.running c.self.invariant w.was in
+    let within = image_within _ c.self.inside.dumper.since_freeze w.running w.image c.self.invariant c.sound.ensures.running w.was w.making in
+    let slot = w.steps.0.gives.slot in
+    hands_seen its.Dumper c.in-TableCall.request _ _ _ c.self.view_is (hands_asked _ _ w.running w.image w.next c.self.inside.numbers.ticket (TableCall c.in-TableCall.request) c.in-TableCall.request (record {
+      rest = record { stands = work.stands; base = refl; closed = work.closed; grows = refl };
+      history = ap entries_of c.note.ensures.items ∙ ap entries_of c.in-Ok.ensures.grown.items;
+      catalog = refl;
+      memory = w.steps.2;
+      phases = refl;
+      serial = c.tick.ensures.serial;
+      free = rests;
+      apart = free_of_none _ c.in-TableCall.request.id.slot out.1;
+      outs = c.put_out.ensures ∙ ap (λ id. slice_set c.self.inside.outs 0 (Some id)) c.id.ensures;
+      was = w.was;
+      making = w.making;
+      rising = (sound_image _ w.running w.image c.sound.ensures.image w.was w.making).rising;
+      own = own_order c.self.inside.dumper.since_freeze _ w.running w.image c.sound.ensures.running w.was w.making;
+      steps = w.steps;
+      committing = c.is_committing-self-inside.ensures ∙ ap (λ r. c.self.inside.committing || is_dumping r && opens_gate c.id-in-TableCall.result.call) w.is
+          ∙ ap (λ (i : RequestId). c.self.inside.committing || is_last w.running && opens_gate i.call) c.id-in-TableCall.ensures;
+      is = w.is;
+    }) w.steps.1 (subst (λ slot. slot < length c.self.inside.phases.items) (sym slot) within) (λ asked bodies files. c.dumper_steps.ensures.writes_table _ _ w.running w.image w.next c.self.inside.numbers.ticket c.in-TableCall.request asked bodies files))
+
+pub returns-in-Call : goal.returns-in-Call
+returns-in-Call c =
+    let base : Base = record { number = c.self.inside.number; memory = memory_of c.self.inside.base } in
+    let w = c.in-Ok-step_on.ensures.steps in
+    let rests = ap (λ v. slice_get v.outs 0) c.self.view_is ∙ c.requires.rests in
+    let out = out_at_work _ w.running None c.self.invariant w.was rests in
+    let work = at_work _ w.running c.self.invariant w.was in
+    let within = image_within _ c.self.inside.dumper.since_freeze w.running w.image c.self.invariant c.sound.ensures.running w.was w.making in
+    let a = asks_or_writes c.self.inside.numbers.ticket w.image c.self.inside.memory c.in-Ok-step_on.step c.in-Call.request w.next c.step_on.new.memory c.in-Call.is w.steps in
+    let slot = (image_calls _ _ _ _ w.image w.next c.in-Call.request (same_numbers _) (image_of_work _ w.running w.image c.self.invariant w.was w.making) a.either).slot in
+    hands_seen its.Dumper c.in-Call.request _ _ _ c.self.view_is (hands_call c.dumper_steps.ensures _ _ w.running w.image w.next c.self.inside.numbers.ticket c.in-Ok-step_on.step c.in-Call.request c.in-Call.is (record {
+      rest = record { stands = work.stands; base = refl; closed = work.closed; grows = refl };
+      history = ap entries_of c.in-Ok.ensures.grown.items;
+      catalog = refl;
+      memory = a.same;
+      phases = refl;
+      serial = c.tick-in-Call.ensures.serial;
+      free = rests;
+      apart = free_of_none _ c.in-Call.request.id.slot out.1;
+      outs = c.put_out-in-Call.ensures ∙ ap (λ id. slice_set c.self.inside.outs 0 (Some id)) c.id-in-Call.ensures;
+      was = w.was;
+      making = w.making;
+      rising = (sound_image _ w.running w.image c.sound.ensures.image w.was w.making).rising;
+      own = own_order c.self.inside.dumper.since_freeze _ w.running w.image c.sound.ensures.running w.was w.making;
+      steps = w.steps;
+      committing = c.is_committing-self-inside-in-Call.ensures ∙ ap (λ r. c.self.inside.committing || is_dumping r && opens_gate c.id-in-Call-2.result.call) w.is
+          ∙ ap (λ (i : RequestId). c.self.inside.committing || is_last w.running && opens_gate i.call) c.id-in-Call-2.ensures;
+      is = w.is;
+    }) a.by (subst (λ slot. slot < length c.self.inside.phases.items) (sym slot) within))

@@ -1,0 +1,368 @@
+use Rattle.std.proofs.Common.{◌≡◌, ℕ, ◌+◌, ◌^◌, ◌<◌, ◌≤◌, ◌∷◌, [], Some, None, IfSome, length, slice_get, slice_index_or, slice_set, refl, sym, ◌∙◌, ap, subst, arith}
+use Rattle.std.proofs.lemmas.Option.{slice_get-get_or}
+use Rattle.sd_areas.specs.Memory.{memory_of}
+use Rattle.sd_chain.specs.Catalog.{Changes}
+use Rattle.sd_gate.specs.declared.phase.Phase.{Phase}
+use Rattle.sd_gate.specs.declared.request_id.RequestId.{RequestId}
+use Rattle.sd_gate.specs.Calls.{is_done}
+use Rattle.sd_gate.specs.Phases.{phases_after}
+use Rattle.sd_command.specs.declared.refusal.Refusal.TheVariants.{StoreDown}
+use Rattle.sd_command.specs.declared.reply.Reply.TheVariants as reply
+use Rattle.sd_journal.specs.declared.entry.Entry.TheVariants.{Acked}
+use Rattle.sd_journal.specs.History.{Base}
+use Rattle.sd_journal.specs.Legal.{IsLegal}
+use Rattle.sd_journal.specs.Marked.{Told, entries_of}
+use Rattle.sd_rounds.specs.declared.progress.Progress.TheVariants.{Failed, More, PreDump, Dump}
+use Rattle.sd_rounds.specs.Dumper.{Hands, after_pre_dump, out_of_running}
+use Rattle.sd_belief.specs.DumperOutcomes.{IsDumpersOutcome, LeavesCatalog, closes_for_sure}
+use Rattle.sd_belief.specs.OpenerSteps.{nobody}
+use Rattle.sd_belief.specs.View.{CoreView, index}
+use Rattle.sd_core.specs.Sound.{AreNumbers, IsAtWork, IsOpening, begun_images, held_for, out_of_opener}
+use Rattle.sd_core.proofs.CoreLemmas.{after_count}
+use Rattle.sd_core.proofs.ImageLemmas.{image_more}
+use Rattle.sd_core.proofs.MarkLemmas.{sound_image}
+use Rattle.sd_core.proofs.OpeningLemmas.{handed_seen}
+use Rattle.sd_core.proofs.OutcomeLemmas.{acked_journal, acked_numbers, checkpoint_used, counted_opened, dump_pends, handed_dumper, left_counted, left_held, opened_now, pre_dump_pends}
+use Rattle.sd_core.proofs.StepLemmas.{free_of_none}
+use Rattle.sd_core.proofs.WorkLemmas.{at_work, core_working, held_at_work, held_same, image_of_work, out_at_work, outs_within, own_order, same_numbers, turned}
+use Rattle.sd_core.proofs.state.Core.hand_in_dumper.Goals as goal
+
+pub invariant_of-self-in-More : goal.invariant_of-self-in-More
+invariant_of-self-in-More c =
+    let base : Base = record { number = c.self.inside.number; memory = memory_of c.self.inside.base } in
+    let made = c.args.outcome in
+    let id = made.request.id in
+    let phases = c.self.inside.phases.items in
+    let own : slice_get c.self.inside.outs 0 ≡ Some (Some id) = ap (λ w. slice_get c.self.inside.outs (index w)) (sym c.requires.dumper)
+    ∙ ap (λ (v : CoreView). slice_get v.outs (index id.worker)) c.self.view_is ∙ c.requires.out in
+    let h = subst (λ p. Hands c.self.inside.dumper made p c.hand_in.new.self) c.in-More.is c.hand_in.ensures.hands in
+    let work = at_work _ h.running c.self.invariant h.was in
+    let out = out_at_work _ h.running (Some id) c.self.invariant h.was own in
+    let within = c.self.invariant.outs_are.within 0 id own in
+    let none_now : c.put_out.new.outs ≡ nobody = c.put_out.ensures ∙ ap (λ outs. slice_set outs 0 None) out.1 in
+    let follows : (phase : Phase) → slice_get phases id.slot ≡ Some phase → c.follow_call.new.phases.items ≡ phases_after phases id phase (is_done made.answer) =
+    (λ phase is. c.follow_call.ensures phase (ap (λ (i : RequestId). slice_get phases i.slot) c.id-id.ensures ∙ is)
+    ∙ ap (λ i. phases_after phases i phase c.is_done-done.result) c.id-id.ensures
+    ∙ ap (phases_after phases id phase) (c.is_done-done.ensures ∙ ap is_done c.answer.ensures)) in
+    let count = after_count phases c.follow_call.new.phases.items id (is_done made.answer) within follows in
+    let image = image_of_work _ h.running h.hands.image c.self.invariant h.was h.hands.was in
+    let t = image_more c.self.inside.journal.items c.self.inside.catalog c.leave_catalog.new.catalog c.self.inside.numbers h.hands.image h.hands.next made image
+    (left_held c.closes_for_sure-closed.result c.id-id.result.slot c.self.inside.catalog c.leave_catalog.new.catalog h.hands.image.order.serial c.leave_catalog.ensures image.held) h.hands.hands in
+    core_working _ _ (ap (λ d. d.running) h.is ∙ ap Some h.hands.is) (turned _ _ h.running h.hands.image h.hands.next c.self.invariant (record {
+      was = h.was;
+      making = h.hands.was;
+      base = refl;
+      frozen = refl;
+      standing = refl;
+      opener = refl;
+      count = count;
+      numbers = same_numbers _;
+      entries = refl;
+      held = refl;
+      journal_is = c.self.invariant.journal_is;
+      numbers_are = c.self.invariant.numbers_are;
+      counted = left_counted c.closes_for_sure-closed.result c.id-id.result.slot c.self.inside.catalog c.leave_catalog.new.catalog c.self.inside.numbers c.leave_catalog.ensures c.self.invariant.counted;
+      outs = none_now ∙ ap (λ o. o ∷ None ∷ None ∷ []) (sym t.out_is);
+      slot = λ other is. absurd (let no : None ≡ Some other = sym t.out_is ∙ is in cc);
+      image_is = t.image_is;
+      still = t.still;
+    }))
+
+pub invariant_of-self-in-PreDump : goal.invariant_of-self-in-PreDump
+invariant_of-self-in-PreDump c =
+    let base : Base = record { number = c.self.inside.number; memory = memory_of c.self.inside.base } in
+    let made = c.args.outcome in
+    let id = made.request.id in
+    let phases = c.self.inside.phases.items in
+    let own : slice_get c.self.inside.outs 0 ≡ Some (Some id) = ap (λ w. slice_get c.self.inside.outs (index w)) (sym c.requires.dumper)
+    ∙ ap (λ (v : CoreView). slice_get v.outs (index id.worker)) c.self.view_is ∙ c.requires.out in
+    let h = subst (λ p. Hands c.self.inside.dumper made p c.hand_in.new.self) c.in-PreDump.is c.hand_in.ensures.hands in
+    let work = at_work _ h.running c.self.invariant h.was in
+    let out = out_at_work _ h.running (Some id) c.self.invariant h.was own in
+    let within = c.self.invariant.outs_are.within 0 id own in
+    let none_now : c.put_out.new.outs ≡ nobody = c.put_out.ensures ∙ ap (λ outs. slice_set outs 0 None) out.1 in
+    let follows : (phase : Phase) → slice_get phases id.slot ≡ Some phase → c.follow_call.new.phases.items ≡ phases_after phases id phase (is_done made.answer) =
+    (λ phase is. c.follow_call.ensures phase (ap (λ (i : RequestId). slice_get phases i.slot) c.id-id.ensures ∙ is)
+    ∙ ap (λ i. phases_after phases i phase c.is_done-done.result) c.id-id.ensures
+    ∙ ap (phases_after phases id phase) (c.is_done-done.ensures ∙ ap is_done c.answer.ensures)) in
+    let count = after_count phases c.follow_call.new.phases.items id (is_done made.answer) within follows in
+    let opened = c.in-PreDump.image in
+    let image = image_of_work _ h.running h.hands.0.image c.self.invariant h.was h.hands.0.was in
+    let now = opened_now _ _ _ h.hands.0.image opened made image h.hands.0.hands in
+    let changes : Changes c.self.inside.catalog c.enter_catalog.new.catalog h.hands.0.image.order.serial (Some (Some (record { slot = opened.slot; header = opened.header; spaces = opened.table }))) =
+    subst (λ s. Changes c.self.inside.catalog c.enter_catalog.new.catalog s (Some (Some (record { slot = opened.slot; header = opened.header; spaces = opened.table })))) now.serial c.enter_catalog.ensures in
+    let counted = counted_opened c.self.inside.numbers c.self.inside.catalog c.enter_catalog.new.catalog h.hands.0.image.order.serial _ changes
+    (checkpoint_used _ c.self.inside.dumper.since_freeze h.running h.hands.0.image opened c.self.invariant c.sound.ensures.running h.was h.hands.0.was now) c.self.invariant.counted in
+    let none = pre_dump_pends _ c.self.inside.dumper.since_freeze h.running h.hands.0.image c.self.invariant c.sound.ensures.running h.was h.hands.0.was h.hands.1 in
+    let serials : c.self.inside.numbers.serial < 2 ^ 63 + (h.running.opened + 1) = subst (λ i. c.self.inside.numbers.serial < 2 ^ 63 + begun_images h.running i) h.hands.0.was work.serials in
+    core_working _ _ (ap (λ d. d.running) h.is ∙ ap Some h.hands.2) (record {
+      journal_is = c.self.invariant.journal_is;
+      held = held_at_work _ h.running c.self.invariant h.was ∙ held_same c.self.inside.pending h.running (after_pre_dump h.running opened) None;
+      outs_are = record { are = none_now; within = outs_within c.put_out.new.outs c.follow_call.new.phases.items None none_now (λ other is. absurd (let no : None ≡ Some other = is in cc)) };
+      numbers_are = c.self.invariant.numbers_are;
+      counted = counted;
+      work = record {
+        stands = work.stands;
+        closed = work.closed;
+        pends = none;
+        above = work.above;
+        some = work.some;
+        number = work.number;
+        few = work.few;
+        serials = serials;
+        within = λ slot reserved. subst (λ k. slot < k) (sym count)
+            (work.within slot (record { place = reserved.place; from = (let from = reserved.from in omega (arith, from)); is = reserved.is }));
+        image = tt;
+      };
+    })
+
+pub invariant_of-self-in-Dump : goal.invariant_of-self-in-Dump
+invariant_of-self-in-Dump c =
+    let base : Base = record { number = c.self.inside.number; memory = memory_of c.self.inside.base } in
+    let made = c.args.outcome in
+    let id = made.request.id in
+    let phases = c.self.inside.phases.items in
+    let own : slice_get c.self.inside.outs 0 ≡ Some (Some id) = ap (λ w. slice_get c.self.inside.outs (index w)) (sym c.requires.dumper)
+    ∙ ap (λ (v : CoreView). slice_get v.outs (index id.worker)) c.self.view_is ∙ c.requires.out in
+    let h = subst (λ p. Hands c.self.inside.dumper made p c.hand_in.new.self) c.in-Dump.is c.hand_in.ensures.hands in
+    let work = at_work _ h.running c.self.invariant h.was in
+    let out = out_at_work _ h.running (Some id) c.self.invariant h.was own in
+    let within = c.self.invariant.outs_are.within 0 id own in
+    let none_now : c.put_out.new.outs ≡ nobody = c.put_out.ensures ∙ ap (λ outs. slice_set outs 0 None) out.1 in
+    let follows : (phase : Phase) → slice_get phases id.slot ≡ Some phase → c.follow_call.new.phases.items ≡ phases_after phases id phase (is_done made.answer) =
+    (λ phase is. c.follow_call.ensures phase (ap (λ (i : RequestId). slice_get phases i.slot) c.id-id.ensures ∙ is)
+    ∙ ap (λ i. phases_after phases i phase c.is_done-done.result) c.id-id.ensures
+    ∙ ap (phases_after phases id phase) (c.is_done-done.ensures ∙ ap is_done c.answer.ensures)) in
+    let count = after_count phases c.follow_call.new.phases.items id (is_done made.answer) within follows in
+    let opened = c.in-Dump.image in
+    let image = image_of_work _ h.running h.hands.0.image c.self.invariant h.was h.hands.0.was in
+    let now = opened_now _ _ _ h.hands.0.image opened made image h.hands.0.hands in
+    let changes : Changes c.self.inside.catalog c.enter_catalog-in-Dump.new.catalog h.hands.0.image.order.serial (Some (Some (record { slot = opened.slot; header = opened.header; spaces = opened.table }))) =
+    subst (λ s. Changes c.self.inside.catalog c.enter_catalog-in-Dump.new.catalog s (Some (Some (record { slot = opened.slot; header = opened.header; spaces = opened.table })))) now.serial c.enter_catalog-in-Dump.ensures in
+    let counted = counted_opened c.self.inside.numbers c.self.inside.catalog c.enter_catalog-in-Dump.new.catalog h.hands.0.image.order.serial _ changes
+    (checkpoint_used _ c.self.inside.dumper.since_freeze h.running h.hands.0.image opened c.self.invariant c.sound.ensures.running h.was h.hands.0.was now) c.self.invariant.counted in
+    let pends = dump_pends _ c.self.inside.dumper.since_freeze h.running h.hands.0.image made opened c.self.invariant c.sound.ensures.running h.was h.hands.0.was h.hands.1 h.hands.0.hands
+    ∙ ap Some work.number in
+    let gone = ap (λ d. d.running) h.is in
+    let held = c.append_held.ensures.held in
+    let one = held_at_work _ h.running c.self.invariant h.was ∙ ap (λ f. held_for f (Some h.running) None) pends in
+    let free : c.append_held.new.self.held ≡ 0 = omega (arith, held, one) in
+    record {
+      journal_is = acked_journal c.tracked_laws.ensures _ c.append_held.new.self c.self.invariant pends c.append_held.ensures.items c.append_held.ensures.numbers.first c.append_held.ensures.numbers.limit;
+      held = free ∙ ap (λ r. held_for None r None) (sym gone) ∙ ap (held_for None c.hand_in.new.self.running) (sym work.closed);
+      outs_are = record {
+        are = none_now ∙ ap (λ r. out_of_running r ∷ None ∷ None ∷ []) (sym gone) ∙ ap (λ o. out_of_running c.hand_in.new.self.running ∷ None ∷ out_of_opener o ∷ []) (sym work.closed);
+        within = outs_within c.put_out.new.outs c.follow_call.new.phases.items None none_now (λ other is. absurd (let no : None ≡ Some other = is in cc));
+      };
+      opening = subst (λ o. IfSome o (IsOpening c.self.inside.standing c.follow_call.new.phases.items)) (sym work.closed) tt;
+      numbers_are = subst (λ all. AreNumbers base all None (Some c.self.inside.numbers.begun) c.self.inside.numbers) (sym c.append_held.ensures.items)
+          (acked_numbers base c.self.inside.journal.items c.self.inside.pending c.self.inside.last c.self.inside.numbers c.self.invariant.numbers_are);
+      counted = counted;
+      rests = λ none open_. refl;
+      work = subst (λ r. IfSome r (IsAtWork base c.append_held.new.self.items None c.self.inside.standing c.follow_call.new.phases.items c.enter_catalog-in-Dump.new.catalog c.self.inside.opener c.self.inside.numbers)) (sym gone) tt;
+    }
+
+pub returns-in-Failed : goal.returns-in-Failed
+returns-in-Failed c =
+    let base : Base = record { number = c.self.inside.number; memory = memory_of c.self.inside.base } in
+    let made = c.args.outcome in
+    let id = made.request.id in
+    let phases = c.self.inside.phases.items in
+    let own : slice_get c.self.inside.outs 0 ≡ Some (Some id) = ap (λ w. slice_get c.self.inside.outs (index w)) (sym c.requires.dumper)
+    ∙ ap (λ (v : CoreView). slice_get v.outs (index id.worker)) c.self.view_is ∙ c.requires.out in
+    let h = subst (λ p. Hands c.self.inside.dumper made p c.hand_in.new.self) c.in-Failed.is c.hand_in.ensures.hands in
+    let work = at_work _ h.running c.self.invariant h.was in
+    let out = out_at_work _ h.running (Some id) c.self.invariant h.was own in
+    let within = c.self.invariant.outs_are.within 0 id own in
+    let none_now : c.put_out.new.outs ≡ nobody = c.put_out.ensures ∙ ap (λ outs. slice_set outs 0 None) out.1 in
+    let follows : (phase : Phase) → slice_get phases id.slot ≡ Some phase → c.follow_call.new.phases.items ≡ phases_after phases id phase (is_done made.answer) =
+    (λ phase is. c.follow_call.ensures phase (ap (λ (i : RequestId). slice_get phases i.slot) c.id-id.ensures ∙ is)
+    ∙ ap (λ i. phases_after phases i phase c.is_done-done.result) c.id-id.ensures
+    ∙ ap (phases_after phases id phase) (c.is_done-done.ensures ∙ ap is_done c.answer.ensures)) in
+    let count = after_count phases c.follow_call.new.phases.items id (is_done made.answer) within follows in
+    let phase = slice_index_or phases id.slot c.index.result.now in
+    let phase_is = slice_get-get_or phases id.slot c.index.result.now within in
+    let outcome : IsDumpersOutcome _ made phase _ = record {
+      base = refl;
+      closed = work.closed;
+      memory = refl;
+      out = own;
+      outs = c.put_out.ensures;
+      apart = free_of_none (slice_set c.self.inside.outs 0 None) id.slot (ap (λ outs. slice_set outs 0 None) out.1);
+      phase_is = phase_is;
+      phases = follows phase phase_is;
+    } in
+    handed_seen made (reply.Refused StoreDown) _ _ _ c.self.view_is (handed_dumper _ _ made phase (reply.Refused StoreDown) outcome c.requires.dumper count
+    (λ asked bodies files. c.dumper_outcomes.ensures.fails _ _ made phase asked bodies files (record {
+      outcome = outcome;
+      history = ap entries_of c.release_unfrozen.ensures.items;
+      down = refl;
+      committing = refl;
+    })) (ap entries_of c.release_unfrozen.ensures.items))
+
+pub returns-in-More : goal.returns-in-More
+returns-in-More c =
+    let base : Base = record { number = c.self.inside.number; memory = memory_of c.self.inside.base } in
+    let made = c.args.outcome in
+    let id = made.request.id in
+    let phases = c.self.inside.phases.items in
+    let own : slice_get c.self.inside.outs 0 ≡ Some (Some id) = ap (λ w. slice_get c.self.inside.outs (index w)) (sym c.requires.dumper)
+    ∙ ap (λ (v : CoreView). slice_get v.outs (index id.worker)) c.self.view_is ∙ c.requires.out in
+    let h = subst (λ p. Hands c.self.inside.dumper made p c.hand_in.new.self) c.in-More.is c.hand_in.ensures.hands in
+    let work = at_work _ h.running c.self.invariant h.was in
+    let out = out_at_work _ h.running (Some id) c.self.invariant h.was own in
+    let within = c.self.invariant.outs_are.within 0 id own in
+    let none_now : c.put_out.new.outs ≡ nobody = c.put_out.ensures ∙ ap (λ outs. slice_set outs 0 None) out.1 in
+    let follows : (phase : Phase) → slice_get phases id.slot ≡ Some phase → c.follow_call.new.phases.items ≡ phases_after phases id phase (is_done made.answer) =
+    (λ phase is. c.follow_call.ensures phase (ap (λ (i : RequestId). slice_get phases i.slot) c.id-id.ensures ∙ is)
+    ∙ ap (λ i. phases_after phases i phase c.is_done-done.result) c.id-id.ensures
+    ∙ ap (phases_after phases id phase) (c.is_done-done.ensures ∙ ap is_done c.answer.ensures)) in
+    let count = after_count phases c.follow_call.new.phases.items id (is_done made.answer) within follows in
+    let closed = c.closes_for_sure-closed.ensures ∙ ap (λ p. closes_for_sure p c.id-id.result.call) (c.index.ensures ∙ ap (λ (i : RequestId). slice_index_or phases i.slot c.index.result.now) c.id-id.ensures)
+    ∙ ap (λ (i : RequestId). closes_for_sure (slice_index_or phases id.slot c.index.result.now) i.call) c.id-id.ensures in
+    let leaves : LeavesCatalog (closes_for_sure (slice_index_or phases id.slot c.index.result.now) id.call) id.slot c.self.inside.catalog c.leave_catalog.new.catalog =
+    subst (λ b. LeavesCatalog b id.slot c.self.inside.catalog c.leave_catalog.new.catalog) closed
+    (subst (λ (i : RequestId). LeavesCatalog c.closes_for_sure-closed.result i.slot c.self.inside.catalog c.leave_catalog.new.catalog) c.id-id.ensures c.leave_catalog.ensures) in
+    let phase = slice_index_or phases id.slot c.index.result.now in
+    let phase_is = slice_get-get_or phases id.slot c.index.result.now within in
+    let outcome : IsDumpersOutcome _ made phase _ = record {
+      base = refl;
+      closed = work.closed;
+      memory = refl;
+      out = own;
+      outs = c.put_out.ensures;
+      apart = free_of_none (slice_set c.self.inside.outs 0 None) id.slot (ap (λ outs. slice_set outs 0 None) out.1);
+      phase_is = phase_is;
+      phases = follows phase phase_is;
+    } in
+    handed_seen made reply.Worked _ _ _ c.self.view_is (handed_dumper _ _ made phase reply.Worked outcome c.requires.dumper count
+    (λ asked bodies files. c.dumper_outcomes.ensures.goes_on _ _ h.running h.hands.image h.hands.next made phase asked bodies files (record {
+      outcome = outcome;
+      rest = record { stands = work.stands; base = refl; closed = work.closed; grows = refl };
+      history = refl;
+      serial = refl;
+      catalog = leaves;
+      was = h.was;
+      making = h.hands.was;
+      own = own_order c.self.inside.dumper.since_freeze _ h.running h.hands.image c.sound.ensures.running h.was h.hands.was;
+      sound = sound_image _ h.running h.hands.image c.sound.ensures.image h.was h.hands.was;
+      hands = h.hands.hands;
+      committing = refl;
+      is = ap (λ d. d.running) h.is ∙ ap Some h.hands.is;
+    })) refl)
+
+pub returns-in-PreDump : goal.returns-in-PreDump
+returns-in-PreDump c =
+    let base : Base = record { number = c.self.inside.number; memory = memory_of c.self.inside.base } in
+    let made = c.args.outcome in
+    let id = made.request.id in
+    let phases = c.self.inside.phases.items in
+    let own : slice_get c.self.inside.outs 0 ≡ Some (Some id) = ap (λ w. slice_get c.self.inside.outs (index w)) (sym c.requires.dumper)
+    ∙ ap (λ (v : CoreView). slice_get v.outs (index id.worker)) c.self.view_is ∙ c.requires.out in
+    let h = subst (λ p. Hands c.self.inside.dumper made p c.hand_in.new.self) c.in-PreDump.is c.hand_in.ensures.hands in
+    let work = at_work _ h.running c.self.invariant h.was in
+    let out = out_at_work _ h.running (Some id) c.self.invariant h.was own in
+    let within = c.self.invariant.outs_are.within 0 id own in
+    let none_now : c.put_out.new.outs ≡ nobody = c.put_out.ensures ∙ ap (λ outs. slice_set outs 0 None) out.1 in
+    let follows : (phase : Phase) → slice_get phases id.slot ≡ Some phase → c.follow_call.new.phases.items ≡ phases_after phases id phase (is_done made.answer) =
+    (λ phase is. c.follow_call.ensures phase (ap (λ (i : RequestId). slice_get phases i.slot) c.id-id.ensures ∙ is)
+    ∙ ap (λ i. phases_after phases i phase c.is_done-done.result) c.id-id.ensures
+    ∙ ap (phases_after phases id phase) (c.is_done-done.ensures ∙ ap is_done c.answer.ensures)) in
+    let count = after_count phases c.follow_call.new.phases.items id (is_done made.answer) within follows in
+    let opened = c.in-PreDump.image in
+    let image = image_of_work _ h.running h.hands.0.image c.self.invariant h.was h.hands.0.was in
+    let now = opened_now _ _ _ h.hands.0.image opened made image h.hands.0.hands in
+    let changes : Changes c.self.inside.catalog c.enter_catalog.new.catalog h.hands.0.image.order.serial (Some (Some (record { slot = opened.slot; header = opened.header; spaces = opened.table }))) =
+    subst (λ s. Changes c.self.inside.catalog c.enter_catalog.new.catalog s (Some (Some (record { slot = opened.slot; header = opened.header; spaces = opened.table })))) now.serial c.enter_catalog.ensures in
+    let counted = counted_opened c.self.inside.numbers c.self.inside.catalog c.enter_catalog.new.catalog h.hands.0.image.order.serial _ changes
+    (checkpoint_used _ c.self.inside.dumper.since_freeze h.running h.hands.0.image opened c.self.invariant c.sound.ensures.running h.was h.hands.0.was now) c.self.invariant.counted in
+    let phase = slice_index_or phases id.slot c.index.result.now in
+    let phase_is = slice_get-get_or phases id.slot c.index.result.now within in
+    let outcome : IsDumpersOutcome _ made phase _ = record {
+      base = refl;
+      closed = work.closed;
+      memory = refl;
+      out = own;
+      outs = c.put_out.ensures;
+      apart = free_of_none (slice_set c.self.inside.outs 0 None) id.slot (ap (λ outs. slice_set outs 0 None) out.1);
+      phase_is = phase_is;
+      phases = follows phase phase_is;
+    } in
+    handed_seen made reply.Worked _ _ _ c.self.view_is (handed_dumper _ _ made phase reply.Worked outcome c.requires.dumper count
+    (λ asked bodies files. c.dumper_outcomes.ensures.opens_pre_dump _ _ h.running h.hands.0.image made phase opened asked bodies files (record {
+      opens_it = record {
+        outcome = outcome;
+        stands = work.stands;
+        serial = refl;
+        held = image.held;
+        catalog = changes;
+        was = h.was;
+        making = h.hands.0.was;
+        own = own_order c.self.inside.dumper.since_freeze _ h.running h.hands.0.image c.sound.ensures.running h.was h.hands.0.was;
+        sound = sound_image _ h.running h.hands.0.image c.sound.ensures.image h.was h.hands.0.was;
+        opens = h.hands.0.hands;
+      };
+      history = refl;
+      grows = refl;
+      more = h.hands.1;
+      is = ap (λ d. d.running) h.is ∙ ap Some h.hands.2;
+    })) refl)
+
+pub returns-in-Dump : goal.returns-in-Dump
+returns-in-Dump c =
+    let base : Base = record { number = c.self.inside.number; memory = memory_of c.self.inside.base } in
+    let made = c.args.outcome in
+    let id = made.request.id in
+    let phases = c.self.inside.phases.items in
+    let own : slice_get c.self.inside.outs 0 ≡ Some (Some id) = ap (λ w. slice_get c.self.inside.outs (index w)) (sym c.requires.dumper)
+    ∙ ap (λ (v : CoreView). slice_get v.outs (index id.worker)) c.self.view_is ∙ c.requires.out in
+    let h = subst (λ p. Hands c.self.inside.dumper made p c.hand_in.new.self) c.in-Dump.is c.hand_in.ensures.hands in
+    let work = at_work _ h.running c.self.invariant h.was in
+    let out = out_at_work _ h.running (Some id) c.self.invariant h.was own in
+    let within = c.self.invariant.outs_are.within 0 id own in
+    let none_now : c.put_out.new.outs ≡ nobody = c.put_out.ensures ∙ ap (λ outs. slice_set outs 0 None) out.1 in
+    let follows : (phase : Phase) → slice_get phases id.slot ≡ Some phase → c.follow_call.new.phases.items ≡ phases_after phases id phase (is_done made.answer) =
+    (λ phase is. c.follow_call.ensures phase (ap (λ (i : RequestId). slice_get phases i.slot) c.id-id.ensures ∙ is)
+    ∙ ap (λ i. phases_after phases i phase c.is_done-done.result) c.id-id.ensures
+    ∙ ap (phases_after phases id phase) (c.is_done-done.ensures ∙ ap is_done c.answer.ensures)) in
+    let count = after_count phases c.follow_call.new.phases.items id (is_done made.answer) within follows in
+    let opened = c.in-Dump.image in
+    let image = image_of_work _ h.running h.hands.0.image c.self.invariant h.was h.hands.0.was in
+    let now = opened_now _ _ _ h.hands.0.image opened made image h.hands.0.hands in
+    let changes : Changes c.self.inside.catalog c.enter_catalog-in-Dump.new.catalog h.hands.0.image.order.serial (Some (Some (record { slot = opened.slot; header = opened.header; spaces = opened.table }))) =
+    subst (λ s. Changes c.self.inside.catalog c.enter_catalog-in-Dump.new.catalog s (Some (Some (record { slot = opened.slot; header = opened.header; spaces = opened.table })))) now.serial c.enter_catalog-in-Dump.ensures in
+    let counted = counted_opened c.self.inside.numbers c.self.inside.catalog c.enter_catalog-in-Dump.new.catalog h.hands.0.image.order.serial _ changes
+    (checkpoint_used _ c.self.inside.dumper.since_freeze h.running h.hands.0.image opened c.self.invariant c.sound.ensures.running h.was h.hands.0.was now) c.self.invariant.counted in
+    let phase = slice_index_or phases id.slot c.index.result.now in
+    let phase_is = slice_get-get_or phases id.slot c.index.result.now within in
+    let outcome : IsDumpersOutcome _ made phase _ = record {
+      base = refl;
+      closed = work.closed;
+      memory = refl;
+      out = own;
+      outs = c.put_out.ensures;
+      apart = free_of_none (slice_set c.self.inside.outs 0 None) id.slot (ap (λ outs. slice_set outs 0 None) out.1);
+      phase_is = phase_is;
+      phases = follows phase phase_is;
+    } in
+    let number = c.self.inside.numbers.begun in
+    handed_seen made (reply.Acked number) _ _ _ c.self.view_is (handed_dumper _ _ made phase (reply.Acked number) outcome c.requires.dumper count
+    (λ asked bodies files. c.dumper_outcomes.ensures.opens_dump _ _ h.running h.hands.0.image made phase opened asked bodies files (record {
+      opens_it = record {
+        outcome = outcome;
+        stands = work.stands;
+        serial = refl;
+        held = image.held;
+        catalog = changes;
+        was = h.was;
+        making = h.hands.0.was;
+        own = own_order c.self.inside.dumper.since_freeze _ h.running h.hands.0.image c.sound.ensures.running h.was h.hands.0.was;
+        sound = sound_image _ h.running h.hands.0.image c.sound.ensures.image h.was h.hands.0.was;
+        opens = h.hands.0.hands;
+      };
+      items = c.append_held.ensures.items ∙ ap (λ n. Told (Acked n) ∷ c.self.inside.journal.items) (sym work.number);
+      legal = c.tracked_laws.ensures.legal base c.self.inside.journal.items c.self.invariant.journal_is.tracked.marked;
+      grows = refl;
+      last = h.hands.1;
+      is = ap (λ d. d.running) h.is;
+    })) (c.requires.dumper, ap entries_of c.append_held.ensures.items))

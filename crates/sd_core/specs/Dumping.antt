@@ -1,0 +1,40 @@
+-- The dumper of a core.
+use Rattle.std.specs.Prelude.{◌≡◌, ℕ, ◌+◌, Option, Some, None}
+use Rattle.sd_gate.specs.declared.slot_state.SlotState.{SlotState}
+use Rattle.sd_gate.specs.Requests.{Asked}
+use Rattle.sd_journal.specs.Kept.{Kept}
+use Rattle.sd_pagetable.specs.Contents.{Contents}
+use Rattle.sd_rounds.specs.declared.image_step.ImageStep.{ImageStep}
+use Rattle.sd_rounds.specs.declared.image_step.ImageStep.TheVariants.{Call}
+use Rattle.sd_rounds.specs.Dumper.{Dumping, Running, order_of}
+use Rattle.sd_rounds.specs.Making.{Making, Steps, begun_image}
+
+-- the next image begins, and asks for the first call of its slot's format
+pub record BeginsNext (serial : ℕ) (state : SlotState) (ticket : ℕ) (old : Dumping) (before : Contents) (request : Asked) (new : Dumping) (after : Contents) : Type 0 where
+  pub running : Running
+  pub was : old.running ≡ Some running
+  pub none : running.image ≡ None
+  pub next : Making
+  pub steps : Steps ticket (begun_image (order_of running serial state)) before (Call request) next after
+  pub is : new.running ≡ Some (record running { image = Some next })
+
+-- a step of the image in the making
+pub record StepsOn (ticket : ℕ) (old : Dumping) (before : Contents) (step : ImageStep) (new : Dumping) (after : Contents) : Type 0 where
+  pub running : Running
+  pub was : old.running ≡ Some running
+  pub image : Making
+  pub making : running.image ≡ Some image
+  pub next : Making
+  pub steps : Steps ticket image before step next after
+  pub is : new.running ≡ Some (record running { image = Some next })
+
+-- the held entries with a running checkpoint's: where it is pending its own serves
+abbrev pub with_two : Option ℕ → ℕ → ℕ
+with_two None held = held + 2
+with_two (Some n) held = held
+
+pub record LetsGoOfTwo (pending : Option ℕ) (old new : Kept) : Type 0 where
+  pub first : new.first ≡ old.first
+  pub items : new.items ≡ old.items
+  pub limit : new.limit ≡ old.limit
+  pub held : with_two pending new.held ≡ old.held

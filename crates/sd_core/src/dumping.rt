@@ -1,0 +1,124 @@
+//! The dumper of a core: its steps, and what it leaves.
+ghost use Rattle.std.specs.Prelude.{◌≡◌, ◌↔◌, ◌||◌, ◌&&◌, ◌≤◌, None, Some, IsSome, IfOk, OnErr, is_none};
+ghost use Rattle.sd_chain.specs.Catalog.{Changes, IsHeld};
+ghost use Rattle.sd_gate.specs.declared.call.Call.{Call};
+ghost use Rattle.sd_rounds.specs.Dumper.{begun_checkpoint, is_dumping, next_slot};
+ghost use Rattle.sd_belief.specs.DumperSteps.{opens_gate};
+ghost use Rattle.sd_belief.specs.DumperOutcomes.{LeavesCatalog, closes_for_sure};
+ghost use Rattle.sd_core.specs.Dumping.{BeginsNext, LetsGoOfTwo, StepsOn};
+
+use crate::beginning::Slots;
+use sd_chain::Catalog;
+use sd_command::Refusal;
+use sd_gate::{Call, Phase, Request, SlotState};
+use sd_journal::Journal;
+use sd_pagetable::Memory;
+use sd_rounds::{Dumper, ImageStep, NewImage, NextImage, WorkError};
+
+/// A checkpoint begins.
+pub(crate) fn begin_checkpoint(dumper: &mut Dumper, number: u64, slots: Slots, parent: u64)
+    requires { dumper.old.running ≡ None }
+    ensures { dumper.new.running ≡ Some (begun_checkpoint number slots.pre_dumps.items slots.dump parent) }
+{
+    dumper
+        .begin(number, slots.pre_dumps, slots.dump, parent)
+        .unwrap();
+}
+
+/// Begins the next image, and asks for the first call of its slot's format. It takes no memory.
+pub(crate) fn begin_next(
+    dumper: &mut Dumper,
+    memory: &mut Memory,
+    image: NextImage,
+    ticket: u64,
+) -> Request
+    requires { IsSome (next_slot dumper.old.running) }
+    ensures { BeginsNext image.serial image.state ticket dumper.old memory.old result dumper.new memory.new }
+{
+    match dumper.work(memory, image, ticket) {
+        Ok(ImageStep::Call(request)) => request,
+        _ => unreachable!(),
+    }
+}
+
+/// Makes the next step of the image in the making.
+///
+/// # Errors
+///
+/// `Idle` where no checkpoint runs, `Busy` where its request is out, `OutOfMemory` where a growth was refused. Nothing changed.
+pub(crate) fn step_on(
+    dumper: &mut Dumper,
+    memory: &mut Memory,
+    ticket: u64,
+) -> Result<ImageStep, Refusal>
+    requires { next_slot dumper.old.running ≡ None }
+    ensures steps { IfOk result (λ step. StepsOn ticket dumper.old memory.old step dumper.new memory.new) }
+    ensures err { OnErr result (dumper.new ≡ dumper.old) }
+    ensures err_memory { OnErr result (memory.new ≡ memory.old) }
+{
+    // The image has its serial and its slot already.
+    let image = NextImage {
+        serial: 0,
+        state: SlotState::Raw,
+    };
+    match dumper.work(memory, image, ticket) {
+        Ok(step) => Ok(step),
+        Err(WorkError::Idle) => Err(Refusal::Idle),
+        Err(WorkError::Busy) => Err(Refusal::Busy),
+        Err(WorkError::OutOfMemory) => Err(Refusal::OutOfMemory),
+    }
+}
+
+/// Whether a call opens a gate.
+fn opens_gate(call: Call) -> bool
+    ensures { result ≡ opens_gate call }
+{
+    matches!(call, Call::Open)
+}
+
+/// Whether the opening of the gate of a checkpoint's dump was taken up, once this call is.
+pub(crate) fn is_committing(committing: bool, dumper: &Dumper, call: Call) -> bool
+    ensures { result ≡ (committing || is_dumping dumper.now.running && opens_gate call) }
+{
+    committing || dumper.is_dumping() && opens_gate(call)
+}
+
+/// Lets go of the entries of a checkpoint that has ended, but of that of a pending one.
+pub(crate) fn release_unfrozen(journal: &mut Journal, pending: Option<u64>)
+    requires { pending ≡ None → 2 ≤ journal.old.held }
+    ensures { LetsGoOfTwo pending journal.old journal.new }
+{
+    if pending.is_none() {
+        journal.release(2);
+    }
+}
+
+/// Whether a call on a slot in this phase, once it is done, closes it for sure.
+pub(crate) fn closes_for_sure(phase: Phase, call: Call) -> bool
+    ensures { result ≡ closes_for_sure phase call }
+{
+    matches!((phase, call), (Phase::Closing, Call::Sync))
+}
+
+/// The image of a slot leaves the catalog, where the slot was closed for sure.
+pub(crate) fn leave_catalog(catalog: &mut Catalog, slot: usize, closed: bool)
+    ensures { LeavesCatalog closed slot catalog.old catalog.new }
+{
+    if closed {
+        catalog.remove(slot);
+    }
+}
+
+/// An image enters the catalog, where its place was held. It takes no memory.
+pub(crate) fn enter_catalog(catalog: &mut Catalog, image: NewImage)
+    requires { IsHeld catalog.old image.header.serial }
+    ensures { Changes catalog.old catalog.new image.header.serial
+        (Some (Some (record { slot = image.slot; header = image.header; spaces = image.table }))) }
+{
+    let NewImage {
+        slot,
+        header,
+        table,
+    } = image;
+    catalog.add(slot, header, table).unwrap();
+}
