@@ -37,6 +37,13 @@ pub nobody_is : (outs : List (Option RequestId)) (phases : List Phase) (running 
 nobody_is outs phases running opener are none rests =
     are.are ∙ ap (λ o. o ∷ None ∷ out_of_opener opener ∷ []) (ap out_of_running none) ∙ ap (λ o. None ∷ None ∷ o ∷ []) rests
 
+pub opener_out : (outs : List (Option RequestId)) (phases : List Phase) (running : Option Running) (opener : Option Looking) (id : RequestId) → AreOuts outs phases running opener
+    → slice_get outs 2 ≡ Some (Some id) → out_of_opener opener ≡ Some id
+opener_out outs phases running opener id are out = last_of (ap (λ all. slice_get all 2) (sym are.are) ∙ out)
+  where
+    last_of : Some (out_of_opener opener) ≡ Some (Some id) → out_of_opener opener ≡ Some id
+    last_of e = cc
+
 pub alone_is : (outs : List (Option RequestId)) (phases : List Phase) (running : Option Running) (opener : Option Looking) (id : RequestId) → AreOuts outs phases running opener
     → running ≡ None → slice_get outs 2 ≡ Some (Some id) → (out_of_opener opener ≡ Some id) × (outs ≡ opener_alone id)
 alone_is outs phases running opener id are none out = (own, are.are ∙ ap (λ o. o ∷ None ∷ out_of_opener opener ∷ []) (ap out_of_running none) ∙ ap (λ o. None ∷ None ∷ o ∷ []) own)

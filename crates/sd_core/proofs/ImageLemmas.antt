@@ -1,11 +1,10 @@
 -- What the steps and outcomes of an image leave of what is so of it.
-use Rattle.std.proofs.Common.{◌≡◌, ◌≢◌, ◌⊎◌, ℕ, ◌==◌, ◌&&◌, Bool, true, false, if◌then◌else◌, List, [], ◌∷◌, Option, Some, None, IfSome, refl, sym, ◌∙◌, ap, subst, inl, inr}
+use Rattle.std.proofs.Common.{◌≡◌, ◌⊎◌, ◌==◌, ◌&&◌, if◌then◌else◌, ◌∷◌, Option, Some, None, IfSome, refl, sym, ◌∙◌, ap, subst, inl, inr}
 use Rattle.std.proofs.lemmas.Bool.{eq-eqb}
 use Rattle.sd_chain.specs.Catalog.{IsHeld, Places}
 use Rattle.sd_gate.specs.declared.request_id.RequestId.{RequestId}
-use Rattle.sd_gate.specs.Plans.{Planned, begun, plan_after}
+use Rattle.sd_gate.specs.Plans.{plan_after}
 use Rattle.sd_gate.specs.Requests.{Asked, Made}
-use Rattle.sd_image.specs.declared.header.Kind.TheVariants.{Dump}
 use Rattle.sd_image.specs.Words.{kind_number}
 use Rattle.sd_journal.specs.declared.entry.Entry.TheVariants.{Freeze}
 use Rattle.sd_journal.specs.declared.mark.Mark.TheVariants.{Start, Table, Visit}
@@ -16,7 +15,7 @@ use Rattle.sd_rounds.specs.declared.visit.Visit.{Visit as PageVisit}
 use Rattle.sd_rounds.specs.declared.image_order.ImageOrder.{ImageOrder}
 use Rattle.sd_rounds.specs.declared.stage.Stage.{Stage}
 use Rattle.sd_rounds.specs.declared.stage.Stage.TheVariants.{Pass as PassStage, PageWrite, Close}
-use Rattle.sd_rounds.specs.Making.{Asks, CopiesSector, Freezes, GoesOn, Making, Visits, WritesPage, WritesTable, begun_image, closing, is_frozen, is_past_freeze, out_of, stage_after, with_plan}
+use Rattle.sd_rounds.specs.Making.{Asks, CopiesSector, Freezes, GoesOn, Making, Visits, WritesPage, WritesTable, begun_image, is_frozen, is_past_freeze, out_of, stage_after, with_plan}
 use Rattle.sd_rounds.specs.Pass.{Pass}
 use Rattle.sd_core.specs.declared.numbers.Numbers.{Numbers}
 use Rattle.sd_core.specs.Sound.{IsImageOf, IsStageOf, IsVisiting, IsVisitingIn}

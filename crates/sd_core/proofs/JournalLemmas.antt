@@ -1,16 +1,17 @@
 -- A journal tells its memory, what is pending and what is last.
-use Rattle.std.proofs.Common.{◌≡◌, ◌≢◌, ◌⊎◌, ℕ, ◌∷◌, Option, None, is_some, refl, sym, ◌∙◌, ap, subst}
+use Rattle.std.proofs.Common.{◌≡◌, ◌≢◌, ◌⊎◌, ℕ, ◌<◌, ◌≤◌, ◌∷◌, Option, Some, None, IfSome, is_some, refl, sym, ◌∙◌, ap, subst, inl, inr, arith}
 use Rattle.sd_command.specs.declared.command.Command.{Command}
 use Rattle.sd_command.specs.declared.reply.Reply.{Reply}
 use Rattle.sd_journal.specs.declared.entry.Entry.TheVariants.{Applied, Reopened}
 use Rattle.sd_journal.specs.History.{Base, last, pending}
 use Rattle.sd_journal.specs.Kept.{Kept}
 use Rattle.sd_journal.specs.Legal.{MayFollow}
-use Rattle.sd_journal.specs.Marked.{Told, IsTracked, entries_of}
+use Rattle.sd_journal.specs.Marked.{Told, IsTracked, Marked, entries_of}
 use Rattle.sd_journal.specs.TrackedLaws.{TrackedLaws}
 use Rattle.sd_pagetable.specs.Contents.{Contents}
 use Rattle.sd_core.specs.Answering.{IsAnswered}
-use Rattle.sd_core.specs.Sound.{IsJournal}
+use Rattle.sd_core.specs.declared.numbers.Numbers.{Numbers}
+use Rattle.sd_core.specs.Sound.{AreNumbers, IsJournal}
 use Rattle.sd_core.proofs.ApplyLemmas.{tracked_on}
 
 -- the entries are the same
@@ -56,3 +57,31 @@ reopened_journal laws base old new memory frozen newest found items first limit 
     may : MayFollow base (entries_of old.items) (Reopened found)
     may = subst (λ n. (found ≡ n) ⊎ ((pending (entries_of old.items) ≢ None) × (found ≡ pending (entries_of old.items)))) was.newest_is
         (subst (λ f. (found ≡ newest) ⊎ ((f ≢ None) × (found ≡ f))) was.frozen_for expected)
+
+-- ---- the numbers of a store that was opened again
+
+-- what it shows was begun in this run, or is what the run started from
+pub found_used : (frozen newest found : Option ℕ) (begun : ℕ) → (found ≡ newest) ⊎ ((frozen ≢ None) × (found ≡ frozen)) → IfSome newest (λ n. n ≤ begun)
+    → IfSome frozen (λ n. n ≡ begun) → IfSome found (λ n. n ≤ begun)
+found_used frozen newest found begun (inl is) last pends = subst (λ f. IfSome f (λ n. n ≤ begun)) (sym is) last
+found_used frozen newest found begun (inr is) last pends = subst (λ f. IfSome f (λ n. n ≤ begun)) (sym is.1) (at_most frozen pends)
+  where
+    at_most : (one : Option ℕ) → IfSome one (λ n. n ≡ begun) → IfSome one (λ n. n ≤ begun)
+    at_most None e = tt
+    at_most (Some n) e = omega (arith, e)
+
+pub reopened_numbers : (base : Base) (items : Marked) (frozen newest found : Option ℕ) (old new : Numbers) → new.begun ≡ old.begun → new.given ≡ old.given
+    → old.begun ≤ new.checkpoint → old.given ≤ new.serial → IfSome found (λ n. n ≤ old.begun) → AreNumbers base items frozen newest old
+    → AreNumbers base (Told (Reopened found) ∷ items) None found new
+reopened_numbers base items frozen newest found old new begun given checkpoint serial used was = record {
+  used = λ n above. (below n above found used, was.used n (omega (arith, above, begun)));
+  newest_used = subst (λ b. IfSome found (λ n. n ≤ b)) (sym begun) used;
+  frozen_used = tt;
+  marks = λ s above. was.marks s (omega (arith, above, given));
+  checkpoints = omega (arith, begun, checkpoint);
+  serials = omega (arith, given, serial);
+}
+  where
+    below : (n : ℕ) → new.begun < n → (one : Option ℕ) → IfSome one (λ m. m ≤ old.begun) → IfSome one (λ k. k < n)
+    below n above None is = tt
+    below n above (Some m) is = omega (arith, above, is, begun)

@@ -1,5 +1,7 @@
 mod ApplyLemmas
+mod BeginLemmas
 mod BeginningLemmas
+mod CancelLemmas
 mod CoreLemmas
 mod GiveUp
 mod ImageLemmas
@@ -8,6 +10,7 @@ mod MarkLemmas
 mod OpeningLemmas
 mod OutcomeLemmas
 mod ShownLemmas
+mod SlotLemmas
 mod StageLemmas
 mod StartLemmas
 mod StepLemmas

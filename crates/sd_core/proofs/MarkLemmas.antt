@@ -1,30 +1,29 @@
 -- The marks of an image, and the freeze, in the journal.
-use Rattle.std.proofs.Common.{◌≡◌, ◌≢◌, ◌⊎◌, ℕ, ◌+◌, ◌<◌, ◌≤◌, ◌==◌, ◌&&◌, ◌||◌, Bool, true, false, if◌then◌else◌, List, [], ◌∷◌, length, Option, Some, None, IfSome, refl, sym, ◌∙◌, ap, subst, inl, inr, arith}
+use Rattle.std.proofs.Common.{◌≡◌, ◌⊎◌, ℕ, ◌+◌, ◌≤◌, ◌==◌, ◌&&◌, ◌||◌, Bool, true, false, if◌then◌else◌, [], ◌∷◌, Option, Some, None, IfSome, refl, sym, ◌∙◌, ap, subst, inl, inr, arith}
 use Rattle.std.specs.List.{list_any}
 use Rattle.std.proofs.lemmas.Bool.{eq-eqb}
-use Rattle.sd_chain.specs.Catalog.{Changes, IsHeld, Opened, Places, place_of}
+use Rattle.sd_chain.specs.Catalog.{Changes, IsHeld, Places, place_of}
 use Rattle.sd_gate.specs.Requests.{Asked}
 use Rattle.sd_image.specs.declared.header.Kind.TheVariants.{Dump}
 use Rattle.sd_image.specs.Words.{kind_number}
-use Rattle.sd_journal.specs.declared.entry.Entry.{Entry}
 use Rattle.sd_journal.specs.declared.entry.Entry.TheVariants.{Freeze}
 use Rattle.sd_journal.specs.declared.mark.Mark.TheVariants.{Start, Table, Visit}
-use Rattle.sd_journal.specs.History.{Base, last, memory_after, pending}
+use Rattle.sd_journal.specs.History.{Base, last, pending}
 use Rattle.sd_journal.specs.Kept.{Kept}
-use Rattle.sd_journal.specs.Legal.{IsAbove, IsLegal, MayFollow}
-use Rattle.sd_journal.specs.Marked.{IsTracked, Marked, Noted, Told, entries_of, is_of, last_visit, visiting}
+use Rattle.sd_journal.specs.Legal.{IsAbove, MayFollow}
+use Rattle.sd_journal.specs.Marked.{IsTracked, Marked, Noted, Told, entries_of, is_of, last_visit}
 use Rattle.sd_journal.specs.TrackedLaws.{TrackedLaws}
 use Rattle.sd_pagetable.specs.Contents.{Contents}
 use Rattle.sd_pagetable.specs.Order.{IsNextPage}
 use Rattle.sd_rounds.specs.declared.image_step.ImageStep.{ImageStep}
 use Rattle.sd_rounds.specs.declared.image_step.ImageStep.TheVariants.{Call, PageCall}
-use Rattle.sd_rounds.specs.declared.stage.Stage.TheVariants.{Freeze as FreezeStage, Pass as PassStage}
+use Rattle.sd_rounds.specs.declared.stage.Stage.TheVariants.{Pass as PassStage}
 use Rattle.sd_rounds.specs.declared.visit.Visit.{Visit as PageVisit}
 use Rattle.sd_rounds.specs.Dumper.{Running, is_frozen_image, next_slot, slot_before, slot_of}
 use Rattle.sd_rounds.specs.Making.{Asks, Freezes, IsAskedBy, IsReadyFor, Making, Steps, Visits, WritesPage, WritesTable, is_frozen, is_past_freeze}
 use Rattle.sd_rounds.specs.Sound.{HasSoundImage, IsSoundImage, IsSoundMaking}
 use Rattle.sd_core.specs.declared.numbers.Numbers.{Numbers}
-use Rattle.sd_core.specs.Sound.{AreCounted, AreNumbers, IsAtWork, IsCore, IsImageOf, IsJournal, IsVisiting, IsVisitingIn, Parts, frozen_by}
+use Rattle.sd_core.specs.Sound.{AreCounted, AreNumbers, IsCore, IsJournal, IsVisiting, IsVisitingIn, Parts, frozen_by}
 use Rattle.sd_core.proofs.WorkLemmas.{at_work, image_of_work, noted_journal, numbers_noted}
 
 -- ---- what a step with a call of a plan, or of a page's write, is

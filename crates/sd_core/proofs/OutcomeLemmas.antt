@@ -1,5 +1,5 @@
 -- The outcomes of a dumper's calls.
-use Rattle.std.proofs.Common.{◌≡◌, ◌≢◌, ℕ, ◌+◌, ◌<◌, ◌≤◌, ◌==◌, ◌&&◌, ◌^◌, Bool, true, false, if◌then◌else◌, List, [], ◌∷◌, length, Option, Some, None, IfSome, slice_get, slice_set, refl, sym, ◌∙◌, ap, subst, arith}
+use Rattle.std.proofs.Common.{◌≡◌, ℕ, ◌≤◌, ◌==◌, ◌&&◌, Bool, true, false, if◌then◌else◌, List, ◌∷◌, length, Option, Some, None, slice_get, slice_set, refl, sym, ◌∙◌, ap, subst, arith}
 use Rattle.std.proofs.lemmas.Bool.{eq-eqb}
 use Rattle.std.proofs.lemmas.Option.{same_Some}
 use Rattle.sd_chain.specs.Catalog.{Changes, IsHeld, Opened, Places, is_elsewhere, place_of, without_slot}
@@ -9,7 +9,6 @@ use Rattle.sd_gate.specs.Calls.{is_done}
 use Rattle.sd_gate.specs.Phases.{bodies_after, phases_after}
 use Rattle.sd_gate.specs.Requests.{Asked, Made}
 use Rattle.sd_command.specs.declared.reply.Reply.{Reply}
-use Rattle.sd_image.specs.declared.header.Header.{Header}
 use Rattle.sd_image.specs.declared.header.Kind.TheVariants.{Dump, PreDump}
 use Rattle.sd_image.specs.Words.{kind_number}
 use Rattle.sd_journal.specs.declared.entry.Entry.TheVariants.{Acked}
@@ -19,24 +18,23 @@ use Rattle.sd_journal.specs.Marked.{IsTracked, Marked, Told, entries_of}
 use Rattle.sd_journal.specs.TrackedLaws.{TrackedLaws}
 use Rattle.sd_rounds.specs.declared.image_order.ImageOrder.{ImageOrder}
 use Rattle.sd_rounds.specs.declared.new_image.NewImage.{NewImage}
-use Rattle.sd_rounds.specs.declared.stage.Stage.TheVariants.{Close}
-use Rattle.sd_rounds.specs.Dumper.{AreRunning, Running, after_pre_dump, is_frozen_image, is_last, order_of}
-use Rattle.sd_rounds.specs.Making.{Making, Opens, is_frozen, is_past_freeze, out_of}
+use Rattle.sd_rounds.specs.Dumper.{AreRunning, Running, is_frozen_image, is_last}
+use Rattle.sd_rounds.specs.Making.{Making, Opens, is_past_freeze}
 use Rattle.sd_belief.specs.Believes.{Believes}
 use Rattle.sd_belief.specs.Calls.{AddsByOutcome, AreGivenUp, HandedIn}
 use Rattle.sd_belief.specs.DumperOutcomes.{IsDumpersOutcome, LeavesCatalog}
 use Rattle.sd_belief.specs.View.{CoreView, history_of, index}
 use Rattle.sd_core.specs.declared.numbers.Numbers.{Numbers}
-use Rattle.sd_core.specs.Sound.{AreCounted, AreNumbers, IsAtWork, IsCore, IsImageOf, IsJournal, IsStageOf, Parts, begun_images, frozen_by}
+use Rattle.sd_core.specs.Sound.{AreCounted, AreNumbers, IsCore, IsImageOf, IsJournal, IsStageOf, Parts}
 use Rattle.sd_core.proofs.ApplyLemmas.{same_phases}
-use Rattle.sd_core.proofs.WorkLemmas.{at_work, image_of_work, own_order}
+use Rattle.sd_core.proofs.WorkLemmas.{at_work, own_order}
 
 -- ---- as the calls of a core tell it
 
 pub handed_dumper : (old new : CoreView) (made : Made) (phase : Phase) (answer : Reply) → IsDumpersOutcome old made phase new → made.request.id.worker ≡ Dumper
     → length new.phases ≡ length old.phases
     → ((asked : List (Option Asked)) (bodies files : List (List ℕ)) → slice_get asked 0 ≡ Some (Some made.request) → Believes old asked bodies files
-        → Believes new (slice_set asked 0 None) (bodies_after bodies made.request.id made.request.bytes) files)
+    → Believes new (slice_set asked 0 None) (bodies_after bodies made.request.id made.request.bytes) files)
     → AddsByOutcome made.request.id.worker answer (history_of old) (history_of new) → HandedIn old made answer new
 handed_dumper old new made phase answer o whose count goes adds = record {
   base = o.base;

@@ -1,9 +1,8 @@
 -- What the steps and outcomes of an image leave of its plan, its cursor and its freeze.
-use Rattle.std.proofs.Common.{◌≡◌, ◌≢◌, ℕ, ◌==◌, ◌&&◌, ◌||◌, Bool, true, false, if◌then◌else◌, List, [], ◌∷◌, Option, Some, None, refl, sym, ◌∙◌, ap, subst}
+use Rattle.std.proofs.Common.{◌≡◌, ◌≢◌, ℕ, ◌==◌, ◌&&◌, ◌||◌, Bool, true, false, if◌then◌else◌, [], ◌∷◌, Some, None, refl, sym, ◌∙◌, ap}
 use Rattle.std.proofs.lemmas.Option.{same_Some}
-use Rattle.sd_gate.specs.declared.request_id.RequestId.{RequestId}
-use Rattle.sd_gate.specs.Plans.{Gives, Planned, begun, plan_after}
-use Rattle.sd_gate.specs.Requests.{Asked, Made}
+use Rattle.sd_gate.specs.Plans.{Gives, Planned}
+use Rattle.sd_gate.specs.Requests.{Asked}
 use Rattle.sd_gate.specs.Sequences.{Calls}
 use Rattle.sd_image.specs.declared.header.Kind.{Kind}
 use Rattle.sd_image.specs.declared.header.Kind.TheVariants.{PreDump, Dump, Merged}
@@ -15,7 +14,7 @@ use Rattle.sd_rounds.specs.declared.copied.Copied.TheVariants.{More, Zero, Gone}
 use Rattle.sd_rounds.specs.declared.image_order.ImageOrder.{ImageOrder}
 use Rattle.sd_rounds.specs.declared.stage.Stage.{Stage}
 use Rattle.sd_rounds.specs.declared.stage.Stage.TheVariants.{Format, Freeze, Pass as PassStage, PageWrite, Close}
-use Rattle.sd_rounds.specs.Making.{Making, closing, is_past_freeze, out_of, plan_of, stage_after, stage_behind, with_plan}
+use Rattle.sd_rounds.specs.Making.{closing, is_past_freeze, out_of, plan_of, stage_after, stage_behind, with_plan}
 use Rattle.sd_rounds.specs.Pass.{Pass, Place, begun_to_take, left_to_parent, visited}
 use Rattle.sd_rounds.specs.Rounds.{Copies}
 use Rattle.sd_core.specs.Sound.{IsStageOf, IsVisitingIn}

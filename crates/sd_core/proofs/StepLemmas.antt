@@ -1,5 +1,5 @@
 -- The dumper's steps, as the calls of a core tell them.
-use Rattle.std.proofs.Common.{◌≡◌, ◌⊎◌, ℕ, zero, suc, ◌<◌, List, [], ◌∷◌, length, Option, Some, None, slice_get, slice_set, refl, sym, ◌∙◌, ap, subst, inl, inr}
+use Rattle.std.proofs.Common.{◌≡◌, ◌⊎◌, ℕ, zero, suc, ◌<◌, List, length, Option, Some, slice_get, slice_set, refl, sym, ◌∙◌, ap, subst, inl, inr}
 use Rattle.sd_gate.specs.declared.phase.Phase.{Phase}
 use Rattle.sd_gate.specs.declared.request_id.RequestId.{RequestId}
 use Rattle.sd_gate.specs.declared.worker.Worker.TheVariants.{Dumper}
@@ -31,7 +31,7 @@ free_of_none outs slot is worker id out same = none_at worker (ap (λ all. slice
 pub hands_asked : (old new : CoreView) (running : Running) (image next : Making) (number : ℕ) (step : ImageStep) (request : Asked)
     → AsksFor old running image number step request next new → IsAskedBy number request → request.id.slot < length old.phases
     → ((asked : List (Option Asked)) (bodies files : List (List ℕ)) → AsksFor old running image number step request next new → Believes old asked bodies files
-        → Believes new (slice_set asked 0 (Some request)) bodies files)
+    → Believes new (slice_set asked 0 (Some request)) bodies files)
     → HandsOut old Dumper request new
 hands_asked old new running image next number step request a whose slot goes = record {
   free = a.free;

@@ -1,25 +1,30 @@
 -- A core while its dumper works.
-use Rattle.std.proofs.Common.{◌≡◌, ◌≢◌, ℕ, zero, suc, ◌+◌, ◌<◌, ◌≤◌, ◌^◌, ◌==◌, ◌||◌, Bool, true, false, if◌then◌else◌, List, [], ◌∷◌, length, Option, Some, None, IfSome, slice_get, slice_set, refl, sym, ◌∙◌, ap, subst, inl, inr, arith}
+use Rattle.std.proofs.Common.{◌≡◌, ◌≢◌, ℕ, zero, suc, ◌+◌, ◌<◌, ◌≤◌, ◌^◌, ◌==◌, ◌||◌, false, if◌then◌else◌, List, [], ◌∷◌, length, Option, Some, None, IfSome, slice_get, refl, sym, ◌∙◌, ap, subst, inl, inr, arith}
 use Rattle.std.specs.List.{list_any}
 use Rattle.std.proofs.lemmas.Bool.Decides.{eqb_tells}
 use Rattle.sd_chain.specs.Catalog.{Places}
 use Rattle.sd_gate.specs.declared.phase.Phase.{Phase}
 use Rattle.sd_gate.specs.declared.request_id.RequestId.{RequestId}
+use Rattle.sd_command.specs.declared.command.Command.{Command}
+use Rattle.sd_command.specs.declared.reply.Reply.{Reply}
+use Rattle.sd_journal.specs.declared.entry.Entry.TheVariants.{Applied}
 use Rattle.sd_journal.specs.declared.mark.Mark.{Mark}
 use Rattle.sd_journal.specs.History.{Base, last, pending}
 use Rattle.sd_journal.specs.Kept.{HasGrown, Kept}
 use Rattle.sd_journal.specs.Legal.{IsAbove}
-use Rattle.sd_journal.specs.Marked.{IsTracked, Marked, Noted, entries_of, is_of, mark_serial}
+use Rattle.sd_journal.specs.Marked.{IsTracked, Marked, Noted, Told, entries_of, is_of, mark_serial}
 use Rattle.sd_opener.specs.Looking.{Looking}
 use Rattle.sd_pagetable.specs.Contents.{Contents}
+use Rattle.sd_rounds.specs.declared.stage.Stage.{Stage}
+use Rattle.sd_rounds.specs.declared.stage.Stage.TheVariants.{Format, Freeze as FreezeStage, Pass as PassStage, PageWrite, Close}
 use Rattle.sd_rounds.specs.Dumper.{AreRunning, IsItsImage, Running, order_of, out_of_image, out_of_running, slot_of}
 use Rattle.sd_rounds.specs.Making.{Making, is_frozen, out_of}
+use Rattle.sd_belief.specs.declared.standing.Standing.{Standing}
 use Rattle.sd_belief.specs.declared.standing.Standing.TheVariants.{Open}
-use Rattle.sd_belief.specs.InUse.{IsReserved}
 use Rattle.sd_belief.specs.OpenerSteps.{nobody}
 use Rattle.sd_core.specs.declared.numbers.Numbers.{Numbers}
 use Rattle.sd_core.proofs.JournalLemmas.{same_journal}
-use Rattle.sd_core.specs.Sound.{AreCounted, AreNumbers, AreOuts, IsAtWork, IsCore, IsImageOf, IsJournal, IsOpening, Parts, begun_images, frozen_by, held_for, out_of_opener}
+use Rattle.sd_core.specs.Sound.{AreCounted, AreNumbers, AreOuts, IsAtWork, IsCore, IsImageOf, IsJournal, IsOpening, IsVisiting, IsVisitingIn, Parts, begun_images, frozen_by, held_for, out_of_opener}
 
 -- ---- where none runs
 
@@ -30,6 +35,9 @@ none_runs (Some running) work none = absurd (none running work)
 -- no checkpoint runs while the store isn't open
 pub none_closed : (core : Parts) → IsCore core → core.standing ≢ Open → core.dumper.running ≡ None
 none_closed core sound closed = none_runs core.dumper.running sound.work (λ running work. closed work.stands)
+
+pub none_works : (P : Running → Type 0) (running : Option Running) → running ≡ None → IfSome running P
+none_works P running none = subst (λ r. IfSome r P) (sym none) tt
 
 -- ---- where one does
 
@@ -259,3 +267,59 @@ image_within core since running image sound are was making =
 pub rests_before : (core : Parts) (running : Running) → IsCore core → core.dumper.running ≡ Some running → running.image ≡ None → core.outs ≡ nobody
 rests_before core running sound was none = sound.outs_are.are ∙ ap (λ r. out_of_running r ∷ None ∷ out_of_opener core.opener ∷ []) was
     ∙ ap (λ i. out_of_image i ∷ None ∷ out_of_opener core.opener ∷ []) none ∙ ap (λ o. None ∷ None ∷ out_of_opener o ∷ []) (at_work core running sound was).closed
+
+-- ---- a command was journaled
+
+pub applied_numbers : (base : Base) (items : Marked) (frozen newest : Option ℕ) (numbers : Numbers) (seat : ℕ) (command : Command) (reply : Reply)
+    → AreNumbers base items frozen newest numbers → AreNumbers base (Told (Applied seat command reply) ∷ items) frozen newest numbers
+applied_numbers base items frozen newest numbers seat command reply was = record {
+  used = was.used;
+  newest_used = was.newest_used;
+  frozen_used = was.frozen_used;
+  marks = was.marks;
+  checkpoints = was.checkpoints;
+  serials = was.serials;
+}
+
+image_applied : (items : Marked) (places : Places) (numbers : Numbers) (image : Making) (seat : ℕ) (command : Command) (reply : Reply)
+    → IsImageOf items places numbers image → IsImageOf (Told (Applied seat command reply) ∷ items) places numbers image
+image_applied items places numbers image seat command reply is = record {
+  serial = is.serial;
+  given = is.given;
+  held = is.held;
+  stage = is.stage;
+  visiting_in = by_stage image.stage is.visiting_in;
+}
+  where
+    same : IsVisiting items image.order.serial image.pass → IsVisiting (Told (Applied seat command reply) ∷ items) image.order.serial image.pass
+    same v = record { started = v.started; cursor = v.cursor }
+
+    by_stage : (stage : Stage) → IsVisitingIn items image.order.serial image.pass stage
+        → IsVisitingIn (Told (Applied seat command reply) ∷ items) image.order.serial image.pass stage
+    by_stage (Format plan) v = same v
+    by_stage FreezeStage v = same v
+    by_stage PassStage v = same v
+    by_stage (PageWrite plan) v = same v
+    by_stage (Close plan header tables) v = tt
+
+image_applied_some : (items : Marked) (places : Places) (numbers : Numbers) (image : Option Making) (seat : ℕ) (command : Command) (reply : Reply)
+    → IfSome image (IsImageOf items places numbers) → IfSome image (IsImageOf (Told (Applied seat command reply) ∷ items) places numbers)
+image_applied_some items places numbers None seat command reply is = tt
+image_applied_some items places numbers (Some image) seat command reply is = image_applied items places numbers image seat command reply is
+
+pub applied_work : (base : Base) (items : Marked) (frozen : Option ℕ) (stands : Standing) (phases : List Phase) (places : Places) (opener : Option Looking) (numbers : Numbers)
+    (running : Option Running) (seat : ℕ) (command : Command) (reply : Reply) → IfSome running (IsAtWork base items frozen stands phases places opener numbers)
+    → IfSome running (IsAtWork base (Told (Applied seat command reply) ∷ items) frozen stands phases places opener numbers)
+applied_work base items frozen stands phases places opener numbers None seat command reply work = tt
+applied_work base items frozen stands phases places opener numbers (Some running) seat command reply work = record {
+  stands = work.stands;
+  closed = work.closed;
+  pends = work.pends;
+  above = work.above;
+  some = work.some;
+  number = work.number;
+  few = work.few;
+  serials = work.serials;
+  within = work.within;
+  image = image_applied_some items places numbers running.image seat command reply work.image;
+}

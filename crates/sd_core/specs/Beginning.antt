@@ -44,6 +44,12 @@ begin_refusal core rounds = first_of (
     ∷ (are_used_up core.numbers, refusal.NumbersUsed)
     ∷ [])
 
+-- why a merge can't begin: nothing merges yet
+abbrev pub merge_refusal : Standing → Refusal
+merge_refusal standing.NotOpen = refusal.NotOpen
+merge_refusal standing.Open = refusal.Idle
+merge_refusal standing.Down = refusal.StoreDown
+
 -- ---- slots
 
 -- with the slot of an image, where there is one, as used

@@ -18,7 +18,7 @@ ghost use Rattle.sd_gate.specs.declared.worker.Worker.TheVariants as its;
 ghost use Rattle.sd_command.specs.declared.refusal.Refusal.{Refusal as Why};
 ghost use Rattle.sd_rounds.specs.Dumper.{next_slot};
 ghost use Rattle.sd_core.specs.Answering.{IsAnswered};
-ghost use Rattle.sd_core.specs.Beginning.{begin_refusal};
+ghost use Rattle.sd_core.specs.Beginning.{begin_refusal, merge_refusal};
 ghost use Rattle.sd_core.specs.Opening.{IsAllRead};
 ghost use Rattle.sd_core.specs.Starts.{TakesUp, IsStart, shown_base};
 
@@ -31,8 +31,8 @@ use crate::dumping::{
 };
 use crate::numbers::Numbers;
 use crate::opening::{
-    follow_call, give_up_all, hold_for_opening, is_nobody_out, is_open, is_out, is_resting, let_go, put_opener,
-    put_out, read_by, release_for_opening, step_opener, take_opener, teach,
+    follow_call, give_up_all, hold_for_opening, is_nobody_out, is_open, is_out, is_resting, let_go,
+    put_opener, put_out, read_by, release_for_opening, step_opener, take_opener, teach,
 };
 use crate::start::Start;
 use crate::taken::Taken;
@@ -268,12 +268,22 @@ impl Core {
         Reply::Begun(number)
     }
 
-    /// Begins a merge.
+    /// Begins a merge. There is no merger yet.
+    ///
+    /// # Errors
+    ///
+    /// `NotOpen`, `StoreDown`, and `Idle` in an open store. Nothing changes.
     pub fn merge(&mut self) -> Reply
         ensures adds { AddsByOrder result (history_of self.old) (history_of self.new) }
         ensures keeps { Stays self.old self.new }
+        ensures refused { (self.new ≡ self.old) × (result ≡ reply.Refused (merge_refusal self.old.standing)) }
     {
-        Reply::Refused(Refusal::NotOpen)
+        core_steps();
+        match self.standing {
+            Standing::NotOpen => Reply::Refused(Refusal::NotOpen),
+            Standing::Down => Reply::Refused(Refusal::StoreDown),
+            Standing::Open => Reply::Refused(Refusal::Idle),
+        }
     }
 
     /// Cancels the checkpoint that runs or is pending, also while the store is down. The next one takes every page.

@@ -4,7 +4,11 @@
 #[cfg(test)]
 mod again;
 #[cfg(test)]
+mod checkpoints;
+#[cfg(test)]
 mod commands;
+#[cfg(test)]
+mod drive;
 #[cfg(test)]
 mod opening;
 #[cfg(test)]

@@ -1,4 +1,4 @@
-use Rattle.std.proofs.Common.{◌≡◌, ◌+◌, ◌++◌, ◌∷◌, [], suc, take, length, false, sym, ◌∙◌, ap, arith}
+use Rattle.std.proofs.Common.{◌≡◌, ◌+◌, ◌++◌, ◌∷◌, [], suc, take, false, sym, ◌∙◌, ap, arith}
 use Rattle.sd_core.specs.Beginning.{free_from}
 use Rattle.sd_core.proofs.BeginningLemmas.{free_more, free_same}
 use Rattle.sd_core.proofs.beginning.free_slots.Goals.{then-not-used+in_ok-push, else-not-used}

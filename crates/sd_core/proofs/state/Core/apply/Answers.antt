@@ -1,15 +1,16 @@
-use Rattle.std.proofs.Common.{◌≡◌, ◌∷◌, length, sym, refl, ◌∙◌, ap, subst, arith}
+use Rattle.std.proofs.Common.{◌≡◌, ◌∷◌, length, IfSome, sym, refl, ◌∙◌, ap, subst, arith}
 use Rattle.sd_areas.specs.Memory.{memory_of}
 use Rattle.sd_journal.specs.History.{Base}
 use Rattle.sd_journal.specs.declared.entry.Entry.TheVariants.{Applied}
 use Rattle.sd_journal.specs.Marked.{Told, entries_of}
 use Rattle.sd_belief.specs.View.{CoreView, history_of}
 use Rattle.sd_core.specs.Answering.{IsAnswered}
-use Rattle.sd_core.specs.Sound.{IsJournal}
+use Rattle.sd_core.specs.Sound.{AreNumbers, IsAtWork, IsJournal}
 use Rattle.sd_belief.specs.CoreSteps.{IsCommanded}
 use Rattle.sd_core.proofs.ApplyLemmas.{bytes_pass, commanded, stays_applied, stays_same}
 use Rattle.sd_core.proofs.JournalLemmas.{applied_journal, same_journal}
 use Rattle.sd_core.proofs.OpeningLemmas.{stays_seen}
+use Rattle.sd_core.proofs.WorkLemmas.{applied_numbers, applied_work}
 use Rattle.sd_core.proofs.state.Core.apply.Goals as goal
 
 pub invariant_of-self-in_default-copy_reply : goal.invariant_of-self-in_default-copy_reply
@@ -24,7 +25,10 @@ invariant_of-self-in_default-copy_reply c =
       held = c.reserve.ensures.grown.held ∙ c.self.invariant.held;
       outs_are = c.self.invariant.outs_are;
       opening = c.self.invariant.opening;
-      idle = c.self.invariant.idle;
+      numbers_are = subst (λ all. AreNumbers base all c.self.inside.pending c.self.inside.last c.self.inside.numbers) (sym before) c.self.invariant.numbers_are;
+      counted = c.self.invariant.counted;
+      rests = c.self.invariant.rests;
+      work = subst (λ all. IfSome c.self.inside.dumper.running (IsAtWork base all c.self.inside.pending c.self.inside.standing c.self.inside.phases.items c.self.inside.catalog c.self.inside.opener c.self.inside.numbers)) (sym before) c.self.invariant.work;
     }
 
 pub returns-in_default-copy_reply-clause-keeps : goal.returns-in_default-copy_reply-clause-keeps
@@ -42,13 +46,20 @@ invariant_of-self-2 c =
     let base : Base = record { number = c.self.inside.number; memory = memory_of c.self.inside.base } in
     let answered = subst (λ frozen. IsAnswered frozen c.in-Ok-copy_command.command c.in-Ok-answer.reply c.self.inside.memory c.answer.new.memory) c.is_some.ensures c.in-Ok-answer.ensures.answered in
     let before = same_journal base c.self.inside.journal c.reserve.new.self c.self.inside.memory c.self.inside.pending c.self.inside.last c.reserve.ensures.grown.first c.reserve.ensures.grown.items c.reserve.ensures.grown.limit c.self.invariant.journal_is in
+    let items = c.append.ensures.items ∙ ap (λ all. Told (Applied c.args.seat c.in-Ok-copy_command.command c.in-Ok-answer.reply) ∷ all) c.reserve.ensures.grown.items in
     record {
       journal_is = applied_journal c.tracked_laws.ensures base c.reserve.new.self c.append.new.self c.self.inside.memory c.answer.new.memory c.self.inside.pending c.self.inside.last
           c.args.seat c.in-Ok-copy_command.command c.in-Ok-answer.reply c.append.ensures.items c.append.ensures.numbers.first c.append.ensures.numbers.limit before answered;
       held = c.append.ensures.held ∙ c.reserve.ensures.grown.held ∙ c.self.invariant.held;
       outs_are = c.self.invariant.outs_are;
       opening = c.self.invariant.opening;
-      idle = c.self.invariant.idle;
+      numbers_are = subst (λ all. AreNumbers base all c.self.inside.pending c.self.inside.last c.self.inside.numbers) (sym items)
+          (applied_numbers base c.self.inside.journal.items c.self.inside.pending c.self.inside.last c.self.inside.numbers c.args.seat c.in-Ok-copy_command.command c.in-Ok-answer.reply c.self.invariant.numbers_are);
+      counted = c.self.invariant.counted;
+      rests = c.self.invariant.rests;
+      work = subst (λ all. IfSome c.self.inside.dumper.running (IsAtWork base all c.self.inside.pending c.self.inside.standing c.self.inside.phases.items c.self.inside.catalog c.self.inside.opener c.self.inside.numbers)) (sym items)
+          (applied_work base c.self.inside.journal.items c.self.inside.pending c.self.inside.standing c.self.inside.phases.items c.self.inside.catalog c.self.inside.opener c.self.inside.numbers
+          c.self.inside.dumper.running c.args.seat c.in-Ok-copy_command.command c.in-Ok-answer.reply c.self.invariant.work);
     }
 
 pub returns-clause-number : goal.returns-clause-number

@@ -81,7 +81,7 @@ invariant_of-self-2 c =
     let above = core.numbers_are.serials in
     let fresh = core.numbers_are.marks serial (omega (arith, above)) in
     let t = begun_asked c.reserve_mark.new.self.items c.hold.new.self c.tick.new.self (order_of w.running serial c.state.result) w.next c.begin_next-request.result
-        now given (held_place c.self.inside.catalog c.hold.new.self serial c.in-Ok-hold.ensures.held) (none_visited c.reserve_mark.new.self.items serial fresh) w.steps.0 in
+    now given (held_place c.self.inside.catalog c.hold.new.self serial c.in-Ok-hold.ensures.held) (none_visited c.reserve_mark.new.self.items serial fresh) w.steps.0 in
     let within = slot_within _ w.running core w.was in
     let serials : old.serial < 2 ^ 63 + w.running.opened = subst (λ i. old.serial < 2 ^ 63 + begun_images w.running i) w.none work.serials in
     core_working _ _ w.is (record {

@@ -1,31 +1,71 @@
-use Rattle.std.proofs.Common.{rules, ◌≡◌, ◌↔◌, ◌+◌, ℕ, List, [], ◌∷◌, length, map, drop, slice_get, Option, Some, None, Err, is_some, IfOk, ◌-◌, ◌*◌, ◌<◌, ◌≤◌, ◌/◌, ◌%◌, Bool, true, false, nat_eq, nat_lt, ◌++◌, slice_index_or, slice_set, bit_and, bit_or, Fits, w8, w32, w64, Bor, MutBor}
+use Rattle.std.proofs.Common.{◌≡◌, ◌∷◌, [], None, is_none, is_some, not, IfSome, refl, sym, ◌∙◌, ap, subst, arith}
+use Rattle.std.proofs.lemmas.Bool.{true≢false}
 use Rattle.sd_areas.specs.Memory.{memory_of}
-use Rattle.sd_areas.specs.PlainMemory.{PlainMemory}
-use Rattle.sd_pagetable.specs.Contents.{plain_of}
-use Rattle.sd_pagetable.specs.Tracking.{IsBeginning}
-use Rattle.sd_command.specs.declared.refusal.Refusal.TheVariants.{Idle, JournalFull}
-use Rattle.sd_command.specs.declared.reply.Reply.TheVariants as reply
-use Rattle.sd_image.specs.Shows.{Shows}
-use Rattle.sd_gate.specs.Laws.{found_phase}
-use Rattle.sd_gate.specs.Requests.{Asked}
-use Rattle.sd_journal.specs.History.{pending}
-use Rattle.sd_journal.specs.Marked.{IsTracked}
-use Rattle.sd_belief.specs.Believes.{Believes}
-use Rattle.sd_belief.specs.Calls.{AddsByCancel, AddsByOrder, Applies, HandedIn, HandsOut, IsOut, MakesStep, Stays}
-use Rattle.sd_belief.specs.View.{CoreView, history_of}
-use Rattle.sd_gate.specs.declared.worker.Worker.TheVariants as its
-use Rattle.sd_command.specs.declared.refusal.Refusal.{Refusal as Why}
-use Rattle.sd_rounds.specs.Dumper.{next_slot}
-use Rattle.sd_core.specs.Answering.{IsAnswered}
-use Rattle.sd_core.specs.Beginning.{begin_refusal}
-use Rattle.sd_core.specs.Opening.{IsAllRead}
-use Rattle.sd_core.specs.Starts.{TakesUp, IsStart, shown_base}
+use Rattle.sd_journal.specs.History.{Base}
+use Rattle.sd_journal.specs.Kept.{Kept}
+use Rattle.sd_rounds.specs.Dumper.{Dumping, out_of_running}
+use Rattle.sd_core.specs.Sound.{AreNumbers, IsAtWork, held_for, out_of_opener}
+use Rattle.sd_core.proofs.ApplyLemmas.{same_phases}
+use Rattle.sd_core.proofs.CancelLemmas.{cancelled_journal, cancelled_numbers, counted_released, may_cancel, none_where, rests_cancelled, same_images}
+use Rattle.sd_core.proofs.JournalLemmas.{same_journal}
+use Rattle.sd_core.proofs.OpeningLemmas.{stays_seen}
+use Rattle.sd_core.proofs.state.Core.cancel.Goals.{else-is_idle-via-then-is_idle+else-is_none, else-is_idle-via-else-is_idle}
 use Rattle.sd_core.proofs.state.Core.cancel.Goals as goal
 
--- src/state.rt:285:5
 pub invariant_of-self : goal.invariant_of-self
-invariant_of-self c = ?
+invariant_of-self c =
+    let base : Base = record { number = c.self.inside.number; memory = memory_of c.self.inside.base } in
+    let some : c.self.inside.dumper.running ≡ None → c.self.inside.pending ≡ None → ⊥ = elim c.else-is_idle.branch [
+      | else-is_idle-via-then-is_idle+else-is_none w ↦ (λ idle none. true≢false (sym (w.is_none.ensures ∙ ap not w.if-is_none.false) ∙ ap is_some none))
+      | else-is_idle-via-else-is_idle w ↦ (λ idle none. true≢false (ap is_none (sym idle) ∙ sym c.is_idle.ensures ∙ w.if-is_idle.false))
+    ] in
+    let closed = none_where c.self.inside.opener (sym c.is_some.ensures ∙ c.if-is_some.false) in
+    let rests = c.is_resting.ensures.0 c.if-not-is_resting.false in
+    let gone = ap (λ (d : Dumping). d.running) c.cancel.ensures in
+    let journal = cancelled_journal c.tracked_laws.ensures _ c.append_held.new.self c.self.invariant (may_cancel _ c.self.invariant some)
+    c.append_held.ensures.items c.append_held.ensures.numbers.first c.append_held.ensures.numbers.limit in
+    let held = c.held-held.ensures in
+    let less = ap (λ (k : Kept). k.held) c.release.ensures in
+    let free : c.release.new.self.held ≡ 0 = omega (arith, held, less) in
+    let items = ap (λ (k : Kept). k.items) c.release.ensures in
+    record {
+      journal_is = same_journal base c.append_held.new.self c.release.new.self c.self.inside.memory None c.self.inside.last (ap (λ (k : Kept). k.first) c.release.ensures) items
+          (ap (λ (k : Kept). k.limit) c.release.ensures) journal;
+      held = free ∙ ap (λ r. held_for None r None) (sym gone) ∙ ap (held_for None c.cancel.new.self.running) (sym closed);
+      outs_are = record {
+        are = rests_cancelled _ c.self.invariant rests ∙ ap (λ r. out_of_running r ∷ None ∷ out_of_opener c.self.inside.opener ∷ []) (sym gone);
+        within = c.self.invariant.outs_are.within;
+      };
+      opening = c.self.invariant.opening;
+      numbers_are = subst (λ all. AreNumbers base all None c.self.inside.last c.self.inside.numbers) (sym (items ∙ c.append_held.ensures.items))
+          (cancelled_numbers base c.self.inside.journal.items c.self.inside.pending c.self.inside.last c.self.inside.numbers c.self.invariant.numbers_are);
+      counted = counted_released c.self.inside.numbers c.self.inside.catalog c.release-2.new.self c.self.inside.numbers.serial
+          (record { released = c.release-2.ensures.released; nothing = c.release-2.ensures.nothing }) c.self.invariant.counted;
+      rests = λ none stands. refl;
+      work = subst (λ r. IfSome r (IsAtWork base c.release.new.self.items None c.self.inside.standing c.self.inside.phases.items c.release-2.new.self c.self.inside.opener c.self.inside.numbers)) (sym gone) tt;
+    }
 
--- src/state.rt:285:5
 pub returns-clause-keeps : goal.returns-clause-keeps
-returns-clause-keeps c = ?
+returns-clause-keeps c =
+    let gone = ap (λ (d : Dumping). d.running) c.cancel.ensures in
+    stays_seen _ _ _ c.self.view_is (record {
+      base = refl;
+      outs = refl;
+      phases = same_phases c.self.inside.outs c.self.inside.phases.items;
+      goes_on = λ asked bodies files b. c.cancelling_law.ensures _ _ c.self.inside.numbers.begun asked bodies files (record {
+        base = refl;
+        items = ap (λ (k : Kept). k.items) c.release.ensures ∙ c.append_held.ensures.items;
+        memory = refl;
+        phases = refl;
+        outs = refl;
+        standing = refl;
+        serial = refl;
+        closed = none_where c.self.inside.opener (sym c.is_some.ensures ∙ c.if-is_some.false);
+        free = c.is_resting.ensures.0 c.if-not-is_resting.false;
+        sure = c.if-self.false;
+        images = same_images c.self.inside.catalog c.release-2.new.self c.self.inside.numbers.serial
+            (record { released = c.release-2.ensures.released; nothing = c.release-2.ensures.nothing });
+        grows = refl;
+        is = gone;
+      }) b;
+    })

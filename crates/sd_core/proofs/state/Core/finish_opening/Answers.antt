@@ -7,10 +7,11 @@ use Rattle.sd_journal.specs.History.{Base}
 use Rattle.sd_opener.specs.Looking.{Looking, out_of}
 use Rattle.sd_belief.specs.declared.standing.Standing.TheVariants.{Open}
 use Rattle.sd_belief.specs.View.{CoreView}
-use Rattle.sd_core.specs.Sound.{IsOpening, held_for, out_of_opener}
+use Rattle.sd_core.specs.Sound.{AreNumbers, IsOpening, held_for, out_of_opener}
 use Rattle.sd_core.proofs.CoreLemmas.{held_idle, held_opening, nobody_is, none_out}
-use Rattle.sd_core.proofs.JournalLemmas.{reopened_journal}
+use Rattle.sd_core.proofs.JournalLemmas.{found_used, reopened_journal, reopened_numbers}
 use Rattle.sd_core.proofs.OpeningLemmas.{starts_anew, step_seen}
+use Rattle.sd_core.proofs.WorkLemmas.{none_closed, none_works}
 use Rattle.sd_core.proofs.state.Core.finish_opening.Goals as goal
 
 pub invariant_of-self-2 : goal.invariant_of-self-2
@@ -20,7 +21,10 @@ invariant_of-self-2 c =
     let is : c.self.inside.opener ≡ Some o = sym c.take_opener.ensures.taken ∙ c.in-Some.is in
     let same : c.requires.looking ≡ o = same_Some c.requires.looking o (sym c.requires.is ∙ sym (ap (λ (v : CoreView). v.opener) c.self.view_is) ∙ is) in
     let rests : out_of_opener c.self.inside.opener ≡ None = ap out_of_opener is ∙ subst (λ (l : Looking). out_of l.stage ≡ None) same c.requires.rests in
-    let none = c.self.invariant.idle in
+    let opening = subst (λ x. IfSome x (IsOpening c.self.inside.standing c.self.inside.phases.items)) is c.self.invariant.opening in
+    let none = none_closed _ c.self.invariant opening.closed in
+    let expected = c.in-Some-read_by.ensures.expected in
+    let used = found_used c.self.inside.pending c.self.inside.last c.in-Some-read_by.found c.self.inside.numbers.begun expected c.self.invariant.numbers_are.newest_used c.self.invariant.numbers_are.frozen_used in
     let held : c.self.inside.journal.held ≡ 1 = c.self.invariant.held ∙ ap (held_for c.self.inside.pending c.self.inside.dumper.running) is ∙ held_opening c.self.inside.pending c.self.inside.dumper.running o none in
     let less = c.append_held.ensures.held in
     let zero_is : c.append_held.new.self.held ≡ 0 = omega (arith, held, less) in
@@ -31,7 +35,12 @@ invariant_of-self-2 c =
       outs_are = none_out c.self.inside.outs c.in-Some-read_by.opened.phases.items c.self.inside.dumper.running c.take_opener.new.opener none (ap out_of_opener c.take_opener.ensures.left)
           (nobody_is c.self.inside.outs c.self.inside.phases.items c.self.inside.dumper.running c.self.inside.opener c.self.invariant.outs_are none rests);
       opening = subst (λ x. IfSome x (IsOpening Open c.in-Some-read_by.opened.phases.items)) (sym c.take_opener.ensures.left) tt;
-      idle = none;
+      numbers_are = subst (λ all. AreNumbers base all None c.in-Some-read_by.found c.found.new.self) (sym c.append_held.ensures.items)
+          (reopened_numbers base c.self.inside.journal.items c.self.inside.pending c.self.inside.last c.in-Some-read_by.found c.self.inside.numbers c.found.new.self
+          c.found.ensures.begun c.found.ensures.given c.found.ensures.checkpoint c.found.ensures.serial used c.self.invariant.numbers_are);
+      counted = c.found.ensures.checkpoints;
+      rests = λ idle stands. refl;
+      work = none_works _ c.self.inside.dumper.running none;
     }
 
 pub returns : goal.returns
@@ -40,6 +49,8 @@ returns c =
     let o = c.in-Some.opener in
     let is : c.self.inside.opener ≡ Some o = sym c.take_opener.ensures.taken ∙ c.in-Some.is in
     let same : c.requires.looking ≡ o = same_Some c.requires.looking o (sym c.requires.is ∙ sym (ap (λ (v : CoreView). v.opener) c.self.view_is) ∙ is) in
+    let opening = subst (λ x. IfSome x (IsOpening c.self.inside.standing c.self.inside.phases.items)) is c.self.invariant.opening in
+    let none = none_closed _ c.self.invariant opening.closed in
     let rests : out_of_opener c.self.inside.opener ≡ None = ap out_of_opener is ∙ subst (λ (l : Looking). out_of l.stage ≡ None) same c.requires.rests in
     let all : length o.told ≡ o.slots = subst (λ (l : Looking). length l.told ≡ l.slots) same c.requires.all in
     let slots : o.slots ≡ length c.self.inside.phases.items = (subst (λ x. IfSome x (IsOpening c.self.inside.standing c.self.inside.phases.items)) is c.self.invariant.opening).slots in
@@ -51,7 +62,7 @@ returns c =
       base = refl;
       items = c.append_held.ensures.items;
       outs = refl;
-      none = nobody_is c.self.inside.outs c.self.inside.phases.items c.self.inside.dumper.running c.self.inside.opener c.self.invariant.outs_are c.self.invariant.idle rests;
+      none = nobody_is c.self.inside.outs c.self.inside.phases.items c.self.inside.dumper.running c.self.inside.opener c.self.invariant.outs_are none rests;
       legal = (legal.1, c.tracked_laws.ensures.legal base c.self.inside.journal.items c.self.invariant.journal_is.tracked.marked);
       was = is;
       all = all;
@@ -63,6 +74,6 @@ returns c =
       order = c.sound.ensures.order;
       serials = c.found.ensures.serials;
       grows = refl;
-      idle = c.self.invariant.idle;
-      outs = nobody_is c.self.inside.outs c.self.inside.phases.items c.self.inside.dumper.running c.self.inside.opener c.self.invariant.outs_are c.self.invariant.idle rests;
+      idle = none;
+      outs = nobody_is c.self.inside.outs c.self.inside.phases.items c.self.inside.dumper.running c.self.inside.opener c.self.invariant.outs_are none rests;
     }))

@@ -1,4 +1,4 @@
-use Rattle.std.proofs.Common.{◌≡◌, ℕ, ◌+◌, ◌<◌, ◌^◌, if◌then◌else◌, ◌||◌, ◌&&◌, length, Option, Some, None, slice_get, slice_set, ◌∷◌, [], refl, sym, ◌∙◌, ap, subst, inl, inr, arith}
+use Rattle.std.proofs.Common.{◌≡◌, ◌+◌, ◌<◌, ◌^◌, if◌then◌else◌, ◌||◌, ◌&&◌, length, Some, None, slice_get, slice_set, ◌∷◌, [], refl, sym, ◌∙◌, ap, subst, arith}
 use Rattle.sd_areas.specs.Memory.{memory_of}
 use Rattle.std.proofs.lemmas.Option.{same_Some}
 use Rattle.sd_gate.specs.declared.request_id.RequestId.{RequestId}
@@ -9,7 +9,7 @@ use Rattle.sd_journal.specs.History.{Base}
 use Rattle.sd_journal.specs.Legal.{IsLegal}
 use Rattle.sd_journal.specs.declared.mark.Mark.TheVariants.{Table, Visit}
 use Rattle.sd_journal.specs.Marked.{Noted, Told, entries_of}
-use Rattle.sd_rounds.specs.declared.image_step.ImageStep.TheVariants.{TableCall, Frozen, Visited, Copied}
+use Rattle.sd_rounds.specs.declared.image_step.ImageStep.TheVariants.{TableCall, Visited, Copied}
 use Rattle.sd_pagetable.specs.Contents.{plain_of}
 use Rattle.sd_rounds.specs.Dumper.{is_dumping, is_last}
 use Rattle.sd_belief.specs.DumperSteps.{opens_gate}

@@ -7,8 +7,9 @@ use Rattle.sd_command.specs.declared.reply.Reply.TheVariants as reply
 use Rattle.sd_command.specs.declared.refusal.Refusal.TheVariants.{StoreDown}
 use Rattle.sd_belief.specs.View.{CoreView, index}
 use Rattle.sd_core.specs.Sound.{IsOpening, held_for, out_of_opener}
-use Rattle.sd_core.proofs.CoreLemmas.{alone_is, after_count, closed_by, held_opening, none_out, set_nobody, taught_opener}
+use Rattle.sd_core.proofs.CoreLemmas.{alone_is, after_count, closed_by, held_opening, none_out, opener_out, set_nobody, taught_opener}
 use Rattle.sd_core.proofs.OpeningLemmas.{handed_failed, handed_on, handed_seen}
+use Rattle.sd_core.proofs.WorkLemmas.{none_closed, none_works}
 use Rattle.sd_core.proofs.state.Core.hand_in_opener.Goals as goal
 
 pub invariant_of-self : goal.invariant_of-self
@@ -16,7 +17,8 @@ invariant_of-self c =
     let id = c.args.outcome.request.id in
     let own : slice_get c.self.inside.outs 2 ≡ Some (Some id) = ap (λ w. slice_get c.self.inside.outs (index w)) (sym c.requires.opener)
     ∙ ap (λ (v : CoreView). slice_get v.outs (index id.worker)) c.self.view_is ∙ c.requires.out in
-    let none = c.self.invariant.idle in
+    let none = none_closed _ c.self.invariant (closed_by c.self.inside.opener id c.self.inside.standing c.self.inside.phases.items c.self.invariant.opening
+    (opener_out c.self.inside.outs c.self.inside.phases.items c.self.inside.dumper.running c.self.inside.opener id c.self.invariant.outs_are own)) in
     let alone = alone_is c.self.inside.outs c.self.inside.phases.items c.self.inside.dumper.running c.self.inside.opener id c.self.invariant.outs_are none own in
     let follows : (phase : Phase) → slice_get c.self.inside.phases.items id.slot ≡ Some phase → c.follow_call.new.phases.items ≡ phases_after c.self.inside.phases.items id phase (is_done c.args.outcome.answer) =
     (λ phase is. c.follow_call.ensures phase (ap (λ (i : RequestId). slice_get c.self.inside.phases.items i.slot) c.id-id.ensures ∙ is)
@@ -36,7 +38,10 @@ invariant_of-self c =
       outs_are = none_out c.put_out.new.outs c.follow_call.new.phases.items c.self.inside.dumper.running c.teach.new.opener none rests none_now;
       opening = subst (λ x. IfSome x (IsOpening c.self.inside.standing c.follow_call.new.phases.items)) (sym t.is)
           (record { closed = before.closed; slots = t.goes_on.slots ∙ before.slots ∙ sym count });
-      idle = none;
+      numbers_are = c.self.invariant.numbers_are;
+      counted = c.self.invariant.counted;
+      rests = c.self.invariant.rests;
+      work = none_works _ c.self.inside.dumper.running none;
     }
 
 pub returns-then-teach : goal.returns-then-teach
@@ -44,7 +49,8 @@ returns-then-teach c =
     let id = c.args.outcome.request.id in
     let own : slice_get c.self.inside.outs 2 ≡ Some (Some id) = ap (λ w. slice_get c.self.inside.outs (index w)) (sym c.requires.opener)
     ∙ ap (λ (v : CoreView). slice_get v.outs (index id.worker)) c.self.view_is ∙ c.requires.out in
-    let none = c.self.invariant.idle in
+    let none = none_closed _ c.self.invariant (closed_by c.self.inside.opener id c.self.inside.standing c.self.inside.phases.items c.self.invariant.opening
+    (opener_out c.self.inside.outs c.self.inside.phases.items c.self.inside.dumper.running c.self.inside.opener id c.self.invariant.outs_are own)) in
     let alone = alone_is c.self.inside.outs c.self.inside.phases.items c.self.inside.dumper.running c.self.inside.opener id c.self.invariant.outs_are none own in
     let follows : (phase : Phase) → slice_get c.self.inside.phases.items id.slot ≡ Some phase → c.follow_call.new.phases.items ≡ phases_after c.self.inside.phases.items id phase (is_done c.args.outcome.answer) =
     (λ phase is. c.follow_call.ensures phase (ap (λ (i : RequestId). slice_get c.self.inside.phases.items i.slot) c.id-id.ensures ∙ is)
@@ -76,7 +82,8 @@ returns c =
     let id = c.args.outcome.request.id in
     let own : slice_get c.self.inside.outs 2 ≡ Some (Some id) = ap (λ w. slice_get c.self.inside.outs (index w)) (sym c.requires.opener)
     ∙ ap (λ (v : CoreView). slice_get v.outs (index id.worker)) c.self.view_is ∙ c.requires.out in
-    let none = c.self.invariant.idle in
+    let none = none_closed _ c.self.invariant (closed_by c.self.inside.opener id c.self.inside.standing c.self.inside.phases.items c.self.invariant.opening
+    (opener_out c.self.inside.outs c.self.inside.phases.items c.self.inside.dumper.running c.self.inside.opener id c.self.invariant.outs_are own)) in
     let alone = alone_is c.self.inside.outs c.self.inside.phases.items c.self.inside.dumper.running c.self.inside.opener id c.self.invariant.outs_are none own in
     let follows : (phase : Phase) → slice_get c.self.inside.phases.items id.slot ≡ Some phase → c.follow_call.new.phases.items ≡ phases_after c.self.inside.phases.items id phase (is_done c.args.outcome.answer) =
     (λ phase is. c.follow_call.ensures phase (ap (λ (i : RequestId). slice_get c.self.inside.phases.items i.slot) c.id-id.ensures ∙ is)

@@ -1,27 +1,19 @@
-use Rattle.std.proofs.Common.{rules, ◌≡◌, ◌↔◌, ◌+◌, ℕ, List, [], ◌∷◌, length, map, drop, slice_get, Option, Some, None, Err, is_some, IfOk, ◌-◌, ◌*◌, ◌<◌, ◌≤◌, ◌/◌, ◌%◌, Bool, true, false, nat_eq, nat_lt, ◌++◌, slice_index_or, slice_set, bit_and, bit_or, Fits, w8, w32, w64, Bor, MutBor}
-use Rattle.sd_areas.specs.Memory.{memory_of}
-use Rattle.sd_areas.specs.PlainMemory.{PlainMemory}
-use Rattle.sd_pagetable.specs.Contents.{plain_of}
-use Rattle.sd_pagetable.specs.Tracking.{IsBeginning}
-use Rattle.sd_command.specs.declared.refusal.Refusal.TheVariants.{Idle, JournalFull}
-use Rattle.sd_command.specs.declared.reply.Reply.TheVariants as reply
-use Rattle.sd_image.specs.Shows.{Shows}
-use Rattle.sd_gate.specs.Laws.{found_phase}
-use Rattle.sd_gate.specs.Requests.{Asked}
-use Rattle.sd_journal.specs.History.{pending}
-use Rattle.sd_journal.specs.Marked.{IsTracked}
-use Rattle.sd_belief.specs.Believes.{Believes}
-use Rattle.sd_belief.specs.Calls.{AddsByCancel, AddsByOrder, Applies, HandedIn, HandsOut, IsOut, MakesStep, Stays}
-use Rattle.sd_belief.specs.View.{CoreView, history_of}
-use Rattle.sd_gate.specs.declared.worker.Worker.TheVariants as its
-use Rattle.sd_command.specs.declared.refusal.Refusal.{Refusal as Why}
-use Rattle.sd_rounds.specs.Dumper.{next_slot}
-use Rattle.sd_core.specs.Answering.{IsAnswered}
-use Rattle.sd_core.specs.Beginning.{begin_refusal}
-use Rattle.sd_core.specs.Opening.{IsAllRead}
-use Rattle.sd_core.specs.Starts.{TakesUp, IsStart, shown_base}
+use Rattle.std.proofs.Common.{◌≡◌, ◌-◌, length, nat_lt, is_some, refl, ◌∙◌, ap, arith}
+use Rattle.sd_journal.specs.Marked.{entries_of}
+use Rattle.sd_belief.specs.View.{CoreView}
+use Rattle.sd_core.specs.Beginning.{are_used_up, free_entries, is_down, is_not_open}
+use Rattle.sd_core.proofs.BeginLemmas.{is_busy, same_first}
 use Rattle.sd_core.proofs.state.Core.refusal_of_begin.Goals as goal
 
--- src/state.rt:212:5
 pub returns : goal.returns
-returns c = ?
+returns c =
+    let free = c.free.ensures in
+    let same : c.free.result ≡ c.self.inside.journal.limit - length (entries_of c.self.inside.journal.items) - c.self.inside.journal.held = omega (arith, free) in
+    let is = c.self.view_is in
+    c.first_of.ensures ∙ same_first c.args.self.now c.args.rounds _ _ _ _ _ _
+    (c.is_not_open.ensures ∙ ap (λ (v : CoreView). is_not_open v.standing) is)
+    (c.is_down.ensures ∙ ap (λ (v : CoreView). is_down v.standing) is)
+    (is_busy c.self.inside.dumper.running c.is_idle.result c.is_idle.ensures ∙ ap (λ (v : CoreView). is_some v.dumper.running) is)
+    refl
+    (ap (λ n. nat_lt n 2) same ∙ ap (λ (v : CoreView). nat_lt (free_entries v) 2) is)
+    (c.are_used_up.ensures ∙ ap (λ (v : CoreView). are_used_up v.numbers) is)

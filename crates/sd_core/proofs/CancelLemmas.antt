@@ -1,0 +1,111 @@
+-- A checkpoint is cancelled.
+use Rattle.std.proofs.Common.{◌≡◌, ◌⊎◌, ◌↔◌, ℕ, ◌==◌, Bool, true, false, if◌then◌else◌, [], ◌∷◌, Option, Some, None, IfSome, is_some, slice_get, refl, sym, ◌∙◌, ap, subst, inl, inr}
+use Rattle.std.proofs.lemmas.Bool.{eq-eqb}
+use Rattle.std.proofs.lemmas.Bool.Decides.{eqb_tells}
+use Rattle.sd_chain.specs.Catalog.{Changes, IsHeld, Opened, Places, place_of}
+use Rattle.sd_journal.specs.declared.entry.Entry.TheVariants.{Cancelled}
+use Rattle.sd_journal.specs.History.{Base, last, pending, unless_it_is}
+use Rattle.sd_journal.specs.Kept.{Kept}
+use Rattle.sd_journal.specs.Legal.{IsAbove, MayFollow}
+use Rattle.sd_journal.specs.Marked.{IsTracked, Marked, Told, entries_of}
+use Rattle.sd_journal.specs.TrackedLaws.{TrackedLaws}
+use Rattle.sd_rounds.specs.Dumper.{Running, out_of_running}
+use Rattle.sd_core.specs.declared.numbers.Numbers.{Numbers}
+use Rattle.sd_core.specs.Sound.{AreCounted, AreNumbers, IsCore, IsJournal, Parts, out_of_opener}
+use Rattle.sd_core.proofs.WorkLemmas.{at_work}
+
+-- ---- the entry
+
+pub may_cancel : (core : Parts) → IsCore core → (core.dumper.running ≡ None → core.frozen ≡ None → ⊥)
+    → MayFollow core.base (entries_of core.journal.items) (Cancelled core.numbers.begun)
+may_cancel core sound some = by_frozen core.frozen refl
+  where
+    by_running : core.frozen ≡ None → (running : Option Running) → core.dumper.running ≡ running → IsAbove core.base (entries_of core.journal.items) core.numbers.begun
+    by_running none None is = absurd (some is none)
+    by_running none (Some running) is =
+        subst (IsAbove core.base (entries_of core.journal.items)) (at_work core running sound is).number ((at_work core running sound is).above none)
+
+    by_frozen : (frozen : Option ℕ) → core.frozen ≡ frozen
+        → (pending (entries_of core.journal.items) ≡ Some core.numbers.begun)
+        ⊎ ((pending (entries_of core.journal.items) ≡ None) × IsAbove core.base (entries_of core.journal.items) core.numbers.begun)
+    by_frozen None is = inr (sym sound.journal_is.frozen_for ∙ is, by_running is core.dumper.running refl)
+    by_frozen (Some n) is =
+        inl (sym sound.journal_is.frozen_for ∙ is ∙ ap Some (subst (λ f. IfSome f (λ m. m ≡ core.numbers.begun)) is sound.numbers_are.frozen_used))
+
+none_left : (n : ℕ) (frozen : Option ℕ) → IfSome frozen (λ m. m ≡ n) → None ≡ unless_it_is n frozen
+none_left n None used = refl
+none_left n (Some m) used = sym (ap (λ b. if b then None else Some m) (eq-eqb n m (sym used)))
+
+pub cancelled_journal : TrackedLaws → (core : Parts) (journal : Kept) → IsCore core → MayFollow core.base (entries_of core.journal.items) (Cancelled core.numbers.begun)
+    → journal.items ≡ Told (Cancelled core.numbers.begun) ∷ core.journal.items → journal.first ≡ core.journal.first → journal.limit ≡ core.journal.limit
+    → IsJournal core.base journal core.memory None core.newest
+cancelled_journal laws core journal sound may items first limit = record {
+  tracked = subst (λ all. IsTracked core.base all core.memory) (sym items)
+      (laws.told core.base core.journal.items core.memory (Cancelled core.numbers.begun) sound.journal_is.tracked may refl);
+  first = first ∙ sound.journal_is.first;
+  limit = limit ∙ sound.journal_is.limit;
+  frozen_for = none_left core.numbers.begun core.frozen sound.numbers_are.frozen_used ∙ ap (unless_it_is core.numbers.begun) sound.journal_is.frozen_for
+      ∙ ap (λ all. pending (entries_of all)) (sym items);
+  newest_is = sound.journal_is.newest_is ∙ ap (λ all. last core.base (entries_of all)) (sym items);
+}
+
+pub cancelled_numbers : (base : Base) (items : Marked) (frozen newest : Option ℕ) (numbers : Numbers) → AreNumbers base items frozen newest numbers
+    → AreNumbers base (Told (Cancelled numbers.begun) ∷ items) None newest numbers
+cancelled_numbers base items frozen newest numbers was = record {
+  used = λ n below. (below, was.used n below);
+  newest_used = was.newest_used;
+  frozen_used = tt;
+  marks = was.marks;
+  checkpoints = was.checkpoints;
+  serials = was.serials;
+}
+
+-- ---- no request of the dumper is out
+
+pub rests_cancelled : (core : Parts) → IsCore core → slice_get core.outs 0 ≡ Some None → core.outs ≡ None ∷ None ∷ out_of_opener core.opener ∷ []
+rests_cancelled core sound at = sound.outs_are.are ∙ ap (λ o. o ∷ None ∷ out_of_opener core.opener ∷ []) (first (ap (λ outs. slice_get outs 0) (sym sound.outs_are.are) ∙ at))
+  where
+    first : Some (out_of_running core.dumper.running) ≡ Some None → out_of_running core.dumper.running ≡ None
+    first e = cc
+
+-- ---- the catalog has the same images
+
+-- a place that was held is let go of, or nothing changes
+pub record IsReleased (old new : Places) (serial : ℕ) : Type 0 where
+  pub released : IsHeld old serial → Changes old new serial None
+  pub nothing : (IsHeld old serial → ⊥) → new ≡ old
+
+pub same_images : (old new : Places) (serial : ℕ) → IsReleased old new serial → (s : ℕ) (o : Opened)
+    → place_of new s ≡ Some (Some o) ↔ place_of old s ≡ Some (Some o)
+same_images old new serial r s o = by_place (place_of old serial) refl
+  where
+    same : new ≡ old → place_of new s ≡ Some (Some o) ↔ place_of old s ≡ Some (Some o)
+    same is = ((λ at. ap (λ all. place_of all s) (sym is) ∙ at), (λ at. ap (λ all. place_of all s) is ∙ at))
+
+    same_serial : (serial == s) ≡ true → serial ≡ s
+    same_serial is = elim (eqb_tells serial s) [
+      | inl one ↦ one.1
+      | inr other ↦ absurd (let no : true ≡ false = sym is ∙ other.0 in cc)
+    ]
+
+    by_serial : IsHeld old serial → (b : Bool) → (serial == s) ≡ b → place_of new s ≡ (if b then None else place_of old s)
+        → place_of new s ≡ Some (Some o) ↔ place_of old s ≡ Some (Some o)
+    by_serial held true is now = (
+      (λ at. absurd (let no : None ≡ Some (Some o) = sym now ∙ at in cc)),
+      (λ at. absurd (let no : Some None ≡ Some (Some o) = sym held ∙ ap (place_of old) (same_serial is) ∙ at in cc)),
+    )
+    by_serial held false is now = ((λ at. sym now ∙ at), (λ at. now ∙ at))
+
+    by_place : (place : Option (Option Opened)) → place_of old serial ≡ place → place_of new s ≡ Some (Some o) ↔ place_of old s ≡ Some (Some o)
+    by_place None is = same (r.nothing (λ held. let no : None ≡ Some None = sym is ∙ held in cc))
+    by_place (Some None) is = by_serial is (serial == s) refl (r.released is s)
+    by_place (Some (Some i)) is = same (r.nothing (λ held. let no : Some (Some i) ≡ Some None = sym is ∙ held in cc))
+
+pub counted_released : (numbers : Numbers) (old new : Places) (serial : ℕ) → IsReleased old new serial → AreCounted numbers old → AreCounted numbers new
+counted_released numbers old new serial r was s o at = was s o ((same_images old new serial r s o).0 at)
+
+-- ---- none
+
+pub none_where : {X : Type 0} (one : Option X) → is_some one ≡ false → one ≡ None
+none_where None is = refl
+none_where (Some x) is = absurd (let no : true ≡ false = is in cc)

@@ -1,0 +1,124 @@
+//! Driving a world: commands, and workers to the end of their jobs.
+use sd_areas::{Prot, SpaceId};
+use sd_command::{Bytes, Command, Reply};
+use sd_disk::Disk;
+use sd_gate::Worker;
+use sd_world::{Event, World};
+use std::alloc::Global;
+use std::test::Fail;
+
+/// The most events that a job of these tests takes.
+const MOST: usize = 2_000;
+
+/// The page that the tests store to.
+pub(crate) const ADDRESS: u64 = 0x10000;
+
+/// The only space.
+pub(crate) const SPACE: SpaceId = SpaceId::new(1);
+
+/// A page is mapped, to be read and written.
+pub(crate) fn map<D: Disk>(world: &mut World<D>) -> Reply {
+    world.step(&Event::Command {
+        seat: 0,
+        command: Command::Mmap {
+            space: SPACE,
+            address: ADDRESS,
+            length: 4096,
+            prot: Prot {
+                read: true,
+                write: true,
+                execute: false,
+            },
+        },
+    })
+}
+
+/// A byte is stored at the front of the page.
+pub(crate) fn store<D: Disk>(
+    world: &mut World<D>,
+    alloc: Global,
+    byte: u8,
+) -> Result<Reply, Fail> {
+    let bytes = Bytes::new(vec![in alloc; byte; 1]?);
+    Ok(world.step(&Event::Command {
+        seat: 0,
+        command: Command::Store {
+            space: SPACE,
+            address: ADDRESS,
+            bytes,
+        },
+    }))
+}
+
+/// The byte at the front of the page is loaded.
+pub(crate) fn load<D: Disk>(world: &mut World<D>) -> Reply {
+    world.step(&Event::Command {
+        seat: 0,
+        command: Command::Load {
+            space: SPACE,
+            address: ADDRESS,
+            count: 1,
+        },
+    })
+}
+
+/// The reply of a load of this byte.
+pub(crate) fn byte(alloc: Global, byte: u8) -> Result<Reply, Fail> {
+    Ok(Reply::Bytes(Bytes::new(vec![in alloc; byte; 1]?)))
+}
+
+/// The next event of a worker: the call that it asked for is made, or else it works.
+pub(crate) fn next<D: Disk>(world: &mut World<D>, worker: Worker) -> Reply {
+    if world.is_out(worker) {
+        world.step(&Event::Perform(worker))
+    } else {
+        world.step(&Event::Work(worker))
+    }
+}
+
+/// So many events of a worker. Returns the last reply.
+pub(crate) fn steps<D: Disk>(world: &mut World<D>, worker: Worker, count: usize) -> Reply {
+    let mut last = Reply::Worked;
+    for _ in 0..count {
+        last = next(world, worker);
+    }
+    last
+}
+
+/// The events of a worker until one is answered by more than that it was made. Returns that reply.
+pub(crate) fn finish<D: Disk>(world: &mut World<D>, worker: Worker) -> Result<Reply, Fail> {
+    for _ in 0..MOST {
+        let reply = next(world, worker);
+        if reply != Reply::Worked {
+            return Ok(reply);
+        }
+    }
+    Err(Fail::from("the job doesn't end"))
+}
+
+/// The store is opened again. Returns the last reply.
+pub(crate) fn reopen<D: Disk>(world: &mut World<D>) -> Result<Reply, Fail> {
+    if world.step(&Event::Reopen) != Reply::Worked {
+        return Err(Fail::from("not opened again"));
+    }
+    finish(world, Worker::Opener)
+}
+
+/// A checkpoint of so many pre-dumps is begun and finished. Returns the last reply.
+pub(crate) fn checkpoint<D: Disk>(world: &mut World<D>, rounds: u64) -> Result<Reply, Fail> {
+    match world.step(&Event::Begin(rounds)) {
+        Reply::Begun(_) => finish(world, Worker::Dumper),
+        refused => Ok(refused),
+    }
+}
+
+/// A world over a store, which is then opened.
+pub(crate) fn open<D: Disk>(alloc: Global, disk: D) -> Result<World<D>, Fail> {
+    let Ok(mut world) = World::open(alloc, disk, 16) else {
+        return Err(Fail::from("not opened"));
+    };
+    match reopen(&mut world)? {
+        Reply::Reopened(_) => Ok(world),
+        _ => Err(Fail::from("not opened again")),
+    }
+}
