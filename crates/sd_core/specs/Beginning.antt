@@ -4,6 +4,7 @@ use Rattle.sd_chain.specs.Catalog.{IsTip, Opened, Places, place_of}
 use Rattle.sd_chain.specs.Reaches.{ParentsFall, ReachesSerial}
 use Rattle.sd_command.specs.declared.refusal.Refusal.{Refusal}
 use Rattle.sd_command.specs.declared.refusal.Refusal.TheVariants as refusal
+use Rattle.sd_rounds.specs.Dumper.{begun_checkpoint}
 use Rattle.sd_belief.specs.declared.standing.Standing.{Standing}
 use Rattle.sd_belief.specs.declared.standing.Standing.TheVariants as standing
 use Rattle.sd_belief.specs.View.{CoreView, Numbers, history_of}
@@ -102,3 +103,15 @@ abbrev pub IsFirstParent : Places → Bool → ℕ → Type 0
 IsFirstParent places false number = number ≡ 0
 IsFirstParent places true number = ((number ≡ 0) × ((tip : Opened) → IsTip places tip → ⊥))
     ⊎ ((tip : Opened) × IsTip places tip × (number ≡ tip.header.stands_for))
+
+-- ---- a checkpoint that has begun
+
+-- its number is one above all that were used, its slots are the lowest free ones
+pub record Begins (old : CoreView) (rounds n : ℕ) (new : CoreView) : Type 0 where
+  pub number : n ≡ old.numbers.checkpoint + 1
+  pub pre_dumps : List ℕ
+  pub dump : ℕ
+  pub parent : ℕ
+  pub reserved : AreReserved old.catalog (length old.phases) rounds pre_dumps dump
+  pub first : IsFirstParent old.catalog old.grows parent
+  pub running : new.dumper.running ≡ Some (begun_checkpoint n pre_dumps dump parent)

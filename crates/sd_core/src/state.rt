@@ -4,7 +4,7 @@ ghost use Rattle.sd_areas.specs.Memory.{memory_of};
 ghost use Rattle.sd_areas.specs.PlainMemory.{PlainMemory};
 ghost use Rattle.sd_pagetable.specs.Contents.{plain_of};
 ghost use Rattle.sd_pagetable.specs.Tracking.{IsBeginning};
-ghost use Rattle.sd_command.specs.declared.refusal.Refusal.TheVariants.{Idle, JournalFull};
+ghost use Rattle.sd_command.specs.declared.refusal.Refusal.TheVariants.{Idle, JournalFull, NoSlot};
 ghost use Rattle.sd_command.specs.declared.reply.Reply.TheVariants as reply;
 ghost use Rattle.sd_image.specs.Shows.{Shows};
 ghost use Rattle.sd_gate.specs.Laws.{found_phase};
@@ -18,7 +18,7 @@ ghost use Rattle.sd_gate.specs.declared.worker.Worker.TheVariants as its;
 ghost use Rattle.sd_command.specs.declared.refusal.Refusal.{Refusal as Why};
 ghost use Rattle.sd_rounds.specs.Dumper.{next_slot};
 ghost use Rattle.sd_core.specs.Answering.{IsAnswered};
-ghost use Rattle.sd_core.specs.Beginning.{begin_refusal, merge_refusal};
+ghost use Rattle.sd_core.specs.Beginning.{AreFew, Begins, begin_refusal, merge_refusal};
 ghost use Rattle.sd_core.specs.Opening.{IsAllRead};
 ghost use Rattle.sd_core.specs.Starts.{TakesUp, IsStart, shown_base};
 
@@ -235,6 +235,9 @@ impl Core {
         ensures keeps { Stays self.old self.new }
         ensures refused { (why : Why) → begin_refusal self.old rounds ≡ Some why
             → (result ≡ reply.Refused why) × (self.new ≡ self.old) }
+        ensures begun { (n : ℕ) → result ≡ reply.Begun n → Begins self.old rounds n self.new }
+        ensures no_slot { begin_refusal self.old rounds ≡ None → result ≡ reply.Refused NoSlot
+            → AreFew self.old.catalog (length self.old.phases) rounds }
     {
         core_steps();
         match self.refusal_of_begin(rounds) {
@@ -252,6 +255,8 @@ impl Core {
         requires { begin_refusal self.old rounds ≡ None }
         ensures adds { AddsByOrder result (history_of self.old) (history_of self.new) }
         ensures keeps { Stays self.old self.new }
+        ensures begun { (n : ℕ) → result ≡ reply.Begun n → Begins self.old rounds n self.new }
+        ensures no_slot { result ≡ reply.Refused NoSlot → AreFew self.old.catalog (length self.old.phases) rounds }
     {
         core_steps();
         beginning_law(&self.catalog);

@@ -9,6 +9,7 @@ use std::test::Fail;
 
 /// The slots of the stores of these tests, and the bytes of each.
 const SLOTS: usize = 8;
+
 const BYTES: usize = 20_000;
 
 /// The first checkpoint of one page takes 37 events: the freeze is the tenth, and until then commands are answered.
@@ -26,7 +27,10 @@ fn count_of_steps(rt: HostRuntime) -> Result<(), Fail> {
     assert_eq!(rt; load(&mut world), Reply::Refused(Refusal::Frozen));
     assert_eq!(rt; next(&mut world, Worker::Dumper), Reply::Acked(1));
     assert_eq!(rt; load(&mut world), byte(rt.alloc(), 0x61)?);
-    assert_eq!(rt; next(&mut world, Worker::Dumper), Reply::Refused(Refusal::Idle));
+    assert_eq!(rt;
+        next(&mut world, Worker::Dumper),
+        Reply::Refused(Refusal::Idle)
+    );
     Ok(())
 }
 
@@ -44,7 +48,10 @@ fn second_run(rt: HostRuntime) -> Result<(), Fail> {
     let Ok(mut world) = World::open(rt.alloc(), world.close(), 16) else {
         return Err(Fail::from("not opened"));
     };
-    assert_eq!(rt; world.step(&Event::Begin(0)), Reply::Refused(Refusal::NotOpen));
+    assert_eq!(rt;
+        world.step(&Event::Begin(0)),
+        Reply::Refused(Refusal::NotOpen)
+    );
     assert_eq!(rt; world.step(&Event::Merge), Reply::Refused(Refusal::NotOpen));
     assert_eq!(rt; load(&mut world), byte(rt.alloc(), 0x62)?);
     assert_eq!(rt; reopen(&mut world)?, Reply::Reopened(Some(3)));
@@ -77,7 +84,7 @@ fn cancelled(rt: HostRuntime) -> Result<(), Fail> {
 /// acknowledged.
 #[test]
 fn cancelled_at_each_step(rt: HostRuntime) -> Result<(), Fail> {
-    for count in 0..70 {
+    for count in 0..62 {
         let mut world = open(rt.alloc(), MemDisk::new(rt.alloc(), SLOTS, BYTES, 1_000)?)?;
         assert_eq!(rt; map(&mut world), Reply::Done);
         assert_eq!(rt; store(&mut world, rt.alloc(), 0x61)?, Reply::Done);
@@ -108,12 +115,24 @@ fn doubtful_commit(rt: HostRuntime) -> Result<(), Fail> {
     assert_eq!(rt; store(&mut world, rt.alloc(), 0x61)?, Reply::Done);
     assert_eq!(rt; checkpoint(&mut world, 0)?, Reply::Acked(1));
     assert_eq!(rt; world.step(&Event::Begin(0)), Reply::Begun(2));
-    assert_eq!(rt; finish(&mut world, Worker::Dumper)?, Reply::Refused(Refusal::Device));
-    assert_eq!(rt; next(&mut world, Worker::Dumper), Reply::Refused(Refusal::StoreDown));
+    assert_eq!(rt;
+        finish(&mut world, Worker::Dumper)?,
+        Reply::Refused(Refusal::Device)
+    );
+    assert_eq!(rt;
+        next(&mut world, Worker::Dumper),
+        Reply::Refused(Refusal::StoreDown)
+    );
     assert_eq!(rt; load(&mut world), Reply::Refused(Refusal::Frozen));
     assert_eq!(rt; world.step(&Event::Cancel), Reply::Refused(Refusal::Busy));
-    assert_eq!(rt; world.step(&Event::Begin(0)), Reply::Refused(Refusal::StoreDown));
-    assert_eq!(rt; world.step(&Event::Merge), Reply::Refused(Refusal::StoreDown));
+    assert_eq!(rt;
+        world.step(&Event::Begin(0)),
+        Reply::Refused(Refusal::StoreDown)
+    );
+    assert_eq!(rt;
+        world.step(&Event::Merge),
+        Reply::Refused(Refusal::StoreDown)
+    );
     assert_eq!(rt; reopen(&mut world)?, Reply::Reopened(Some(2)));
     assert_eq!(rt; load(&mut world), byte(rt.alloc(), 0x61)?);
     assert_eq!(rt; checkpoint(&mut world, 0)?, Reply::Acked(3));
@@ -123,11 +142,20 @@ fn doubtful_commit(rt: HostRuntime) -> Result<(), Fail> {
 /// What a beginning is refused for, by priority.
 #[test]
 fn refused_beginnings(rt: HostRuntime) -> Result<(), Fail> {
-    let mut world = open(rt.alloc(), MemDisk::new(rt.alloc(), 3, BYTES, 1_000)?)?;
-    assert_eq!(rt; world.step(&Event::Begin(9)), Reply::Refused(Refusal::Einval));
-    assert_eq!(rt; world.step(&Event::Begin(2)), Reply::Refused(Refusal::NoSlot));
+    let mut world = open(rt.alloc(), MemDisk::new(rt.alloc(), 4, BYTES, 1_000)?)?;
+    assert_eq!(rt;
+        world.step(&Event::Begin(9)),
+        Reply::Refused(Refusal::Einval)
+    );
+    assert_eq!(rt;
+        world.step(&Event::Begin(3)),
+        Reply::Refused(Refusal::NoSlot)
+    );
     assert_eq!(rt; checkpoint(&mut world, 1)?, Reply::Acked(1));
-    assert_eq!(rt; world.step(&Event::Begin(1)), Reply::Refused(Refusal::NoSlot));
+    assert_eq!(rt;
+        world.step(&Event::Begin(1)),
+        Reply::Refused(Refusal::NoSlot)
+    );
     assert_eq!(rt; checkpoint(&mut world, 0)?, Reply::Acked(2));
     Ok(())
 }

@@ -14,14 +14,16 @@ const MOST: usize = 2_000;
 pub(crate) const ADDRESS: u64 = 0x10000;
 
 /// The only space.
-pub(crate) const SPACE: SpaceId = SpaceId::new(1);
+fn space() -> SpaceId {
+    SpaceId::new(1)
+}
 
 /// A page is mapped, to be read and written.
 pub(crate) fn map<D: Disk>(world: &mut World<D>) -> Reply {
     world.step(&Event::Command {
         seat: 0,
         command: Command::Mmap {
-            space: SPACE,
+            space: space(),
             address: ADDRESS,
             length: 4096,
             prot: Prot {
@@ -34,16 +36,12 @@ pub(crate) fn map<D: Disk>(world: &mut World<D>) -> Reply {
 }
 
 /// A byte is stored at the front of the page.
-pub(crate) fn store<D: Disk>(
-    world: &mut World<D>,
-    alloc: Global,
-    byte: u8,
-) -> Result<Reply, Fail> {
+pub(crate) fn store<D: Disk>(world: &mut World<D>, alloc: Global, byte: u8) -> Result<Reply, Fail> {
     let bytes = Bytes::new(vec![in alloc; byte; 1]?);
     Ok(world.step(&Event::Command {
         seat: 0,
         command: Command::Store {
-            space: SPACE,
+            space: space(),
             address: ADDRESS,
             bytes,
         },
@@ -55,7 +53,7 @@ pub(crate) fn load<D: Disk>(world: &mut World<D>) -> Reply {
     world.step(&Event::Command {
         seat: 0,
         command: Command::Load {
-            space: SPACE,
+            space: space(),
             address: ADDRESS,
             count: 1,
         },
@@ -113,7 +111,7 @@ pub(crate) fn checkpoint<D: Disk>(world: &mut World<D>, rounds: u64) -> Result<R
 }
 
 /// A world over a store, which is then opened.
-pub(crate) fn open<D: Disk>(alloc: Global, disk: D) -> Result<World<D>, Fail> {
+pub(crate) fn open<D: Disk + Drop>(alloc: Global, disk: D) -> Result<World<D>, Fail> {
     let Ok(mut world) = World::open(alloc, disk, 16) else {
         return Err(Fail::from("not opened"));
     };
