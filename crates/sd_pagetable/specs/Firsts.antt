@@ -20,3 +20,8 @@ abbrev pub IsFirstFrom : {X : Type 0} → Table X → Bound ℕ → Option ℕ �
 IsFirstFrom table start None = (page : ℕ) → IsSome (finmap.get table page) → is_from start page ≡ false
 IsFirstFrom table start (Some first) = IsSome (finmap.get table first) × (is_from start first ≡ true)
     × ((page : ℕ) → IsSome (finmap.get table page) → is_from start page ≡ true → first ≤ page)
+
+-- that page, and what the table has there
+abbrev pub IsFirstEntryFrom : {X : Type 0} → Table X → Bound ℕ → Option (ℕ × X) → Type 0
+IsFirstEntryFrom table start None = IsFirstFrom table start None
+IsFirstEntryFrom table start (Some found) = IsFirstFrom table start (Some found.0) × (finmap.get table found.0 ≡ Some found.1)

@@ -145,9 +145,10 @@ impl Node for Leaf {
         end
     }
 
-    fn first_from(&self, page: u64) -> Option<u64> {
+    #[inline]
+    fn first_from(&self, page: u64) -> Option<(u64, Entry)> {
         let place = self.used.next(page as usize)?;
-        Some(place as u64)
+        Some((place as u64, self.entries[place].entry()))
     }
 
     fn is_empty(&self) -> bool {

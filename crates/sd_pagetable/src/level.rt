@@ -1,5 +1,5 @@
 ghost use Rattle.std.specs.Prelude.{◌≡◌, ℕ, ◌+◌, ◌*◌, ◌/◌, ◌%◌, ◌^◌, ◌<◌, ◌≤◌, ◌==◌, ◌||◌, false, None};
-ghost use Rattle.sd_pagetable.specs.Radix.{is_used, table_in, level_at, IsFirstIn, IsLevel};
+ghost use Rattle.sd_pagetable.specs.Radix.{is_used, table_in, level_at, IsFirstEntryIn, IsLevel};
 
 use crate::entry::Entry;
 use crate::node::Node;
@@ -28,16 +28,17 @@ impl<T: Node> Level<T> {
         }
     }
 
-    /// The first page from one on, of the table in a place.
-    fn first_of(&self, place: usize, page: u64) -> Option<u64>
+    /// The first page from one on, of the table in a place, and its entry.
+    #[inline(always)]
+    fn first_of(&self, place: usize, page: u64) -> Option<(u64, Entry)>
         requires fits { 512 * T.span ≤ 2 ^ 36 }
         requires place { place < 512 }
         requires page { page < T.span }
         requires kept { IsLevel (λ table. T.at table.value) (λ table. T.IsKept table.value) T.span self.now.used.words self.now.tables }
-        ensures { IsFirstIn T.span (level_at (λ table. T.at table.value) T.span self.now.tables) place page result }
+        ensures { IsFirstEntryIn T.span (level_at (λ table. T.at table.value) T.span self.now.tables) place page result }
     {
         let found = first_in(&self.tables[place], page)?;
-        Some(place as u64 * T::span() + found)
+        Some((place as u64 * T::span() + found.0, found.1))
     }
 }
 
@@ -116,7 +117,8 @@ impl<T: Node> Node for Level<T> {
         first + change_in(slot, from % T::span(), end - first, change)
     }
 
-    fn first_from(&self, page: u64) -> Option<u64> {
+    #[inline]
+    fn first_from(&self, page: u64) -> Option<(u64, Entry)> {
         let place = (page / T::span()) as usize;
         let found = self.first_of(place, page % T::span());
         if found.is_some() {

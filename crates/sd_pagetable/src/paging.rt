@@ -170,7 +170,23 @@ impl Paging {
     pub(crate) fn first_from(&self, space: SpaceId, start: Bound<PageNo>) -> Option<PageNo>
         ensures { IsFirstFrom (inside self.now.spaces space) start result }
     {
-        self.tables.first_from(space, start)
+        let found = self.first_entry_from(space, start)?;
+        Some(found.0)
+    }
+
+    /// The first page of a space from a bound on, and its entry.
+    #[inline]
+    pub(crate) fn first_entry_from(
+        &self,
+        space: SpaceId,
+        start: Bound<PageNo>,
+    ) -> Option<(PageNo, Entry)>
+        ensures first { IsFirstFrom (inside self.now.spaces space) start
+            (option_map (λ found. found.0) result) }
+        ensures entry { IfSome result (λ found. option_map entry_of (page_at self.now space found.0)
+            ≡ Some found.1) }
+    {
+        self.tables.first_entry_from(space, start)
     }
 
     /// The first page of a space.
