@@ -7,7 +7,7 @@ use Rattle.std.proofs.lemmas.Nat.{div-mul-add, mod-mul-add, div-add-mod', mul-ad
 use Rattle.std.proofs.lemmas.Option.{slice_get-get_or}
 use Rattle.std.proofs.Math.Nat.{div-mul-le_self, mul-le-mul_right}
 use Rattle.sd_pagetable.specs.declared.entry.Entry.{Entry}
-use Rattle.sd_pagetable.specs.Radix.{is_used, slot_at, table_in, level_at, HasPage, IsFirstAt, IsFirstEntryAt, IsFirstEntryIn, IsFirstIn, IsNextUsed, IsSlot, IsLevel}
+use Rattle.sd_pagetable.specs.Radix.{bit_of, is_used, slot_at, table_in, level_at, HasPage, IsFirstAt, IsFirstBitAt, IsFirstBitIn, IsFirstIn, IsNextUsed, IsSlot, IsLevel}
 use Rattle.sd_pagetable.proofs.FrameLemmas.{got_set, got_other}
 use Rattle.sd_pagetable.proofs.TableLemmas.{some_of, not_none, none_of}
 
@@ -226,11 +226,11 @@ module _ {X : Type 0} (at : X → ℕ → Option Entry) (IsKept : X → Type 0) 
   pub first_got_some : (s from first : ℕ) → s ≡ span → IsFirstAt span (slot_at at (get_or tables place d)) from (Some first) → IsFirstIn span (level_at at span tables) place from (Some (place * s + first))
   first_got_some s from first e some = subst (λ k. IsFirstIn span (level_at at span tables) place from (Some (place * k + first))) (sym e) (first_in_some at span tables place (get_or tables place d) got_is from first some)
 
-  pub entry_got : (s from : ℕ) (found : ℕ × Entry) → s ≡ span → IsFirstEntryAt span (slot_at at (get_or tables place d)) from (Some found)
-      → IsFirstEntryIn span (level_at at span tables) place from (Some (place * s + found.0, found.1))
-  entry_got s from found e some = (
+  pub bit_got : (s from : ℕ) (found : ℕ × Bool) → s ≡ span → IsFirstBitAt span (slot_at at (get_or tables place d)) from (Some found)
+      → IsFirstBitIn span (level_at at span tables) place from (Some (place * s + found.0, found.1))
+  bit_got s from found e some = (
     first_got_some s from found.0 e some.0,
-    ap (λ k. level_at at span tables (place * k + found.0)) e ∙ at_page at span tables place (get_or tables place d) got_is found.0 some.0.1 ∙ some.1,
+    ap (λ k. bit_of (level_at at span tables (place * k + found.0))) e ∙ ap bit_of (at_page at span tables place (get_or tables place d) got_is found.0 some.0.1) ∙ some.1,
   )
 
 -- the table in the place of a page, as the code reads it: s and t are the span of the tables below
@@ -313,18 +313,18 @@ module _ {X : Type 0} (at : X → ℕ → Option Entry) (IsKept : X → Type 0) 
   of_next None g none after next None found = absurd (never_none at IsKept span pos words tables kept page (page / s) own (in_own None none) after next found)
   of_next None g none after next (Some first) found = first_after at IsKept span pos words tables kept page (page / s) own (in_own None none) after next first found
 
-  -- ---- and its entry
-  pub entry_here : (o : Option (ℕ × Entry)) → is_some o ≡ true → IsFirstEntryIn span (level_at at span tables) (page / s) (page % t) o → IsFirstEntryAt (512 * span) (level_at at span tables) page o
-  entry_here None g first = absurd (let h : false ≡ true = g in cc)
-  entry_here (Some found) g some = (found_here (Some found.0) refl some.0, some.1)
+  -- ---- and its soft-dirty bit
+  pub bit_here : (o : Option (ℕ × Bool)) → is_some o ≡ true → IsFirstBitIn span (level_at at span tables) (page / s) (page % t) o → IsFirstBitAt (512 * span) (level_at at span tables) page o
+  bit_here None g first = absurd (let h : false ≡ true = g in cc)
+  bit_here (Some found) g some = (found_here (Some found.0) refl some.0, some.1)
 
-  pub no_entry : (o : Option (ℕ × Entry)) → is_some o ≡ false → IsFirstEntryIn span (level_at at span tables) (page / s) (page % t) o → IsNextUsed words (page / s + 1) None
-      → IsFirstEntryAt (512 * span) (level_at at span tables) page None
-  no_entry None g none next = nowhere None refl none next
-  no_entry (Some found) g none next = absurd (let h : true ≡ false = g in cc)
+  pub no_bit : (o : Option (ℕ × Bool)) → is_some o ≡ false → IsFirstBitIn span (level_at at span tables) (page / s) (page % t) o → IsNextUsed words (page / s + 1) None
+      → IsFirstBitAt (512 * span) (level_at at span tables) page None
+  no_bit None g none next = nowhere None refl none next
+  no_bit (Some found) g none next = absurd (let h : true ≡ false = g in cc)
 
-  pub entry_of_next : (o : Option (ℕ × Entry)) → is_some o ≡ false → IsFirstEntryIn span (level_at at span tables) (page / s) (page % t) o → (after : ℕ) → IsNextUsed words (page / s + 1) (Some after)
-      → (r : Option (ℕ × Entry)) → IsFirstEntryIn span (level_at at span tables) after 0 r → IsFirstEntryAt (512 * span) (level_at at span tables) page r
-  entry_of_next (Some found) g none after next r first = absurd (let h : true ≡ false = g in cc)
-  entry_of_next None g none after next None first = of_next None refl none after next None first
-  entry_of_next None g none after next (Some found) first = (of_next None refl none after next (Some found.0) first.0, first.1)
+  pub bit_of_next : (o : Option (ℕ × Bool)) → is_some o ≡ false → IsFirstBitIn span (level_at at span tables) (page / s) (page % t) o → (after : ℕ) → IsNextUsed words (page / s + 1) (Some after)
+      → (r : Option (ℕ × Bool)) → IsFirstBitIn span (level_at at span tables) after 0 r → IsFirstBitAt (512 * span) (level_at at span tables) page r
+  bit_of_next (Some found) g none after next r first = absurd (let h : true ≡ false = g in cc)
+  bit_of_next None g none after next None first = of_next None refl none after next None first
+  bit_of_next None g none after next (Some found) first = (of_next None refl none after next (Some found.0) first.0, first.1)

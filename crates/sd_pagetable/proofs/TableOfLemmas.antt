@@ -15,7 +15,7 @@ use Rattle.sd_areas.specs.Pages.{pages_from, is_within}
 use Rattle.sd_pagetable.specs.declared.entry.Entry.{Entry}
 use Rattle.sd_pagetable.specs.Firsts.{is_from, start_of, IsFirstFrom}
 use Rattle.sd_pagetable.specs.Nested.{Table}
-use Rattle.sd_pagetable.specs.Radix.{table_of, IsFirstAt}
+use Rattle.sd_pagetable.specs.Radix.{bit_of, table_of, IsFirstAt}
 use Rattle.sd_pagetable.proofs.TableLemmas.{same_table, same_test, get_put, get_removed, within_next, none_within, not_none}
 
 module _ (at : ℕ → Option Entry) where
@@ -205,5 +205,5 @@ module _ (limit span : ℕ) (at : ℕ → Option Entry) (start : Bound ℕ) (n :
       (first_found limit span at start page (subst (λ k. k < limit) (sym value) (within refl))
       (subst (λ k. IsFirstAt span at (start_of start) (Some k)) (sym value) (subst (λ k. IsFirstAt span at k (Some first)) e some)))
 
-  pub entry_from : (found : ℕ × Entry) → at found.0 ≡ Some found.1 → found.0 < limit → (page : ℕ) → page ≡ found.0 → finmap.get t page ≡ Some found.1
-  entry_from found there l page same = ap (finmap.get t) same ∙ ap (λ (m : Table Entry). finmap.get m found.0) (sym is) ∙ get_within at limit found.0 l ∙ there
+  pub bit_from : (found : ℕ × Bool) → bit_of (at found.0) ≡ Some found.1 → found.0 < limit → (page : ℕ) → page ≡ found.0 → bit_of (finmap.get t page) ≡ Some found.1
+  bit_from found there l page same = ap bit_of (ap (finmap.get t) same ∙ ap (λ (m : Table Entry). finmap.get m found.0) (sym is) ∙ get_within at limit found.0 l) ∙ there

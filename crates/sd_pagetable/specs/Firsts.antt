@@ -3,7 +3,9 @@ use Rattle.std.specs.Prelude.{◌≡◌, ℕ, ◌+◌, ◌≤◌, Bool, true, fa
 use Rattle.std.specs.declared.ops.Bound.{Bound}
 use Rattle.std.specs.declared.ops.Bound.TheVariants.{Included, Excluded, Unbounded}
 use Rattle.std.specs.FinMap as finmap
+use Rattle.sd_pagetable.specs.declared.entry.Entry.{Entry}
 use Rattle.sd_pagetable.specs.Nested.{Table}
+use Rattle.sd_pagetable.specs.Radix.{bit_of}
 
 abbrev pub is_from : Bound ℕ → ℕ → Bool
 is_from (Included first) page = nat_le first page
@@ -21,7 +23,7 @@ IsFirstFrom table start None = (page : ℕ) → IsSome (finmap.get table page) �
 IsFirstFrom table start (Some first) = IsSome (finmap.get table first) × (is_from start first ≡ true)
     × ((page : ℕ) → IsSome (finmap.get table page) → is_from start page ≡ true → first ≤ page)
 
--- that page, and what the table has there
-abbrev pub IsFirstEntryFrom : {X : Type 0} → Table X → Bound ℕ → Option (ℕ × X) → Type 0
-IsFirstEntryFrom table start None = IsFirstFrom table start None
-IsFirstEntryFrom table start (Some found) = IsFirstFrom table start (Some found.0) × (finmap.get table found.0 ≡ Some found.1)
+-- that page, and its soft-dirty bit
+abbrev pub IsFirstBitFrom : Table Entry → Bound ℕ → Option (ℕ × Bool) → Type 0
+IsFirstBitFrom table start None = IsFirstFrom table start None
+IsFirstBitFrom table start (Some found) = IsFirstFrom table start (Some found.0) × (bit_of (finmap.get table found.0) ≡ Some found.1)

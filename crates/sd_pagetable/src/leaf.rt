@@ -145,10 +145,10 @@ impl Node for Leaf {
         end
     }
 
-    #[inline]
-    fn first_from(&self, page: u64) -> Option<(u64, Entry)> {
+    #[inline(always)]
+    fn first_from(&self, page: u64) -> Option<(u64, bool)> {
         let place = self.used.next(page as usize)?;
-        Some((place as u64, self.entries[place].entry()))
+        Some((place as u64, self.entries[place].is_soft_dirty()))
     }
 
     fn is_empty(&self) -> bool {

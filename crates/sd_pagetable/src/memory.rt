@@ -483,14 +483,13 @@ impl Memory {
         let Some((space, above)) = after else {
             return self.next_of_all(None);
         };
-        let Some(found) = self.paging.first_entry_from(space, Bound::Excluded(above)) else {
+        let Some(found) = self.paging.first_bit_from(space, Bound::Excluded(above)) else {
             return self.next_of_all(Some((space, above)));
         };
-        let soft_dirty = found.1.soft_dirty;
         Some(TestedPage {
             space,
             page: found.0,
-            soft_dirty,
+            soft_dirty: found.1,
         })
     }
 

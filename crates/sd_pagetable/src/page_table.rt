@@ -1,6 +1,6 @@
 ghost use Rattle.std.specs.Prelude.{◌≡◌, ◌<◌, ◌≤◌, ◌^◌, ℕ, Bool, true, false, Some, None, IsSome, OnOk, OnErr, IfOk};
 ghost use Rattle.std.specs.FinMap as finmap;
-ghost use Rattle.sd_pagetable.specs.Firsts.{start_of, IsFirstEntryFrom};
+ghost use Rattle.sd_pagetable.specs.Firsts.{start_of, IsFirstBitFrom};
 ghost use Rattle.sd_pagetable.specs.Runs.{AreMapped, ChangesRun, FillsRun};
 
 use crate::entry::Entry;
@@ -159,10 +159,10 @@ impl PageTable {
         change_in(&mut self.top, first.number(), end, change)
     }
 
-    /// The first mapped page from a bound on, and its entry.
+    /// The first mapped page from a bound on, and its soft-dirty bit.
     #[inline]
-    pub(crate) fn first_entry_from(&self, start: Bound<PageNo>) -> Option<(PageNo, Entry)>
-        ensures { IsFirstEntryFrom self.now start result }
+    pub(crate) fn first_bit_from(&self, start: Bound<PageNo>) -> Option<(PageNo, bool)>
+        ensures { IsFirstBitFrom self.now start result }
     {
         let found = first_in(&self.top, start_of(start))?;
         let page = PageNo::new(found.0)?;
