@@ -1,5 +1,6 @@
 -- A table above the lowest level: what it has at a page, and that it is kept.
 use Rattle.std.proofs.Common.{◌≡◌, ℕ, ◌+◌, ◌*◌, ◌/◌, ◌%◌, ◌<◌, ◌≤◌, Bool, true, false, not, cond, ◌&&◌, ◌||◌, nat_eq, is_some, IsSome, List, length, set, get_or, Option, Some, None, refl, sym, ◌∙◌, ap, subst, inl, inr, arith, length-set}
+use Rattle.std.specs.List.{slice_get}
 use Rattle.std.specs.Option.{option_and_then}
 use Rattle.std.specs.Prelude.{Result, Ok, Err, OnErr}
 use Rattle.std.proofs.lemmas.Bool.{cases_eq, cases_lt, eq-eqb, ne_eqb, cond-true, cond-false}
@@ -7,7 +8,7 @@ use Rattle.std.proofs.lemmas.Nat.{div-mul-add, mod-mul-add, div-add-mod', mul-ad
 use Rattle.std.proofs.lemmas.Option.{slice_get-get_or}
 use Rattle.std.proofs.Math.Nat.{div-mul-le_self, mul-le-mul_right}
 use Rattle.sd_pagetable.specs.declared.entry.Entry.{Entry}
-use Rattle.sd_pagetable.specs.Radix.{bit_of, is_used, slot_at, table_in, level_at, HasPage, IsFirstAt, IsFirstBitAt, IsFirstBitIn, IsFirstIn, IsNextUsed, IsSlot, IsLevel}
+use Rattle.sd_pagetable.specs.Radix.{is_used, slot_at, table_in, level_at, HasPage, IsFirstAt, IsFirstIn, IsNextUsed, IsSlot, IsLevel}
 use Rattle.sd_pagetable.proofs.FrameLemmas.{got_set, got_other}
 use Rattle.sd_pagetable.proofs.TableLemmas.{some_of, not_none, none_of}
 
@@ -226,13 +227,6 @@ module _ {X : Type 0} (at : X → ℕ → Option Entry) (IsKept : X → Type 0) 
   pub first_got_some : (s from first : ℕ) → s ≡ span → IsFirstAt span (slot_at at (get_or tables place d)) from (Some first) → IsFirstIn span (level_at at span tables) place from (Some (place * s + first))
   first_got_some s from first e some = subst (λ k. IsFirstIn span (level_at at span tables) place from (Some (place * k + first))) (sym e) (first_in_some at span tables place (get_or tables place d) got_is from first some)
 
-  pub bit_got : (s from : ℕ) (found : ℕ × Bool) → s ≡ span → IsFirstBitAt span (slot_at at (get_or tables place d)) from (Some found)
-      → IsFirstBitIn span (level_at at span tables) place from (Some (place * s + found.0, found.1))
-  bit_got s from found e some = (
-    first_got_some s from found.0 e some.0,
-    ap (λ k. bit_of (level_at at span tables (place * k + found.0))) e ∙ ap bit_of (at_page at span tables place (get_or tables place d) got_is found.0 some.0.1) ∙ some.1,
-  )
-
 -- the table in the place of a page, as the code reads it: s and t are the span of the tables below
 module _ {X : Type 0} (at : X → ℕ → Option Entry) (IsKept : X → Type 0) (span : ℕ) (pos : 0 < span) (words : List ℕ) (tables : List (Option X)) (kept : IsLevel at IsKept span words tables)
     (page s t : ℕ) (e : s ≡ span) (f : t ≡ span) (within : page < 512 * span) (d : Option X) where
@@ -312,19 +306,3 @@ module _ {X : Type 0} (at : X → ℕ → Option Entry) (IsKept : X → Type 0) 
   of_next (Some first) g none after next r found = absurd (let h : true ≡ false = g in cc)
   of_next None g none after next None found = absurd (never_none at IsKept span pos words tables kept page (page / s) own (in_own None none) after next found)
   of_next None g none after next (Some first) found = first_after at IsKept span pos words tables kept page (page / s) own (in_own None none) after next first found
-
-  -- ---- and its soft-dirty bit
-  pub bit_here : (o : Option (ℕ × Bool)) → is_some o ≡ true → IsFirstBitIn span (level_at at span tables) (page / s) (page % t) o → IsFirstBitAt (512 * span) (level_at at span tables) page o
-  bit_here None g first = absurd (let h : false ≡ true = g in cc)
-  bit_here (Some found) g some = (found_here (Some found.0) refl some.0, some.1)
-
-  pub no_bit : (o : Option (ℕ × Bool)) → is_some o ≡ false → IsFirstBitIn span (level_at at span tables) (page / s) (page % t) o → IsNextUsed words (page / s + 1) None
-      → IsFirstBitAt (512 * span) (level_at at span tables) page None
-  no_bit None g none next = nowhere None refl none next
-  no_bit (Some found) g none next = absurd (let h : true ≡ false = g in cc)
-
-  pub bit_of_next : (o : Option (ℕ × Bool)) → is_some o ≡ false → IsFirstBitIn span (level_at at span tables) (page / s) (page % t) o → (after : ℕ) → IsNextUsed words (page / s + 1) (Some after)
-      → (r : Option (ℕ × Bool)) → IsFirstBitIn span (level_at at span tables) after 0 r → IsFirstBitAt (512 * span) (level_at at span tables) page r
-  bit_of_next (Some found) g none after next r first = absurd (let h : true ≡ false = g in cc)
-  bit_of_next None g none after next None first = of_next None refl none after next None first
-  bit_of_next None g none after next (Some found) first = (of_next None refl none after next (Some found.0) first.0, first.1)

@@ -1,5 +1,5 @@
 -- A place for a table, after a change.
-use Rattle.std.proofs.Common.{◌≡◌, ℕ, ◌<◌, cond, nat_eq, IsSome, Option, Some, refl, sym, ◌∙◌, subst}
+use Rattle.std.proofs.Common.{◌≡◌, ℕ, ◌<◌, Bool, true, false, cond, nat_eq, IsSome, Option, Some, None, refl, sym, ◌∙◌, ap, subst}
 use Rattle.std.specs.Prelude.{Result, Ok, Err, IfOk, OnErr}
 use Rattle.std.proofs.lemmas.Bool.{eq-eqb, cond-true}
 use Rattle.sd_pagetable.specs.declared.entry.Entry.{Entry}

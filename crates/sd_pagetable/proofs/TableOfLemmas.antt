@@ -3,19 +3,19 @@ use Rattle.std.proofs.Common.{◌≡◌, ℕ, zero, suc, ◌+◌, ◌-◌, ◌<�
 use Rattle.std.specs.List.{filter_map, cons_option}
 use Rattle.std.specs.Option.{option_map, IfSome}
 use Rattle.std.specs.Prelude.{Result, Ok, Err, OnOk, OnErr}
-use Rattle.std.specs.Ordering.{nat_cmp}
+use Rattle.std.specs.Ordering.{nat_cmp, eq_by_cmp}
 use Rattle.std.specs.Cmp.{nat_cmp_total}
 use Rattle.std.specs.FinMap as finmap
 use Rattle.std.specs.FinMap.{find, get-empty, get-from_entries, len-empty, len-insert, len-remove, empty_of_len}
 use Rattle.std.specs.declared.ops.Bound.{Bound}
 use Rattle.std.specs.declared.ops.Bound.TheVariants.{Included, Excluded, Unbounded}
-use Rattle.std.proofs.lemmas.Bool.{cases_Bool, cases_eq, cases_lt, cond-true, cond-false, eqb-true, leb-true, le-leb, lt-leb}
+use Rattle.std.proofs.lemmas.Bool.{cases_Bool, cases_eq, cases_lt, eq-eqb, cond-true, cond-false, eqb-true, leb-true, le-leb, lt-leb}
 use Rattle.std.proofs.lemmas.Bool.Decides.{nat_tests}
 use Rattle.sd_areas.specs.Pages.{pages_from, is_within}
 use Rattle.sd_pagetable.specs.declared.entry.Entry.{Entry}
 use Rattle.sd_pagetable.specs.Firsts.{is_from, start_of, IsFirstFrom}
 use Rattle.sd_pagetable.specs.Nested.{Table}
-use Rattle.sd_pagetable.specs.Radix.{bit_of, table_of, IsFirstAt}
+use Rattle.sd_pagetable.specs.Radix.{table_of, IsFirstAt}
 use Rattle.sd_pagetable.proofs.TableLemmas.{same_table, same_test, get_put, get_removed, within_next, none_within, not_none}
 
 module _ (at : ℕ → Option Entry) where
@@ -204,6 +204,3 @@ module _ (limit span : ℕ) (at : ℕ → Option Entry) (start : Bound ℕ) (n :
   from_some first some (Some page) all within value = subst (λ (m : Table Entry). IsFirstFrom m start (Some page)) is
       (first_found limit span at start page (subst (λ k. k < limit) (sym value) (within refl))
       (subst (λ k. IsFirstAt span at (start_of start) (Some k)) (sym value) (subst (λ k. IsFirstAt span at k (Some first)) e some)))
-
-  pub bit_from : (found : ℕ × Bool) → bit_of (at found.0) ≡ Some found.1 → found.0 < limit → (page : ℕ) → page ≡ found.0 → bit_of (finmap.get t page) ≡ Some found.1
-  bit_from found there l page same = ap bit_of (ap (finmap.get t) same ∙ ap (λ (m : Table Entry). finmap.get m found.0) (sym is) ∙ get_within at limit found.0 l) ∙ there

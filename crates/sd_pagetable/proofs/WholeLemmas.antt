@@ -1,5 +1,5 @@
 -- Frames and pages of 4,096 bytes.
-use Rattle.std.proofs.Common.{◌≡◌, ℕ, ◌+◌, ◌≤◌, List, [], ◌∷◌, ◌++◌, length, take, drop, replicate, Option, Some, None, IsSome, refl, sym, ◌∙◌, ap, inl, inr, arith, length-append, length-drop}
+use Rattle.std.proofs.Common.{◌≡◌, ℕ, ◌+◌, ◌≤◌, List, [], ◌∷◌, ◌++◌, length, take, drop, replicate, Option, Some, None, IsSome, refl, sym, ◌∙◌, ap, subst, inl, inr, arith, length-append, length-drop}
 use Rattle.std.proofs.lemmas.List.{length-take-le, length-replicate}
 use Rattle.std.proofs.lemmas.Bool.{cases_eq}
 use Rattle.std.specs.Option.{option_map_or}
@@ -10,8 +10,9 @@ use Rattle.std.specs.List.{slice_get}
 use Rattle.sd_pagetable.specs.Access.{stored_at}
 use Rattle.sd_pagetable.specs.Nested.{Nested, value_at}
 use Rattle.sd_pagetable.specs.Page.{Page, zeros}
-use Rattle.sd_pagetable.specs.Contents.{AreWhole}
+use Rattle.sd_pagetable.specs.Contents.{Contents, page_at, AreWhole}
 use Rattle.sd_pagetable.specs.Frames.{Cell, Pool, cell_at, bytes_at, SetsCell, HasWholeFrames}
+use Rattle.sd_pagetable.specs.FrameCells.{cells_of}
 use Rattle.sd_pagetable.specs.View.{frame_bytes, page_of_entry, contents_of, IsKept}
 use Rattle.sd_pagetable.proofs.FrameLemmas.{frames_of, used_slot, at_cell, got_pushed, got_before}
 use Rattle.sd_pagetable.proofs.TableLemmas.{some_of}

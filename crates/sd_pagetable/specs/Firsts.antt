@@ -3,9 +3,7 @@ use Rattle.std.specs.Prelude.{◌≡◌, ℕ, ◌+◌, ◌≤◌, Bool, true, fa
 use Rattle.std.specs.declared.ops.Bound.{Bound}
 use Rattle.std.specs.declared.ops.Bound.TheVariants.{Included, Excluded, Unbounded}
 use Rattle.std.specs.FinMap as finmap
-use Rattle.sd_pagetable.specs.declared.entry.Entry.{Entry}
 use Rattle.sd_pagetable.specs.Nested.{Table}
-use Rattle.sd_pagetable.specs.Radix.{bit_of}
 
 abbrev pub is_from : Bound ℕ → ℕ → Bool
 is_from (Included first) page = nat_le first page
@@ -22,8 +20,3 @@ abbrev pub IsFirstFrom : {X : Type 0} → Table X → Bound ℕ → Option ℕ �
 IsFirstFrom table start None = (page : ℕ) → IsSome (finmap.get table page) → is_from start page ≡ false
 IsFirstFrom table start (Some first) = IsSome (finmap.get table first) × (is_from start first ≡ true)
     × ((page : ℕ) → IsSome (finmap.get table page) → is_from start page ≡ true → first ≤ page)
-
--- that page, and its soft-dirty bit
-abbrev pub IsFirstBitFrom : Table Entry → Bound ℕ → Option (ℕ × Bool) → Type 0
-IsFirstBitFrom table start None = IsFirstFrom table start None
-IsFirstBitFrom table start (Some found) = IsFirstFrom table start (Some found.0) × (bit_of (finmap.get table found.0) ≡ Some found.1)

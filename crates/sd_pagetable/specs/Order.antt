@@ -1,6 +1,5 @@
 -- The order of pages: by space, and then by page.
 use Rattle.std.specs.Prelude.{◌≡◌, ℕ, ◌<◌, ◌≤◌, Bool, true, false, ◌&&◌, ◌||◌, ◌==◌, nat_lt, Option, Some, None, IsSome}
-use Rattle.sd_pagetable.specs.declared.tested_page.TestedPage.{TestedPage}
 use Rattle.sd_pagetable.specs.Nested.{Nested, value_at}
 
 -- whether a page is above another, or above none
@@ -25,7 +24,3 @@ abbrev pub IsFirstPage : {X : Type 0} → Nested X → ℕ → Option (ℕ × �
 IsFirstPage spaces above None = (space page : ℕ) → above < space → IsSome (value_at spaces space page) → ⊥
 IsFirstPage spaces above (Some found) = (above < found.0) × IsSome (value_at spaces found.0 found.1)
     × ((space page : ℕ) → above < space → IsSome (value_at spaces space page) → is_above (Some (space, page)) found.0 found.1 ≡ false)
-
--- where a tested page is
-abbrev pub place_of : TestedPage → ℕ × ℕ
-place_of tested = (tested.space, tested.page)

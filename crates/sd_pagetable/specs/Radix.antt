@@ -1,5 +1,5 @@
 -- A page table as a tree of tables of 512 places.
-use Rattle.std.specs.Prelude.{◌≡◌, ℕ, ◌+◌, ◌*◌, ◌/◌, ◌%◌, ◌<◌, ◌≤◌, ◌==◌, Bool, true, false, List, length, slice_index, Option, Some, None, is_some, IsSome, if◌then◌else◌}
+use Rattle.std.specs.Prelude.{◌≡◌, ℕ, ◌+◌, ◌*◌, ◌/◌, ◌%◌, ◌<◌, ◌≤◌, ◌==◌, Bool, true, false, List, length, map, slice_index, Option, Some, None, is_some, IsSome, if◌then◌else◌}
 use Rattle.std.specs.List.{slice_get, filter_map}
 use Rattle.std.specs.Option.{option_map, option_and_then, ForSome}
 use Rattle.std.specs.Int.{bit_at}
@@ -65,25 +65,11 @@ IsFirstAt limit at from None = (page : ℕ) → from ≤ page → at page ≡ No
 IsFirstAt limit at from (Some first) = (from ≤ first) × (first < limit) × IsSome (at first)
     × ((page : ℕ) → from ≤ page → page < first → at page ≡ None)
 
--- the soft-dirty bit of a page, if it is mapped
-abbrev pub bit_of : Option Entry → Option Bool
-bit_of entry = option_map (λ (e : Entry). e.soft_dirty) entry
-
--- the first mapped page from one on, below a limit, and its soft-dirty bit
-abbrev pub IsFirstBitAt : ℕ → (ℕ → Option Entry) → ℕ → Option (ℕ × Bool) → Type 0
-IsFirstBitAt limit at from None = IsFirstAt limit at from None
-IsFirstBitAt limit at from (Some found) = IsFirstAt limit at from (Some found.0) × (bit_of (at found.0) ≡ Some found.1)
-
 -- the first mapped page from one on, among those of the table in a place; that one counts from the table's first page
 abbrev pub IsFirstIn : ℕ → (ℕ → Option Entry) → ℕ → ℕ → Option ℕ → Type 0
 IsFirstIn span at place from None = (page : ℕ) → page / span ≡ place → from ≤ page % span → at page ≡ None
 IsFirstIn span at place from (Some first) = (first / span ≡ place) × (from ≤ first % span) × IsSome (at first)
     × ((page : ℕ) → page / span ≡ place → from ≤ page % span → page < first → at page ≡ None)
-
--- that page, and its soft-dirty bit
-abbrev pub IsFirstBitIn : ℕ → (ℕ → Option Entry) → ℕ → ℕ → Option (ℕ × Bool) → Type 0
-IsFirstBitIn span at place from None = IsFirstIn span at place from None
-IsFirstBitIn span at place from (Some found) = IsFirstIn span at place from (Some found.0) × (bit_of (at found.0) ≡ Some found.1)
 
 -- a place has no table, or one that is kept and has a page
 abbrev pub IsSlot : {X : Type 0} → (X → ℕ → Option Entry) → (X → Type 0) → ℕ → Option X → Type 0

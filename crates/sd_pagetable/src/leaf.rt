@@ -145,10 +145,9 @@ impl Node for Leaf {
         end
     }
 
-    #[inline(always)]
-    fn first_from(&self, page: u64) -> Option<(u64, bool)> {
+    fn first_from(&self, page: u64) -> Option<u64> {
         let place = self.used.next(page as usize)?;
-        Some((place as u64, self.entries[place].is_soft_dirty()))
+        Some(place as u64)
     }
 
     fn is_empty(&self) -> bool {

@@ -54,12 +54,4 @@ impl LeafEntry {
             soft_dirty: self.soft_dirty,
         }
     }
-
-    /// Its soft-dirty bit.
-    #[inline]
-    pub(crate) fn is_soft_dirty(self) -> bool
-        ensures { result ≡ (entry_in self).soft_dirty }
-    {
-        self.soft_dirty
-    }
 }

@@ -1,5 +1,5 @@
 ghost use Rattle.std.specs.Prelude.{◌≡◌, ℕ, ◌+◌, ◌*◌, ◌/◌, ◌%◌, ◌^◌, ◌<◌, ◌≤◌, ◌==◌, ◌||◌, false, None};
-ghost use Rattle.sd_pagetable.specs.Radix.{is_used, table_in, level_at, IsFirstBitIn, IsLevel};
+ghost use Rattle.sd_pagetable.specs.Radix.{is_used, table_in, level_at, IsFirstIn, IsLevel};
 
 use crate::entry::Entry;
 use crate::node::Node;
@@ -28,29 +28,16 @@ impl<T: Node> Level<T> {
         }
     }
 
-    /// The first page from one on, of the table in a place, and its soft-dirty bit.
-    #[inline(always)]
-    fn first_of(&self, place: usize, page: u64) -> Option<(u64, bool)>
+    /// The first page from one on, of the table in a place.
+    fn first_of(&self, place: usize, page: u64) -> Option<u64>
         requires fits { 512 * T.span ≤ 2 ^ 36 }
         requires place { place < 512 }
         requires page { page < T.span }
         requires kept { IsLevel (λ table. T.at table.value) (λ table. T.IsKept table.value) T.span self.now.used.words self.now.tables }
-        ensures { IsFirstBitIn T.span (level_at (λ table. T.at table.value) T.span self.now.tables) place page result }
+        ensures { IsFirstIn T.span (level_at (λ table. T.at table.value) T.span self.now.tables) place page result }
     {
         let found = first_in(&self.tables[place], page)?;
-        Some((place as u64 * T::span() + found.0, found.1))
-    }
-
-    /// The first page of the table in a place, and its soft-dirty bit. It is apart, since it is seldom called: most pages
-    /// stand in the table of the page before.
-    #[inline(never)]
-    fn first_in_place(&self, place: usize) -> Option<(u64, bool)>
-        requires fits { 512 * T.span ≤ 2 ^ 36 }
-        requires place { place < 512 }
-        requires kept { IsLevel (λ table. T.at table.value) (λ table. T.IsKept table.value) T.span self.now.used.words self.now.tables }
-        ensures { IsFirstBitIn T.span (level_at (λ table. T.at table.value) T.span self.now.tables) place 0 result }
-    {
-        self.first_of(place, 0)
+        Some(place as u64 * T::span() + found)
     }
 }
 
@@ -129,15 +116,14 @@ impl<T: Node> Node for Level<T> {
         first + change_in(slot, from % T::span(), end - first, change)
     }
 
-    #[inline(always)]
-    fn first_from(&self, page: u64) -> Option<(u64, bool)> {
+    fn first_from(&self, page: u64) -> Option<u64> {
         let place = (page / T::span()) as usize;
         let found = self.first_of(place, page % T::span());
         if found.is_some() {
             return found;
         }
         let next = self.used.next(place + 1)?;
-        self.first_in_place(next)
+        self.first_of(next, 0)
     }
 
     fn is_empty(&self) -> bool {

@@ -27,7 +27,6 @@ mod segv;
 mod slot;
 mod store_outcome;
 mod tables;
-mod tested_page;
 mod used_places;
 
 pub use access::Access;
@@ -41,4 +40,3 @@ pub use memory_error::MemoryError;
 pub use memory_refusal::MemoryRefusal;
 pub use segv::Segv;
 pub use store_outcome::StoreOutcome;
-pub use tested_page::TestedPage;

@@ -9,7 +9,6 @@ use crate::memory_refusal::MemoryRefusal;
 use crate::paging::Paging;
 use crate::segv::Segv;
 use crate::store_outcome::StoreOutcome;
-use crate::tested_page::TestedPage;
 use crate::{fork_calls, loading, range_calls};
 use sd_areas::{AreaMap, PAGE_BYTES, PAGE_SIZE, PageNo, Prot, SPACE_LIMIT, Snapshot, SpaceId};
 use std::alloc::{AllocError, Global};
@@ -55,7 +54,7 @@ impl Memory {
     ghost use Rattle.sd_pagetable.specs.Effects.{after_mmap, after_munmap, after_mprotect, after_fork, after_exit, after_store, IsLeastFree};
     ghost use Rattle.sd_pagetable.specs.Due.{answer, Answers, needs_frame, page_due, access_due, fault_due, store_due, try_outcome, mmap_due, munmap_due, mprotect_due, fork_due, exit_due};
     ghost use Rattle.sd_pagetable.specs.Tracking.{Step, IsBeginning, Mapped, Unmapped, Protected, Forked, Exited, Faulted, Tried as TriedEvent, Stored, Cleared};
-    ghost use Rattle.sd_pagetable.specs.Order.{IsNextPage, IsFirstPage, IsFirstIn, place_of};
+    ghost use Rattle.sd_pagetable.specs.Order.{IsNextPage, IsFirstPage, IsFirstIn};
     ghost use Rattle.sd_pagetable.specs.RangeCalls.{IsRangeIn};
     ghost use Rattle.sd_pagetable.specs.Kept.{prots_of};
     ghost use Rattle.sd_pagetable.specs.Loaded.{snapshot_due, IsLoaded};
@@ -450,64 +449,6 @@ impl Memory {
             Some(next) => Some((space, next)),
             None => self.first_page(space.number()),
         }
-    }
-
-    /// Finds the next page as `next_page` does, and tests and clears it as `test_and_clear` does. A clean page is looked
-    /// up once, and changes nothing: it is write-protected already. It takes no memory.
-    #[inline]
-    pub fn test_and_clear_next(&mut self, after: Option<(SpaceId, PageNo)>) -> Option<TestedPage>
-        ensures next { IsNextPage self.old.spaces after (option_map place_of result) }
-        ensures bit { IfSome result (λ tested. option_map (λ (before : Page). before.soft_dirty)
-            (page_at self.old tested.space tested.page) ≡ Some tested.soft_dirty) }
-        ensures step { IfSome result (λ tested. Step self.old (Cleared tested.space tested.page) self.new) }
-        ensures memory { plain_of self.new ≡ plain_of self.old }
-        ensures clean { IfSome result (λ tested. tested.soft_dirty ≡ false → self.new ≡ self.old) }
-        ensures none { result ≡ None → self.new ≡ self.old }
-    {
-        self.sound();
-        let tested = self.next_tested(after)?;
-        if !tested.soft_dirty {
-            return Some(tested);
-        }
-        let _was = self.test_and_clear(tested.space, tested.page);
-        Some(tested)
-    }
-
-    /// The next page as `next_page` finds it, and its soft-dirty bit.
-    #[inline(always)]
-    fn next_tested(&self, after: Option<(SpaceId, PageNo)>) -> Option<TestedPage>
-        ensures next { IsNextPage self.now.spaces after (option_map place_of result) }
-        ensures bit { IfSome result (λ tested. option_map (λ (before : Page). before.soft_dirty)
-            (page_at self.now tested.space tested.page) ≡ Some tested.soft_dirty) }
-    {
-        let Some((space, above)) = after else {
-            return self.next_of_all(None);
-        };
-        let Some(found) = self.paging.first_bit_from(space, Bound::Excluded(above)) else {
-            return self.next_of_all(Some((space, above)));
-        };
-        Some(TestedPage {
-            space,
-            page: found.0,
-            soft_dirty: found.1,
-        })
-    }
-
-    /// The next page of all spaces and its soft-dirty bit, by two look-ups.
-    #[inline(never)]
-    fn next_of_all(&self, after: Option<(SpaceId, PageNo)>) -> Option<TestedPage>
-        ensures next { IsNextPage self.now.spaces after (option_map place_of result) }
-        ensures bit { IfSome result (λ tested. option_map (λ (before : Page). before.soft_dirty)
-            (page_at self.now tested.space tested.page) ≡ Some tested.soft_dirty) }
-    {
-        let (space, page) = self.next_page(after)?;
-        let entry = self.paging.entry(space, page)?;
-        let soft_dirty = entry.soft_dirty;
-        Some(TestedPage {
-            space,
-            page,
-            soft_dirty,
-        })
     }
 
     /// The first page of the spaces above a number.

@@ -1,6 +1,6 @@
 ghost use Rattle.std.specs.Prelude.{◌≡◌, ℕ, Option, None, ◌<◌, ◌≤◌, ◌^◌, ◌==◌, if◌then◌else◌, Some, IfOk, OnErr, IfSome, IfNone, true, false};
 ghost use Rattle.sd_pagetable.specs.declared.entry.Entry.{Entry as EntryValue};
-ghost use Rattle.sd_pagetable.specs.Radix.{HasPage, IsFirstBitAt};
+ghost use Rattle.sd_pagetable.specs.Radix.{HasPage, IsFirstAt};
 ghost use Rattle.sd_pagetable.specs.Runs.{AreMapped, ChangesRun, FillsRun};
 
 use crate::entry::Entry;
@@ -124,12 +124,12 @@ pub(crate) trait Node: Drop {
         ensures span { result ≤ span }
         ensures run { ChangesRun change (at self.old) (at self.new) from result };
 
-    /// The first mapped page from one on, and its soft-dirty bit.
-    fn first_from(&self, page: u64) -> Option<(u64, bool)>
+    /// The first mapped page from one on.
+    fn first_from(&self, page: u64) -> Option<u64>
         requires fits { span ≤ 2 ^ 36 }
         requires kept { IsKept self.now }
         requires within { page < span }
-        ensures { IsFirstBitAt span (at self.now) page result };
+        ensures { IsFirstAt span (at self.now) page result };
 
     /// Whether it has no page.
     fn is_empty(&self) -> bool

@@ -1,6 +1,6 @@
 ghost use Rattle.std.specs.Prelude.{◌≡◌, ◌<◌, ◌≤◌, ◌^◌, ℕ, Bool, true, false, Some, None, IsSome, OnOk, OnErr, IfOk};
 ghost use Rattle.std.specs.FinMap as finmap;
-ghost use Rattle.sd_pagetable.specs.Firsts.{start_of, IsFirstBitFrom};
+ghost use Rattle.sd_pagetable.specs.Firsts.{start_of, IsFirstFrom};
 ghost use Rattle.sd_pagetable.specs.Runs.{AreMapped, ChangesRun, FillsRun};
 
 use crate::entry::Entry;
@@ -159,14 +159,11 @@ impl PageTable {
         change_in(&mut self.top, first.number(), end, change)
     }
 
-    /// The first mapped page from a bound on, and its soft-dirty bit.
-    #[inline]
-    pub(crate) fn first_bit_from(&self, start: Bound<PageNo>) -> Option<(PageNo, bool)>
-        ensures { IsFirstBitFrom self.now start result }
+    /// The first mapped page from a bound on.
+    pub(crate) fn first_from(&self, start: Bound<PageNo>) -> Option<PageNo>
+        ensures { IsFirstFrom self.now start result }
     {
-        let found = first_in(&self.top, start_of(start))?;
-        let page = PageNo::new(found.0)?;
-        Some((page, found.1))
+        PageNo::new(first_in(&self.top, start_of(start))?)
     }
 }
 

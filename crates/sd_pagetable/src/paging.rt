@@ -170,23 +170,7 @@ impl Paging {
     pub(crate) fn first_from(&self, space: SpaceId, start: Bound<PageNo>) -> Option<PageNo>
         ensures { IsFirstFrom (inside self.now.spaces space) start result }
     {
-        let found = self.first_bit_from(space, start)?;
-        Some(found.0)
-    }
-
-    /// The first page of a space from a bound on, and its soft-dirty bit.
-    #[inline]
-    pub(crate) fn first_bit_from(
-        &self,
-        space: SpaceId,
-        start: Bound<PageNo>,
-    ) -> Option<(PageNo, bool)>
-        ensures first { IsFirstFrom (inside self.now.spaces space) start
-            (option_map (λ found. found.0) result) }
-        ensures bit { IfSome result (λ found. option_map (λ (page : Page). page.soft_dirty)
-            (page_at self.now space found.0) ≡ Some found.1) }
-    {
-        self.tables.first_bit_from(space, start)
+        self.tables.first_from(space, start)
     }
 
     /// The first page of a space.

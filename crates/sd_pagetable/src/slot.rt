@@ -1,7 +1,7 @@
 //! A place for a table: it has none, or one with a page.
 ghost use Rattle.std.specs.Prelude.{◌≡◌, ℕ, ◌<◌, ◌≤◌, ◌^◌, ◌==◌, if◌then◌else◌, is_some, true, false, None, Some, IfOk, OnOk, OnErr};
 ghost use Rattle.std.specs.Option.{ForSome};
-ghost use Rattle.sd_pagetable.specs.Radix.{slot_at, IsSlot, IsFirstBitAt};
+ghost use Rattle.sd_pagetable.specs.Radix.{slot_at, IsSlot, IsFirstAt};
 ghost use Rattle.sd_pagetable.specs.Runs.{AreMapped, ChangesRun, FillsRun};
 
 use crate::entry::Entry;
@@ -23,13 +23,13 @@ pub(crate) fn get_in<T: Node>(slot: &Option<Box<T>>, page: u64) -> Option<Entry>
     }
 }
 
-/// The first mapped page from one on and its soft-dirty bit, if there is a table that has one.
-#[inline(always)]
-pub(crate) fn first_in<T: Node>(slot: &Option<Box<T>>, page: u64) -> Option<(u64, bool)>
+/// The first mapped page from one on, if there is a table that has one.
+#[inline]
+pub(crate) fn first_in<T: Node>(slot: &Option<Box<T>>, page: u64) -> Option<u64>
     requires fits { T.span ≤ 2 ^ 36 }
     requires kept { IsSlot (λ table. T.at table.value) (λ table. T.IsKept table.value) T.span slot.now }
     requires within { page < T.span }
-    ensures { IsFirstBitAt T.span (slot_at (λ table. T.at table.value) slot.now) page result }
+    ensures { IsFirstAt T.span (slot_at (λ table. T.at table.value) slot.now) page result }
 {
     match slot {
         Some(table) => table.first_from(page),

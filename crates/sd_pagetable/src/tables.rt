@@ -1,7 +1,7 @@
 ghost use Rattle.std.specs.Prelude.{◌≡◌, ◌<◌, ◌≤◌, ◌^◌, true, false, None, IsSome, OnOk, OnErr, IfOk};
 ghost use Rattle.std.specs.FinMap as finmap;
 ghost use Rattle.sd_pagetable.specs.Nested.{inside, value_at, is_alive, put_at, remove_at};
-ghost use Rattle.sd_pagetable.specs.Firsts.{IsFirstBitFrom};
+ghost use Rattle.sd_pagetable.specs.Firsts.{IsFirstFrom};
 ghost use Rattle.sd_pagetable.specs.Runs.{AreMapped, ChangesRun, FillsRun};
 
 use crate::entry::Entry;
@@ -76,16 +76,11 @@ impl Tables {
         }
     }
 
-    /// The first page of a space from a bound on, and its soft-dirty bit.
-    #[inline]
-    pub(crate) fn first_bit_from(
-        &self,
-        space: SpaceId,
-        start: Bound<PageNo>,
-    ) -> Option<(PageNo, bool)>
-        ensures { IsFirstBitFrom (inside self.now space) start result }
+    /// The first page of a space from a bound on.
+    pub(crate) fn first_from(&self, space: SpaceId, start: Bound<PageNo>) -> Option<PageNo>
+        ensures { IsFirstFrom (inside self.now space) start result }
     {
-        self.spaces.get(&space)?.first_bit_from(start)
+        self.spaces.get(&space)?.first_from(start)
     }
 
     /// The page up to which those of a space from one on are mapped, at most an end.

@@ -1,7 +1,7 @@
 pub mod Orders
 pub mod Lists
 pub mod Clean
-pub mod ZeroLemmas
+pub mod ClearLemmas
 pub mod KeepsLemmas
 pub mod RisesLemmas
 pub mod VisitLemmas

@@ -1,13 +1,10 @@
 -- What holds of a pass in code, from step to step.
-use Rattle.std.proofs.Common.{◌≡◌, ◌≢◌, ℕ, ◌+◌, ◌*◌, ◌<◌, ◌≤◌, Bool, true, false, nat_eq, nat_lt, ◌||◌, List, [], ◌∷◌, ◌++◌, length, Option, Some, None, refl, sym, ◌∙◌, ap, subst, inl, inr, arith}
+use Rattle.std.proofs.Common.{◌≡◌, ◌≢◌, ℕ, ◌+◌, ◌*◌, ◌<◌, ◌≤◌, Bool, true, false, nat_eq, nat_lt, List, [], ◌∷◌, ◌++◌, length, Option, Some, None, refl, sym, ◌∙◌, ap, subst, inl, inr, arith}
 use Rattle.std.specs.Option.{option_map}
 use Rattle.std.proofs.lemmas.Bool.{both_ways, or_cases, and_parts, ltb-true, eqb-true}
 use Rattle.sd_image.specs.declared.run.RunKind.TheVariants.{Parent}
 use Rattle.sd_image.specs.declared.table.SpaceTable.{SpaceTable}
-use Rattle.sd_pagetable.specs.declared.tested_page.TestedPage.{TestedPage}
-use Rattle.sd_pagetable.specs.Contents.{Contents, page_at}
-use Rattle.sd_pagetable.specs.Order.{IsNextPage, is_above}
-use Rattle.sd_pagetable.specs.Page.{Page}
+use Rattle.sd_pagetable.specs.Order.{is_above}
 use Rattle.std.specs.Prelude.{unwrap_or, IsSome, is_some}
 use Rattle.std.specs.FinMap as finmap
 use Rattle.std.specs.Ordering.{nat_cmp}
@@ -17,7 +14,6 @@ use Rattle.sd_image.specs.declared.run.RunKind.{RunKind}
 use Rattle.std.proofs.lemmas.List.{length-append}
 use Rattle.sd_rounds.specs.Pass.{Place, Entry, Pass, Taking, begun_to_take, copied_more, left_to_parent, with_entry}
 use Rattle.sd_rounds.specs.Rises.{IsRising}
-use Rattle.sd_rounds.specs.Room.{LeavesNext}
 use Rattle.sd_rounds.specs.Rounds.{IsCopying, IsRound, is_page_of_zeros, limit, pass_of, source, taking_of}
 use Rattle.sd_rounds.specs.Tables.{EndBefore, IsPushed, listed, entries_in}
 use Rattle.sd_rounds.proofs.Clean.{no_some, one_some}
@@ -207,23 +203,3 @@ some_short takes_all tables after taking buffer at round is not_whole =
     let was = round.sectors at is in
     let are : length buffer ≡ 512 * was.count = was.are in
     omega arith
-
--- ---- a page that was tested, and is left to the parent
-
-bit_there : (o : Option Page) (page : Page) (b : Bool) → o ≡ Some page → option_map (λ (before : Page). before.soft_dirty) o ≡ Some b → page.soft_dirty ≡ b
-bit_there o page b e bit = one_some page.soft_dirty b (ap (option_map (λ (before : Page). before.soft_dirty)) e) bit
-
-pub leaves_next : (pass : Pass) (memory : Contents) (tested : TestedPage) → IsNextPage memory.spaces pass.after (Some (tested.space, tested.page))
-    → option_map (λ (before : Page). before.soft_dirty) (page_at memory tested.space tested.page) ≡ Some tested.soft_dirty
-    → pass.takes_all || tested.soft_dirty ≡ false → LeavesNext pass memory
-leaves_next pass memory tested next bit clean = by (page_at memory tested.space tested.page) refl
-  where
-    by : (o : Option Page) → page_at memory tested.space tested.page ≡ o → LeavesNext pass memory
-    by None e = absurd (no_some tested.soft_dirty (ap (option_map (λ (before : Page). before.soft_dirty)) e) bit)
-    by (Some page) e = record {
-      at = (tested.space, tested.page);
-      page = page;
-      next = next;
-      there = e;
-      clean = ap (λ b. pass.takes_all || b) (bit_there (page_at memory tested.space tested.page) page tested.soft_dirty e bit) ∙ clean;
-    }

@@ -25,6 +25,9 @@ use std::alloc::{AllocError, Global};
 use std::marker::Model;
 use std::mem;
 
+/// The bit of a page's word that is set where the page is soft-dirty.
+const SOFT_DIRTY: u64 = 1 << 55;
+
 /// An image in the making: the entries so far, and the page that is being taken.
 #[derive(Debug, Drop)]
 pub struct Round {
@@ -140,15 +143,17 @@ impl Round {
         ensures err { OnErr result (self.new ≡ self.old) }
         ensures err_memory { OnErr result (memory.new ≡ memory.old) }
     {
-        memory.sound();
-        let Some(tested) = memory.test_and_clear_next(self.after) else {
+        let Some((space, page)) = memory.next_page(self.after) else {
             return Ok(None);
         };
-        self.enter(tested.space, tested.page, tested.soft_dirty)?;
+        memory.sound();
+        let soft_dirty = is_soft_dirty(memory, space, page);
+        self.enter(space, page, soft_dirty)?;
+        clear(memory, space, page, soft_dirty);
         Ok(Some(Visit {
-            space: tested.space,
-            page: tested.page,
-            soft_dirty: tested.soft_dirty,
+            space,
+            page,
+            soft_dirty,
         }))
     }
 
@@ -298,5 +303,29 @@ impl Round {
         push_entry(self.alloc, &mut self.tables, space, page, RunKind::Parent)?;
         self.after = Some((space, page));
         Ok(())
+    }
+}
+
+/// Whether a page is soft-dirty.
+#[inline]
+fn is_soft_dirty(memory: &Memory, space: SpaceId, page: PageNo) -> bool
+    ensures { (found : Page) → page_at memory.now space page ≡ Some found
+        → result ≡ found.soft_dirty }
+{
+    memory.word(space, page) & SOFT_DIRTY != 0
+}
+
+/// Clears a mapped page, whose soft-dirty bit is this one. A clean page is write-protected already, and stays as it is.
+#[inline]
+fn clear(memory: &mut Memory, space: SpaceId, page: PageNo, soft_dirty: bool)
+    requires there { IsSome (page_at memory.old space page) }
+    requires bit { (found : Page) → page_at memory.old space page ≡ Some found
+        → soft_dirty ≡ found.soft_dirty }
+    ensures cleared { Step memory.old (Cleared space page) memory.new }
+    ensures plain { plain_of memory.new ≡ plain_of memory.old }
+{
+    memory.sound();
+    if soft_dirty {
+        let _was = memory.test_and_clear(space, page);
     }
 }

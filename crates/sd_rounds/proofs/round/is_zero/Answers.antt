@@ -1,7 +1,7 @@
 use Rattle.std.proofs.Common.{◌≡◌, nat_eq, length, take, replicate, ◌∙◌, ap}
 use Rattle.std.specs.Cmp.Lexicographic.{pointwise}
 use Rattle.std.proofs.lemmas.List.{take-replicate}
-use Rattle.sd_rounds.proofs.ZeroLemmas.{as_zeros}
+use Rattle.sd_rounds.proofs.ClearLemmas.{as_zeros}
 use Rattle.sd_rounds.proofs.round.is_zero.Goals as goal
 
 pub returns : goal.returns

@@ -1,7 +1,7 @@
-use Rattle.std.proofs.Common.{◌≡◌, None, get_or, ◌∙◌, inl, inr, ap, rules, arith}
+use Rattle.std.proofs.Common.{◌≡◌, None, Option, Box, Global, get_or, sym, ◌∙◌, inl, inr, ap, rules, arith}
 use Rattle.std.specs.Option.{option_and_then}
 use Rattle.std.proofs.lemmas.Bool.{cases_lt}
-use Rattle.std.proofs.lemmas.Option.{slice_get_past}
+use Rattle.std.proofs.lemmas.Option.{slice_get_past, slice_get-get_or}
 use Rattle.sd_pagetable.proofs.LevelLemmas.{slot_got}
 use Rattle.sd_pagetable.proofs.level.Level.new.Goals as goal
 

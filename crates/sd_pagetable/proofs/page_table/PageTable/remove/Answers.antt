@@ -1,4 +1,4 @@
-use Rattle.std.proofs.Common.{◌^◌, is_some, sym, ap, ◌∙◌}
+use Rattle.std.proofs.Common.{◌^◌, is_some, sym, ap, ◌∙◌, arith}
 use Rattle.std.specs.FinMap as finmap
 use Rattle.sd_pagetable.proofs.TableOfLemmas.{table_removed, count_less, count_kept, some_count}
 use Rattle.sd_pagetable.proofs.page_table.PageTable.remove.Goals as goal

@@ -1,4 +1,4 @@
-use Rattle.std.proofs.Common.{arith}
+use Rattle.std.proofs.Common.{◌/◌, ◌<◌, length, arith}
 use Rattle.sd_pagetable.proofs.UsedLemmas.{used_added}
 use Rattle.sd_pagetable.proofs.used_places.UsedPlaces.add.Goals as goal
 
