@@ -17,6 +17,7 @@ pub mod RisingNumbers
 pub mod DumpTableLemmas
 pub mod ImageTableLemmas
 pub mod MakingLemmas
+pub mod PassStepLemmas
 pub mod PlanLemmas
 pub mod DumperLemmas
 pub mod AheadLemmas

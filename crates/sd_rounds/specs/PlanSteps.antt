@@ -9,7 +9,12 @@ use Rattle.sd_rounds.specs.declared.image_step.ImageStep.{ImageStep}
 use Rattle.sd_rounds.specs.declared.image_step.ImageStep.TheVariants.{Call, PageCall, TableCall, Frozen, Visited, Copied}
 use Rattle.sd_rounds.specs.declared.stage.Stage.{Stage}
 use Rattle.sd_rounds.specs.declared.stage.Stage.TheVariants.{Format, Freeze, Pass as PassStage, PageWrite, Close}
+use Rattle.sd_pagetable.specs.Contents.{Contents}
+use Rattle.sd_pagetable.specs.Order.{IsNextPage}
+use Rattle.sd_rounds.specs.declared.pass_step.PassStep.{PassStep}
+use Rattle.sd_rounds.specs.declared.pass_step.PassStep.TheVariants.{Visited as PageVisited, Copied as SectorCopied}
 use Rattle.sd_rounds.specs.Making.{IsUnderWay, Making, outcomes_of}
+use Rattle.sd_rounds.specs.Rounds.{IsCopying}
 
 -- what the outcome of the request that is out is to a plan
 abbrev pub Settles : Planned → Made → Settled → Planned → Type 0
@@ -59,3 +64,17 @@ is_freeze (Close plan header tables) = false
 abbrev pub is_to_freeze : Option Making → Bool
 is_to_freeze None = false
 is_to_freeze (Some image) = is_freeze image.stage
+
+-- a step of the pass, as one of an image
+abbrev pub image_step : PassStep → ImageStep
+image_step (PageVisited visit) = Visited visit
+image_step (SectorCopied copied) = Copied copied
+
+-- the next step visits no page and copies no sector
+pub record HasNoPage (image : Making) (memory : Contents) : Type 0 where
+  pub over : image.stage ≡ PassStage → image.pass.taking ≡ None → IsNextPage memory.spaces image.pass.after None
+  pub whole : image.stage ≡ PassStage → IsCopying image.pass → ⊥
+
+abbrev pub HaveNoPage : Option Making → Contents → Type 0
+HaveNoPage None memory = Unit {0}
+HaveNoPage (Some image) memory = HasNoPage image memory

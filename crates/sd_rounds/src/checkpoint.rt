@@ -1,10 +1,11 @@
 //! A checkpoint that is made: its images, one after the other.
-ghost use Rattle.std.specs.Prelude.{◌≡◌, ◌↔◌, ◌⊎◌, Err, IsOk, IsSome, IfOk, IfErr, None, OnErr, true, false};
+ghost use Rattle.std.specs.Prelude.{◌≡◌, ◌↔◌, ◌⊎◌, ℕ, Ok, Err, IsOk, IsErr, IsSome, IfOk, IfErr, MatchOption, None, OnErr, true, false};
 ghost use Rattle.sd_rounds.specs.declared.progress.Progress.TheVariants.{Dump as DumpOpen, PreDump as PreDumpOpen};
+ghost use Rattle.sd_gate.specs.declared.slot_state.SlotState.{SlotState};
 ghost use Rattle.sd_rounds.specs.declared.work_error.WorkError.TheVariants.{Busy, OutOfMemory};
 ghost use Rattle.sd_pagetable.specs.Contents.{plain_of};
 ghost use Rattle.sd_rounds.specs.Left.{running_left};
-ghost use Rattle.sd_rounds.specs.PlanSteps.{is_to_freeze};
+ghost use Rattle.sd_rounds.specs.PlanSteps.{HaveNoPage, image_step, is_to_freeze};
 ghost use Rattle.sd_rounds.specs.Room.{MakingWants};
 ghost use Rattle.sd_rounds.specs.Sound.{IsSoundMaking};
 ghost use Rattle.sd_rounds.specs.Dumper.{HandsTo, HasFewPages, WorksOn, after_pre_dump, is_frozen_image, is_last, kind_of, order_of, out_of_image, running_of, slot_of};
@@ -16,12 +17,13 @@ use crate::image_step::ImageStep;
 use crate::left::{CLOSE, END, FORMAT, FREEZE, PAGE_AHEAD, pages_ahead};
 use crate::new_image::NewImage;
 use crate::next_image::NextImage;
+use crate::pass_step::PassStep;
 use crate::progress::Progress;
 use crate::work_error::WorkError;
 use sd_gate::{Outcome, SlotState};
 use sd_image::Kind;
 use sd_pagetable::Memory;
-use std::alloc::Global;
+use std::alloc::{AllocError, Global};
 
 /// The images of a checkpoint: its pre-dumps, and then its dump.
 #[derive(Debug, Drop)]
@@ -82,22 +84,43 @@ impl Checkpoint {
         }
     }
 
-    /// Makes the next step of the image that is being made, or begins the next image.
+    /// Makes the next step of the image that is being made, where that visits a page or copies a sector. None where
+    /// another is next, and nothing changed.
     #[inline(always)]
+    pub(crate) fn pass_step(&mut self, memory: &mut Memory) -> Result<Option<PassStep>, AllocError>
+        ensures works { IfOk result (λ found. MatchOption found
+            (HaveNoPage (running_of self.old).image memory.old
+            × (running_of self.new ≡ running_of self.old) × (memory.new ≡ memory.old))
+            (λ step. (serial : ℕ) (state : SlotState) (ticket : ℕ) → WorksOn serial state ticket
+            (running_of self.old) memory.old (image_step step) (running_of self.new) memory.new)) }
+        ensures busy { IsSome (out_of_image (running_of self.old).image) → result ≡ Ok None }
+        ensures wanted { IsErr result → MakingWants (running_of self.old).image memory.old }
+        ensures err { OnErr result (running_of self.new ≡ running_of self.old) }
+        ensures err_memory { OnErr result (memory.new ≡ memory.old) }
+    {
+        match &mut self.maker {
+            Some(maker) => maker.pass_step(memory),
+            None => Ok(None),
+        }
+    }
+
+    /// Makes the next step of the image that is being made, which visits no page and copies no sector, or begins the next
+    /// image.
+    #[inline(never)]
     pub(crate) fn work(
         &mut self,
         alloc: Global,
-        memory: &mut Memory,
+        memory: &Memory,
         image: NextImage,
         ticket: u64,
     ) -> Result<ImageStep, WorkError>
+        requires { HaveNoPage (running_of self.old).image memory.now }
         ensures works { IfOk result (λ step. WorksOn image.serial image.state ticket
-            (running_of self.old) memory.old step (running_of self.new) memory.new) }
+            (running_of self.old) memory.now step (running_of self.new) memory.now) }
         ensures busy { result ≡ Err Busy ↔ IsSome (out_of_image (running_of self.old).image) }
-        ensures wanted { result ≡ Err OutOfMemory → MakingWants (running_of self.old).image memory.old }
+        ensures wanted { result ≡ Err OutOfMemory → MakingWants (running_of self.old).image memory.now }
         ensures errors { IfErr result (λ e. (e ≡ Busy) ⊎ (e ≡ OutOfMemory)) }
         ensures err { OnErr result (running_of self.new ≡ running_of self.old) }
-        ensures err_memory { OnErr result (memory.new ≡ memory.old) }
     {
         if let Some(maker) = &mut self.maker {
             return maker.work(memory, ticket);
@@ -110,13 +133,13 @@ impl Checkpoint {
     fn begin_image(
         &mut self,
         alloc: Global,
-        memory: &mut Memory,
+        memory: &Memory,
         image: NextImage,
         ticket: u64,
     ) -> Result<ImageStep, WorkError>
         requires { (running_of self.old).image ≡ None }
         ensures works { IfOk result (λ step. WorksOn image.serial image.state ticket
-            (running_of self.old) memory.old step (running_of self.new) memory.new) }
+            (running_of self.old) memory.now step (running_of self.new) memory.now) }
         ensures ok { IsOk result }
     {
         let order = self.order(image.serial, image.state);

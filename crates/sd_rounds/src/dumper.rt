@@ -11,6 +11,7 @@ ghost use Rattle.sd_rounds.specs.Dumper.{AreRunning, Dumping, Hands, HasCounted,
 use crate::checkpoint::Checkpoint;
 use crate::image_step::ImageStep;
 use crate::next_image::NextImage;
+use crate::pass_step::PassStep;
 use crate::progress::Progress;
 use crate::work_error::WorkError;
 use sd_gate::Outcome;
@@ -168,8 +169,14 @@ impl Dumper {
         let Some(checkpoint) = &mut self.checkpoint else {
             return Err(WorkError::Idle);
         };
-        self.since_freeze = counted(checkpoint.is_to_freeze(), self.since_freeze);
-        checkpoint.work(self.alloc, memory, image, ticket)
+        match checkpoint.pass_step(memory)? {
+            Some(PassStep::Visited(visit)) => Ok(ImageStep::Visited(visit)),
+            Some(PassStep::Copied(copied)) => Ok(ImageStep::Copied(copied)),
+            None => {
+                self.since_freeze = counted(checkpoint.is_to_freeze(), self.since_freeze);
+                checkpoint.work(self.alloc, memory, image, ticket)
+            }
+        }
     }
 
     /// Takes the outcome of the request that is out. After one that failed no checkpoint runs.

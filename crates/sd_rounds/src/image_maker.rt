@@ -1,5 +1,5 @@
 //! One image in the making: its slot is formatted, the pages of a memory are passed, and its gate is opened.
-ghost use Rattle.std.specs.Prelude.{◌≡◌, ◌≢◌, ◌↔◌, ◌⊎◌, ◌<◌, ◌≤◌, ◌^◌, ◌==◌, None, Some, Err, IsSome, IsTrue, IsErr, IfOk, IfErr, OnErr, MatchOption, length, map, []};
+ghost use Rattle.std.specs.Prelude.{◌≡◌, ◌≢◌, ◌↔◌, ◌⊎◌, ℕ, ◌<◌, ◌≤◌, ◌^◌, ◌==◌, None, Some, Ok, Err, IsSome, IsTrue, IsErr, IfOk, IfErr, OnErr, MatchOption, length, map, []};
 ghost use Rattle.sd_image.specs.Header.{HasWords};
 ghost use Rattle.sd_image.specs.Table.{listing_of};
 ghost use Rattle.sd_gate.specs.PlanRuns.{AreChanges};
@@ -11,7 +11,7 @@ ghost use Rattle.sd_pagetable.specs.Contents.{Contents, plain_of};
 ghost use Rattle.sd_pagetable.specs.Order.{IsNextPage};
 ghost use Rattle.sd_rounds.specs.Left.{image_left, plan_left};
 ghost use Rattle.sd_rounds.specs.Making.{HandsIn, HasTable, IsAskedBy, IsUnderWay, Steps, WritesPage, WritesTable, begun_image, header_of, is_frozen, out_of};
-ghost use Rattle.sd_rounds.specs.PlanSteps.{IsCallOf, IsPageCallOf, IsTableCallOf, Settles, at_stage, is_freeze};
+ghost use Rattle.sd_rounds.specs.PlanSteps.{HasNoPage, IsCallOf, IsPageCallOf, IsTableCallOf, Settles, at_stage, image_step, is_freeze};
 ghost use Rattle.sd_rounds.specs.Pass.{data_pages, opened};
 ghost use Rattle.sd_rounds.specs.Room.{ImageWants, PassWants};
 ghost use Rattle.sd_rounds.specs.Rounds.{IsCopied};
@@ -23,6 +23,7 @@ use crate::image_step::ImageStep;
 use crate::laws::made_law;
 use crate::left::{CLOSE, FREEZE};
 use crate::new_image::NewImage;
+use crate::pass_step::PassStep;
 use crate::round::Round;
 use crate::stage::Stage;
 use crate::standing::Standing;
@@ -141,35 +142,61 @@ impl ImageMaker {
         }
     }
 
-    /// Makes the next step.
+    /// Visits the next page or copies the next sector, where that is the next step. None where another is, and nothing
+    /// changed. What it came to is small: only the other steps need room for a request.
     ///
     /// # Errors
     ///
-    /// Busy where a request is out. Out of memory where an entry, a sector or the table finds no room, which is in the
-    /// pass alone. Nothing changed.
+    /// Out of memory where an entry or a sector finds no room. Nothing changed.
     #[inline(always)]
-    pub(crate) fn work(&mut self, memory: &mut Memory, ticket: u64) -> Result<ImageStep, WorkError>
-        ensures steps { IfOk result (λ step. Steps ticket self.old memory.old step self.new memory.new) }
-        ensures busy { result ≡ Err Busy ↔ IsSome (out_of self.old.stage) }
-        ensures wanted { result ≡ Err OutOfMemory → ImageWants self.old memory.old }
-        ensures errors { IfErr result (λ e. (e ≡ Busy) ⊎ (e ≡ OutOfMemory)) }
+    pub(crate) fn pass_step(&mut self, memory: &mut Memory) -> Result<Option<PassStep>, AllocError>
+        ensures steps { IfOk result (λ found. MatchOption found
+            (HasNoPage self.old memory.old × (self.new ≡ self.old) × (memory.new ≡ memory.old))
+            (λ step. (ticket : ℕ) → Steps ticket self.old memory.old (image_step step) self.new memory.new)) }
+        ensures busy { IsSome (out_of self.old.stage) → result ≡ Ok None }
+        ensures wanted { IsErr result → ImageWants self.old memory.old }
         ensures err { OnErr result (self.new ≡ self.old) }
         ensures err_memory { OnErr result (memory.new ≡ memory.old) }
+    {
+        let Stage::Pass = &self.stage else {
+            return Ok(None);
+        };
+        match self.round.standing() {
+            Standing::Free => {
+                let Some(visit) = self.round.visit(memory)? else {
+                    return Ok(None);
+                };
+                Ok(Some(PassStep::Visited(visit)))
+            }
+            Standing::Copying => {
+                let copied = self.round.copy_sector(memory)?;
+                Ok(Some(PassStep::Copied(copied)))
+            }
+            Standing::Copied => Ok(None),
+        }
+    }
+
+    /// Makes the next step, which visits no page and copies no sector.
+    ///
+    /// # Errors
+    ///
+    /// Busy where a request is out. Out of memory where a page's entry or the table finds no room, which is in the pass
+    /// alone. Nothing changed.
+    #[inline(never)]
+    pub(crate) fn work(&mut self, memory: &Memory, ticket: u64) -> Result<ImageStep, WorkError>
+        requires { HasNoPage self.old memory.now }
+        ensures steps { IfOk result (λ step. Steps ticket self.old memory.now step self.new memory.now) }
+        ensures busy { result ≡ Err Busy ↔ IsSome (out_of self.old.stage) }
+        ensures wanted { result ≡ Err OutOfMemory → ImageWants self.old memory.now }
+        ensures errors { IfErr result (λ e. (e ≡ Busy) ⊎ (e ≡ OutOfMemory)) }
+        ensures err { OnErr result (self.new ≡ self.old) }
     {
         let Stage::Pass = &self.stage else {
             return self.go_on(ticket);
         };
         match self.round.standing() {
-            Standing::Free => {
-                if let Some(visit) = self.round.visit(memory)? {
-                    return Ok(ImageStep::Visited(visit));
-                }
-                self.close(memory, ticket)
-            }
-            Standing::Copying => {
-                let copied = self.round.copy_sector(memory)?;
-                Ok(ImageStep::Copied(copied))
-            }
+            Standing::Free => self.close(memory, ticket),
+            Standing::Copying => unreachable!(),
             Standing::Copied => self.write_page(ticket),
         }
     }

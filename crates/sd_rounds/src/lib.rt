@@ -13,6 +13,7 @@ mod laws;
 mod left;
 mod new_image;
 mod next_image;
+mod pass_step;
 mod progress;
 mod round;
 mod stage;
