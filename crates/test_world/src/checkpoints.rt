@@ -1,10 +1,8 @@
 //! Checkpoints through a world.
-use crate::drive::{byte, checkpoint, finish, load, map, next, open, reopen, steps, store};
+use crate::drive::{Line, open, play};
 use sd_command::{Refusal, Reply};
 use sd_disk::{Fused, MemDisk};
-use sd_gate::Worker;
-use sd_world::{Event, World};
-use std::process::Abort;
+use sd_world::World;
 use std::test::Fail;
 
 /// The slots of the stores of these tests, and the bytes of each.
@@ -16,93 +14,71 @@ const BYTES: usize = 20_000;
 #[test]
 fn count_of_steps(rt: HostRuntime) -> Result<(), Fail> {
     let mut world = open(rt.alloc(), MemDisk::new(rt.alloc(), SLOTS, BYTES, 1_000)?)?;
-    assert_eq!(rt; map(&mut world), Reply::Done);
-    assert_eq!(rt; store(&mut world, rt.alloc(), 0x61)?, Reply::Done);
-    assert_eq!(rt; world.step(&Event::Begin(0)), Reply::Begun(1));
-    assert_eq!(rt; steps(&mut world, Worker::Dumper, 9), Reply::Worked);
-    assert_eq!(rt; load(&mut world), byte(rt.alloc(), 0x61)?);
-    assert_eq!(rt; next(&mut world, Worker::Dumper), Reply::Worked);
-    assert_eq!(rt; load(&mut world), Reply::Refused(Refusal::Frozen));
-    assert_eq!(rt; steps(&mut world, Worker::Dumper, 26), Reply::Worked);
-    assert_eq!(rt; load(&mut world), Reply::Refused(Refusal::Frozen));
-    assert_eq!(rt; next(&mut world, Worker::Dumper), Reply::Acked(1));
-    assert_eq!(rt; load(&mut world), byte(rt.alloc(), 0x61)?);
-    assert_eq!(rt;
-        next(&mut world, Worker::Dumper),
-        Reply::Refused(Refusal::Idle)
-    );
-    Ok(())
+    let lines = [
+        (Line::Map, Reply::Done),
+        (Line::Store(0x61), Reply::Done),
+        (Line::Begin(0), Reply::Begun(1)),
+        (Line::Steps(9), Reply::Worked),
+        (Line::Finds(0x61), Reply::Worked),
+        (Line::Steps(1), Reply::Worked),
+        (Line::Frozen, Reply::Worked),
+        (Line::Steps(26), Reply::Worked),
+        (Line::Frozen, Reply::Worked),
+        (Line::Steps(1), Reply::Acked(1)),
+        (Line::Finds(0x61), Reply::Worked),
+        (Line::Steps(1), Reply::Refused(Refusal::Idle)),
+    ];
+    play(&mut world, rt.alloc(), &lines)
 }
 
-/// What was acknowledged is what a second run starts from; the checkpoints of a run are numbered on.
+/// What was acknowledged is what a second run starts from; the checkpoints of a store are numbered on.
 #[test]
 fn second_run(rt: HostRuntime) -> Result<(), Fail> {
     let mut world = open(rt.alloc(), MemDisk::new(rt.alloc(), SLOTS, BYTES, 1_000)?)?;
-    assert_eq!(rt; map(&mut world), Reply::Done);
-    assert_eq!(rt; store(&mut world, rt.alloc(), 0x61)?, Reply::Done);
-    assert_eq!(rt; checkpoint(&mut world, 0)?, Reply::Acked(1));
-    assert_eq!(rt; checkpoint(&mut world, 2)?, Reply::Acked(2));
-    assert_eq!(rt; store(&mut world, rt.alloc(), 0x62)?, Reply::Done);
-    assert_eq!(rt; checkpoint(&mut world, 1)?, Reply::Acked(3));
-    assert_eq!(rt; store(&mut world, rt.alloc(), 0x63)?, Reply::Done);
+    let lines = [
+        (Line::Map, Reply::Done),
+        (Line::Store(0x61), Reply::Done),
+        (Line::Checkpoint(0), Reply::Acked(1)),
+        (Line::Checkpoint(2), Reply::Acked(2)),
+        (Line::Store(0x62), Reply::Done),
+        (Line::Checkpoint(1), Reply::Acked(3)),
+        (Line::Store(0x63), Reply::Done),
+    ];
+    play(&mut world, rt.alloc(), &lines)?;
     let Ok(mut world) = World::open(rt.alloc(), world.close(), 16) else {
         return Err(Fail::from("not opened"));
     };
-    assert_eq!(rt;
-        world.step(&Event::Begin(0)),
-        Reply::Refused(Refusal::NotOpen)
-    );
-    assert_eq!(rt; world.step(&Event::Merge), Reply::Refused(Refusal::NotOpen));
-    assert_eq!(rt; load(&mut world), byte(rt.alloc(), 0x62)?);
-    assert_eq!(rt; reopen(&mut world)?, Reply::Reopened(Some(3)));
-    assert_eq!(rt; world.step(&Event::Merge), Reply::Refused(Refusal::Idle));
-    assert_eq!(rt; checkpoint(&mut world, 0)?, Reply::Acked(4));
-    Ok(())
+    let lines = [
+        (Line::Begin(0), Reply::Refused(Refusal::NotOpen)),
+        (Line::Merge, Reply::Refused(Refusal::NotOpen)),
+        (Line::Finds(0x62), Reply::Worked),
+        (Line::Reopen, Reply::Reopened(Some(3))),
+        (Line::Merge, Reply::Refused(Refusal::Idle)),
+        (Line::Checkpoint(0), Reply::Acked(4)),
+    ];
+    play(&mut world, rt.alloc(), &lines)
 }
 
 /// A checkpoint is cancelled before its freeze, and after it; the next one has the next number.
 #[test]
 fn cancelled(rt: HostRuntime) -> Result<(), Fail> {
     let mut world = open(rt.alloc(), MemDisk::new(rt.alloc(), SLOTS, BYTES, 1_000)?)?;
-    assert_eq!(rt; map(&mut world), Reply::Done);
-    assert_eq!(rt; store(&mut world, rt.alloc(), 0x61)?, Reply::Done);
-    assert_eq!(rt; world.step(&Event::Cancel), Reply::Refused(Refusal::Idle));
-    assert_eq!(rt; world.step(&Event::Begin(0)), Reply::Begun(1));
-    assert_eq!(rt; world.step(&Event::Begin(0)), Reply::Refused(Refusal::Busy));
-    assert_eq!(rt; world.step(&Event::Cancel), Reply::Cancelled(1));
-    assert_eq!(rt; world.step(&Event::Begin(0)), Reply::Begun(2));
-    assert_eq!(rt; steps(&mut world, Worker::Dumper, 10), Reply::Worked);
-    assert_eq!(rt; load(&mut world), Reply::Refused(Refusal::Frozen));
-    assert_eq!(rt; world.step(&Event::Cancel), Reply::Cancelled(2));
-    assert_eq!(rt; load(&mut world), byte(rt.alloc(), 0x61)?);
-    assert_eq!(rt; world.step(&Event::Cancel), Reply::Refused(Refusal::Idle));
-    assert_eq!(rt; checkpoint(&mut world, 0)?, Reply::Acked(3));
-    Ok(())
-}
-
-/// At each step of a checkpoint it is cancelled, or a call of it is out: then that is made first. The next one is
-/// acknowledged.
-#[test]
-fn cancelled_at_each_step(rt: HostRuntime) -> Result<(), Fail> {
-    for count in 0..62 {
-        let mut world = open(rt.alloc(), MemDisk::new(rt.alloc(), SLOTS, BYTES, 1_000)?)?;
-        assert_eq!(rt; map(&mut world), Reply::Done);
-        assert_eq!(rt; store(&mut world, rt.alloc(), 0x61)?, Reply::Done);
-        assert_eq!(rt; world.step(&Event::Begin(1)), Reply::Begun(1));
-        assert_eq!(rt; steps(&mut world, Worker::Dumper, count), Reply::Worked);
-        let next_number = match world.step(&Event::Cancel) {
-            Reply::Cancelled(1) => 2,
-            Reply::Refused(Refusal::Busy) => {
-                assert_eq!(rt; finish(&mut world, Worker::Dumper)?, Reply::Acked(1));
-                2
-            }
-            _ => return Err(Fail::from("neither cancelled nor busy")),
-        };
-        assert_eq!(rt; checkpoint(&mut world, 0)?, Reply::Acked(next_number));
-        let mut again = open(rt.alloc(), world.close())?;
-        assert_eq!(rt; load(&mut again), byte(rt.alloc(), 0x61)?);
-    }
-    Ok(())
+    let lines = [
+        (Line::Map, Reply::Done),
+        (Line::Store(0x61), Reply::Done),
+        (Line::Cancel, Reply::Refused(Refusal::Idle)),
+        (Line::Begin(0), Reply::Begun(1)),
+        (Line::Begin(0), Reply::Refused(Refusal::Busy)),
+        (Line::Cancel, Reply::Cancelled(1)),
+        (Line::Begin(0), Reply::Begun(2)),
+        (Line::Steps(10), Reply::Worked),
+        (Line::Frozen, Reply::Worked),
+        (Line::Cancel, Reply::Cancelled(2)),
+        (Line::Finds(0x61), Reply::Worked),
+        (Line::Cancel, Reply::Refused(Refusal::Idle)),
+        (Line::Checkpoint(0), Reply::Acked(3)),
+    ];
+    play(&mut world, rt.alloc(), &lines)
 }
 
 /// The sync behind the gate of the second checkpoint fails: it is in doubt, can't be cancelled, and is found by opening
@@ -111,51 +87,63 @@ fn cancelled_at_each_step(rt: HostRuntime) -> Result<(), Fail> {
 fn doubtful_commit(rt: HostRuntime) -> Result<(), Fail> {
     let disk = Fused::new(MemDisk::new(rt.alloc(), SLOTS, BYTES, 1_000)?, 55);
     let mut world = open(rt.alloc(), disk)?;
-    assert_eq!(rt; map(&mut world), Reply::Done);
-    assert_eq!(rt; store(&mut world, rt.alloc(), 0x61)?, Reply::Done);
-    assert_eq!(rt; checkpoint(&mut world, 0)?, Reply::Acked(1));
-    assert_eq!(rt; world.step(&Event::Begin(0)), Reply::Begun(2));
-    assert_eq!(rt;
-        finish(&mut world, Worker::Dumper)?,
-        Reply::Refused(Refusal::Device)
-    );
-    assert_eq!(rt;
-        next(&mut world, Worker::Dumper),
-        Reply::Refused(Refusal::StoreDown)
-    );
-    assert_eq!(rt; load(&mut world), Reply::Refused(Refusal::Frozen));
-    assert_eq!(rt; world.step(&Event::Cancel), Reply::Refused(Refusal::Busy));
-    assert_eq!(rt;
-        world.step(&Event::Begin(0)),
-        Reply::Refused(Refusal::StoreDown)
-    );
-    assert_eq!(rt;
-        world.step(&Event::Merge),
-        Reply::Refused(Refusal::StoreDown)
-    );
-    assert_eq!(rt; reopen(&mut world)?, Reply::Reopened(Some(2)));
-    assert_eq!(rt; load(&mut world), byte(rt.alloc(), 0x61)?);
-    assert_eq!(rt; checkpoint(&mut world, 0)?, Reply::Acked(3));
-    Ok(())
+    let lines = [
+        (Line::Map, Reply::Done),
+        (Line::Store(0x61), Reply::Done),
+        (Line::Checkpoint(0), Reply::Acked(1)),
+        (Line::Begin(0), Reply::Begun(2)),
+        (Line::Finish, Reply::Refused(Refusal::Device)),
+        (Line::Steps(1), Reply::Refused(Refusal::StoreDown)),
+        (Line::Frozen, Reply::Worked),
+        (Line::Cancel, Reply::Refused(Refusal::Busy)),
+        (Line::Begin(0), Reply::Refused(Refusal::StoreDown)),
+        (Line::Merge, Reply::Refused(Refusal::StoreDown)),
+        (Line::Reopen, Reply::Reopened(Some(2))),
+        (Line::Finds(0x61), Reply::Worked),
+        (Line::Checkpoint(0), Reply::Acked(3)),
+    ];
+    play(&mut world, rt.alloc(), &lines)
 }
 
 /// What a beginning is refused for, by priority.
 #[test]
 fn refused_beginnings(rt: HostRuntime) -> Result<(), Fail> {
     let mut world = open(rt.alloc(), MemDisk::new(rt.alloc(), 4, BYTES, 1_000)?)?;
-    assert_eq!(rt;
-        world.step(&Event::Begin(9)),
-        Reply::Refused(Refusal::Einval)
-    );
-    assert_eq!(rt;
-        world.step(&Event::Begin(3)),
-        Reply::Refused(Refusal::NoSlot)
-    );
-    assert_eq!(rt; checkpoint(&mut world, 1)?, Reply::Acked(1));
-    assert_eq!(rt;
-        world.step(&Event::Begin(1)),
-        Reply::Refused(Refusal::NoSlot)
-    );
-    assert_eq!(rt; checkpoint(&mut world, 0)?, Reply::Acked(2));
+    let lines = [
+        (Line::Begin(9), Reply::Refused(Refusal::Einval)),
+        (Line::Begin(3), Reply::Refused(Refusal::NoSlot)),
+        (Line::Checkpoint(1), Reply::Acked(1)),
+        (Line::Begin(1), Reply::Refused(Refusal::NoSlot)),
+        (Line::Checkpoint(0), Reply::Acked(2)),
+    ];
+    play(&mut world, rt.alloc(), &lines)
+}
+
+/// A checkpoint is cancelled behind so many of its events, or is finished where a call of it is out or its gate may be
+/// open; the next one is acknowledged, and a second run finds what was stored.
+fn cancels_behind(rt: &HostRuntime, count: usize) -> Result<(), Fail> {
+    let mut world = open(rt.alloc(), MemDisk::new(rt.alloc(), SLOTS, BYTES, 1_000)?)?;
+    let lines = [
+        (Line::Map, Reply::Done),
+        (Line::Store(0x61), Reply::Done),
+        (Line::Begin(1), Reply::Begun(1)),
+        (Line::Steps(count), Reply::Worked),
+        (Line::CancelOrFinish, Reply::Worked),
+        (Line::Checkpoint(0), Reply::Acked(2)),
+    ];
+    play(&mut world, rt.alloc(), &lines)?;
+    let mut again = open(rt.alloc(), world.close())?;
+    play(
+        &mut again,
+        rt.alloc(),
+        &[(Line::Finds(0x61), Reply::Worked)],
+    )
+}
+
+#[test]
+fn cancelled_at_each_step(rt: HostRuntime) -> Result<(), Fail> {
+    for count in 0..62 {
+        cancels_behind(&rt, count)?;
+    }
     Ok(())
 }
