@@ -4,11 +4,7 @@
 #[cfg(test)]
 mod again;
 #[cfg(test)]
-mod checkpoints;
-#[cfg(test)]
 mod commands;
-#[cfg(test)]
-mod drive;
 #[cfg(test)]
 mod opening;
 #[cfg(test)]
