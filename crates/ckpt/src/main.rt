@@ -13,7 +13,6 @@ use std::process::ExitCode;
 use std::rt::{Env, Files};
 use stop::{FAILED, Stop, UNFIT};
 
-mod answer_text;
 mod cause;
 mod command_line;
 mod list;
@@ -65,7 +64,14 @@ fn read_script(
     if let Err(ScriptError::Line(number)) = parsed {
         tell_line(rt, script, &bytes, number);
     }
-    Ok(parsed?)
+    let parsed = parsed?;
+    match run::line_beyond(&parsed, &bytes) {
+        Some(number) => {
+            tell(rt, script, &"a request that isn't built yet");
+            Err(Stop::ScriptLine(number))
+        }
+        None => Ok(parsed),
+    }
 }
 
 /// Runs a script over a store. With `restores` the memory that the store then shows is printed behind the answers.

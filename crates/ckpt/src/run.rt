@@ -6,12 +6,11 @@ ghost use Rattle.sd_image.specs.Laws.{IsReady};
 ghost use Rattle.ckpt.specs.Ending.{IsReadable};
 ghost use Rattle.sd_script.specs.Script.{first_unfit_line};
 
-use crate::answer_text::print_answer;
 use crate::stop::{Stop, status};
 use sd_command::Reply;
 use sd_disk::Disk;
 use sd_save::Session;
-use sd_script::{Answer, Line, Script};
+use sd_script::{Answer, Line, Script, print_answer};
 use std::alloc::Global;
 use std::io::Write;
 
@@ -43,8 +42,37 @@ fn run_text<D: Disk, W: Write>(
     ensures readable { D.is_honest disk.new → OnOk result (IsReadable (D.contents disk.new)) }
     ensures honest { D.is_honest disk.new → D.is_honest disk.old }
 {
-    let script = Script::parse(alloc, script)?;
-    run_lines(alloc, disk, &script, out)
+    let parsed = Script::parse(alloc, script)?;
+    if let Some(number) = line_beyond(&parsed, script) {
+        return Err(Stop::ScriptLine(number));
+    }
+    run_lines(alloc, disk, &parsed, out)
+}
+
+/// Whether a run can answer a line yet.
+fn is_within_reach(line: &Line) -> bool {
+    matches!(
+        line,
+        Line::Command(_) | Line::Words { .. } | Line::Checkpoint(0)
+    )
+}
+
+/// The number, counted from 1, of the first line of a parsed script that a run can't answer yet.
+pub fn line_beyond(script: &Script, bytes: &[u8]) -> Option<usize> {
+    let mut left = script
+        .lines
+        .iter()
+        .position(|line| !is_within_reach(line))?;
+    for (index, line) in bytes.split(|byte| *byte == b'\n').enumerate() {
+        if line.is_empty() || line.starts_with(b"#") {
+            continue;
+        }
+        if left == 0 {
+            return Some(index.saturating_add(1));
+        }
+        left -= 1;
+    }
+    None
 }
 
 /// Opens the store of a disk, prints its checkpoint, and answers each line of a parsed script.

@@ -61,10 +61,21 @@ IsSaved (reply.Refused refusal.NumbersUsed) old new = new ≡ old
 IsSaved (reply.Refused refusal.OutOfMemory) old new = Unit {0}
 IsSaved _ old new = ⊥
 
+-- refused as idle, and nothing changes
+abbrev pub IsIdle : Answer → Contents → Contents → Type 0
+IsIdle given old new = (given ≡ answer.Reply (reply.Refused refusal.Idle)) × (new ≡ old)
+
 -- what a line is answered, and what it does; a checkpoint leaves the spaces, areas and bytes
 abbrev pub IsAnswer : Line → Answer → Contents → Contents → Type 0
 IsAnswer (line.Command asked) (answer.Reply given) old new = IsApplied asked given old new ⊎ IsOutOfMemory asked given old new
 IsAnswer (line.Command asked) (answer.Words words) old new = ⊥
 IsAnswer (line.Words space address count) given old new = (new ≡ old) × AreGiven old space address count given
-IsAnswer line.Checkpoint (answer.Reply given) old new = (plain_of new ≡ plain_of old) × IsSaved given old new
-IsAnswer line.Checkpoint (answer.Words words) old new = ⊥
+IsAnswer (line.Checkpoint rounds) (answer.Reply given) old new = (plain_of new ≡ plain_of old) × IsSaved given old new
+IsAnswer (line.Checkpoint rounds) (answer.Words words) old new = ⊥
+IsAnswer (line.Begin rounds) given old new = IsIdle given old new
+IsAnswer line.Cancel given old new = IsIdle given old new
+IsAnswer (line.Work worker) given old new = IsIdle given old new
+IsAnswer (line.Perform worker) given old new = IsIdle given old new
+IsAnswer (line.Step worker count) given old new = IsIdle given old new
+IsAnswer (line.Finish worker) given old new = IsIdle given old new
+IsAnswer line.Reopen given old new = IsIdle given old new

@@ -68,7 +68,8 @@ impl Session {
         }
     }
 
-    /// Answers one line. A failure of the device ends the session.
+    /// Answers one line. A failure of the device ends the session. A checkpoint has no rounds before its freeze, however
+    /// many are asked for, and lines on workers are refused as idle: a program takes no script that has them.
     pub fn answer<D: Disk>(
         &mut self,
         alloc: Global,
@@ -89,16 +90,16 @@ impl Session {
             → OnOk result (IsReady (D.contents disk.new) (self.new.greatest + 1)) }
 
         // It is refused where the numbers are used up, and where fewer than two slots are free.
-        ensures numbers_used { line.now ≡ Line.Checkpoint
+        ensures numbers_used { (rounds : ℕ) → line.now ≡ Line.Checkpoint rounds
             → (result ≡ Ok (Answer.Reply (Reply.Refused Refusal.NumbersUsed)))
             ↔ (2 ^ 63 ≤ self.old.greatest) }
-        ensures no_slot { D.is_honest disk.new → line.now ≡ Line.Checkpoint
+        ensures no_slot { D.is_honest disk.new → (rounds : ℕ) → line.now ≡ Line.Checkpoint rounds
             → result ≡ Ok (Answer.Reply (Reply.Refused Refusal.NoSlot))
             → length (raw_slots (D.contents disk.old)) < 2 }
 
         // No other line touches the disk or the numbers.
-        ensures quiet { line.now ≢ Line.Checkpoint → D.contents disk.new ≡ D.contents disk.old }
-        ensures numbers { line.now ≢ Line.Checkpoint → self.new.greatest ≡ self.old.greatest }
+        ensures quiet { ((rounds : ℕ) → line.now ≢ Line.Checkpoint rounds) → D.contents disk.new ≡ D.contents disk.old }
+        ensures numbers { ((rounds : ℕ) → line.now ≢ Line.Checkpoint rounds) → self.new.greatest ≡ self.old.greatest }
         ensures failed { OnErr result (result ≡ Err Fault.Device) }
         ensures device { IsErr result → D.failed disk.old < D.failed disk.new }
         ensures honest { D.is_honest disk.new → D.is_honest disk.old }
@@ -110,7 +111,14 @@ impl Session {
                 address,
                 count,
             } => Ok(page_words::answer(alloc, &self.memory, *space, *address, *count)),
-            Line::Checkpoint => Ok(Answer::Reply(self.checkpoint(alloc, disk)?)),
+            Line::Checkpoint(_) => Ok(Answer::Reply(self.checkpoint(alloc, disk)?)),
+            Line::Begin(_)
+            | Line::Cancel
+            | Line::Work(_)
+            | Line::Perform(_)
+            | Line::Step { .. }
+            | Line::Finish(_)
+            | Line::Reopen => Ok(Answer::Reply(Reply::Refused(Refusal::Idle))),
         }
     }
 

@@ -1,0 +1,2 @@
+mod GoesLemmas
+mod DriveLemmas

@@ -1,0 +1,5 @@
+pub mod Ending
+pub mod Goes
+pub mod Jobs
+pub mod Lines
+pub mod Whole
