@@ -59,10 +59,7 @@ fn is_within_reach(line: &Line) -> bool {
 
 /// The number, counted from 1, of the first line of a parsed script that a run can't answer yet.
 pub fn line_beyond(script: &Script, bytes: &[u8]) -> Option<usize> {
-    let mut left = script
-        .lines
-        .iter()
-        .position(|line| !is_within_reach(line))?;
+    let mut left = script.lines.iter().position(|line| !is_within_reach(line))?;
     for (index, line) in bytes.split(|byte| *byte == b'\n').enumerate() {
         if line.is_empty() || line.starts_with(b"#") {
             continue;

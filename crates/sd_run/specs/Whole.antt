@@ -1,5 +1,5 @@
 -- A whole run of a script, from the disk that it began with to the one that it left.
-use Rattle.std.specs.Prelude.{◌≡◌, ℕ, List, [], ◌∷◌, ◌++◌, Option}
+use Rattle.std.specs.Prelude.{◌≡◌, ℕ, List, [], ◌++◌, Option}
 use Rattle.std.specs.List.{flat_map}
 use Rattle.std.specs.Io.KnownBytes.{Appends}
 use Rattle.sd_disk.specs.Crash.{Within}
@@ -14,7 +14,7 @@ use Rattle.sd_script.specs.declared.line.Line.{Line}
 use Rattle.sd_script.specs.Texts.{answer_line}
 use Rattle.sd_world.specs.View.{WorldView}
 use Rattle.sd_run.specs.Goes.{GoesOn}
-use Rattle.sd_run.specs.Lines.{AnswersLine, AnswersLines}
+use Rattle.sd_run.specs.Lines.{AnswersLines}
 
 -- ---- from one state of a world to another
 

@@ -31,11 +31,11 @@ fn next_event<D: Disk>(world: &World<D>, worker: Worker) -> Event
 }
 
 /// Makes one event.
-pub(crate) fn make<D: Disk>(world: &mut World<D>, event: &Event) -> Reply
-    ensures step { IsStep D.Disk event.now world.old result world.new }
+pub(crate) fn make<D: Disk>(world: &mut World<D>, event: Event) -> Reply
+    ensures step { IsStep D.Disk event world.old result world.new }
     ensures goes_on { GoesOn D.Disk world.old world.new }
 {
-    world.step(event)
+    world.step(&event)
 }
 
 /// Makes so many next events of a worker, or fewer where one of them ends its job or is refused. Returns the last reply.
@@ -45,13 +45,13 @@ pub(crate) fn drive<D: Disk>(world: &mut World<D>, worker: Worker, count: u64) -
     ensures goes_on { GoesOn D.Disk world.old world.new }
 {
     let first = next_event(world, worker);
-    let mut answer = make(world, &first);
+    let mut answer = make(world, first);
     for _ in 1..count {
         if is_end(&answer) {
             return answer;
         }
         let next = next_event(world, worker);
-        answer = make(world, &next);
+        answer = make(world, next);
     }
     answer
 }
@@ -65,8 +65,8 @@ pub(crate) fn finish<D: Disk>(world: &mut World<D>, worker: Worker) -> Reply
 }
 
 /// Begins a job by an order, and has its worker finish it. A refused beginning is the answer.
-pub(crate) fn do_job<D: Disk>(world: &mut World<D>, order: &Event, worker: Worker) -> Reply
-    ensures job { IsJob D.Disk order.now worker world.old result world.new }
+pub(crate) fn do_job<D: Disk>(world: &mut World<D>, order: Event, worker: Worker) -> Reply
+    ensures job { IsJob D.Disk order worker world.old result world.new }
     ensures goes_on { GoesOn D.Disk world.old world.new }
 {
     let begun = make(world, order);

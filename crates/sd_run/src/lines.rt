@@ -29,19 +29,19 @@ fn answer<D: Disk>(world: &mut World<D>, line: Line) -> Answer
     let reply = match line {
         Line::Command(command) => make(
             world,
-            &Event::Command {
+            Event::Command {
                 seat: SCRIPT_SEAT,
                 command,
             },
         ),
-        Line::Begin(rounds) => make(world, &Event::Begin(rounds)),
-        Line::Cancel => make(world, &Event::Cancel),
-        Line::Work(worker) => make(world, &Event::Work(worker)),
-        Line::Perform(worker) => make(world, &Event::Perform(worker)),
+        Line::Begin(rounds) => make(world, Event::Begin(rounds)),
+        Line::Cancel => make(world, Event::Cancel),
+        Line::Work(worker) => make(world, Event::Work(worker)),
+        Line::Perform(worker) => make(world, Event::Perform(worker)),
         Line::Step { worker, count } => drive(world, worker, count.max(1)),
         Line::Finish(worker) => finish(world, worker),
-        Line::Checkpoint(rounds) => do_job(world, &Event::Begin(rounds), Worker::Dumper),
-        Line::Reopen => do_job(world, &Event::Reopen, Worker::Opener),
+        Line::Checkpoint(rounds) => do_job(world, Event::Begin(rounds), Worker::Dumper),
+        Line::Reopen => do_job(world, Event::Reopen, Worker::Opener),
         Line::Words { .. } => refuse_words(world),
     };
     Answer::Reply(reply)
@@ -62,11 +62,7 @@ fn refuse_words<D: Disk>(world: &World<D>) -> Reply
 /// # Errors
 ///
 /// Those of the writer. The line was answered.
-fn print_line<D: Disk, W: Write>(
-    world: &mut World<D>,
-    line: Line,
-    out: &mut W,
-) -> io::Result<()>
+fn print_line<D: Disk, W: Write>(world: &mut World<D>, line: Line, out: &mut W) -> io::Result<()>
     ensures printed { (given : Answer) × AnswersLine D.Disk line world.old given world.new
         × OnOk result (Appends (W.contents out.old) (W.contents out.new) (answer_line given)) }
     ensures goes_on { GoesOn D.Disk world.old world.new }

@@ -1,5 +1,5 @@
 //! Whole runs of a script, from one disk to another.
-ghost use Rattle.std.specs.Prelude.{◌≡◌, ◌≢◌, ◌∷◌, IsSome, OnOk};
+ghost use Rattle.std.specs.Prelude.{◌≡◌, ◌≢◌, ◌∷◌, IsOk, IsSome, OnOk};
 ghost use Rattle.sd_script.specs.Script.{first_unfit_line, requests_of};
 ghost use Rattle.sd_script.specs.declared.line.Line.TheVariants as asked;
 ghost use Rattle.sd_world.specs.Opens.{IsFaultOf};
@@ -11,6 +11,7 @@ use sd_disk::Disk;
 use sd_script::Script;
 use sd_world::{OpenError, OpenFault, World};
 use std::alloc::Global;
+use std::io;
 use std::io::Write;
 
 /// How many frames a run's memory has.
@@ -60,10 +61,21 @@ pub fn run_lines<D: Disk, W: Write>(
 {
     match World::open(alloc, disk, FRAMES) {
         Ok(mut world) => {
-            let ended = answer_all(&mut world, script.lines, out);
+            let ended = told(answer_all(&mut world, script.lines, out));
             world.sound();
-            (world.close(), ended.map_err(Stop::from))
+            (world.close(), ended)
         }
         Err(OpenError { fault, disk }) => (disk, Err(Stop::Store(fault))),
+    }
+}
+
+/// How answering the lines stopped a run, if it did.
+fn told(ended: io::Result<()>) -> Result<(), Stop>
+    ensures ok { OnOk result (IsOk ended) }
+    ensures writer { (fault : OpenFault) → result ≢ Err (Stop.Store fault) }
+{
+    match ended {
+        Ok(()) => Ok(()),
+        Err(error) => Err(Stop::Writer(error)),
     }
 }

@@ -46,7 +46,7 @@ impl Stop {
 /// Prints why a run ended early, if it did, and returns its exit status: 0 at its end, 2 for a script that doesn't fit the
 /// language, and else 1.
 pub(crate) fn status<W: Write>(ended: Result<(), Stop>, out: &mut W) -> u8
-    ensures { Ends ended result }
+    ensures status { Ends ended result }
     ensures whole { OnOk ended (W.contents out.new ≡ W.contents out.old) }
 {
     match ended {
@@ -69,16 +69,5 @@ impl From<ScriptError> for Stop {
             ScriptError::Line(number) => Stop::ScriptLine(number),
             ScriptError::OutOfMemory => Stop::OutOfMemory,
         }
-    }
-}
-
-impl From<io::Error> for Stop {
-    ghost use Rattle.std.specs.Prelude.{◌≡◌};
-    ghost use Rattle.sd_run.specs.declared.stop.Stop.TheVariants as stop;
-
-    ghost from_gives = { λ error stopped. stopped ≡ stop.Writer error };
-
-    fn from(error: io::Error) -> Stop {
-        Stop::Writer(error)
     }
 }
