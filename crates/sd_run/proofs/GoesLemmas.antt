@@ -1,5 +1,5 @@
 -- How a run goes on, step by step.
-use Rattle.std.proofs.Common.{◌≡◌, [], ◌∷◌, ◌++◌, refl, sym, ◌∙◌, ap, subst, inl, inr}
+use Rattle.std.proofs.Common.{◌≡◌, List, [], ◌∷◌, ◌++◌, refl, sym, ◌∙◌, ap, subst, inl, inr}
 use Rattle.std.proofs.lemmas.List.{append_assoc}
 use Rattle.sd_command.specs.declared.reply.Reply.{Reply}
 use Rattle.sd_command.specs.declared.reply.Reply.TheVariants as reply
@@ -16,7 +16,7 @@ use Rattle.sd_belief.specs.View.{CoreView, history_of}
 use Rattle.sd_world.specs.declared.event.Event.{Event}
 use Rattle.sd_world.specs.declared.event.Event.TheVariants.{Command, Begin, Work, Perform, Merge, Cancel, Reopen}
 use Rattle.sd_world.specs.Adds.{Adds, AddsByPerform, AddsByWork}
-use Rattle.sd_world.specs.Runs.{ShowsAllowedBetween}
+use Rattle.sd_world.specs.Runs.{IsStep, Runs, ShowsAllowedBetween}
 use Rattle.sd_world.specs.View.{WorldView}
 use Rattle.sd_run.specs.Goes.{GoesOn, HasGrown}
 
@@ -129,6 +129,9 @@ module _ {D : Type 0} (g : Ghosts D) where
   pub goes_nowhere : (world : WorldView D) → Within (g.left_since world.disk (g.moment world.disk)) (g.may_leave world.disk)
       → (g.is_honest world.disk → Within (g.may_leave world.disk) (ShowsAllowed world.core.base (history_of world.core))) → GoesOn g world world
   goes_nowhere world only_now allowed = record {
+    events = [];
+    replies = [];
+    runs = refl;
     base = refl;
     grows = grown_same (history_of world.core) (history_of world.core) refl;
     honest = λ honest. honest;
@@ -139,12 +142,15 @@ module _ {D : Type 0} (g : Ghosts D) where
   }
 
   -- by one event
-  pub goes_by_event : (event : Event) (answer : Reply) (old new : WorldView D) → Adds event answer old.core new.core → new.core.base ≡ old.core.base
+  pub goes_by_event : (event : Event) (answer : Reply) (old new : WorldView D) → IsStep g event old answer new → new.core.base ≡ old.core.base
       → (g.is_honest new.disk → g.is_honest old.disk)
       → (g.is_honest new.disk → LeavesOnly g old.disk new.disk (ShowsAllowed old.core.base (history_of old.core))) → GoesOn g old new
-  goes_by_event event answer old new adds base honest any_moment =
-      let grows = adds_grow event answer old.core new.core adds in
+  goes_by_event event answer old new step base honest any_moment =
+      let grows = adds_grow event answer old.core new.core step.adds in
       record {
+        events = event ∷ [];
+        replies = answer ∷ [];
+        runs = (new, step, refl);
         base = base;
         grows = grows;
         honest = honest;
@@ -152,6 +158,14 @@ module _ {D : Type 0} (g : Ghosts D) where
             (ShowsAllowedBetween old.core.base (history_of old.core) (history_of new.core))
             (shown_at_first old.core.base (history_of old.core) (history_of new.core) grows) (any_moment is_honest);
       }
+
+  runs_join : (first mid last : WorldView D) (events others : List Event) (replies more : List Reply) → Runs g first events replies mid
+      → Runs g mid others more last → Runs g first (events ++ others) (replies ++ more) last
+  runs_join first mid last [] others [] more runs further = subst (λ world. Runs g world others more last) runs further
+  runs_join first mid last [] others (r ∷ rs) more runs further = absurd runs
+  runs_join first mid last (e ∷ es) others [] more runs further = absurd runs
+  runs_join first mid last (e ∷ es) others (r ∷ rs) more runs further =
+      (runs.0, runs.1, runs_join runs.0 mid last es others rs more runs.2 further)
 
   -- one part behind the other
   pub goes_further : (old mid new : WorldView D) → GoesOn g old mid → GoesOn g mid new → GoesOn g old new
@@ -161,6 +175,9 @@ module _ {D : Type 0} (g : Ghosts D) where
       let to = history_of new.core in
       let whole = ShowsAllowedBetween old.core.base from to in
       record {
+        events = first.events ++ second.events;
+        replies = first.replies ++ second.replies;
+        runs = runs_join old mid new first.events second.events first.replies second.replies first.runs second.runs;
         base = second.base ∙ first.base;
         grows = grown_more from at to first.grows second.grows;
         honest = λ honest. first.honest (second.honest honest);

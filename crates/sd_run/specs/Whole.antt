@@ -6,6 +6,7 @@ use Rattle.sd_disk.specs.Crash.{Within}
 use Rattle.sd_disk.specs.Reads.{OnlyReads}
 use Rattle.sd_disk.specs.declared.disk.Disk.{Ghosts}
 use Rattle.sd_image.specs.Shows.{Shows}
+use Rattle.sd_journal.specs.Marked.{IsTracked}
 use Rattle.sd_belief.specs.Shown.{ShowsAllowed}
 use Rattle.sd_belief.specs.View.{history_of}
 use Rattle.sd_core.specs.Starts.{shown_base}
@@ -44,13 +45,14 @@ pub record IsOpened {D : Type 0} (g : Ghosts D) (old : D) (opened : WorldView D)
       → Within (g.may_leave opened.disk) (λ c. Shows c (shown_base opened.core.base.number opened.core.base.memory))
 
 -- A run from the disk that was opened to the one that is left. Whatever moment of it a crash comes, it leaves what the journal of that moment
--- allows; at its end so does every outcome of a crash, and so do the contents.
+-- allows; at its end so does every outcome of a crash, and so do the contents. The memory at its end is the one that the journal makes.
 pub record IsRun {D : Type 0} (g : Ghosts D) (old : D) (opened last : WorldView D) (new : D) : Type 0 where
   pub opening : IsOpened g old opened
   pub goes_on : GoesOn g opened last
   pub disk : new ≡ last.disk
   pub at_end : g.is_honest last.disk → Within (g.may_leave last.disk) (ShowsAllowed last.core.base (history_of last.core))
   pub contents : g.is_honest last.disk → ShowsAllowed last.core.base (history_of last.core) (g.contents last.disk)
+  pub tracked : IsTracked last.core.base last.core.items last.core.memory
 
 -- all of these lines were answered, and their answers printed
 pub record IsWholeRun {D : Type 0} (g : Ghosts D) (lines : List Line) (old new : D) (before now : Option (List ℕ)) : Type 0 where

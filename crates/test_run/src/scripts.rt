@@ -19,7 +19,7 @@ fn unfit_line(rt: &HostRuntime, script: &[u8]) -> Result<Option<usize>, Fail> {
 }
 
 /// Lines, and the requests that they ask for.
-const LINES: [(&str, &str); 11] = [
+const LINES: [(&str, &str); 18] = [
     (
         "# a page\n\nmmap 1 0x10000 4096 rx\n",
         "[Command(Mmap { space: SpaceId { number: 1 }, address: 65536, length: 4096, prot: Prot { read: true, write: false, execute: true } })]",
@@ -57,7 +57,20 @@ const LINES: [(&str, &str); 11] = [
         "words 1 0x10000 600",
         "[Words { space: SpaceId { number: 1 }, address: 65536, count: 600 }]",
     ),
-    ("checkpoint 0", "[Checkpoint]"),
+    ("checkpoint 0", "[Checkpoint(0)]"),
+    ("begin 0x9\ncheckpoint 8", "[Begin(9), Checkpoint(8)]"),
+    ("cancel\nreopen", "[Cancel, Reopen]"),
+    ("work dumper", "[Work(Dumper)]"),
+    ("perform merger", "[Perform(Merger)]"),
+    (
+        "step opener 1",
+        "[Step { worker: Opener, count: 1 }]",
+    ),
+    (
+        "step dumper 0x10",
+        "[Step { worker: Dumper, count: 16 }]",
+    ),
+    ("finish merger", "[Finish(Merger)]"),
 ];
 
 #[test]
@@ -90,7 +103,8 @@ fn a_line_that_does_not_fit_is_blamed(rt: HostRuntime) -> Result<(), Fail> {
         ("store 1 2 0x", 1),
         ("mmap 1 2 3 wr", 1),
         ("mmap 1 2 3 ", 1),
-        ("checkpoint 1", 1),
+        ("checkpoint one", 1),
+        ("checkpoint", 1),
         ("unmap 1 2 3", 1),
         ("munmap 1 2", 1),
         ("mprotect 1 2 3", 1),
@@ -101,7 +115,19 @@ fn a_line_that_does_not_fit_is_blamed(rt: HostRuntime) -> Result<(), Fail> {
         ("try 1 2 3", 1),
         ("words 1 2 0", 1),
         ("words 1 2", 1),
-        ("begin 1", 1),
+        ("begin", 1),
+        ("begin 1 2", 1),
+        ("cancel 1", 1),
+        ("reopen ", 1),
+        ("work", 1),
+        ("work writer", 1),
+        ("perform dumper 1", 1),
+        ("step dumper 0", 1),
+        ("step dumper", 1),
+        ("step 3 dumper", 1),
+        ("finish Opener", 1),
+        ("merge", 1),
+        ("begin-merge", 1),
         ("Load 1 2 3", 1),
         ("checkpoint 0\n \ncheckpoint 1", 2),
         (" # no comment", 1),

@@ -7,3 +7,9 @@ mod commands;
 mod opening;
 #[cfg(test)]
 mod run;
+#[cfg(test)]
+mod checkpoints;
+#[cfg(test)]
+mod crashes;
+#[cfg(test)]
+mod words;

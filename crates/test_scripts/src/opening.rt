@@ -1,15 +1,16 @@
 //! Stores that a run opens, and opens again.
-use crate::run::{answers, empty, fresh, ran};
-use sd_disk::{Disk, DirDisk, Folder, Fused, MemDisk};
+use crate::run::{answers, empty, folder, fresh, path, ran};
+use sd_disk::{Disk, Fused, MemDisk};
 use sd_run::run_script;
 use std::alloc::Global;
 use std::process::Abort;
 use std::test::Fail;
-use std::{fs, io, process};
+use std::{fs, io};
 
 /// The header, the table, and the first bytes of the page of checkpoint 1: page 0x10 of space 1 begins with `hello`.
 const HEADER: &str =
     "a55344434841494e0100020000000000010000000000000001000000000000000000000000000000010000000000000001000000000000004800000000000000";
+
 const TABLE: &str =
     "010000000000000001000000010000000100000000000000100000000000000001000000000000000300000000000000100000000000000001000000000000000100000000000000";
 
@@ -20,13 +21,19 @@ fn with_first(rt: &(impl Abort + AllocGlobal)) -> Result<MemDisk, Fail> {
     let header = hex::decode(alloc, HEADER)?;
     let table = hex::decode(alloc, TABLE)?;
     let mut file = vec![in alloc; 0; 8192]?;
-    assert!(rt; header.len() == 64 && 0 < disk.slots());
+    assert!(rt; header.len() == 64);
     file[..64].copy_from_slice(&header);
     file[4096..4101].copy_from_slice(b"hello");
     file.extend_from_slice(&table)?;
-    assert!(rt; file.len() == 8264);
-    disk.write_at(0, 0, &file)?;
+    put(rt, &mut disk, &file)?;
     Ok(disk)
+}
+
+/// Writes these bytes at the start of slot 0.
+fn put<D: Disk>(rt: &impl Abort, disk: &mut D, bytes: &[u8]) -> Result<(), Fail> {
+    assert!(rt; 0 < disk.slots() && !bytes.is_empty());
+    disk.write_at(0, 0, bytes)?;
+    Ok(())
 }
 
 #[test]
@@ -39,7 +46,12 @@ fn an_empty_script_opens_the_store(rt: HostRuntime) -> Result<(), Fail> {
 #[test]
 fn second_run(rt: HostRuntime) -> Result<(), Fail> {
     let disk = with_first(&rt)?;
-    answers(&rt, disk, "reopened 1", "load 1 0x10000 5 => bytes 68656c6c6f")?;
+    answers(
+        &rt,
+        disk,
+        "reopened 1",
+        "load 1 0x10000 5 => bytes 68656c6c6f",
+    )?;
     Ok(())
 }
 
@@ -102,8 +114,7 @@ fn a_damaged_store_prints_its_fault_alone(rt: HostRuntime) -> Result<(), Fail> {
 #[test]
 fn one_byte_is_closed(rt: HostRuntime) -> Result<(), Fail> {
     let mut disk = empty(rt.alloc())?;
-    assert!(rt; 0 < disk.slots());
-    disk.write_at(0, 0, &[0xA5])?;
+    put(&rt, &mut disk, &[0xA5])?;
     answers(&rt, disk, "reopened none", "")?;
     Ok(())
 }
@@ -120,7 +131,10 @@ fn a_device_that_fails_at_the_opening_is_told(rt: HostRuntime) -> Result<(), Fai
 /// Faults of the language, each on the line that is named.
 const FAULTS: [(&str, &str); 14] = [
     ("mmap 1 0x10000 4096", "script line 1\n"),
-    ("\n# a comment\nmmap 1 0x10000 4096 rw x\n", "script line 3\n"),
+    (
+        "\n# a comment\nmmap 1 0x10000 4096 rw x\n",
+        "script line 3\n",
+    ),
     ("cancel\nstore 1 0x10000 6\n", "script line 2\n"),
     ("cancel\ncancel now\n", "script line 2\n"),
     ("begin\n", "script line 1\n"),
@@ -186,21 +200,18 @@ fn a_writer_that_fails_ends_the_run(rt: HostRuntime) -> Result<(), Fail> {
     Ok(())
 }
 
-/// A path in the system's folder for temporary files that no other process uses.
-fn path(rt: &HostRuntime, name: &str) -> Result<String, Fail> {
-    let id = process::id(rt.process());
-    let path = format!(in rt.alloc(); "/tmp/test-scripts-{id}-{name}")?;
-    let _ = fs::remove_dir_all(rt, path.as_str());
-    Ok(path)
-}
-
 #[test]
 fn a_folder_is_opened(rt: HostRuntime) -> Result<(), Fail> {
     let path = path(&rt, "opened")?;
-    let disk = DirDisk::new(Folder::open(&rt, path.as_str(), true)?);
+    let disk = folder(&rt, path.as_str())?;
     let mut disk = answers(&rt, disk, "reopened none", IDLE)?;
     copy(&rt, rt.alloc(), &mut disk)?;
-    answers(&rt, disk, "reopened 1", "load 1 0x10000 5 => bytes 68656c6c6f")?;
+    answers(
+        &rt,
+        disk,
+        "reopened 1",
+        "load 1 0x10000 5 => bytes 68656c6c6f",
+    )?;
     fs::remove_dir_all(&rt, path.as_str())?;
     Ok(())
 }
@@ -208,10 +219,9 @@ fn a_folder_is_opened(rt: HostRuntime) -> Result<(), Fail> {
 /// Copies checkpoint 1 into slot 0.
 fn copy<D: Disk>(rt: &(impl Abort + AllocGlobal), alloc: Global, disk: &mut D) -> Result<(), Fail> {
     let mut first = with_first(rt)?;
-    assert!(rt; 0 < first.slots() && 0 < disk.slots());
+    assert!(rt; 0 < first.slots());
     assert_eq!(rt; first.len(0)?, 8264);
     let mut file = vec![in alloc; 0; 8264]?;
     first.read(0, 0, &mut file)?;
-    disk.write_at(0, 0, &file)?;
-    Ok(())
+    put(rt, disk, &file)
 }

@@ -1,14 +1,16 @@
 //! Runs of scripts, and what they leave.
 use sd_areas::{PAGE_BYTES, PAGE_SIZE, PageNo, SnapshotPage, areas_in};
 use sd_chain::OpenImage;
-use sd_disk::{Disk, MemDisk};
+use sd_disk::{DirDisk, Disk, Folder, MemDisk, OpenError};
 use sd_image::Kind;
 use sd_procfs::areas_text;
 use sd_restore::{Fault, restore, scan};
 use sd_run::run_script;
 use std::alloc::{AllocError, Global};
 use std::fmt::Write;
-use std::process::Abort;
+use std::fs;
+use std::process::{self, Abort};
+use std::str;
 use std::test::Fail;
 
 /// A page mapped in space 1, for the rows that begin with one.
@@ -17,6 +19,19 @@ pub(crate) const PAGE: &str = "mmap 1 0x10000 4096 rw => done\n";
 /// An empty disk.
 pub(crate) fn empty(alloc: Global) -> Result<MemDisk, Fail> {
     Ok(MemDisk::new(alloc, 8, 40_000, 4_000)?)
+}
+
+/// A path in the system's folder for temporary files that no other process uses.
+pub(crate) fn path(rt: &HostRuntime, name: &str) -> Result<String, Fail> {
+    let id = process::id(rt.process());
+    let path = format!(in rt.alloc(); "/tmp/test_scripts-{id}-{name}")?;
+    let _ = fs::remove_dir_all(rt, path.as_str());
+    Ok(path)
+}
+
+/// A disk over a folder, which is made where it is missing.
+pub(crate) fn folder(rt: &HostRuntime, path: &str) -> Result<DirDisk, OpenError> {
+    Ok(DirDisk::new(Folder::open(rt, path, true)?))
 }
 
 /// What a run printed, and its exit status.
@@ -45,7 +60,8 @@ pub(crate) fn answers<D: Disk + Drop>(
         wanted.push_str("\n")?;
     }
     let (disk, out, status) = ran(alloc, disk, script.as_str());
-    assert_eq!(rt; out.as_slice(), wanted.as_bytes(), "{rows}");
+    let text = str::from_utf8(&out).ok().ok_or("a text")?;
+    assert_eq!(rt; text, wanted.as_str());
     assert_eq!(rt; status, 0);
     Ok(disk)
 }
