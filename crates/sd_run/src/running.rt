@@ -1,8 +1,10 @@
 //! Whole runs of a script, from one disk to another.
-ghost use Rattle.std.specs.Prelude.{◌≡◌, ◌≢◌, ◌∷◌, IsOk, IsSome, OnOk};
+ghost use Rattle.std.specs.Prelude.{◌≡◌, ◌≢◌, ◌∷◌, ℕ, Some, IsOk, IsSome, OnOk};
+ghost use Rattle.std.specs.Io.KnownBytes.{Appends};
 ghost use Rattle.sd_script.specs.Script.{first_unfit_line, requests_of};
 ghost use Rattle.sd_script.specs.declared.line.Line.TheVariants as asked;
 ghost use Rattle.sd_world.specs.Opens.{IsFaultOf};
+ghost use Rattle.sd_run.specs.Ending.{fault_line};
 ghost use Rattle.sd_run.specs.Whole.{IsLeft, IsWholeRun};
 
 use crate::lines::answer_all;
@@ -24,6 +26,9 @@ pub fn run_script<D: Disk, W: Write>(alloc: Global, disk: D, script: &[u8], out:
     // A script with a line that doesn't fit never ends with status 0, and leaves the disk as it is.
     ensures unfit { IsSome (first_unfit_line script.now) → result.0 ≡ disk }
     ensures refused { IsSome (first_unfit_line script.now) → result.1 ≢ 0 }
+    // With status 2 the first such line is blamed, and nothing else printed.
+    ensures blamed { (number : ℕ) → first_unfit_line script.now ≡ Some number → result.1 ≡ 2
+        → Appends (W.contents out.old) (W.contents out.new) (fault_line number) }
 
     // Status 0: the store was opened again, and the lines were answered, in order, each by its own events, and what was
     // printed is their answers. Whatever moment of it a crash comes, the journal of that moment allows what it leaves.

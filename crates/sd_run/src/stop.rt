@@ -1,6 +1,6 @@
 //! How a run ends before its last line.
 ghost use Rattle.std.specs.Prelude.{◌≡◌, OnOk};
-ghost use Rattle.sd_run.specs.Ending.{Ends, status_of};
+ghost use Rattle.sd_run.specs.Ending.{Blames, Ends, status_of};
 
 use sd_script::ScriptError;
 use sd_world::OpenFault;
@@ -21,6 +21,10 @@ pub enum Stop {
 }
 
 impl fmt::Display for Stop {
+    ghost use Rattle.sd_run.specs.Ending.{stop_text};
+
+    ghost output = { stop_text };
+
     fn fmt<W: fmt::Write>(&self, f: &mut fmt::Formatter<W>) -> fmt::Result {
         match self {
             Stop::ScriptLine(number) => write!(f, "script line {number}"),
@@ -48,6 +52,7 @@ impl Stop {
 pub(crate) fn status<W: Write>(ended: Result<(), Stop>, out: &mut W) -> u8
     ensures status { Ends ended result }
     ensures whole { OnOk ended (W.contents out.new ≡ W.contents out.old) }
+    ensures blames { Blames ended result (W.contents out.old) (W.contents out.new) }
 {
     match ended {
         Ok(()) => 0,

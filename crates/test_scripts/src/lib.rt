@@ -7,9 +7,3 @@ mod commands;
 mod opening;
 #[cfg(test)]
 mod run;
-#[cfg(test)]
-mod checkpoints;
-#[cfg(test)]
-mod crashes;
-#[cfg(test)]
-mod words;

@@ -8,10 +8,9 @@ use sd_restore::{Fault, restore, scan};
 use sd_run::run_script;
 use std::alloc::{AllocError, Global};
 use std::fmt::Write;
-use std::fs;
 use std::process::{self, Abort};
-use std::str;
 use std::test::Fail;
+use std::{fs, str};
 
 /// A page mapped in space 1, for the rows that begin with one.
 pub(crate) const PAGE: &str = "mmap 1 0x10000 4096 rw => done\n";
