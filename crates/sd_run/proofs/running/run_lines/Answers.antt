@@ -49,7 +49,7 @@ returns-in-Ok-clause-left g c = IsLeft.run (record {
     disk = c.close.ensures;
     at_end = c.sound.ensures.allowed;
     contents = c.sound.ensures.contents;
-        tracked = c.sound.ensures.tracked;
+    tracked = c.sound.ensures.tracked;
   };
   answers = c.answer_all.ensures.answered;
 })
