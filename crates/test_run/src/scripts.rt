@@ -62,14 +62,8 @@ const LINES: [(&str, &str); 18] = [
     ("cancel\nreopen", "[Cancel, Reopen]"),
     ("work dumper", "[Work(Dumper)]"),
     ("perform merger", "[Perform(Merger)]"),
-    (
-        "step opener 1",
-        "[Step { worker: Opener, count: 1 }]",
-    ),
-    (
-        "step dumper 0x10",
-        "[Step { worker: Dumper, count: 16 }]",
-    ),
+    ("step opener 1", "[Step { worker: Opener, count: 1 }]"),
+    ("step dumper 0x10", "[Step { worker: Dumper, count: 16 }]"),
     ("finish merger", "[Finish(Merger)]"),
 ];
 
