@@ -43,16 +43,16 @@ full_device_is_told() { on_small fill_up; }
 fill_up() {  # fill_up DIR
   make_store "$1/store" || return 1
   head -c 4m /dev/zero > "$1/filled" 2>/dev/null
-  same "the status" "$(ends "$ckpt" run "$1/store" script)" 1 || return 1
-  same "the last line" "$(tail -n 1 out)" "device" || return 1
+  same "the status" "$(ends "$ckpt" run "$1/store" script)" 0 || return 1
+  same "the last line" "$(tail -n 1 out)" "refused 22 device" || return 1
   has "its cause" "$(cat err)" "img-001: No space left on device (os error 28)" || return 1
   same "verify" "$("$ckpt" verify "$1/store")" "ok checkpoint 1 images 1"
 }
 
 long_file_is_told() {
   make_store store || return 1
-  same "the status" "$( (ulimit -f 4; ends "$ckpt" run store script) )" 1 || return 1
-  same "the last line" "$(tail -n 1 out)" "device" || return 1
+  same "the status" "$( (ulimit -f 4; ends "$ckpt" run store script) )" 0 || return 1
+  same "the last line" "$(tail -n 1 out)" "refused 22 device" || return 1
   has "its cause" "$(cat err)" "img-001: File too large (os error 27)" || return 1
   same "verify" "$("$ckpt" verify store)" "ok checkpoint 1 images 1"
 }

@@ -33,6 +33,23 @@ help_has_examples_and_statuses() {
   has "the limits" "$("$ckpt" --help)" "65,536 mapped pages"
 }
 
+help_of_run_has_the_language() {
+  local word
+  "$ckpt" run --help > out || return 1
+  for word in mmap munmap mprotect fork exit store try fault load words checkpoint begin cancel reopen work perform step finish; do
+    has "the line of $word" "$(grep -E "^  (.*, )?$word( |,|$)" out)" "$word" || return 1
+  done
+}
+
+quiet_tells_no_cause() {
+  printf 'mmap 1 0x10000 4096 wr\n' > script
+  same "the status" "$(ends "$ckpt" run --quiet store script)" 2 || return 1
+  same "the line" "$(cat out)" "script line 1" || return 1
+  same "its cause" "$(cat err)" "" || return 1
+  same "the status of a missing script" "$(ends "$ckpt" run --quiet store missing)" 1 || return 1
+  same "its cause" "$(cat err)" ""
+}
+
 version_is_printed() {
   has "the version" "$("$ckpt" --version)" "ckpt 0."
 }
@@ -61,6 +78,8 @@ try help_into_a_full_device
 try answers_into_a_full_device
 try folder_that_is_no_text
 try help_has_examples_and_statuses
+try help_of_run_has_the_language
+try quiet_tells_no_cause
 try version_is_printed
 try unfit_line_is_explained
 try missing_script_is_told

@@ -15,6 +15,7 @@ cause_is_seen (stop.Fault EmptyChain) e = absurd (let f : 3 ≡ 0 = e in omega (
 cause_is_seen (stop.Fault (Damaged slot reason)) e = absurd (let f : 1 ≡ 0 = e in omega (arith, f))
 cause_is_seen (stop.Fault Device) e = absurd (let f : 1 ≡ 0 = e in omega (arith, f))
 cause_is_seen (stop.Fault OutOfMemory) e = absurd (let f : 1 ≡ 0 = e in omega (arith, f))
+cause_is_seen (stop.Store fault) e = absurd (let f : 1 ≡ 0 = e in omega (arith, f))
 cause_is_seen (stop.ScriptLine number) e = absurd (let f : 2 ≡ 0 = e in omega (arith, f))
 cause_is_seen stop.CannotReadScript e = absurd (let f : 1 ≡ 0 = e in omega (arith, f))
 cause_is_seen stop.CannotOpenFolder e = absurd (let f : 1 ≡ 0 = e in omega (arith, f))

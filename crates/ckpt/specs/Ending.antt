@@ -4,6 +4,8 @@ use Rattle.sd_areas.specs.PlainMemory.{PlainMemory}
 use Rattle.sd_image.specs.Image.{Image}
 use Rattle.sd_image.specs.Shows.{IsStore, Shows}
 use Rattle.sd_restore.specs.declared.fault.Fault.TheVariants.{EmptyChain, Damaged, Device, OutOfMemory}
+use Rattle.sd_run.specs.declared.stop.Stop.{Stop as RunStop}
+use Rattle.sd_run.specs.declared.stop.Stop.TheVariants as run
 use Rattle.sd_script.specs.declared.script_error.ScriptError.{ScriptError}
 use Rattle.sd_script.specs.declared.script_error.ScriptError.TheVariants as error
 use Rattle.ckpt.specs.declared.stop.Stop.{Stop}
@@ -15,6 +17,7 @@ status_of (stop.Fault EmptyChain) = 3
 status_of (stop.Fault (Damaged _ _)) = 1
 status_of (stop.Fault Device) = 1
 status_of (stop.Fault OutOfMemory) = 1
+status_of (stop.Store _) = 1
 status_of (stop.ScriptLine _) = 2
 status_of stop.CannotReadScript = 1
 status_of stop.CannotOpenFolder = 1
@@ -34,6 +37,13 @@ EndsWithOne result = IfErr result (λ why. status_of why ≡ 1)
 abbrev pub StopsFor : ScriptError → Stop → Type 0
 StopsFor (error.Line number) stopped = stopped ≡ stop.ScriptLine number
 StopsFor error.OutOfMemory stopped = stopped ≡ stop.Fault OutOfMemory
+
+-- how a run that ends early stops a program
+abbrev pub StopsAs : RunStop → Stop → Type 0
+StopsAs (run.ScriptLine number) stopped = stopped ≡ stop.ScriptLine number
+StopsAs run.OutOfMemory stopped = stopped ≡ stop.Fault OutOfMemory
+StopsAs (run.Store fault) stopped = stopped ≡ stop.Store fault
+StopsAs (run.Writer error) stopped = stopped ≡ stop.Writer error
 
 -- contents show a checkpoint's memory
 abbrev pub ShowsMemory : List (List ℕ) → Type 0

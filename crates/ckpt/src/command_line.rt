@@ -8,15 +8,32 @@ const VERSION: &str = "0.1";
 
 const DIR: &str = "The folder of a store, with the files img-000 to img-063";
 
-const SCRIPT: &str = "A file with one request a line; README.md has the language";
+const SCRIPT: &str = "A file with one request a line";
 
 const LIMITS: &str =
     "Limits: 16 spaces, 1,024 areas of a space, 65,536 mapped pages of 4,096 bytes in all,
 addresses below 2^47, 1 to 64 bytes a load or store, 64 images a store; a checkpoint
-needs two free slots. The cause of a failure is told on standard error.";
+needs two free slots, and one more a round. The cause of a failure is told on standard error.";
 
 const RUN: &str = "Example:
   ckpt run store examples/first.ckpt
+
+Lines of SCRIPT, with fields separated by single spaces; numbers are decimal or 0x and
+hexadecimal; empty lines and those that begin with # are skipped:
+  mmap SPACE ADDRESS LENGTH PROT      maps pages of zeros; PROT is none or some of rwx
+  munmap SPACE ADDRESS LENGTH         unmaps pages
+  mprotect SPACE ADDRESS LENGTH PROT  gives pages other permissions
+  fork SPACE, exit SPACE              makes a child with a copy; ends a space
+  store SPACE ADDRESS HEX             stores bytes, with the fault that it may need
+  try SPACE ADDRESS HEX               stores bytes, where the page is writable
+  fault SPACE ADDRESS                 takes the fault of a page
+  load SPACE ADDRESS N                loads N bytes
+  words SPACE ADDRESS N               the words of N pages, as pagemap shows them
+  checkpoint ROUNDS                   makes a checkpoint with 0 to 8 rounds before its freeze
+  begin ROUNDS, cancel                begins a checkpoint; gives the one that runs up
+  reopen                              opens the store again, after its device failed
+  work WORKER, perform WORKER         a step of dumper, merger or opener; its device call
+  step WORKER N, finish WORKER        N of these events; all up to the end of its job
 
 Status: 0 at the end of the script, also where requests were refused; 1 where the store,
 its device, memory or the printing failed (damaged SSS WHY, device, out-of-memory,
@@ -65,6 +82,12 @@ fn run<'a>(alloc: Global) -> Result<Command<'a>, Error> {
                 .long("restore")
                 .action(ArgAction::SetTrue)
                 .help("Prints afterwards what `restore` prints of the folder"),
+        )?
+        .arg(
+            Arg::new(alloc, "quiet")
+                .long("quiet")
+                .action(ArgAction::SetTrue)
+                .help("Tells no cause of a fault of the script, the folder or its device on standard error"),
         )?;
     Ok(command)
 }

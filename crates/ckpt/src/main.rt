@@ -1,11 +1,13 @@
 //! `ckpt`: saves modelled memories into image files, and restores them.
 #![tactic(auto)]
 
-use cause::{tell, tell_device, tell_line};
+use cause::{Causes, tell, tell_device, tell_line};
 use clap::ArgMatches;
-use sd_disk::{DirDisk, Folder, OpenError};
+use sd_disk::{DirDisk, Disk, Folder, OpenError};
 use sd_restore::Fault;
+use sd_run::run_lines;
 use sd_script::{Script, ScriptError};
+use std::alloc::Global;
 use std::fs::File;
 use std::io;
 use std::io::{BufWriter, Write};
@@ -13,16 +15,12 @@ use std::process::ExitCode;
 use std::rt::{Env, Files};
 use stop::{FAILED, Stop, UNFIT};
 
-mod answer_text;
 mod cause;
 mod command_line;
 mod list;
 mod listing;
 mod page_text;
 mod restore;
-#[cfg(test)]
-mod row_tests;
-mod run;
 mod stop;
 #[cfg(test)]
 mod store_tests;
@@ -33,6 +31,7 @@ mod verify;
 /// Opens the store in a folder.
 fn open_store(
     rt: &(impl Files<File = File> + Eprint + AllocGlobal),
+    causes: Causes,
     folder: &str,
     make: bool,
 ) -> Result<DirDisk, Stop> {
@@ -40,7 +39,7 @@ fn open_store(
         Ok(files) => Ok(DirDisk::new(files)),
         Err(OpenError::OutOfMemory) => Err(Stop::Fault(Fault::OutOfMemory)),
         Err(OpenError::Folder(fault)) => {
-            tell(rt, folder, &fault);
+            tell(rt, causes, folder, &fault);
             Err(Stop::CannotOpenFolder)
         }
     }
@@ -49,6 +48,7 @@ fn open_store(
 /// Reads and parses a script.
 fn read_script(
     rt: &(impl Files<File = File> + Eprint + AllocGlobal),
+    causes: Causes,
     script: &str,
 ) -> Result<Script, Stop> {
     let bytes = match std::fs::read(rt, script) {
@@ -57,30 +57,34 @@ fn read_script(
             return Err(Stop::Fault(Fault::OutOfMemory));
         }
         Err(error) => {
-            tell(rt, script, &error);
+            tell(rt, causes, script, &error);
             return Err(Stop::CannotReadScript);
         }
     };
     let parsed = Script::parse(rt.alloc(), &bytes);
     if let Err(ScriptError::Line(number)) = parsed {
-        tell_line(rt, script, &bytes, number);
+        tell_line(rt, causes, script, &bytes, number);
     }
     Ok(parsed?)
 }
 
 /// Runs a script over a store. With `restores` the memory that the store then shows is printed behind the answers.
-fn run_over<W: Write>(
-    rt: &impl AllocGlobal,
-    disk: &mut DirDisk,
-    script: &Script,
+fn run_over<D: Disk, W: Write>(
+    alloc: Global,
+    disk: D,
+    script: Script,
     restores: bool,
     out: &mut W,
-) -> Result<(), Stop> {
-    run::run_lines(rt.alloc(), disk, script, out)?;
-    if restores {
-        restore::print_restored(rt.alloc(), disk, out)?;
+) -> (D, Result<(), Stop>) {
+    let (mut disk, ended) = run_lines(alloc, disk, script, out);
+    match ended {
+        Ok(()) if restores => {
+            let restored = restore::print_restored(alloc, &mut disk, out);
+            (disk, restored)
+        }
+        Ok(()) => (disk, Ok(())),
+        Err(stop) => (disk, Err(Stop::from(stop))),
     }
-    Ok(())
 }
 
 /// `ckpt run`: a script that can't be taken makes no file.
@@ -90,10 +94,15 @@ fn run_program<W: Write>(
     out: &mut W,
 ) -> Result<(), Stop> {
     let folder = words.get_str("DIR").unwrap_or("");
-    let script = read_script(rt, words.get_str("SCRIPT").unwrap_or(""))?;
-    let mut disk = open_store(rt, folder, true)?;
-    let ended = run_over(rt, &mut disk, &script, words.get_flag("restore"), out);
-    tell_device(rt, folder, &disk, &ended);
+    let causes = if words.get_flag("quiet") {
+        Causes::Kept
+    } else {
+        Causes::Told
+    };
+    let script = read_script(rt, causes, words.get_str("SCRIPT").unwrap_or(""))?;
+    let disk = open_store(rt, causes, folder, true)?;
+    let (disk, ended) = run_over(rt.alloc(), disk, script, words.get_flag("restore"), out);
+    tell_device(rt, causes, folder, &disk);
     ended
 }
 
@@ -105,13 +114,13 @@ fn read_program<W: Write>(
     out: &mut W,
 ) -> Result<(), Stop> {
     let folder = words.get_str("DIR").unwrap_or("");
-    let mut disk = open_store(rt, folder, false)?;
+    let mut disk = open_store(rt, Causes::Told, folder, false)?;
     let ended = match name {
         "list" => list::print_list(rt.alloc(), &mut disk, out),
         "verify" => verify::print_report(rt.alloc(), &mut disk, out),
         _ => restore::print_restored(rt.alloc(), &mut disk, out),
     };
-    tell_device(rt, folder, &disk, &ended);
+    tell_device(rt, Causes::Told, folder, &disk);
     ended
 }
 
@@ -138,7 +147,7 @@ fn run_words<W: Write>(
     let matches = command.try_get_matches_from(words)?;
     let ended = run_matches(rt, &matches, out);
     if let Err(Stop::Writer(error)) = &ended {
-        tell(rt, PRINTED, error);
+        tell(rt, Causes::Told, PRINTED, error);
     }
     Ok(stop::status(ended, out))
 }
@@ -151,7 +160,7 @@ fn finish<W: Write>(rt: &impl Eprint, out: &mut W, status: u8) -> u8 {
     match out.flush() {
         Ok(()) => status,
         Err(error) => {
-            tell(rt, PRINTED, &error);
+            tell(rt, Causes::Told, PRINTED, &error);
             FAILED
         }
     }
@@ -192,11 +201,11 @@ fn words_of(rt: &(impl Env + Eprint + AllocGlobal)) -> Result<Vec<String>, u8> {
     };
     words.map_err(|error| match error.kind() {
         io::ErrorKind::InvalidData => {
-            tell(rt, COMMAND_LINE, &"a word of it isn't UTF-8");
+            tell(rt, Causes::Told, COMMAND_LINE, &"a word of it isn't UTF-8");
             UNFIT
         }
         _ => {
-            tell(rt, COMMAND_LINE, &error);
+            tell(rt, Causes::Told, COMMAND_LINE, &error);
             FAILED
         }
     })
@@ -206,7 +215,7 @@ fn words_of(rt: &(impl Env + Eprint + AllocGlobal)) -> Result<Vec<String>, u8> {
 fn status_of(rt: &HostRuntime) -> u8 {
     let held = hold_descriptors(rt);
     if let Err(error) = &held {
-        tell(rt, NOTHING, error);
+        tell(rt, Causes::Told, NOTHING, error);
         return FAILED;
     }
     let words = match words_of(rt) {
@@ -216,7 +225,7 @@ fn status_of(rt: &HostRuntime) -> u8 {
     match run_command(rt, &words) {
         Ok(status) => status,
         Err(error) => {
-            tell(rt, PRINTED, &error);
+            tell(rt, Causes::Told, PRINTED, &error);
             FAILED
         }
     }

@@ -3,7 +3,9 @@ ghost use Rattle.std.specs.Prelude.{◌≡◌};
 ghost use Rattle.ckpt.specs.Ending.{Ends, status_of};
 
 use sd_restore::Fault;
+use sd_run::Stop as RunStop;
 use sd_script::ScriptError;
+use sd_world::OpenFault;
 use std::alloc::AllocError;
 use std::io::Write;
 use std::{fmt, io};
@@ -19,6 +21,8 @@ pub const UNFIT: u8 = 2;
 pub enum Stop {
     /// The store, its device or the memory.
     Fault(Fault),
+    /// The store of a run isn't opened.
+    Store(OpenFault),
     /// The line with this number, counted from 1, doesn't fit the language.
     ScriptLine(usize),
     CannotReadScript,
@@ -31,6 +35,7 @@ impl fmt::Display for Stop {
     fn fmt<W: fmt::Write>(&self, f: &mut fmt::Formatter<W>) -> fmt::Result {
         match self {
             Stop::Fault(fault) => write!(f, "{fault}"),
+            Stop::Store(fault) => write!(f, "{fault}"),
             Stop::ScriptLine(number) => write!(f, "script line {number}"),
             Stop::CannotReadScript => f.write_str("cannot read SCRIPT"),
             Stop::CannotOpenFolder => f.write_str("cannot open DIR"),
@@ -97,6 +102,21 @@ impl From<ScriptError> for Stop {
         match error {
             ScriptError::Line(number) => Stop::ScriptLine(number),
             ScriptError::OutOfMemory => Stop::Fault(Fault::OutOfMemory),
+        }
+    }
+}
+
+impl From<RunStop> for Stop {
+    ghost use Rattle.ckpt.specs.Ending.{StopsAs};
+
+    ghost from_gives = { StopsAs };
+
+    fn from(stop: RunStop) -> Stop {
+        match stop {
+            RunStop::ScriptLine(number) => Stop::ScriptLine(number),
+            RunStop::OutOfMemory => Stop::Fault(Fault::OutOfMemory),
+            RunStop::Store(fault) => Stop::Store(fault),
+            RunStop::Writer(error) => Stop::Writer(error),
         }
     }
 }

@@ -82,8 +82,15 @@ pub image_table : (items : Marked) (places : Places) (old new : Numbers) (image 
     → IsImageOf items places old image → WritesTable image memory request next → IsTurned (Noted (Table image.order.serial) ∷ items) places new image next (Some request.id)
 image_table items places old new image next memory request same is writes =
     subst (λ m. IsTurned (Noted (Table image.order.serial) ∷ items) places new image m (Some request.id)) (sym writes.is) (record {
-      image_is = turn items (Noted (Table image.order.serial) ∷ items) places places old new image image.pass (Close writes.next writes.header writes.tables) same is is.held
-          (writes.gives.same_slot, ap (λ h. h.serial) writes.numbers, ap (λ h. h.checkpoint) writes.numbers) tt;
+      image_is = turn items (Noted (Table image.order.serial) ∷ items) places places old new image image.pass (Close writes.next writes.header writes.tables) same is is.held (
+        writes.gives.same_slot,
+        record {
+          kind = ap (λ h. h.kind) writes.numbers;
+          serial = ap (λ h. h.serial) writes.numbers;
+          parent = ap (λ h. h.parent) writes.numbers;
+          checkpoint = ap (λ h. h.checkpoint) writes.numbers;
+        },
+      ) tt;
       still = ap (λ s. (kind_number image.order.kind == 2) && is_past_freeze s) (sym writes.stage);
       out_is = writes.gives.out;
       slot = writes.gives.slot;

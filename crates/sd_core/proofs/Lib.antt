@@ -9,6 +9,7 @@ mod JournalLemmas
 mod MarkLemmas
 mod OpeningLemmas
 mod OutcomeLemmas
+mod RefusalLemmas
 mod ShownLemmas
 mod SlotLemmas
 mod StageLemmas

@@ -23,6 +23,9 @@ use Rattle.sd_belief.specs.Calls.{AreGivenUp, HandedIn, HandsOut, IsFree, MakesS
 use Rattle.sd_belief.specs.Laws.{IsOpenAs, ReopenedIsBelieved}
 use Rattle.sd_belief.specs.OpenerSteps.{Decodes, GivesUpOpening, IsHandedIn, IsTaught, LooksOn, OnlyOpens, OpenerSteps, Reopens, nobody, opener_alone}
 use Rattle.sd_belief.specs.View.{CoreView, history_of, index}
+use Rattle.sd_rounds.specs.Dumper.{Running}
+use Rattle.sd_core.specs.Opening.{with_opening}
+use Rattle.sd_core.specs.Sound.{held_for}
 use Rattle.sd_core.proofs.ApplyLemmas.{same_phases}
 
 free_of_nobody : (outs : List (Option RequestId)) (slot : ℕ) → outs ≡ nobody → IsFree outs slot
@@ -34,7 +37,7 @@ free_of_nobody outs slot is worker id out same = none_at worker (ap (λ all. sli
     none_at (suc (suc zero)) e = cc
     none_at (suc (suc (suc w))) e = cc
 
-given_count : (phases : List Phase) → length (map given_up phases) ≡ length phases
+pub given_count : (phases : List Phase) → length (map given_up phases) ≡ length phases
 given_count [] = refl
 given_count (p ∷ phases) = ap suc (given_count phases)
 
@@ -212,3 +215,15 @@ handed_seen made answer seen now new is handed = subst (λ old. HandedIn old mad
 
 pub stays_seen : (seen now new : CoreView) → seen ≡ now → Stays seen new → Stays now new
 stays_seen seen now new is stays = subst (λ old. Stays old new) is stays
+
+-- ---- the entry of an opener that begins
+
+pub held_opened : (pending : Option ℕ) (running : Option Running) (opener : Option Looking) (next : Looking) (held now : ℕ) → now ≡ with_opening pending held
+    → held ≡ held_for pending running opener → running ≡ None → opener ≡ None → now ≡ held_for pending running (Some next)
+held_opened pending running opener next held now is was idle none =
+    by_pending pending (is ∙ ap (with_opening pending) (was ∙ ap (λ r. held_for pending r opener) idle ∙ ap (held_for pending None) none))
+    ∙ ap (λ r. held_for pending r (Some next)) (sym idle)
+  where
+    by_pending : (p : Option ℕ) → now ≡ with_opening p (held_for p None None) → now ≡ held_for p None (Some next)
+    by_pending None all = all
+    by_pending (Some n) all = all

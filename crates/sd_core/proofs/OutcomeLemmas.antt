@@ -18,14 +18,15 @@ use Rattle.sd_journal.specs.Marked.{IsTracked, Marked, Told, entries_of}
 use Rattle.sd_journal.specs.TrackedLaws.{TrackedLaws}
 use Rattle.sd_rounds.specs.declared.image_order.ImageOrder.{ImageOrder}
 use Rattle.sd_rounds.specs.declared.new_image.NewImage.{NewImage}
-use Rattle.sd_rounds.specs.Dumper.{AreRunning, Running, is_frozen_image, is_last}
+use Rattle.sd_rounds.specs.Dumper.{AreRunning, Running, is_frozen_image, is_last, order_of}
+use Rattle.sd_core.specs.Images.{HasImage}
 use Rattle.sd_rounds.specs.Making.{Making, Opens, is_past_freeze}
 use Rattle.sd_belief.specs.Believes.{Believes}
 use Rattle.sd_belief.specs.Calls.{AddsByOutcome, AreGivenUp, HandedIn}
 use Rattle.sd_belief.specs.DumperOutcomes.{IsDumpersOutcome, LeavesCatalog}
 use Rattle.sd_belief.specs.View.{CoreView, history_of, index}
 use Rattle.sd_core.specs.declared.numbers.Numbers.{Numbers}
-use Rattle.sd_core.specs.Sound.{AreCounted, AreNumbers, IsCore, IsImageOf, IsJournal, IsStageOf, Parts}
+use Rattle.sd_core.specs.Sound.{AreCounted, AreNumbers, IsCore, IsHeaderOf, IsImageOf, IsJournal, IsStageOf, Parts}
 use Rattle.sd_core.proofs.ApplyLemmas.{same_phases}
 use Rattle.sd_core.proofs.WorkLemmas.{at_work, own_order}
 
@@ -74,16 +75,9 @@ left_counted false slot old new numbers leaves was serial o at = was serial o (a
 
 -- ---- an image that is open
 
--- its header has the numbers of its order
-pub record IsOpenedNow (image : Making) (opened : NewImage) : Type 0 where
-  pub serial : opened.header.serial ≡ image.order.serial
-  pub checkpoint : opened.header.checkpoint ≡ image.order.checkpoint
-
 pub opened_now : (items : Marked) (places : Places) (numbers : Numbers) (image : Making) (opened : NewImage) (made : Made) → IsImageOf items places numbers image
-    → Opens image made opened → IsOpenedNow image opened
-opened_now items places numbers image opened made is opens =
-    let at = subst (IsStageOf image.order) opens.was is.stage in
-    record { serial = at.1; checkpoint = at.2 }
+    → Opens image made opened → IsHeaderOf image.order opened.header
+opened_now items places numbers image opened made is opens = (subst (IsStageOf image.order) opens.was is.stage).1
 
 -- a place changes to that of an image whose checkpoint was begun
 pub counted_opened : (numbers : Numbers) (old new : Places) (serial : ℕ) (o : Opened) → Changes old new serial (Some (Some o)) → o.header.checkpoint ≤ numbers.checkpoint
@@ -96,7 +90,7 @@ counted_opened numbers old new serial o changes below was s other at = go (seria
 
 -- the checkpoint number of an image that is open was begun
 pub checkpoint_used : (core : Parts) (since : ℕ) (running : Running) (image : Making) (opened : NewImage) → IsCore core → AreRunning since core.dumper.running
-    → core.dumper.running ≡ Some running → running.image ≡ Some image → IsOpenedNow image opened → opened.header.checkpoint ≤ core.numbers.checkpoint
+    → core.dumper.running ≡ Some running → running.image ≡ Some image → IsHeaderOf image.order opened.header → opened.header.checkpoint ≤ core.numbers.checkpoint
 checkpoint_used core since running image opened sound are was making now =
     let number = now.checkpoint ∙ ap (λ (o : ImageOrder). o.checkpoint) (own_order since core.dumper.running running image are was making) ∙ (at_work core running sound was).number in
     let below = sound.numbers_are.checkpoints in
@@ -143,3 +137,23 @@ acked_numbers base items frozen newest numbers was = record {
   checkpoints = was.checkpoints;
   serials = was.serials;
 }
+
+-- the image that is open is the running checkpoint's
+pub has_image : (since : ℕ) (all : Option Running) (running : Running) (image : Making) (made : Made) (opened : NewImage) (old new : Places) → AreRunning since all
+    → all ≡ Some running → running.image ≡ Some image → IsHeaderOf image.order opened.header → Opens image made opened
+    → Changes old new opened.header.serial (Some (Some (record { slot = opened.slot; header = opened.header; spaces = opened.table })))
+    → HasImage running new (record { slot = opened.slot; header = opened.header; spaces = opened.table })
+has_image since all running image made opened old new are was making header opens changes = record {
+  is_in = changes opened.header.serial ∙ ap (λ b. if b then Some (Some entered) else place_of old opened.header.serial)
+      (eq-eqb opened.header.serial opened.header.serial refl);
+  slot = opens.slot ∙ ap (λ (o : ImageOrder). o.slot) own;
+  kind = header.kind ∙ ap (λ (o : ImageOrder). o.kind) own;
+  parent = header.parent ∙ ap (λ (o : ImageOrder). o.parent) own;
+  checkpoint = header.checkpoint ∙ ap (λ (o : ImageOrder). o.checkpoint) own;
+}
+  where
+    entered : Opened
+    entered = record { slot = opened.slot; header = opened.header; spaces = opened.table }
+
+    own : image.order ≡ order_of running image.order.serial image.order.state
+    own = own_order since all running image are was making

@@ -40,7 +40,7 @@ asked_in order (PageWrite p) plan next request was gives is = record { stage_is 
     own : (slot : ℕ) → slot ≡ plan.slot → slot ≡ order.slot
     own slot same = same ∙ ap (λ (q : Planned). q.slot) (sym (same_Some p plan was)) ∙ is
 asked_in order (Close p header tables) plan next request was gives is =
-    record { stage_is = (own next.slot gives.same_slot, is.1, is.2); slot = own request.id.slot gives.slot; out = gives.out }
+    record { stage_is = (own next.slot gives.same_slot, is.1); slot = own request.id.slot gives.slot; out = gives.out }
   where
     own : (slot : ℕ) → slot ≡ plan.slot → slot ≡ order.slot
     own slot same = same ∙ ap (λ (q : Planned). q.slot) (sym (same_Some p plan was)) ∙ is.0
@@ -104,7 +104,7 @@ behind items order pass (PageWrite p) plan next (call ∷ calls) was same rests 
     record { stage_is = slot_on p plan next order.slot was same; rests = rests; frozen = refl; visiting_in = λ v. v }
 behind items order pass (Close p header tables) plan next [] was same rests closes = absurd (closes (λ is. cc) refl)
 behind items order pass (Close p header tables) plan next (call ∷ calls) was same rests closes =
-    record { stage_is = λ at. (slot_on p plan next order.slot was same at.0, at.1, at.2); rests = rests; frozen = refl; visiting_in = λ v. tt }
+    record { stage_is = λ at. (slot_on p plan next order.slot was same at.0, at.1); rests = rests; frozen = refl; visiting_in = λ v. tt }
 
 -- ---- its cursor
 

@@ -4,6 +4,8 @@ use Rattle.sd_chain.specs.Catalog.{IsTip, Opened, Places, place_of}
 use Rattle.sd_chain.specs.Reaches.{ParentsFall, ReachesSerial}
 use Rattle.sd_command.specs.declared.refusal.Refusal.{Refusal}
 use Rattle.sd_command.specs.declared.refusal.Refusal.TheVariants as refusal
+use Rattle.sd_command.specs.declared.reply.Reply.{Reply}
+use Rattle.sd_command.specs.declared.reply.Reply.TheVariants as reply
 use Rattle.sd_rounds.specs.Dumper.{begun_checkpoint}
 use Rattle.sd_belief.specs.declared.standing.Standing.{Standing}
 use Rattle.sd_belief.specs.declared.standing.Standing.TheVariants as standing
@@ -95,6 +97,12 @@ pub record AreFew (places : Places) (count rounds : ℕ) : Type 0 where
   pub free : AreFree places count slots
   pub few : length slots < rounds + 2
 
+-- why no slots were reserved: too few are free, or memory was refused
+abbrev pub IsShort : Places → ℕ → ℕ → Refusal → Type 0
+IsShort places count rounds refusal.NoSlot = AreFew places count rounds
+IsShort places count rounds refusal.OutOfMemory = Unit {0}
+IsShort places count rounds _ = ⊥
+
 -- ---- the parent
 
 -- The first image names the tip, or takes every page where there is none, or none was acknowledged since the store was opened or
@@ -115,3 +123,11 @@ pub record Begins (old : CoreView) (rounds n : ℕ) (new : CoreView) : Type 0 wh
   pub reserved : AreReserved old.catalog (length old.phases) rounds pre_dumps dump
   pub first : IsFirstParent old.catalog old.grows parent
   pub running : new.dumper.running ≡ Some (begun_checkpoint n pre_dumps dump parent)
+  pub stands : new.standing ≡ old.standing
+
+-- what a beginning leaves that none of these refuses
+abbrev pub BeginsAs : CoreView → ℕ → Reply → CoreView → Type 0
+BeginsAs old rounds (reply.Begun n) new = Begins old rounds n new
+BeginsAs old rounds (reply.Refused refusal.NoSlot) new = AreFew old.catalog (length old.phases) rounds × (new ≡ old)
+BeginsAs old rounds (reply.Refused refusal.OutOfMemory) new = new ≡ old
+BeginsAs old rounds _ new = ⊥

@@ -1,6 +1,10 @@
 pub mod Answering
 pub mod Beginning
 pub mod Dumping
+pub mod Images
 pub mod Opening
+pub mod Orders
+pub mod Refusals
 pub mod Sound
 pub mod Starts
+pub mod Working

@@ -1,14 +1,18 @@
 -- The opener of a core.
-use Rattle.std.specs.Prelude.{◌≡◌, ◌≢◌, ◌⊎◌, ℕ, ◌+◌, Bool, true, false, List, length, Option, Some, None, Result, Ok, Err}
-use Rattle.sd_command.specs.declared.refusal.Refusal.{Refusal}
+use Rattle.std.specs.Prelude.{◌≡◌, ◌≢◌, ◌⊎◌, ℕ, ◌+◌, Bool, true, false, List, [], length, Option, Some, None, Result, Ok, Err}
 use Rattle.sd_disk.specs.Contents.{file_at}
 use Rattle.sd_gate.specs.Calls.{is_done}
+use Rattle.sd_gate.specs.Inspections.{the_length}
+use Rattle.sd_gate.specs.Plans.{begun}
 use Rattle.sd_gate.specs.Requests.{Made}
+use Rattle.sd_gate.specs.Sequences.{first_looks}
+use Rattle.sd_opener.specs.declared.stage.Stage.TheVariants.{Asking}
 use Rattle.sd_image.specs.Shows.{Shows}
 use Rattle.sd_journal.specs.Allowed.{Shown, shown_number}
 use Rattle.sd_journal.specs.Kept.{Kept}
 use Rattle.sd_opener.specs.declared.opened.Opened.{Opened}
 use Rattle.sd_opener.specs.declared.opener_step.OpenerStep.{OpenerStep}
+use Rattle.sd_opener.specs.Left.{Lowers, LowersByStep}
 use Rattle.sd_opener.specs.Looking.{Looking, MovesOn, StepMoves, out_of}
 use Rattle.sd_opener.specs.Sees.{IsOpened, IsToldOf, Sees, SeesAfter}
 
@@ -21,7 +25,21 @@ pub record WorksOpener (old : Option Looking) (number : ℕ) (step : OpenerStep)
   pub moves : StepMoves number opener step next
   pub slots : next.slots ≡ opener.slots
   pub rests : out_of opener.stage ≡ None
+  pub lowers : LowersByStep step opener next
   pub sees : (files : List (List ℕ)) → Sees files None opener → SeesAfter files step next
+
+-- an opener runs, and has no request out
+pub record IsResting (opener : Option Looking) : Type 0 where
+  pub looking : Looking
+  pub is : opener ≡ Some looking
+  pub rests : out_of looking.stage ≡ None
+
+-- an opener of so many slots, none of which was looked at
+pub record IsFresh (slots : ℕ) (opener : Looking) : Type 0 where
+  pub count : opener.slots ≡ slots
+  pub told : opener.told ≡ []
+  pub stage : opener.stage ≡ Asking (begun 0 first_looks the_length)
+  pub sees : (files : List (List ℕ)) → length files ≡ slots → Sees files None opener
 
 -- the held entries with the opener's: while a checkpoint is pending its own serves
 abbrev pub with_opening : Option ℕ → ℕ → ℕ
@@ -35,7 +53,7 @@ pub record Holds (old : Kept) (count : ℕ) (new : Kept) : Type 0 where
   pub limit : new.limit ≡ old.limit
   pub held : new.held ≡ count
 
-abbrev pub HoldsForOpening : Option ℕ → Kept → Result (Unit {0}) Refusal → Kept → Type 0
+abbrev pub HoldsForOpening : {T E : Type 0} → Option ℕ → Kept → Result T E → Kept → Type 0
 HoldsForOpening pending old (Ok done) new = Holds old (with_opening pending old.held) new
 HoldsForOpening pending old (Err why) new = new ≡ old
 
@@ -63,6 +81,7 @@ pub record GoesOn (old : Looking) (made : Made) (new : Looking) : Type 0 where
   pub moves : MovesOn old new
   pub slots : new.slots ≡ old.slots
   pub free : out_of old.stage ≡ Some made.request.id → out_of new.stage ≡ None
+  pub lowers : out_of old.stage ≡ Some made.request.id → Lowers old new
   pub sees : (files : List (List ℕ)) → IsToldOf (file_at files (length old.told)) made.request made
       → Sees files (Some made.request) old → Sees files None new
 

@@ -4,6 +4,7 @@ use Rattle.std.specs.List.{list_any}
 use Rattle.sd_chain.specs.Catalog.{IsHeld, Opened, Places, place_of}
 use Rattle.sd_gate.specs.declared.phase.Phase.{Phase}
 use Rattle.sd_gate.specs.declared.request_id.RequestId.{RequestId}
+use Rattle.sd_image.specs.declared.header.Header.{Header}
 use Rattle.sd_journal.specs.Kept.{Kept}
 use Rattle.sd_journal.specs.History.{Base, last, pending}
 use Rattle.sd_journal.specs.Legal.{IsAbove}
@@ -69,13 +70,20 @@ AreCounted numbers places = (serial : ℕ) (o : Opened) → place_of places seri
 
 -- ---- the checkpoint that runs
 
--- the plan of an image is one on its slot, and the header that it ends with has its numbers
+-- the header of an image has the kind and the numbers of its order
+pub record IsHeaderOf (order : ImageOrder) (header : Header) : Type 0 where
+  pub kind : header.kind ≡ order.kind
+  pub serial : header.serial ≡ order.serial
+  pub parent : header.parent ≡ order.parent
+  pub checkpoint : header.checkpoint ≡ order.checkpoint
+
+-- the plan of an image is one on its slot, and it ends with its header
 abbrev pub IsStageOf : ImageOrder → Stage → Type 0
 IsStageOf order (Format plan) = plan.slot ≡ order.slot
 IsStageOf order Freeze = Unit {0}
 IsStageOf order PassStage = Unit {0}
 IsStageOf order (PageWrite plan) = plan.slot ≡ order.slot
-IsStageOf order (Close plan header tables) = (plan.slot ≡ order.slot) × (header.serial ≡ order.serial) × (header.checkpoint ≡ order.checkpoint)
+IsStageOf order (Close plan header tables) = (plan.slot ≡ order.slot) × IsHeaderOf order header
 
 -- up to its table the journal's marks tell which page it visited last
 pub record IsVisiting (items : Marked) (serial : ℕ) (pass : Pass) : Type 0 where

@@ -1,8 +1,7 @@
 //! How a checkpoint begins: when it is refused, in which slots it is made, and from which image on.
-ghost use Rattle.std.specs.Prelude.{◌≡◌, ◌≤◌, IfOk, IsErrOf};
+ghost use Rattle.std.specs.Prelude.{◌≡◌, ◌≤◌, IfOk, IfErr};
 ghost use Rattle.sd_chain.specs.Catalog.{place_of};
-ghost use Rattle.sd_command.specs.declared.refusal.Refusal.TheVariants.{NoSlot};
-ghost use Rattle.sd_core.specs.Beginning.{AreFew, AreFree, AreNeeded, AreReserved, IsFirstParent, first_of, free_from, is_down, is_not_open, with_used};
+ghost use Rattle.sd_core.specs.Beginning.{AreFree, IsShort, AreNeeded, AreReserved, IsFirstParent, first_of, free_from, is_down, is_not_open, with_used};
 
 use sd_belief::Standing;
 use sd_chain::Catalog;
@@ -105,7 +104,7 @@ pub(crate) fn reserve_slots(
 ) -> Result<Slots, Refusal>
     requires { rounds ≤ 8 }
     ensures reserved { IfOk result (λ slots. AreReserved catalog.now count rounds slots.pre_dumps.items slots.dump) }
-    ensures few { IsErrOf result NoSlot → AreFew catalog.now count rounds }
+    ensures few { IfErr result (IsShort catalog.now count rounds) }
 {
     let Ok(mut slots) = free_in(alloc, catalog, count) else {
         return Err(Refusal::OutOfMemory);

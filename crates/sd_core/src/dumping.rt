@@ -1,19 +1,21 @@
 //! The dumper of a core: its steps, and what it leaves.
-ghost use Rattle.std.specs.Prelude.{◌≡◌, ◌↔◌, ◌||◌, ◌&&◌, ◌≤◌, None, Some, IsSome, IfOk, OnErr, is_none};
+ghost use Rattle.std.specs.Prelude.{◌≡◌, ◌↔◌, ◌||◌, ◌&&◌, ◌<◌, ◌≤◌, None, Some, IsSome, IfOk, OnErr, is_none};
 ghost use Rattle.sd_chain.specs.Catalog.{Changes, IsHeld};
 ghost use Rattle.sd_gate.specs.declared.call.Call.{Call};
-ghost use Rattle.sd_rounds.specs.Dumper.{begun_checkpoint, is_dumping, next_slot};
+ghost use Rattle.sd_pagetable.specs.Contents.{plain_of};
+ghost use Rattle.sd_rounds.specs.Dumper.{begun_checkpoint, is_dumping, next_slot, out_of_running};
+ghost use Rattle.sd_rounds.specs.Left.{left_of};
 ghost use Rattle.sd_belief.specs.DumperSteps.{opens_gate};
 ghost use Rattle.sd_belief.specs.DumperOutcomes.{LeavesCatalog, closes_for_sure};
 ghost use Rattle.sd_core.specs.Dumping.{BeginsNext, LetsGoOfTwo, StepsOn};
 
 use crate::beginning::Slots;
 use sd_chain::Catalog;
-use sd_command::Refusal;
 use sd_gate::{Call, Phase, Request, SlotState};
 use sd_journal::Journal;
 use sd_pagetable::Memory;
-use sd_rounds::{Dumper, ImageStep, NewImage, NextImage, WorkError};
+use sd_rounds::{Dumper, ImageStep, NewImage, NextImage, WorkError, left_law};
+use std::alloc::AllocError;
 
 /// A checkpoint begins.
 pub(crate) fn begin_checkpoint(dumper: &mut Dumper, number: u64, slots: Slots, parent: u64)
@@ -33,29 +35,37 @@ pub(crate) fn begin_next(
     ticket: u64,
 ) -> Request
     requires { IsSome (next_slot dumper.old.running) }
-    ensures { BeginsNext image.serial image.state ticket dumper.old memory.old result dumper.new memory.new }
+    ensures begins { BeginsNext image.serial image.state ticket dumper.old memory.old result dumper.new memory.new }
+    ensures lowers { left_of dumper.new.running (plain_of memory.new)
+        < left_of dumper.old.running (plain_of memory.old) }
 {
+    left_law();
     match dumper.work(memory, image, ticket) {
         Ok(ImageStep::Call(request)) => request,
         _ => unreachable!(),
     }
 }
 
-/// Makes the next step of the image in the making.
+/// Makes the next step of the image in the making, which has no request out.
 ///
 /// # Errors
 ///
-/// `Idle` where no checkpoint runs, `Busy` where its request is out, `OutOfMemory` where a growth was refused. Nothing changed.
+/// Out of memory where a growth was refused. Nothing changed.
 pub(crate) fn step_on(
     dumper: &mut Dumper,
     memory: &mut Memory,
     ticket: u64,
-) -> Result<ImageStep, Refusal>
-    requires { next_slot dumper.old.running ≡ None }
+) -> Result<ImageStep, AllocError>
+    requires begun { next_slot dumper.old.running ≡ None }
+    requires runs { IsSome dumper.old.running }
+    requires rests { out_of_running dumper.old.running ≡ None }
     ensures steps { IfOk result (λ step. StepsOn ticket dumper.old memory.old step dumper.new memory.new) }
+    ensures lowers { IfOk result (λ step. left_of dumper.new.running (plain_of memory.new)
+        < left_of dumper.old.running (plain_of memory.old)) }
     ensures err { OnErr result (dumper.new ≡ dumper.old) }
     ensures err_memory { OnErr result (memory.new ≡ memory.old) }
 {
+    left_law();
     // The image has its serial and its slot already.
     let image = NextImage {
         serial: 0,
@@ -63,9 +73,8 @@ pub(crate) fn step_on(
     };
     match dumper.work(memory, image, ticket) {
         Ok(step) => Ok(step),
-        Err(WorkError::Idle) => Err(Refusal::Idle),
-        Err(WorkError::Busy) => Err(Refusal::Busy),
-        Err(WorkError::OutOfMemory) => Err(Refusal::OutOfMemory),
+        Err(WorkError::OutOfMemory) => Err(AllocError),
+        Err(WorkError::Idle | WorkError::Busy) => unreachable!(),
     }
 }
 

@@ -1,5 +1,5 @@
 //! The opener of a core: its steps, and what it leaves.
-ghost use Rattle.std.specs.Prelude.{◌≡◌, ◌<◌, ◌↔◌, ◌⊎◌, None, Some, Err, IsSome, IsErr, IfOk, IfSome, OnErr, length, map, true, IsTrue, List, ℕ};
+ghost use Rattle.std.specs.Prelude.{◌≡◌, ◌<◌, ◌≤◌, ◌+◌, ◌↔◌, ◌⊎◌, None, Some, Err, IsSome, IsErr, IfOk, IfSome, OnErr, length, map, true, IsTrue, List, ℕ};
 ghost use Rattle.sd_chain.specs.Store.{IsCatalogOf};
 ghost use Rattle.sd_image.specs.Shows.{Shows};
 ghost use Rattle.sd_journal.specs.Allowed.{Shown, shown_number};
@@ -9,15 +9,18 @@ ghost use Rattle.sd_gate.specs.declared.request_id.RequestId.{RequestId};
 ghost use Rattle.sd_belief.specs.OpenerSteps.{nobody};
 ghost use Rattle.sd_belief.specs.View.{index};
 ghost use Rattle.std.specs.Prelude.{slice_get, slice_set};
-ghost use Rattle.sd_core.specs.Opening.{HoldsForOpening, IsExpected, LetsGo, OpensAnew, TeachesOpener, WorksOpener};
+ghost use Rattle.sd_journal.specs.Kept.{entry_count};
+ghost use Rattle.sd_core.specs.Opening.{HoldsForOpening, IsExpected, IsFresh, IsResting, LetsGo, OpensAnew, TeachesOpener, WorksOpener};
+ghost use Rattle.sd_core.specs.Refusals.{are_resting, is_open, is_resting};
+ghost use Rattle.sd_core.specs.Working.{opener_left};
 
 use sd_belief::Standing;
 use sd_chain::Catalog;
-use sd_command::Refusal;
 use sd_gate::{Outcome, Phase, RequestId, Worker};
 use sd_image::{one_store, tip_once};
 use sd_journal::Journal;
 use sd_opener::{OpenError, Opened, Opener, OpenerProgress, OpenerStep};
+use std::alloc::{AllocError, Global};
 use std::mem;
 
 /// The place of a worker among three.
@@ -48,7 +51,8 @@ fn is_this(out: &Option<RequestId>, id: &RequestId) -> bool
 
 /// Whether a worker has no request out.
 pub(crate) fn is_resting(outs: &[Option<RequestId>; 3], worker: Worker) -> bool
-    ensures { IsTrue result ↔ slice_get outs.now (index worker) ≡ Some None }
+    ensures none { IsTrue result ↔ slice_get outs.now (index worker) ≡ Some None }
+    ensures is { result ≡ is_resting outs.now worker }
 {
     outs[place(worker)].is_none()
 }
@@ -62,14 +66,15 @@ pub(crate) fn is_out(outs: &[Option<RequestId>; 3], id: &RequestId) -> bool
 
 /// Whether a store is open.
 pub(crate) fn is_open(standing: Standing) -> bool
-    ensures { IsTrue result ↔ standing ≡ Standing.Open }
+    ensures { result ≡ is_open standing }
 {
     matches!(standing, Standing::Open)
 }
 
 /// Whether no request is out.
 pub(crate) fn is_nobody_out(outs: &[Option<RequestId>; 3]) -> bool
-    ensures { result ≡ true ↔ outs.now ≡ nobody }
+    ensures nobody { result ≡ true ↔ outs.now ≡ nobody }
+    ensures is { result ≡ are_resting outs.now }
 {
     outs[0].is_none() && outs[1].is_none() && outs[2].is_none()
 }
@@ -96,20 +101,35 @@ pub(crate) fn follow_call(phases: &mut Vec<Phase>, id: &RequestId, done: bool)
 ///
 /// # Errors
 ///
-/// `JournalFull` where none is free, `OutOfMemory` where it finds no room. Nothing changed.
-pub(crate) fn hold_for_opening(journal: &mut Journal, pending: Option<u64>) -> Result<(), Refusal>
+/// Out of memory where the list of entries can't grow. Nothing changed.
+fn hold_for_opening(journal: &mut Journal, pending: Option<u64>) -> Result<(), AllocError>
+    requires { pending ≡ None → entry_count journal.old + journal.old.held + 1 ≤ journal.old.limit }
     ensures { HoldsForOpening pending journal.old result journal.new }
 {
     if pending.is_some() {
         return Ok(());
     }
-    if journal.free() == 0 {
-        return Err(Refusal::JournalFull);
-    }
-    let Ok(()) = journal.hold(1) else {
-        return Err(Refusal::OutOfMemory);
-    };
-    Ok(())
+    journal.hold(1)
+}
+
+/// An opener that has looked at none of so many slots, for which an entry is held.
+///
+/// # Errors
+///
+/// Out of memory where a list can't grow. Nothing changed.
+pub(crate) fn fresh_opener(
+    alloc: Global,
+    slots: usize,
+    journal: &mut Journal,
+    pending: Option<u64>,
+) -> Result<Opener, AllocError>
+    requires { pending ≡ None → entry_count journal.old + journal.old.held + 1 ≤ journal.old.limit }
+    ensures opener { IfOk result (IsFresh slots) }
+    ensures holds { HoldsForOpening pending journal.old result journal.new }
+{
+    let opener = Opener::new(alloc, slots)?;
+    hold_for_opening(journal, pending)?;
+    Ok(opener)
 }
 
 /// Lets go of the entry that was held for an opener.
@@ -160,22 +180,36 @@ pub(crate) fn teach(opener: &mut Option<Opener>, outcome: Outcome) -> bool
     }
 }
 
-/// Makes an opener's next step.
+/// Makes the next step of an opener that has no request out.
 ///
 /// # Errors
 ///
-/// `Idle` where there is none, `Busy` where its request is out, `OutOfMemory` where a growth was refused. Nothing changed.
-pub(crate) fn step_opener(opener: &mut Option<Opener>, ticket: u64) -> Result<OpenerStep, Refusal>
+/// Out of memory where a growth was refused. Nothing changed.
+pub(crate) fn step_opener(
+    opener: &mut Option<Opener>,
+    ticket: u64,
+) -> Result<OpenerStep, AllocError>
+    requires { IsResting opener.old }
     ensures works { IfOk result (λ step. WorksOpener opener.old ticket step opener.new) }
     ensures err { OnErr result (opener.new ≡ opener.old) }
 {
     let Some(opener) = opener else {
-        return Err(Refusal::Idle);
+        unreachable!();
     };
     match opener.work(ticket) {
         Ok(step) => Ok(step),
-        Err(OpenError::Busy) => Err(Refusal::Busy),
-        Err(OpenError::OutOfMemory) => Err(Refusal::OutOfMemory),
+        Err(OpenError::Busy) => unreachable!(),
+        Err(OpenError::OutOfMemory) => Err(AllocError),
+    }
+}
+
+/// How many steps and outcomes an opener has before it, at most: none where none runs.
+pub(crate) fn left_of_opener(opener: &Option<Opener>) -> u128
+    ensures { result ≡ opener_left opener.now }
+{
+    match opener {
+        Some(opener) => opener.left(),
+        None => 0,
     }
 }
 

@@ -1,10 +1,10 @@
 //! The state behind one lock.
-ghost use Rattle.std.specs.Prelude.{◌≡◌, ◌↔◌, ◌+◌, ℕ, List, [], ◌∷◌, length, map, drop, slice_get, Option, Some, None, Err, is_some, IfOk};
+ghost use Rattle.std.specs.Prelude.{◌≡◌, ◌↔◌, ◌+◌, ℕ, true, false, List, [], ◌∷◌, length, map, drop, slice_get, Option, Some, None, IsSome, Err, is_some, IfOk};
 ghost use Rattle.sd_areas.specs.Memory.{memory_of};
 ghost use Rattle.sd_areas.specs.PlainMemory.{PlainMemory};
 ghost use Rattle.sd_pagetable.specs.Contents.{plain_of};
 ghost use Rattle.sd_pagetable.specs.Tracking.{IsBeginning};
-ghost use Rattle.sd_command.specs.declared.refusal.Refusal.TheVariants.{Idle, JournalFull, NoSlot};
+ghost use Rattle.sd_command.specs.declared.refusal.Refusal.TheVariants.{Idle, JournalFull, NoSlot, StoreDown};
 ghost use Rattle.sd_command.specs.declared.reply.Reply.TheVariants as reply;
 ghost use Rattle.sd_image.specs.Shows.{Shows};
 ghost use Rattle.sd_gate.specs.Laws.{found_phase};
@@ -18,9 +18,15 @@ ghost use Rattle.sd_gate.specs.declared.worker.Worker.TheVariants as its;
 ghost use Rattle.sd_command.specs.declared.refusal.Refusal.{Refusal as Why};
 ghost use Rattle.sd_rounds.specs.Dumper.{next_slot};
 ghost use Rattle.sd_core.specs.Answering.{IsAnswered};
-ghost use Rattle.sd_core.specs.Beginning.{AreFew, Begins, begin_refusal, merge_refusal};
+ghost use Rattle.sd_core.specs.Beginning.{BeginsAs, begin_refusal, merge_refusal};
+ghost use Rattle.sd_core.specs.Images.{IsAcked};
 ghost use Rattle.sd_core.specs.Opening.{IsAllRead};
+ghost use Rattle.sd_core.specs.Orders.{BeginsToOpen, IsCancelled};
+ghost use Rattle.sd_core.specs.Refusals.{cancel_refusal, cant_cancel, has_checkpoint, is_idle, is_in_use, reopen_refusal, wants_entry, work_refusal};
 ghost use Rattle.sd_core.specs.Starts.{TakesUp, IsStart, shown_base};
+ghost use Rattle.sd_core.specs.Working.{Leaves, LeavesByOutcome, LeavesByStep, left_by};
+ghost use Rattle.sd_core.specs.declared.taken.Taken.TheVariants as taken;
+ghost use Rattle.sd_gate.specs.Calls.{is_done};
 
 use crate::answering::answer;
 use crate::beginning::{first_of, first_parent, is_down, is_not_open, reserve_slots};
@@ -31,8 +37,9 @@ use crate::dumping::{
 };
 use crate::numbers::Numbers;
 use crate::opening::{
-    follow_call, give_up_all, hold_for_opening, is_nobody_out, is_open, is_out, is_resting, let_go,
-    put_opener, put_out, read_by, release_for_opening, step_opener, take_opener, teach,
+    follow_call, fresh_opener, give_up_all, is_nobody_out, is_open, is_out, is_resting,
+    left_of_opener, let_go, put_opener, put_out, read_by, release_for_opening, step_opener,
+    take_opener, teach,
 };
 use crate::start::Start;
 use crate::taken::Taken;
@@ -153,6 +160,26 @@ impl Core {
         }
     }
 
+    /// How many steps and outcomes a worker's job has before it, at most: 0 exactly while it is idle. It goes over the
+    /// mapped pages one by one, and isn't for a step.
+    pub fn left(&self, worker: Worker) -> u128
+        ensures left { result ≡ left_by self.now worker }
+        ensures idle { result ≡ 0 ↔ is_idle self.now worker ≡ true }
+    {
+        match worker {
+            Worker::Dumper => self.dumper.left(&self.memory),
+            Worker::Merger => 0,
+            Worker::Opener => left_of_opener(&self.opener),
+        }
+    }
+
+    /// The memory of the run.
+    pub fn memory(&self) -> &Memory
+        ensures same { result.now ≡ self.now.memory }
+    {
+        &self.memory
+    }
+
     /// A law: the journal is legal, the memory is the one that it makes, and its bits are those that the commands and
     /// visits give.
     pub fn sound(&self)
@@ -172,6 +199,7 @@ impl Core {
         ensures number { IfOk result (λ told. told.0 ≡ length (history_of self.old)) }
         ensures full { result ≡ Err JournalFull
             ↔ length (history_of self.old) + self.old.held ≡ self.old.limit }
+        ensures stands { self.new.standing ≡ self.old.standing }
         ensures answered { IfOk result (λ told. IsAnswered (is_some (pending (history_of self.old)))
             command.now told.1 self.old.memory self.new.memory) }
         ensures keeps { Stays self.old self.new }
@@ -235,9 +263,7 @@ impl Core {
         ensures keeps { Stays self.old self.new }
         ensures refused { (why : Why) → begin_refusal self.old rounds ≡ Some why
             → (result ≡ reply.Refused why) × (self.new ≡ self.old) }
-        ensures begun { (n : ℕ) → result ≡ reply.Begun n → Begins self.old rounds n self.new }
-        ensures no_slot { begin_refusal self.old rounds ≡ None → result ≡ reply.Refused NoSlot
-            → AreFew self.old.catalog (length self.old.phases) rounds }
+        ensures begins { begin_refusal self.old rounds ≡ None → BeginsAs self.old rounds result self.new }
     {
         core_steps();
         match self.refusal_of_begin(rounds) {
@@ -255,8 +281,7 @@ impl Core {
         requires { begin_refusal self.old rounds ≡ None }
         ensures adds { AddsByOrder result (history_of self.old) (history_of self.new) }
         ensures keeps { Stays self.old self.new }
-        ensures begun { (n : ℕ) → result ≡ reply.Begun n → Begins self.old rounds n self.new }
-        ensures no_slot { result ≡ reply.Refused NoSlot → AreFew self.old.catalog (length self.old.phases) rounds }
+        ensures begins { BeginsAs self.old rounds result self.new }
     {
         core_steps();
         beginning_law(&self.catalog);
@@ -291,27 +316,61 @@ impl Core {
         }
     }
 
-    /// Cancels the checkpoint that runs or is pending, also while the store is down. The next one takes every page.
+    /// Whether a checkpoint runs or is pending.
+    fn has_checkpoint(&self) -> bool
+        ensures { result ≡ has_checkpoint self.now }
+    {
+        !self.dumper.is_idle() || self.pending.is_some()
+    }
+
+    /// Whether an opener runs, a request of the dumper is out, or the opening of the dump's gate was taken up.
+    fn cant_cancel(&self) -> bool
+        ensures { result ≡ cant_cancel self.now }
+    {
+        self.opener.is_some() || !is_resting(&self.outs, Worker::Dumper) || self.committing
+    }
+
+    /// Why nothing can be cancelled.
+    fn refusal_of_cancel(&self) -> Option<Refusal>
+        ensures { result ≡ cancel_refusal self.now }
+    {
+        first_of(&[
+            (!self.has_checkpoint(), Refusal::Idle),
+            (self.cant_cancel(), Refusal::Busy),
+        ])
+    }
+
+    /// Cancels the checkpoint that runs or is pending, also while the store is down. The next one takes every page. It takes
+    /// no memory.
     ///
     /// # Errors
     ///
-    /// `Idle` where none runs or is pending. `Busy` where an opener runs, a request of the dumper is out, or the opening
-    /// of the dump's gate was ever taken up. Nothing changed.
+    /// The first of these whose condition holds: `Idle` where none runs or is pending; `Busy` where an opener runs, a request
+    /// of the dumper is out, or the opening of the dump's gate was ever taken up. Nothing changed.
     pub fn cancel(&mut self) -> Reply
         ensures adds { AddsByCancel result (history_of self.old) (history_of self.new) }
         ensures keeps { Stays self.old self.new }
-        ensures idle { result ≡ reply.Refused Idle
-            ↔ (self.old.dumper.running ≡ None) × (pending (history_of self.old) ≡ None) }
+        ensures refused { (why : Why) → cancel_refusal self.old ≡ Some why
+            → (result ≡ reply.Refused why) × (self.new ≡ self.old) }
+        ensures cancelled { cancel_refusal self.old ≡ None → IsCancelled self.old result self.new }
+    {
+        core_steps();
+        match self.refusal_of_cancel() {
+            Some(why) => Reply::Refused(why),
+            None => self.cancel_it(),
+        }
+    }
+
+    /// Cancels the checkpoint that runs or is pending.
+    fn cancel_it(&mut self) -> Reply
+        requires { cancel_refusal self.old ≡ None }
+        ensures adds { AddsByCancel result (history_of self.old) (history_of self.new) }
+        ensures keeps { Stays self.old self.new }
+        ensures cancelled { IsCancelled self.old result self.new }
     {
         core_steps();
         cancelling_law();
         tracked_laws();
-        if self.dumper.is_idle() && self.pending.is_none() {
-            return Reply::Refused(Refusal::Idle);
-        }
-        if self.opener.is_some() || !is_resting(&self.outs, Worker::Dumper) || self.committing {
-            return Reply::Refused(Refusal::Busy);
-        }
         let number = self.numbers.begun;
         self.journal.append_held(Entry::Cancelled(number));
         let held = self.journal.held();
@@ -323,31 +382,95 @@ impl Core {
         Reply::Cancelled(number)
     }
 
+    /// Whether the store is open, an opener runs, or a request is out.
+    fn is_in_use(&self) -> bool
+        ensures { result ≡ is_in_use self.now }
+    {
+        is_open(self.standing) || self.opener.is_some() || !is_nobody_out(&self.outs)
+    }
+
+    /// Whether no entry is held for a pending checkpoint, and none is free.
+    fn wants_entry(&self) -> bool
+        ensures { result ≡ wants_entry self.now }
+    {
+        self.pending.is_none() && self.journal.free() == 0
+    }
+
+    /// Why the store can't be opened again.
+    fn refusal_of_reopen(&self) -> Option<Refusal>
+        ensures { result ≡ reopen_refusal self.now }
+    {
+        first_of(&[
+            (self.is_in_use(), Refusal::Busy),
+            (self.wants_entry(), Refusal::JournalFull),
+        ])
+    }
+
     /// Begins to open the store again: each slot's job is given up, and an opener begins.
     ///
     /// # Errors
     ///
-    /// `Busy` where the store is open, an opener runs or a request is out; `JournalFull` where the entry that it needs isn't
-    /// free; `OutOfMemory` where a growth was refused. Nothing changed.
+    /// The first of these whose condition holds: `Busy` where the store is open, an opener runs or a request is out;
+    /// `JournalFull` where no checkpoint is pending and no entry is free; `OutOfMemory` where a growth was refused. Nothing
+    /// changed.
     pub fn reopen(&mut self) -> Reply
         ensures adds { AddsByOrder result (history_of self.old) (history_of self.new) }
         ensures keeps { Stays self.old self.new }
+        ensures refused { (why : Why) → reopen_refusal self.old ≡ Some why
+            → (result ≡ reply.Refused why) × (self.new ≡ self.old) }
+        ensures begun { reopen_refusal self.old ≡ None → BeginsToOpen self.old result self.new }
+    {
+        core_steps();
+        match self.refusal_of_reopen() {
+            Some(why) => Reply::Refused(why),
+            None => self.open_again(),
+        }
+    }
+
+    /// Begins to open the store again.
+    ///
+    /// # Errors
+    ///
+    /// `OutOfMemory` where a growth was refused. Nothing changed.
+    fn open_again(&mut self) -> Reply
+        requires { reopen_refusal self.old ≡ None }
+        ensures adds { AddsByOrder result (history_of self.old) (history_of self.new) }
+        ensures keeps { Stays self.old self.new }
+        ensures begun { BeginsToOpen self.old result self.new }
     {
         core_steps();
         opener_steps();
-        if is_open(self.standing) || self.opener.is_some() || !is_nobody_out(&self.outs) {
-            return Reply::Refused(Refusal::Busy);
-        }
-        let Ok(opener) = Opener::new(self.alloc, self.phases.len()) else {
+        let Ok(opener) = fresh_opener(
+            self.alloc,
+            self.phases.len(),
+            &mut self.journal,
+            self.pending,
+        ) else {
             return Reply::Refused(Refusal::OutOfMemory);
         };
-        match hold_for_opening(&mut self.journal, self.pending) {
-            Ok(()) => {
-                give_up_all(&mut self.phases);
-                put_opener(&mut self.opener, opener);
-                Reply::Worked
-            }
-            Err(why) => Reply::Refused(why),
+        give_up_all(&mut self.phases);
+        put_opener(&mut self.opener, opener);
+        Reply::Worked
+    }
+
+    /// Why a worker can't go on.
+    fn refusal_of_work(&self, worker: Worker) -> Option<Refusal>
+        ensures { result ≡ work_refusal self.now worker }
+    {
+        first_of(&[
+            (self.is_idle(worker), Refusal::Idle),
+            (!is_resting(&self.outs, worker), Refusal::Busy),
+        ])
+    }
+
+    /// Whether a worker has no job.
+    pub fn is_idle(&self, worker: Worker) -> bool
+        ensures { result ≡ is_idle self.now worker }
+    {
+        match worker {
+            Worker::Dumper => self.dumper.is_idle(),
+            Worker::Merger => true,
+            Worker::Opener => self.opener.is_none(),
         }
     }
 
@@ -359,26 +482,28 @@ impl Core {
     /// `Damaged` of the opener, which then has ended: where the store can't be read, or shows neither the last checkpoint
     /// nor the pending one.
     pub fn take_up(&mut self, worker: Worker) -> Taken
-        ensures { TakesUp self.old worker result self.new }
+        ensures takes { TakesUp self.old worker result self.new }
+        ensures refused { (why : Why) → work_refusal self.old worker ≡ Some why
+            → (result ≡ taken.Step (reply.Refused why)) × (self.new ≡ self.old) }
+        ensures leaves { work_refusal self.old worker ≡ None → Leaves self.old worker result self.new }
     {
-        match worker {
-            Worker::Dumper => self.take_up_dumper(),
-            Worker::Merger => Taken::Step(Reply::Refused(Refusal::Idle)),
-            Worker::Opener => self.take_up_opener(),
+        core_steps();
+        match self.refusal_of_work(worker) {
+            Some(why) => Taken::Step(Reply::Refused(why)),
+            None => match worker {
+                Worker::Dumper => self.take_up_dumper(),
+                Worker::Merger => unreachable!(),
+                Worker::Opener => self.take_up_opener(),
+            },
         }
     }
 
     /// Makes the dumper's next step, or hands out its next device call.
     fn take_up_dumper(&mut self) -> Taken
-        ensures { TakesUp self.old its.Dumper result self.new }
+        requires { work_refusal self.old its.Dumper ≡ None }
+        ensures takes { TakesUp self.old its.Dumper result self.new }
+        ensures leaves { Leaves self.old its.Dumper result self.new }
     {
-        core_steps();
-        if self.dumper.is_idle() {
-            return Taken::Step(Reply::Refused(Refusal::Idle));
-        }
-        if !is_resting(&self.outs, Worker::Dumper) {
-            return Taken::Step(Reply::Refused(Refusal::Busy));
-        }
         match self.dumper.next_slot() {
             Some(slot) => self.begin_image(slot),
             None => self.go_on_image(),
@@ -392,7 +517,8 @@ impl Core {
     /// `OutOfMemory` where a growth was refused.
     fn begin_image(&mut self, slot: usize) -> Taken
         requires next { next_slot self.old.dumper.running ≡ Some slot }
-        ensures { TakesUp self.old its.Dumper result self.new }
+        ensures takes { TakesUp self.old its.Dumper result self.new }
+        ensures leaves { Leaves self.old its.Dumper result self.new }
     {
         core_steps();
         dumper_steps();
@@ -431,8 +557,10 @@ impl Core {
     /// `OutOfMemory` where a growth was refused.
     fn go_on_image(&mut self) -> Taken
         requires begun { next_slot self.old.dumper.running ≡ None }
+        requires runs { IsSome self.old.dumper.running }
         requires rests { slice_get self.old.outs 0 ≡ Some None }
-        ensures { TakesUp self.old its.Dumper result self.new }
+        ensures takes { TakesUp self.old its.Dumper result self.new }
+        ensures leaves { Leaves self.old its.Dumper result self.new }
     {
         core_steps();
         dumper_steps();
@@ -441,9 +569,8 @@ impl Core {
         let Ok(()) = self.journal.reserve_mark() else {
             return Taken::Step(Reply::Refused(Refusal::OutOfMemory));
         };
-        let step = match step_on(&mut self.dumper, &mut self.memory, self.numbers.ticket) {
-            Ok(step) => step,
-            Err(why) => return Taken::Step(Reply::Refused(why)),
+        let Ok(step) = step_on(&mut self.dumper, &mut self.memory, self.numbers.ticket) else {
+            return Taken::Step(Reply::Refused(Refusal::OutOfMemory));
         };
         let serial = self.numbers.serial;
         match step {
@@ -479,12 +606,13 @@ impl Core {
 
     /// Makes the opener's next step, or hands out its next device call.
     fn take_up_opener(&mut self) -> Taken
-        ensures { TakesUp self.old its.Opener result self.new }
+        requires { work_refusal self.old its.Opener ≡ None }
+        ensures takes { TakesUp self.old its.Opener result self.new }
+        ensures leaves { Leaves self.old its.Opener result self.new }
     {
         opener_steps();
-        let step = match step_opener(&mut self.opener, self.numbers.ticket) {
-            Ok(step) => step,
-            Err(why) => return Taken::Step(Reply::Refused(why)),
+        let Ok(step) = step_opener(&mut self.opener, self.numbers.ticket) else {
+            return Taken::Step(Reply::Refused(Refusal::OutOfMemory));
         };
         match step {
             OpenerStep::Call(request) => {
@@ -508,13 +636,14 @@ impl Core {
     /// `Damaged` where the store shows neither the last checkpoint nor the pending one.
     fn finish_opening(&mut self) -> Reply
         requires { IsAllRead self.old.opener }
-        ensures { MakesStep self.old its.Opener result self.new }
+        ensures takes { MakesStep self.old its.Opener result self.new }
+        ensures leaves { LeavesByStep self.old its.Opener result self.new }
     {
         reopened_law();
         opener_steps();
         tracked_laws();
         let Some(opener) = take_opener(&mut self.opener) else {
-            return Reply::Refused(Refusal::Idle);
+            unreachable!();
         };
         let Some((opened, found)) = read_by(opener, self.last, self.pending) else {
             release_for_opening(&mut self.journal, self.pending);
@@ -543,6 +672,14 @@ impl Core {
         ensures strange { (IsOut self.old outcome.request.id → ⊥)
             → (result ≡ reply.Refused Idle) × (self.new ≡ self.old) }
         ensures handed { IsOut self.old outcome.request.id → HandedIn self.old outcome result self.new }
+        ensures failed { IsOut self.old outcome.request.id → is_done outcome.answer ≡ false
+            → result ≡ reply.Refused StoreDown }
+        ensures down { IsOut self.old outcome.request.id → outcome.request.id.worker ≡ its.Dumper
+            → result ≡ reply.Refused StoreDown → is_done outcome.answer ≡ false }
+        ensures leaves { IsOut self.old outcome.request.id
+            → LeavesByOutcome self.old outcome.request.id.worker result self.new }
+        ensures acked { (n : ℕ) → IsOut self.old outcome.request.id → result ≡ reply.Acked n
+            → IsAcked n self.old self.new }
     {
         let id = outcome.id();
         if !is_out(&self.outs, &id) {
@@ -563,7 +700,10 @@ impl Core {
     fn hand_in_dumper(&mut self, outcome: Outcome) -> Reply
         requires out { IsOut self.old outcome.request.id }
         requires dumper { outcome.request.id.worker ≡ its.Dumper }
-        ensures { HandedIn self.old outcome result self.new }
+        ensures handed { HandedIn self.old outcome result self.new }
+        ensures failed { is_done outcome.answer ≡ false ↔ result ≡ reply.Refused StoreDown }
+        ensures leaves { LeavesByOutcome self.old its.Dumper result self.new }
+        ensures acked { (n : ℕ) → result ≡ reply.Acked n → IsAcked n self.old self.new }
     {
         dumper_outcomes();
         tracked_laws();
@@ -605,7 +745,9 @@ impl Core {
     fn hand_in_opener(&mut self, outcome: Outcome) -> Reply
         requires out { IsOut self.old outcome.request.id }
         requires opener { outcome.request.id.worker ≡ its.Opener }
-        ensures { HandedIn self.old outcome result self.new }
+        ensures handed { HandedIn self.old outcome result self.new }
+        ensures failed { is_done outcome.answer ≡ false → result ≡ reply.Refused StoreDown }
+        ensures leaves { LeavesByOutcome self.old its.Opener result self.new }
     {
         opener_steps();
         let id = outcome.id();

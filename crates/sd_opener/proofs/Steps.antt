@@ -34,7 +34,7 @@ map_back : (files : List (List ℕ)) (file : List ℕ) → map found_phase (file
 map_back [] file = refl
 map_back (f ∷ files) file = ap (λ all. found_phase f ∷ all) (map_back files file)
 
-back_count : (told : List Phase) (phase : Phase) → length (told ++ phase ∷ []) ≡ suc (length told)
+pub back_count : (told : List Phase) (phase : Phase) → length (told ++ phase ∷ []) ≡ suc (length told)
 back_count [] phase = refl
 back_count (p ∷ told) phase = ap suc (back_count told phase)
 

@@ -1,5 +1,5 @@
 //! The opener.
-ghost use Rattle.std.specs.Prelude.{◌≡◌, ◌≢◌, ◌↔◌, ◌<◌, ◌+◌, ℕ, List, [], Option, None, Some, false, length, Err, IsErr, IsSome, IfOk, IfErr, MatchOption, OnOk, OnErr};
+ghost use Rattle.std.specs.Prelude.{◌≤◌, ◌^◌, ◌≡◌, ◌≢◌, ◌↔◌, ◌<◌, ◌+◌, ℕ, List, [], Option, None, Some, false, length, Err, IsErr, IsSome, IfOk, IfErr, MatchOption, OnOk, OnErr};
 ghost use Rattle.sd_disk.specs.Contents.{file_at};
 ghost use Rattle.sd_gate.specs.Calls.{is_done};
 ghost use Rattle.sd_gate.specs.Inspections.{the_length};
@@ -8,6 +8,7 @@ ghost use Rattle.sd_gate.specs.Requests.{Asked};
 ghost use Rattle.sd_gate.specs.Sequences.{first_looks};
 ghost use Rattle.sd_opener.specs.declared.open_error.OpenError.TheVariants.{Busy};
 ghost use Rattle.sd_opener.specs.declared.opener_progress.OpenerProgress.TheVariants.{Strange as IsStrange, Failed as HasFailed, More as GoesOn};
+ghost use Rattle.sd_opener.specs.Left.{Lowers, LowersByStep, looking_left, stage_left};
 ghost use Rattle.sd_opener.specs.Looking.{Looking, MovesOn, StepMoves, out_of};
 ghost use Rattle.sd_opener.specs.Sees.{IsNoStore, IsOpened, IsToldOf, Sees, SeesAfter};
 
@@ -78,6 +79,17 @@ fn replace_stage(stage: &mut Stage, next: Stage) -> Option<Found>
     }
 }
 
+/// How many steps and outcomes the slot of a stage has before it, at most.
+fn stage_left(stage: &Stage) -> u128
+    ensures left { result ≡ stage_left stage.now }
+    ensures few { result ≤ 2 ^ 64 }
+{
+    match stage {
+        Stage::Asking(plan) => plan.left() as u128 + 1,
+        _ => 1,
+    }
+}
+
 impl Opener {
     /// An opener that has looked at none of so many slots.
     ///
@@ -112,6 +124,7 @@ impl Opener {
         ensures sees { IfOk result (λ step. (files : List (List ℕ)) → Sees files None self.old
             → SeesAfter files step self.new) }
         ensures moves { IfOk result (λ step. StepMoves ticket self.old step self.new) }
+        ensures lowers { IfOk result (λ step. LowersByStep step self.old self.new) }
         ensures slots { self.new.slots ≡ self.old.slots }
         ensures busy { result ≡ Err Busy → IsSome (out_of self.old.stage) }
         ensures out { IsSome (out_of self.old.stage) → IsErr result }
@@ -158,6 +171,8 @@ impl Opener {
             → IsToldOf (file_at files (length self.old.told)) request outcome
             → Sees files (Some request) self.old → (result ≡ GoesOn) × Sees files None self.new }
         ensures moves { MovesOn self.old self.new }
+        ensures lowers { out_of self.old.stage ≡ Some outcome.request.id → result ≡ GoesOn
+            → Lowers self.old self.new }
         ensures slots { self.new.slots ≡ self.old.slots }
         ensures free { out_of self.old.stage ≡ Some outcome.request.id → out_of self.new.stage ≡ None }
     {
@@ -190,6 +205,18 @@ impl Opener {
                 OpenerProgress::More
             }
         }
+    }
+
+    /// How many steps and outcomes it has before it, at most: one where every slot was read. Each step that doesn't end
+    /// it lowers this, and so does each outcome behind which it goes on.
+    pub fn left(&self) -> u128
+        ensures { result ≡ looking_left self.now }
+    {
+        let slots = self.slots - self.told.len();
+        if slots == 0 {
+            return 1;
+        }
+        9 * (slots as u128 - 1) + stage_left(&self.stage) + 1
     }
 
     /// What was read, once every slot was.

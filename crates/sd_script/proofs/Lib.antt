@@ -3,3 +3,4 @@ pub mod Lines
 pub mod Numerals
 pub mod Pairs
 pub mod Parsing
+pub mod Printing

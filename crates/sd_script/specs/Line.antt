@@ -8,8 +8,10 @@ use Rattle.std.specs.Result.{result_ok}
 use Rattle.hex.specs.Hex.{decode_of}
 use Rattle.sd_areas.specs.declared.prot.Prot.{Prot}
 use Rattle.sd_command.specs.declared.command.Command.TheVariants.{Mmap, Munmap, Mprotect, Fork, Exit, Load, TryStore, Fault, Store}
+use Rattle.sd_gate.specs.declared.worker.Worker.{Worker}
+use Rattle.sd_gate.specs.declared.worker.Worker.TheVariants.{Dumper, Merger, Opener}
 use Rattle.sd_script.specs.declared.line.Line.{Line}
-use Rattle.sd_script.specs.declared.line.Line.TheVariants.{Command, Words, Checkpoint}
+use Rattle.sd_script.specs.declared.line.Line.TheVariants.{Command, Words, Begin, Cancel, Work, Perform, Step, Finish, Checkpoint, Reopen}
 use Rattle.sd_script.specs.declared.line_error.LineError.{LineError}
 use Rattle.sd_script.specs.declared.line_error.LineError.TheVariants.{Unfit, OutOfMemory}
 
@@ -154,12 +156,67 @@ words_of (space ∷ address ∷ count ∷ []) = do
   Some (Words s a n)
 words_of _ = None
 
--- `checkpoint 0`, behind the word: other numbers of rounds aren't built yet
+-- the worker of this name
+abbrev pub worker_of : List ℕ → Option Worker
+worker_of name =
+    if bytes_eq name (codes "dumper") then Some Dumper
+    else if bytes_eq name (codes "merger") then Some Merger
+    else if bytes_eq name (codes "opener") then Some Opener
+    else None
+
+-- `begin ROUNDS`, behind the word
+abbrev pub begin_of : List (List ℕ) → Option Line
+begin_of (rounds ∷ []) = do
+  r ← number_of rounds
+  Some (Begin r)
+begin_of _ = None
+
+-- `cancel`, with nothing behind the word
+abbrev pub cancel_of : List (List ℕ) → Option Line
+cancel_of [] = Some Cancel
+cancel_of (_ ∷ _) = None
+
+-- `work WORKER`, behind the word
+abbrev pub work_of : List (List ℕ) → Option Line
+work_of (name ∷ []) = do
+  w ← worker_of name
+  Some (Work w)
+work_of _ = None
+
+-- `perform WORKER`, behind the word
+abbrev pub perform_of : List (List ℕ) → Option Line
+perform_of (name ∷ []) = do
+  w ← worker_of name
+  Some (Perform w)
+perform_of _ = None
+
+-- `step WORKER COUNT`, behind the word: one event at least
+abbrev pub step_of : List (List ℕ) → Option Line
+step_of (name ∷ count ∷ []) = do
+  w ← worker_of name
+  c ← number_of count
+  n ← at_least_one c
+  Some (Step w n)
+step_of _ = None
+
+-- `finish WORKER`, behind the word
+abbrev pub finish_of : List (List ℕ) → Option Line
+finish_of (name ∷ []) = do
+  w ← worker_of name
+  Some (Finish w)
+finish_of _ = None
+
+-- `checkpoint ROUNDS`, behind the word
 abbrev pub checkpoint_of : List (List ℕ) → Option Line
 checkpoint_of (rounds ∷ []) = do
   r ← number_of rounds
-  if r == 0 then Some Checkpoint else None
+  Some (Checkpoint r)
 checkpoint_of _ = None
+
+-- `reopen`, with nothing behind the word
+abbrev pub reopen_of : List (List ℕ) → Option Line
+reopen_of [] = Some Reopen
+reopen_of (_ ∷ _) = None
 
 -- what a word and its arguments ask for
 abbrev pub asked_by_word : List ℕ → List (List ℕ) → Option Line
@@ -174,7 +231,14 @@ asked_by_word word arguments =
     else if bytes_eq word (codes "fault") then fault_of arguments
     else if bytes_eq word (codes "store") then store_of arguments
     else if bytes_eq word (codes "words") then words_of arguments
+    else if bytes_eq word (codes "begin") then begin_of arguments
+    else if bytes_eq word (codes "cancel") then cancel_of arguments
+    else if bytes_eq word (codes "work") then work_of arguments
+    else if bytes_eq word (codes "perform") then perform_of arguments
+    else if bytes_eq word (codes "step") then step_of arguments
+    else if bytes_eq word (codes "finish") then finish_of arguments
     else if bytes_eq word (codes "checkpoint") then checkpoint_of arguments
+    else if bytes_eq word (codes "reopen") then reopen_of arguments
     else None
 
 -- what fields ask for: the first is the word

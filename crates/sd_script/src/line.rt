@@ -2,12 +2,13 @@
 
 ghost use Rattle.std.specs.Prelude.{◌≡◌, ◌==◌, ◌≤◌, map, OnOk};
 ghost use Rattle.std.specs.List.{slice_split};
-ghost use Rattle.sd_script.specs.Line.{Gives, GivesBytes, asked_by, asked_by_word, at_least_one, checkpoint_of, exit_of, fault_of, fork_of, hex_of, load_of, mmap_of, mprotect_of, munmap_of, number_of, numeral_of, prot_of, store_of, try_of, words_of};
+ghost use Rattle.sd_script.specs.Line.{Gives, GivesBytes, asked_by, asked_by_word, at_least_one, begin_of, cancel_of, checkpoint_of, exit_of, fault_of, finish_of, fork_of, hex_of, load_of, mmap_of, mprotect_of, munmap_of, number_of, numeral_of, perform_of, prot_of, reopen_of, step_of, store_of, try_of, words_of, work_of, worker_of};
 
 use crate::digits::{decode_into, digit};
 use crate::line_error::LineError;
 use sd_areas::{Prot, SpaceId};
 use sd_command::{Bytes, Command};
+use sd_gate::Worker;
 use std::alloc::{AllocError, Global};
 
 /// What a line asks for.
@@ -20,8 +21,25 @@ pub enum Line {
         address: u64,
         count: u64,
     },
-    /// A checkpoint with no rounds before its freeze.
-    Checkpoint,
+    /// The order to begin a checkpoint of so many pre-dumps and a dump.
+    Begin(u64),
+    /// The order to cancel the checkpoint.
+    Cancel,
+    /// A worker's next step, or its next device call asked for or handed in.
+    Work(Worker),
+    /// The device call that a worker asked for.
+    Perform(Worker),
+    /// So many events of a worker, at least one.
+    Step {
+        worker: Worker,
+        count: u64,
+    },
+    /// Events of a worker up to the end of its job.
+    Finish(Worker),
+    /// A checkpoint of so many pre-dumps and a dump, up to its end.
+    Checkpoint(u64),
+    /// The store opened again, up to the end of that.
+    Reopen,
 }
 
 /// What a line asks for. Its fields, separated by single spaces, take the place of those in the list.
@@ -68,7 +86,14 @@ fn request(alloc: Global, word: &str, arguments: &[&str]) -> Result<Line, LineEr
         "fault" => fault(arguments).ok_or(LineError::Unfit),
         "store" => store(alloc, arguments),
         "words" => words(arguments).ok_or(LineError::Unfit),
+        "begin" => begin(arguments).ok_or(LineError::Unfit),
+        "cancel" => cancel(arguments).ok_or(LineError::Unfit),
+        "work" => work(arguments).ok_or(LineError::Unfit),
+        "perform" => perform(arguments).ok_or(LineError::Unfit),
+        "step" => step(arguments).ok_or(LineError::Unfit),
+        "finish" => finish(arguments).ok_or(LineError::Unfit),
         "checkpoint" => checkpoint(arguments).ok_or(LineError::Unfit),
+        "reopen" => reopen(arguments).ok_or(LineError::Unfit),
         _ => Err(LineError::Unfit),
     }
 }
@@ -205,15 +230,84 @@ fn at_least_one(number: u64) -> Option<u64>
     (number > 0).then_some(number)
 }
 
-/// Rounds before the freeze aren't built yet.
+fn begin(arguments: &[&str]) -> Option<Line>
+    ensures { result ≡ begin_of (map (λ field. field.now) arguments.now) }
+{
+    let [rounds] = arguments else {
+        return None;
+    };
+    Some(Line::Begin(number(rounds)?))
+}
+
+fn cancel(arguments: &[&str]) -> Option<Line>
+    ensures { result ≡ cancel_of (map (λ field. field.now) arguments.now) }
+{
+    arguments.is_empty().then_some(Line::Cancel)
+}
+
+fn work(arguments: &[&str]) -> Option<Line>
+    ensures { result ≡ work_of (map (λ field. field.now) arguments.now) }
+{
+    let [name] = arguments else {
+        return None;
+    };
+    Some(Line::Work(worker_named(name)?))
+}
+
+fn perform(arguments: &[&str]) -> Option<Line>
+    ensures { result ≡ perform_of (map (λ field. field.now) arguments.now) }
+{
+    let [name] = arguments else {
+        return None;
+    };
+    Some(Line::Perform(worker_named(name)?))
+}
+
+/// No step at all doesn't fit.
+fn step(arguments: &[&str]) -> Option<Line>
+    ensures { result ≡ step_of (map (λ field. field.now) arguments.now) }
+{
+    let [name, count] = arguments else {
+        return None;
+    };
+    Some(Line::Step {
+        worker: worker_named(name)?,
+        count: at_least_one(number(count)?)?,
+    })
+}
+
+fn finish(arguments: &[&str]) -> Option<Line>
+    ensures { result ≡ finish_of (map (λ field. field.now) arguments.now) }
+{
+    let [name] = arguments else {
+        return None;
+    };
+    Some(Line::Finish(worker_named(name)?))
+}
+
 fn checkpoint(arguments: &[&str]) -> Option<Line>
     ensures { result ≡ checkpoint_of (map (λ field. field.now) arguments.now) }
 {
     let [rounds] = arguments else {
         return None;
     };
-    match number(rounds)? {
-        0 => Some(Line::Checkpoint),
+    Some(Line::Checkpoint(number(rounds)?))
+}
+
+fn reopen(arguments: &[&str]) -> Option<Line>
+    ensures { result ≡ reopen_of (map (λ field. field.now) arguments.now) }
+{
+    arguments.is_empty().then_some(Line::Reopen)
+}
+
+/// The worker of this name.
+pub(crate) fn worker_named(name: &str) -> Option<Worker>
+    ensures { result ≡ worker_of name.now }
+{
+    match name {
+        "dumper" => Some(Worker::Dumper),
+        "merger" => Some(Worker::Merger),
+        "opener" => Some(Worker::Opener),
         _ => None,
     }
 }

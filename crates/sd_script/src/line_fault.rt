@@ -7,8 +7,8 @@ pub enum FieldKind {
     Number,
     /// A number from 1 on.
     Positive,
-    /// The number 0.
-    Zero,
+    /// `dumper`, `merger` or `opener`.
+    WorkerName,
     /// `none`, or some of `rwx`.
     Permissions,
     /// Two hexadecimal digits for each byte.
@@ -20,7 +20,7 @@ impl fmt::Display for FieldKind {
         f.write_str(match self {
             FieldKind::Number => "a number below 2^64, decimal or 0x and hexadecimal",
             FieldKind::Positive => "a number from 1 on",
-            FieldKind::Zero => "0, as rounds aren't built yet",
+            FieldKind::WorkerName => "dumper, merger or opener",
             FieldKind::Permissions => "none, or some of rwx in this order",
             FieldKind::Hex => "hexadecimal digits, two for each byte",
         })

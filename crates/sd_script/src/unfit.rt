@@ -1,6 +1,6 @@
 //! What in a line doesn't fit the language, for a reader. `Script::parse` alone decides whether a line fits.
 
-use crate::line::{hex_bytes, number, permissions};
+use crate::line::{hex_bytes, number, permissions, worker_named};
 use crate::line_error::LineError;
 use crate::line_fault::{FieldKind, LineFault};
 use std::alloc::{AllocError, Global};
@@ -8,15 +8,17 @@ use std::str;
 
 /// The fields behind the word of a request, or none where no request has this word.
 fn fields_behind(word: &str) -> Option<&'static [FieldKind]> {
-    use FieldKind::{Hex, Number, Permissions, Positive, Zero};
+    use FieldKind::{Hex, Number, Permissions, Positive, WorkerName};
     match word {
         "mmap" | "mprotect" => Some(&[Number, Number, Number, Permissions]),
         "munmap" | "load" => Some(&[Number, Number, Number]),
         "store" | "try" => Some(&[Number, Number, Hex]),
         "words" => Some(&[Number, Number, Positive]),
         "fault" => Some(&[Number, Number]),
-        "fork" | "exit" => Some(&[Number]),
-        "checkpoint" => Some(&[Zero]),
+        "fork" | "exit" | "begin" | "checkpoint" => Some(&[Number]),
+        "work" | "perform" | "finish" => Some(&[WorkerName]),
+        "step" => Some(&[WorkerName, Positive]),
+        "cancel" | "reopen" => Some(&[]),
         _ => None,
     }
 }
@@ -26,7 +28,7 @@ fn is_of_kind(alloc: Global, field: &str, kind: FieldKind) -> Result<bool, Alloc
     match kind {
         FieldKind::Number => Ok(number(field).is_some()),
         FieldKind::Positive => Ok(matches!(number(field), Some(1..))),
-        FieldKind::Zero => Ok(number(field) == Some(0)),
+        FieldKind::WorkerName => Ok(worker_named(field).is_some()),
         FieldKind::Permissions => Ok(permissions(field).is_some()),
         FieldKind::Hex => match hex_bytes(alloc, field) {
             Ok(_) => Ok(true),

@@ -81,8 +81,8 @@ module _ {D : Type 0} (g : Ghosts D) (old new : WorldView D) (world : IsWorld g 
 
   taken_adds : (worker : Worker) (answer : Reply) → TakesUp worker old.core old.kept answer new.core new.kept
       → AddsByWork worker old.core answer (history_of old.core) (history_of new.core)
-  taken_adds worker answer (TakesUp.step makes left) = adds_by_step worker old.core answer (history_of old.core) (history_of new.core) makes.adds
-  taken_adds worker answer (TakesUp.call request hands left worked) =
+  taken_adds worker answer (TakesUp.step makes job left) = adds_by_step worker old.core answer (history_of old.core) (history_of new.core) makes.adds
+  taken_adds worker answer (TakesUp.call request hands job left worked) =
       subst (λ a. AddsByWork worker old.core a (history_of old.core) (history_of new.core)) (sym worked) (inl hands.history)
 
   work_adds : (first : Kept) (worker : Worker) (answer : Reply) → slice_get old.kept (index worker) ≡ Some first
@@ -116,8 +116,8 @@ module _ {D : Type 0} (g : Ghosts D) (old new : WorldView D) (world : IsWorld g 
   -- ---- the base
 
   taken_base : (worker : Worker) (answer : Reply) → TakesUp worker old.core old.kept answer new.core new.kept → new.core.base ≡ old.core.base
-  taken_base worker answer (TakesUp.step makes left) = elim makes.keeps [ inl stays ↦ stays.base | inr anew ↦ anew.base ]
-  taken_base worker answer (TakesUp.call request hands left worked) = hands.base
+  taken_base worker answer (TakesUp.step makes job left) = elim makes.keeps [ inl stays ↦ stays.base | inr anew ↦ anew.base ]
+  taken_base worker answer (TakesUp.call request hands job left worked) = hands.base
 
   work_base : (first : Kept) (worker : Worker) (answer : Reply) → slice_get old.kept (index worker) ≡ Some first
       → Works first worker old.core old.kept answer new.core new.kept → new.core.base ≡ old.core.base

@@ -31,11 +31,11 @@ module _ {D : Type 0} (g : Ghosts D) (old new : WorldView D) (gives : GivenUpFit
 
   takes_world : (worker : Worker) (answer : Reply) → slice_get old.kept (index worker) ≡ Some Nothing
       → TakesUp worker old.core old.kept answer new.core new.kept → new.disk ≡ old.disk → IsWorld g new
-  takes_world worker answer at (TakesUp.step makes left) disk = same_rest disk left (elim makes.keeps [
+  takes_world worker answer at (TakesUp.step makes job left) disk = same_rest disk left (elim makes.keeps [
     | inl stays ↦ stays_world g old.disk old.core new.core old.kept gives stays world
     | inr anew ↦ anew_world g old.disk old.core new.core old.kept anew world found as_read
   ])
-  takes_world worker answer at (TakesUp.call request hands left worked) disk =
+  takes_world worker answer at (TakesUp.call request hands job left worked) disk =
       subst (λ k. IsWorld g (record { core = new.core; disk = new.disk; kept = k })) (sym left)
       (subst (λ d. IsWorld g (record { core = new.core; disk = d; kept = slice_set old.kept (index worker) (Request request) })) (sym disk)
       (hands_out_world g old.disk old.core new.core old.kept worker request at hands world))

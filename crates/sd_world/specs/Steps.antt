@@ -1,6 +1,7 @@
 -- What an event does to a core, a disk and what is kept.
-use Rattle.std.specs.Prelude.{◌≡◌, ◌≢◌, ◌⊎◌, ℕ, ◌<◌, true, List, Some, slice_get, slice_set, length}
-use Rattle.sd_command.specs.declared.refusal.Refusal.TheVariants.{Busy, Idle, Device}
+use Rattle.std.specs.Prelude.{◌≡◌, ◌≢◌, ◌⊎◌, ℕ, ◌<◌, true, false, List, Some, None, slice_get, slice_set, length}
+use Rattle.sd_command.specs.declared.refusal.Refusal.{Refusal}
+use Rattle.sd_command.specs.declared.refusal.Refusal.TheVariants.{Busy, Idle, Device, StoreDown}
 use Rattle.sd_command.specs.declared.reply.Reply.{Reply}
 use Rattle.sd_command.specs.declared.reply.Reply.TheVariants as reply
 use Rattle.sd_disk.specs.Contents.{file_at}
@@ -17,6 +18,10 @@ use Rattle.sd_gate.specs.Requests.{Asked, Made}
 use Rattle.sd_belief.specs.Calls.{HandedIn, HandsOut, IsOut, MakesStep, Stays}
 use Rattle.sd_belief.specs.Laws.{IsMadeOf}
 use Rattle.sd_belief.specs.View.{CoreView, index}
+use Rattle.sd_core.specs.declared.taken.Taken.{Taken}
+use Rattle.sd_core.specs.declared.taken.Taken.TheVariants.{Step as StepTaken, Call as CallTaken}
+use Rattle.sd_core.specs.Refusals.{work_refusal}
+use Rattle.sd_core.specs.Working.{Leaves, LeavesByOutcome}
 use Rattle.sd_world.specs.declared.event.Event.{Event}
 use Rattle.sd_world.specs.declared.event.Event.TheVariants.{Command, Begin, Work, Perform, Merge, Cancel, Reopen}
 use Rattle.sd_world.specs.declared.kept.Kept.{Kept}
@@ -26,15 +31,23 @@ use Rattle.sd_world.specs.View.{WorldView}
 
 -- ---- a worker's event
 
+-- A worker without a job is refused, and nothing changes; the step of one that has a job lowers what is left of it, or ends it, or
+-- wants memory and changes nothing.
+pub record TurnsJob (old : CoreView) (worker : Worker) (taken : Taken) (new : CoreView) : Type 0 where
+  pub refused : (why : Refusal) → work_refusal old worker ≡ Some why → (taken ≡ StepTaken (reply.Refused why)) × (new ≡ old)
+  pub leaves : work_refusal old worker ≡ None → Leaves old worker taken new
+
 -- its next step is made, or its next request is kept
 pub data TakesUp (worker : Worker) (old : CoreView) (kept : List Kept) (answer : Reply) (new : CoreView) (later : List Kept) : Type 0 where
-  step : MakesStep old worker answer new → later ≡ kept → TakesUp worker old kept answer new later
-  call : (request : Asked) → HandsOut old worker request new → later ≡ slice_set kept (index worker) (Request request)
-      → answer ≡ reply.Worked → TakesUp worker old kept answer new later
+  step : MakesStep old worker answer new → TurnsJob old worker (StepTaken answer) new → later ≡ kept → TakesUp worker old kept answer new later
+  call : (request : Asked) → HandsOut old worker request new → TurnsJob old worker (CallTaken request) new
+      → later ≡ slice_set kept (index worker) (Request request) → answer ≡ reply.Worked → TakesUp worker old kept answer new later
 
 -- the outcome is handed in, and not kept any more
 pub record HandsIn (worker : Worker) (old : CoreView) (kept : List Kept) (made : Made) (answer : Reply) (new : CoreView) (later : List Kept) : Type 0 where
   pub handed : IsOut old made.request.id → HandedIn old made answer new
+  pub failed : IsOut old made.request.id → is_done made.answer ≡ false → answer ≡ reply.Refused StoreDown
+  pub leaves : IsOut old made.request.id → LeavesByOutcome old made.request.id.worker answer new
   pub left : later ≡ slice_set kept (index worker) Nothing
 
 -- refused as busy, and nothing changes

@@ -4,7 +4,13 @@
 #[cfg(test)]
 mod again;
 #[cfg(test)]
+mod checkpoints;
+#[cfg(test)]
 mod commands;
+#[cfg(test)]
+mod driver;
+#[cfg(test)]
+mod lines;
 #[cfg(test)]
 mod opening;
 #[cfg(test)]

@@ -17,6 +17,7 @@ returns-in-More c = subst (λ o. TeachesOpener o c.args.outcome true (Some c.han
     moves = c.hand_in.ensures.moves;
     slots = c.hand_in.ensures.slots;
     free = c.hand_in.ensures.free;
+    lowers = λ out. c.hand_in.ensures.lowers out c.in-More.is;
     sees = λ files told sees. (c.hand_in.ensures.sees files c.args.outcome.request told sees).1;
   },
 )

@@ -9,14 +9,14 @@ pub returns-in-Step : goal.returns-in-Step
 returns-in-Step c = record {
   first = Nothing;
   is = c.in-Nothing.ensures.taken;
-  works = TakesUp.step c.in-Step.ensures (c.in-Nothing.ensures.left ∙ set_itself c.args.kept.now (index c.args.worker) Nothing c.in-Nothing.ensures.taken);
+  works = TakesUp.step c.in-Step.ensures.takes (record { refused = c.in-Step.ensures.refused; leaves = c.in-Step.ensures.leaves }) (c.in-Nothing.ensures.left ∙ set_itself c.args.kept.now (index c.args.worker) Nothing c.in-Nothing.ensures.taken);
 }
 
 pub returns-in-Call : goal.returns-in-Call
 returns-in-Call c = record {
   first = Nothing;
   is = c.in-Nothing.ensures.taken;
-  works = TakesUp.call c.in-Call.request c.in-Call.ensures
+  works = TakesUp.call c.in-Call.request c.in-Call.ensures.takes (record { refused = c.in-Call.ensures.refused; leaves = c.in-Call.ensures.leaves })
       (c.put_kept.ensures ∙ ap (λ k. slice_set k (index c.args.worker) (Request c.in-Call.request)) c.in-Nothing.ensures.left
       ∙ set_twice c.args.kept.now (index c.args.worker) (Request c.in-Call.request) Nothing) refl;
 }

@@ -53,8 +53,8 @@ give-requires c =
     let serials : c.self.inside.numbers.serial < 2 ^ 63 + n.running.opened = subst (λ i. c.self.inside.numbers.serial < 2 ^ 63 + begun_images n.running i) n.none work.serials in
     omega (arith, serials, few, opened)
 
-pub returns-in_default-hold : goal.returns-in_default-hold
-returns-in_default-hold c =
+pub returns-in_default-hold-clause-takes : goal.returns-in_default-hold-clause-takes
+returns-in_default-hold-clause-takes c =
     let same = c.in_default-hold.ensures.err in
     step_seen its.Dumper (reply.Refused OutOfMemory) _ _ _ c.self.view_is (record {
       keeps = inl (stays_same c.core_steps.ensures _ _ (record {
@@ -70,7 +70,7 @@ invariant_of-self-2 c =
     let base : Base = record { number = c.self.inside.number; memory = memory_of c.self.inside.base } in
     let old = c.self.inside.numbers in
     let serial = old.serial + 1 in
-    let w = c.begin_next-request.ensures in
+    let w = c.begin_next-request.ensures.begins in
     let core = grown_core _ c.reserve_mark.new.self c.self.invariant c.in-Ok.ensures.grown in
     let out = out_at_work _ w.running None core w.was (ap (λ outs. slice_get outs 0) (rests_before _ w.running core w.was w.none)) in
     let work = at_work _ w.running core w.was in
@@ -115,11 +115,11 @@ invariant_of-self-2 c =
       };
     })
 
-pub returns : goal.returns
-returns c =
+pub returns-clause-takes : goal.returns-clause-takes
+returns-clause-takes c =
     let base : Base = record { number = c.self.inside.number; memory = memory_of c.self.inside.base } in
     let serial = c.self.inside.numbers.serial + 1 in
-    let w = c.begin_next-request.ensures in
+    let w = c.begin_next-request.ensures.begins in
     let order = order_of w.running serial c.state.result in
     let work = at_work _ w.running c.self.invariant w.was in
     let none = rests_before _ w.running c.self.invariant w.was w.none in

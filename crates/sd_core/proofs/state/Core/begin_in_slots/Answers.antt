@@ -7,11 +7,12 @@ use Rattle.sd_journal.specs.Marked.{entries_of}
 use Rattle.sd_rounds.specs.Dumper.{begun_checkpoint}
 use Rattle.sd_belief.specs.CheckpointSteps.{HasParent, IsUnreached}
 use Rattle.sd_belief.specs.View.{CoreView}
-use Rattle.sd_core.specs.Beginning.{IsFirstParent}
+use Rattle.sd_command.specs.declared.reply.Reply.TheVariants as reply
+use Rattle.sd_core.specs.Beginning.{BeginsAs, IsFirstParent, IsShort}
 use Rattle.sd_core.specs.declared.numbers.Numbers.{Numbers}
 use Rattle.sd_core.specs.Sound.{AreNumbers, held_for, out_of_opener}
 use Rattle.sd_core.proofs.ApplyLemmas.{same_phases, stays_same}
-use Rattle.sd_core.proofs.BeginLemmas.{MayBegin, begun_counted, begun_numbers, may_begin, none_opens}
+use Rattle.sd_core.proofs.BeginLemmas.{MayBegin, begun_counted, begun_numbers, may_begin, none_opens, short_begins}
 use Rattle.sd_core.proofs.CoreLemmas.{nobody_is}
 use Rattle.sd_core.proofs.JournalLemmas.{same_journal}
 use Rattle.sd_core.proofs.OpeningLemmas.{stays_seen}
@@ -116,3 +117,8 @@ returns-clause-keeps c =
         apart = λ one other from below within. slots_apart c.self.inside.catalog c.len.result c.args.rounds c.in-Ok.slots.pre_dumps.items c.in-Ok.slots.dump one other r below within;
       }) b;
     })
+
+pub returns-in-Err-clause-begins : goal.returns-in-Err-clause-begins
+returns-in-Err-clause-begins c =
+    subst (λ (v : CoreView). BeginsAs v c.args.rounds (reply.Refused c.in-Err.why) v) c.self.view_is
+    (short_begins _ c.args.rounds c.in-Err.why (subst (λ n. IsShort c.self.inside.catalog n c.args.rounds c.in-Err.why) (c.len.ensures ∙ c.self.inside.phases.ok.0) c.in-Err.ensures.few))

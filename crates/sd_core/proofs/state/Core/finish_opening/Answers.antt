@@ -43,8 +43,8 @@ invariant_of-self-2 c =
       work = none_works _ c.self.inside.dumper.running none;
     }
 
-pub returns : goal.returns
-returns c =
+pub returns-clause-takes : goal.returns-clause-takes
+returns-clause-takes c =
     let base : Base = record { number = c.self.inside.number; memory = memory_of c.self.inside.base } in
     let o = c.in-Some.opener in
     let is : c.self.inside.opener ≡ Some o = sym c.take_opener.ensures.taken ∙ c.in-Some.is in

@@ -192,8 +192,8 @@ invariant_of-self-in-Frozen-1 c =
       };
     })
 
-pub returns-in-Copied : goal.returns-in-Copied
-returns-in-Copied c =
+pub returns-in-Copied-clause-takes : goal.returns-in-Copied-clause-takes
+returns-in-Copied-clause-takes c =
     let base : Base = record { number = c.self.inside.number; memory = memory_of c.self.inside.base } in
     let w = subst (λ step. StepsOn c.self.inside.numbers.ticket c.self.inside.dumper c.self.inside.memory step c.step_on.new.dumper c.step_on.new.memory) c.in-Copied.is c.in-Ok-step_on.ensures.steps in
     let rests = ap (λ v. slice_get v.outs 0) c.self.view_is ∙ c.requires.rests in
@@ -215,8 +215,8 @@ returns-in-Copied c =
       is = w.is;
     }))
 
-pub returns-in-Visited : goal.returns-in-Visited
-returns-in-Visited c =
+pub returns-in-Visited-clause-takes : goal.returns-in-Visited-clause-takes
+returns-in-Visited-clause-takes c =
     let base : Base = record { number = c.self.inside.number; memory = memory_of c.self.inside.base } in
     let w = subst (λ step. StepsOn c.self.inside.numbers.ticket c.self.inside.dumper c.self.inside.memory step c.step_on.new.dumper c.step_on.new.memory) c.in-Visited.is c.in-Ok-step_on.ensures.steps in
     let rests = ap (λ v. slice_get v.outs 0) c.self.view_is ∙ c.requires.rests in
@@ -238,8 +238,8 @@ returns-in-Visited c =
       is = w.is;
     }))
 
-pub returns-in-Frozen : goal.returns-in-Frozen
-returns-in-Frozen c =
+pub returns-in-Frozen-clause-takes : goal.returns-in-Frozen-clause-takes
+returns-in-Frozen-clause-takes c =
     let base : Base = record { number = c.self.inside.number; memory = memory_of c.self.inside.base } in
     let w = subst (λ step. StepsOn c.self.inside.numbers.ticket c.self.inside.dumper c.self.inside.memory step c.step_on.new.dumper c.step_on.new.memory) c.in-Frozen.is c.in-Ok-step_on.ensures.steps in
     let rests = ap (λ v. slice_get v.outs 0) c.self.view_is ∙ c.requires.rests in
@@ -266,8 +266,8 @@ returns-in-Frozen c =
       is = w.is;
     }))
 
-pub returns-in-TableCall : goal.returns-in-TableCall
-returns-in-TableCall c =
+pub returns-in-TableCall-clause-takes : goal.returns-in-TableCall-clause-takes
+returns-in-TableCall-clause-takes c =
     let base : Base = record { number = c.self.inside.number; memory = memory_of c.self.inside.base } in
     let w = subst (λ step. StepsOn c.self.inside.numbers.ticket c.self.inside.dumper c.self.inside.memory step c.step_on.new.dumper c.step_on.new.memory) c.in-TableCall.is c.in-Ok-step_on.ensures.steps in
     let rests = ap (λ v. slice_get v.outs 0) c.self.view_is ∙ c.requires.rests in
@@ -295,8 +295,8 @@ returns-in-TableCall c =
       is = w.is;
     }) w.steps.1 (subst (λ slot. slot < length c.self.inside.phases.items) (sym slot) within) (λ asked bodies files. c.dumper_steps.ensures.writes_table _ _ w.running w.image w.next c.self.inside.numbers.ticket c.in-TableCall.request asked bodies files))
 
-pub returns-in-Call : goal.returns-in-Call
-returns-in-Call c =
+pub returns-in-Call-clause-takes : goal.returns-in-Call-clause-takes
+returns-in-Call-clause-takes c =
     let base : Base = record { number = c.self.inside.number; memory = memory_of c.self.inside.base } in
     let w = c.in-Ok-step_on.ensures.steps in
     let rests = ap (λ v. slice_get v.outs 0) c.self.view_is ∙ c.requires.rests in

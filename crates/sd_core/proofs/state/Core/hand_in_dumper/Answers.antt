@@ -11,7 +11,7 @@ use Rattle.sd_command.specs.declared.reply.Reply.TheVariants as reply
 use Rattle.sd_journal.specs.declared.entry.Entry.TheVariants.{Acked}
 use Rattle.sd_journal.specs.History.{Base}
 use Rattle.sd_journal.specs.Marked.{Told, entries_of}
-use Rattle.sd_rounds.specs.Dumper.{Hands, after_pre_dump, out_of_running}
+use Rattle.sd_rounds.specs.Dumper.{Hands, HasCounted, after_pre_dump, out_of_running}
 use Rattle.sd_belief.specs.DumperOutcomes.{IsDumpersOutcome, LeavesCatalog, closes_for_sure}
 use Rattle.sd_belief.specs.OpenerSteps.{nobody}
 use Rattle.sd_belief.specs.View.{CoreView, index}
@@ -20,7 +20,7 @@ use Rattle.sd_core.proofs.CoreLemmas.{after_count}
 use Rattle.sd_core.proofs.ImageLemmas.{image_more}
 use Rattle.sd_core.proofs.MarkLemmas.{sound_image}
 use Rattle.sd_core.proofs.OpeningLemmas.{handed_seen}
-use Rattle.sd_core.proofs.OutcomeLemmas.{acked_journal, acked_numbers, checkpoint_used, counted_opened, dump_pends, handed_dumper, left_counted, left_held, opened_now, pre_dump_pends}
+use Rattle.sd_core.proofs.OutcomeLemmas.{has_image, acked_journal, acked_numbers, checkpoint_used, counted_opened, dump_pends, handed_dumper, left_counted, left_held, opened_now, pre_dump_pends}
 use Rattle.sd_core.proofs.StepLemmas.{free_of_none}
 use Rattle.sd_core.proofs.WorkLemmas.{at_work, core_working, held_at_work, held_same, image_of_work, out_at_work, outs_within, own_order, same_numbers, turned}
 use Rattle.sd_core.proofs.state.Core.hand_in_dumper.Goals as goal
@@ -160,8 +160,8 @@ invariant_of-self-in-Dump c =
       work = subst (λ r. IfSome r (IsAtWork base c.append_held.new.self.items None c.self.inside.standing c.follow_call.new.phases.items c.enter_catalog-in-Dump.new.catalog c.self.inside.opener c.self.inside.numbers)) (sym gone) tt;
     }
 
-pub returns-in-Failed : goal.returns-in-Failed
-returns-in-Failed c =
+pub returns-in-Failed-clause-handed : goal.returns-in-Failed-clause-handed
+returns-in-Failed-clause-handed c =
     let base : Base = record { number = c.self.inside.number; memory = memory_of c.self.inside.base } in
     let made = c.args.outcome in
     let id = made.request.id in
@@ -198,8 +198,8 @@ returns-in-Failed c =
       committing = refl;
     })) (ap entries_of c.release_unfrozen.ensures.items))
 
-pub returns-in-More : goal.returns-in-More
-returns-in-More c =
+pub returns-in-More-clause-handed : goal.returns-in-More-clause-handed
+returns-in-More-clause-handed c =
     let base : Base = record { number = c.self.inside.number; memory = memory_of c.self.inside.base } in
     let made = c.args.outcome in
     let id = made.request.id in
@@ -249,8 +249,8 @@ returns-in-More c =
       is = ap (λ d. d.running) h.is ∙ ap Some h.hands.is;
     })) refl)
 
-pub returns-in-PreDump : goal.returns-in-PreDump
-returns-in-PreDump c =
+pub returns-in-PreDump-clause-handed : goal.returns-in-PreDump-clause-handed
+returns-in-PreDump-clause-handed c =
     let base : Base = record { number = c.self.inside.number; memory = memory_of c.self.inside.base } in
     let made = c.args.outcome in
     let id = made.request.id in
@@ -306,8 +306,8 @@ returns-in-PreDump c =
       is = ap (λ d. d.running) h.is ∙ ap Some h.hands.2;
     })) refl)
 
-pub returns-in-Dump : goal.returns-in-Dump
-returns-in-Dump c =
+pub returns-in-Dump-clause-handed : goal.returns-in-Dump-clause-handed
+returns-in-Dump-clause-handed c =
     let base : Base = record { number = c.self.inside.number; memory = memory_of c.self.inside.base } in
     let made = c.args.outcome in
     let id = made.request.id in
@@ -364,3 +364,24 @@ returns-in-Dump c =
       last = h.hands.1;
       is = ap (λ d. d.running) h.is;
     })) (c.requires.dumper, ap entries_of c.append_held.ensures.items))
+
+pub returns-in-Dump-clause-acked : goal.returns-in-Dump-clause-acked
+returns-in-Dump-clause-acked c n is =
+    let made = c.args.outcome in
+    let id = made.request.id in
+    let h = subst (λ p. Hands c.self.inside.dumper made p c.hand_in.new.self) c.in-Dump.is c.hand_in.ensures.hands in
+    let work = at_work _ h.running c.self.invariant h.was in
+    let opened = c.in-Dump.image in
+    let image = image_of_work _ h.running h.hands.0.image c.self.invariant h.was h.hands.0.was in
+    let now = opened_now _ _ _ h.hands.0.image opened made image h.hands.0.hands in
+    let named : c.self.inside.numbers.begun ≡ n = cc in
+    record {
+      running = h.running;
+      was = sym (ap (λ (v : CoreView). v.dumper.running) c.self.view_is) ∙ h.was;
+      number = sym named ∙ sym work.number;
+      last = h.hands.1;
+      dump = record { slot = opened.slot; header = opened.header; spaces = opened.table };
+      has = has_image c.self.inside.dumper.since_freeze c.self.inside.dumper.running h.running h.hands.0.image made opened c.self.inside.catalog c.enter_catalog-in-Dump.new.catalog c.sound.ensures.running h.was h.hands.0.was now h.hands.0.hands
+          c.enter_catalog-in-Dump.ensures;
+      counted = subst (λ p. HasCounted p c.hand_in.new.self.since_freeze) c.in-Dump.is c.hand_in.ensures.pages;
+    }

@@ -44,8 +44,8 @@ invariant_of-self c =
       work = none_works _ c.self.inside.dumper.running none;
     }
 
-pub returns-then-teach : goal.returns-then-teach
-returns-then-teach c =
+pub returns-then-teach-clause-handed : goal.returns-then-teach-clause-handed
+returns-then-teach-clause-handed c =
     let id = c.args.outcome.request.id in
     let own : slice_get c.self.inside.outs 2 ≡ Some (Some id) = ap (λ w. slice_get c.self.inside.outs (index w)) (sym c.requires.opener)
     ∙ ap (λ (v : CoreView). slice_get v.outs (index id.worker)) c.self.view_is ∙ c.requires.out in
@@ -77,8 +77,8 @@ returns-then-teach c =
       sees = t.goes_on.sees;
     }))
 
-pub returns : goal.returns
-returns c =
+pub returns-clause-handed : goal.returns-clause-handed
+returns-clause-handed c =
     let id = c.args.outcome.request.id in
     let own : slice_get c.self.inside.outs 2 ≡ Some (Some id) = ap (λ w. slice_get c.self.inside.outs (index w)) (sym c.requires.opener)
     ∙ ap (λ (v : CoreView). slice_get v.outs (index id.worker)) c.self.view_is ∙ c.requires.out in

@@ -38,8 +38,8 @@ invariant_of-self-in-Call c =
       work = none_works _ c.self.inside.dumper.running none;
     }
 
-pub returns-in-Call : goal.returns-in-Call
-returns-in-Call c =
+pub returns-in-Call-clause-takes : goal.returns-in-Call-clause-takes
+returns-in-Call-clause-takes c =
     let w = subst (λ step. WorksOpener c.self.inside.opener c.self.inside.numbers.ticket step c.step_opener.new.opener) c.in-Call.is c.in-Ok.ensures.works in
     let opening = subst (λ x. IfSome x (IsOpening c.self.inside.standing c.self.inside.phases.items)) w.was c.self.invariant.opening in
     let closed = opening.closed in
@@ -58,8 +58,8 @@ returns-in-Call c =
       sees = w.sees;
     }) slots)
 
-pub returns-in-Decoded : goal.returns-in-Decoded
-returns-in-Decoded c =
+pub returns-in-Decoded-clause-takes : goal.returns-in-Decoded-clause-takes
+returns-in-Decoded-clause-takes c =
     let w = subst (λ step. WorksOpener c.self.inside.opener c.self.inside.numbers.ticket step c.step_opener.new.opener) c.in-Decoded.is c.in-Ok.ensures.works in
     let closed = (subst (λ x. IfSome x (IsOpening c.self.inside.standing c.self.inside.phases.items)) w.was c.self.invariant.opening).closed in
     let none = nobody_is c.self.inside.outs c.self.inside.phases.items c.self.inside.dumper.running c.self.inside.opener c.self.invariant.outs_are (none_closed _ c.self.invariant closed)
@@ -76,8 +76,8 @@ returns-in-Decoded c =
       sees = w.sees;
     }))
 
-pub returns-in-Damaged : goal.returns-in-Damaged
-returns-in-Damaged c =
+pub returns-in-Damaged-clause-takes : goal.returns-in-Damaged-clause-takes
+returns-in-Damaged-clause-takes c =
     let w = subst (λ step. WorksOpener c.self.inside.opener c.self.inside.numbers.ticket step c.step_opener.new.opener) c.in-Damaged.is c.in-Ok.ensures.works in
     let closed = (subst (λ x. IfSome x (IsOpening c.self.inside.standing c.self.inside.phases.items)) w.was c.self.invariant.opening).closed in
     step_seen its.Opener (reply.Refused DamagedStore) _ _ _ c.self.view_is

@@ -1,4 +1,4 @@
-use Rattle.std.proofs.Common.{◌≡◌, ◌∙◌, ◌+◌, ◌<◌, false, ◌++◌, ◌∷◌, [], if◌then◌else◌, length, Some, None, refl, sym, ap, subst}
+use Rattle.std.proofs.Common.{◌≡◌, ◌∙◌, ◌+◌, ◌<◌, false, ◌++◌, ◌∷◌, [], if◌then◌else◌, length, Some, None, refl, sym, ap, subst, arith}
 use Rattle.std.specs.Result.{is_ok}
 use Rattle.sd_disk.specs.Contents.{file_at}
 use Rattle.sd_gate.specs.Looks.{IsFound}
@@ -10,7 +10,9 @@ use Rattle.sd_restore.specs.Scanned.{IsScanned}
 use Rattle.sd_opener.specs.declared.stage.Stage.TheVariants.{Asking}
 use Rattle.sd_opener.specs.Looking.{IsStageOf, Looking, out_of}
 use Rattle.sd_opener.specs.Sees.{EndsAs, IsToldOf, Sees, SeesSlot}
-use Rattle.sd_opener.proofs.Steps.{cant_fail, finds_file, looks_on, open_out, open_stage, passes, within_files}
+use Rattle.sd_opener.specs.Left.{Lowers, stage_left}
+use Rattle.sd_opener.proofs.Lowers.{open_left, slot_lowers, stage_lowers, within_slots}
+use Rattle.sd_opener.proofs.Steps.{back_count, cant_fail, finds_file, looks_on, open_out, open_stage, passes, within_files}
 use Rattle.sd_opener.proofs.opener.Opener.hand_in.Goals as goal
 
 pub returns-in-None-clause-sees : goal.returns-in-None-clause-sees
@@ -100,3 +102,25 @@ returns-in-Some-Closed-clause-sees c files request told sees =
             (subst (λ k. IsScanned files k c.self.inside.scanned) (sym long) was.scanned));
       }),
     )
+
+pub returns-in-Some-Open-clause-lowers : goal.returns-in-Some-Open-clause-lowers
+returns-in-Some-Open-clause-lowers c out goes =
+    let own : out_of c.self.inside.stage ≡ Some c.args.outcome.request.id = ap (λ (v : Looking). out_of v.stage) c.self.view_is ∙ out in
+    let fewer = c.settle.ensures.fewer (ap out_of (sym c.in-Asking.is) ∙ own) in
+    let before = ap stage_left c.in-Asking.is in
+    let one = ap stage_left c.put_stage-in-Some-Open.ensures ∙ open_left c.in-Some-Open.stage (c.in-Some-Open.ensures.open c.in-Some-Open.stage c.in-Some-Open.field-0-is) in
+    let within = within_slots _ _ c.args.outcome.request.id c.self.invariant own in
+    let next : Looking = record { slots = c.self.inside.slots; told = c.self.inside.told.items; stage = c.put_stage-in-Some-Open.new.stage; scanned = c.self.inside.scanned } in
+    subst (λ v. Lowers v next) c.self.view_is
+    (stage_lowers c.self.inside.slots (length c.self.inside.told.items) c.self.inside.stage c.put_stage-in-Some-Open.new.stage within (omega (arith, fewer, before, one)))
+
+pub returns-in-Some-Closed-clause-lowers : goal.returns-in-Some-Closed-clause-lowers
+returns-in-Some-Closed-clause-lowers c out goes =
+    let own : out_of c.self.inside.stage ≡ Some c.args.outcome.request.id = ap (λ (v : Looking). out_of v.stage) c.self.view_is ∙ out in
+    let within = within_slots _ _ c.args.outcome.request.id c.self.invariant own in
+    let more = ap length c.push.ensures.items ∙ ap (λ r. length (if is_ok r then c.self.inside.told.items ++ c.in-Some-Closed.phase ∷ [] else c.self.inside.told.items)) c.unwrap.ensures
+    ∙ back_count c.self.inside.told.items c.in-Some-Closed.phase in
+    let next : Looking = record { slots = c.self.inside.slots; told = c.push.new.self.items; stage = c.put_stage-in-Some-Closed.new.stage; scanned = c.self.inside.scanned } in
+    subst (λ v. Lowers v next) c.self.view_is
+    (slot_lowers c.self.inside.slots (length c.self.inside.told.items) (length c.push.new.self.items) c.self.inside.stage c.put_stage-in-Some-Closed.new.stage within
+    (omega (arith, more)) (ap stage_left (c.put_stage-in-Some-Closed.ensures ∙ c.first_stage-in-Some-Closed.ensures)))

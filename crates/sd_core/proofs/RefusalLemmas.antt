@@ -1,0 +1,113 @@
+-- What is so where a call isn't refused.
+use Rattle.std.proofs.Common.{◌≡◌, ◌≢◌, ◌<◌, ◌==◌, ◌&&◌, ◌||◌, Bool, true, false, not, is_none, is_some, [], ◌∷◌, Option, Some, None, slice_get, refl, sym, ◌∙◌, ap, inl, inr, arith}
+use Rattle.std.proofs.lemmas.Bool.Decides.{eqb_tells}
+use Rattle.sd_command.specs.declared.refusal.Refusal.{Refusal}
+use Rattle.sd_command.specs.declared.refusal.Refusal.TheVariants as refusal
+use Rattle.sd_gate.specs.declared.request_id.RequestId.{RequestId}
+use Rattle.sd_gate.specs.declared.worker.Worker.{Worker}
+use Rattle.sd_gate.specs.declared.worker.Worker.TheVariants.{Dumper}
+use Rattle.sd_journal.specs.History.{pending}
+use Rattle.sd_belief.specs.declared.standing.Standing.TheVariants as standing
+use Rattle.sd_belief.specs.OpenerSteps.{nobody}
+use Rattle.sd_belief.specs.View.{CoreView, history_of, index}
+use Rattle.sd_core.specs.Beginning.{first_of, free_entries}
+use Rattle.sd_core.specs.Refusals.{are_resting, cancel_refusal, cant_cancel, has_checkpoint, is_idle, is_in_use, is_open, is_resting, none_at, reopen_refusal, wants_entry, work_refusal}
+use Rattle.sd_core.specs.Sound.{IsCore, Parts, out_of_opener}
+use Rattle.sd_core.proofs.BeginLemmas.{first_no, neither, none_some}
+use Rattle.sd_rounds.specs.Dumper.{out_of_running}
+
+-- ---- Booleans
+
+pub first_two : (a b x y : Bool) (v w : Refusal) → a ≡ x → b ≡ y → first_of ((a, v) ∷ (b, w) ∷ []) ≡ first_of ((x, v) ∷ (y, w) ∷ [])
+first_two a b x y v w one two = ap (λ h. first_of ((h, v) ∷ (b, w) ∷ [])) one ∙ ap (λ h. first_of ((x, v) ∷ (h, w) ∷ [])) two
+
+not_false : (b : Bool) → not b ≡ false → b ≡ true
+not_false true is = refl
+not_false false is = absurd (let no : true ≡ false = is in cc)
+
+pub none_true : {X : Type 0} (one : Option X) → one ≡ None → is_none one ≡ true
+none_true None is = refl
+none_true (Some x) is = absurd (let no : Some x ≡ None = is in cc)
+
+some_false : {X : Type 0} (one : Option X) → one ≡ None → is_some one ≡ false
+some_false None is = refl
+some_false (Some x) is = absurd (let no : Some x ≡ None = is in cc)
+
+-- ---- requests that are out
+
+pub rests_where : (one : Option (Option RequestId)) → none_at one ≡ true → one ≡ Some None
+rests_where None is = absurd (let no : false ≡ true = is in cc)
+rests_where (Some None) is = refl
+rests_where (Some (Some id)) is = absurd (let no : false ≡ true = is in cc)
+
+pub nobody_rests : (core : Parts) → IsCore core → are_resting core.outs ≡ true → core.outs ≡ nobody
+nobody_rests core sound is =
+    sound.outs_are.are ∙ by_outs (out_of_running core.dumper.running) (out_of_opener core.opener) (ap are_resting (sym sound.outs_are.are) ∙ is)
+  where
+    by_outs : (one other : Option RequestId) → are_resting (one ∷ None ∷ other ∷ []) ≡ true → one ∷ None ∷ other ∷ [] ≡ nobody
+    by_outs None None rest = refl
+    by_outs None (Some id) rest = absurd (let no : false ≡ true = rest in cc)
+    by_outs (Some id) None rest = absurd (let no : false ≡ true = rest in cc)
+    by_outs (Some id) (Some i) rest = absurd (let no : false ≡ true = rest in cc)
+
+-- ---- a checkpoint that can be cancelled
+
+pub record MayCancel (core : CoreView) : Type 0 where
+  pub some : core.dumper.running ≡ None → pending (history_of core) ≡ None → ⊥
+  pub closed : core.opener ≡ None
+  pub rests : slice_get core.outs 0 ≡ Some None
+  pub sure : core.committing ≡ false
+
+pub may_cancel_now : (core : CoreView) → cancel_refusal core ≡ None → MayCancel core
+may_cancel_now core is =
+    let one = first_no (not (has_checkpoint core)) refusal.Idle _ is in
+    let two = first_no (cant_cancel core) refusal.Busy _ one.1 in
+    let sure = neither (is_some core.opener || not (is_resting core.outs Dumper)) core.committing two.0 in
+    let rests = neither (is_some core.opener) (not (is_resting core.outs Dumper)) sure.0 in
+    let has = not_false (has_checkpoint core) one.0 in
+    record {
+      some = λ idle none.
+          let no : false ≡ true = sym (ap (λ r. is_some r || is_some (pending (history_of core))) idle ∙ some_false (pending (history_of core)) none) ∙ has in cc;
+      closed = none_some core.opener rests.0;
+      rests = rests_where (slice_get core.outs 0) (not_false (is_resting core.outs Dumper) rests.1);
+      sure = sure.1;
+    }
+
+-- ---- a store that can be opened again
+
+pub record MayReopen (core : CoreView) : Type 0 where
+  pub closed : core.standing ≢ standing.Open
+  pub none : core.opener ≡ None
+  pub rest : are_resting core.outs ≡ true
+  pub free : pending (history_of core) ≡ None → 0 < free_entries core
+
+pub may_reopen : (core : CoreView) → reopen_refusal core ≡ None → MayReopen core
+may_reopen core is =
+    let one = first_no (is_in_use core) refusal.Busy _ is in
+    let two = first_no (wants_entry core) refusal.JournalFull _ one.1 in
+    let out = neither (is_open core.standing || is_some core.opener) (not (are_resting core.outs)) one.0 in
+    let open_is = neither (is_open core.standing) (is_some core.opener) out.0 in
+    record {
+      closed = λ stands. let no : true ≡ false = ap is_open (sym stands) ∙ open_is.0 in cc;
+      none = none_some core.opener open_is.1;
+      rest = not_false (are_resting core.outs) out.1;
+      free = λ none. some_free (ap (λ b. b && (free_entries core == 0)) (sym (none_true (pending (history_of core)) none)) ∙ two.0);
+    }
+  where
+    some_free : (free_entries core == 0) ≡ false → 0 < free_entries core
+    some_free other = elim (eqb_tells (free_entries core) 0) [
+      | inl one ↦ absurd (let no : true ≡ false = sym one.0 ∙ other in cc)
+      | inr more ↦ (let many = more.1 in omega (arith, many))
+    ]
+
+-- ---- a worker that can go on
+
+pub record MayWork (core : CoreView) (worker : Worker) : Type 0 where
+  pub busy : is_idle core worker ≡ false
+  pub rests : slice_get core.outs (index worker) ≡ Some None
+
+pub may_work : (core : CoreView) (worker : Worker) → work_refusal core worker ≡ None → MayWork core worker
+may_work core worker is =
+    let one = first_no (is_idle core worker) refusal.Idle _ is in
+    let two = first_no (not (is_resting core.outs worker)) refusal.Busy _ one.1 in
+    record { busy = one.0; rests = rests_where (slice_get core.outs (index worker)) (not_false (is_resting core.outs worker) two.0) }

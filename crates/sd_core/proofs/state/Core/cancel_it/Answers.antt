@@ -1,0 +1,66 @@
+use Rattle.std.proofs.Common.{◌≡◌, ◌∷◌, [], None, IfSome, refl, sym, ◌∙◌, ap, subst, arith}
+use Rattle.sd_areas.specs.Memory.{memory_of}
+use Rattle.sd_journal.specs.History.{Base}
+use Rattle.sd_journal.specs.Kept.{Kept}
+use Rattle.sd_rounds.specs.Dumper.{Dumping, out_of_running}
+use Rattle.sd_core.specs.Sound.{AreNumbers, IsAtWork, held_for, out_of_opener}
+use Rattle.sd_core.proofs.ApplyLemmas.{same_phases}
+use Rattle.sd_core.proofs.CancelLemmas.{cancelled_journal, cancelled_numbers, counted_released, may_cancel, rests_cancelled, same_images}
+use Rattle.sd_core.proofs.JournalLemmas.{same_journal}
+use Rattle.sd_core.proofs.OpeningLemmas.{stays_seen}
+use Rattle.sd_core.proofs.RefusalLemmas.{MayCancel, may_cancel_now}
+use Rattle.sd_core.proofs.state.Core.cancel_it.Goals as goal
+
+pub invariant_of-self : goal.invariant_of-self
+invariant_of-self c =
+    let base : Base = record { number = c.self.inside.number; memory = memory_of c.self.inside.base } in
+    let may = subst MayCancel (sym c.self.view_is) (may_cancel_now c.args.self.now c.requires) in
+    let gone = ap (λ (d : Dumping). d.running) c.cancel.ensures in
+    let journal = cancelled_journal c.tracked_laws.ensures _ c.append_held.new.self c.self.invariant (may_cancel _ c.self.invariant (λ idle none. may.some idle (sym c.self.invariant.journal_is.frozen_for ∙ none)))
+    c.append_held.ensures.items c.append_held.ensures.numbers.first c.append_held.ensures.numbers.limit in
+    let held = c.held-held.ensures in
+    let less = ap (λ (k : Kept). k.held) c.release.ensures in
+    let free : c.release.new.self.held ≡ 0 = omega (arith, held, less) in
+    let items = ap (λ (k : Kept). k.items) c.release.ensures in
+    record {
+      journal_is = same_journal base c.append_held.new.self c.release.new.self c.self.inside.memory None c.self.inside.last (ap (λ (k : Kept). k.first) c.release.ensures) items
+          (ap (λ (k : Kept). k.limit) c.release.ensures) journal;
+      held = free ∙ ap (λ r. held_for None r None) (sym gone) ∙ ap (held_for None c.cancel.new.self.running) (sym may.closed);
+      outs_are = record {
+        are = rests_cancelled _ c.self.invariant may.rests ∙ ap (λ r. out_of_running r ∷ None ∷ out_of_opener c.self.inside.opener ∷ []) (sym gone);
+        within = c.self.invariant.outs_are.within;
+      };
+      opening = c.self.invariant.opening;
+      numbers_are = subst (λ all. AreNumbers base all None c.self.inside.last c.self.inside.numbers) (sym (items ∙ c.append_held.ensures.items))
+          (cancelled_numbers base c.self.inside.journal.items c.self.inside.pending c.self.inside.last c.self.inside.numbers c.self.invariant.numbers_are);
+      counted = counted_released c.self.inside.numbers c.self.inside.catalog c.release-2.new.self c.self.inside.numbers.serial
+          (record { released = c.release-2.ensures.released; nothing = c.release-2.ensures.nothing }) c.self.invariant.counted;
+      rests = λ none stands. refl;
+      work = subst (λ r. IfSome r (IsAtWork base c.release.new.self.items None c.self.inside.standing c.self.inside.phases.items c.release-2.new.self c.self.inside.opener c.self.inside.numbers)) (sym gone) tt;
+    }
+
+pub returns-clause-keeps : goal.returns-clause-keeps
+returns-clause-keeps c =
+    let may = subst MayCancel (sym c.self.view_is) (may_cancel_now c.args.self.now c.requires) in
+    let gone = ap (λ (d : Dumping). d.running) c.cancel.ensures in
+    stays_seen _ _ _ c.self.view_is (record {
+      base = refl;
+      outs = refl;
+      phases = same_phases c.self.inside.outs c.self.inside.phases.items;
+      goes_on = λ asked bodies files b. c.cancelling_law.ensures _ _ c.self.inside.numbers.begun asked bodies files (record {
+        base = refl;
+        items = ap (λ (k : Kept). k.items) c.release.ensures ∙ c.append_held.ensures.items;
+        memory = refl;
+        phases = refl;
+        outs = refl;
+        standing = refl;
+        serial = refl;
+        closed = may.closed;
+        free = may.rests;
+        sure = may.sure;
+        images = same_images c.self.inside.catalog c.release-2.new.self c.self.inside.numbers.serial
+            (record { released = c.release-2.ensures.released; nothing = c.release-2.ensures.nothing });
+        grows = refl;
+        is = gone;
+      }) b;
+    })

@@ -1,0 +1,55 @@
+use Rattle.std.proofs.Common.{length, IfSome, Some, refl, sym, ◌∙◌, ap, subst}
+use Rattle.sd_areas.specs.Memory.{memory_of}
+use Rattle.sd_journal.specs.History.{Base}
+use Rattle.sd_core.specs.Opening.{HoldsForOpening}
+use Rattle.sd_core.specs.Sound.{AreNumbers, IsOpening, held_for, out_of_opener}
+use Rattle.sd_core.proofs.CoreLemmas.{none_out}
+use Rattle.sd_core.proofs.JournalLemmas.{same_journal}
+use Rattle.sd_core.proofs.OpeningLemmas.{given_count, held_opened, stays_reopened, stays_seen}
+use Rattle.sd_core.proofs.RefusalLemmas.{MayReopen, may_reopen, nobody_rests}
+use Rattle.sd_core.proofs.WorkLemmas.{none_closed, none_works}
+use Rattle.sd_core.proofs.state.Core.open_again.Goals as goal
+
+pub invariant_of-self-2 : goal.invariant_of-self-2
+invariant_of-self-2 c =
+    let base : Base = record { number = c.self.inside.number; memory = memory_of c.self.inside.base } in
+    let may = subst MayReopen (sym c.self.view_is) (may_reopen c.args.self.now c.requires) in
+    let inside = c.self.invariant in
+    let nobody_out = nobody_rests _ inside may.rest in
+    let none = none_closed _ inside may.closed in
+    let opener = c.in-Ok.opener in
+    let fresh = c.in-Ok.ensures.opener in
+    let held = subst (λ r. HoldsForOpening c.self.inside.pending c.self.inside.journal r c.fresh_opener.new.journal) c.in-Ok.is c.fresh_opener.ensures.holds in
+    let is = c.put_opener.ensures in
+    record {
+      journal_is = same_journal base c.self.inside.journal c.fresh_opener.new.journal c.self.inside.memory c.self.inside.pending c.self.inside.last held.first held.items held.limit inside.journal_is;
+      held = held_opened c.self.inside.pending c.self.inside.dumper.running c.self.inside.opener opener c.self.inside.journal.held c.fresh_opener.new.journal.held held.held inside.held none may.none
+          ∙ ap (held_for c.self.inside.pending c.self.inside.dumper.running) (sym is);
+      outs_are = none_out c.self.inside.outs c.give_up_all.new.phases.items c.self.inside.dumper.running c.put_opener.new.opener none (ap out_of_opener is ∙ ap (λ s. out_of_opener (Some (record opener { stage = s }))) fresh.stage) nobody_out;
+      opening = subst (λ x. IfSome x (IsOpening c.self.inside.standing c.give_up_all.new.phases.items)) (sym is) (record {
+        closed = may.closed;
+        slots = fresh.count ∙ c.len.ensures ∙ c.self.inside.phases.ok.0 ∙ sym (given_count c.self.inside.phases.items) ∙ sym (ap length c.give_up_all.ensures);
+      });
+      numbers_are = subst (λ all. AreNumbers base all c.self.inside.pending c.self.inside.last c.self.inside.numbers) (sym held.items) inside.numbers_are;
+      counted = inside.counted;
+      rests = inside.rests;
+      work = none_works _ c.self.inside.dumper.running none;
+    }
+
+pub returns-clause-keeps : goal.returns-clause-keeps
+returns-clause-keeps c =
+    let may = subst MayReopen (sym c.self.view_is) (may_reopen c.args.self.now c.requires) in
+    let held = subst (λ r. HoldsForOpening c.self.inside.pending c.self.inside.journal r c.fresh_opener.new.journal) c.in-Ok.is c.fresh_opener.ensures.holds in
+    let fresh = c.in-Ok.ensures.opener in
+    stays_seen _ _ _ c.self.view_is
+    (stays_reopened c.opener_steps.ensures _ _ c.in-Ok.opener (record {
+      rest = record { closed = may.closed; base = refl; items = held.items; memory = refl; standing = refl; catalog = refl; dumper = refl; numbers = refl; grows = refl; committing = refl };
+      outs = refl;
+      none = nobody_rests _ c.self.invariant may.rest;
+      phases = c.give_up_all.ensures;
+      is = c.put_opener.ensures;
+      slots = fresh.count ∙ c.len.ensures ∙ c.self.inside.phases.ok.0;
+      told = fresh.told;
+      stage = fresh.stage;
+      sees = λ files count. fresh.sees files (count ∙ fresh.count);
+    }))

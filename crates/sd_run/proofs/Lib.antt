@@ -1,0 +1,4 @@
+mod GoesLemmas
+mod DriveLemmas
+mod LineLemmas
+mod EndLemmas

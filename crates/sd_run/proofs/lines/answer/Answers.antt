@@ -1,0 +1,49 @@
+-- Each line makes its own events.
+use Rattle.std.proofs.Common.{sym, subst}
+use Rattle.sd_run.specs.Goes.{GoesOn}
+use Rattle.sd_run.specs.Jobs.{IsDriven}
+use Rattle.sd_run.proofs.LineLemmas.{answered_as}
+use Rattle.sd_run.proofs.lines.answer.Goals.{in-Command, in-Begin, in-Cancel, in-Work, in-Perform, in-Step, in-Finish, in-Checkpoint, in-Reopen}
+use Rattle.sd_run.proofs.lines.answer.Goals as goal
+
+pub returns-clause-answered : goal.returns-clause-answered
+returns-clause-answered g c =
+    let first = c.args.world.now in
+    let last = c.match-line.world in
+    let line = c.args.line in
+    let reply = c.match-line.reply in
+    elim c.match-line.branch [
+      | in-Command w ↦ answered_as g.D.Disk first last w.make-reply.new.world line _ reply w.make-reply.result w.in-Command.is w.reply-is w.world-is
+          w.make-reply.ensures.step
+      | in-Begin w ↦ answered_as g.D.Disk first last w.make-reply-in-Begin.new.world line _ reply w.make-reply-in-Begin.result w.in-Begin.is w.reply-is w.world-is
+          w.make-reply-in-Begin.ensures.step
+      | in-Cancel w ↦ answered_as g.D.Disk first last w.make-reply-in-Cancel.new.world line _ reply w.make-reply-in-Cancel.result w.in-Cancel.is w.reply-is w.world-is
+          w.make-reply-in-Cancel.ensures.step
+      | in-Work w ↦ answered_as g.D.Disk first last w.make-reply-in-Work.new.world line _ reply w.make-reply-in-Work.result w.in-Work.is w.reply-is w.world-is
+          w.make-reply-in-Work.ensures.step
+      | in-Perform w ↦ answered_as g.D.Disk first last w.make-reply-in-Perform.new.world line _ reply w.make-reply-in-Perform.result w.in-Perform.is w.reply-is w.world-is
+          w.make-reply-in-Perform.ensures.step
+      | in-Step w ↦ answered_as g.D.Disk first last w.drive-reply.new.world line _ reply w.drive-reply.result w.in-Step.is w.reply-is w.world-is
+          (subst (λ n. IsDriven g.D.Disk w.in-Step.worker n first w.drive-reply.result w.drive-reply.new.world) w.max.ensures w.drive-reply.ensures.driven)
+      | in-Finish w ↦ answered_as g.D.Disk first last w.finish-reply.new.world line _ reply w.finish-reply.result w.in-Finish.is w.reply-is w.world-is
+          w.finish-reply.ensures.finished
+      | in-Checkpoint w ↦ answered_as g.D.Disk first last w.do_job-reply.new.world line _ reply w.do_job-reply.result w.in-Checkpoint.is w.reply-is w.world-is
+          w.do_job-reply.ensures.job
+      | in-Reopen w ↦ answered_as g.D.Disk first last w.do_job-reply-in-Reopen.new.world line _ reply w.do_job-reply-in-Reopen.result w.in-Reopen.is w.reply-is w.world-is
+          w.do_job-reply-in-Reopen.ensures.job
+    ]
+
+pub returns-clause-goes_on : goal.returns-clause-goes_on
+returns-clause-goes_on g c =
+    let first = c.args.world.now in
+    elim c.match-line.branch [
+      | in-Command w ↦ subst (GoesOn g.D.Disk first) (sym w.world-is) w.make-reply.ensures.goes_on
+      | in-Begin w ↦ subst (GoesOn g.D.Disk first) (sym w.world-is) w.make-reply-in-Begin.ensures.goes_on
+      | in-Cancel w ↦ subst (GoesOn g.D.Disk first) (sym w.world-is) w.make-reply-in-Cancel.ensures.goes_on
+      | in-Work w ↦ subst (GoesOn g.D.Disk first) (sym w.world-is) w.make-reply-in-Work.ensures.goes_on
+      | in-Perform w ↦ subst (GoesOn g.D.Disk first) (sym w.world-is) w.make-reply-in-Perform.ensures.goes_on
+      | in-Step w ↦ subst (GoesOn g.D.Disk first) (sym w.world-is) w.drive-reply.ensures.goes_on
+      | in-Finish w ↦ subst (GoesOn g.D.Disk first) (sym w.world-is) w.finish-reply.ensures.goes_on
+      | in-Checkpoint w ↦ subst (GoesOn g.D.Disk first) (sym w.world-is) w.do_job-reply.ensures.goes_on
+      | in-Reopen w ↦ subst (GoesOn g.D.Disk first) (sym w.world-is) w.do_job-reply-in-Reopen.ensures.goes_on
+    ]

@@ -1,0 +1,59 @@
+-- A worker's events, one after the other, and its jobs.
+use Rattle.std.specs.Prelude.{◌≡◌, ◌⊎◌, ◌≤◌, ◌+◌, ◌-◌, ◌^◌, ℕ, Bool, true, false, if◌then◌else◌, List, [], ◌∷◌, ◌++◌, length}
+use Rattle.std.specs.List.{AllByRecursion}
+use Rattle.sd_command.specs.declared.reply.Reply.{Reply}
+use Rattle.sd_command.specs.declared.reply.Reply.TheVariants.{Done, Bytes, Child, NeedsFault, Segv, Begun, Worked, Acked, Cancelled, Merged, Reopened, Refused}
+use Rattle.sd_disk.specs.declared.disk.Disk.{Ghosts}
+use Rattle.sd_gate.specs.declared.worker.Worker.{Worker}
+use Rattle.sd_world.specs.declared.event.Event.{Event}
+use Rattle.sd_world.specs.declared.event.Event.TheVariants.{Work, Perform}
+use Rattle.sd_world.specs.declared.kept.Kept.{Kept}
+use Rattle.sd_world.specs.Runs.{IsStep}
+use Rattle.sd_world.specs.View.{WorldView, is_asked}
+
+-- a worker's next event: its device call where one is out, and else its next step
+abbrev pub next_event : List Kept → Worker → Event
+next_event kept worker = if is_asked kept worker then Perform worker else Work worker
+
+-- a reply that ends a job, or refuses
+abbrev pub is_end : Reply → Bool
+is_end Done = false
+is_end (Bytes bytes) = false
+is_end (Child space) = false
+is_end NeedsFault = false
+is_end (Segv why) = false
+is_end (Begun n) = false
+is_end Worked = false
+is_end (Acked n) = true
+is_end (Cancelled n) = false
+is_end (Merged serial) = true
+is_end (Reopened m) = true
+is_end (Refused why) = true
+
+-- the worker's next events, one after the other, with these replies
+abbrev pub Drives : {D : Type 0} → Ghosts D → Worker → WorldView D → List Reply → WorldView D → Type 0
+Drives g worker first [] last = last ≡ first
+Drives {D} g worker first (answer ∷ answers) last =
+    (next : WorldView D) × IsStep g (next_event first.kept worker) first answer next × Drives g worker next answers last
+
+-- So many next events of a worker, or fewer where one of them ends its job or is refused: that is then the last. The answer is that of the last.
+pub record IsDriven {D : Type 0} (g : Ghosts D) (worker : Worker) (count : ℕ) (first : WorldView D) (answer : Reply) (last : WorldView D) : Type 0 where
+  pub before : List Reply
+  pub drives : Drives g worker first (before ++ answer ∷ []) last
+  pub goes_on : AllByRecursion (λ reply. is_end reply ≡ false) before
+  pub stops : (is_end answer ≡ true) ⊎ (length before + 1 ≡ count)
+  pub within : length before + 1 ≤ count
+
+-- the number of events after which a job isn't followed any more
+abbrev pub no_more : ℕ
+no_more = 2 ^ 64 - 1
+
+-- a worker's events up to the end of its job
+abbrev pub IsFinished : {D : Type 0} → Ghosts D → Worker → WorldView D → Reply → WorldView D → Type 0
+IsFinished g worker first answer last = IsDriven g worker no_more first answer last
+
+-- a job that is begun and finished by its worker; a refused beginning is the answer
+pub data IsJob {D : Type 0} (g : Ghosts D) (order : Event) (worker : Worker) (first : WorldView D) (answer : Reply) (last : WorldView D) : Type 0 where
+  refused : is_end answer ≡ true → IsStep g order first answer last → IsJob g order worker first answer last
+  finished : (begun : Reply) (mid : WorldView D) → is_end begun ≡ false → IsStep g order first begun mid → IsFinished g worker mid answer last
+      → IsJob g order worker first answer last

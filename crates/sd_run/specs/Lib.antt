@@ -1,0 +1,6 @@
+pub mod Ending
+pub mod Goes
+pub mod Jobs
+pub mod Lines
+pub mod Whole
+pub mod Words

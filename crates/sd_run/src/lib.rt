@@ -1,0 +1,11 @@
+//! Running a script over a store: a world, driven by the lines of the script.
+#![tactic(auto)]
+
+mod driving;
+mod lines;
+mod page_words;
+mod running;
+mod stop;
+
+pub use running::{run_lines, run_script};
+pub use stop::Stop;

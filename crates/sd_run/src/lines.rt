@@ -1,0 +1,136 @@
+//! The lines of a script, answered by a world.
+ghost use Rattle.std.specs.Prelude.{◌≡◌, ◌∷◌, OnOk};
+ghost use Rattle.std.specs.Io.KnownBytes.{Appends};
+ghost use Rattle.sd_script.specs.declared.line.Line.TheVariants as asked;
+ghost use Rattle.sd_script.specs.Texts.{answer_line};
+ghost use Rattle.sd_run.specs.Goes.{GoesOn};
+ghost use Rattle.sd_run.specs.Lines.{AnswersLine};
+ghost use Rattle.sd_run.specs.Whole.{AnswersSome, PrintsLines};
+ghost use Rattle.sd_run.specs.Words.{AreGiven};
+
+use crate::driving::{do_job, drive, finish, make};
+use crate::page_words;
+use sd_areas::SpaceId;
+use sd_command::Reply;
+use sd_disk::Disk;
+use sd_gate::Worker;
+use sd_script::{Answer, Line, print_answer};
+use sd_world::{Event, World};
+use std::alloc::Global;
+use std::io;
+use std::io::Write;
+
+/// The seat that a script's commands come from.
+const SCRIPT_SEAT: usize = 0;
+
+/// Makes the events of a line, and returns what the last of them is answered. A line that asks for words makes none.
+fn answer<D: Disk>(alloc: Global, world: &mut World<D>, line: Line) -> Answer
+    ensures answered { AnswersLine D.Disk line world.old result world.new }
+    ensures goes_on { GoesOn D.Disk world.old world.new }
+{
+    let reply = match line {
+        Line::Command(command) => make(
+            world,
+            Event::Command {
+                seat: SCRIPT_SEAT,
+                command,
+            },
+        ),
+        Line::Begin(rounds) => make(world, Event::Begin(rounds)),
+        Line::Cancel => make(world, Event::Cancel),
+        Line::Work(worker) => make(world, Event::Work(worker)),
+        Line::Perform(worker) => make(world, Event::Perform(worker)),
+        Line::Step { worker, count } => drive(world, worker, count.max(1)),
+        Line::Finish(worker) => finish(world, worker),
+        Line::Checkpoint(rounds) => do_job(world, Event::Begin(rounds), Worker::Dumper),
+        Line::Reopen => do_job(world, Event::Reopen, Worker::Opener),
+        Line::Words {
+            space,
+            address,
+            count,
+        } => return words(alloc, world, space, address, count),
+    };
+    Answer::Reply(reply)
+}
+
+/// The words of so many pages, from the page of an address on, as the memory stands, frozen or not.
+fn words<D: Disk>(
+    alloc: Global,
+    world: &World<D>,
+    space: SpaceId,
+    address: u64,
+    count: u64,
+) -> Answer
+    ensures given { AreGiven world.now.core.memory space address count result }
+    ensures goes_on { GoesOn D.Disk world.now world.now }
+{
+    world.sound();
+    page_words::answer(alloc, world.core().memory(), space, address, count)
+}
+
+/// Answers a line, and prints its answer. An acknowledged checkpoint is seen before the next line begins; other answers
+/// may wait in the writer's buffer.
+///
+/// # Errors
+///
+/// Those of the writer. The line was answered.
+fn print_line<D: Disk, W: Write>(
+    alloc: Global,
+    world: &mut World<D>,
+    line: Line,
+    out: &mut W,
+) -> io::Result<()>
+    ensures printed { (given : Answer) × AnswersLine D.Disk line world.old given world.new
+        × OnOk result (Appends (W.contents out.old) (W.contents out.new) (answer_line given)) }
+    ensures goes_on { GoesOn D.Disk world.old world.new }
+{
+    let given = answer(alloc, world, line);
+    print_answer(&given, out)?;
+    if let Answer::Reply(Reply::Acked(_)) = given {
+        out.flush()?;
+    }
+    Ok(())
+}
+
+/// Answers one line after the other, and prints each answer.
+///
+/// # Errors
+///
+/// Those of the writer: no further line is answered.
+fn print_all<D: Disk, W: Write>(
+    alloc: Global,
+    world: &mut World<D>,
+    lines: Vec<Line>,
+    out: &mut W,
+) -> io::Result<()>
+    ensures answered { AnswersSome D.Disk world.old lines.items world.new }
+    ensures printed { OnOk result (PrintsLines D.Disk world.old lines.items world.new
+        (W.contents out.old) (W.contents out.new)) }
+    ensures goes_on { GoesOn D.Disk world.old world.new }
+{
+    world.sound();
+    for line in lines {
+        print_line(alloc, world, line, out)?;
+    }
+    Ok(())
+}
+
+/// Opens the store of a world again, and then answers the lines, each with its answer printed.
+///
+/// # Errors
+///
+/// Those of the writer: no further line is answered.
+pub(crate) fn answer_all<D: Disk, W: Write>(
+    alloc: Global,
+    world: &mut World<D>,
+    lines: Vec<Line>,
+    out: &mut W,
+) -> io::Result<()>
+    ensures answered { AnswersSome D.Disk world.old (asked.Reopen ∷ lines.items) world.new }
+    ensures printed { OnOk result (PrintsLines D.Disk world.old (asked.Reopen ∷ lines.items) world.new
+        (W.contents out.old) (W.contents out.new)) }
+    ensures goes_on { GoesOn D.Disk world.old world.new }
+{
+    print_line(alloc, world, Line::Reopen, out)?;
+    print_all(alloc, world, lines, out)
+}

@@ -1,0 +1,103 @@
+//! Printing the line of an answer.
+ghost use Rattle.std.specs.Prelude.{◌≤◌, ◌++◌, [], ◌∷◌, length, codes, OnOk};
+ghost use Rattle.std.specs.List.{flat_map};
+ghost use Rattle.std.specs.Io.KnownBytes.{Appends};
+ghost use Rattle.hex.specs.Hex.{encode_lower};
+ghost use Rattle.sd_script.specs.Texts.{answer_line, reply_line, word_text};
+
+use crate::answer::Answer;
+use sd_command::Reply;
+use std::io;
+use std::io::Write;
+
+/// How many bytes are turned into digits at a time.
+const PART: usize = 64;
+
+/// Prints an answer as one line.
+///
+/// # Errors
+///
+/// Those of the writer.
+pub fn print_answer<W: Write>(answer: &Answer, out: &mut W) -> io::Result<()>
+    ensures { OnOk result
+        (Appends (W.contents out.old) (W.contents out.new) (answer_line answer.now)) }
+{
+    match answer {
+        Answer::Reply(reply) => print_reply(reply, out),
+        Answer::Words(words) => print_words(words, out),
+    }
+}
+
+fn print_reply<W: Write>(reply: &Reply, out: &mut W) -> io::Result<()>
+    ensures { OnOk result
+        (Appends (W.contents out.old) (W.contents out.new) (reply_line reply.now)) }
+{
+    match reply {
+        Reply::Done => out.write_all(b"done\n"),
+        Reply::Bytes(bytes) => print_bytes(bytes.as_slice(), out),
+        Reply::Child(space) => writeln!(out, "child {}", space.number()),
+        Reply::NeedsFault => out.write_all(b"needs-fault\n"),
+        Reply::Segv(segv) => writeln!(out, "segv {segv}"),
+        Reply::Begun(number) => writeln!(out, "begun {number}"),
+        Reply::Worked => out.write_all(b"worked\n"),
+        Reply::Acked(number) => writeln!(out, "acked {number}"),
+        Reply::Cancelled(number) => writeln!(out, "cancelled {number}"),
+        Reply::Merged(serial) => writeln!(out, "merged {serial}"),
+        Reply::Reopened(Some(number)) => writeln!(out, "reopened {number}"),
+        Reply::Reopened(None) => out.write_all(b"reopened none\n"),
+        Reply::Refused(refusal) => writeln!(out, "refused {refusal}"),
+    }
+}
+
+fn print_bytes<W: Write>(bytes: &[u8], out: &mut W) -> io::Result<()>
+    ensures { OnOk result (Appends (W.contents out.old) (W.contents out.new)
+        (codes "bytes " ++ encode_lower bytes.now ++ 10 ∷ [])) }
+{
+    out.write_all(b"bytes ")?;
+    print_digits(bytes, out)?;
+    out.write_all(b"\n")
+}
+
+/// The digits of bytes, some bytes at a time.
+fn print_digits<W: Write>(bytes: &[u8], out: &mut W) -> io::Result<()>
+    ensures { OnOk result
+        (Appends (W.contents out.old) (W.contents out.new) (encode_lower bytes.now)) }
+{
+    let mut rest = bytes;
+    while !rest.is_empty() {
+        let (part, others) = rest.split_at(rest.len().min(PART));
+        print_part(part, out)?;
+        rest = others;
+    }
+    Ok(())
+}
+
+fn print_part<W: Write>(bytes: &[u8], out: &mut W) -> io::Result<()>
+    requires { length bytes.now ≤ 64 }
+    ensures { OnOk result
+        (Appends (W.contents out.old) (W.contents out.new) (encode_lower bytes.now)) }
+{
+    let mut text = [0; 2 * PART];
+    let digits = &mut text[..2 * bytes.len()];
+    hex::encode_to_slice(bytes, &mut *digits).unwrap();
+    out.write_all(digits)
+}
+
+fn print_words<W: Write>(words: &[u64], out: &mut W) -> io::Result<()>
+    ensures { OnOk result (Appends (W.contents out.old) (W.contents out.new)
+        (codes "words" ++ flat_map word_text words.now ++ 10 ∷ [])) }
+{
+    out.write_all(b"words")?;
+    for word in words {
+        print_word(*word, out)?;
+    }
+    out.write_all(b"\n")
+}
+
+fn print_word<W: Write>(word: u64, out: &mut W) -> io::Result<()>
+    ensures { OnOk result
+        (Appends (W.contents out.old) (W.contents out.new) (word_text word)) }
+{
+    out.write_all(b" ")?;
+    print_part(&word.to_be_bytes(), out)
+}

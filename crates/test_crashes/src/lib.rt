@@ -1,0 +1,5 @@
+//! Tests of crashes: each run is crashed behind each of its device calls.
+#![tactic(auto)]
+
+#[cfg(test)]
+mod tests;

@@ -1,0 +1,77 @@
+//! A gate that a crash tears, and one whose sync fails.
+use crate::run::{answers, empty, fresh, listed, shown};
+use sd_disk::{Fused, Pick};
+use std::process::Abort;
+use std::test::Fail;
+
+/// What reads now, and a byte for the gate of slot 1.
+#[derive(Clone, Copy)]
+struct Torn {
+    gate: u8,
+}
+
+impl Pick for Torn {
+    ghost aims = { λ _ _. ⊥ };
+
+    fn len(&mut self, _slot: usize, _least: u64, _greatest: u64, _synced: u64, now: u64) -> u64 {
+        now
+    }
+
+    fn byte(&mut self, slot: usize, at: u64, _synced: Option<u8>, now: Option<u8>) -> u8 {
+        if slot == 1 && at == 0 {
+            self.gate
+        } else {
+            now.unwrap_or(0)
+        }
+    }
+}
+
+/// The last event writes the gate of checkpoint 2: nine events format its slot, one freezes, one finds the page clean, and
+/// nine write the table and the header and sync them.
+const GATE_WRITTEN: &str = "mmap 1 0x10000 4096 rw => done
+store 1 0x10000 68656c6c6f => done
+checkpoint 0 => acked 1
+begin 0 => begun 2
+step dumper 22 => worked";
+
+#[test]
+fn torn_gate(rt: HostRuntime) -> Result<(), Fail> {
+    let disk = fresh(&rt, GATE_WRITTEN)?;
+    for (gate, first) in [(0xA5, "checkpoint 2\n"), (0x3C, "checkpoint 1\n")] {
+        let mut crashed = disk.crash(rt.alloc(), &mut Torn { gate })?;
+        let text = shown(rt.alloc(), &mut crashed)?;
+        assert!(rt; text.as_str().starts_with(first), "{text}");
+    }
+    Ok(())
+}
+
+/// The sync behind the gate of checkpoint 2 fails.
+const DOUBTFUL: &str = "mmap 1 0x10000 4096 rw => done
+store 1 0x10000 68656c6c6f => done
+checkpoint 0 => acked 1
+checkpoint 0 => refused 22 device
+work dumper => refused 13 store-down
+load 1 0x10000 1 => refused 6 frozen
+cancel => refused 11 busy
+begin 0 => refused 13 store-down
+reopen => reopened 2
+load 1 0x10000 5 => bytes 68656c6c6f
+checkpoint 0 => acked 3";
+
+const LISTED: &str = "slot 000 dump serial 1 stands 1 parent 0 checkpoint 1 pages 1
+slot 001 dump serial 2 stands 2 parent 1 checkpoint 2 pages 0
+slot 002 dump serial 3 stands 3 parent 0 checkpoint 3 pages 1
+tip 3
+";
+
+/// How many calls come before that sync: those of the opening, of the opener over eight empty slots, of checkpoint 1, and
+/// of checkpoint 2 before its last.
+const CALLS: u64 = 24 + 16 + 9 + 7;
+
+#[test]
+fn doubtful_commit(rt: HostRuntime) -> Result<(), Fail> {
+    let disk = Fused::new(empty(rt.alloc())?, CALLS);
+    let mut disk = answers(&rt, disk, "reopened none", DOUBTFUL)?;
+    assert_eq!(rt; listed(rt.alloc(), &mut disk)?.as_str(), LISTED);
+    Ok(())
+}

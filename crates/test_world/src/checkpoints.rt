@@ -1,0 +1,238 @@
+//! Checkpoints through a world.
+use crate::driver::{Driver, dropping_store, failing_store, store};
+use crate::lines::play;
+use sd_disk::{Fused, MemDisk};
+use std::alloc::Global;
+use std::process::Abort;
+use std::test::Fail;
+
+/// The slots of the stores of most tests.
+const SLOTS: usize = 8;
+
+/// Plays a script over a store in memory.
+fn plays(
+    rt: &impl Abort,
+    alloc: Global,
+    disk: Fused<MemDisk>,
+    script: &str,
+) -> Result<Driver, Fail> {
+    let mut driver = Driver::new(alloc, disk)?;
+    play(rt, alloc, &mut driver, script)?;
+    Ok(driver)
+}
+
+/// Plays a script over a store, and then another one in a second run over what the first left.
+fn plays_again(rt: &impl Abort, alloc: Global, first: &str, second: &str) -> Result<(), Fail> {
+    let driver = plays(rt, alloc, store(alloc, SLOTS)?, first)?;
+    play(rt, alloc, &mut driver.run_again(alloc)?, second)
+}
+
+/// The first checkpoint of one page takes 37 events: the freeze is the tenth, and until then commands are answered.
+const STEPS: &str = "\
+reopen = worked
+open = reopened none
+map = done
+store 1 = done
+begin 0 = begun 1
+steps 9 = worked
+load = bytes 01
+steps 1 = worked
+load = refused 6 frozen
+steps 26 = worked
+load = refused 6 frozen
+steps 1 = acked 1
+load = bytes 01
+steps 1 = refused 14 idle";
+
+#[test]
+fn count_of_steps(rt: HostRuntime) -> Result<(), Fail> {
+    plays(&rt, rt.alloc(), store(rt.alloc(), SLOTS)?, STEPS)?;
+    Ok(())
+}
+
+/// Checkpoints of no to two pre-dumps, with stores between their steps.
+const FIRST: &str = "\
+reopen = worked
+open = reopened none
+map = done
+store 1 = done
+begin 0 = begun 1
+finish = acked 1
+begin 2 = begun 2
+steps 20 = worked
+store 2 = done
+steps 20 = worked
+store 3 = done
+finish = acked 2
+store 4 = done
+begin 1 = begun 3
+finish = acked 3
+store 5 = done";
+
+/// What was acknowledged is what a second run starts from; the checkpoints of a store are numbered on.
+const SECOND: &str = "\
+begin 0 = refused 10 not-open
+merge = refused 10 not-open
+load = bytes 04
+reopen = worked
+open = reopened 3
+merge = refused 14 idle
+begin 0 = begun 4
+finish = acked 4";
+
+#[test]
+fn second_run(rt: HostRuntime) -> Result<(), Fail> {
+    plays_again(&rt, rt.alloc(), FIRST, SECOND)
+}
+
+/// A checkpoint is cancelled before its freeze, and after it; the next one has the next number.
+const CANCELLED: &str = "\
+reopen = worked
+open = reopened none
+map = done
+store 1 = done
+cancel = refused 14 idle
+begin 0 = begun 1
+begin 0 = refused 11 busy
+cancel = cancelled 1
+begin 0 = begun 2
+steps 10 = worked
+load = refused 6 frozen
+cancel = cancelled 2
+load = bytes 01
+cancel = refused 14 idle
+begin 0 = begun 3
+finish = acked 3";
+
+#[test]
+fn cancelled(rt: HostRuntime) -> Result<(), Fail> {
+    plays(&rt, rt.alloc(), store(rt.alloc(), SLOTS)?, CANCELLED)?;
+    Ok(())
+}
+
+/// A pre-dump clears the page's bit and is open when its checkpoint is cancelled: the next checkpoint takes the page all
+/// the same, as a second run finds.
+const STALE: &str = "\
+reopen = worked
+open = reopened none
+map = done
+store 1 = done
+begin 0 = begun 1
+finish = acked 1
+store 2 = done
+begin 1 = begun 2
+steps 36 = worked
+cancel = cancelled 2
+begin 0 = begun 3
+finish = acked 3";
+
+#[test]
+fn stale_bits(rt: HostRuntime) -> Result<(), Fail> {
+    plays_again(&rt, rt.alloc(), STALE, "load = bytes 02")
+}
+
+/// A call of the second checkpoint fails at its gate or behind it: it is in doubt, and can't be cancelled.
+const DOUBTFUL: &str = "\
+reopen = worked
+open = reopened none
+map = done
+store 1 = done
+begin 0 = begun 1
+finish = acked 1
+begin 0 = begun 2
+finish = refused 22 device
+steps 1 = refused 13 store-down
+load = refused 6 frozen
+cancel = refused 11 busy
+begin 0 = refused 13 store-down
+merge = refused 13 store-down";
+
+/// The sync behind the gate fails: the opener finds the checkpoint.
+#[test]
+fn doubtful_commit_is_found(rt: HostRuntime) -> Result<(), Fail> {
+    let disk = failing_store(rt.alloc(), SLOTS, 56)?;
+    let mut driver = plays(&rt, rt.alloc(), disk, DOUBTFUL)?;
+    play(&rt, rt.alloc(), &mut driver, FOUND)
+}
+
+const FOUND: &str = "\
+reopen = worked
+open = reopened 2
+load = bytes 01
+begin 0 = begun 3
+finish = acked 3";
+
+/// The write of the gate fails, and isn't made: the opener finds the checkpoint before.
+#[test]
+fn doubtful_commit_is_not_found(rt: HostRuntime) -> Result<(), Fail> {
+    let disk = dropping_store(rt.alloc(), SLOTS, 55)?;
+    let mut driver = plays(&rt, rt.alloc(), disk, DOUBTFUL)?;
+    play(&rt, rt.alloc(), &mut driver, NOT_FOUND)
+}
+
+const NOT_FOUND: &str = "\
+reopen = worked
+open = reopened 1
+load = bytes 01
+begin 0 = begun 3
+finish = acked 3";
+
+/// What a beginning is refused for, by priority, in a store of four slots.
+const REFUSED: &str = "\
+reopen = worked
+open = reopened none
+begin 9 = refused 1 EINVAL
+begin 3 = refused 12 no-slot
+begin 1 = begun 1
+finish = acked 1
+begin 1 = refused 12 no-slot
+begin 0 = begun 2
+finish = acked 2";
+
+#[test]
+fn refused_beginnings(rt: HostRuntime) -> Result<(), Fail> {
+    plays(&rt, rt.alloc(), store(rt.alloc(), 4)?, REFUSED)?;
+    Ok(())
+}
+
+/// In a store of two slots the first checkpoint is acknowledged, and for a second one a slot is missing.
+const TWO_SLOTS: &str = "\
+reopen = worked
+open = reopened none
+begin 0 = begun 1
+finish = acked 1
+begin 0 = refused 12 no-slot";
+
+#[test]
+fn two_slots(rt: HostRuntime) -> Result<(), Fail> {
+    plays(&rt, rt.alloc(), store(rt.alloc(), 2)?, TWO_SLOTS)?;
+    Ok(())
+}
+
+/// A checkpoint that will be cancelled.
+const CANCEL_BEGINS: &str = "\
+reopen = worked
+open = reopened none
+map = done
+store 1 = done
+begin 1 = begun 1";
+
+/// It is cancelled, or finished where a call of it is out or its gate may be open; the next one is acknowledged.
+const CANCEL_ENDS: &str = "\
+cancel-or-finish = done
+begin 0 = begun 2
+finish = acked 2";
+
+/// Behind each of its 62 events a checkpoint is cancelled, and a second run finds what was stored.
+#[test]
+fn cancelled_at_each_step(rt: HostRuntime) -> Result<(), Fail> {
+    for count in 0..62 {
+        let disk = store(rt.alloc(), SLOTS)?;
+        let mut driver = plays(&rt, rt.alloc(), disk, CANCEL_BEGINS)?;
+        driver.steps(count);
+        play(&rt, rt.alloc(), &mut driver, CANCEL_ENDS)?;
+        let mut again = driver.run_again(rt.alloc())?;
+        play(&rt, rt.alloc(), &mut again, "load = bytes 01")?;
+    }
+    Ok(())
+}

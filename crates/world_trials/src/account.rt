@@ -1,0 +1,173 @@
+//! What a journal allows a store to show, kept beside a run.
+use crate::plain::Plain;
+use sd_areas::Snapshot;
+use sd_command::{Refusal, Reply};
+use sd_gate::Worker;
+use sd_world::Event;
+use std::alloc::{AllocError, Global};
+
+/// A checkpoint, and the memory at its freeze.
+#[derive(Drop)]
+pub(crate) struct Saved {
+    number: u64,
+    memory: Plain,
+}
+
+/// What the replies of a run say: the memory, the last checkpoint that was acknowledged or found, and the one that is
+/// pending since its freeze.
+#[derive(Drop)]
+pub(crate) struct Account {
+    memory: Plain,
+    last: Option<Saved>,
+    pending: Option<Saved>,
+    begun: u64,
+    /// Whether the last step of the dumper may have frozen the memory.
+    may_freeze: bool,
+}
+
+/// Which pair a store shows.
+#[derive(Clone, Copy)]
+pub(crate) enum Pair {
+    /// Nothing was saved.
+    Nothing,
+    /// The last checkpoint.
+    Last,
+    /// The pending one.
+    Pending,
+    /// Neither.
+    Other,
+}
+
+impl Saved {
+    /// What a snapshot has.
+    pub(crate) fn of_snapshot(alloc: Global, snapshot: &Snapshot) -> Result<Self, AllocError> {
+        Ok(Saved {
+            number: snapshot.checkpoint,
+            memory: Plain::of_snapshot(alloc, snapshot)?,
+        })
+    }
+
+    fn is_same(&self, other: &Saved) -> bool {
+        self.number == other.number && self.memory.is_same(&other.memory)
+    }
+}
+
+impl Account {
+    /// A run that starts from what a store shows.
+    pub(crate) fn new(alloc: Global, shown: Option<Saved>) -> Result<Self, AllocError> {
+        let memory = match &shown {
+            Some(saved) => saved.memory.copy()?,
+            None => Plain::new(alloc)?,
+        };
+        let begun = match &shown {
+            Some(saved) => saved.number,
+            None => 0,
+        };
+        Ok(Account {
+            memory,
+            last: shown,
+            pending: None,
+            begun,
+            may_freeze: false,
+        })
+    }
+
+    /// The memory of the run.
+    pub(crate) fn memory(&self) -> &Plain {
+        &self.memory
+    }
+
+    /// Whether the next command tells if the last step of the dumper froze the memory.
+    pub(crate) fn asks(&self) -> bool {
+        self.may_freeze && self.pending.is_none()
+    }
+
+    /// Which pair it is that a store shows.
+    pub(crate) fn pair(&self, shown: &Option<Saved>) -> Pair {
+        let Some(saved) = shown else {
+            return match self.last {
+                None => Pair::Nothing,
+                Some(_) => Pair::Other,
+            };
+        };
+        if is_it(&self.last, saved) {
+            Pair::Last
+        } else if is_it(&self.pending, saved) {
+            Pair::Pending
+        } else {
+            Pair::Other
+        }
+    }
+
+    /// Takes an event and its reply. Returns whether the reply may be.
+    pub(crate) fn take(&mut self, event: &Event, reply: &Reply) -> Result<bool, AllocError> {
+        match (event, reply) {
+            (Event::Command { .. }, Reply::Refused(Refusal::Frozen)) => self.freeze(),
+            (Event::Command { command, .. }, reply) => {
+                self.may_freeze = false;
+                Ok(self.pending.is_none() && self.memory.apply(command, reply)?)
+            }
+            (Event::Begin(_), Reply::Begun(number)) => Ok(self.begin(*number)),
+            (Event::Work(Worker::Dumper), Reply::Worked) => {
+                self.may_freeze = true;
+                Ok(true)
+            }
+            (Event::Work(Worker::Dumper), Reply::Acked(number)) => Ok(self.acknowledge(*number)),
+            (Event::Cancel, Reply::Cancelled(number)) => Ok(self.cancel(*number)),
+            (Event::Work(Worker::Opener), Reply::Reopened(found)) => Ok(self.reopen(*found)),
+            (_, Reply::Worked | Reply::Refused(_)) => Ok(true),
+            _ => Ok(false),
+        }
+    }
+
+    /// A command was refused as frozen.
+    fn freeze(&mut self) -> Result<bool, AllocError> {
+        if self.pending.is_some() {
+            return Ok(true);
+        }
+        self.pending = Some(Saved {
+            number: self.begun,
+            memory: self.memory.copy()?,
+        });
+        Ok(self.may_freeze)
+    }
+
+    fn begin(&mut self, number: u64) -> bool {
+        let rises = self.begun < number && self.pending.is_none();
+        self.begun = number;
+        self.may_freeze = false;
+        rises
+    }
+
+    fn acknowledge(&mut self, number: u64) -> bool {
+        self.last = self.pending.take();
+        is_number(&self.last, number)
+    }
+
+    fn cancel(&mut self, number: u64) -> bool {
+        self.pending = None;
+        self.may_freeze = false;
+        self.begun == number
+    }
+
+    /// The store was opened, and shows the last checkpoint or the pending one.
+    fn reopen(&mut self, found: Option<u64>) -> bool {
+        let pending = self.pending.take();
+        self.may_freeze = false;
+        let Some(number) = found else {
+            return self.last.is_none();
+        };
+        if is_number(&pending, number) {
+            self.last = pending;
+        }
+        is_number(&self.last, number)
+    }
+}
+
+fn is_it(pair: &Option<Saved>, saved: &Saved) -> bool {
+    matches!(pair, Some(own) if own.is_same(saved))
+}
+
+fn is_number(pair: &Option<Saved>, number: u64) -> bool {
+    matches!(pair, Some(own) if own.number == number)
+}

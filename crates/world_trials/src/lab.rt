@@ -1,0 +1,63 @@
+//! A world over a disk in memory of which calls fail.
+use sd_command::Reply;
+use sd_disk::{Fused, MemDisk};
+use sd_gate::Worker;
+use sd_world::{Event, World};
+use std::alloc::Global;
+
+/// The frames of each world.
+const FRAMES: usize = 16;
+
+/// Which call of a disk fails, if one does.
+#[derive(Clone, Copy, Debug)]
+pub enum Failing {
+    Nothing,
+    /// Behind so many calls one fails; a write or a cut is made all the same.
+    Made(u64),
+    /// Behind so many calls one fails, and isn't made.
+    Dropped(u64),
+}
+
+/// A world over such a disk.
+#[derive(Drop)]
+pub(crate) struct Lab {
+    world: World<Fused<MemDisk>>,
+}
+
+/// A disk of which a call fails.
+fn fused(disk: MemDisk, failing: Failing) -> Fused<MemDisk> {
+    match failing {
+        Failing::Nothing => Fused::new(disk, u64::MAX),
+        Failing::Made(calls) => Fused::new(disk, calls),
+        Failing::Dropped(calls) => Fused::dropping(disk, calls),
+    }
+}
+
+impl Lab {
+    /// Opens a store.
+    ///
+    /// # Errors
+    ///
+    /// The disk, where it isn't opened.
+    pub(crate) fn open(alloc: Global, disk: MemDisk, failing: Failing) -> Result<Lab, MemDisk> {
+        match World::open(alloc, fused(disk, failing), FRAMES) {
+            Ok(world) => Ok(Lab { world }),
+            Err(error) => Err(error.disk.into_inner()),
+        }
+    }
+
+    /// Makes one event.
+    pub(crate) fn step(&mut self, event: &Event) -> Reply {
+        self.world.step(event)
+    }
+
+    /// Whether the next event of a worker is that its device call is made.
+    pub(crate) fn is_out(&self, worker: Worker) -> bool {
+        self.world.is_out(worker)
+    }
+
+    /// The disk.
+    pub(crate) fn close(self) -> MemDisk {
+        self.world.close().into_inner()
+    }
+}
