@@ -87,7 +87,9 @@ fn run<'a>(alloc: Global) -> Result<Command<'a>, Error> {
             Arg::new(alloc, "quiet")
                 .long("quiet")
                 .action(ArgAction::SetTrue)
-                .help("Tells no cause of a fault of the script, the folder or its device on standard error"),
+                .help(
+                    "Tells no cause of a fault of the script, the folder or its device on standard error",
+                ),
         )?;
     Ok(command)
 }
