@@ -1,11 +1,24 @@
 //! Outcomes of calls that aren't out.
 use crate::driving::{finish, fresh};
 use sd_command::{Refusal, Reply};
-use sd_core::Taken;
-use sd_disk::MemDisk;
+use sd_core::{Core, Taken};
+use sd_disk::{Disk, MemDisk};
 use sd_gate::{Worker, perform};
 use std::process::Abort;
 use std::test::Fail;
+
+/// Takes up the next request of one core's opener, performs it, and hands the outcome in to another core.
+fn hand_to_another<D: Disk>(from: &mut Core, to: &mut Core, disk: &mut D) -> Reply {
+    match from.take_up(Worker::Opener) {
+        Taken::Step(reply) => reply,
+        Taken::Call(request) => {
+            if request.id().slot >= disk.slots() {
+                return Reply::Worked;
+            }
+            to.hand_in(perform(disk, request))
+        }
+    }
+}
 
 /// The outcome of another core's request is refused and dropped; its own is taken once.
 #[test]
@@ -13,16 +26,10 @@ fn a_strange_outcome_is_dropped(rt: HostRuntime) -> Result<(), Fail> {
     let mut disk = MemDisk::new(rt.alloc(), 3, 100_000, 100)?;
     let mut core = fresh(rt.alloc())?;
     let mut other = fresh(rt.alloc())?;
-    core.reopen();
-    other.reopen();
-    let Taken::Call(first) = other.take_up(Worker::Opener) else {
-        return Err(Fail::from("no call"));
-    };
-    if first.id().slot >= 3 {
-        return Err(Fail::from("no slot"));
-    }
+    assert_eq!(rt; core.reopen(), Reply::Worked);
+    assert_eq!(rt; other.reopen(), Reply::Worked);
     assert_eq!(rt;
-        core.hand_in(perform(&mut disk, first)),
+        hand_to_another(&mut other, &mut core, &mut disk),
         Reply::Refused(Refusal::Idle)
     );
     assert_eq!(rt;
