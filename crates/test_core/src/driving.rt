@@ -47,6 +47,23 @@ pub fn finish<D: Disk>(core: &mut Core, disk: &mut D, worker: Worker) -> Reply {
     Reply::Worked
 }
 
+/// Opens a store again. Returns the opener's last reply, or why it doesn't begin.
+pub fn open_again<D: Disk>(core: &mut Core, disk: &mut D) -> Reply {
+    let begun = core.reopen();
+    if begun != Reply::Worked {
+        return begun;
+    }
+    finish(core, disk, Worker::Opener)
+}
+
+/// Makes a checkpoint without rounds. Returns the dumper's last reply, or why it doesn't begin.
+pub fn save<D: Disk>(core: &mut Core, disk: &mut D) -> Reply {
+    match core.begin(0) {
+        Reply::Begun(_) => finish(core, disk, Worker::Dumper),
+        refused => refused,
+    }
+}
+
 /// A readable and writable page of space 1.
 pub fn map_page() -> Command {
     Command::Mmap {

@@ -1,5 +1,5 @@
 //! A journal that is full.
-use crate::driving::{finish, fresh, load_byte, map_page};
+use crate::driving::{finish, fresh, load_byte, map_page, open_again};
 use sd_command::{Refusal, Reply};
 use sd_core::Core;
 use sd_disk::MemDisk;
@@ -18,25 +18,23 @@ fn fill(core: &mut Core, count: usize) -> Result<(), Fail> {
 
 /// A checkpoint holds two entries: commands find none, and it freezes and is acknowledged in them. Then none is free: no
 /// checkpoint begins, and nothing is journaled.
+fn saves_in_held_entries(rt: &impl Abort, core: &mut Core, disk: &mut MemDisk) -> Result<(), Fail> {
+    let full = Refusal::JournalFull;
+    assert_eq!(rt; open_again(core, disk), Reply::Reopened(None));
+    core.apply(0, &map_page())?;
+    fill(core, 1_048_571)?;
+    assert_eq!(rt; core.begin(0), Reply::Begun(1));
+    fill(core, 1)?;
+    assert_eq!(rt; core.apply(0, &load_byte()), Err(full));
+    assert_eq!(rt; finish(core, disk, Worker::Dumper), Reply::Acked(1));
+    assert_eq!(rt; core.apply(0, &load_byte()), Err(full));
+    assert_eq!(rt; core.begin(0), Reply::Refused(full));
+    Ok(())
+}
+
 #[test]
 fn a_checkpoint_has_its_entries(rt: HostRuntime) -> Result<(), Fail> {
     let mut disk = MemDisk::new(rt.alloc(), 3, 100_000, 100)?;
     let mut core = fresh(rt.alloc())?;
-    core.reopen();
-    assert_eq!(rt;
-        finish(&mut core, &mut disk, Worker::Opener),
-        Reply::Reopened(None)
-    );
-    core.apply(0, &map_page())?;
-    fill(&mut core, 1_048_571)?;
-    assert_eq!(rt; core.begin(0), Reply::Begun(1));
-    fill(&mut core, 1)?;
-    assert_eq!(rt; core.apply(0, &load_byte()), Err(Refusal::JournalFull));
-    assert_eq!(rt;
-        finish(&mut core, &mut disk, Worker::Dumper),
-        Reply::Acked(1)
-    );
-    assert_eq!(rt; core.apply(0, &load_byte()), Err(Refusal::JournalFull));
-    assert_eq!(rt; core.begin(0), Reply::Refused(Refusal::JournalFull));
-    Ok(())
+    saves_in_held_entries(&rt, &mut core, &mut disk)
 }

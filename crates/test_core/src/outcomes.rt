@@ -20,21 +20,27 @@ fn hand_to_another<D: Disk>(from: &mut Core, to: &mut Core, disk: &mut D) -> Rep
     }
 }
 
-/// The outcome of another core's request is refused and dropped; its own is taken once.
+/// The outcome of another core's request is refused and dropped; the core goes on.
+fn drops_the_outcome_of_another(
+    rt: &impl Abort,
+    core: &mut Core,
+    other: &mut Core,
+    disk: &mut MemDisk,
+) -> Result<(), Fail> {
+    assert_eq!(rt; core.reopen(), Reply::Worked);
+    assert_eq!(rt; other.reopen(), Reply::Worked);
+    assert_eq!(rt;
+        hand_to_another(other, core, disk),
+        Reply::Refused(Refusal::Idle)
+    );
+    assert_eq!(rt; finish(core, disk, Worker::Opener), Reply::Reopened(None));
+    Ok(())
+}
+
 #[test]
 fn a_strange_outcome_is_dropped(rt: HostRuntime) -> Result<(), Fail> {
     let mut disk = MemDisk::new(rt.alloc(), 3, 100_000, 100)?;
     let mut core = fresh(rt.alloc())?;
     let mut other = fresh(rt.alloc())?;
-    assert_eq!(rt; core.reopen(), Reply::Worked);
-    assert_eq!(rt; other.reopen(), Reply::Worked);
-    assert_eq!(rt;
-        hand_to_another(&mut other, &mut core, &mut disk),
-        Reply::Refused(Refusal::Idle)
-    );
-    assert_eq!(rt;
-        finish(&mut core, &mut disk, Worker::Opener),
-        Reply::Reopened(None)
-    );
-    Ok(())
+    drops_the_outcome_of_another(&rt, &mut core, &mut other, &mut disk)
 }
