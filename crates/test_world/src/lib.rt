@@ -15,3 +15,5 @@ mod lines;
 mod opening;
 #[cfg(test)]
 mod reopening;
+#[cfg(test)]
+mod restoring;
