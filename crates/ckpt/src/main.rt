@@ -11,7 +11,7 @@ use sd_script::{Script, ScriptError};
 use std::alloc::Global;
 use std::fs::File;
 use std::io;
-use std::io::{BufWriter, IsTerminal, Write};
+use std::io::{BufWriter, IsTerminal, Lock, Write};
 use std::process::ExitCode;
 use std::rt::{Env, Files};
 use stop::{FAILED, Stop, UNFIT};
@@ -22,6 +22,8 @@ mod list;
 mod listing;
 mod page_text;
 mod progress;
+#[cfg(test)]
+mod progress_tests;
 mod restore;
 mod stop;
 #[cfg(test)]
@@ -104,7 +106,8 @@ fn run_program<W: Write>(
     };
     let script = read_script(rt, causes, words.get_str("SCRIPT").unwrap_or(""))?;
     let disk = open_store(rt, causes, folder, true)?;
-    let mut watch = ProgressLine::new(rt, causes == Causes::Told && rt.stderr().is_terminal());
+    let is_watched = causes == Causes::Told && rt.stderr().is_terminal();
+    let mut watch = ProgressLine::new(rt, rt.stderr().lock(), is_watched);
     let restores = words.get_flag("restore");
     let (disk, ended) = run_over(rt.alloc(), disk, script, restores, out, &mut watch);
     tell_device(rt, causes, folder, &disk);

@@ -1,8 +1,10 @@
-//! How far a job is that takes long: one line on the standard error.
+//! How far a job is that takes long: one line, which is written over and over and cleared at the job's end.
 
 use sd_core::Core;
 use sd_gate::Worker;
 use sd_run::Watch;
+use std::io;
+use std::io::Write;
 use std::time::{Clock, Duration, Instant};
 
 /// How many steps are made between two looks at the clock.
@@ -11,21 +13,26 @@ const STEPS_A_LOOK: u64 = 64;
 /// How many seconds a job takes before it is shown, and before its line is written anew.
 const PAUSE_SECS: u64 = 1;
 
-/// Writes the line of a job that takes long, and clears it at the job's end.
+/// Goes to the start of a terminal's line, and clears it.
+const CLEAR: &str = "\r\x1b[K";
+
+/// Writes the line of a job that takes over a second.
 #[derive(Drop)]
-pub struct ProgressLine<'a, R> {
-    rt: &'a R,
+pub struct ProgressLine<'a, R, W> {
+    clock: &'a R,
+    out: W,
     is_on: bool,
     steps: u64,
     last: Option<Instant>,
     is_shown: bool,
 }
 
-impl<'a, R: Clock + Eprint> ProgressLine<'a, R> {
+impl<'a, R: Clock, W: Write> ProgressLine<'a, R, W> {
     /// A line that is written only where it is on.
-    pub fn new(rt: &'a R, is_on: bool) -> Self {
+    pub fn new(clock: &'a R, out: W, is_on: bool) -> Self {
         ProgressLine {
-            rt,
+            clock,
+            out,
             is_on,
             steps: 0,
             last: None,
@@ -33,9 +40,15 @@ impl<'a, R: Clock + Eprint> ProgressLine<'a, R> {
         }
     }
 
-    /// Whether the job took so long since it began, or since the line was written, that it is to be written now.
+    /// What the line is written to.
+    #[cfg(test)]
+    pub fn into_out(self) -> W {
+        self.out
+    }
+
+    /// Whether a second has passed since the job began, or since the line was written.
     fn is_due(&mut self) -> bool {
-        let Ok(now) = Instant::now(self.rt) else {
+        let Ok(now) = Instant::now(self.clock) else {
             return false;
         };
         let is_due = match self.last {
@@ -49,20 +62,21 @@ impl<'a, R: Clock + Eprint> ProgressLine<'a, R> {
     }
 
     /// Writes the line over the one that stands there.
-    fn write(&mut self, core: &Core, worker: Worker) {
+    fn write(&mut self, core: &Core, worker: Worker) -> io::Result<()> {
         let left = core.left(worker);
-        let _ = match worker {
+        match worker {
             Worker::Dumper => {
-                eprint!(self.rt; "\r\x1b[Kdumper: {left} steps left, {} pages written", core.pages())
+                let pages = core.pages();
+                write!(self.out, "{CLEAR}dumper: {left} steps left, {pages} pages written")?;
             }
-            Worker::Merger => eprint!(self.rt; "\r\x1b[Kmerger: {left} steps left"),
-            Worker::Opener => eprint!(self.rt; "\r\x1b[Kopener: {left} steps left"),
-        };
-        self.is_shown = true;
+            Worker::Merger => write!(self.out, "{CLEAR}merger: {left} steps left")?,
+            Worker::Opener => write!(self.out, "{CLEAR}opener: {left} steps left")?,
+        }
+        self.out.flush()
     }
 }
 
-impl<'a, R: Clock + Eprint> Watch for ProgressLine<'a, R> {
+impl<'a, R: Clock, W: Write> Watch for ProgressLine<'a, R, W> {
     fn goes_on(&mut self, core: &Core, worker: Worker) {
         if !self.is_on {
             return;
@@ -70,13 +84,15 @@ impl<'a, R: Clock + Eprint> Watch for ProgressLine<'a, R> {
         let looks = self.steps % STEPS_A_LOOK == 0;
         self.steps = self.steps.wrapping_add(1);
         if looks && self.is_due() {
-            self.write(core, worker);
+            self.is_shown = true;
+            // A line that can't be written is no fault of the run.
+            let _ = self.write(core, worker);
         }
     }
 
     fn has_ended(&mut self) {
         if self.is_shown {
-            let _ = eprint!(self.rt; "\r\x1b[K");
+            let _ = write!(self.out, "{CLEAR}");
         }
         self.steps = 0;
         self.last = None;
