@@ -3,15 +3,14 @@
 
 use cause::{Causes, tell, tell_device, tell_line};
 use clap::ArgMatches;
-use progress::ProgressLine;
 use sd_disk::{DirDisk, Disk, Folder, OpenError};
 use sd_restore::Fault;
-use sd_run::{Watch, run_lines};
+use sd_run::run_lines;
 use sd_script::{Script, ScriptError};
 use std::alloc::Global;
 use std::fs::File;
 use std::io;
-use std::io::{BufWriter, IsTerminal, Lock, Write};
+use std::io::{BufWriter, Write};
 use std::process::ExitCode;
 use std::rt::{Env, Files};
 use stop::{FAILED, Stop, UNFIT};
@@ -21,9 +20,6 @@ mod command_line;
 mod list;
 mod listing;
 mod page_text;
-mod progress;
-#[cfg(test)]
-mod progress_tests;
 mod restore;
 mod stop;
 #[cfg(test)]
@@ -73,15 +69,14 @@ fn read_script(
 }
 
 /// Runs a script over a store. With `restores` the memory that the store then shows is printed behind the answers.
-fn run_over<D: Disk, W: Write, S: Watch>(
+fn run_over<D: Disk, W: Write>(
     alloc: Global,
     disk: D,
     script: Script,
     restores: bool,
     out: &mut W,
-    watch: &mut S,
 ) -> (D, Result<(), Stop>) {
-    let (mut disk, ended) = run_lines(alloc, disk, script, out, watch);
+    let (mut disk, ended) = run_lines(alloc, disk, script, out);
     match ended {
         Ok(()) if restores => {
             let restored = restore::print_restored(alloc, &mut disk, out);
@@ -94,7 +89,7 @@ fn run_over<D: Disk, W: Write, S: Watch>(
 
 /// `ckpt run`: a script that can't be taken makes no file.
 fn run_program<W: Write>(
-    rt: &HostRuntime,
+    rt: &(impl Files<File = File> + Eprint + AllocGlobal),
     words: &ArgMatches<'_>,
     out: &mut W,
 ) -> Result<(), Stop> {
@@ -106,10 +101,7 @@ fn run_program<W: Write>(
     };
     let script = read_script(rt, causes, words.get_str("SCRIPT").unwrap_or(""))?;
     let disk = open_store(rt, causes, folder, true)?;
-    let is_watched = causes == Causes::Told && rt.stderr().is_terminal();
-    let mut watch = ProgressLine::new(rt, rt.stderr().lock(), is_watched);
-    let restores = words.get_flag("restore");
-    let (disk, ended) = run_over(rt.alloc(), disk, script, restores, out, &mut watch);
+    let (disk, ended) = run_over(rt.alloc(), disk, script, words.get_flag("restore"), out);
     tell_device(rt, causes, folder, &disk);
     ended
 }
@@ -134,7 +126,7 @@ fn read_program<W: Write>(
 
 /// Runs the program that the words ask for.
 fn run_matches<W: Write>(
-    rt: &HostRuntime,
+    rt: &(impl Files<File = File> + Eprint + AllocGlobal),
     matches: &ArgMatches<'_>,
     out: &mut W,
 ) -> Result<(), Stop> {
@@ -146,7 +138,11 @@ fn run_matches<W: Write>(
 }
 
 /// Runs the program that the words ask for, and returns its exit status. The error is a fault of the words.
-fn run_words<W: Write>(rt: &HostRuntime, words: &[String], out: &mut W) -> Result<u8, clap::Error> {
+fn run_words<W: Write>(
+    rt: &(impl Files<File = File> + Eprint + AllocGlobal),
+    words: &[String],
+    out: &mut W,
+) -> Result<u8, clap::Error> {
     let command = command_line::command(rt.alloc())?;
     let matches = command.try_get_matches_from(words)?;
     let ended = run_matches(rt, &matches, out);

@@ -9,7 +9,6 @@ mod JournalLemmas
 mod MarkLemmas
 mod OpeningLemmas
 mod OutcomeLemmas
-mod PreDumpLemmas
 mod RefusalLemmas
 mod ShownLemmas
 mod SlotLemmas

@@ -1,5 +1,4 @@
 mod Lists
-mod LowersLemmas
 mod Calls
 mod KeptLemmas
 mod Worlds
