@@ -88,7 +88,7 @@ fn run<'a>(alloc: Global) -> Result<Command<'a>, Error> {
                 .long("quiet")
                 .action(ArgAction::SetTrue)
                 .help(
-                    "Tells no cause of a fault of the script, the folder or its device on standard error",
+                    "Shows no progress on standard error, and no cause of a fault of the script, the folder or its device",
                 ),
         )?;
     Ok(command)

@@ -3,14 +3,15 @@
 
 use cause::{Causes, tell, tell_device, tell_line};
 use clap::ArgMatches;
+use progress::ProgressLine;
 use sd_disk::{DirDisk, Disk, Folder, OpenError};
 use sd_restore::Fault;
-use sd_run::run_lines;
+use sd_run::{Watch, run_lines};
 use sd_script::{Script, ScriptError};
 use std::alloc::Global;
 use std::fs::File;
 use std::io;
-use std::io::{BufWriter, Write};
+use std::io::{BufWriter, IsTerminal, Lock, Write};
 use std::process::ExitCode;
 use std::rt::{Env, Files};
 use stop::{FAILED, Stop, UNFIT};
@@ -20,6 +21,9 @@ mod command_line;
 mod list;
 mod listing;
 mod page_text;
+mod progress;
+#[cfg(test)]
+mod progress_tests;
 mod restore;
 mod stop;
 #[cfg(test)]
@@ -69,14 +73,15 @@ fn read_script(
 }
 
 /// Runs a script over a store. With `restores` the memory that the store then shows is printed behind the answers.
-fn run_over<D: Disk, W: Write>(
+fn run_over<D: Disk, W: Write, S: Watch>(
     alloc: Global,
     disk: D,
     script: Script,
     restores: bool,
     out: &mut W,
+    watch: &mut S,
 ) -> (D, Result<(), Stop>) {
-    let (mut disk, ended) = run_lines(alloc, disk, script, out);
+    let (mut disk, ended) = run_lines(alloc, disk, script, out, watch);
     match ended {
         Ok(()) if restores => {
             let restored = restore::print_restored(alloc, &mut disk, out);
@@ -89,7 +94,7 @@ fn run_over<D: Disk, W: Write>(
 
 /// `ckpt run`: a script that can't be taken makes no file.
 fn run_program<W: Write>(
-    rt: &(impl Files<File = File> + Eprint + AllocGlobal),
+    rt: &HostRuntime,
     words: &ArgMatches<'_>,
     out: &mut W,
 ) -> Result<(), Stop> {
@@ -101,7 +106,10 @@ fn run_program<W: Write>(
     };
     let script = read_script(rt, causes, words.get_str("SCRIPT").unwrap_or(""))?;
     let disk = open_store(rt, causes, folder, true)?;
-    let (disk, ended) = run_over(rt.alloc(), disk, script, words.get_flag("restore"), out);
+    let is_watched = causes == Causes::Told && rt.stderr().is_terminal();
+    let mut watch = ProgressLine::new(rt, rt.stderr().lock(), is_watched);
+    let restores = words.get_flag("restore");
+    let (disk, ended) = run_over(rt.alloc(), disk, script, restores, out, &mut watch);
     tell_device(rt, causes, folder, &disk);
     ended
 }
@@ -126,7 +134,7 @@ fn read_program<W: Write>(
 
 /// Runs the program that the words ask for.
 fn run_matches<W: Write>(
-    rt: &(impl Files<File = File> + Eprint + AllocGlobal),
+    rt: &HostRuntime,
     matches: &ArgMatches<'_>,
     out: &mut W,
 ) -> Result<(), Stop> {
@@ -138,11 +146,7 @@ fn run_matches<W: Write>(
 }
 
 /// Runs the program that the words ask for, and returns its exit status. The error is a fault of the words.
-fn run_words<W: Write>(
-    rt: &(impl Files<File = File> + Eprint + AllocGlobal),
-    words: &[String],
-    out: &mut W,
-) -> Result<u8, clap::Error> {
+fn run_words<W: Write>(rt: &HostRuntime, words: &[String], out: &mut W) -> Result<u8, clap::Error> {
     let command = command_line::command(rt.alloc())?;
     let matches = command.try_get_matches_from(words)?;
     let ended = run_matches(rt, &matches, out);

@@ -4,7 +4,7 @@ use crate::cause::Causes;
 use crate::restore::restore_to;
 use crate::run_over;
 use sd_disk::{Disk, MemDisk};
-use sd_run::run_script;
+use sd_run::{Unwatched, run_script};
 use sd_script::Script;
 use std::alloc::{AllocError, Global};
 use std::process::Abort;
@@ -82,7 +82,7 @@ fn a_run_restores_at_its_end(rt: HostRuntime) -> Result<(), Fail> {
     let folder = crate::open_store(&rt, Causes::Told, path.as_str(), true)?;
     let script = Script::parse(alloc, FIRST.as_bytes())?;
     let mut out = Vec::new(alloc);
-    let (_, ended) = run_over(alloc, folder, script, true, &mut out);
+    let (_, ended) = run_over(alloc, folder, script, true, &mut out, &mut Unwatched);
     ended?;
     assert!(rt; out.starts_with(FIRST_ANSWERED.as_bytes()));
     assert!(rt; out.ends_with(FIRST_SHOWN.as_bytes()));

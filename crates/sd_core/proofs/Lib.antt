@@ -9,6 +9,7 @@ mod JournalLemmas
 mod MarkLemmas
 mod OpeningLemmas
 mod OutcomeLemmas
+mod PreDumpLemmas
 mod RefusalLemmas
 mod ShownLemmas
 mod SlotLemmas

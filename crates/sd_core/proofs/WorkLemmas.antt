@@ -24,6 +24,8 @@ use Rattle.sd_belief.specs.declared.standing.Standing.TheVariants.{Open}
 use Rattle.sd_belief.specs.OpenerSteps.{nobody}
 use Rattle.sd_core.specs.declared.numbers.Numbers.{Numbers}
 use Rattle.sd_core.proofs.JournalLemmas.{same_journal}
+use Rattle.sd_core.proofs.PreDumpLemmas.{TheyStay, pre_dumps_stay}
+use Rattle.sd_core.specs.Images.{begun_as}
 use Rattle.sd_core.specs.Sound.{AreCounted, AreNumbers, AreOuts, IsAtWork, IsCore, IsImageOf, IsJournal, IsOpening, IsVisiting, IsVisitingIn, Parts, begun_images, frozen_by, held_for, out_of_opener}
 
 -- ---- where none runs
@@ -169,6 +171,8 @@ pub record Turns (old new : Parts) (running : Running) (image next : Making) : T
   pub counted : AreCounted new.numbers new.places
   pub outs : new.outs ≡ out_of next.stage ∷ None ∷ None ∷ []
   pub slot : (id : RequestId) → out_of next.stage ≡ Some id → id.slot < length new.phases
+  pub stay : TheyStay (begun_as running) old.places new.places running.opened
+  pub asked : IfSome (out_of next.stage) (λ id. id.slot ≡ slot_of running)
   pub image_is : IsImageOf new.journal.items new.places new.numbers next
   pub still : is_frozen next ≡ is_frozen image
 
@@ -224,6 +228,9 @@ turned old new running image next sound t =
         few = w.few;
         serials = omega (arith, serial, serials);
         within = λ slot reserved. subst (λ k. slot < k) (sym t.count) (w.within slot (record { place = reserved.place; from = reserved.from; is = reserved.is }));
+        apart = w.apart;
+        pre_dumps = pre_dumps_stay (begun_as running) old.places new.places running.opened running.parent t.stay w.pre_dumps;
+        asked = t.asked;
         image = t.image_is;
       };
     }
@@ -252,6 +259,15 @@ image_of_work core running image sound was making =
 pub own_order : (since : ℕ) (all : Option Running) (running : Running) (image : Making) → AreRunning since all → all ≡ Some running → running.image ≡ Some image
     → image.order ≡ order_of running image.order.serial image.order.state
 own_order since all running image are was making = subst (IsItsImage running) making (subst (AreRunning since) was are).own
+
+pub own_slot : (since : ℕ) (all : Option Running) (running : Running) (image : Making) → AreRunning since all → all ≡ Some running → running.image ≡ Some image
+    → image.order.slot ≡ slot_of running
+own_slot since all running image are was making = ap (λ o. o.slot) (own_order since all running image are was making)
+
+-- the request that is out then is on the slot of the checkpoint's image
+pub asked_on : (running : Running) (image next : Making) (out : Option RequestId) → out_of next.stage ≡ out → IfSome out (λ id. id.slot ≡ image.order.slot)
+    → image.order.slot ≡ slot_of running → IfSome (out_of next.stage) (λ id. id.slot ≡ slot_of running)
+asked_on running image next out is on own = subst (λ o. IfSome o (λ id. id.slot ≡ slot_of running)) (sym is) (subst (λ s. IfSome out (λ id. id.slot ≡ s)) own on)
 
 pub slot_within : (core : Parts) (running : Running) → IsCore core → core.dumper.running ≡ Some running → slot_of running < length core.phases
 slot_within core running sound was =
@@ -321,5 +337,8 @@ applied_work base items frozen stands phases places opener numbers (Some running
   few = work.few;
   serials = work.serials;
   within = work.within;
+  apart = work.apart;
+  pre_dumps = work.pre_dumps;
+  asked = work.asked;
   image = image_applied_some items places numbers running.image seat command reply work.image;
 }

@@ -14,13 +14,14 @@ use Rattle.sd_pagetable.specs.Contents.{Contents}
 use Rattle.sd_rounds.specs.declared.image_order.ImageOrder.{ImageOrder}
 use Rattle.sd_rounds.specs.declared.stage.Stage.{Stage}
 use Rattle.sd_rounds.specs.declared.stage.Stage.TheVariants.{Format, Freeze, Pass as PassStage, PageWrite, Close}
-use Rattle.sd_rounds.specs.Dumper.{Dumping, Running, is_frozen_image, out_of_running}
+use Rattle.sd_rounds.specs.Dumper.{Dumping, Running, is_frozen_image, out_of_image, out_of_running, slot_of}
 use Rattle.sd_rounds.specs.Making.{Making}
 use Rattle.sd_rounds.specs.Pass.{Pass}
 use Rattle.sd_belief.specs.declared.standing.Standing.{Standing}
 use Rattle.sd_belief.specs.declared.standing.Standing.TheVariants.{Open}
 use Rattle.sd_belief.specs.InUse.{IsReserved}
 use Rattle.sd_core.specs.declared.numbers.Numbers.{Numbers}
+use Rattle.sd_core.specs.Images.{AreApart, HasPreDumps, begun_as}
 
 -- how many entries are held: two for a checkpoint before its freeze, one while it is pending, and one for an opener with none pending
 abbrev pub held_for : Option ℕ → Option Running → Option Looking → ℕ
@@ -114,7 +115,8 @@ abbrev pub begun_images : Running → Option Making → ℕ
 begun_images running None = running.opened
 begun_images running (Some image) = running.opened + 1
 
--- A checkpoint runs while the store is open, under the number that was begun last, in slots of the store.
+-- A checkpoint runs while the store is open, under the number that was begun last, in slots of the store, of which no two are one. The
+-- pre-dumps so far are in the catalog.
 pub record IsAtWork (base : Base) (items : Marked) (frozen : Option ℕ) (standing : Standing) (phases : List Phase) (places : Places)
     (opener : Option Looking) (numbers : Numbers) (running : Running) : Type 0 where
   pub stands : standing ≡ Open
@@ -126,6 +128,9 @@ pub record IsAtWork (base : Base) (items : Marked) (frozen : Option ℕ) (standi
   pub few : length running.pre_dumps ≤ 8
   pub serials : numbers.serial < 2 ^ 63 + begun_images running running.image
   pub within : (slot : ℕ) → IsReserved running slot → slot < length phases
+  pub apart : AreApart running
+  pub pre_dumps : HasPreDumps (begun_as running) places running.opened running.parent
+  pub asked : IfSome (out_of_image running.image) (λ id. id.slot ≡ slot_of running)
   pub image : IfSome running.image (IsImageOf items places numbers)
 
 -- ---- all of it

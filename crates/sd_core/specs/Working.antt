@@ -14,6 +14,7 @@ use Rattle.sd_belief.specs.declared.standing.Standing.TheVariants.{NotOpen, Open
 use Rattle.sd_belief.specs.View.{CoreView}
 use Rattle.sd_core.specs.declared.taken.Taken.{Taken}
 use Rattle.sd_core.specs.declared.taken.Taken.TheVariants.{Step, Call}
+use Rattle.sd_core.specs.Images.{job_of}
 use Rattle.sd_core.specs.Refusals.{is_idle}
 
 abbrev pub opener_left : Option Looking → ℕ
@@ -29,9 +30,10 @@ left_by core Opener = opener_left core.opener
 abbrev pub Lowers : CoreView → Worker → CoreView → Type 0
 Lowers old worker new = left_by new worker < left_by old worker
 
--- the job goes on, and the store stands as before
+-- the job goes on, the store stands as before, and a checkpoint stays the one that began
 pub record MovesOn (old : CoreView) (worker : Worker) (new : CoreView) : Type 0 where
   pub stands : new.standing ≡ old.standing
+  pub job : job_of new.dumper.running ≡ job_of old.dumper.running
   pub lowers : Lowers old worker new
 
 -- the job has ended, and the store stands so

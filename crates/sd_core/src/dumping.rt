@@ -8,6 +8,7 @@ ghost use Rattle.sd_rounds.specs.Left.{left_of};
 ghost use Rattle.sd_belief.specs.DumperSteps.{opens_gate};
 ghost use Rattle.sd_belief.specs.DumperOutcomes.{LeavesCatalog, closes_for_sure};
 ghost use Rattle.sd_core.specs.Dumping.{BeginsNext, LetsGoOfTwo, StepsOn};
+ghost use Rattle.sd_core.specs.Images.{job_of};
 
 use crate::beginning::Slots;
 use sd_chain::Catalog;
@@ -36,6 +37,7 @@ pub(crate) fn begin_next(
 ) -> Request
     requires { IsSome (next_slot dumper.old.running) }
     ensures begins { BeginsNext image.serial image.state ticket dumper.old memory.old result dumper.new memory.new }
+    ensures job { job_of dumper.new.running ≡ job_of dumper.old.running }
     ensures lowers { left_of dumper.new.running (plain_of memory.new)
         < left_of dumper.old.running (plain_of memory.old) }
 {
@@ -60,6 +62,7 @@ pub(crate) fn step_on(
     requires runs { IsSome dumper.old.running }
     requires rests { out_of_running dumper.old.running ≡ None }
     ensures steps { IfOk result (λ step. StepsOn ticket dumper.old memory.old step dumper.new memory.new) }
+    ensures job { IfOk result (λ step. job_of dumper.new.running ≡ job_of dumper.old.running) }
     ensures lowers { IfOk result (λ step. left_of dumper.new.running (plain_of memory.new)
         < left_of dumper.old.running (plain_of memory.old)) }
     ensures err { OnErr result (dumper.new ≡ dumper.old) }

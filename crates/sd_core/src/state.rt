@@ -16,7 +16,7 @@ ghost use Rattle.sd_belief.specs.Calls.{AddsByCancel, AddsByOrder, Applies, Hand
 ghost use Rattle.sd_belief.specs.View.{CoreView, history_of};
 ghost use Rattle.sd_gate.specs.declared.worker.Worker.TheVariants as its;
 ghost use Rattle.sd_command.specs.declared.refusal.Refusal.{Refusal as Why};
-ghost use Rattle.sd_rounds.specs.Dumper.{next_slot};
+ghost use Rattle.sd_rounds.specs.Dumper.{next_slot, pages_of};
 ghost use Rattle.sd_core.specs.Answering.{IsAnswered};
 ghost use Rattle.sd_core.specs.Beginning.{BeginsAs, begin_refusal, merge_refusal};
 ghost use Rattle.sd_core.specs.Images.{IsAcked};
@@ -173,6 +173,13 @@ impl Core {
         }
     }
 
+    /// How many data pages the image that the dumper makes has so far: 0 while it makes none.
+    pub fn pages(&self) -> usize
+        ensures { result ≡ pages_of self.now.dumper.running }
+    {
+        self.dumper.pages()
+    }
+
     /// The memory of the run.
     pub fn memory(&self) -> &Memory
         ensures same { result.now ≡ self.now.memory }
@@ -200,6 +207,7 @@ impl Core {
         ensures full { result ≡ Err JournalFull
             ↔ length (history_of self.old) + self.old.held ≡ self.old.limit }
         ensures stands { self.new.standing ≡ self.old.standing }
+        ensures job { self.new.dumper ≡ self.old.dumper }
         ensures answered { IfOk result (λ told. IsAnswered (is_some (pending (history_of self.old)))
             command.now told.1 self.old.memory self.new.memory) }
         ensures keeps { Stays self.old self.new }

@@ -18,12 +18,13 @@ use Rattle.sd_rounds.specs.declared.progress.Progress.TheVariants.{Strange, Fail
 use Rattle.sd_rounds.specs.Making.{HandsIn, Making, Steps, begun_image, closing, is_frozen, out_of, outcomes_left}
 use Rattle.sd_rounds.specs.Pass.{data_pages}
 
--- a checkpoint that runs: the slots of its pre-dumps and of its dump, how many images are open, the parent of the next, and the
--- image that is being made
+-- a checkpoint that runs: the slots of its pre-dumps and of its dump, the parent of its first image, how many images are open, the parent
+-- of the next, and the image that is being made
 pub record Running : Type 0 where
   pub number : ℕ
   pub pre_dumps : List ℕ
   pub dump : ℕ
+  pub first : ℕ
   pub opened : ℕ
   pub parent : ℕ
   pub image : Option Making
@@ -33,6 +34,7 @@ running_of c = record {
   number = c.number;
   pre_dumps = c.pre_dumps.items;
   dump = c.dump;
+  first = c.first;
   opened = c.opened;
   parent = c.parent;
   image = c.maker;
@@ -75,6 +77,7 @@ begun_checkpoint number pre_dumps dump parent = record {
   number = number;
   pre_dumps = pre_dumps;
   dump = dump;
+  first = parent;
   opened = 0;
   parent = parent;
   image = None;
@@ -222,6 +225,15 @@ IsItsImage running (Some image) = image.order ≡ order_of running image.order.s
 abbrev pub HasFewPages : Option Making → Type 0
 HasFewPages None = Unit {0}
 HasFewPages (Some image) = data_pages image.pass.entries ≤ 2 ^ 39
+
+-- how many data pages the image that is being made has so far
+abbrev pub pages_of_image : Option Making → ℕ
+pages_of_image None = 0
+pages_of_image (Some image) = data_pages image.pass.entries
+
+abbrev pub pages_of : Option Running → ℕ
+pages_of None = 0
+pages_of (Some running) = pages_of_image running.image
 
 -- the dump of a frozen memory counts the outcomes since the freeze: one for each data page that is written, and five that close it
 pub record IsCounted (since : ℕ) (image : Making) : Type 0 where

@@ -8,7 +8,7 @@ ghost use Rattle.sd_rounds.specs.Left.{running_left};
 ghost use Rattle.sd_rounds.specs.PlanSteps.{HaveNoPage, image_step, is_to_freeze};
 ghost use Rattle.sd_rounds.specs.Room.{MakingWants};
 ghost use Rattle.sd_rounds.specs.Sound.{IsSoundMaking};
-ghost use Rattle.sd_rounds.specs.Dumper.{HandsTo, HasFewPages, WorksOn, after_pre_dump, is_frozen_image, is_last, kind_of, order_of, out_of_image, running_of, slot_of};
+ghost use Rattle.sd_rounds.specs.Dumper.{HandsTo, HasFewPages, WorksOn, after_pre_dump, is_frozen_image, is_last, kind_of, order_of, out_of_image, pages_of_image, running_of, slot_of};
 
 use crate::image_maker::ImageMaker;
 use crate::image_order::ImageOrder;
@@ -33,6 +33,8 @@ pub struct Checkpoint {
     pub(crate) pre_dumps: Vec<usize>,
     /// The slot of the dump.
     pub(crate) dump: usize,
+    /// The number that the first image names as its parent.
+    pub(crate) first: u64,
     /// How many of the images are open.
     pub(crate) opened: usize,
     /// The number that the next image names as its parent, or the one that is being made.
@@ -172,6 +174,16 @@ impl Checkpoint {
         };
         let later = self.pre_dumps.len().saturating_sub(self.opened);
         image + later as u128 * next + END
+    }
+
+    /// How many data pages the image that is being made has so far.
+    pub(crate) fn pages(&self) -> usize
+        ensures { result ≡ pages_of_image (running_of self.now).image }
+    {
+        match &self.maker {
+            Some(maker) => maker.pages(),
+            None => 0,
+        }
     }
 
     /// Whether the dump of a frozen memory is being made.

@@ -6,7 +6,7 @@ ghost use Rattle.sd_pagetable.specs.Contents.{plain_of};
 ghost use Rattle.sd_rounds.specs.Left.{left_of};
 ghost use Rattle.sd_rounds.specs.Room.{StepWants};
 ghost use Rattle.sd_rounds.specs.Sound.{HasSoundImage};
-ghost use Rattle.sd_rounds.specs.Dumper.{AreRunning, Dumping, Hands, HasCounted, Works, begun_checkpoint, ends, idle, is_dumping, is_strange, next_slot, out_of_running};
+ghost use Rattle.sd_rounds.specs.Dumper.{AreRunning, Dumping, Hands, HasCounted, Works, begun_checkpoint, ends, idle, is_dumping, is_strange, next_slot, out_of_running, pages_of};
 
 use crate::checkpoint::Checkpoint;
 use crate::image_step::ImageStep;
@@ -127,6 +127,7 @@ impl Dumper {
             number,
             pre_dumps,
             dump,
+            first: parent,
             opened: 0,
             parent,
             maker: None,
@@ -227,6 +228,16 @@ impl Dumper {
     {
         match &self.checkpoint {
             Some(checkpoint) => checkpoint.left(memory),
+            None => 0,
+        }
+    }
+
+    /// How many data pages the image that is being made has so far: 0 while none is.
+    pub fn pages(&self) -> usize
+        ensures { result ≡ pages_of self.now.running }
+    {
+        match &self.checkpoint {
+            Some(checkpoint) => checkpoint.pages(),
             None => 0,
         }
     }

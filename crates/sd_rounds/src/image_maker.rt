@@ -315,6 +315,13 @@ impl ImageMaker {
         }
     }
 
+    /// How many data pages it has so far.
+    pub(crate) fn pages(&self) -> usize
+        ensures { result ≡ data_pages self.now.pass.entries }
+    {
+        self.stored
+    }
+
     /// Whether it is the dump of a memory that is frozen.
     pub(crate) fn is_frozen(&self) -> bool
         ensures frozen { result ≡ is_frozen self.now }

@@ -1,5 +1,5 @@
 -- A worker's events, one after the other, and its jobs.
-use Rattle.std.specs.Prelude.{◌≡◌, ◌⊎◌, ◌≤◌, ◌+◌, ◌-◌, ◌^◌, ℕ, Bool, true, false, if◌then◌else◌, List, [], ◌∷◌, ◌++◌, length}
+use Rattle.std.specs.Prelude.{◌≡◌, ◌⊎◌, ◌≤◌, ◌+◌, ℕ, Bool, true, false, if◌then◌else◌, List, [], ◌∷◌, ◌++◌, length}
 use Rattle.std.specs.List.{AllByRecursion}
 use Rattle.sd_command.specs.declared.reply.Reply.{Reply}
 use Rattle.sd_command.specs.declared.reply.Reply.TheVariants.{Done, Bytes, Child, NeedsFault, Segv, Begun, Worked, Acked, Cancelled, Merged, Reopened, Refused}
@@ -36,6 +36,12 @@ Drives g worker first [] last = last ≡ first
 Drives {D} g worker first (answer ∷ answers) last =
     (next : WorldView D) × IsStep g (next_event first.kept worker) first answer next × Drives g worker next answers last
 
+-- A worker's next events, of which only the last may end its job or be refused. The answer is that of the last.
+pub record AreDriven {D : Type 0} (g : Ghosts D) (worker : Worker) (first : WorldView D) (answer : Reply) (last : WorldView D) : Type 0 where
+  pub before : List Reply
+  pub drives : Drives g worker first (before ++ answer ∷ []) last
+  pub goes_on : AllByRecursion (λ reply. is_end reply ≡ false) before
+
 -- So many next events of a worker, or fewer where one of them ends its job or is refused: that is then the last. The answer is that of the last.
 pub record IsDriven {D : Type 0} (g : Ghosts D) (worker : Worker) (count : ℕ) (first : WorldView D) (answer : Reply) (last : WorldView D) : Type 0 where
   pub before : List Reply
@@ -44,13 +50,10 @@ pub record IsDriven {D : Type 0} (g : Ghosts D) (worker : Worker) (count : ℕ) 
   pub stops : (is_end answer ≡ true) ⊎ (length before + 1 ≡ count)
   pub within : length before + 1 ≤ count
 
--- the number of events after which a job isn't followed any more
-abbrev pub no_more : ℕ
-no_more = 2 ^ 64 - 1
-
--- a worker's events up to the end of its job
-abbrev pub IsFinished : {D : Type 0} → Ghosts D → Worker → WorldView D → Reply → WorldView D → Type 0
-IsFinished g worker first answer last = IsDriven g worker no_more first answer last
+-- a worker's next events, up to the one that ends its job or is refused
+pub record IsFinished {D : Type 0} (g : Ghosts D) (worker : Worker) (first : WorldView D) (answer : Reply) (last : WorldView D) : Type 0 where
+  pub driven : AreDriven g worker first answer last
+  pub ends : is_end answer ≡ true
 
 -- a job that is begun and finished by its worker; a refused beginning is the answer
 pub data IsJob {D : Type 0} (g : Ghosts D) (order : Event) (worker : Worker) (first : WorldView D) (answer : Reply) (last : WorldView D) : Type 0 where

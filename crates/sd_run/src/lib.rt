@@ -6,6 +6,8 @@ mod lines;
 mod page_words;
 mod running;
 mod stop;
+mod watch;
 
 pub use running::{run_lines, run_script};
 pub use stop::Stop;
+pub use watch::{Unwatched, Watch};

@@ -10,6 +10,7 @@ ghost use Rattle.sd_run.specs.Words.{AreGiven};
 
 use crate::driving::{do_job, drive, finish, make};
 use crate::page_words;
+use crate::watch::Watch;
 use sd_areas::SpaceId;
 use sd_command::Reply;
 use sd_disk::Disk;
@@ -24,7 +25,12 @@ use std::io::Write;
 const SCRIPT_SEAT: usize = 0;
 
 /// Makes the events of a line, and returns what the last of them is answered. A line that asks for words makes none.
-fn answer<D: Disk>(alloc: Global, world: &mut World<D>, line: Line) -> Answer
+fn answer<D: Disk, S: Watch>(
+    alloc: Global,
+    world: &mut World<D>,
+    line: Line,
+    watch: &mut S,
+) -> Answer
     ensures answered { AnswersLine D.Disk line world.old result world.new }
     ensures goes_on { GoesOn D.Disk world.old world.new }
 {
@@ -41,9 +47,9 @@ fn answer<D: Disk>(alloc: Global, world: &mut World<D>, line: Line) -> Answer
         Line::Work(worker) => make(world, Event::Work(worker)),
         Line::Perform(worker) => make(world, Event::Perform(worker)),
         Line::Step { worker, count } => drive(world, worker, count.max(1)),
-        Line::Finish(worker) => finish(world, worker),
-        Line::Checkpoint(rounds) => do_job(world, Event::Begin(rounds), Worker::Dumper),
-        Line::Reopen => do_job(world, Event::Reopen, Worker::Opener),
+        Line::Finish(worker) => finish(world, worker, watch),
+        Line::Checkpoint(rounds) => do_job(world, Event::Begin(rounds), Worker::Dumper, watch),
+        Line::Reopen => do_job(world, Event::Reopen, Worker::Opener, watch),
         Line::Words {
             space,
             address,
@@ -74,17 +80,18 @@ fn words<D: Disk>(
 /// # Errors
 ///
 /// Those of the writer. The line was answered.
-fn print_line<D: Disk, W: Write>(
+fn print_line<D: Disk, W: Write, S: Watch>(
     alloc: Global,
     world: &mut World<D>,
     line: Line,
     out: &mut W,
+    watch: &mut S,
 ) -> io::Result<()>
     ensures printed { (given : Answer) × AnswersLine D.Disk line world.old given world.new
         × OnOk result (Appends (W.contents out.old) (W.contents out.new) (answer_line given)) }
     ensures goes_on { GoesOn D.Disk world.old world.new }
 {
-    let given = answer(alloc, world, line);
+    let given = answer(alloc, world, line, watch);
     print_answer(&given, out)?;
     if let Answer::Reply(Reply::Acked(_)) = given {
         out.flush()?;
@@ -97,11 +104,12 @@ fn print_line<D: Disk, W: Write>(
 /// # Errors
 ///
 /// Those of the writer: no further line is answered.
-fn print_all<D: Disk, W: Write>(
+fn print_all<D: Disk, W: Write, S: Watch>(
     alloc: Global,
     world: &mut World<D>,
     lines: Vec<Line>,
     out: &mut W,
+    watch: &mut S,
 ) -> io::Result<()>
     ensures answered { AnswersSome D.Disk world.old lines.items world.new }
     ensures printed { OnOk result (PrintsLines D.Disk world.old lines.items world.new
@@ -110,7 +118,7 @@ fn print_all<D: Disk, W: Write>(
 {
     world.sound();
     for line in lines {
-        print_line(alloc, world, line, out)?;
+        print_line(alloc, world, line, out, watch)?;
     }
     Ok(())
 }
@@ -120,17 +128,18 @@ fn print_all<D: Disk, W: Write>(
 /// # Errors
 ///
 /// Those of the writer: no further line is answered.
-pub(crate) fn answer_all<D: Disk, W: Write>(
+pub(crate) fn answer_all<D: Disk, W: Write, S: Watch>(
     alloc: Global,
     world: &mut World<D>,
     lines: Vec<Line>,
     out: &mut W,
+    watch: &mut S,
 ) -> io::Result<()>
     ensures answered { AnswersSome D.Disk world.old (asked.Reopen ∷ lines.items) world.new }
     ensures printed { OnOk result (PrintsLines D.Disk world.old (asked.Reopen ∷ lines.items) world.new
         (W.contents out.old) (W.contents out.new)) }
     ensures goes_on { GoesOn D.Disk world.old world.new }
 {
-    print_line(alloc, world, Line::Reopen, out)?;
-    print_all(alloc, world, lines, out)
+    print_line(alloc, world, Line::Reopen, out, watch)?;
+    print_all(alloc, world, lines, out, watch)
 }

@@ -9,6 +9,7 @@ ghost use Rattle.sd_run.specs.Whole.{IsLeft, IsWholeRun};
 
 use crate::lines::answer_all;
 use crate::stop::{Stop, status};
+use crate::watch::{Unwatched, Watch};
 use sd_disk::Disk;
 use sd_script::Script;
 use sd_world::{OpenError, OpenFault, World};
@@ -39,23 +40,24 @@ pub fn run_script<D: Disk, W: Write>(alloc: Global, disk: D, script: &[u8], out:
 {
     match Script::parse(alloc, script) {
         Ok(script) => {
-            let (disk, ended) = run_lines(alloc, disk, script, out);
+            let (disk, ended) = run_lines(alloc, disk, script, out, &mut Unwatched);
             (disk, status(ended, out))
         }
         Err(error) => (disk, status(Err(Stop::from(error)), out)),
     }
 }
 
-/// Runs a parsed script over a disk, as `run_script` does, and returns the disk.
+/// Runs a parsed script over a disk, as `run_script` does, and returns the disk. The jobs that last are watched.
 ///
 /// # Errors
 ///
 /// `Store` where the store isn't opened: nothing was printed. `Writer` where an answer can't be printed.
-pub fn run_lines<D: Disk, W: Write>(
+pub fn run_lines<D: Disk, W: Write, S: Watch>(
     alloc: Global,
     disk: D,
     script: Script,
     out: &mut W,
+    watch: &mut S,
 ) -> (D, Result<(), Stop>)
     ensures whole { OnOk result.1 (IsWholeRun D.Disk (asked.Reopen ∷ script.lines.items) disk result.0
         (W.contents out.old) (W.contents out.new)) }
@@ -66,7 +68,7 @@ pub fn run_lines<D: Disk, W: Write>(
 {
     match World::open(alloc, disk, FRAMES) {
         Ok(mut world) => {
-            let ended = told(answer_all(alloc, &mut world, script.lines, out));
+            let ended = told(answer_all(alloc, &mut world, script.lines, out, watch));
             world.sound();
             (world.close(), ended)
         }

@@ -23,7 +23,7 @@ use Rattle.sd_world.specs.Steps.{Does, Performs, TakesUp, Works, reply_of}
 use Rattle.sd_world.specs.View.{WorldView, id_of}
 use Rattle.sd_world.proofs.Lists.{get_map}
 
-same_worker : (a b : Worker) → index a ≡ index b → a ≡ b
+pub same_worker : (a b : Worker) → index a ≡ index b → a ≡ b
 same_worker Dumper Dumper e = refl
 same_worker Dumper Merger e = absurd cc
 same_worker Dumper Opener e = absurd cc
@@ -70,10 +70,10 @@ adds_by_perform (Len len) old new same = same
 adds_by_perform Failed old new same = same
 
 module _ {D : Type 0} (g : Ghosts D) (old new : WorldView D) (world : IsWorld g old) where
-  own_worker : (worker : Worker) (made : Made) → slice_get old.kept (index worker) ≡ Some (Outcome made) → index made.request.id.worker ≡ index worker
+  pub own_worker : (worker : Worker) (made : Made) → slice_get old.kept (index worker) ≡ Some (Outcome made) → index made.request.id.worker ≡ index worker
   own_worker worker made at = world.places.own (index worker) (Outcome made) made.request.id at refl
 
-  is_out : (worker : Worker) (made : Made) → slice_get old.kept (index worker) ≡ Some (Outcome made) → IsOut old.core made.request.id
+  pub is_out : (worker : Worker) (made : Made) → slice_get old.kept (index worker) ≡ Some (Outcome made) → IsOut old.core made.request.id
   is_out worker made at = ap (slice_get old.core.outs) (own_worker worker made at) ∙ ap (λ outs. slice_get outs (index worker)) world.outs
       ∙ get_map id_of old.kept (index worker) (Outcome made) at
 

@@ -1,4 +1,5 @@
 mod Lists
+mod LowersLemmas
 mod Calls
 mod KeptLemmas
 mod Worlds

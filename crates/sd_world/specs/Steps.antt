@@ -37,6 +37,15 @@ pub record TurnsJob (old : CoreView) (worker : Worker) (taken : Taken) (new : Co
   pub refused : (why : Refusal) → work_refusal old worker ≡ Some why → (taken ≡ StepTaken (reply.Refused why)) × (new ≡ old)
   pub leaves : work_refusal old worker ≡ None → Leaves old worker taken new
 
+-- what is left of a worker's job behind its event: less, unless that ended the job or was refused
+abbrev pub LeavesLess : Reply → ℕ → ℕ → Type 0
+LeavesLess reply.Worked before now = now < before
+LeavesLess (reply.Acked n) before now = Unit {0}
+LeavesLess (reply.Merged serial) before now = Unit {0}
+LeavesLess (reply.Reopened m) before now = Unit {0}
+LeavesLess (reply.Refused why) before now = Unit {0}
+LeavesLess _ before now = ⊥
+
 -- its next step is made, or its next request is kept
 pub data TakesUp (worker : Worker) (old : CoreView) (kept : List Kept) (answer : Reply) (new : CoreView) (later : List Kept) : Type 0 where
   step : MakesStep old worker answer new → TurnsJob old worker (StepTaken answer) new → later ≡ kept → TakesUp worker old kept answer new later

@@ -9,6 +9,7 @@ ghost use Rattle.sd_image.specs.Shows.{Shows};
 ghost use Rattle.sd_pagetable.specs.Contents.{plain_of};
 ghost use Rattle.sd_belief.specs.declared.standing.Standing.TheVariants.{NotOpen};
 ghost use Rattle.sd_core.specs.Starts.{shown_base};
+ghost use Rattle.sd_core.specs.Working.{left_by};
 ghost use Rattle.sd_world.specs.declared.kept.Kept.TheVariants.{Nothing};
 ghost use Rattle.sd_world.specs.Opens.{HasNoFrame, IsFaultOf, bare_memory};
 ghost use Rattle.sd_gate.specs.declared.worker.Worker.{Worker as WorkerKind};
@@ -19,7 +20,7 @@ ghost use Rattle.sd_world.specs.declared.event.Event.TheVariants.{Perform, Work}
 ghost use Rattle.sd_world.specs.Adds.{Adds};
 ghost use Rattle.sd_world.specs.Restored.{IsRestored};
 ghost use Rattle.sd_world.specs.Runs.{Runs, ShowsAllowedBetween, ShowsReply};
-ghost use Rattle.sd_world.specs.Steps.{Does, IsAnswered};
+ghost use Rattle.sd_world.specs.Steps.{Does, IsAnswered, LeavesLess};
 ghost use Rattle.sd_world.specs.View.{is_asked};
 
 use crate::event::Event;
@@ -179,12 +180,21 @@ impl<D: Disk> World<D> {
             → is_asked self.old.kept worker ≡ false
             → (result ≡ reply.Refused Idle) × (self.new ≡ self.old) }
 
+        // Behind a device call none is out of its worker that wasn't made.
+        ensures made { (worker : WorkerKind) → event.now ≡ Perform worker
+            → is_asked self.new.kept worker ≡ false }
+
         // A device call is answered by how it ended, and no other event touches the disk.
         ensures device { (worker : WorkerKind) → event.now ≡ Perform worker
             → is_asked self.old.kept worker ≡ true
             → IsAnswered (D.failed self.old.disk) (D.failed self.new.disk) result }
         ensures quiet { ((worker : WorkerKind) → event.now ≢ Perform worker)
             → self.new.disk ≡ self.old.disk }
+
+        // A worker's step, or an outcome of it that is handed in, lowers what is left of its job, unless that ends the job
+        // or is refused.
+        ensures lowers { (worker : WorkerKind) → event.now ≡ Work worker
+            → LeavesLess result (left_by self.old.core worker) (left_by self.new.core worker) }
 
         // What it adds to the journal. What the run started from stays.
         ensures adds { Adds event.now result self.old.core self.new.core }

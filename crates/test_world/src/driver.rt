@@ -94,18 +94,8 @@ impl Driver {
         Err(Fail::from("the end of the job"))
     }
 
-    /// The world.
-    pub(crate) fn world(&self) -> &World<Fused<MemDisk>> {
-        &self.world
-    }
-
-    /// Closes the world. Returns its store.
-    pub(crate) fn close(self) -> Fused<MemDisk> {
-        self.world.close()
-    }
-
     /// Closes the world, and makes another over its store, as a second run does.
     pub(crate) fn run_again(self, alloc: Global) -> Result<Driver, Fail> {
-        Driver::new(alloc, self.close())
+        Driver::new(alloc, self.world.close())
     }
 }

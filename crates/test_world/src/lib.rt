@@ -15,5 +15,3 @@ mod lines;
 mod opening;
 #[cfg(test)]
 mod reopening;
-#[cfg(test)]
-mod restoring;

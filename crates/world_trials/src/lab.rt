@@ -1,7 +1,9 @@
 //! A world over a disk in memory of which calls fail.
+use sd_areas::Snapshot;
 use sd_command::Reply;
 use sd_disk::{Fused, MemDisk};
 use sd_gate::Worker;
+use sd_restore::Fault;
 use sd_world::{Event, World};
 use std::alloc::Global;
 
@@ -54,6 +56,12 @@ impl Lab {
     /// Whether the next event of a worker is that its device call is made.
     pub(crate) fn is_out(&self, worker: Worker) -> bool {
         self.world.is_out(worker)
+    }
+
+    /// Restores what a crash left of the world's store.
+    pub(crate) fn restored(&self, left: &mut MemDisk) -> Result<Snapshot, Fault> {
+        self.world.sound();
+        self.world.restore_crashed(left)
     }
 
     /// The disk.

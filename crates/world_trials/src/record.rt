@@ -4,10 +4,11 @@ use crate::figures::{Figures, is_call};
 use crate::lab::{Failing, Lab};
 use crate::rule::Rule;
 use crate::trouble::Trouble;
+use sd_areas::Snapshot;
 use sd_command::{Refusal, Reply};
 use sd_disk::MemDisk;
-use sd_restore::{Fault, restore};
-use sd_world::Event;
+use sd_restore::Fault;
+use sd_world::{Event, restore_left};
 use std::alloc::{AllocError, Global};
 
 /// An event, and how it was answered.
@@ -26,9 +27,12 @@ pub(crate) struct Record {
     steps: Vec<Step>,
 }
 
-/// What a store shows: a checkpoint, or none; no answer where the store is damaged.
-fn shown(alloc: Global, disk: &mut MemDisk) -> Result<Option<Option<Saved>>, Trouble> {
-    match restore(alloc, disk) {
+/// What a restored store shows: a checkpoint, or none; no answer where the store is damaged.
+fn shown(
+    alloc: Global,
+    restored: Result<Snapshot, Fault>,
+) -> Result<Option<Option<Saved>>, Trouble> {
+    match restored {
         Ok(snapshot) => Ok(Some(Some(Saved::of_snapshot(alloc, &snapshot)?))),
         Err(Fault::EmptyChain) => Ok(Some(None)),
         Err(Fault::OutOfMemory) => Err(Trouble::OutOfMemory),
@@ -53,10 +57,15 @@ impl Record {
         Ok(Lab::open(self.alloc, disk, self.failing))
     }
 
-    /// What the replies of the run say before its first event.
+    /// What the replies of the run say before its first event. A world that opened the store tells what a copy of
+    /// the store restores to.
     pub(crate) fn account(&self) -> Result<Account, Trouble> {
         let mut disk = self.start.crash(self.alloc, &mut Rule::Now)?;
-        match shown(self.alloc, &mut disk)? {
+        let restored = match self.open()? {
+            Ok(lab) => lab.restored(&mut disk),
+            Err(_) => restore_left(self.alloc, &mut disk),
+        };
+        match shown(self.alloc, restored)? {
             Some(saved) => Ok(Account::new(self.alloc, saved)?),
             None => Err(Trouble::Differs),
         }
@@ -98,7 +107,8 @@ impl Record {
     ) -> Result<(), Trouble> {
         for rule in rules {
             let mut crashed = disk.crash(self.alloc, &mut { *rule })?;
-            let pair = match shown(self.alloc, &mut crashed)? {
+            let restored = restore_left(self.alloc, &mut crashed);
+            let pair = match shown(self.alloc, restored)? {
                 Some(saved) => account.pair(&saved),
                 None => Pair::Other,
             };

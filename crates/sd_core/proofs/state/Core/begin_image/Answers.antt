@@ -1,4 +1,4 @@
-use Rattle.std.proofs.Common.{◌≡◌, ℕ, ◌+◌, ◌^◌, ◌<◌, ◌≤◌, ◌||◌, ◌&&◌, if◌then◌else◌, ◌∷◌, [], Some, None, length, slice_get, slice_index_or, slice_set, refl, sym, ◌∙◌, ap, subst, inl, arith}
+use Rattle.std.proofs.Common.{◌≡◌, ℕ, ◌+◌, ◌^◌, ◌<◌, ◌≤◌, ◌||◌, ◌&&◌, if◌then◌else◌, ◌∷◌, [], Some, None, IsSome, length, slice_get, slice_index_or, slice_set, refl, sym, ◌∙◌, ap, subst, inl, arith}
 use Rattle.std.proofs.lemmas.Option.{same_Some, slice_get-get_or}
 use Rattle.std.proofs.Math.Bool.{and-false}
 use Rattle.sd_areas.specs.Memory.{memory_of}
@@ -17,14 +17,16 @@ use Rattle.sd_rounds.specs.Making.{begun_image}
 use Rattle.sd_belief.specs.DumperSteps.{opens_gate}
 use Rattle.sd_belief.specs.View.{CoreView}
 use Rattle.sd_core.specs.declared.numbers.Numbers.{Numbers}
+use Rattle.sd_core.specs.Images.{begun_as}
 use Rattle.sd_core.specs.Sound.{AreNumbers, IsImageOf, IsJournal, begun_images}
 use Rattle.sd_core.proofs.ApplyLemmas.{stays_same}
 use Rattle.sd_core.proofs.ImageLemmas.{begun_asked}
 use Rattle.sd_core.proofs.MarkLemmas.{counted_held, held_place, next_is, none_visited, start_numbers}
 use Rattle.sd_core.proofs.OpeningLemmas.{hands_seen, step_seen}
+use Rattle.sd_core.proofs.PreDumpLemmas.{change_stays, pre_dumps_stay}
 use Rattle.sd_core.proofs.StageLemmas.{asked_in}
 use Rattle.sd_core.proofs.StepLemmas.{begins_asking, free_of_none}
-use Rattle.sd_core.proofs.WorkLemmas.{at_work, core_working, grown_core, held_at_work, held_same, noted_journal, out_at_work, outs_within, rests_before, slot_within}
+use Rattle.sd_core.proofs.WorkLemmas.{asked_on, at_work, core_working, grown_core, held_at_work, held_same, noted_journal, out_at_work, outs_within, rests_before, slot_within}
 use Rattle.sd_core.proofs.state.Core.begin_image.Goals as goal
 
 pub overflow_add-serial : goal.overflow_add-serial
@@ -84,6 +86,8 @@ invariant_of-self-2 c =
     now given (held_place c.self.inside.catalog c.hold.new.self serial c.in-Ok-hold.ensures.held) (none_visited c.reserve_mark.new.self.items serial fresh) w.steps.0 in
     let within = slot_within _ w.running core w.was in
     let serials : old.serial < 2 ^ 63 + w.running.opened = subst (λ i. old.serial < 2 ^ 63 + begun_images w.running i) w.none work.serials in
+    let new_serial : (o : Opened) → place_of c.self.inside.catalog serial ≡ Some (Some o) → ⊥ =
+    (λ o is. let double = c.hold.ensures.double.1 (subst IsSome (sym is) refl) in cc) in
     core_working _ _ w.is (record {
       journal_is = subst (λ m. IsJournal base c.note.new.self m c.self.inside.pending c.self.inside.last) (sym w.steps.2)
           (noted_journal base c.reserve_mark.new.self c.note.new.self c.self.inside.memory c.self.inside.memory c.self.inside.pending c.self.inside.last (Start serial)
@@ -111,6 +115,10 @@ invariant_of-self-2 c =
         few = work.few;
         serials = omega (arith, now, serials);
         within = λ slot reserved. work.within slot (record { place = reserved.place; from = reserved.from; is = reserved.is });
+        apart = work.apart;
+        pre_dumps = pre_dumps_stay (begun_as w.running) c.self.inside.catalog c.hold.new.self w.running.opened w.running.parent
+            (change_stays (begun_as w.running) c.self.inside.catalog c.hold.new.self serial w.running.opened (Some None) c.in-Ok-hold.ensures.held new_serial) work.pre_dumps;
+        asked = asked_on w.running (begun_image (order_of w.running serial c.state.result)) w.next _ t.out_is t.slot refl;
         image = subst (λ all. IsImageOf all c.hold.new.self c.tick.new.self w.next) (sym c.note.ensures.items) t.image_is;
       };
     })

@@ -75,6 +75,9 @@ invariant_of-self-2 c =
         within = λ slot reserved. subst (λ k. slot < k) count
             (subst (λ s. s < c.len.result) (sym reserved.is) (free_within c.self.inside.catalog c.len.result _ r.slots r.free
             (slot_is_free c.self.inside.catalog c.len.result c.args.rounds c.in-Ok.slots.pre_dumps.items c.in-Ok.slots.dump reserved.place r)));
+        apart = λ one other below within. slots_apart c.self.inside.catalog c.len.result c.args.rounds c.in-Ok.slots.pre_dumps.items c.in-Ok.slots.dump one other r below within;
+        pre_dumps = refl;
+        asked = tt;
         image = tt;
       };
     })

@@ -1,4 +1,4 @@
-use Rattle.std.proofs.Common.{◌≡◌, ◌+◌, ◌<◌, ◌^◌, if◌then◌else◌, ◌||◌, ◌&&◌, length, Some, None, slice_get, slice_set, ◌∷◌, [], refl, sym, ◌∙◌, ap, subst, arith}
+use Rattle.std.proofs.Common.{◌≡◌, ◌+◌, ◌<◌, ◌^◌, if◌then◌else◌, ◌||◌, ◌&&◌, length, Some, None, IfSome, slice_get, slice_set, ◌∷◌, [], refl, sym, ◌∙◌, ap, subst, arith}
 use Rattle.sd_areas.specs.Memory.{memory_of}
 use Rattle.std.proofs.lemmas.Option.{same_Some}
 use Rattle.sd_gate.specs.declared.request_id.RequestId.{RequestId}
@@ -11,14 +11,16 @@ use Rattle.sd_journal.specs.declared.mark.Mark.TheVariants.{Table, Visit}
 use Rattle.sd_journal.specs.Marked.{Noted, Told, entries_of}
 use Rattle.sd_rounds.specs.declared.image_step.ImageStep.TheVariants.{TableCall, Visited, Copied}
 use Rattle.sd_pagetable.specs.Contents.{plain_of}
-use Rattle.sd_rounds.specs.Dumper.{is_dumping, is_last}
+use Rattle.sd_rounds.specs.Dumper.{is_dumping, is_last, slot_of}
 use Rattle.sd_belief.specs.DumperSteps.{opens_gate}
 use Rattle.sd_core.specs.Dumping.{StepsOn}
+use Rattle.sd_core.specs.Images.{begun_as}
 use Rattle.sd_core.specs.Sound.{AreNumbers, IsImageOf, IsJournal, begun_images, held_for}
 use Rattle.sd_core.proofs.ImageLemmas.{image_calls, image_frozen, image_table, image_visited, image_copied}
 use Rattle.sd_core.proofs.MarkLemmas.{asks_or_writes, before_freeze, freeze_journal, freeze_numbers, frozen_next, may_freeze, sound_image, table_journal, visit_journal}
 use Rattle.sd_core.proofs.OpeningLemmas.{hands_seen, step_seen}
-use Rattle.sd_core.proofs.WorkLemmas.{SameNumbers, at_work, core_working, counted_same, grown_core, held_at_work, image_of_work, image_within, numbers_noted, numbers_same, out_at_work, own_order, same_numbers, turned}
+use Rattle.sd_core.proofs.PreDumpLemmas.{same_stay}
+use Rattle.sd_core.proofs.WorkLemmas.{SameNumbers, asked_on, at_work, core_working, counted_same, grown_core, held_at_work, image_of_work, image_within, numbers_noted, numbers_same, out_at_work, own_order, own_slot, same_numbers, turned}
 use Rattle.sd_core.proofs.StepLemmas.{free_of_none, freezes_it, hands_asked, hands_call, works_on}
 use Rattle.sd_core.proofs.state.Core.go_on_image.Goals as goal
 
@@ -48,6 +50,8 @@ invariant_of-self-in-Copied-1 c =
       counted = core.counted;
       outs = out.1 ∙ ap (λ o. o ∷ None ∷ None ∷ []) (sym t.out_is);
       slot = λ id is. absurd (let no : None ≡ Some id = sym t.out_is ∙ is in cc);
+      stay = same_stay (begun_as w.running) c.self.inside.catalog w.running.opened;
+      asked = asked_on w.running w.image w.next _ t.out_is t.slot (own_slot c.self.inside.dumper.since_freeze _ w.running w.image c.sound.ensures.running w.was w.making);
       image_is = t.image_is;
       still = t.still;
     }))
@@ -81,6 +85,8 @@ invariant_of-self-in-Visited-1 c =
       counted = core.counted;
       outs = out.1 ∙ ap (λ o. o ∷ None ∷ None ∷ []) (sym t.out_is);
       slot = λ id is. absurd (let no : None ≡ Some id = sym t.out_is ∙ is in cc);
+      stay = same_stay (begun_as w.running) c.self.inside.catalog w.running.opened;
+      asked = asked_on w.running w.image w.next _ t.out_is t.slot (own_slot c.self.inside.dumper.since_freeze _ w.running w.image c.sound.ensures.running w.was w.making);
       image_is = subst (λ all. IsImageOf all c.self.inside.catalog c.self.inside.numbers w.next) (sym items) t.image_is;
       still = t.still;
     }))
@@ -113,6 +119,8 @@ invariant_of-self-in-Call c =
       counted = counted_same c.self.inside.catalog c.self.inside.numbers c.tick-in-Call.new.self numbers core.counted;
       outs = c.put_out-in-Call.ensures ∙ ap (λ outs. slice_set outs 0 (Some c.id-in-Call.result)) out.1 ∙ ap (λ o. o ∷ None ∷ None ∷ []) (ap Some c.id-in-Call.ensures ∙ sym t.out_is);
       slot = λ id is. subst (λ (i : RequestId). i.slot < length c.self.inside.phases.items) (same_Some c.in-Call.request.id id (sym t.out_is ∙ is)) (subst (λ slot. slot < length c.self.inside.phases.items) (sym t.slot) within);
+      stay = same_stay (begun_as w.running) c.self.inside.catalog w.running.opened;
+      asked = asked_on w.running w.image w.next _ t.out_is t.slot (own_slot c.self.inside.dumper.since_freeze _ w.running w.image c.sound.ensures.running w.was w.making);
       image_is = t.image_is;
       still = t.still;
     }))
@@ -149,6 +157,8 @@ invariant_of-self-in-TableCall-1 c =
       counted = counted_same c.self.inside.catalog c.self.inside.numbers c.tick.new.self numbers core.counted;
       outs = c.put_out.ensures ∙ ap (λ outs. slice_set outs 0 (Some c.id.result)) out.1 ∙ ap (λ o. o ∷ None ∷ None ∷ []) (ap Some c.id.ensures ∙ sym t.out_is);
       slot = λ id is. subst (λ (i : RequestId). i.slot < length c.self.inside.phases.items) (same_Some c.in-TableCall.request.id id (sym t.out_is ∙ is)) (subst (λ slot. slot < length c.self.inside.phases.items) (sym t.slot) within);
+      stay = same_stay (begun_as w.running) c.self.inside.catalog w.running.opened;
+      asked = asked_on w.running w.image w.next _ t.out_is t.slot (own_slot c.self.inside.dumper.since_freeze _ w.running w.image c.sound.ensures.running w.was w.making);
       image_is = subst (λ all. IsImageOf all c.self.inside.catalog c.tick.new.self w.next) (sym items) t.image_is;
       still = t.still;
     }))
@@ -188,6 +198,9 @@ invariant_of-self-in-Frozen-1 c =
         few = work.few;
         serials = serials;
         within = λ slot reserved. work.within slot (record { place = reserved.place; from = reserved.from; is = reserved.is });
+        apart = work.apart;
+        pre_dumps = work.pre_dumps;
+        asked = subst (λ o. IfSome o (λ id. id.slot ≡ slot_of w.running)) (sym t.out_is) tt;
         image = subst (λ all. IsImageOf all c.self.inside.catalog c.self.inside.numbers w.next) (sym c.append_held.ensures.items) t.image_is;
       };
     })

@@ -1,4 +1,4 @@
-use Rattle.std.proofs.Common.{◌≡◌, ◌+◌, ◌^◌, ◌<◌, ◌∷◌, [], Some, None, IfSome, slice_get, slice_index_or, slice_set, refl, sym, ◌∙◌, ap, subst, arith}
+use Rattle.std.proofs.Common.{◌≡◌, ◌+◌, ◌^◌, ◌<◌, ◌∷◌, [], length, Some, None, IfSome, slice_get, slice_index_or, slice_set, refl, sym, ◌∙◌, ap, subst, arith}
 use Rattle.std.proofs.lemmas.Option.{slice_get-get_or}
 use Rattle.sd_areas.specs.Memory.{memory_of}
 use Rattle.sd_chain.specs.Catalog.{Changes}
@@ -11,16 +11,18 @@ use Rattle.sd_command.specs.declared.reply.Reply.TheVariants as reply
 use Rattle.sd_journal.specs.declared.entry.Entry.TheVariants.{Acked}
 use Rattle.sd_journal.specs.History.{Base}
 use Rattle.sd_journal.specs.Marked.{Told, entries_of}
-use Rattle.sd_rounds.specs.Dumper.{Hands, HasCounted, after_pre_dump, out_of_running}
+use Rattle.sd_rounds.specs.Dumper.{Hands, HasCounted, after_pre_dump, out_of_running, slot_of}
 use Rattle.sd_belief.specs.DumperOutcomes.{IsDumpersOutcome, LeavesCatalog, closes_for_sure}
 use Rattle.sd_belief.specs.OpenerSteps.{nobody}
 use Rattle.sd_belief.specs.View.{CoreView, index}
+use Rattle.sd_core.specs.Images.{HasPreDumps, begun_as}
 use Rattle.sd_core.specs.Sound.{AreNumbers, IsAtWork, IsOpening, begun_images, held_for, out_of_opener}
 use Rattle.sd_core.proofs.CoreLemmas.{after_count}
 use Rattle.sd_core.proofs.ImageLemmas.{image_more}
 use Rattle.sd_core.proofs.MarkLemmas.{sound_image}
 use Rattle.sd_core.proofs.OpeningLemmas.{handed_seen}
 use Rattle.sd_core.proofs.OutcomeLemmas.{has_image, acked_journal, acked_numbers, checkpoint_used, counted_opened, dump_pends, handed_dumper, left_counted, left_held, opened_now, pre_dump_pends}
+use Rattle.sd_core.proofs.PreDumpLemmas.{all_pre_dumps, change_stays, few_opened, leave_stays, none_held, pre_dump_entered, pre_dumps_stay}
 use Rattle.sd_core.proofs.StepLemmas.{free_of_none}
 use Rattle.sd_core.proofs.WorkLemmas.{at_work, core_working, held_at_work, held_same, image_of_work, out_at_work, outs_within, own_order, same_numbers, turned}
 use Rattle.sd_core.proofs.state.Core.hand_in_dumper.Goals as goal
@@ -62,6 +64,9 @@ invariant_of-self-in-More c =
       counted = left_counted c.closes_for_sure-closed.result c.id-id.result.slot c.self.inside.catalog c.leave_catalog.new.catalog c.self.inside.numbers c.leave_catalog.ensures c.self.invariant.counted;
       outs = none_now ∙ ap (λ o. o ∷ None ∷ None ∷ []) (sym t.out_is);
       slot = λ other is. absurd (let no : None ≡ Some other = sym t.out_is ∙ is in cc);
+      stay = leave_stays h.running c.closes_for_sure-closed.result c.id-id.result.slot c.self.inside.catalog c.leave_catalog.new.catalog c.leave_catalog.ensures
+          (ap (λ (i : RequestId). i.slot) c.id-id.ensures ∙ subst (λ o. IfSome o (λ i. i.slot ≡ slot_of h.running)) out.0 work.asked) (few_opened c.self.inside.dumper.since_freeze _ h.running c.sound.ensures.running h.was) work.apart;
+      asked = subst (λ o. IfSome o (λ i. i.slot ≡ slot_of h.running)) (sym t.out_is) tt;
       image_is = t.image_is;
       still = t.still;
     }))
@@ -110,6 +115,13 @@ invariant_of-self-in-PreDump c =
         serials = serials;
         within = λ slot reserved. subst (λ k. slot < k) (sym count)
             (work.within slot (record { place = reserved.place; from = (let from = reserved.from in omega (arith, from)); is = reserved.is }));
+        apart = work.apart;
+        pre_dumps = pre_dump_entered h.running c.self.inside.catalog c.enter_catalog.new.catalog (record { slot = opened.slot; header = opened.header; spaces = opened.table })
+            (has_image c.self.inside.dumper.since_freeze c.self.inside.dumper.running h.running h.hands.0.image made opened c.self.inside.catalog c.enter_catalog.new.catalog c.sound.ensures.running h.was h.hands.0.was now h.hands.0.hands
+            c.enter_catalog.ensures) h.hands.1
+            (change_stays (begun_as h.running) c.self.inside.catalog c.enter_catalog.new.catalog h.hands.0.image.order.serial h.running.opened _ changes
+            (λ o is. none_held c.self.inside.catalog h.hands.0.image.order.serial o image.held is)) work.pre_dumps;
+        asked = tt;
         image = tt;
       };
     })
@@ -374,6 +386,10 @@ returns-in-Dump-clause-acked c n is =
     let opened = c.in-Dump.image in
     let image = image_of_work _ h.running h.hands.0.image c.self.invariant h.was h.hands.0.was in
     let now = opened_now _ _ _ h.hands.0.image opened made image h.hands.0.hands in
+    let changes : Changes c.self.inside.catalog c.enter_catalog-in-Dump.new.catalog h.hands.0.image.order.serial (Some (Some (record { slot = opened.slot; header = opened.header; spaces = opened.table }))) =
+    subst (λ s. Changes c.self.inside.catalog c.enter_catalog-in-Dump.new.catalog s (Some (Some (record { slot = opened.slot; header = opened.header; spaces = opened.table })))) now.serial c.enter_catalog-in-Dump.ensures in
+    let has = has_image c.self.inside.dumper.since_freeze c.self.inside.dumper.running h.running h.hands.0.image made opened c.self.inside.catalog c.enter_catalog-in-Dump.new.catalog c.sound.ensures.running h.was h.hands.0.was now h.hands.0.hands
+    c.enter_catalog-in-Dump.ensures in
     let named : c.self.inside.numbers.begun ≡ n = cc in
     record {
       running = h.running;
@@ -381,7 +397,11 @@ returns-in-Dump-clause-acked c n is =
       number = sym named ∙ sym work.number;
       last = h.hands.1;
       dump = record { slot = opened.slot; header = opened.header; spaces = opened.table };
-      has = has_image c.self.inside.dumper.since_freeze c.self.inside.dumper.running h.running h.hands.0.image made opened c.self.inside.catalog c.enter_catalog-in-Dump.new.catalog c.sound.ensures.running h.was h.hands.0.was now h.hands.0.hands
-          c.enter_catalog-in-Dump.ensures;
+      has = has;
+      pre_dumps = subst (HasPreDumps (begun_as h.running) c.enter_catalog-in-Dump.new.catalog (length h.running.pre_dumps)) (sym has.parent)
+          (all_pre_dumps h.running c.enter_catalog-in-Dump.new.catalog h.running.parent (few_opened c.self.inside.dumper.since_freeze _ h.running c.sound.ensures.running h.was) h.hands.1
+          (pre_dumps_stay (begun_as h.running) c.self.inside.catalog c.enter_catalog-in-Dump.new.catalog h.running.opened h.running.parent
+          (change_stays (begun_as h.running) c.self.inside.catalog c.enter_catalog-in-Dump.new.catalog h.hands.0.image.order.serial h.running.opened _ changes
+          (λ o is_in. none_held c.self.inside.catalog h.hands.0.image.order.serial o image.held is_in)) work.pre_dumps));
       counted = subst (λ p. HasCounted p c.hand_in.new.self.since_freeze) c.in-Dump.is c.hand_in.ensures.pages;
     }

@@ -1,0 +1,87 @@
+-- A worker's event lowers what is left of its job, unless it ends it or is refused.
+use Rattle.std.proofs.Common.{◌≡◌, ℕ, Option, Some, None, slice_get, refl, sym, ◌∙◌, ap, subst}
+use Rattle.sd_command.specs.declared.refusal.Refusal.{Refusal}
+use Rattle.sd_command.specs.declared.refusal.Refusal.TheVariants.{Busy}
+use Rattle.sd_command.specs.declared.reply.Reply.{Reply}
+use Rattle.sd_command.specs.declared.reply.Reply.TheVariants as reply
+use Rattle.sd_disk.specs.declared.disk.Disk.{Ghosts}
+use Rattle.sd_gate.specs.declared.worker.Worker.{Worker}
+use Rattle.sd_gate.specs.Requests.{Asked}
+use Rattle.sd_belief.specs.View.{CoreView, index}
+use Rattle.sd_core.specs.declared.taken.Taken.{Taken}
+use Rattle.sd_core.specs.declared.taken.Taken.TheVariants.{Step as StepTaken, Call as CallTaken}
+use Rattle.sd_core.specs.Refusals.{work_refusal}
+use Rattle.sd_core.specs.Working.{LeavesByOutcome, LeavesByStep, left_by}
+use Rattle.sd_world.specs.declared.kept.Kept.{Kept}
+use Rattle.sd_world.specs.declared.kept.Kept.TheVariants.{Nothing, Request, Outcome}
+use Rattle.sd_world.specs.Consistent.{IsWorld}
+use Rattle.sd_world.specs.Steps.{IsWork, LeavesLess, TakesUp, TurnsJob, Works}
+use Rattle.sd_world.specs.View.{WorldView}
+use Rattle.sd_world.proofs.AddsLemmas.{is_out, own_worker, same_worker}
+
+by_step : (old : CoreView) (worker : Worker) (answer : Reply) (new : CoreView) → LeavesByStep old worker answer new → LeavesLess answer (left_by old worker) (left_by new worker)
+by_step old worker reply.Done new leaves = leaves
+by_step old worker (reply.Bytes bytes) new leaves = leaves
+by_step old worker (reply.Child space) new leaves = leaves
+by_step old worker reply.NeedsFault new leaves = leaves
+by_step old worker (reply.Segv why) new leaves = leaves
+by_step old worker (reply.Begun n) new leaves = leaves
+by_step old worker reply.Worked new leaves = leaves.lowers
+by_step old worker (reply.Acked n) new leaves = tt
+by_step old worker (reply.Cancelled n) new leaves = leaves
+by_step old worker (reply.Merged serial) new leaves = tt
+by_step old worker (reply.Reopened m) new leaves = tt
+by_step old worker (reply.Refused why) new leaves = tt
+
+by_outcome : (old : CoreView) (worker : Worker) (answer : Reply) (new : CoreView) → LeavesByOutcome old worker answer new
+    → LeavesLess answer (left_by old worker) (left_by new worker)
+by_outcome old worker reply.Done new leaves = leaves
+by_outcome old worker (reply.Bytes bytes) new leaves = leaves
+by_outcome old worker (reply.Child space) new leaves = leaves
+by_outcome old worker reply.NeedsFault new leaves = leaves
+by_outcome old worker (reply.Segv why) new leaves = leaves
+by_outcome old worker (reply.Begun n) new leaves = leaves
+by_outcome old worker reply.Worked new leaves = leaves.lowers
+by_outcome old worker (reply.Acked n) new leaves = tt
+by_outcome old worker (reply.Cancelled n) new leaves = leaves
+by_outcome old worker (reply.Merged serial) new leaves = tt
+by_outcome old worker (reply.Reopened m) new leaves = tt
+by_outcome old worker (reply.Refused why) new leaves = tt
+
+refused : (old : CoreView) (worker : Worker) (answer : Reply) (new : CoreView) (why : Refusal) → answer ≡ reply.Refused why
+    → LeavesLess answer (left_by old worker) (left_by new worker)
+refused old worker answer new why is = subst (λ a. LeavesLess a (left_by old worker) (left_by new worker)) (sym is) tt
+
+step_lowers : (old : CoreView) (worker : Worker) (answer : Reply) (new : CoreView) (why : Option Refusal) → work_refusal old worker ≡ why
+    → TurnsJob old worker (StepTaken answer) new → LeavesLess answer (left_by old worker) (left_by new worker)
+step_lowers old worker answer new None is job = by_step old worker answer new (job.leaves is)
+step_lowers old worker answer new (Some why) is job = refused old worker answer new why (same ((job.refused why is).0))
+  where
+    same : StepTaken answer ≡ StepTaken (reply.Refused why) → answer ≡ reply.Refused why
+    same e = cc
+
+call_lowers : (old : CoreView) (worker : Worker) (request : Asked) (answer : Reply) (new : CoreView) (why : Option Refusal) → work_refusal old worker ≡ why
+    → TurnsJob old worker (CallTaken request) new → answer ≡ reply.Worked → LeavesLess answer (left_by old worker) (left_by new worker)
+call_lowers old worker request answer new None is job worked =
+    subst (λ a. LeavesLess a (left_by old worker) (left_by new worker)) (sym worked) (job.leaves is).lowers
+call_lowers old worker request answer new (Some why) is job worked =
+    absurd (let no : CallTaken request ≡ StepTaken (reply.Refused why) = (job.refused why is).0 in cc)
+
+module _ {D : Type 0} (g : Ghosts D) (old new : WorldView D) (world : IsWorld g old) where
+  taken_lowers : (worker : Worker) (answer : Reply) → TakesUp worker old.core old.kept answer new.core new.kept
+      → LeavesLess answer (left_by old.core worker) (left_by new.core worker)
+  taken_lowers worker answer (TakesUp.step makes job left) = step_lowers old.core worker answer new.core (work_refusal old.core worker) refl job
+  taken_lowers worker answer (TakesUp.call request hands job left worked) =
+      call_lowers old.core worker request answer new.core (work_refusal old.core worker) refl job worked
+
+  works_lowers : (first : Kept) (worker : Worker) (answer : Reply) → slice_get old.kept (index worker) ≡ Some first
+      → Works first worker old.core old.kept answer new.core new.kept → LeavesLess answer (left_by old.core worker) (left_by new.core worker)
+  works_lowers Nothing worker answer at works = taken_lowers worker answer works
+  works_lowers (Request request) worker answer at works = refused old.core worker answer new.core Busy works.refused
+  works_lowers (Outcome made) worker answer at works =
+      by_outcome old.core worker answer new.core
+      (subst (λ w. LeavesByOutcome old.core w answer new.core) (same_worker made.request.id.worker worker (own_worker g old new world worker made at))
+      (works.leaves (is_out g old new world worker made at)))
+
+  pub work_lowers : (worker : Worker) (answer : Reply) → IsWork worker old answer new → LeavesLess answer (left_by old.core worker) (left_by new.core worker)
+  work_lowers worker answer work = works_lowers work.works.first worker answer work.works.is work.works.works
