@@ -7,7 +7,7 @@ use Rattle.sd_gate.specs.Phases.{after, phases_after}
 use Rattle.sd_gate.specs.Requests.{Made}
 use Rattle.sd_gate.specs.declared.request_id.RequestId.{RequestId}
 use Rattle.sd_journal.specs.Kept.{Kept}
-use Rattle.sd_opener.specs.Looking.{Looking}
+use Rattle.sd_opener.specs.Looking.{IsDoneAsAsked, Looking}
 use Rattle.sd_rounds.specs.Dumper.{Running, out_of_running}
 use Rattle.sd_belief.specs.declared.standing.Standing.{Standing}
 use Rattle.sd_belief.specs.declared.standing.Standing.TheVariants.{Open}
@@ -112,6 +112,12 @@ pub record IsTaughtOn (old : Option Looking) (made : Made) (new : Option Looking
 pub taught_opener : (old : Option Looking) (made : Made) (new : Option Looking) → TeachesOpener old made true new → IsTaughtOn old made new
 taught_opener None made new taught = absurd (let no : true ≡ false = taught.0 in cc)
 taught_opener (Some opener) made new taught = record { opener = opener; next = taught.0; was = refl; is = taught.1; goes_on = taught.2 }
+
+-- an opener that doesn't go on wasn't answered as it asked
+pub not_taught : (old : Option Looking) (made : Made) (new : Option Looking) → TeachesOpener old made false new → out_of_opener old ≡ Some made.request.id
+    → IsDoneAsAsked made → ⊥
+not_taught None made new taught out as_asked = (let none : None ≡ Some made.request.id = out in cc)
+not_taught (Some opener) made new taught out as_asked = taught out as_asked
 
 -- an opener whose request is out runs while the store isn't open
 pub closed_by : (opener : Option Looking) (id : RequestId) (standing : Standing) (phases : List Phase) → IfSome opener (IsOpening standing phases) → out_of_opener opener ≡ Some id

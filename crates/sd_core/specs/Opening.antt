@@ -13,7 +13,7 @@ use Rattle.sd_journal.specs.Kept.{Kept}
 use Rattle.sd_opener.specs.declared.opened.Opened.{Opened}
 use Rattle.sd_opener.specs.declared.opener_step.OpenerStep.{OpenerStep}
 use Rattle.sd_opener.specs.Left.{Lowers, LowersByStep}
-use Rattle.sd_opener.specs.Looking.{Looking, MovesOn, StepMoves, out_of}
+use Rattle.sd_opener.specs.Looking.{IsDoneAsAsked, Looking, MovesOn, StepMoves, out_of}
 use Rattle.sd_opener.specs.Sees.{IsOpened, IsToldOf, Sees, SeesAfter}
 
 -- a step of the opener
@@ -88,7 +88,7 @@ pub record GoesOn (old : Looking) (made : Made) (new : Looking) : Type 0 where
 abbrev pub TeachesOpener : Option Looking → Made → Bool → Option Looking → Type 0
 TeachesOpener None made goes new = (goes ≡ false) × (new ≡ None)
 TeachesOpener (Some opener) made true new = (next : Looking) × (new ≡ Some next) × GoesOn opener made next
-TeachesOpener (Some opener) made false new = Unit {0}
+TeachesOpener (Some opener) made false new = out_of opener.stage ≡ Some made.request.id → IsDoneAsAsked made → ⊥
 
 -- every slot was read
 pub record IsAllRead (opener : Option Looking) : Type 0 where

@@ -27,6 +27,7 @@ ghost use Rattle.sd_core.specs.Starts.{TakesUp, IsStart, shown_base};
 ghost use Rattle.sd_core.specs.Working.{Leaves, LeavesByOutcome, LeavesByStep, left_by};
 ghost use Rattle.sd_core.specs.declared.taken.Taken.TheVariants as taken;
 ghost use Rattle.sd_gate.specs.Calls.{is_done};
+ghost use Rattle.sd_opener.specs.Looking.{IsDoneAsAsked};
 
 use crate::answering::answer;
 use crate::beginning::{first_of, first_parent, is_down, is_not_open, reserve_slots};
@@ -684,6 +685,9 @@ impl Core {
             → result ≡ reply.Refused StoreDown }
         ensures down { IsOut self.old outcome.request.id → outcome.request.id.worker ≡ its.Dumper
             → result ≡ reply.Refused StoreDown → is_done outcome.answer ≡ false }
+        // One of the opener that is done as it was asked for never ends it.
+        ensures goes_on { IsOut self.old outcome.request.id → outcome.request.id.worker ≡ its.Opener
+            → IsDoneAsAsked outcome → result ≡ reply.Worked }
         ensures leaves { IsOut self.old outcome.request.id
             → LeavesByOutcome self.old outcome.request.id.worker result self.new }
         ensures acked { (n : ℕ) → IsOut self.old outcome.request.id → result ≡ reply.Acked n
@@ -755,6 +759,7 @@ impl Core {
         requires opener { outcome.request.id.worker ≡ its.Opener }
         ensures handed { HandedIn self.old outcome result self.new }
         ensures failed { is_done outcome.answer ≡ false → result ≡ reply.Refused StoreDown }
+        ensures goes_on { IsDoneAsAsked outcome → result ≡ reply.Worked }
         ensures leaves { LeavesByOutcome self.old its.Opener result self.new }
     {
         opener_steps();

@@ -16,6 +16,7 @@ use Rattle.sd_gate.specs.Looks.{HasNoHeader, IsFound, first_of, table_of, HasHea
 use Rattle.sd_gate.specs.Plans.{Back}
 use Rattle.sd_restore.specs.Faulty.{IsFaulty}
 use Rattle.sd_restore.specs.Reading.{HasHeader}
+use Rattle.sd_opener.specs.Sees.{HasEnded}
 
 -- a file in phase Whole has a header behind an open gate
 pub record IsWhole (file : List ℕ) : Type 0 where
@@ -123,3 +124,52 @@ broken_is_faulty file why broken = record {
   opens = opens_so file (record { long = broken.long; gate = sym (first_gate file broken.long) ∙ broken.opens });
   breaks = rw broken.header refl;
 }
+
+-- ---- what came back, whatever the file has
+
+-- a slot whose phase is told as Whole has a header's bytes behind an open gate
+pub record IsToldWhole (len : ℕ) (bytes : List ℕ) : Type 0 where
+  pub long : 4096 ≤ len
+  pub opens : slice_index bytes 0 ≡ gate
+
+pub told_whole : (len : ℕ) (bytes : List ℕ) → phase_found (Some len) (Some bytes) ≡ Some Whole → IsToldWhole len bytes
+told_whole len bytes is = elim (cases_lt len 4096) [
+  | inl short ↦ absurd (let no : Raw ≡ Whole = sym (told_raw short) ∙ told in cc)
+  | inr long ↦ elim (cases_eq (slice_index bytes 0) gate) [
+    | inl opens ↦ record { long = long; opens = opens }
+    | inr shut ↦ absurd (let no : Shut ≡ Whole = sym (told_shut long shut) ∙ told in cc)
+  ]
+]
+  where
+    told : phase_told len bytes ≡ Whole
+    told = same_Some (phase_told len bytes) Whole is
+
+    told_raw : len < 4096 → phase_told len bytes ≡ Raw
+    told_raw short = grind (arith, nat_tests)
+
+    told_shut : 4096 ≤ len → slice_index bytes 0 ≢ gate → phase_told len bytes ≡ Shut
+    told_shut long shut = grind (arith, nat_tests)
+
+-- without the first bytes it isn't told as Whole
+pub never_whole : (len : ℕ) → phase_found (Some len) None ≢ Some Whole
+never_whole len is = elim (cases_lt len 4096) [
+  | inl short ↦ absurd (let no : Some Raw ≡ Some Whole = sym (ap (λ b. if b then Some Raw else None) (lt-ltb len 4096 short)) ∙ is in cc)
+  | inr long ↦
+      let test : nat_lt len 4096 ≡ false = grind (arith, nat_tests) in
+      absurd (let no : None ≡ Some Whole = sym (ap (λ b. if b then Some Raw else None) test) ∙ is in cc)
+]
+
+-- an inspection that came to its end tells a phase
+pub phase_comes : (found : Back) → HasEnded found → phase_found found.len found.first ≢ None
+phase_comes found ended none = by_first found.first refl
+  where
+    at_len : phase_found (Some ended.len) found.first ≡ None
+    at_len = subst (λ len. phase_found len found.first ≡ None) ended.told none
+
+    by_first : (first : Option (List ℕ)) → found.first ≡ first → ⊥
+    by_first (Some bytes) is = (let no : Some (phase_told ended.len bytes) ≡ None = subst (λ f. phase_found (Some ended.len) f ≡ None) is at_len in cc)
+    by_first None is = elim (cases_lt ended.len 4096) [
+      | inl short ↦
+          (let no : Some Raw ≡ None = sym (ap (λ b. if b then Some Raw else None) (lt-ltb ended.len 4096 short)) ∙ subst (λ f. phase_found (Some ended.len) f ≡ None) is at_len in cc)
+      | inr long ↦ (let no : None ≡ Some (ended.first long).bytes = sym is ∙ (ended.first long).came in cc)
+    ]

@@ -1,3 +1,4 @@
 mod Ends
+mod Inspecting
 mod Lowers
 mod Steps

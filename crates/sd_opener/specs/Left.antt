@@ -1,5 +1,5 @@
 -- How many steps and outcomes an opener has before it, at most.
-use Rattle.std.specs.Prelude.{◌≡◌, ℕ, zero, suc, ◌+◌, ◌*◌, ◌-◌, ◌<◌, length}
+use Rattle.std.specs.Prelude.{ℕ, zero, suc, ◌+◌, ◌*◌, ◌-◌, ◌<◌, length}
 use Rattle.sd_gate.specs.Plans.{steps_left}
 use Rattle.sd_opener.specs.declared.opener_step.OpenerStep.{OpenerStep}
 use Rattle.sd_opener.specs.declared.opener_step.OpenerStep.TheVariants.{Call, Decoded, Damaged, AllRead}

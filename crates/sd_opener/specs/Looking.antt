@@ -1,12 +1,15 @@
 -- An opener, as it is seen.
-use Rattle.std.specs.Prelude.{◌≡◌, ◌≢◌, ◌⊎◌, ℕ, ◌+◌, ◌<◌, ◌≤◌, List, [], length, Option, None, Some}
+use Rattle.std.specs.Prelude.{◌≡◌, ◌≢◌, ◌⊎◌, ℕ, ◌+◌, ◌<◌, ◌≤◌, true, List, [], ◌∷◌, length, map, Option, None, Some, IsSome}
+use Rattle.sd_gate.specs.declared.call.Call.{Call as DeviceCall}
+use Rattle.sd_gate.specs.declared.call.Call.TheVariants.{Len, Read as ReadCall, Sync}
 use Rattle.sd_gate.specs.declared.phase.Phase.{Phase}
 use Rattle.sd_gate.specs.declared.request_id.RequestId.{RequestId}
 use Rattle.sd_gate.specs.declared.worker.Worker.TheVariants.{Opener}
-use Rattle.sd_gate.specs.Inspections.{the_length}
-use Rattle.sd_gate.specs.Plans.{Gives, Planned, begun}
-use Rattle.sd_gate.specs.Requests.{Asked}
-use Rattle.sd_gate.specs.Sequences.{first_looks}
+use Rattle.sd_gate.specs.Calls.{IsAnswerTo, is_done}
+use Rattle.sd_gate.specs.Inspections.{Awaits, nothing, the_header, the_length}
+use Rattle.sd_gate.specs.Plans.{Back, Gives, Planned, begun}
+use Rattle.sd_gate.specs.Requests.{Asked, Made}
+use Rattle.sd_gate.specs.Sequences.{Calls, first_looks}
 use Rattle.sd_restore.specs.declared.scanned.Scanned.{Scanned}
 use Rattle.sd_opener.specs.declared.opener_step.OpenerStep.{OpenerStep}
 use Rattle.sd_opener.specs.declared.opener_step.OpenerStep.TheVariants.{Call, Decoded, Damaged, AllRead}
@@ -27,9 +30,32 @@ out_of (Asking plan) = plan.out
 out_of (Read header table) = None
 out_of (Broken reason) = None
 
+-- ---- how far an inspection has come
+
+-- the calls that it has still to make, the one that is out first
+abbrev pub calls_ahead : Option RequestId → Calls → List DeviceCall
+calls_ahead None calls = map (λ call. call.0) calls
+calls_ahead (Some id) calls = id.call ∷ map (λ call. call.0) calls
+
+-- a header's bytes came back
+pub record HasFirst (first : Option (List ℕ)) : Type 0 where
+  pub bytes : List ℕ
+  pub came : first ≡ Some bytes
+  pub whole : length bytes ≡ 4096
+
+-- by what it waits for: the slot is synced and the file's length asked for; the header of a file that has one is read; the
+-- table is read, behind its header
+abbrev pub HasCome : Awaits → List DeviceCall → Back → Type 0
+HasCome the_length ahead found = (ahead ≡ Sync ∷ Len ∷ [] ⊎ ahead ≡ Len ∷ []) × (found.first ≡ None)
+HasCome (the_header len) ahead found = (ahead ≡ ReadCall 0 ∷ []) × (4096 ≤ len) × (found.len ≡ Some len) × (found.first ≡ None)
+HasCome nothing ahead found = ((place : ℕ) × (ahead ≡ ReadCall place ∷ [])) × IsSome found.len × HasFirst found.first
+
+abbrev pub IsInspecting : Planned → Type 0
+IsInspecting plan = HasCome plan.awaits (calls_ahead plan.out plan.calls) plan.found
+
 -- the stage is of this slot: what is asked is asked of it, and something is left to ask for
 abbrev pub IsStageOf : ℕ → Stage → Type 0
-IsStageOf slot (Asking plan) = (plan.slot ≡ slot) × (plan.out ≡ None → plan.calls ≢ [])
+IsStageOf slot (Asking plan) = (plan.slot ≡ slot) × IsInspecting plan
 IsStageOf slot (Read header table) = Unit {0}
 IsStageOf slot (Broken reason) = Unit {0}
 
@@ -75,3 +101,9 @@ StepMoves ticket old (Call request) new = IsAskedBy ticket old request new
 StepMoves ticket old Decoded new = IsDecoded old new
 StepMoves ticket old (Damaged slot reason) new = out_of old.stage ≡ None
 StepMoves ticket old AllRead new = (new ≡ old) × (length old.told ≡ old.slots)
+
+-- an outcome that is done, as its call asks: a length where one was asked for, and the whole of a header's bytes
+pub record IsDoneAsAsked (made : Made) : Type 0 where
+  pub done : is_done made.answer ≡ true
+  pub answers : IsAnswerTo made.request.id.call made.answer
+  pub header : made.request.id.call ≡ ReadCall 0 → length made.request.bytes ≡ 4096

@@ -1,13 +1,16 @@
 -- What an opener knows of the files that it reads.
-use Rattle.std.specs.Prelude.{◌≡◌, ℕ, true, false, List, length, map, take, Option, Some, None}
+use Rattle.std.specs.Prelude.{◌≡◌, ℕ, ◌≤◌, true, false, List, length, map, slice_index, take, Option, Some, None, IsSome, Ok}
 use Rattle.sd_disk.specs.Contents.{file_at}
-use Rattle.sd_image.specs.Image.{Image, is_open}
+use Rattle.sd_image.specs.declared.header.Header.{Header}
+use Rattle.sd_image.specs.Image.{Image, gate, is_open}
+use Rattle.sd_image.specs.Reading.{header_in}
 use Rattle.sd_image.specs.Shows.{IsStore}
 use Rattle.sd_chain.specs.Store.{IsCatalogOf}
 use Rattle.sd_gate.specs.declared.phase.Phase.TheVariants.{Whole}
 use Rattle.sd_gate.specs.Calls.{is_done}
 use Rattle.sd_gate.specs.Laws.{found_phase}
 use Rattle.sd_gate.specs.Looks.{HasNoHeader, IsTold, LooksAt}
+use Rattle.sd_gate.specs.Plans.{Back}
 use Rattle.sd_gate.specs.Requests.{Asked, Made}
 use Rattle.sd_restore.specs.Reading.{HasHeader, table_bytes}
 use Rattle.sd_restore.specs.Scanned.{IsScanned}
@@ -18,7 +21,7 @@ use Rattle.sd_opener.specs.declared.slot_end.SlotEnd.{SlotEnd}
 use Rattle.sd_opener.specs.declared.slot_end.SlotEnd.TheVariants.{Closed, Open}
 use Rattle.sd_opener.specs.declared.stage.Stage.{Stage}
 use Rattle.sd_opener.specs.declared.stage.Stage.TheVariants.{Asking, Read, Broken}
-use Rattle.sd_opener.specs.Looking.{Looking}
+use Rattle.sd_opener.specs.Looking.{HasFirst, Looking}
 
 -- what is known of the slot's file, with this request out
 abbrev pub SeesSlot : ℕ → List ℕ → Option Asked → Stage → Type 0
@@ -38,6 +41,15 @@ abbrev pub IsOpenStage : Stage → Type 0
 IsOpenStage (Asking plan) = ⊥
 IsOpenStage (Read header table) = Unit {0}
 IsOpenStage (Broken reason) = Unit {0}
+
+-- what an inspection that came to its end brought back: the length of a file that is too short for a header, or its first
+-- 4,096 bytes, and the table where these are an open image's
+pub record HasEnded (found : Back) : Type 0 where
+  pub len : ℕ
+  pub told : found.len ≡ Some len
+  pub first : 4096 ≤ len → HasFirst found.first
+  pub table : (bytes : List ℕ) (header : Header) → found.first ≡ Some bytes → slice_index bytes 0 ≡ gate → header_in bytes len ≡ Ok header
+      → IsSome found.second
 
 -- what the inspection of a file ends with
 abbrev pub EndsAs : List ℕ → SlotEnd → Type 0

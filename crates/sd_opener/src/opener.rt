@@ -9,7 +9,7 @@ ghost use Rattle.sd_gate.specs.Sequences.{first_looks};
 ghost use Rattle.sd_opener.specs.declared.open_error.OpenError.TheVariants.{Busy};
 ghost use Rattle.sd_opener.specs.declared.opener_progress.OpenerProgress.TheVariants.{Strange as IsStrange, Failed as HasFailed, More as GoesOn};
 ghost use Rattle.sd_opener.specs.Left.{Lowers, LowersByStep, looking_left, stage_left};
-ghost use Rattle.sd_opener.specs.Looking.{Looking, MovesOn, StepMoves, out_of};
+ghost use Rattle.sd_opener.specs.Looking.{IsDoneAsAsked, Looking, MovesOn, StepMoves, out_of};
 ghost use Rattle.sd_opener.specs.Sees.{IsNoStore, IsOpened, IsToldOf, Sees, SeesAfter};
 
 use crate::open_error::OpenError;
@@ -166,6 +166,8 @@ impl Opener {
             → (result ≡ IsStrange) × (self.new ≡ self.old) }
         ensures failed { out_of self.old.stage ≡ Some outcome.request.id
             → is_done outcome.answer ≡ false → result ≡ HasFailed }
+        ensures goes_on { out_of self.old.stage ≡ Some outcome.request.id → IsDoneAsAsked outcome
+            → result ≡ GoesOn }
         // Where it told the file as it is, the opener goes on.
         ensures sees { (files : List (List ℕ)) (request : Asked)
             → IsToldOf (file_at files (length self.old.told)) request outcome
@@ -181,6 +183,9 @@ impl Opener {
         let Stage::Asking(plan) = &mut self.stage else {
             return OpenerProgress::Strange;
         };
+        if !plan.is_out(&outcome.id()) {
+            return OpenerProgress::Strange;
+        }
         match plan.settle(outcome) {
             Settled::Strange => OpenerProgress::Strange,
             Settled::More => OpenerProgress::More,

@@ -1,10 +1,10 @@
 //! What the inspection of a slot ended with.
-ghost use Rattle.std.specs.Prelude.{◌≡◌, ◌≢◌, ℕ, List, None, MatchOption, IfSome};
+ghost use Rattle.std.specs.Prelude.{◌≡◌, ◌≢◌, ℕ, List, None, Some, IsSome, MatchOption, IfSome};
 ghost use Rattle.sd_gate.specs.Looks.{IsFound};
 ghost use Rattle.sd_gate.specs.declared.phase.Phase.TheVariants.{Whole};
-ghost use Rattle.sd_gate.specs.Laws.{found_phase};
+ghost use Rattle.sd_gate.specs.Laws.{found_phase, phase_found};
 ghost use Rattle.sd_gate.specs.Plans.{found_of};
-ghost use Rattle.sd_opener.specs.Sees.{EndsAs, IsOpenStage, SeesSlot};
+ghost use Rattle.sd_opener.specs.Sees.{EndsAs, HasEnded, IsOpenStage, SeesSlot};
 
 use crate::stage::Stage;
 use sd_gate::{Found, Phase};
@@ -24,6 +24,8 @@ fn open_stage(found: Found) -> Option<Stage>
     ensures sees { (file : List ℕ) → IsFound file (found_of found) → found_phase file ≡ Whole
         → MatchOption result ⊥ (λ stage. (slot : ℕ) → SeesSlot slot file None stage) }
     ensures open { IfSome result IsOpenStage }
+    ensures ended { HasEnded (found_of found)
+        → phase_found (found_of found).len (found_of found).first ≡ Some Whole → IsSome result }
 {
     let Found { len, first, second } = found;
     let len = len?;
@@ -45,6 +47,7 @@ pub fn slot_end(found: Found) -> Option<SlotEnd>
     ensures sees { (file : List ℕ) → IsFound file (found_of found)
         → MatchOption result ⊥ (EndsAs file) }
     ensures open { IfSome result (λ end. (stage : Stage) → end ≡ SlotEnd.Open stage → IsOpenStage stage) }
+    ensures ended { HasEnded (found_of found) → IsSome result }
 {
     match found.phase()? {
         Phase::Whole => Some(SlotEnd::Open(open_stage(found)?)),

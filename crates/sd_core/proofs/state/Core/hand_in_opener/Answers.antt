@@ -7,7 +7,7 @@ use Rattle.sd_command.specs.declared.reply.Reply.TheVariants as reply
 use Rattle.sd_command.specs.declared.refusal.Refusal.TheVariants.{StoreDown}
 use Rattle.sd_belief.specs.View.{CoreView, index}
 use Rattle.sd_core.specs.Sound.{IsOpening, held_for, out_of_opener}
-use Rattle.sd_core.proofs.CoreLemmas.{alone_is, after_count, closed_by, held_opening, none_out, opener_out, set_nobody, taught_opener}
+use Rattle.sd_core.proofs.CoreLemmas.{alone_is, after_count, closed_by, held_opening, none_out, not_taught, opener_out, set_nobody, taught_opener}
 use Rattle.sd_core.proofs.OpeningLemmas.{handed_failed, handed_on, handed_seen}
 use Rattle.sd_core.proofs.WorkLemmas.{none_closed, none_works}
 use Rattle.sd_core.proofs.state.Core.hand_in_opener.Goals as goal
@@ -101,3 +101,11 @@ returns-clause-handed c =
       count = count;
       phases = follows;
     }) c.let_go.ensures.opener)
+
+pub returns-clause-goes_on : goal.returns-clause-goes_on
+returns-clause-goes_on c as_asked =
+    let id = c.args.outcome.request.id in
+    let own : slice_get c.self.inside.outs 2 ≡ Some (Some id) = ap (λ w. slice_get c.self.inside.outs (index w)) (sym c.requires.opener)
+    ∙ ap (λ (v : CoreView). slice_get v.outs (index id.worker)) c.self.view_is ∙ c.requires.out in
+    absurd (not_taught c.self.inside.opener c.args.outcome c.teach.new.opener c.if-teach.ensures
+    (opener_out c.self.inside.outs c.self.inside.phases.items c.self.inside.dumper.running c.self.inside.opener id c.self.invariant.outs_are own) as_asked)

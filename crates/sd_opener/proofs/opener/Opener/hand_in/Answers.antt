@@ -1,16 +1,18 @@
-use Rattle.std.proofs.Common.{◌≡◌, ◌∙◌, ◌+◌, ◌<◌, false, ◌++◌, ◌∷◌, [], if◌then◌else◌, length, Some, None, refl, sym, ap, subst, arith}
+use Rattle.std.proofs.Common.{rules, ◌≡◌, ◌∙◌, ◌+◌, ◌<◌, false, ◌++◌, ◌∷◌, [], if◌then◌else◌, length, Some, None, refl, sym, ap, subst, true, arith}
+use Rattle.std.specs.Option.{is_some}
 use Rattle.std.specs.Result.{is_ok}
 use Rattle.sd_disk.specs.Contents.{file_at}
 use Rattle.sd_gate.specs.Looks.{IsFound}
 use Rattle.sd_gate.specs.Inspections.{the_length}
-use Rattle.sd_gate.specs.Plans.{begun}
+use Rattle.sd_gate.specs.Plans.{Planned, begun}
 use Rattle.sd_gate.specs.Sequences.{first_looks}
 use Rattle.sd_image.specs.Image.{is_open}
 use Rattle.sd_restore.specs.Scanned.{IsScanned}
 use Rattle.sd_opener.specs.declared.stage.Stage.TheVariants.{Asking}
 use Rattle.sd_opener.specs.Looking.{IsStageOf, Looking, out_of}
-use Rattle.sd_opener.specs.Sees.{EndsAs, IsToldOf, Sees, SeesSlot}
+use Rattle.sd_opener.specs.Sees.{EndsAs, HasEnded, IsToldOf, Sees, SeesSlot}
 use Rattle.sd_opener.specs.Left.{Lowers, stage_left}
+use Rattle.sd_opener.proofs.Inspecting.{begins, ends, goes}
 use Rattle.sd_opener.proofs.Lowers.{open_left, slot_lowers, stage_lowers, within_slots}
 use Rattle.sd_opener.proofs.Steps.{back_count, cant_fail, finds_file, looks_on, open_out, open_stage, passes, within_files}
 use Rattle.sd_opener.proofs.opener.Opener.hand_in.Goals as goal
@@ -124,3 +126,51 @@ returns-in-Some-Closed-clause-lowers c out goes =
     subst (λ v. Lowers v next) c.self.view_is
     (slot_lowers c.self.inside.slots (length c.self.inside.told.items) (length c.push.new.self.items) c.self.inside.stage c.put_stage-in-Some-Closed.new.stage within
     (omega (arith, more)) (ap stage_left (c.put_stage-in-Some-Closed.ensures ∙ c.first_stage-in-Some-Closed.ensures)))
+
+pub invariant_of-self-in-More : goal.invariant_of-self-in-More
+invariant_of-self-in-More c =
+    let out = c.is_out.ensures.0 c.if-not-is_out.false ∙ ap Some c.id.ensures in
+    let went = c.settle.ensures.settled out in
+    let was = subst (IsStageOf (length c.self.inside.told.items)) c.in-Asking.is c.self.invariant.own in
+    record {
+      within = c.self.invariant.within;
+      last = λ same id is_out. (let none : None ≡ Some id = sym (ap (λ (p : Planned). p.out) went.0) ∙ is_out in cc);
+      room = c.self.invariant.room;
+      own = (
+        ap (λ (p : Planned). p.slot) went.0 ∙ was.0,
+        goes c.in-Asking.plan c.settle.new.self c.args.outcome out was.1 went.0 (sym went.1 ∙ c.in-More.is),
+      );
+      few = c.self.invariant.few;
+    }
+
+pub returns-in-None-clause-strange : goal.returns-in-None-clause-strange
+returns-in-None-clause-strange c strange =
+    let out = c.is_out.ensures.0 c.if-not-is_out.false ∙ ap Some c.id.ensures in
+    absurd (strange (ap (λ (v : Looking). out_of v.stage) (sym c.self.view_is) ∙ ap out_of c.in-Asking.is ∙ out))
+
+pub returns-in-None-clause-goes_on : goal.returns-in-None-clause-goes_on
+returns-in-None-clause-goes_on c own as_asked =
+    let out = c.is_out.ensures.0 c.if-not-is_out.false ∙ ap Some c.id.ensures in
+    let went = c.settle.ensures.settled out in
+    let was = subst (IsStageOf (length c.self.inside.told.items)) c.in-Asking.is c.self.invariant.own in
+    let plan_is : c.settle.new.self ≡ c.in-Some.ensures.found.0 = (let same : Asking c.settle.new.self ≡ Asking c.in-Some.ensures.found.0 = c.in-Some.ensures.found.1 in cc) in
+    let back = c.in-Some.ensures.found.2 ∙ ap (λ (p : Planned). p.found) (sym plan_is) in
+    let ended = ends c.in-Asking.plan c.settle.new.self c.args.outcome out was.1 went.0 as_asked (sym went.1 ∙ c.in-Finished.is) in
+    absurd (let no : false ≡ true = ap is_some (sym c.in-None.is) ∙ c.slot_end.ensures.ended (subst HasEnded (sym back) ended) in cc)
+
+pub invariant_of-self-in-Some-Closed : goal.invariant_of-self-in-Some-Closed
+invariant_of-self-in-Some-Closed c =
+    let out = c.is_out.ensures.0 c.if-not-is_out.false ∙ ap Some c.id.ensures in
+    let within = within_slots _ _ c.args.outcome.request.id c.self.invariant (ap out_of c.in-Asking.is ∙ out) in
+    let more = ap length c.push.ensures.items ∙ ap (λ r. length (if is_ok r then c.self.inside.told.items ++ c.in-Some-Closed.phase ∷ [] else c.self.inside.told.items)) c.unwrap.ensures
+    ∙ back_count c.self.inside.told.items c.in-Some-Closed.phase in
+    let stage_is = c.put_stage-in-Some-Closed.ensures ∙ c.first_stage-in-Some-Closed.ensures in
+    let few = c.self.invariant.few in
+    let at : c.len-slot.result + 1 ≡ length c.push.new.self.items = (let long = c.len-slot.ensures ∙ c.self.inside.told.ok.0 in omega (arith, more, long)) in
+    record {
+      within = omega (arith, within, more);
+      last = λ same id is_out. (let none : None ≡ Some id = sym (ap out_of stage_is) ∙ is_out in cc);
+      room = search rules;
+      own = subst (IsStageOf (length c.push.new.self.items)) (sym stage_is) (at, begins (c.len-slot.result + 1));
+      few = omega (arith, few, more);
+    }
