@@ -1,5 +1,5 @@
 -- Which pages an image takes, whatever its file holds.
-use Rattle.std.proofs.Common.{◌≡◌, ◌≢◌, ◌↔◌, ℕ, ◌*◌, ◌<◌, Bool, true, false, cond, nat_eq, ◌||◌, List, [], ◌∷◌, ◌++◌, length, take, Contains, Some, None, refl, sym, ◌∙◌, ap, subst, arith}
+use Rattle.std.proofs.Common.{◌≡◌, ◌↔◌, ℕ, ◌*◌, ◌<◌, Bool, true, false, cond, nat_eq, ◌||◌, List, [], ◌∷◌, ◌++◌, length, take, Contains, Some, None, refl, sym, ◌∙◌, ap, subst, arith}
 use Rattle.std.proofs.lemmas.Bool.{both_ways}
 use Rattle.std.proofs.lemmas.List.{take_all}
 use Rattle.sd_image.specs.declared.header.Kind.{Kind}
@@ -12,7 +12,7 @@ use Rattle.sd_gate.specs.Requests.{Asked, Made}
 use Rattle.sd_gate.specs.Sequences.{Calls}
 use Rattle.sd_pagetable.specs.Contents.{Contents, page_at, plain_of}
 use Rattle.sd_pagetable.specs.Law.{PlainLaw}
-use Rattle.sd_pagetable.specs.Page.{Page, zeros}
+use Rattle.sd_pagetable.specs.Page.{Page}
 use Rattle.sd_rounds.specs.declared.copied.Copied as copied
 use Rattle.sd_rounds.specs.declared.copied.Copied.TheVariants.{More as MoreSectors, Zero as ZeroPage, Gone}
 use Rattle.sd_rounds.specs.declared.visit.Visit as visit
@@ -28,15 +28,15 @@ use Rattle.sd_rounds.specs.ImageVisits.{visits_after}
 use Rattle.sd_rounds.specs.LittleWork.{HasWays, IsFrontOf, IsTaking, ListsIn, LittleLaws, TakesDue, TakesDueIn, TakesVisited, TookVisited}
 use Rattle.sd_rounds.specs.Made.{Lists}
 use Rattle.sd_rounds.specs.Making.{HandsIn, HasTable, Making, Opens, Steps, WritesTable, begun_image, closing, is_past_freeze, stage_after, stage_behind, with_plan}
-use Rattle.sd_rounds.specs.Pass.{Entry, Pass, Place, Taking, begun_to_take, copied_more, left_to_parent, opened, pages_by, sector_of, taken_as_zero, visited, with_entry}
+use Rattle.sd_rounds.specs.Pass.{Entry, Pass, Place, Taking, begun_to_take, copied_more, left_to_parent, opened, pages_by, sector_of, taken_as_zero, with_entry}
 use Rattle.sd_rounds.specs.Rises.{IsRising, RisesLaws, kind_at}
-use Rattle.sd_rounds.specs.Rounds.{Copies, CopiesMore, CopiesZeros, IsNextSector, TakesPage, Tests}
+use Rattle.sd_rounds.specs.Rounds.{Copies, IsNextSector, TakesPage, Tests}
 use Rattle.sd_rounds.specs.Steps.{StepLaws}
-use Rattle.sd_rounds.specs.Visits.{AreMapped, IsPassOf, IsSwept, Visit, VisitLaws, left_pages, taken_pages}
+use Rattle.sd_rounds.specs.Visits.{AreMapped, IsPassOf, IsSwept, Visit, VisitLaws}
 use Rattle.sd_rounds.proofs.Clean.{no_some, one_some}
 use Rattle.sd_rounds.proofs.DumpLemmas.{ends_ways, enters_same, other_page, zeros_are_zero}
 use Rattle.sd_rounds.proofs.FileLemmas.{are_the_pages}
-use Rattle.sd_rounds.proofs.ImageVisitLemmas.{Was, copies, takes, tests}
+use Rattle.sd_rounds.proofs.ImageVisitLemmas.{copies, takes, tests}
 use Rattle.sd_rounds.proofs.KeepsLemmas.{long_zeros}
 use Rattle.sd_rounds.proofs.Lists.{front_more}
 use Rattle.sd_rounds.proofs.MakingLemmas.{none_closing}
