@@ -123,8 +123,8 @@ invariant_of-self-2 c =
         asked = asked_on w.running (begun_image (order_of w.running serial c.state.result)) w.next _ t.out_is t.slot refl;
         image = subst (λ all. IsImageOf all c.hold.new.self c.tick.new.self w.next) (sym c.note.ensures.items) t.image_is;
       };
-      little = subst (λ all. TakesLittle base all c.begin_next.new.memory w.running.number w.next) (sym c.note.ensures.items)
-          (begun_little c.little_law.ensures base c.reserve_mark.new.self.items c.self.inside.memory c.begin_next.new.memory w.running.number _ (order_of w.running serial c.state.result) w.next
+      little = subst (λ all. TakesLittle base all c.begin_next-request.new.memory w.running.number w.next) (sym c.note.ensures.items)
+          (begun_little c.little_law.ensures base c.reserve_mark.new.self.items c.self.inside.memory c.begin_next-request.new.memory w.running.number _ (order_of w.running serial c.state.result) w.next
           c.begin_next-request.result w.steps fresh (t.still ∙ and-false _));
     })
 
