@@ -4,28 +4,25 @@ use Rattle.std.specs.List.{list_any}
 use Rattle.std.specs.Option.{option_map}
 use Rattle.std.proofs.lemmas.Bool.{both_ways, eq-eqb}
 use Rattle.sd_areas.specs.PlainMemory as plain
-use Rattle.sd_chain.specs.Catalog.{Opened}
 use Rattle.sd_gate.specs.Requests.{Asked, Made}
 use Rattle.sd_image.specs.declared.header.Header.{Header}
 use Rattle.sd_image.specs.declared.header.Kind.TheVariants.{Dump, PreDump}
 use Rattle.sd_image.specs.declared.run.RunKind.{RunKind}
 use Rattle.sd_image.specs.declared.run.RunKind.TheVariants.{Parent}
 use Rattle.sd_image.specs.Shows.{pages_of}
-use Rattle.sd_image.specs.Table.{Listed}
 use Rattle.sd_image.specs.Words.{kind_number}
 use Rattle.sd_command.specs.declared.command.Command.{Command}
 use Rattle.sd_command.specs.declared.reply.Reply.{Reply}
 use Rattle.sd_journal.specs.declared.entry.Entry.TheVariants.{Applied, Freeze}
 use Rattle.sd_journal.specs.declared.mark.Mark.TheVariants.{Start, Table, Visit}
 use Rattle.sd_journal.specs.History.{Base}
-use Rattle.sd_journal.specs.Marked.{IsTracked, Marked, Noted, Told, is_of, memory_at}
+use Rattle.sd_journal.specs.Marked.{IsTracked, Marked, Noted, Told, is_of}
 use Rattle.sd_journal.specs.TrackedLaws.{DueLaws, before_freeze, is_due}
-use Rattle.sd_pagetable.specs.Contents.{Contents, page_at, plain_of}
+use Rattle.sd_pagetable.specs.Contents.{Contents, page_at}
 use Rattle.sd_pagetable.specs.Law.{PlainLaw}
 use Rattle.sd_pagetable.specs.Nested.{value_at}
 use Rattle.sd_pagetable.specs.Page.{Page, plain_page}
 use Rattle.sd_rounds.specs.declared.image_order.ImageOrder.{ImageOrder}
-use Rattle.sd_rounds.specs.declared.image_progress.ImageProgress.TheVariants.{More}
 use Rattle.sd_rounds.specs.declared.image_step.ImageStep.{ImageStep}
 use Rattle.sd_rounds.specs.declared.image_step.ImageStep.TheVariants.{Call, PageCall, TableCall, Frozen, Visited, Copied}
 use Rattle.sd_rounds.specs.declared.new_image.NewImage.{NewImage}
@@ -34,12 +31,13 @@ use Rattle.sd_rounds.specs.Dump.{due, kind_of_bytes}
 use Rattle.sd_rounds.specs.Dumper.{Running, is_frozen_image, is_last, order_of}
 use Rattle.sd_rounds.specs.ImageVisits.{visits_after}
 use Rattle.sd_rounds.specs.LittleWork.{LittleLaws, TakesDue, TakesVisited, TookVisited}
-use Rattle.sd_rounds.specs.Making.{Asks, Freezes, GoesOn, IsAskedBy, Making, Opens, Steps, Visits, begun_image, is_frozen, is_past_freeze}
-use Rattle.sd_rounds.specs.Pass.{Pass, Place}
+use Rattle.sd_rounds.specs.Making.{GoesOn, Making, Opens, Steps, Visits, begun_image, is_frozen, is_past_freeze}
+use Rattle.sd_rounds.specs.Pass.{Place}
 use Rattle.sd_rounds.specs.Rises.{IsRising}
 use Rattle.sd_rounds.specs.Sound.{IsSoundImage}
 use Rattle.sd_rounds.specs.Visits as visits
 use Rattle.sd_core.specs.LittleWork.{HasLittle, IsFrozenFor, TakesLittle, visits_of, way_due}
+use Rattle.sd_belief.specs.View.{CoreView}
 use Rattle.sd_core.specs.Answering.{IsAnswered}
 use Rattle.sd_core.specs.Sound.{IsCore, IsHeaderOf, Parts}
 use Rattle.sd_core.proofs.WorkLemmas.{at_work}
@@ -248,6 +246,10 @@ dump_ways laws law dues base items memory running image made opened last own o s
     same : (at : Place) → due image.pass.takes_all (page_at d.cut at.0 at.1) ≡ way_due (opened.header.parent == 0) base d.frozen at
     same at = due_is_way law dues base d.frozen d.cut d.tracked image.pass.takes_all at
         ∙ ap (λ b. way_due b base d.frozen at) (whole_is image opened.header sound now)
+
+-- the same of a view and its number
+pub seen_before : (seen old : CoreView) (own n : ℕ) (frozen : Marked) → seen ≡ old → own ≡ n → before_freeze seen.items own ≡ Some frozen → before_freeze old.items n ≡ Some frozen
+seen_before seen old own n frozen same named was = subst (λ (v : CoreView). before_freeze v.items n ≡ Some frozen) same (subst (λ m. before_freeze seen.items m ≡ Some frozen) named was)
 
 pub round_took : LittleLaws → (base : Base) (items : Marked) (memory : Contents) (running : Running) (image : Making) (made : Made) (opened : NewImage)
     → is_last running ≡ false → image.order ≡ order_of running image.order.serial image.order.state → Opens image made opened → IsSoundImage image

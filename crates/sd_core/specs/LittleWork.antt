@@ -7,7 +7,6 @@ use Rattle.sd_image.specs.declared.header.Kind.TheVariants.{PreDump}
 use Rattle.sd_image.specs.declared.run.RunKind.{RunKind}
 use Rattle.sd_image.specs.declared.run.RunKind.TheVariants.{Parent}
 use Rattle.sd_image.specs.Shows.{pages_of}
-use Rattle.sd_image.specs.Table.{Listed}
 use Rattle.sd_journal.specs.declared.mark.Mark.TheVariants.{Visit}
 use Rattle.sd_journal.specs.History.{Base}
 use Rattle.sd_journal.specs.Marked.{IsTracked, Marked, Noted, memory_at}

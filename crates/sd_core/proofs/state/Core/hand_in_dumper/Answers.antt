@@ -4,7 +4,6 @@ use Rattle.sd_areas.specs.Memory.{memory_of}
 use Rattle.sd_chain.specs.Catalog.{Changes, Opened}
 use Rattle.sd_image.specs.declared.run.RunKind.{RunKind}
 use Rattle.sd_image.specs.Shows.{pages_of}
-use Rattle.sd_journal.specs.TrackedLaws.{before_freeze}
 use Rattle.sd_rounds.specs.LittleWork.{TookVisited}
 use Rattle.sd_rounds.specs.Pass.{Place}
 use Rattle.sd_gate.specs.declared.phase.Phase.{Phase}
@@ -25,7 +24,7 @@ use Rattle.sd_core.specs.LittleWork.{HasLittle, visits_of, way_due}
 use Rattle.sd_core.specs.Sound.{AreNumbers, IsAtWork, IsOpening, begun_images, held_for, out_of_opener}
 use Rattle.sd_core.proofs.CoreLemmas.{after_count}
 use Rattle.sd_core.proofs.ImageLemmas.{image_more}
-use Rattle.sd_core.proofs.LittleLemmas.{dump_ways, little_of, more_little, round_took}
+use Rattle.sd_core.proofs.LittleLemmas.{dump_ways, little_of, more_little, round_took, seen_before}
 use Rattle.sd_core.proofs.MarkLemmas.{sound_image}
 use Rattle.sd_core.proofs.OpeningLemmas.{handed_seen}
 use Rattle.sd_core.proofs.OutcomeLemmas.{has_image, acked_journal, acked_numbers, checkpoint_used, counted_opened, dump_pends, handed_dumper, left_counted, left_held, opened_now, pre_dump_pends}
@@ -440,7 +439,7 @@ returns-in-Dump-clause-little c n is =
       dump = record { slot = opened.slot; header = opened.header; spaces = opened.table };
       has = has;
       frozen = d.frozen;
-      before = sym (ap (λ (v : CoreView). before_freeze v.items n) c.self.view_is) ∙ ap (before_freeze c.self.inside.journal.items) (sym (work.number ∙ named)) ∙ d.before;
+      before = seen_before _ _ h.running.number n d.frozen c.self.view_is (work.number ∙ named) d.before;
       ways = subst (λ (v : CoreView). (kind : RunKind) (at : Place) → Contains (pages_of kind opened.table) at ↔ way_due (opened.header.parent == 0) v.base d.frozen at ≡ Some kind) c.self.view_is d.ways;
     }
 
