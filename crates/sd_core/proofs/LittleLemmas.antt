@@ -3,6 +3,7 @@ use Rattle.std.proofs.Common.{◌≡◌, ◌↔◌, ◌⊎◌, ℕ, ◌==◌, �
 use Rattle.std.specs.List.{list_any}
 use Rattle.std.specs.Option.{option_map}
 use Rattle.std.proofs.lemmas.Bool.{both_ways, eq-eqb}
+use Rattle.std.proofs.lemmas.Option.{same_Some}
 use Rattle.sd_areas.specs.PlainMemory as plain
 use Rattle.sd_gate.specs.Requests.{Asked, Made}
 use Rattle.sd_image.specs.declared.header.Header.{Header}
@@ -13,10 +14,10 @@ use Rattle.sd_image.specs.Shows.{pages_of}
 use Rattle.sd_image.specs.Words.{kind_number}
 use Rattle.sd_command.specs.declared.command.Command.{Command}
 use Rattle.sd_command.specs.declared.reply.Reply.{Reply}
-use Rattle.sd_journal.specs.declared.entry.Entry.TheVariants.{Applied, Freeze}
+use Rattle.sd_journal.specs.declared.entry.Entry.TheVariants.{Acked, Applied, Cancelled, Freeze, Reopened}
 use Rattle.sd_journal.specs.declared.mark.Mark.TheVariants.{Start, Table, Visit}
-use Rattle.sd_journal.specs.History.{Base}
-use Rattle.sd_journal.specs.Marked.{IsTracked, Marked, Noted, Told, is_of}
+use Rattle.sd_journal.specs.History.{Base, at_freeze, memory_after}
+use Rattle.sd_journal.specs.Marked.{IsTracked, Marked, Noted, Told, entries_of, is_of, memory_at}
 use Rattle.sd_journal.specs.TrackedLaws.{DueLaws, before_freeze, is_due}
 use Rattle.sd_pagetable.specs.Contents.{Contents, page_at}
 use Rattle.sd_pagetable.specs.Law.{PlainLaw}
@@ -246,6 +247,22 @@ dump_ways laws law dues base items memory running image made opened last own o s
     same : (at : Place) → due image.pass.takes_all (page_at d.cut at.0 at.1) ≡ way_due (opened.header.parent == 0) base d.frozen at
     same at = due_is_way law dues base d.frozen d.cut d.tracked image.pass.takes_all at
         ∙ ap (λ b. way_due b base d.frozen at) (whole_is image opened.header sound now)
+
+-- what stood before a freeze makes the memory at it
+pub freeze_memory : (base : Base) (items frozen : Marked) (n : ℕ) → before_freeze items n ≡ Some frozen → at_freeze base (entries_of items) n ≡ Some (memory_at base frozen)
+freeze_memory base [] frozen n is = absurd (let no : None ≡ Some frozen = is in cc)
+freeze_memory base (Noted mark ∷ items) frozen n is = freeze_memory base items frozen n is
+freeze_memory base (Told (Applied seat command reply) ∷ items) frozen n is = freeze_memory base items frozen n is
+freeze_memory base (Told (Freeze m) ∷ items) frozen n is = by (m == n) is (freeze_memory base items frozen n)
+  where
+    by : (b : Bool) → (if b then Some items else before_freeze items n) ≡ Some frozen
+        → (before_freeze items n ≡ Some frozen → at_freeze base (entries_of items) n ≡ Some (memory_at base frozen))
+        → (if b then Some (memory_after base (entries_of items)) else at_freeze base (entries_of items) n) ≡ Some (memory_at base frozen)
+    by true e rest = ap (λ all. Some (memory_at base all)) (same_Some items frozen e)
+    by false e rest = rest e
+freeze_memory base (Told (Acked m) ∷ items) frozen n is = freeze_memory base items frozen n is
+freeze_memory base (Told (Cancelled m) ∷ items) frozen n is = freeze_memory base items frozen n is
+freeze_memory base (Told (Reopened m) ∷ items) frozen n is = freeze_memory base items frozen n is
 
 -- the same of a view and its number
 pub seen_before : (seen old : CoreView) (own n : ℕ) (frozen : Marked) → seen ≡ old → own ≡ n → before_freeze seen.items own ≡ Some frozen → before_freeze old.items n ≡ Some frozen

@@ -8,7 +8,7 @@ use Rattle.sd_image.specs.declared.run.RunKind.{RunKind}
 use Rattle.sd_image.specs.declared.run.RunKind.TheVariants.{Parent}
 use Rattle.sd_image.specs.Shows.{pages_of}
 use Rattle.sd_journal.specs.declared.mark.Mark.TheVariants.{Visit}
-use Rattle.sd_journal.specs.History.{Base}
+use Rattle.sd_journal.specs.History.{Base, at_freeze}
 use Rattle.sd_journal.specs.Marked.{IsTracked, Marked, Noted, memory_at}
 use Rattle.sd_journal.specs.TrackedLaws.{before_freeze, is_due}
 use Rattle.sd_pagetable.specs.Contents.{Contents}
@@ -19,7 +19,7 @@ use Rattle.sd_rounds.specs.LittleWork.{TakesDue, TakesVisited, TookVisited}
 use Rattle.sd_rounds.specs.Making.{Making, is_frozen}
 use Rattle.sd_rounds.specs.Pass.{Place}
 use Rattle.sd_rounds.specs.Visits as visits
-use Rattle.sd_belief.specs.View.{CoreView}
+use Rattle.sd_belief.specs.View.{CoreView, history_of}
 use Rattle.sd_core.specs.Images.{HasImage}
 
 -- ---- the dump
@@ -40,6 +40,8 @@ pub record IsLittleDump (n : ℕ) (old new : CoreView) : Type 0 where
   pub has : HasImage running new.catalog dump
   pub frozen : Marked
   pub before : before_freeze old.items n ≡ Some frozen
+  -- what that makes is the memory at the freeze
+  pub freeze : at_freeze old.base (history_of old) n ≡ Some (memory_at old.base frozen)
   pub ways : (kind : RunKind) (at : Place)
       → Contains (pages_of kind dump.spaces) at ↔ way_due (dump.header.parent == 0) old.base frozen at ≡ Some kind
 

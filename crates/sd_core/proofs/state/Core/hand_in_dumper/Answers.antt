@@ -24,7 +24,7 @@ use Rattle.sd_core.specs.LittleWork.{HasLittle, visits_of, way_due}
 use Rattle.sd_core.specs.Sound.{AreNumbers, IsAtWork, IsOpening, begun_images, held_for, out_of_opener}
 use Rattle.sd_core.proofs.CoreLemmas.{after_count}
 use Rattle.sd_core.proofs.ImageLemmas.{image_more}
-use Rattle.sd_core.proofs.LittleLemmas.{dump_ways, little_of, more_little, round_took, seen_before}
+use Rattle.sd_core.proofs.LittleLemmas.{dump_ways, freeze_memory, little_of, more_little, round_took, seen_before}
 use Rattle.sd_core.proofs.MarkLemmas.{sound_image}
 use Rattle.sd_core.proofs.OpeningLemmas.{handed_seen}
 use Rattle.sd_core.proofs.OutcomeLemmas.{has_image, acked_journal, acked_numbers, checkpoint_used, counted_opened, dump_pends, handed_dumper, left_counted, left_held, opened_now, pre_dump_pends}
@@ -440,6 +440,7 @@ returns-in-Dump-clause-little c n is =
       has = has;
       frozen = d.frozen;
       before = seen_before _ _ h.running.number n d.frozen c.self.view_is (work.number ∙ named) d.before;
+      freeze = freeze_memory c.args.self.now.base c.args.self.now.items d.frozen n (seen_before _ _ h.running.number n d.frozen c.self.view_is (work.number ∙ named) d.before);
       ways = subst (λ (v : CoreView). (kind : RunKind) (at : Place) → Contains (pages_of kind opened.table) at ↔ way_due (opened.header.parent == 0) v.base d.frozen at ≡ Some kind) c.self.view_is d.ways;
     }
 
