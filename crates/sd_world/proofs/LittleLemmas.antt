@@ -1,12 +1,12 @@
 -- Little work, of a world's events.
-use Rattle.std.proofs.Common.{◌≡◌, ℕ, Some, slice_get, refl, sym, ◌∙◌, ap, subst}
+use Rattle.std.proofs.Common.{◌≡◌, ℕ, Some, slice_get, sym, ◌∙◌, ap, subst}
 use Rattle.sd_command.specs.declared.refusal.Refusal.{Refusal}
 use Rattle.sd_command.specs.declared.reply.Reply.{Reply}
 use Rattle.sd_command.specs.declared.reply.Reply.TheVariants as reply
 use Rattle.sd_disk.specs.declared.disk.Disk.{Ghosts}
 use Rattle.sd_gate.specs.declared.worker.Worker.{Worker}
 use Rattle.sd_gate.specs.declared.worker.Worker.TheVariants.{Dumper}
-use Rattle.sd_gate.specs.Requests.{Asked, Made}
+use Rattle.sd_gate.specs.Requests.{Made}
 use Rattle.sd_journal.specs.History.{History}
 use Rattle.sd_rounds.specs.Dumper.{Running}
 use Rattle.sd_belief.specs.Calls.{AddsByStep}
@@ -19,7 +19,7 @@ use Rattle.sd_world.specs.declared.kept.Kept.{Kept}
 use Rattle.sd_world.specs.declared.kept.Kept.TheVariants.{Nothing, Request, Outcome}
 use Rattle.sd_world.specs.Consistent.{IsWorld}
 use Rattle.sd_world.specs.Little.{DoesLittle, WorksLittle}
-use Rattle.sd_world.specs.Steps.{Does, HandsIn, IsWork, TakesUp, Works}
+use Rattle.sd_world.specs.Steps.{Does, IsWork, TakesUp, Works}
 use Rattle.sd_world.specs.View.{WorldView}
 use Rattle.sd_world.proofs.AddsLemmas.{is_out, own_worker, same_worker}
 
