@@ -6,6 +6,7 @@ mod CoreLemmas
 mod GiveUp
 mod ImageLemmas
 mod JournalLemmas
+mod LittleLemmas
 mod MarkLemmas
 mod OpeningLemmas
 mod OutcomeLemmas

@@ -26,6 +26,7 @@ use Rattle.sd_core.specs.declared.numbers.Numbers.{Numbers}
 use Rattle.sd_core.proofs.JournalLemmas.{same_journal}
 use Rattle.sd_core.proofs.PreDumpLemmas.{TheyStay, pre_dumps_stay}
 use Rattle.sd_core.specs.Images.{begun_as}
+use Rattle.sd_core.specs.LittleWork.{HasLittle, TakesLittle}
 use Rattle.sd_core.specs.Sound.{AreCounted, AreNumbers, AreOuts, IsAtWork, IsCore, IsImageOf, IsJournal, IsOpening, IsVisiting, IsVisitingIn, Parts, begun_images, frozen_by, held_for, out_of_opener}
 
 -- ---- where none runs
@@ -74,6 +75,7 @@ pub record IsWorking (core : Parts) (running : Running) : Type 0 where
   pub numbers_are : AreNumbers core.base core.journal.items core.frozen core.newest core.numbers
   pub counted : AreCounted core.numbers core.places
   pub work : IsAtWork core.base core.journal.items core.frozen core.standing core.phases core.places core.opener core.numbers running
+  pub little : HasLittle core.base core.journal.items core.memory running
 
 pub core_working : (core : Parts) (running : Running) → core.dumper.running ≡ Some running → IsWorking core running → IsCore core
 core_working core running is w = record {
@@ -85,6 +87,7 @@ core_working core running is w = record {
   counted = w.counted;
   rests = λ none. absurd (let no : None ≡ Some running = sym none ∙ is in cc);
   work = subst (λ r. IfSome r (IsAtWork core.base core.journal.items core.frozen core.standing core.phases core.places core.opener core.numbers)) (sym is) w.work;
+  little = subst (λ r. IfSome r (HasLittle core.base core.journal.items core.memory)) (sym is) w.little;
 }
 
 -- ---- numbers
@@ -175,6 +178,7 @@ pub record Turns (old new : Parts) (running : Running) (image next : Making) : T
   pub asked : IfSome (out_of next.stage) (λ id. id.slot ≡ slot_of running)
   pub image_is : IsImageOf new.journal.items new.places new.numbers next
   pub still : is_frozen next ≡ is_frozen image
+  pub little : TakesLittle new.base new.journal.items new.memory running.number next
 
 -- only the dumper's request is out
 pub outs_within : (outs : List (Option RequestId)) (phases : List Phase) (out : Option RequestId) → outs ≡ out ∷ None ∷ None ∷ []
@@ -233,6 +237,7 @@ turned old new running image next sound t =
         asked = t.asked;
         image = t.image_is;
       };
+      little = t.little;
     }
 
 -- ---- more room in the journal
@@ -247,6 +252,7 @@ grown_core core journal sound grown = record {
   counted = sound.counted;
   rests = sound.rests;
   work = subst (λ all. IfSome core.dumper.running (IsAtWork core.base all core.frozen core.standing core.phases core.places core.opener core.numbers)) (sym grown.items) sound.work;
+  little = subst (λ all. IfSome core.dumper.running (HasLittle core.base all core.memory)) (sym grown.items) sound.little;
 }
 
 -- ---- the image in the making

@@ -2,6 +2,7 @@ pub mod Answering
 pub mod Beginning
 pub mod Dumping
 pub mod Images
+pub mod LittleWork
 pub mod Opening
 pub mod Orders
 pub mod Refusals

@@ -22,6 +22,7 @@ use Rattle.sd_belief.specs.declared.standing.Standing.TheVariants.{Open}
 use Rattle.sd_belief.specs.InUse.{IsReserved}
 use Rattle.sd_core.specs.declared.numbers.Numbers.{Numbers}
 use Rattle.sd_core.specs.Images.{AreApart, HasPreDumps, begun_as}
+use Rattle.sd_core.specs.LittleWork.{HasLittle}
 
 -- how many entries are held: two for a checkpoint before its freeze, one while it is pending, and one for an opener with none pending
 abbrev pub held_for : Option ℕ → Option Running → Option Looking → ℕ
@@ -160,3 +161,4 @@ pub record IsCore (core : Parts) : Type 0 where
   -- while the store is open a checkpoint is pending only while it runs
   pub rests : core.dumper.running ≡ None → core.standing ≡ Open → core.frozen ≡ None
   pub work : IfSome core.dumper.running (IsAtWork core.base core.journal.items core.frozen core.standing core.phases core.places core.opener core.numbers)
+  pub little : IfSome core.dumper.running (HasLittle core.base core.journal.items core.memory)

@@ -16,10 +16,11 @@ ghost use Rattle.sd_belief.specs.Calls.{AddsByCancel, AddsByOrder, Applies, Hand
 ghost use Rattle.sd_belief.specs.View.{CoreView, history_of};
 ghost use Rattle.sd_gate.specs.declared.worker.Worker.TheVariants as its;
 ghost use Rattle.sd_command.specs.declared.refusal.Refusal.{Refusal as Why};
-ghost use Rattle.sd_rounds.specs.Dumper.{next_slot, pages_of};
+ghost use Rattle.sd_rounds.specs.Dumper.{Running, next_slot, pages_of};
 ghost use Rattle.sd_core.specs.Answering.{IsAnswered};
 ghost use Rattle.sd_core.specs.Beginning.{BeginsAs, begin_refusal, merge_refusal};
 ghost use Rattle.sd_core.specs.Images.{IsAcked};
+ghost use Rattle.sd_core.specs.LittleWork.{IsLittleDump, IsLittlePreDump, OpensPreDump};
 ghost use Rattle.sd_core.specs.Opening.{IsAllRead};
 ghost use Rattle.sd_core.specs.Orders.{BeginsToOpen, IsCancelled};
 ghost use Rattle.sd_core.specs.Refusals.{cancel_refusal, cant_cancel, has_checkpoint, is_idle, is_in_use, reopen_refusal, wants_entry, work_refusal};
@@ -52,10 +53,10 @@ use sd_belief::{
 use sd_chain::Catalog;
 use sd_command::{Command, Refusal, Reply};
 use sd_gate::{Outcome, Phase, RequestId, Worker};
-use sd_journal::{Entry, Journal, Mark, tracked_laws};
+use sd_journal::{Entry, Journal, Mark, due_laws, tracked_laws};
 use sd_opener::{Opened, Opener, OpenerStep};
-use sd_pagetable::Memory;
-use sd_rounds::{Dumper, ImageStep, NextImage, Progress, rises_law};
+use sd_pagetable::{Memory, plain_law};
+use sd_rounds::{Dumper, ImageStep, NextImage, Progress, little_law, rises_law};
 use std::alloc::Global;
 use std::marker::Model;
 
@@ -533,6 +534,7 @@ impl Core {
         dumper_steps();
         rises_law();
         tracked_laws();
+        little_law();
         self.dumper.sound();
         let Ok(()) = self.journal.reserve_mark() else {
             return Taken::Step(Reply::Refused(Refusal::OutOfMemory));
@@ -574,6 +576,8 @@ impl Core {
         core_steps();
         dumper_steps();
         tracked_laws();
+        due_laws();
+        little_law();
         self.dumper.sound();
         let Ok(()) = self.journal.reserve_mark() else {
             return Taken::Step(Reply::Refused(Refusal::OutOfMemory));
@@ -692,6 +696,11 @@ impl Core {
             → LeavesByOutcome self.old outcome.request.id.worker result self.new }
         ensures acked { (n : ℕ) → IsOut self.old outcome.request.id → result ≡ reply.Acked n
             → IsAcked n self.old self.new }
+        ensures little { (n : ℕ) → IsOut self.old outcome.request.id → result ≡ reply.Acked n
+            → IsLittleDump n self.old self.new }
+        ensures round { IsOut self.old outcome.request.id → outcome.request.id.worker ≡ its.Dumper
+            → (running : Running) → OpensPreDump running self.old self.new
+            → IsLittlePreDump running self.old self.new }
     {
         let id = outcome.id();
         if !is_out(&self.outs, &id) {
@@ -716,9 +725,15 @@ impl Core {
         ensures failed { is_done outcome.answer ≡ false ↔ result ≡ reply.Refused StoreDown }
         ensures leaves { LeavesByOutcome self.old its.Dumper result self.new }
         ensures acked { (n : ℕ) → result ≡ reply.Acked n → IsAcked n self.old self.new }
+        ensures little { (n : ℕ) → result ≡ reply.Acked n → IsLittleDump n self.old self.new }
+        ensures round { (running : Running) → OpensPreDump running self.old self.new
+            → IsLittlePreDump running self.old self.new }
     {
         dumper_outcomes();
         tracked_laws();
+        due_laws();
+        little_law();
+        plain_law();
         self.dumper.sound();
         let id = outcome.id();
         let done = outcome.answer().is_done();

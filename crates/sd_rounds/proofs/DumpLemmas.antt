@@ -187,10 +187,11 @@ same_bytes law stored chain cut pass memory taking is rising long keeps dumping 
     clean_there (page_at memory taking.place.0 taking.place.1) found.0 found.0.bytes found.1 (dumping.behind taking.place found.0 passed found.1) refl in
     (keeps taking.place.0 taking.place.1 found.0.bytes clean (λ _. passed)).full taking (record { is = is; here = refl }) long ∙ found.2
 
-enters : PlainLaw → (stored : Stored) (chain : Chain) (cut : Contents) (pass : Pass) (memory : Contents) (taking : Taking) → pass.taking ≡ Some taking → IsRising pass
-    → length taking.copied ≡ 4096 → Keeps stored chain pass memory
-    → IsDumping cut pass memory → IsDumping cut (with_entry pass taking.place (kind_of_bytes taking.copied)) memory
-enters law stored chain cut pass memory taking is rising long keeps dumping = record {
+-- a page whose copy is what stood there at the freeze
+pub enters_same : (cut : Contents) (pass : Pass) (memory : Contents) (taking : Taking) → pass.taking ≡ Some taking → IsRising pass
+    → (dumping : IsDumping cut pass memory) → (was : WasDue cut pass taking) → taking.copied ≡ was.page.bytes
+    → IsDumping cut (with_entry pass taking.place (kind_of_bytes taking.copied)) memory
+enters_same cut pass memory taking is rising dumping was same = record {
   plain = dumping.plain;
   ahead = dumping.ahead;
   behind = dumping.behind;
@@ -203,18 +204,22 @@ enters law stored chain cut pass memory taking is rising long keeps dumping = re
   taken = λ other t. absurd (no_some other refl t);
 }
   where
-    was : WasDue cut pass taking
-    was = dumping.taken taking is
-
     is_due : due pass.takes_all (page_at cut taking.place.0 taking.place.1) ≡ Some (kind_of_bytes taking.copied)
     is_due = ap (due pass.takes_all) was.there ∙ ap (λ b. Some (cond b (kind_of_bytes was.page.bytes) Parent)) was.is
-        ∙ ap (λ (b : List ℕ). Some (kind_of_bytes b)) (sym (same_bytes law stored chain cut pass memory taking is rising long keeps dumping was))
+        ∙ ap (λ (b : List ℕ). Some (kind_of_bytes b)) (sym same)
+
+enters : PlainLaw → (stored : Stored) (chain : Chain) (cut : Contents) (pass : Pass) (memory : Contents) (taking : Taking) → pass.taking ≡ Some taking → IsRising pass
+    → length taking.copied ≡ 4096 → Keeps stored chain pass memory
+    → IsDumping cut pass memory → IsDumping cut (with_entry pass taking.place (kind_of_bytes taking.copied)) memory
+enters law stored chain cut pass memory taking is rising long keeps dumping =
+    let was = dumping.taken taking is in
+    enters_same cut pass memory taking is rising dumping was (same_bytes law stored chain cut pass memory taking is rising long keeps dumping was)
 
 all_zeros : (n : ℕ) → list_all (λ byte. byte == 0) (replicate n 0) ≡ true
 all_zeros zero = refl
 all_zeros (suc n) = all_zeros n
 
-zeros_are_zero : kind_of_bytes zeros ≡ Zero
+pub zeros_are_zero : kind_of_bytes zeros ≡ Zero
 unfolding zeros
 zeros_are_zero = ap (λ b. cond b Zero Data) (all_zeros 4096)
 
@@ -226,16 +231,20 @@ enters_zero law stored chain cut pass memory taking is rising zeroed keeps dumpi
 
 -- ---- the end
 
+pub ends_ways : (cut : Contents) (pass : Pass) (memory : Contents) → pass.taking ≡ None → IsRising pass
+    → IsNextPage memory.spaces pass.after None → IsDumping cut pass memory → (at : Place) → kind_at pass.entries at ≡ due pass.takes_all (page_at cut at.0 at.1)
+ends_ways cut pass memory none rising next dumping at = elim (cases_Bool (has_passed pass.after at)) [
+  | inl passed ↦ dumping.kinds at passed (none_taken pass at none)
+  | inr ahead ↦ elim (some_or_none (page_at memory at.0 at.1)) [
+    | inl gone ↦ missing pass.entries at rising.rises (rising.ahead at ahead) ∙ ap (due pass.takes_all) (sym gone ∙ dumping.ahead at ahead)
+    | inr found ↦ absurd (both_ways (has_passed pass.after at) ahead (passed_all memory.spaces pass.after at next (is_some_at (page_at memory at.0 at.1) found.0 found.1)))
+  ]
+]
+
 ends : PlainLaw → (stored : Stored) (chain : Chain) (cut : Contents) (pass : Pass) (memory : Contents) → pass.taking ≡ None → IsRising pass
     → IsNextPage memory.spaces pass.after None → Keeps stored chain pass memory → IsDumping cut pass memory → IsDumped stored chain cut pass
 ends law stored chain cut pass memory none rising next keeps dumping = record {
-  kinds = λ at. elim (cases_Bool (has_passed pass.after at)) [
-    | inl passed ↦ dumping.kinds at passed (none_taken pass at none)
-    | inr ahead ↦ elim (some_or_none (page_at memory at.0 at.1)) [
-      | inl gone ↦ missing pass.entries at rising.rises (rising.ahead at ahead) ∙ ap (due pass.takes_all) (sym gone ∙ dumping.ahead at ahead)
-      | inr found ↦ absurd (both_ways (has_passed pass.after at) ahead (passed_all memory.spaces pass.after at next (is_some_at (page_at memory at.0 at.1) found.0 found.1)))
-    ]
-  ];
+  kinds = ends_ways cut pass memory none rising next dumping;
   bytes = λ at page there.
       let found = other_page law memory cut dumping.plain at page there in
       let passed = passed_all memory.spaces pass.after at next (is_some_at (page_at memory at.0 at.1) found.0 found.1) in

@@ -45,13 +45,17 @@ some_plain : (o : Option Page) → is_some (option_map plain_page o) ≡ is_some
 some_plain None = refl
 some_plain (Some page) = refl
 
-entries : PlainLaw → (stored : Stored) (chain : Chain) (cut memory : Contents) (pass : Pass) → IsDumped stored chain cut pass → plain_of memory ≡ plain_of cut
-    → AreThePages pass.entries memory
-entries law stored chain cut memory pass dumped same space page =
-    ap is_some (dumped.kinds (space, page)) ∙ some_due pass.takes_all (page_at cut space page)
+pub are_the_pages : PlainLaw → (cut memory : Contents) (pass : Pass) → ((at : Place) → kind_at pass.entries at ≡ due pass.takes_all (page_at cut at.0 at.1))
+    → plain_of memory ≡ plain_of cut → AreThePages pass.entries memory
+are_the_pages law cut memory pass ways same space page =
+    ap is_some (ways (space, page)) ∙ some_due pass.takes_all (page_at cut space page)
     ∙ sym (some_plain (page_at cut space page)) ∙ ap is_some (sym (law.pages cut space page))
     ∙ ap (λ m. is_some (value_at m space page)) (sym same)
     ∙ ap is_some (law.pages memory space page) ∙ some_plain (page_at memory space page)
+
+entries : PlainLaw → (stored : Stored) (chain : Chain) (cut memory : Contents) (pass : Pass) → IsDumped stored chain cut pass → plain_of memory ≡ plain_of cut
+    → AreThePages pass.entries memory
+entries law stored chain cut memory pass dumped same = are_the_pages law cut memory pass dumped.kinds same
 
 -- ---- the table is written
 

@@ -23,9 +23,9 @@ use Rattle.sd_rounds.specs.Rounds.{Copies, TakesPage, Tests}
 use Rattle.sd_rounds.specs.Visits.{AreMapped, IsPassOf, IsSwept, Visit, VisitLaws, left_pages, taken_pages, visited_page}
 
 -- a pass with its visits
-record Was (still : Place → Bool) (visits : List Visit) (pass : Pass) : Type 0 where
-  is : IsPassOf visits pass
-  swept : IsSwept still visits pass
+pub record Was (still : Place → Bool) (visits : List Visit) (pass : Pass) : Type 0 where
+  pub is : IsPassOf visits pass
+  pub swept : IsSwept still visits pass
 
 visited_as : (still : Place → Bool) (visits : List Visit) (image : Making) (pass : Pass) → image.pass ≡ pass → Was still visits pass → IsVisited still visits image
 visited_as still visits image pass e was = record {
@@ -42,7 +42,7 @@ begins laws still order = record {
   swept = λ at here passed. absurd (both_ways false refl passed);
 }
 
-copies : VisitLaws → (still : Place → Bool) (visits : List Visit) (old new : Pass) (memory : Contents) (c : copied.Copied) → Copies old memory c new
+pub copies : VisitLaws → (still : Place → Bool) (visits : List Visit) (old new : Pass) (memory : Contents) (c : copied.Copied) → Copies old memory c new
     → IsPassOf visits old → IsSwept still visits old → Was still visits new
 copies laws still visits old new memory MoreSectors m is swept =
     subst (λ (p : Pass). Was still visits p) (sym m.is) (record { is = laws.copies visits old m.taking _ m.next.is is; swept = swept })
@@ -51,12 +51,12 @@ copies laws still visits old new memory ZeroPage z is swept =
 copies laws still visits old new memory Gone g is swept =
     subst (λ (p : Pass). Was still visits p) (sym g.is) (record { is = laws.drops visits old is; swept = swept })
 
-takes : VisitLaws → (still : Place → Bool) (visits : List Visit) (old new : Pass) (bytes : List ℕ) → TakesPage old bytes new
+pub takes : VisitLaws → (still : Place → Bool) (visits : List Visit) (old new : Pass) (bytes : List ℕ) → TakesPage old bytes new
     → IsPassOf visits old → IsSwept still visits old → Was still visits new
 takes laws still visits old new bytes t is swept =
     subst (λ (p : Pass). Was still visits p) (sym t.is) (record { is = laws.enters_data visits old t.taking t.was is; swept = swept })
 
-tests : VisitLaws → (still : Place → Bool) (visits : List Visit) (old new : Pass) (before after : Contents) (visit : visit.Visit) → Tests old before visit new after
+pub tests : VisitLaws → (still : Place → Bool) (visits : List Visit) (old new : Pass) (before after : Contents) (visit : visit.Visit) → Tests old before visit new after
     → old.taking ≡ None → AreMapped still before → IsPassOf visits old → IsSwept still visits old
     → Was still (visits ++ (record { place = (visit.space, visit.page); soft_dirty = visit.soft_dirty }) ∷ []) new
 tests laws still visits old new before after visit t free mapped is swept =

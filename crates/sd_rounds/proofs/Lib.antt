@@ -25,3 +25,4 @@ pub mod LeftLemmas
 pub mod WayLemmas
 pub mod FileLemmas
 pub mod ImageVisitLemmas
+pub mod LittleLemmas

@@ -161,7 +161,7 @@ behind_keeps kind PassStage pages chain pass memory none kept = kept
 behind_keeps kind (PageWrite plan) pages chain pass memory none kept = kept
 behind_keeps kind (Close plan header tables) pages chain pass memory none kept = absurd (omega arith)
 
-none_closing : (stage : Stage) (calls : Calls) → (closing stage ≢ 0 → calls ≢ []) → calls ≡ [] → closing stage ≡ 0
+pub none_closing : (stage : Stage) (calls : Calls) → (closing stage ≢ 0 → calls ≢ []) → calls ≡ [] → closing stage ≡ 0
 none_closing (Format plan) calls closes none = refl
 none_closing Freeze calls closes none = refl
 none_closing PassStage calls closes none = refl

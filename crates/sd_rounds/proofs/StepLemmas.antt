@@ -69,7 +69,7 @@ take_keeps laws pages chain old new memory bytes t count keeps =
     (subst (λ (b : List ℕ). Keeps (listed_pages (pages ++ b ∷ [])) chain (taken_as_data old t.taking) memory) (sym t.same)
     (laws.takes_up pages chain old memory t.taking t.was (ap (λ (b : List ℕ). length b) (sym t.same) ∙ t.whole) count keeps))
 
-is_data : (bytes : List ℕ) → length bytes ≡ 4096 → is_page_of_zeros bytes ≡ false → kind_of_bytes bytes ≡ Data
+pub is_data : (bytes : List ℕ) → length bytes ≡ 4096 → is_page_of_zeros bytes ≡ false → kind_of_bytes bytes ≡ Data
 is_data bytes long some = ap (λ b. cond b Zero Data) (false_from_ne_true (list_all (λ byte. byte == 0) bytes)
     (λ zeroed. both_ways (is_page_of_zeros bytes) some (and_from (nat_eq (length bytes) 4096) (list_all (λ byte. byte == 0) bytes) (eq-eqb (length bytes) 4096 long) zeroed)))
 

@@ -17,3 +17,4 @@ pub mod Left
 pub mod MakingLaws
 pub mod Files
 pub mod ImageVisits
+pub mod LittleWork

@@ -4,6 +4,7 @@ ghost use Rattle.sd_rounds.specs.Files.{FileLaws};
 ghost use Rattle.sd_rounds.specs.ImageVisits.{ImageVisitLaws};
 ghost use Rattle.sd_rounds.specs.Keeps.{KeepsLaws};
 ghost use Rattle.sd_rounds.specs.Left.{LeftLaws};
+ghost use Rattle.sd_rounds.specs.LittleWork.{LittleLaws};
 ghost use Rattle.sd_rounds.specs.Made.{MadeLaws};
 ghost use Rattle.sd_rounds.specs.MakingLaws.{MakingLaws};
 ghost use Rattle.sd_rounds.specs.Rises.{RisesLaws};
@@ -82,6 +83,18 @@ pub fn file_law()
 pub fn image_visits_law()
     ensures { ImageVisitLaws }
 {
+    visits_law();
+}
+
+/// Which pages an image takes: of a dump those that are due at the freeze, of a pre-dump none but those that were soft-dirty
+/// at their visit.
+pub fn little_law()
+    ensures { LittleLaws }
+{
+    plain_law();
+    rises_law();
+    dump_law();
+    step_law();
     visits_law();
 }
 

@@ -26,8 +26,8 @@ pub use copied::Copied;
 pub use dumper::Dumper;
 pub use image_step::ImageStep;
 pub use laws::{
-    dump_law, file_law, image_visits_law, keeps_law, left_law, made_law, making_law, rises_law,
-    step_law, visits_law,
+    dump_law, file_law, image_visits_law, keeps_law, left_law, little_law, made_law, making_law,
+    rises_law, step_law, visits_law,
 };
 pub use new_image::NewImage;
 pub use next_image::NextImage;

@@ -14,3 +14,4 @@ mod RunLemmas
 mod OpenLemmas
 mod RestoreLemmas
 mod LimitLemmas
+mod LittleLemmas

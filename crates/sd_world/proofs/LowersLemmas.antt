@@ -1,5 +1,5 @@
 -- A worker's event lowers what is left of its job, unless it ends it or is refused.
-use Rattle.std.proofs.Common.{◌≡◌, ℕ, Option, Some, None, slice_get, refl, sym, ◌∙◌, ap, subst}
+use Rattle.std.proofs.Common.{◌≡◌, Option, Some, None, slice_get, refl, sym, subst}
 use Rattle.sd_command.specs.declared.refusal.Refusal.{Refusal}
 use Rattle.sd_command.specs.declared.refusal.Refusal.TheVariants.{Busy}
 use Rattle.sd_command.specs.declared.reply.Reply.{Reply}
@@ -8,7 +8,6 @@ use Rattle.sd_disk.specs.declared.disk.Disk.{Ghosts}
 use Rattle.sd_gate.specs.declared.worker.Worker.{Worker}
 use Rattle.sd_gate.specs.Requests.{Asked}
 use Rattle.sd_belief.specs.View.{CoreView, index}
-use Rattle.sd_core.specs.declared.taken.Taken.{Taken}
 use Rattle.sd_core.specs.declared.taken.Taken.TheVariants.{Step as StepTaken, Call as CallTaken}
 use Rattle.sd_core.specs.Refusals.{work_refusal}
 use Rattle.sd_core.specs.Working.{LeavesByOutcome, LeavesByStep, left_by}

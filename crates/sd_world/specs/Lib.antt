@@ -1,5 +1,6 @@
 pub mod Adds
 pub mod Consistent
+pub mod Little
 pub mod Runs
 pub mod Steps
 pub mod View

@@ -9,6 +9,7 @@ use Rattle.sd_journal.specs.History.{Base, History, at_freeze}
 use Rattle.sd_belief.specs.Shown.{ShowsAllowed}
 use Rattle.sd_world.specs.declared.event.Event.{Event}
 use Rattle.sd_world.specs.Adds.{Adds}
+use Rattle.sd_world.specs.Little.{DoesLittle}
 use Rattle.sd_world.specs.Steps.{Does}
 use Rattle.sd_world.specs.View.{WorldView}
 
@@ -38,10 +39,11 @@ pub record ShowsAllowedBetween (base : Base) (first last : History) (contents : 
   pub between : IsBetween first history last
   pub shows : ShowsAllowed base history contents
 
--- what an event does to a world, and what it adds to the journal
+-- what an event does to a world, what it adds to the journal, and what it makes of a checkpoint
 pub record IsStep {D : Type 0} (g : Ghosts D) (event : Event) (old : WorldView D) (answer : Reply) (new : WorldView D) : Type 0 where
   pub does : Does g event old answer new
   pub adds : Adds event answer old.core new.core
+  pub little : DoesLittle event old answer new
 
 -- the world goes from the first state to the last, event by event, each answered by its reply
 abbrev pub Runs : {D : Type 0} → Ghosts D → WorldView D → List Event → List Reply → WorldView D → Type 0

@@ -11,15 +11,19 @@ use Rattle.sd_gate.specs.declared.answer.Answer.{Answer}
 use Rattle.sd_gate.specs.declared.answer.Answer.TheVariants.{Done, Len, Failed}
 use Rattle.sd_gate.specs.declared.phase.Phase.{Phase}
 use Rattle.sd_gate.specs.declared.worker.Worker.{Worker}
+use Rattle.sd_gate.specs.declared.worker.Worker.TheVariants.{Dumper}
 use Rattle.sd_gate.specs.Calls.{HasCause, IsAnswerTo, Tells, is_done}
 use Rattle.sd_gate.specs.Fits.{SlotFits}
 use Rattle.sd_gate.specs.Phases.{after, body_after, is_ready}
 use Rattle.sd_gate.specs.Requests.{Asked, Made}
+use Rattle.sd_rounds.specs.Dumper.{Running}
 use Rattle.sd_belief.specs.Calls.{HandedIn, HandsOut, IsOut, MakesStep, Stays}
 use Rattle.sd_belief.specs.Laws.{IsMadeOf}
 use Rattle.sd_belief.specs.View.{CoreView, index}
 use Rattle.sd_core.specs.declared.taken.Taken.{Taken}
 use Rattle.sd_core.specs.declared.taken.Taken.TheVariants.{Step as StepTaken, Call as CallTaken}
+use Rattle.sd_core.specs.Images.{IsAcked}
+use Rattle.sd_core.specs.LittleWork.{IsLittleDump, IsLittlePreDump, OpensPreDump}
 use Rattle.sd_core.specs.Refusals.{work_refusal}
 use Rattle.sd_core.specs.Working.{Leaves, LeavesByOutcome}
 use Rattle.sd_world.specs.declared.event.Event.{Event}
@@ -57,6 +61,10 @@ pub record HandsIn (worker : Worker) (old : CoreView) (kept : List Kept) (made :
   pub handed : IsOut old made.request.id → HandedIn old made answer new
   pub failed : IsOut old made.request.id → is_done made.answer ≡ false → answer ≡ reply.Refused StoreDown
   pub leaves : IsOut old made.request.id → LeavesByOutcome old made.request.id.worker answer new
+  pub acked : (n : ℕ) → IsOut old made.request.id → answer ≡ reply.Acked n → IsAcked n old new
+  pub little : (n : ℕ) → IsOut old made.request.id → answer ≡ reply.Acked n → IsLittleDump n old new
+  pub round : IsOut old made.request.id → made.request.id.worker ≡ Dumper → (running : Running) → OpensPreDump running old new
+      → IsLittlePreDump running old new
   pub left : later ≡ slice_set kept (index worker) Nothing
 
 -- refused as busy, and nothing changes

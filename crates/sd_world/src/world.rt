@@ -18,6 +18,7 @@ ghost use Rattle.sd_belief.specs.Shown.{ShowsAllowed};
 ghost use Rattle.sd_belief.specs.View.{history_of};
 ghost use Rattle.sd_world.specs.declared.event.Event.TheVariants.{Perform, Work};
 ghost use Rattle.sd_world.specs.Adds.{Adds};
+ghost use Rattle.sd_world.specs.Little.{DoesLittle};
 ghost use Rattle.sd_world.specs.Restored.{IsRestored};
 ghost use Rattle.sd_world.specs.Runs.{Runs, ShowsAllowedBetween, ShowsReply};
 ghost use Rattle.sd_world.specs.Steps.{Does, IsAnswered, LeavesLess};
@@ -195,6 +196,10 @@ impl<D: Disk> World<D> {
         // or is refused.
         ensures lowers { (worker : WorkerKind) → event.now ≡ Work worker
             → LeavesLess result (left_by self.old.core worker) (left_by self.new.core worker) }
+
+        // Where a worker's event acknowledges a checkpoint, its dump has exactly the pages that were mapped at the freeze, as
+        // data or zeros those that something touched since their last visit; and a pre-dump has such pages alone.
+        ensures little { DoesLittle event.now self.old result self.new }
 
         // What it adds to the journal. What the run started from stays.
         ensures adds { Adds event.now result self.old.core self.new.core }

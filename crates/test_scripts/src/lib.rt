@@ -6,6 +6,8 @@ mod checkpoints;
 #[cfg(test)]
 mod crashes;
 #[cfg(test)]
+mod little_work;
+#[cfg(test)]
 mod opening;
 #[cfg(test)]
 mod rows;

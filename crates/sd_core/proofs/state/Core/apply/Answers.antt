@@ -5,10 +5,12 @@ use Rattle.sd_journal.specs.declared.entry.Entry.TheVariants.{Applied}
 use Rattle.sd_journal.specs.Marked.{Told, entries_of}
 use Rattle.sd_belief.specs.View.{CoreView, history_of}
 use Rattle.sd_core.specs.Answering.{IsAnswered}
+use Rattle.sd_core.specs.LittleWork.{HasLittle}
 use Rattle.sd_core.specs.Sound.{AreNumbers, IsAtWork, IsJournal}
 use Rattle.sd_belief.specs.CoreSteps.{IsCommanded}
 use Rattle.sd_core.proofs.ApplyLemmas.{bytes_pass, commanded, stays_applied, stays_same}
 use Rattle.sd_core.proofs.JournalLemmas.{applied_journal, same_journal}
+use Rattle.sd_core.proofs.LittleLemmas.{applied_little, still_while_frozen}
 use Rattle.sd_core.proofs.OpeningLemmas.{stays_seen}
 use Rattle.sd_core.proofs.WorkLemmas.{applied_numbers, applied_work}
 use Rattle.sd_core.proofs.state.Core.apply.Goals as goal
@@ -29,6 +31,8 @@ invariant_of-self-in_default-copy_reply c =
       counted = c.self.invariant.counted;
       rests = c.self.invariant.rests;
       work = subst (λ all. IfSome c.self.inside.dumper.running (IsAtWork base all c.self.inside.pending c.self.inside.standing c.self.inside.phases.items c.self.inside.catalog c.self.inside.opener c.self.inside.numbers)) (sym before) c.self.invariant.work;
+      little = subst (λ m. IfSome c.self.inside.dumper.running (HasLittle base c.reserve.new.self.items m)) (sym same)
+          (subst (λ all. IfSome c.self.inside.dumper.running (HasLittle base all c.self.inside.memory)) (sym before) c.self.invariant.little);
     }
 
 pub returns-in_default-copy_reply-clause-keeps : goal.returns-in_default-copy_reply-clause-keeps
@@ -60,6 +64,9 @@ invariant_of-self-2 c =
       work = subst (λ all. IfSome c.self.inside.dumper.running (IsAtWork base all c.self.inside.pending c.self.inside.standing c.self.inside.phases.items c.self.inside.catalog c.self.inside.opener c.self.inside.numbers)) (sym items)
           (applied_work base c.self.inside.journal.items c.self.inside.pending c.self.inside.standing c.self.inside.phases.items c.self.inside.catalog c.self.inside.opener c.self.inside.numbers
           c.self.inside.dumper.running c.args.seat c.in-Ok-copy_command.command c.in-Ok-answer.reply c.self.invariant.work);
+      little = subst (λ all. IfSome c.self.inside.dumper.running (HasLittle base all c.answer.new.memory)) (sym items)
+          (applied_little base c.self.inside.journal.items c.self.inside.memory c.answer.new.memory c.self.inside.dumper.running c.args.seat c.in-Ok-copy_command.command c.in-Ok-answer.reply
+          (still_while_frozen _ c.answer.new.memory c.in-Ok-copy_command.command c.in-Ok-answer.reply c.self.invariant answered) c.self.invariant.little);
     }
 
 pub returns-clause-number : goal.returns-clause-number

@@ -18,9 +18,11 @@ use Rattle.sd_belief.specs.DumperSteps.{opens_gate}
 use Rattle.sd_belief.specs.View.{CoreView}
 use Rattle.sd_core.specs.declared.numbers.Numbers.{Numbers}
 use Rattle.sd_core.specs.Images.{begun_as}
+use Rattle.sd_core.specs.LittleWork.{TakesLittle}
 use Rattle.sd_core.specs.Sound.{AreNumbers, IsImageOf, IsJournal, begun_images}
 use Rattle.sd_core.proofs.ApplyLemmas.{stays_same}
 use Rattle.sd_core.proofs.ImageLemmas.{begun_asked}
+use Rattle.sd_core.proofs.LittleLemmas.{begun_little}
 use Rattle.sd_core.proofs.MarkLemmas.{counted_held, held_place, next_is, none_visited, start_numbers}
 use Rattle.sd_core.proofs.OpeningLemmas.{hands_seen, step_seen}
 use Rattle.sd_core.proofs.PreDumpLemmas.{change_stays, pre_dumps_stay}
@@ -121,6 +123,9 @@ invariant_of-self-2 c =
         asked = asked_on w.running (begun_image (order_of w.running serial c.state.result)) w.next _ t.out_is t.slot refl;
         image = subst (λ all. IsImageOf all c.hold.new.self c.tick.new.self w.next) (sym c.note.ensures.items) t.image_is;
       };
+      little = subst (λ all. TakesLittle base all c.begin_next-request.new.memory w.running.number w.next) (sym c.note.ensures.items)
+          (begun_little c.little_law.ensures base c.reserve_mark.new.self.items c.self.inside.memory c.begin_next-request.new.memory w.running.number _ (order_of w.running serial c.state.result) w.next
+          c.begin_next-request.result w.steps fresh (t.still ∙ and-false _));
     })
 
 pub returns-clause-takes : goal.returns-clause-takes

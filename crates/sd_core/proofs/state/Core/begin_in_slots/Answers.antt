@@ -80,6 +80,7 @@ invariant_of-self-2 c =
         asked = tt;
         image = tt;
       };
+      little = tt;
     })
 
 pub returns-clause-keeps : goal.returns-clause-keeps

@@ -3,6 +3,7 @@ use Rattle.sd_areas.specs.Memory.{memory_of}
 use Rattle.sd_journal.specs.History.{Base}
 use Rattle.sd_journal.specs.Kept.{Kept}
 use Rattle.sd_rounds.specs.Dumper.{Dumping, out_of_running}
+use Rattle.sd_core.specs.LittleWork.{HasLittle}
 use Rattle.sd_core.specs.Sound.{AreNumbers, IsAtWork, held_for, out_of_opener}
 use Rattle.sd_core.proofs.ApplyLemmas.{same_phases}
 use Rattle.sd_core.proofs.CancelLemmas.{cancelled_journal, cancelled_numbers, counted_released, may_cancel, rests_cancelled, same_images}
@@ -37,6 +38,7 @@ invariant_of-self c =
           (record { released = c.release-2.ensures.released; nothing = c.release-2.ensures.nothing }) c.self.invariant.counted;
       rests = λ none stands. refl;
       work = subst (λ r. IfSome r (IsAtWork base c.release.new.self.items None c.self.inside.standing c.self.inside.phases.items c.release-2.new.self c.self.inside.opener c.self.inside.numbers)) (sym gone) tt;
+      little = subst (λ r. IfSome r (HasLittle base c.release.new.self.items c.self.inside.memory)) (sym gone) tt;
     }
 
 pub returns-clause-keeps : goal.returns-clause-keeps

@@ -41,6 +41,7 @@ invariant_of-self-2 c =
       counted = c.found.ensures.checkpoints;
       rests = λ idle stands. refl;
       work = none_works _ c.self.inside.dumper.running none;
+      little = none_works _ c.self.inside.dumper.running none;
     }
 
 pub returns-clause-takes : goal.returns-clause-takes

@@ -15,8 +15,10 @@ use Rattle.sd_rounds.specs.Dumper.{is_dumping, is_last, slot_of}
 use Rattle.sd_belief.specs.DumperSteps.{opens_gate}
 use Rattle.sd_core.specs.Dumping.{StepsOn}
 use Rattle.sd_core.specs.Images.{begun_as}
+use Rattle.sd_core.specs.LittleWork.{TakesLittle}
 use Rattle.sd_core.specs.Sound.{AreNumbers, IsImageOf, IsJournal, begun_images, held_for}
 use Rattle.sd_core.proofs.ImageLemmas.{image_calls, image_frozen, image_table, image_visited, image_copied}
+use Rattle.sd_core.proofs.LittleLemmas.{asks_no_visit, freeze_little, little_of, step_little, visit_more}
 use Rattle.sd_core.proofs.MarkLemmas.{asks_or_writes, before_freeze, freeze_journal, freeze_numbers, frozen_next, may_freeze, sound_image, table_journal, visit_journal}
 use Rattle.sd_core.proofs.OpeningLemmas.{hands_seen, step_seen}
 use Rattle.sd_core.proofs.PreDumpLemmas.{same_stay}
@@ -54,6 +56,8 @@ invariant_of-self-in-Copied-1 c =
       asked = asked_on w.running w.image w.next _ t.out_is t.slot (own_slot c.self.inside.dumper.since_freeze _ w.running w.image c.sound.ensures.running w.was w.making);
       image_is = t.image_is;
       still = t.still;
+      little = step_little c.little_law.ensures base c.reserve_mark.new.self.items c.reserve_mark.new.self.items c.self.inside.memory c.step_on.new.memory w.running.number c.self.inside.numbers.ticket w.image w.next (Copied c.in-Copied.field-0) w.steps
+          (sound_image _ w.running w.image c.sound.ensures.image w.was w.making).rising t.still refl refl (little_of base c.reserve_mark.new.self.items c.self.inside.memory c.self.inside.dumper.running w.running w.image core.little w.was w.making);
     }))
 
 pub invariant_of-self-in-Visited-1 : goal.invariant_of-self-in-Visited-1
@@ -89,6 +93,9 @@ invariant_of-self-in-Visited-1 c =
       asked = asked_on w.running w.image w.next _ t.out_is t.slot (own_slot c.self.inside.dumper.since_freeze _ w.running w.image c.sound.ensures.running w.was w.making);
       image_is = subst (λ all. IsImageOf all c.self.inside.catalog c.self.inside.numbers w.next) (sym items) t.image_is;
       still = t.still;
+      little = subst (λ all. TakesLittle base all c.step_on.new.memory w.running.number w.next) (sym items)
+          (step_little c.little_law.ensures base c.reserve_mark.new.self.items (Noted (Visit w.image.order.serial c.in-Visited.visit.space c.in-Visited.visit.page) ∷ c.reserve_mark.new.self.items) c.self.inside.memory c.step_on.new.memory w.running.number c.self.inside.numbers.ticket w.image w.next (Visited c.in-Visited.visit) w.steps
+          (sound_image _ w.running w.image c.sound.ensures.image w.was w.making).rising t.still (visit_more c.due_laws.ensures base c.reserve_mark.new.self.items c.self.inside.memory c.step_on.new.memory w.image w.next c.in-Visited.visit w.image.order.serial core.journal_is.tracked w.steps) refl (little_of base c.reserve_mark.new.self.items c.self.inside.memory c.self.inside.dumper.running w.running w.image core.little w.was w.making));
     }))
 
 pub invariant_of-self-in-Call : goal.invariant_of-self-in-Call
@@ -123,6 +130,8 @@ invariant_of-self-in-Call c =
       asked = asked_on w.running w.image w.next _ t.out_is t.slot (own_slot c.self.inside.dumper.since_freeze _ w.running w.image c.sound.ensures.running w.was w.making);
       image_is = t.image_is;
       still = t.still;
+      little = step_little c.little_law.ensures base c.reserve_mark.new.self.items c.reserve_mark.new.self.items c.self.inside.memory c.step_on.new.memory w.running.number c.self.inside.numbers.ticket w.image w.next c.in-Ok-step_on.step w.steps
+          (sound_image _ w.running w.image c.sound.ensures.image w.was w.making).rising t.still (asks_no_visit c.in-Ok-step_on.step c.in-Call.request _ c.in-Call.is) refl (little_of base c.reserve_mark.new.self.items c.self.inside.memory c.self.inside.dumper.running w.running w.image core.little w.was w.making);
     }))
 
 pub invariant_of-self-in-TableCall-1 : goal.invariant_of-self-in-TableCall-1
@@ -161,6 +170,9 @@ invariant_of-self-in-TableCall-1 c =
       asked = asked_on w.running w.image w.next _ t.out_is t.slot (own_slot c.self.inside.dumper.since_freeze _ w.running w.image c.sound.ensures.running w.was w.making);
       image_is = subst (λ all. IsImageOf all c.self.inside.catalog c.tick.new.self w.next) (sym items) t.image_is;
       still = t.still;
+      little = subst (λ all. TakesLittle base all c.step_on.new.memory w.running.number w.next) (sym items)
+          (step_little c.little_law.ensures base c.reserve_mark.new.self.items (Noted (Table w.image.order.serial) ∷ c.reserve_mark.new.self.items) c.self.inside.memory c.step_on.new.memory w.running.number c.self.inside.numbers.ticket w.image w.next (TableCall c.in-TableCall.request) w.steps
+          (sound_image _ w.running w.image c.sound.ensures.image w.was w.making).rising t.still refl refl (little_of base c.reserve_mark.new.self.items c.self.inside.memory c.self.inside.dumper.running w.running w.image core.little w.was w.making));
     }))
 
 pub invariant_of-self-in-Frozen-1 : goal.invariant_of-self-in-Frozen-1
@@ -203,6 +215,9 @@ invariant_of-self-in-Frozen-1 c =
         asked = subst (λ o. IfSome o (λ id. id.slot ≡ slot_of w.running)) (sym t.out_is) tt;
         image = subst (λ all. IsImageOf all c.self.inside.catalog c.self.inside.numbers w.next) (sym c.append_held.ensures.items) t.image_is;
       };
+      little = subst (λ all. TakesLittle base all c.step_on.new.memory w.running.number w.next) (sym c.append_held.ensures.items)
+          (subst (λ n. TakesLittle base (Told (Freeze n) ∷ c.reserve_mark.new.self.items) c.step_on.new.memory w.running.number w.next) work.number
+          (freeze_little c.little_law.ensures base c.reserve_mark.new.self.items c.self.inside.memory c.step_on.new.memory w.running.number c.self.inside.numbers.ticket w.image w.next w.steps b.kind core.journal_is.tracked));
     })
 
 pub returns-in-Copied-clause-takes : goal.returns-in-Copied-clause-takes

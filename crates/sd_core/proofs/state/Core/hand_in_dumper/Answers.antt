@@ -1,7 +1,11 @@
-use Rattle.std.proofs.Common.{◌≡◌, ◌+◌, ◌^◌, ◌<◌, ◌∷◌, [], length, Some, None, IfSome, slice_get, slice_index_or, slice_set, refl, sym, ◌∙◌, ap, subst, arith}
-use Rattle.std.proofs.lemmas.Option.{slice_get-get_or}
+use Rattle.std.proofs.Common.{◌≡◌, ◌↔◌, ◌+◌, ◌^◌, ◌<◌, ◌==◌, ◌∷◌, Contains, [], length, Some, None, IfSome, slice_get, slice_index_or, slice_set, refl, sym, ◌∙◌, ap, subst, arith}
+use Rattle.std.proofs.lemmas.Option.{same_Some, slice_get-get_or}
 use Rattle.sd_areas.specs.Memory.{memory_of}
-use Rattle.sd_chain.specs.Catalog.{Changes}
+use Rattle.sd_chain.specs.Catalog.{Changes, Opened}
+use Rattle.sd_image.specs.declared.run.RunKind.{RunKind}
+use Rattle.sd_image.specs.Shows.{pages_of}
+use Rattle.sd_rounds.specs.LittleWork.{TookVisited}
+use Rattle.sd_rounds.specs.Pass.{Place}
 use Rattle.sd_gate.specs.declared.phase.Phase.{Phase}
 use Rattle.sd_gate.specs.declared.request_id.RequestId.{RequestId}
 use Rattle.sd_gate.specs.Calls.{is_done}
@@ -15,10 +19,12 @@ use Rattle.sd_rounds.specs.Dumper.{Hands, HasCounted, after_pre_dump, out_of_run
 use Rattle.sd_belief.specs.DumperOutcomes.{IsDumpersOutcome, LeavesCatalog, closes_for_sure}
 use Rattle.sd_belief.specs.OpenerSteps.{nobody}
 use Rattle.sd_belief.specs.View.{CoreView, index}
-use Rattle.sd_core.specs.Images.{HasPreDumps, begun_as}
+use Rattle.sd_core.specs.Images.{HasImage, HasPreDumps, begun_as}
+use Rattle.sd_core.specs.LittleWork.{HasLittle, visits_of, way_due}
 use Rattle.sd_core.specs.Sound.{AreNumbers, IsAtWork, IsOpening, begun_images, held_for, out_of_opener}
 use Rattle.sd_core.proofs.CoreLemmas.{after_count}
 use Rattle.sd_core.proofs.ImageLemmas.{image_more}
+use Rattle.sd_core.proofs.LittleLemmas.{dump_ways, freeze_memory, little_of, more_little, round_took, seen_before}
 use Rattle.sd_core.proofs.MarkLemmas.{sound_image}
 use Rattle.sd_core.proofs.OpeningLemmas.{handed_seen}
 use Rattle.sd_core.proofs.OutcomeLemmas.{has_image, acked_journal, acked_numbers, checkpoint_used, counted_opened, dump_pends, handed_dumper, left_counted, left_held, opened_now, pre_dump_pends}
@@ -69,6 +75,8 @@ invariant_of-self-in-More c =
       asked = subst (λ o. IfSome o (λ i. i.slot ≡ slot_of h.running)) (sym t.out_is) tt;
       image_is = t.image_is;
       still = t.still;
+      little = more_little c.little_law.ensures base c.self.inside.journal.items c.self.inside.memory h.running.number h.hands.image h.hands.next made h.hands.hands t.still
+          (little_of base c.self.inside.journal.items c.self.inside.memory c.self.inside.dumper.running h.running h.hands.image c.self.invariant.little h.was h.hands.was);
     }))
 
 pub invariant_of-self-in-PreDump : goal.invariant_of-self-in-PreDump
@@ -124,6 +132,7 @@ invariant_of-self-in-PreDump c =
         asked = tt;
         image = tt;
       };
+      little = tt;
     })
 
 pub invariant_of-self-in-Dump : goal.invariant_of-self-in-Dump
@@ -170,6 +179,7 @@ invariant_of-self-in-Dump c =
       counted = counted;
       rests = λ none open_. refl;
       work = subst (λ r. IfSome r (IsAtWork base c.append_held.new.self.items None c.self.inside.standing c.follow_call.new.phases.items c.enter_catalog-in-Dump.new.catalog c.self.inside.opener c.self.inside.numbers)) (sym gone) tt;
+      little = subst (λ r. IfSome r (HasLittle base c.append_held.new.self.items c.self.inside.memory)) (sym gone) tt;
     }
 
 pub returns-in-Failed-clause-handed : goal.returns-in-Failed-clause-handed
@@ -404,4 +414,54 @@ returns-in-Dump-clause-acked c n is =
           (change_stays (begun_as h.running) c.self.inside.catalog c.enter_catalog-in-Dump.new.catalog h.hands.0.image.order.serial h.running.opened _ changes
           (λ o is_in. none_held c.self.inside.catalog h.hands.0.image.order.serial o image.held is_in)) work.pre_dumps));
       counted = subst (λ p. HasCounted p c.hand_in.new.self.since_freeze) c.in-Dump.is c.hand_in.ensures.pages;
+    }
+
+pub returns-in-Dump-clause-little : goal.returns-in-Dump-clause-little
+returns-in-Dump-clause-little c n is =
+    let base : Base = record { number = c.self.inside.number; memory = memory_of c.self.inside.base } in
+    let made = c.args.outcome in
+    let h = subst (λ p. Hands c.self.inside.dumper made p c.hand_in.new.self) c.in-Dump.is c.hand_in.ensures.hands in
+    let work = at_work _ h.running c.self.invariant h.was in
+    let opened = c.in-Dump.image in
+    let image = image_of_work _ h.running h.hands.0.image c.self.invariant h.was h.hands.0.was in
+    let now = opened_now _ _ _ h.hands.0.image opened made image h.hands.0.hands in
+    let has = has_image c.self.inside.dumper.since_freeze c.self.inside.dumper.running h.running h.hands.0.image made opened c.self.inside.catalog c.enter_catalog-in-Dump.new.catalog c.sound.ensures.running h.was h.hands.0.was now h.hands.0.hands
+    c.enter_catalog-in-Dump.ensures in
+    let named : c.self.inside.numbers.begun ≡ n = cc in
+    let d = dump_ways c.little_law.ensures c.plain_law.ensures c.due_laws.ensures base c.self.inside.journal.items c.self.inside.memory h.running h.hands.0.image made opened h.hands.1
+    (own_order c.self.inside.dumper.since_freeze _ h.running h.hands.0.image c.sound.ensures.running h.was h.hands.0.was) h.hands.0.hands
+    (sound_image _ h.running h.hands.0.image c.sound.ensures.image h.was h.hands.0.was) now
+    (little_of base c.self.inside.journal.items c.self.inside.memory c.self.inside.dumper.running h.running h.hands.0.image c.self.invariant.little h.was h.hands.0.was) in
+    record {
+      running = h.running;
+      was = sym (ap (λ (v : CoreView). v.dumper.running) c.self.view_is) ∙ h.was;
+      last = h.hands.1;
+      dump = record { slot = opened.slot; header = opened.header; spaces = opened.table };
+      has = has;
+      frozen = d.frozen;
+      before = seen_before _ _ h.running.number n d.frozen c.self.view_is (work.number ∙ named) d.before;
+      freeze = freeze_memory c.args.self.now.base c.args.self.now.items d.frozen n (seen_before _ _ h.running.number n d.frozen c.self.view_is (work.number ∙ named) d.before);
+      ways = subst (λ (v : CoreView). (kind : RunKind) (at : Place) → Contains (pages_of kind opened.table) at ↔ way_due (opened.header.parent == 0) v.base d.frozen at ≡ Some kind) c.self.view_is d.ways;
+    }
+
+pub returns-in-PreDump-clause-round : goal.returns-in-PreDump-clause-round
+returns-in-PreDump-clause-round c running opens =
+    let base : Base = record { number = c.self.inside.number; memory = memory_of c.self.inside.base } in
+    let made = c.args.outcome in
+    let h = subst (λ p. Hands c.self.inside.dumper made p c.hand_in.new.self) c.in-PreDump.is c.hand_in.ensures.hands in
+    let opened = c.in-PreDump.image in
+    let entered : Opened = record { slot = opened.slot; header = opened.header; spaces = opened.table } in
+    let image = image_of_work _ h.running h.hands.0.image c.self.invariant h.was h.hands.0.was in
+    let now = opened_now _ _ _ h.hands.0.image opened made image h.hands.0.hands in
+    let has = has_image c.self.inside.dumper.since_freeze c.self.inside.dumper.running h.running h.hands.0.image made opened c.self.inside.catalog c.enter_catalog.new.catalog c.sound.ensures.running h.was h.hands.0.was now h.hands.0.hands
+    c.enter_catalog.ensures in
+    let same : h.running ≡ running = same_Some h.running running (sym h.was ∙ ap (λ (v : CoreView). v.dumper.running) c.self.view_is ∙ opens.was) in
+    let took = round_took c.little_law.ensures base c.self.inside.journal.items c.self.inside.memory h.running h.hands.0.image made opened h.hands.1
+    (own_order c.self.inside.dumper.since_freeze _ h.running h.hands.0.image c.sound.ensures.running h.was h.hands.0.was) h.hands.0.hands
+    (sound_image _ h.running h.hands.0.image c.sound.ensures.image h.was h.hands.0.was) now
+    (little_of base c.self.inside.journal.items c.self.inside.memory c.self.inside.dumper.running h.running h.hands.0.image c.self.invariant.little h.was h.hands.0.was) in
+    record {
+      image = entered;
+      has = subst (λ r. HasImage r c.enter_catalog.new.catalog entered) same has;
+      took = subst (λ (v : CoreView). TookVisited (opened.header.parent == 0) (visits_of v.items opened.header.serial) opened.table) c.self.view_is took;
     }

@@ -42,6 +42,7 @@ invariant_of-self c =
       counted = c.self.invariant.counted;
       rests = c.self.invariant.rests;
       work = none_works _ c.self.inside.dumper.running none;
+      little = none_works _ c.self.inside.dumper.running none;
     }
 
 pub returns-then-teach-clause-handed : goal.returns-then-teach-clause-handed

@@ -34,6 +34,7 @@ invariant_of-self-2 c =
       counted = inside.counted;
       rests = inside.rests;
       work = none_works _ c.self.inside.dumper.running none;
+      little = none_works _ c.self.inside.dumper.running none;
     }
 
 pub returns-clause-keeps : goal.returns-clause-keeps

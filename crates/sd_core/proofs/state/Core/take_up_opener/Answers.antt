@@ -36,6 +36,7 @@ invariant_of-self-in-Call c =
       counted = counted_same c.self.inside.catalog c.self.inside.numbers c.tick.new.self numbers inside.counted;
       rests = inside.rests;
       work = none_works _ c.self.inside.dumper.running none;
+      little = none_works _ c.self.inside.dumper.running none;
     }
 
 pub returns-in-Call-clause-takes : goal.returns-in-Call-clause-takes

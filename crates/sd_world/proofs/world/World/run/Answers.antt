@@ -40,7 +40,7 @@ loop-event-preserved g c =
       runs = subst (λ asked. Runs g.D.Disk c.args.self.now asked c.push_reserved.new.self.items c.step-answer.new.self) (sym one_more)
           (subst (λ answers. Runs g.D.Disk c.args.self.now (take i events ++ event ∷ []) answers c.step-answer.new.self) (sym c.push_reserved.ensures.items)
           (runs_more g.D.Disk c.args.self.now c.loop-event.self c.step-answer.new.self (take i events) c.loop-event.replies.items event c.step-answer.result before.runs
-          (record { does = step.does; adds = step.adds })));
+          (record { does = step.does; adds = step.adds; little = step.little })));
       count = c.push_reserved.ensures.len ∙ ap (λ n. n + 1) before.count;
       room = c.push_reserved.ensures.capacity ∙ before.room;
       base = step.base ∙ before.base;

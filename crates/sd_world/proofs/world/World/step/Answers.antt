@@ -8,6 +8,7 @@ use Rattle.sd_world.specs.Steps.{Does}
 use Rattle.sd_world.specs.View.{WorldView}
 use Rattle.sd_world.proofs.AddsLemmas.{step_adds, step_base, step_honest, step_span}
 use Rattle.sd_world.proofs.AllowedLemmas.{world_allows}
+use Rattle.sd_world.proofs.LittleLemmas.{step_little}
 use Rattle.sd_world.proofs.LowersLemmas.{work_lowers}
 use Rattle.sd_world.proofs.ReplyLemmas.{marked_legal, says}
 use Rattle.sd_world.proofs.StepLemmas.{step_world}
@@ -34,6 +35,12 @@ returns-clause-lowers g c = λ worker is.
     let does = subst (λ w. Does g.D.Disk c.args.event.now w c.make_step-answer.result new) c.self.view_is c.make_step-answer.ensures in
     work_lowers g.D.Disk c.args.self.now new (subst (IsWorld g.D.Disk) c.self.view_is c.self.invariant) worker c.make_step-answer.result
     (subst (λ e. Does g.D.Disk e c.args.self.now c.make_step-answer.result new) is does)
+
+pub returns-clause-little : goal.returns-clause-little
+returns-clause-little g c =
+    let new : WorldView g.row.D.Denot = record { core = c.make_step-answer.new.core; disk = c.make_step-answer.new.disk; kept = c.make_step-answer.new.kept } in
+    step_little g.D.Disk c.args.self.now new (subst (IsWorld g.D.Disk) c.self.view_is c.self.invariant) c.args.event.now c.make_step-answer.result
+    (subst (λ w. Does g.D.Disk c.args.event.now w c.make_step-answer.result new) c.self.view_is c.make_step-answer.ensures)
 
 pub returns-clause-base : goal.returns-clause-base
 returns-clause-base g c =

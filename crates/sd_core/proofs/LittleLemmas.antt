@@ -1,0 +1,291 @@
+-- Which pages an image has, by the marked journal.
+use Rattle.std.proofs.Common.{◌≡◌, ◌↔◌, ◌⊎◌, ℕ, ◌==◌, ◌&&◌, ◌||◌, Bool, true, false, if◌then◌else◌, List, [], ◌∷◌, ◌++◌, Contains, Option, Some, None, IfSome, is_some, refl, sym, ◌∙◌, ap, subst, inl, inr}
+use Rattle.std.specs.List.{list_any}
+use Rattle.std.specs.Option.{option_map}
+use Rattle.std.proofs.lemmas.Bool.{both_ways, eq-eqb}
+use Rattle.std.proofs.lemmas.Option.{same_Some}
+use Rattle.sd_areas.specs.PlainMemory as plain
+use Rattle.sd_gate.specs.Requests.{Asked, Made}
+use Rattle.sd_image.specs.declared.header.Header.{Header}
+use Rattle.sd_image.specs.declared.header.Kind.TheVariants.{Dump, PreDump}
+use Rattle.sd_image.specs.declared.run.RunKind.{RunKind}
+use Rattle.sd_image.specs.declared.run.RunKind.TheVariants.{Parent}
+use Rattle.sd_image.specs.Shows.{pages_of}
+use Rattle.sd_image.specs.Words.{kind_number}
+use Rattle.sd_command.specs.declared.command.Command.{Command}
+use Rattle.sd_command.specs.declared.reply.Reply.{Reply}
+use Rattle.sd_journal.specs.declared.entry.Entry.TheVariants.{Acked, Applied, Cancelled, Freeze, Reopened}
+use Rattle.sd_journal.specs.declared.mark.Mark.TheVariants.{Start, Table, Visit}
+use Rattle.sd_journal.specs.History.{Base, at_freeze, memory_after}
+use Rattle.sd_journal.specs.Marked.{IsTracked, Marked, Noted, Told, entries_of, is_of, memory_at}
+use Rattle.sd_journal.specs.TrackedLaws.{DueLaws, before_freeze, is_due}
+use Rattle.sd_pagetable.specs.Contents.{Contents, page_at}
+use Rattle.sd_pagetable.specs.Law.{PlainLaw}
+use Rattle.sd_pagetable.specs.Nested.{value_at}
+use Rattle.sd_pagetable.specs.Page.{Page, plain_page}
+use Rattle.sd_rounds.specs.declared.image_order.ImageOrder.{ImageOrder}
+use Rattle.sd_rounds.specs.declared.image_step.ImageStep.{ImageStep}
+use Rattle.sd_rounds.specs.declared.image_step.ImageStep.TheVariants.{Call, PageCall, TableCall, Frozen, Visited, Copied}
+use Rattle.sd_rounds.specs.declared.new_image.NewImage.{NewImage}
+use Rattle.sd_rounds.specs.declared.visit.Visit.{Visit as PageVisit}
+use Rattle.sd_rounds.specs.Dump.{due, kind_of_bytes}
+use Rattle.sd_rounds.specs.Dumper.{Running, is_frozen_image, is_last, order_of}
+use Rattle.sd_rounds.specs.ImageVisits.{visits_after}
+use Rattle.sd_rounds.specs.LittleWork.{LittleLaws, TakesDue, TakesVisited, TookVisited}
+use Rattle.sd_rounds.specs.Making.{GoesOn, Making, Opens, Steps, Visits, begun_image, is_frozen, is_past_freeze}
+use Rattle.sd_rounds.specs.Pass.{Place}
+use Rattle.sd_rounds.specs.Rises.{IsRising}
+use Rattle.sd_rounds.specs.Sound.{IsSoundImage}
+use Rattle.sd_rounds.specs.Visits as visits
+use Rattle.sd_core.specs.LittleWork.{HasLittle, IsFrozenFor, TakesLittle, visits_of, way_due}
+use Rattle.sd_belief.specs.View.{CoreView}
+use Rattle.sd_core.specs.Answering.{IsAnswered}
+use Rattle.sd_core.specs.Sound.{IsCore, IsHeaderOf, Parts}
+use Rattle.sd_core.proofs.WorkLemmas.{at_work}
+
+-- ---- the visits of an image
+
+either : (one other : Bool) → (one || other) ≡ false → (one ≡ false) × (other ≡ false)
+either true other is = absurd (both_ways true is refl)
+either false other is = (refl, is)
+
+-- none under a serial that no mark has
+pub no_visits : (items : Marked) (serial : ℕ) → list_any (is_of serial) items ≡ false → visits_of items serial ≡ []
+no_visits [] serial none = refl
+no_visits (Told entry ∷ items) serial none = no_visits items serial none
+no_visits (Noted (Start s) ∷ items) serial none = no_visits items serial (either (s == serial) (list_any (is_of serial) items) none).1
+no_visits (Noted (Visit s space page) ∷ items) serial none =
+    let both = either (s == serial) (list_any (is_of serial) items) none in
+    ap (λ b. if b then visits_of items serial ++ (record { place = (space, page); soft_dirty = is_due items space page }) ∷ [] else visits_of items serial) both.0
+    ∙ no_visits items serial both.1
+no_visits (Noted (Table s) ∷ items) serial none = no_visits items serial (either (s == serial) (list_any (is_of serial) items) none).1
+
+-- a visit finds whether the page is due
+pub visit_more : DueLaws → (base : Base) (items : Marked) (before after : Contents) (image next : Making) (visit : PageVisit) (serial : ℕ) → IsTracked base items before
+    → Visits image before visit next after
+    → visits_of (Noted (Visit serial visit.space visit.page) ∷ items) serial ≡ visits_after (Visited visit) (visits_of items serial)
+visit_more laws base items before after image next visit serial tracked v =
+    ap (λ b. if b then visits_of items serial ++ (record { place = (visit.space, visit.page); soft_dirty = is_due items visit.space visit.page }) ∷ [] else visits_of items serial)
+    (eq-eqb serial serial refl)
+    ∙ ap (λ d. visits_of items serial ++ (record { place = (visit.space, visit.page); soft_dirty = d }) ∷ [])
+    (sym (laws.bit base items before visit.space visit.page v.tests.page tracked v.tests.there) ∙ sym v.tests.bit)
+
+-- ---- a step of the image in the making
+
+same_order : (ticket : ℕ) (image next : Making) (before after : Contents) (step : ImageStep) → Steps ticket image before step next after → next.order ≡ image.order
+same_order ticket image next before after (Call request) s = ap (λ (m : Making). m.order) s.0.is
+same_order ticket image next before after (PageCall request) s = s.0.order
+same_order ticket image next before after (TableCall request) s = ap (λ (m : Making). m.order) s.0.is
+same_order ticket image next before after Frozen s = ap (λ (m : Making). m.order) s.0.is
+same_order ticket image next before after (Visited visit) s = ap (λ (m : Making). m.order) s.passes.1
+same_order ticket image next before after (Copied copied) s = ap (λ (m : Making). m.order) s.0.passes.1
+
+and_right : (one other : Bool) → (one && other) ≡ true → other ≡ true
+and_right true other is = is
+and_right false other is = absurd (both_ways false refl is)
+
+past_freeze : (image : Making) → is_frozen image ≡ true → is_past_freeze image.stage ≡ true
+past_freeze image is = and_right (kind_number image.order.kind == 2) (is_past_freeze image.stage) is
+
+pub step_little : LittleLaws → (base : Base) (items now : Marked) (before after : Contents) (number ticket : ℕ) (image next : Making) (step : ImageStep)
+    → Steps ticket image before step next after → IsRising image.pass → is_frozen next ≡ is_frozen image
+    → visits_of now image.order.serial ≡ visits_after step (visits_of items image.order.serial) → before_freeze now number ≡ before_freeze items number
+    → TakesLittle base items before number image → TakesLittle base now after number next
+step_little laws base items now before after number ticket image next step s rising still seen since was = record {
+  round = λ kind. subst (λ all. TakesVisited all next) (sym seen ∙ ap (λ (o : ImageOrder). visits_of now o.serial) (sym order))
+      (laws.visits ticket (visits_of items image.order.serial) image next before after step s (ap (λ (o : ImageOrder). o.kind) (sym order) ∙ kind)
+      (was.round (ap (λ (o : ImageOrder). o.kind) (sym order) ∙ kind)));
+  dump = λ is.
+      let d = was.dump (sym still ∙ is) in
+      record {
+        frozen = d.frozen;
+        before = since ∙ d.before;
+        cut = d.cut;
+        tracked = d.tracked;
+        takes = laws.steps ticket d.cut image next before after step s (past_freeze image (sym still ∙ is)) rising d.takes;
+      };
+}
+  where
+    order : next.order ≡ image.order
+    order = same_order ticket image next before after step s
+
+-- a call of a plan, or of a page's write, is no visit
+pub asks_no_visit : (step : ImageStep) (request : Asked) (all : List visits.Visit) → (step ≡ Call request) ⊎ (step ≡ PageCall request) → all ≡ visits_after step all
+asks_no_visit step request all (inl is) = subst (λ s. all ≡ visits_after s all) (sym is) refl
+asks_no_visit step request all (inr is) = subst (λ s. all ≡ visits_after s all) (sym is) refl
+
+-- the memory is frozen for it
+pub freeze_little : LittleLaws → (base : Base) (items : Marked) (before after : Contents) (number ticket : ℕ) (image next : Making)
+    → Steps ticket image before Frozen next after → image.order.kind ≡ Dump → IsTracked base items before
+    → TakesLittle base (Told (Freeze number) ∷ items) after number next
+freeze_little laws base items before after number ticket image next s kind tracked = record {
+  round = λ is. absurd (not_both (sym (ap (λ (o : ImageOrder). o.kind) (same_order ticket image next before after Frozen s) ∙ kind) ∙ is));
+  dump = λ is. record {
+    frozen = items;
+    before = ap (λ b. if b then Some items else before_freeze items number) (eq-eqb number number refl);
+    cut = before;
+    tracked = tracked;
+    takes = laws.freezes ticket image next before after s;
+  };
+}
+  where
+    not_both : Dump ≡ PreDump → ⊥
+    not_both e = cc
+
+-- an image that begins, with its first call
+pub begun_little : LittleLaws → (base : Base) (items : Marked) (before after : Contents) (number ticket : ℕ) (order : ImageOrder) (next : Making) (request : Asked)
+    → Steps ticket (begun_image order) before (Call request) next after → list_any (is_of order.serial) items ≡ false → is_frozen next ≡ false
+    → TakesLittle base (Noted (Start order.serial) ∷ items) after number next
+begun_little laws base items before after number ticket order next request s fresh not_yet = record {
+  round = λ kind. subst (λ all. TakesVisited all next) (sym (no_visits items order.serial fresh) ∙ ap (λ (o : ImageOrder). visits_of items o.serial) (sym same))
+      (laws.visits ticket [] (begun_image order) next before after (Call request) s (ap (λ (o : ImageOrder). o.kind) (sym same) ∙ kind) (laws.begins order));
+  dump = λ is. absurd (both_ways (is_frozen next) not_yet is);
+}
+  where
+    same : next.order ≡ order
+    same = same_order ticket (begun_image order) next before after (Call request) s
+
+-- an outcome with which it goes on
+pub more_little : LittleLaws → (base : Base) (items : Marked) (memory : Contents) (number : ℕ) (image next : Making) (made : Made)
+    → GoesOn image made next → is_frozen next ≡ is_frozen image → TakesLittle base items memory number image → TakesLittle base items memory number next
+more_little laws base items memory number image next made g still was = record {
+  round = λ kind. subst (λ (o : ImageOrder). TakesVisited (visits_of items o.serial) next) (sym order)
+      (laws.goes_on (visits_of items image.order.serial) image next made g (was.round (ap (λ (o : ImageOrder). o.kind) (sym order) ∙ kind)));
+  dump = λ is.
+      let d = was.dump (sym still ∙ is) in
+      record {
+        frozen = d.frozen;
+        before = d.before;
+        cut = d.cut;
+        tracked = d.tracked;
+        takes = laws.hands d.cut image next memory made g (past_freeze image (sym still ∙ is)) d.takes;
+      };
+}
+  where
+    order : next.order ≡ image.order
+    order = ap (λ (m : Making). m.order) g.is
+
+-- ---- a command was journaled
+
+applied_image : (base : Base) (items : Marked) (old new : Contents) (number : ℕ) (image : Making) (seat : ℕ) (command : Command) (reply : Reply)
+    → (is_frozen image ≡ true → new ≡ old) → TakesLittle base items old number image → TakesLittle base (Told (Applied seat command reply) ∷ items) new number image
+applied_image base items old new number image seat command reply same was = record {
+  round = λ kind. was.round kind;
+  dump = λ is.
+      let d = was.dump is in
+      record { frozen = d.frozen; before = d.before; cut = d.cut; tracked = d.tracked; takes = subst (λ m. TakesDue d.cut image m) (sym (same is)) d.takes };
+}
+
+applied_of : (base : Base) (items : Marked) (old new : Contents) (number : ℕ) (image : Option Making) (seat : ℕ) (command : Command) (reply : Reply)
+    → ((making : Making) → image ≡ Some making → is_frozen making ≡ true → new ≡ old) → IfSome image (TakesLittle base items old number)
+    → IfSome image (TakesLittle base (Told (Applied seat command reply) ∷ items) new number)
+applied_of base items old new number None seat command reply same was = tt
+applied_of base items old new number (Some image) seat command reply same was = applied_image base items old new number image seat command reply (same image refl) was
+
+pub applied_little : (base : Base) (items : Marked) (old new : Contents) (running : Option Running) (seat : ℕ) (command : Command) (reply : Reply)
+    → ((r : Running) (making : Making) → running ≡ Some r → r.image ≡ Some making → is_frozen making ≡ true → new ≡ old) → IfSome running (HasLittle base items old)
+    → IfSome running (HasLittle base (Told (Applied seat command reply) ∷ items) new)
+applied_little base items old new None seat command reply same was = tt
+applied_little base items old new (Some running) seat command reply same was =
+    applied_of base items old new running.number running.image seat command reply (λ making. same running making refl) was
+
+-- a command that comes while the memory is frozen changes nothing
+pub still_while_frozen : (core : Parts) (new : Contents) (command : Command) (reply : Reply) → IsCore core → IsAnswered (is_some core.frozen) command reply core.memory new
+    → (running : Running) (making : Making) → core.dumper.running ≡ Some running → running.image ≡ Some making → is_frozen making ≡ true → new ≡ core.memory
+still_while_frozen core new command reply sound answered running making was is frozen = (subst (λ f. IsAnswered (is_some f) command reply core.memory new) pends answered).1
+  where
+    pends : core.frozen ≡ Some running.number
+    pends = (at_work core running sound was).pends ∙ ap (λ i. if is_frozen_image i then Some running.number else None) is
+        ∙ ap (λ b. if b then Some running.number else None) frozen
+
+-- ---- the image that is open
+
+-- the way in which a page is due at the freeze, by the marked journal
+due_is_way : PlainLaw → DueLaws → (base : Base) (frozen : Marked) (cut : Contents) → IsTracked base frozen cut → (whole : Bool) (at : Place)
+    → due whole (page_at cut at.0 at.1) ≡ way_due whole base frozen at
+due_is_way law dues base frozen cut tracked whole at =
+    by (page_at cut at.0 at.1) refl
+    ∙ ap (option_map (λ (page : plain.Page). if whole || is_due frozen at.0 at.1 then kind_of_bytes page.bytes else Parent))
+    (sym (law.pages cut at.0 at.1) ∙ ap (λ m. value_at m at.0 at.1) tracked.memory)
+  where
+    by : (o : Option Page) → page_at cut at.0 at.1 ≡ o
+        → due whole o ≡ option_map (λ (page : plain.Page). if whole || is_due frozen at.0 at.1 then kind_of_bytes page.bytes else Parent) (option_map plain_page o)
+    by None there = refl
+    by (Some page) there = ap (λ b. Some (if whole || b then kind_of_bytes page.bytes else Parent)) (dues.bit base frozen cut at.0 at.1 page tracked there)
+
+-- an image without a parent takes every page
+whole_is : (image : Making) (header : Header) → IsSoundImage image → IsHeaderOf image.order header → image.pass.takes_all ≡ (header.parent == 0)
+whole_is image header sound now = sound.takes ∙ ap (λ p. p == 0) (sym now.parent)
+
+-- the last image of a checkpoint is a dump, and is open once the memory was frozen
+frozen_open : (running : Running) (image : Making) (made : Made) (opened : NewImage) → is_last running ≡ true
+    → image.order ≡ order_of running image.order.serial image.order.state → Opens image made opened → is_frozen image ≡ true
+frozen_open running image made opened last own o =
+    ap (λ (m : ImageOrder). (kind_number m.kind == 2) && is_past_freeze image.stage) own
+    ∙ ap (λ b. (kind_number (if b then Dump else PreDump) == 2) && is_past_freeze image.stage) last
+    ∙ ap is_past_freeze o.was
+
+pub record DumpWays (base : Base) (items : Marked) (number : ℕ) (opened : NewImage) : Type 0 where
+  pub frozen : Marked
+  pub before : before_freeze items number ≡ Some frozen
+  pub ways : (kind : RunKind) (at : Place) → Contains (pages_of kind opened.table) at ↔ way_due (opened.header.parent == 0) base frozen at ≡ Some kind
+
+pub dump_ways : LittleLaws → PlainLaw → DueLaws → (base : Base) (items : Marked) (memory : Contents) (running : Running) (image : Making) (made : Made) (opened : NewImage)
+    → is_last running ≡ true → image.order ≡ order_of running image.order.serial image.order.state → Opens image made opened → IsSoundImage image
+    → IsHeaderOf image.order opened.header → TakesLittle base items memory running.number image → DumpWays base items running.number opened
+dump_ways laws law dues base items memory running image made opened last own o sound now was = record {
+  frozen = d.frozen;
+  before = d.before;
+  ways = λ kind at.
+      subst (λ way. Contains (pages_of kind opened.table) at ↔ way ≡ Some kind) (same at)
+      (laws.opens d.cut image made opened memory o sound.rising d.takes kind at);
+}
+  where
+    d : IsFrozenFor base items memory running.number image
+    d = was.dump (frozen_open running image made opened last own o)
+
+    same : (at : Place) → due image.pass.takes_all (page_at d.cut at.0 at.1) ≡ way_due (opened.header.parent == 0) base d.frozen at
+    same at = due_is_way law dues base d.frozen d.cut d.tracked image.pass.takes_all at
+        ∙ ap (λ b. way_due b base d.frozen at) (whole_is image opened.header sound now)
+
+-- what stood before a freeze makes the memory at it
+pub freeze_memory : (base : Base) (items frozen : Marked) (n : ℕ) → before_freeze items n ≡ Some frozen → at_freeze base (entries_of items) n ≡ Some (memory_at base frozen)
+freeze_memory base [] frozen n is = absurd (let no : None ≡ Some frozen = is in cc)
+freeze_memory base (Noted mark ∷ items) frozen n is = freeze_memory base items frozen n is
+freeze_memory base (Told (Applied seat command reply) ∷ items) frozen n is = freeze_memory base items frozen n is
+freeze_memory base (Told (Freeze m) ∷ items) frozen n is = by (m == n) is (freeze_memory base items frozen n)
+  where
+    by : (b : Bool) → (if b then Some items else before_freeze items n) ≡ Some frozen
+        → (before_freeze items n ≡ Some frozen → at_freeze base (entries_of items) n ≡ Some (memory_at base frozen))
+        → (if b then Some (memory_after base (entries_of items)) else at_freeze base (entries_of items) n) ≡ Some (memory_at base frozen)
+    by true e rest = ap (λ all. Some (memory_at base all)) (same_Some items frozen e)
+    by false e rest = rest e
+freeze_memory base (Told (Acked m) ∷ items) frozen n is = freeze_memory base items frozen n is
+freeze_memory base (Told (Cancelled m) ∷ items) frozen n is = freeze_memory base items frozen n is
+freeze_memory base (Told (Reopened m) ∷ items) frozen n is = freeze_memory base items frozen n is
+
+-- the same of a view and its number
+pub seen_before : (seen old : CoreView) (own n : ℕ) (frozen : Marked) → seen ≡ old → own ≡ n → before_freeze seen.items own ≡ Some frozen → before_freeze old.items n ≡ Some frozen
+seen_before seen old own n frozen same named was = subst (λ (v : CoreView). before_freeze v.items n ≡ Some frozen) same (subst (λ m. before_freeze seen.items m ≡ Some frozen) named was)
+
+pub round_took : LittleLaws → (base : Base) (items : Marked) (memory : Contents) (running : Running) (image : Making) (made : Made) (opened : NewImage)
+    → is_last running ≡ false → image.order ≡ order_of running image.order.serial image.order.state → Opens image made opened → IsSoundImage image
+    → IsHeaderOf image.order opened.header → TakesLittle base items memory running.number image
+    → TookVisited (opened.header.parent == 0) (visits_of items opened.header.serial) opened.table
+round_took laws base items memory running image made opened more own o sound now was =
+    subst (λ b. TookVisited b (visits_of items opened.header.serial) opened.table) (whole_is image opened.header sound now)
+    (subst (λ s. TookVisited image.pass.takes_all (visits_of items s) opened.table) (sym now.serial)
+    (laws.took (visits_of items image.order.serial) image made opened o (was.round kind)))
+  where
+    kind : image.order.kind ≡ PreDump
+    kind = ap (λ (m : ImageOrder). m.kind) own ∙ ap (λ b. if b then Dump else PreDump) more
+
+-- where no image is being made
+pub none_little : (base : Base) (items : Marked) (memory : Contents) (running : Running) → running.image ≡ None → HasLittle base items memory running
+none_little base items memory running none = subst (λ i. IfSome i (TakesLittle base items memory running.number)) (sym none) tt
+
+-- of the image that is being made
+pub little_of : (base : Base) (items : Marked) (memory : Contents) (all : Option Running) (running : Running) (image : Making) → IfSome all (HasLittle base items memory)
+    → all ≡ Some running → running.image ≡ Some image → TakesLittle base items memory running.number image
+little_of base items memory all running image was is making =
+    subst (λ i. IfSome i (TakesLittle base items memory running.number)) making (subst (λ r. IfSome r (HasLittle base items memory)) is was)
