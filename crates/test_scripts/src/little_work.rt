@@ -1,5 +1,6 @@
 //! Which pages the images of a checkpoint have: those that were touched since their last visit.
-use crate::run::{file, fresh, listed};
+use crate::run::{file, fresh, is_listed};
+use sd_disk::Disk;
 use std::process::Abort;
 use std::test::Fail;
 
@@ -106,14 +107,36 @@ const TAKEN: [Taken; 4] = [
     FORK_BETWEEN_ROUNDS,
 ];
 
+/// The last image has this table, behind its header and its pages.
+fn has_table<D: Disk>(
+    rt: &(impl Abort + AllocGlobal),
+    disk: &mut D,
+    taken: Taken,
+) -> Result<(), Fail> {
+    let bytes = file(rt, rt.alloc(), disk, taken.slot)?;
+    let text = hex::encode(rt.alloc(), &bytes)?;
+    assert!(rt; text.as_str().ends_with(taken.table), "{}", taken.listed);
+    Ok(())
+}
+
+fn has_taken<D: Disk>(
+    rt: &(impl Abort + AllocGlobal),
+    disk: &mut D,
+    taken: Taken,
+) -> Result<(), Fail> {
+    is_listed(rt, disk, taken.listed)?;
+    has_table(rt, disk, taken)
+}
+
+fn takes(rt: &(impl Abort + AllocGlobal), taken: Taken) -> Result<(), Fail> {
+    let mut disk = fresh(rt, taken.rows)?;
+    has_taken(rt, &mut disk, taken)
+}
+
 #[test]
 fn images_have_what_was_touched(rt: HostRuntime) -> Result<(), Fail> {
     for taken in TAKEN {
-        let mut disk = fresh(&rt, taken.rows)?;
-        assert_eq!(rt; listed(rt.alloc(), &mut disk)?.as_str(), taken.listed);
-        let bytes = file(&rt, rt.alloc(), &mut disk, taken.slot)?;
-        let text = hex::encode(rt.alloc(), &bytes)?;
-        assert!(rt; text.as_str().ends_with(taken.table), "{}", taken.listed);
+        takes(&rt, taken)?;
     }
     Ok(())
 }
