@@ -2,6 +2,7 @@ use Rattle.std.proofs.Common.{◌≡◌, length, Some, None, IfSome, refl, sym, 
 use Rattle.std.proofs.lemmas.Option.{same_Some}
 use Rattle.sd_areas.specs.Memory.{memory_of}
 use Rattle.sd_gate.specs.declared.worker.Worker.TheVariants as its
+use Rattle.sd_command.specs.declared.refusal.Refusal.TheVariants.{Damaged as DamagedStore}
 use Rattle.sd_command.specs.declared.reply.Reply.TheVariants as reply
 use Rattle.sd_journal.specs.History.{Base}
 use Rattle.sd_opener.specs.Looking.{Looking, out_of}
@@ -10,7 +11,7 @@ use Rattle.sd_belief.specs.View.{CoreView}
 use Rattle.sd_core.specs.Sound.{AreNumbers, IsOpening, held_for, out_of_opener}
 use Rattle.sd_core.proofs.CoreLemmas.{held_idle, held_opening, nobody_is, none_out}
 use Rattle.sd_core.proofs.JournalLemmas.{found_used, reopened_journal, reopened_numbers}
-use Rattle.sd_core.proofs.OpeningLemmas.{starts_anew, step_seen}
+use Rattle.sd_core.proofs.OpeningLemmas.{ends_refused, starts_anew, step_seen}
 use Rattle.sd_core.proofs.WorkLemmas.{none_closed, none_works}
 use Rattle.sd_core.proofs.state.Core.finish_opening.Goals as goal
 
@@ -43,6 +44,19 @@ invariant_of-self-2 c =
       work = none_works _ c.self.inside.dumper.running none;
       little = none_works _ c.self.inside.dumper.running none;
     }
+
+pub returns-in_default-read_by-clause-takes : goal.returns-in_default-read_by-clause-takes
+returns-in_default-read_by-clause-takes c =
+    let o = c.in-Some.opener in
+    let is : c.self.inside.opener ≡ Some o = sym c.take_opener.ensures.taken ∙ c.in-Some.is in
+    let opening = subst (λ x. IfSome x (IsOpening c.self.inside.standing c.self.inside.phases.items)) is c.self.invariant.opening in
+    step_seen its.Opener (reply.Refused DamagedStore) _ _ _ c.self.view_is
+    (ends_refused c.opener_steps.ensures _ _ DamagedStore (record {
+      rest = record { closed = opening.closed; base = refl; items = c.release_for_opening.ensures.items; memory = refl; standing = refl; catalog = refl; dumper = refl; numbers = refl; grows = refl; committing = refl };
+      outs = refl;
+      phases = refl;
+      opener = c.take_opener.ensures.left;
+    }))
 
 pub returns-clause-takes : goal.returns-clause-takes
 returns-clause-takes c =
