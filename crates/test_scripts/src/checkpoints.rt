@@ -187,7 +187,7 @@ fn is_hex(rt: &(impl Abort + AllocGlobal), bytes: &[u8], digits: &str) -> Result
 /// The bytes of the first image: the header, the page and the table.
 fn is_first(rt: &(impl Abort + AllocGlobal), bytes: &[u8]) -> Result<(), Fail> {
     assert_eq!(rt; bytes.len(), 8264);
-    is_hex(rt, &bytes[..64], HEADER)?;
+    is_hex(rt, bytes.get(..64).ok_or("a header")?, HEADER)?;
     assert!(rt; bytes[64..4096].iter().all(|byte| *byte == 0));
     assert_eq!(rt; &bytes[4096..4101], b"hello".as_slice());
     assert!(rt; bytes[4101..8192].iter().all(|byte| *byte == 0));
