@@ -123,20 +123,41 @@ pub(crate) fn file(alloc: Global, header: Header, filled: Option<u8>) -> Result<
     }
 }
 
+/// An image with page 0x10 of space 1: its header, and what `file` takes.
+pub(crate) type Image = (Header, Option<u8>);
+
+const FIRST_DUMP: Header = Header {
+    kind: Kind::Dump,
+    serial: 1,
+    stands_for: 1,
+    parent: 0,
+    checkpoint: 1,
+    pages: 0,
+    table_len: 0,
+};
+
+const SECOND_DUMP: Header = Header {
+    serial: 2,
+    stands_for: 2,
+    parent: 1,
+    checkpoint: 2,
+    ..FIRST_DUMP
+};
+
 /// A dump of serial 1 with a data page filled with 7.
-pub(crate) fn first(alloc: Global) -> Result<Vec<u8>, Fail> {
-    file(alloc, dump(1, 1, 0), Some(7))
-}
+pub(crate) const FIRST: Image = (FIRST_DUMP, Some(7));
 
 /// A dump of serial 2, whose page is in the first.
-pub(crate) fn second(alloc: Global) -> Result<Vec<u8>, Fail> {
-    file(alloc, dump(2, 2, 1), None)
-}
+pub(crate) const SECOND: Image = (SECOND_DUMP, None);
+
+const THIRD: Header = Header {
+    kind: Kind::Merged,
+    serial: 3,
+    ..FIRST_DUMP
+};
 
 /// A merged image of serial 3 that stands for the first, with a data page filled with 9.
-pub(crate) fn third_merged(alloc: Global) -> Result<Vec<u8>, Fail> {
-    file(alloc, merged(3, 1, 1), Some(9))
-}
+pub(crate) const THIRD_MERGED: Image = (THIRD, Some(9));
 
 /// Writes some bytes into a slot's file.
 pub(crate) fn put<D: Disk>(
@@ -151,11 +172,28 @@ pub(crate) fn put<D: Disk>(
     Ok(())
 }
 
-/// A disk of four slots, the first of them with these files.
-pub(crate) fn store(rt: &(impl Abort + AllocGlobal), files: &[Vec<u8>]) -> Result<MemDisk, Fail> {
+/// A disk of four slots, the first of them with this file.
+pub(crate) fn store(rt: &(impl Abort + AllocGlobal), file: &[u8]) -> Result<MemDisk, Fail> {
     let mut disk = MemDisk::new(rt.alloc(), 4, 80_000, 64)?;
-    for (slot, file) in files.iter().enumerate() {
-        put(rt, &mut disk, slot, 0, file)?;
+    put(rt, &mut disk, 0, 0, file)?;
+    Ok(disk)
+}
+
+fn put_images(
+    rt: &impl Abort,
+    alloc: Global,
+    disk: &mut MemDisk,
+    images: &[Image],
+) -> Result<(), Fail> {
+    for (slot, (header, filled)) in images.iter().enumerate() {
+        put(rt, disk, slot, 0, &file(alloc, *header, *filled)?)?;
     }
+    Ok(())
+}
+
+/// A disk of four slots, the first of them with files of these images.
+pub(crate) fn store_of(rt: &(impl Abort + AllocGlobal), images: &[Image]) -> Result<MemDisk, Fail> {
+    let mut disk = MemDisk::new(rt.alloc(), 4, 80_000, 64)?;
+    put_images(rt, rt.alloc(), &mut disk, images)?;
     Ok(disk)
 }

@@ -1,18 +1,34 @@
 //! Catalogs of images, and where their chains have a page.
 use crate::builders::{SPACE, dump, merged, page, pre_dump, runs, table};
 use sd_areas::SpaceId;
-use sd_chain::{Catalog, CatalogError, Found, OpenImage, PlacedTable, Trace, TraceRun, Way};
+use sd_chain::{Catalog, CatalogError, Chain, Found, OpenImage, PlacedTable, Trace, TraceRun, Way};
 use sd_image::{Header, RunKind};
 use std::alloc::{AllocError, Global};
+use std::process::Abort;
 use std::test::Fail;
 
-/// A table of space 1 with runs of these first pages, counts and kinds; of no space where there are none.
-fn placed(alloc: Global, rows: &[(u64, u64, RunKind)]) -> Result<PlacedTable, Fail> {
-    let spaces = u64::from(!rows.is_empty());
+/// A table of the spaces up to a number, each with runs of these first pages, counts and kinds.
+fn placed(alloc: Global, spaces: u64, rows: &[(u64, u64, RunKind)]) -> Result<PlacedTable, Fail> {
     let table = table(alloc, spaces, &runs(alloc, rows)?)?;
     Ok(PlacedTable::new(alloc, table)?)
 }
 
+/// Adds an image of so many spaces with these runs.
+fn add_spaces(
+    catalog: &mut Catalog,
+    alloc: Global,
+    slot: usize,
+    header: Header,
+    spaces: u64,
+    rows: &[(u64, u64, RunKind)],
+) -> Result<(), Fail> {
+    catalog
+        .add(slot, header, placed(alloc, spaces, rows)?)
+        .map_err(|_| "the image is taken")?;
+    Ok(())
+}
+
+/// Adds an image of space 1 with these runs, or of no space where there are none.
 fn add(
     catalog: &mut Catalog,
     alloc: Global,
@@ -20,10 +36,8 @@ fn add(
     header: Header,
     rows: &[(u64, u64, RunKind)],
 ) -> Result<(), Fail> {
-    catalog
-        .add(slot, header, placed(alloc, rows)?)
-        .map_err(|_| "the image is taken")?;
-    Ok(())
+    let spaces = u64::from(!rows.is_empty());
+    add_spaces(catalog, alloc, slot, header, spaces, rows)
 }
 
 const STORED: &[(u64, u64, RunKind)] = &[(0x10, 1, RunKind::Data)];
@@ -61,53 +75,98 @@ fn found_for(catalog: &Catalog, number: u64) -> Option<u64> {
     Some(catalog.find(number)?.header().serial)
 }
 
-#[test]
-fn a_parent_run_is_followed(rt: HostRuntime) -> Result<(), Fail> {
-    let catalog = two_dumps(rt.alloc())?;
-    for (serial, number, found) in [
+/// The chains of images have pages at these places.
+fn has_pages(
+    rt: &impl Abort,
+    catalog: &Catalog,
+    rows: &[(u64, u64, Option<Found>)],
+) -> Result<(), Fail> {
+    for (serial, number, found) in rows {
+        assert_eq!(rt; resolved(catalog, *serial, *number)?, *found);
+    }
+    Ok(())
+}
+
+/// The chain of an image goes through these serials.
+fn goes_through(
+    rt: &impl Abort,
+    catalog: &Catalog,
+    serial: u64,
+    serials: &[u64],
+) -> Result<(), Fail> {
+    assert_eq!(rt; catalog.reachable(serial)?.as_slice(), serials);
+    Ok(())
+}
+
+fn follows_a_parent_run(rt: &impl Abort, catalog: &Catalog) -> Result<(), Fail> {
+    let rows = [
         (2, 0x10, in_slot(0)),
         (1, 0x10, in_slot(0)),
         (2, 0x11, None),
         (3, 0x10, None),
-    ] {
-        assert_eq!(rt; resolved(&catalog, serial, number)?, found);
-    }
+    ];
+    has_pages(rt, catalog, &rows)?;
     assert_eq!(rt; catalog.resolve(2, SpaceId::new(2), page(0x10)?), None);
-    assert_eq!(rt; tip_of(&catalog), Some(2));
-    assert_eq!(rt; catalog.reachable(2)?.as_slice(), [2, 1].as_slice());
-    assert_eq!(rt; catalog.reachable(3)?.as_slice(), [].as_slice());
-    Ok(())
+    assert_eq!(rt; tip_of(catalog), Some(2));
+    goes_through(rt, catalog, 2, &[2, 1])?;
+    goes_through(rt, catalog, 3, &[])
 }
 
-/// A dump of four pages, and one that has the second of them itself: three runs, whether the pages rise or fall.
 #[test]
-fn pages_that_lie_alike_are_traced_at_once(rt: HostRuntime) -> Result<(), Fail> {
-    let mut catalog = Catalog::new(rt.alloc());
-    add(
-        &mut catalog,
-        rt.alloc(),
-        0,
-        dump(1, 1, 0),
-        &[(0x10, 4, RunKind::Data)],
-    )?;
-    let newer = [
-        (0x10, 1, RunKind::Parent),
-        (0x11, 1, RunKind::Data),
-        (0x12, 3, RunKind::Parent),
-    ];
-    add(&mut catalog, rt.alloc(), 1, dump(2, 2, 1), &newer)?;
-    let data = |slot: usize, offset: u64| Trace::Found(Found::Data { slot, offset });
+fn a_parent_run_is_followed(rt: HostRuntime) -> Result<(), Fail> {
+    let catalog = two_dumps(rt.alloc())?;
+    follows_a_parent_run(&rt, &catalog)
+}
+
+/// A page's number, and what is traced of it and at most four pages behind it.
+const ALIKE: [(u64, Trace, u64); 7] = [
+    (
+        0x10,
+        Trace::Found(Found::Data {
+            slot: 0,
+            offset: 4096,
+        }),
+        1,
+    ),
+    (
+        0x11,
+        Trace::Found(Found::Data {
+            slot: 1,
+            offset: 4096,
+        }),
+        1,
+    ),
+    (
+        0x12,
+        Trace::Found(Found::Data {
+            slot: 0,
+            offset: 4096 * 3,
+        }),
+        2,
+    ),
+    (0x14, Trace::Broken { slot: 1 }, 1),
+    (0x15, Trace::Absent, 1),
+    (
+        0x12,
+        Trace::Found(Found::Data {
+            slot: 0,
+            offset: 4096 * 3,
+        }),
+        2,
+    ),
+    (
+        0x10,
+        Trace::Found(Found::Data {
+            slot: 0,
+            offset: 4096,
+        }),
+        1,
+    ),
+];
+
+fn traces_alike(rt: &impl Abort, chain: &mut Chain<'_>) -> Result<(), Fail> {
     let space = SpaceId::new(SPACE);
-    let mut chain = catalog.chain(2)?;
-    for (number, trace, count) in [
-        (0x10, data(0, 4096), 1),
-        (0x11, data(1, 4096), 1),
-        (0x12, data(0, 4096 * 3), 2),
-        (0x14, Trace::Broken { slot: 1 }, 1),
-        (0x15, Trace::Absent, 1),
-        (0x12, data(0, 4096 * 3), 2),
-        (0x10, data(0, 4096), 1),
-    ] {
+    for (number, trace, count) in ALIKE {
         assert_eq!(rt;
             chain.trace(space, page(number)?, 5),
             TraceRun { trace, count }
@@ -121,18 +180,72 @@ fn pages_that_lie_alike_are_traced_at_once(rt: HostRuntime) -> Result<(), Fail> 
     Ok(())
 }
 
+fn is_traced_at_once(rt: &impl Abort, catalog: &Catalog) -> Result<(), Fail> {
+    let mut chain = catalog.chain(2)?;
+    traces_alike(rt, &mut chain)
+}
+
+/// A dump of four pages, and one that has the second of them itself: three runs, whether the pages rise or fall.
+#[test]
+fn pages_that_lie_alike_are_traced_at_once(rt: HostRuntime) -> Result<(), Fail> {
+    let mut catalog = Catalog::new(rt.alloc());
+    let older = [(0x10, 4, RunKind::Data)];
+    let newer = [
+        (0x10, 1, RunKind::Parent),
+        (0x11, 1, RunKind::Data),
+        (0x12, 3, RunKind::Parent),
+    ];
+    add(&mut catalog, rt.alloc(), 0, dump(1, 1, 0), &older)?;
+    add(&mut catalog, rt.alloc(), 1, dump(2, 2, 1), &newer)?;
+    is_traced_at_once(&rt, &catalog)
+}
+
+fn is_merged_and_removed(
+    rt: &impl Abort,
+    alloc: Global,
+    catalog: &mut Catalog,
+) -> Result<(), Fail> {
+    add(catalog, alloc, 2, merged(3, 1, 1), STORED)?;
+    assert_eq!(rt; resolved(catalog, 2, 0x10)?, in_slot(2));
+    assert_eq!(rt; found_for(catalog, 1), Some(3));
+    assert_eq!(rt; found_for(catalog, 3), None);
+    assert_eq!(rt; tip_of(catalog), Some(2));
+    goes_through(rt, catalog, 2, &[2, 3])?;
+    catalog.remove(2);
+    assert_eq!(rt; found_for(catalog, 1), Some(1));
+    Ok(())
+}
+
 /// Two images stand for one number: the greater serial is meant.
 #[test]
 fn a_merged_image_takes_the_number(rt: HostRuntime) -> Result<(), Fail> {
     let mut catalog = two_dumps(rt.alloc())?;
-    add(&mut catalog, rt.alloc(), 2, merged(3, 1, 1), STORED)?;
-    assert_eq!(rt; resolved(&catalog, 2, 0x10)?, in_slot(2));
-    assert_eq!(rt; found_for(&catalog, 1), Some(3));
-    assert_eq!(rt; found_for(&catalog, 3), None);
-    assert_eq!(rt; tip_of(&catalog), Some(2));
-    assert_eq!(rt; catalog.reachable(2)?.as_slice(), [2, 3].as_slice());
-    catalog.remove(2);
-    assert_eq!(rt; found_for(&catalog, 1), Some(1));
+    is_merged_and_removed(&rt, rt.alloc(), &mut catalog)
+}
+
+/// A page's chain, and what is traced of it.
+const APART: [(u64, u64, Trace); 4] = [
+    (
+        3,
+        0x10,
+        Trace::Found(Found::Data {
+            slot: 0,
+            offset: 4096,
+        }),
+    ),
+    (3, 0x11, Trace::Broken { slot: 5 }),
+    (3, 0x12, Trace::Absent),
+    (4, 0x10, Trace::Absent),
+];
+
+fn is_told_apart(rt: &impl Abort, catalog: &mut Catalog) -> Result<(), Fail> {
+    for (serial, number, trace) in APART {
+        assert_eq!(rt; traced(catalog, serial, number)?, trace);
+    }
+    catalog.remove(0);
+    assert_eq!(rt; traced(catalog, 3, 0x10)?, Trace::Broken { slot: 1 });
+    catalog.remove(1);
+    assert_eq!(rt; traced(catalog, 3, 0x10)?, Trace::Broken { slot: 5 });
     Ok(())
 }
 
@@ -143,46 +256,34 @@ fn a_broken_chain_is_told_apart(rt: HostRuntime) -> Result<(), Fail> {
     let mut catalog = two_dumps(rt.alloc())?;
     let two = [(0x10, 2, RunKind::Parent)];
     add(&mut catalog, rt.alloc(), 5, dump(3, 3, 2), &two)?;
-    let in_a = Found::Data {
-        slot: 0,
-        offset: 4096,
-    };
-    for (serial, number, trace) in [
-        (3, 0x10, Trace::Found(in_a)),
-        (3, 0x11, Trace::Broken { slot: 5 }),
-        (3, 0x12, Trace::Absent),
-        (4, 0x10, Trace::Absent),
-    ] {
-        assert_eq!(rt; traced(&catalog, serial, number)?, trace);
-    }
-    catalog.remove(0);
-    assert_eq!(rt; traced(&catalog, 3, 0x10)?, Trace::Broken { slot: 1 });
-    catalog.remove(1);
-    assert_eq!(rt; traced(&catalog, 3, 0x10)?, Trace::Broken { slot: 5 });
+    is_told_apart(&rt, &mut catalog)
+}
+
+fn hold(catalog: &mut Catalog, serial: u64) -> Result<(), Fail> {
+    catalog.hold(serial).map_err(|_| "a place")?;
+    Ok(())
+}
+
+fn greatest(catalog: &Catalog) -> (u64, u64) {
+    (catalog.greatest_serial(), catalog.greatest_checkpoint())
+}
+
+fn finds_the_greatest(rt: &impl Abort, alloc: Global, catalog: &mut Catalog) -> Result<(), Fail> {
+    assert_eq!(rt; greatest(catalog), (0, 0));
+    add(catalog, alloc, 0, dump(7, 1, 0), STORED)?;
+    add(catalog, alloc, 1, dump(5, 9, 7), IN_PARENT)?;
+    hold(catalog, 30)?;
+    assert_eq!(rt; greatest(catalog), (7, 9));
     Ok(())
 }
 
 /// The greatest numbers need not be those of one image; a held serial isn't among them.
 #[test]
 fn the_greatest_numbers_are_found(rt: HostRuntime) -> Result<(), Fail> {
-    let mut catalog = Catalog::new(rt.alloc());
-    assert_eq!(rt;
-        (catalog.greatest_serial(), catalog.greatest_checkpoint()),
-        (0, 0)
-    );
-    add(&mut catalog, rt.alloc(), 0, dump(7, 1, 0), STORED)?;
-    add(&mut catalog, rt.alloc(), 1, dump(5, 9, 7), IN_PARENT)?;
-    catalog.hold(30).map_err(|_| "a place")?;
-    assert_eq!(rt;
-        (catalog.greatest_serial(), catalog.greatest_checkpoint()),
-        (7, 9)
-    );
-    Ok(())
+    finds_the_greatest(&rt, rt.alloc(), &mut Catalog::new(rt.alloc()))
 }
 
-#[test]
-fn a_parent_is_found_by_its_number(rt: HostRuntime) -> Result<(), Fail> {
-    let catalog = two_dumps(rt.alloc())?;
+fn finds_a_parent(rt: &impl Abort, catalog: &Catalog) -> Result<(), Fail> {
     let first = catalog.image(1).ok_or("the first")?;
     let second = catalog.image(2).ok_or("the second")?;
     let parent = catalog.parent(second).map(|image| image.slot());
@@ -192,13 +293,46 @@ fn a_parent_is_found_by_its_number(rt: HostRuntime) -> Result<(), Fail> {
 }
 
 #[test]
-fn a_missing_parent_has_nothing(rt: HostRuntime) -> Result<(), Fail> {
-    let mut catalog = two_dumps(rt.alloc())?;
+fn a_parent_is_found_by_its_number(rt: HostRuntime) -> Result<(), Fail> {
+    let catalog = two_dumps(rt.alloc())?;
+    finds_a_parent(&rt, &catalog)
+}
+
+/// How many images are listed.
+fn listed(catalog: &Catalog) -> Result<usize, AllocError> {
+    Ok(catalog.list()?.len())
+}
+
+fn has_nothing(rt: &impl Abort, catalog: &mut Catalog) -> Result<(), Fail> {
     catalog.remove(0);
     catalog.remove(7);
-    assert_eq!(rt; resolved(&catalog, 2, 0x10)?, None);
-    assert_eq!(rt; catalog.reachable(2)?.as_slice(), [2].as_slice());
-    assert_eq!(rt; catalog.list()?.len(), 1);
+    assert_eq!(rt; resolved(catalog, 2, 0x10)?, None);
+    goes_through(rt, catalog, 2, &[2])?;
+    assert_eq!(rt; listed(catalog)?, 1);
+    Ok(())
+}
+
+#[test]
+fn a_missing_parent_has_nothing(rt: HostRuntime) -> Result<(), Fail> {
+    let mut catalog = two_dumps(rt.alloc())?;
+    has_nothing(&rt, &mut catalog)
+}
+
+/// A page of some runs, and its place among the data pages.
+const PLACES: [(u64, u64); 5] = [(2, 0), (4, 2), (7, 3), (9, 4), (12, 7)];
+
+fn has_places(rt: &impl Abort, catalog: &Catalog) -> Result<(), Fail> {
+    for (number, place) in PLACES {
+        let found = Some(Found::Data {
+            slot: 5,
+            offset: 4096 + 4096 * place,
+        });
+        assert_eq!(rt; resolved(catalog, 1, number)?, found);
+    }
+    assert_eq!(rt; resolved(catalog, 1, 6)?, Some(Found::Zero));
+    for number in [0, 1, 8, 13] {
+        assert_eq!(rt; resolved(catalog, 1, number)?, None);
+    }
     Ok(())
 }
 
@@ -213,47 +347,78 @@ fn places_go_over_all_runs(rt: HostRuntime) -> Result<(), Fail> {
         (9, 4, RunKind::Data),
     ];
     add(&mut catalog, rt.alloc(), 5, dump(1, 1, 0), &rows)?;
-    for (number, place) in [(2, 0), (4, 2), (7, 3), (9, 4), (12, 7)] {
-        let found = Some(Found::Data {
-            slot: 5,
-            offset: 4096 + 4096 * place,
-        });
-        assert_eq!(rt; resolved(&catalog, 1, number)?, found);
-    }
-    assert_eq!(rt; resolved(&catalog, 1, 6)?, Some(Found::Zero));
-    for number in [0, 1, 8, 13] {
-        assert_eq!(rt; resolved(&catalog, 1, number)?, None);
+    has_places(&rt, &catalog)
+}
+
+/// Adds a chain of sixty images, whose serials begin at 1,000.
+fn add_sixty(catalog: &mut Catalog, alloc: Global) -> Result<(), Fail> {
+    let bottom = [(3, 1, RunKind::Zero), (4, 1, RunKind::Data)];
+    add(catalog, alloc, 0, dump(1000, 1, 0), &bottom)?;
+    for slot in 1..60 {
+        let rows = [(3, 2, RunKind::Parent)];
+        let header = pre_dump(1000 + slot as u64, 1, 999 + slot as u64);
+        add(catalog, alloc, slot, header, &rows)?;
     }
     Ok(())
 }
 
-/// A chain of sixty images, whose serials begin at 1,000.
+/// How many images a chain goes through.
+fn reached(catalog: &Catalog, serial: u64) -> Result<usize, AllocError> {
+    Ok(catalog.reachable(serial)?.len())
+}
+
+fn follows_sixty(rt: &impl Abort, alloc: Global, catalog: &mut Catalog) -> Result<(), Fail> {
+    add_sixty(catalog, alloc)?;
+    assert_eq!(rt; resolved(catalog, 1059, 4)?, in_slot(0));
+    assert_eq!(rt; resolved(catalog, 1059, 3)?, Some(Found::Zero));
+    assert_eq!(rt; reached(catalog, 1059)?, 60);
+    assert_eq!(rt; tip_of(catalog), Some(1000));
+    Ok(())
+}
+
 #[test]
 fn a_chain_of_sixty_is_followed(rt: HostRuntime) -> Result<(), Fail> {
-    let mut catalog = Catalog::new(rt.alloc());
-    let bottom = [(3, 1, RunKind::Zero), (4, 1, RunKind::Data)];
-    add(&mut catalog, rt.alloc(), 0, dump(1000, 1, 0), &bottom)?;
-    for slot in 1..60 {
-        let rows = [(3, 2, RunKind::Parent)];
-        let header = pre_dump(1000 + slot as u64, 1, 999 + slot as u64);
-        add(&mut catalog, rt.alloc(), slot, header, &rows)?;
-    }
-    assert_eq!(rt; resolved(&catalog, 1059, 4)?, in_slot(0));
-    assert_eq!(rt; resolved(&catalog, 1059, 3)?, Some(Found::Zero));
-    assert_eq!(rt; catalog.reachable(1059)?.len(), 60);
-    assert_eq!(rt; tip_of(&catalog), Some(1000));
+    follows_sixty(&rt, rt.alloc(), &mut Catalog::new(rt.alloc()))
+}
+
+fn holds_a_serial(rt: &impl Abort, catalog: &mut Catalog) -> Result<(), Fail> {
+    hold(catalog, 3)?;
+    assert_eq!(rt; catalog.hold(3), Err(CatalogError::DoubleSerial));
+    assert_eq!(rt; catalog.hold(2), Err(CatalogError::DoubleSerial));
+    assert!(rt; catalog.is_held(3) && !catalog.is_held(2) && catalog.image(3).is_none());
+    assert_eq!(rt; listed(catalog)?, 2);
+    assert_eq!(rt; reached(catalog, 3)?, 0);
     Ok(())
 }
 
 #[test]
 fn a_held_serial_shows_nowhere(rt: HostRuntime) -> Result<(), Fail> {
     let mut catalog = two_dumps(rt.alloc())?;
-    catalog.hold(3).map_err(|_| "a place")?;
-    assert_eq!(rt; catalog.hold(3), Err(CatalogError::DoubleSerial));
-    assert_eq!(rt; catalog.hold(2), Err(CatalogError::DoubleSerial));
-    assert!(rt; catalog.is_held(3) && !catalog.is_held(2) && catalog.image(3).is_none());
-    assert_eq!(rt; catalog.list()?.len(), 2);
-    assert_eq!(rt; catalog.reachable(3)?.len(), 0);
+    holds_a_serial(&rt, &mut catalog)
+}
+
+/// Adds an image without pages.
+fn add_empty(
+    catalog: &mut Catalog,
+    alloc: Global,
+    slot: usize,
+    header: Header,
+) -> Result<Result<(), CatalogError>, AllocError> {
+    Ok(catalog.add(slot, header, no_table(alloc)?))
+}
+
+fn takes_a_place(rt: &impl Abort, alloc: Global, catalog: &mut Catalog) -> Result<(), Fail> {
+    hold(catalog, 3)?;
+    add(catalog, alloc, 2, dump(3, 3, 2), ZEROS)?;
+    let again = add_empty(catalog, alloc, 4, dump(3, 4, 0))?;
+    assert_eq!(rt; again, Err(CatalogError::DoubleSerial));
+    assert_eq!(rt; resolved(catalog, 3, 0x10)?, Some(Found::Zero));
+    catalog.release(3);
+    assert_eq!(rt; tip_of(catalog), Some(3));
+    hold(catalog, 9)?;
+    catalog.release(9);
+    catalog.release(10);
+    assert!(rt; !catalog.is_held(9));
     Ok(())
 }
 
@@ -261,35 +426,58 @@ fn a_held_serial_shows_nowhere(rt: HostRuntime) -> Result<(), Fail> {
 #[test]
 fn an_image_takes_its_place(rt: HostRuntime) -> Result<(), Fail> {
     let mut catalog = two_dumps(rt.alloc())?;
-    catalog.hold(3).map_err(|_| "a place")?;
-    add(&mut catalog, rt.alloc(), 2, dump(3, 3, 2), ZEROS)?;
-    let again = catalog.add(4, dump(3, 4, 0), placed(rt.alloc(), &[])?);
-    assert_eq!(rt; again, Err(CatalogError::DoubleSerial));
-    assert_eq!(rt; resolved(&catalog, 3, 0x10)?, Some(Found::Zero));
-    catalog.release(3);
-    assert_eq!(rt; tip_of(&catalog), Some(3));
-    catalog.hold(9).map_err(|_| "a place")?;
-    catalog.release(9);
-    catalog.release(10);
-    assert!(rt; !catalog.is_held(9));
+    takes_a_place(&rt, rt.alloc(), &mut catalog)
+}
+
+/// Whether these are the serials of the images, in their order.
+fn lists(catalog: &Catalog, serials: &[u64]) -> Result<bool, AllocError> {
+    let images = catalog.list()?;
+    Ok(
+        images.len() == serials.len()
+            && images
+                .iter()
+                .zip(serials)
+                .all(|(image, serial)| image.header().serial == *serial),
+    )
+}
+
+fn is_in_order(rt: &impl Abort, alloc: Global, catalog: &mut Catalog) -> Result<(), Fail> {
+    for serial in [5, 2, 9, 1] {
+        hold(catalog, serial + 100)?;
+        let header = dump(serial, 10 - serial, 0);
+        add(catalog, alloc, serial as usize, header, &[])?;
+    }
+    assert!(rt; lists(catalog, &[1, 2, 5, 9])?);
+    assert_eq!(rt; tip_of(catalog), Some(1));
     Ok(())
 }
 
 /// Images are listed rising by serial, in whatever order they came.
 #[test]
 fn images_are_in_order(rt: HostRuntime) -> Result<(), Fail> {
-    let mut catalog = Catalog::new(rt.alloc());
-    for serial in [5, 2, 9, 1] {
-        catalog.hold(serial + 100).map_err(|_| "a place")?;
-        let header = dump(serial, 10 - serial, 0);
-        add(&mut catalog, rt.alloc(), serial as usize, header, &[])?;
+    is_in_order(&rt, rt.alloc(), &mut Catalog::new(rt.alloc()))
+}
+
+/// The pages of an image, and its way to each.
+const WAYS: [(u64, Option<Way>); 8] = [
+    (1, None),
+    (2, Some(Way::Data { place: 0 })),
+    (4, Some(Way::Data { place: 2 })),
+    (5, Some(Way::Zero)),
+    (7, None),
+    (8, Some(Way::Parent)),
+    (10, Some(Way::Data { place: 4 })),
+    (11, None),
+];
+
+fn says_its_ways(rt: &impl Abort, image: &OpenImage) -> Result<(), Fail> {
+    assert_eq!(rt; image.slot(), 6);
+    assert_eq!(rt; *image.header(), dump(4, 4, 3));
+    assert_eq!(rt; image.table().spaces.len(), 1);
+    for (number, way) in WAYS {
+        assert_eq!(rt; image.way(SpaceId::new(SPACE), page(number)?), way);
     }
-    let mut serials = Vec::new(rt.alloc());
-    for image in &catalog.list()? {
-        serials.push(image.header().serial)?;
-    }
-    assert_eq!(rt; serials.as_slice(), [1, 2, 5, 9].as_slice());
-    assert_eq!(rt; tip_of(&catalog), Some(1));
+    assert_eq!(rt; image.way(SpaceId::new(3), page(2)?), None);
     Ok(())
 }
 
@@ -301,38 +489,28 @@ fn an_image_says_its_ways(rt: HostRuntime) -> Result<(), Fail> {
         (8, 1, RunKind::Parent),
         (9, 2, RunKind::Data),
     ];
-    let image = OpenImage::new(6, dump(4, 4, 3), placed(rt.alloc(), &rows)?);
-    assert_eq!(rt; image.slot(), 6);
-    assert_eq!(rt; *image.header(), dump(4, 4, 3));
-    assert_eq!(rt; image.table().spaces.len(), 1);
-    let ways = [
-        (1, None),
-        (2, Some(Way::Data { place: 0 })),
-        (4, Some(Way::Data { place: 2 })),
-        (5, Some(Way::Zero)),
-        (7, None),
-        (8, Some(Way::Parent)),
-        (10, Some(Way::Data { place: 4 })),
-        (11, None),
-    ];
-    for (number, way) in ways {
-        assert_eq!(rt; image.way(SpaceId::new(SPACE), page(number)?), way);
-    }
-    assert_eq!(rt; image.way(SpaceId::new(3), page(2)?), None);
-    Ok(())
+    let image = OpenImage::new(6, dump(4, 4, 3), placed(rt.alloc(), 1, &rows)?);
+    says_its_ways(&rt, &image)
+}
+
+fn goes_through_the_greater(
+    rt: &impl Abort,
+    alloc: Global,
+    catalog: &mut Catalog,
+) -> Result<(), Fail> {
+    add(catalog, alloc, 5, dump(5, 5, 2), IN_PARENT)?;
+    assert_eq!(rt; resolved(catalog, 5, 0x10)?, in_slot(0));
+    add(catalog, alloc, 4, merged(4, 2, 2), ZEROS)?;
+    assert_eq!(rt; resolved(catalog, 5, 0x10)?, Some(Found::Zero));
+    assert_eq!(rt; resolved(catalog, 2, 0x10)?, in_slot(0));
+    goes_through(rt, catalog, 5, &[5, 4])
 }
 
 /// Two images stand for one number and both are in the middle of a chain: the walk goes through the greater serial.
 #[test]
 fn a_chain_goes_through_the_greater_serial(rt: HostRuntime) -> Result<(), Fail> {
     let mut catalog = two_dumps(rt.alloc())?;
-    add(&mut catalog, rt.alloc(), 5, dump(5, 5, 2), IN_PARENT)?;
-    assert_eq!(rt; resolved(&catalog, 5, 0x10)?, in_slot(0));
-    add(&mut catalog, rt.alloc(), 4, merged(4, 2, 2), ZEROS)?;
-    assert_eq!(rt; resolved(&catalog, 5, 0x10)?, Some(Found::Zero));
-    assert_eq!(rt; resolved(&catalog, 2, 0x10)?, in_slot(0));
-    assert_eq!(rt; catalog.reachable(5)?.as_slice(), [5, 4].as_slice());
-    Ok(())
+    goes_through_the_greater(&rt, rt.alloc(), &mut catalog)
 }
 
 /// Whether a serial is neither there nor held, and the newest image is this.
@@ -376,26 +554,29 @@ fn add_again(catalog: &mut Catalog, alloc: Global, serial: u64) -> Result<(), Fa
     must(added == Ok(()) && tip_of(catalog) == Some(serial), "added")
 }
 
-#[test]
-fn refused_memory_changes_nothing(rt: HostRuntime) -> Result<(), Fail> {
-    let mut catalog = Catalog::new(rt.alloc());
+fn holds_and_adds(rt: &impl Abort, alloc: Global, catalog: &mut Catalog) -> Result<(), Fail> {
     for serial in 1..13 {
         if serial % 2 == 1 {
-            hold_again(&mut catalog, serial)?;
+            hold_again(catalog, serial)?;
         }
-        add_again(&mut catalog, rt.alloc(), serial)?;
+        add_again(catalog, alloc, serial)?;
     }
-    let listed = match catalog.list() {
-        Ok(list) => list.len(),
-        Err(_) => catalog.list()?.len(),
+    let listed = match listed(catalog) {
+        Ok(count) => count,
+        Err(_) => listed(catalog)?,
     };
     assert_eq!(rt; listed, 12);
-    let reached = match catalog.reachable(12) {
-        Ok(list) => list.len(),
-        Err(_) => catalog.reachable(12)?.len(),
+    let reached = match reached(catalog, 12) {
+        Ok(count) => count,
+        Err(_) => reached(catalog, 12)?,
     };
     assert_eq!(rt; reached, 12);
     Ok(())
+}
+
+#[test]
+fn refused_memory_changes_nothing(rt: HostRuntime) -> Result<(), Fail> {
+    holds_and_adds(&rt, rt.alloc(), &mut Catalog::new(rt.alloc()))
 }
 
 /// The pages that `next_page` gives of an image, from the first on.
@@ -415,47 +596,71 @@ fn pages_in_order(
     Ok(pages)
 }
 
-/// Each page comes once, rising by space and page, whatever its kind; and a place that isn't listed may be given.
-#[test]
-fn pages_come_in_order(rt: HostRuntime) -> Result<(), Fail> {
-    let last = (1 << 35) - 1;
+/// The number of the last page.
+const LAST: u64 = (1 << 35) - 1;
+
+/// The pages of an image by their spaces and numbers.
+const IN_ORDER: [(u64, u64); 8] = [
+    (1, 0x10),
+    (1, 0x11),
+    (1, 0x20),
+    (1, LAST),
+    (2, 0x10),
+    (2, 0x11),
+    (2, 0x20),
+    (2, LAST),
+];
+
+/// A place, and the page that comes next.
+const NEXT: [((u64, u64), Option<(u64, u64)>); 5] = [
+    ((0, 5), Some((1, 0x10))),
+    ((1, 0x12), Some((1, 0x20))),
+    ((1, 0x21), Some((1, LAST))),
+    ((2, LAST), None),
+    ((7, 0), None),
+];
+
+/// The page behind a place.
+fn behind(catalog: &Catalog, place: (u64, u64)) -> Result<Option<(u64, u64)>, Fail> {
+    let (space, number) = place;
+    let next = catalog.next_page(3, Some((SpaceId::new(space), page(number)?)));
+    Ok(next.map(|(space, page)| (space.number(), page.number())))
+}
+
+fn has_in_order(
+    rt: &impl Abort,
+    alloc: Global,
+    catalog: &Catalog,
+    serial: u64,
+    pages: &[(u64, u64)],
+) -> Result<(), Fail> {
+    assert_eq!(rt; pages_in_order(catalog, alloc, serial)?.as_slice(), pages);
+    Ok(())
+}
+
+fn has_pages_in_order(rt: &impl Abort, alloc: Global, catalog: &Catalog) -> Result<(), Fail> {
+    has_in_order(rt, alloc, catalog, 3, &IN_ORDER)?;
+    has_in_order(rt, alloc, catalog, 4, &[])?;
+    for (place, next) in NEXT {
+        assert_eq!(rt; behind(catalog, place)?, next);
+    }
+    Ok(())
+}
+
+/// Adds an image with three runs in each of two spaces.
+fn add_two_spaces(catalog: &mut Catalog, alloc: Global) -> Result<(), Fail> {
     let rows = [
         (0x10, 2, RunKind::Data),
         (0x20, 1, RunKind::Zero),
-        (last, 1, RunKind::Parent),
+        (LAST, 1, RunKind::Parent),
     ];
-    let both = table(rt.alloc(), 2, &runs(rt.alloc(), &rows)?)?;
+    add_spaces(catalog, alloc, 2, dump(3, 3, 2), 2, &rows)
+}
+
+/// Each page comes once, rising by space and page, whatever its kind; and a place that isn't listed may be given.
+#[test]
+fn pages_come_in_order(rt: HostRuntime) -> Result<(), Fail> {
     let mut catalog = two_dumps(rt.alloc())?;
-    catalog
-        .add(2, dump(3, 3, 2), PlacedTable::new(rt.alloc(), both)?)
-        .map_err(|_| "the image is taken")?;
-    let listed = [
-        (1, 0x10),
-        (1, 0x11),
-        (1, 0x20),
-        (1, last),
-        (2, 0x10),
-        (2, 0x11),
-        (2, 0x20),
-        (2, last),
-    ];
-    assert_eq!(rt;
-        pages_in_order(&catalog, rt.alloc(), 3)?.as_slice(),
-        listed.as_slice()
-    );
-    assert_eq!(rt; pages_in_order(&catalog, rt.alloc(), 4)?.len(), 0);
-    for (space, number, next) in [
-        (0, 5, Some((1, 0x10))),
-        (1, 0x12, Some((1, 0x20))),
-        (1, 0x21, Some((1, last))),
-        (2, last, None),
-        (7, 0, None),
-    ] {
-        let found = catalog.next_page(3, Some((SpaceId::new(space), page(number)?)));
-        assert_eq!(rt;
-            found.map(|(space, page)| (space.number(), page.number())),
-            next
-        );
-    }
-    Ok(())
+    add_two_spaces(&mut catalog, rt.alloc())?;
+    has_pages_in_order(&rt, rt.alloc(), &catalog)
 }
