@@ -6,6 +6,7 @@ use sd_image::{
     encode_table, push_page,
 };
 use std::alloc::Global;
+use std::process::Abort;
 use std::test::Fail;
 
 /// The table of the example file.
@@ -20,18 +21,27 @@ fn the_header_is_read_and_written(rt: HostRuntime) {
     assert_eq!(rt; encode_header(&HEADER).as_slice(), &bytes[1..4096]);
 }
 
-/// The file of one page that begins with `hello`: what is written around the page is the file's, byte for byte.
-#[test]
-fn the_example_file_is_written(rt: HostRuntime) -> Result<(), Fail> {
-    let alloc = rt.alloc();
-    let mut written = vec![in alloc; 0xa5]?;
+fn write_example(written: &mut Vec<u8>, alloc: Global) -> Result<(), Fail> {
+    written.push(0xa5)?;
     written.extend_from_slice(&encode_header(&HEADER))?;
     written.extend_from_slice(&hello_page())?;
     written.extend_from_slice(&encode_table(alloc, &example_table(alloc)?)?)?;
+    Ok(())
+}
+
+fn is_the_example(rt: &impl Abort, alloc: Global, written: &[u8]) -> Result<(), Fail> {
     assert_eq!(rt; written.len() as u64, LEN);
     let file = example(alloc)?;
-    assert_eq!(rt; written.as_slice(), file.as_slice());
+    assert_eq!(rt; written, file.as_slice());
     Ok(())
+}
+
+/// The file of one page that begins with `hello`: what is written around the page is the file's, byte for byte.
+#[test]
+fn the_example_file_is_written(rt: HostRuntime) -> Result<(), Fail> {
+    let mut written = Vec::new(rt.alloc());
+    write_example(&mut written, rt.alloc())?;
+    is_the_example(&rt, rt.alloc(), &written)
 }
 
 /// Each kind, with the greatest numbers that fit.
@@ -63,20 +73,29 @@ fn each_kind_is_read_back(rt: HostRuntime) {
     }
 }
 
+/// The table that is read, where memory was refused at the second try.
+fn read_again(alloc: Global) -> Result<Table, TableError> {
+    match decode_table(alloc, &HEADER, &TABLE) {
+        Err(TableError::OutOfMemory) => decode_table(alloc, &HEADER, &TABLE),
+        read => read,
+    }
+}
+
+fn is_written_again(rt: &impl Abort, alloc: Global, table: &Table) -> Result<(), Fail> {
+    let written = match encode_table(alloc, table) {
+        Ok(bytes) => bytes,
+        Err(_) => encode_table(alloc, table)?,
+    };
+    assert_eq!(rt; written.as_slice(), TABLE.as_slice());
+    Ok(())
+}
+
 /// Where memory is refused the call reports that, and the next one succeeds: no allocation that fails makes bytes
 /// damaged, or damaged bytes whole.
 #[test]
 fn refused_memory_is_reported(rt: HostRuntime) -> Result<(), Fail> {
-    let mut read = decode_table(rt.alloc(), &HEADER, &TABLE);
-    if let Err(TableError::OutOfMemory) = &read {
-        read = decode_table(rt.alloc(), &HEADER, &TABLE);
-    }
-    let table = read.ok().ok_or("a table")?;
-    let written = match encode_table(rt.alloc(), &table) {
-        Ok(bytes) => bytes,
-        Err(_) => encode_table(rt.alloc(), &table)?,
-    };
-    assert_eq!(rt; written.as_slice(), TABLE.as_slice());
+    let table = read_again(rt.alloc()).ok().ok_or("a table")?;
+    is_written_again(&rt, rt.alloc(), &table)?;
     let more = Header { pages: 2, ..HEADER };
     assert!(rt;
         matches!(

@@ -1,7 +1,7 @@
 //! Headers and tables with faults, and the reason that is found.
 use crate::example::{HEADER, LEN, TABLE, first_bytes};
 use sd_image::{Header, Kind, Reason, TableError, decode_header, decode_table, encode_table};
-use std::alloc::Global;
+use std::alloc::{AllocError, Global};
 use std::process::Abort;
 use std::test::Fail;
 
@@ -14,44 +14,46 @@ fn reason_of(alloc: Global, header: &Header, table: &[u8]) -> Result<Option<Reas
     }
 }
 
+/// The places and the values of bytes that change in a header, and the reason against it.
+const HEADERS: [(&[(usize, u8)], Reason); 28] = [
+    (&[(1, 0x00)], Reason::Magic),
+    (&[(7, 0x4f), (8, 0x02)], Reason::Magic),
+    (&[(7, 0x4f), (12, 0x01), (40, 0x00)], Reason::Magic),
+    (&[(8, 0x02)], Reason::Version),
+    (&[(9, 0x01), (10, 0x00)], Reason::Version),
+    (&[(10, 0x00)], Reason::Kind),
+    (&[(11, 0x01)], Reason::Kind),
+    (&[(10, 0x04), (64, 0x01), (16, 0x00)], Reason::Kind),
+    (&[(12, 0x01)], Reason::Reserved),
+    (&[(15, 0x80)], Reason::Reserved),
+    (&[(64, 0x01)], Reason::Reserved),
+    (&[(4095, 0x80), (16, 0x00)], Reason::Reserved),
+    (&[(16, 0x00)], Reason::Serial),
+    (&[(16, 0x00), (24, 0x00), (40, 0x00)], Reason::Serial),
+    (&[(24, 0x02), (32, 0x01)], Reason::StandsFor),
+    // A merged image stands for a lower number than its own, and not for 0.
+    (&[(10, 0x03)], Reason::StandsFor),
+    (&[(10, 0x03), (24, 0x00), (32, 0x01)], Reason::StandsFor),
+    (&[(32, 0x01), (40, 0x00)], Reason::Parent),
+    (&[(10, 0x01), (39, 0x01)], Reason::Parent),
+    // A merged image has no parent.
+    (&[(10, 0x03), (16, 0x02), (32, 0x01)], Reason::Parent),
+    (&[(40, 0x00), (48, 0x00)], Reason::Checkpoint),
+    (&[(48, 0x00)], Reason::Length),
+    (&[(48, 0x02)], Reason::Length),
+    // 2^52 pages more are 2^64 bytes more.
+    (&[(54, 0x10)], Reason::Length),
+    // Also where the table takes the place of the page.
+    (&[(48, 0x00), (54, 0x10), (57, 0x10)], Reason::Length),
+    (&[(56, 0x49)], Reason::Length),
+    (&[(56, 0x47)], Reason::Length),
+    (&[(63, 0x80)], Reason::Length),
+];
+
 /// Each rule of a header, also where a later one is broken too.
 #[test]
 fn a_header_has_its_least_reason(rt: HostRuntime) {
-    let rows: [(&[(usize, u8)], Reason); 28] = [
-        (&[(1, 0x00)], Reason::Magic),
-        (&[(7, 0x4f), (8, 0x02)], Reason::Magic),
-        (&[(7, 0x4f), (12, 0x01), (40, 0x00)], Reason::Magic),
-        (&[(8, 0x02)], Reason::Version),
-        (&[(9, 0x01), (10, 0x00)], Reason::Version),
-        (&[(10, 0x00)], Reason::Kind),
-        (&[(11, 0x01)], Reason::Kind),
-        (&[(10, 0x04), (64, 0x01), (16, 0x00)], Reason::Kind),
-        (&[(12, 0x01)], Reason::Reserved),
-        (&[(15, 0x80)], Reason::Reserved),
-        (&[(64, 0x01)], Reason::Reserved),
-        (&[(4095, 0x80), (16, 0x00)], Reason::Reserved),
-        (&[(16, 0x00)], Reason::Serial),
-        (&[(16, 0x00), (24, 0x00), (40, 0x00)], Reason::Serial),
-        (&[(24, 0x02), (32, 0x01)], Reason::StandsFor),
-        // A merged image stands for a lower number than its own, and not for 0.
-        (&[(10, 0x03)], Reason::StandsFor),
-        (&[(10, 0x03), (24, 0x00), (32, 0x01)], Reason::StandsFor),
-        (&[(32, 0x01), (40, 0x00)], Reason::Parent),
-        (&[(10, 0x01), (39, 0x01)], Reason::Parent),
-        // A merged image has no parent.
-        (&[(10, 0x03), (16, 0x02), (32, 0x01)], Reason::Parent),
-        (&[(40, 0x00), (48, 0x00)], Reason::Checkpoint),
-        (&[(48, 0x00)], Reason::Length),
-        (&[(48, 0x02)], Reason::Length),
-        // 2^52 pages more are 2^64 bytes more.
-        (&[(54, 0x10)], Reason::Length),
-        // Also where the table takes the place of the page.
-        (&[(48, 0x00), (54, 0x10), (57, 0x10)], Reason::Length),
-        (&[(56, 0x49)], Reason::Length),
-        (&[(56, 0x47)], Reason::Length),
-        (&[(63, 0x80)], Reason::Length),
-    ];
-    for (changes, reason) in &rows {
+    for (changes, reason) in &HEADERS {
         let mut bytes = first_bytes();
         for (place, byte) in *changes {
             assert!(rt; *place < bytes.len());
@@ -168,70 +170,80 @@ fn a_front_of_a_table_goes_past_its_end(rt: HostRuntime) -> Result<(), Fail> {
     Ok(())
 }
 
+const TABLE_HEADS: [(Item, Option<Reason>); 6] = [
+    (Head(17, 0), Some(Reason::Space)),
+    (Head(17, 1), Some(Reason::Space)),
+    (Head(u32::MAX, 0), Some(Reason::Space)),
+    (Head(0, 1), Some(Reason::Zero)),
+    (Head(16, 1 << 31), Some(Reason::Zero)),
+    (Head(0, 0), None),
+];
+
 #[test]
 fn a_table_head_has_its_reason(rt: HostRuntime) -> Result<(), Fail> {
-    let rows = [
-        (Head(17, 0), Some(Reason::Space)),
-        (Head(17, 1), Some(Reason::Space)),
-        (Head(u32::MAX, 0), Some(Reason::Space)),
-        (Head(0, 1), Some(Reason::Zero)),
-        (Head(16, 1 << 31), Some(Reason::Zero)),
-        (Head(0, 0), None),
-    ];
-    for (head, reason) in &rows {
+    for (head, reason) in &TABLE_HEADS {
         check(&rt, &DUMP, &[*head], *reason)?;
     }
     Ok(())
 }
 
+const SPACE_HEADS: [(Header, Item, Reason); 8] = [
+    (DUMP, Space(0, 0, 0), Reason::Space),
+    (DUMP, Space(17, 0, 0), Reason::Space),
+    (DUMP, Space(17, 1025, 0), Reason::Space),
+    (DUMP, Space(1, 1025, 0), Reason::Area),
+    (MERGED, Space(1, 1025, 0), Reason::Area),
+    (PRE_DUMP, Space(1, 1, 1), Reason::Area),
+    // 1,024 areas and any number of runs may come: they are missed where they aren't there.
+    (DUMP, Space(1, 1024, 0), Reason::PastEnd),
+    (DUMP, Space(1, 0, u64::MAX), Reason::PastEnd),
+];
+
 #[test]
 fn a_space_head_has_its_reason(rt: HostRuntime) -> Result<(), Fail> {
-    let rows = [
-        (DUMP, Space(0, 0, 0), Reason::Space),
-        (DUMP, Space(17, 0, 0), Reason::Space),
-        (DUMP, Space(17, 1025, 0), Reason::Space),
-        (DUMP, Space(1, 1025, 0), Reason::Area),
-        (MERGED, Space(1, 1025, 0), Reason::Area),
-        (PRE_DUMP, Space(1, 1, 1), Reason::Area),
-        // 1,024 areas and any number of runs may come: they are missed where they aren't there.
-        (DUMP, Space(1, 1024, 0), Reason::PastEnd),
-        (DUMP, Space(1, 0, u64::MAX), Reason::PastEnd),
-    ];
-    for (header, space, reason) in &rows {
+    for (header, space, reason) in &SPACE_HEADS {
         check(&rt, header, &[Head(1, 0), *space], Some(*reason))?;
-    }
-    // The numbers of spaces rise.
-    for (second, reason) in [
-        (3, Some(Reason::Space)),
-        (2, Some(Reason::Space)),
-        (4, None),
-    ] {
-        let items = [Head(2, 0), Space(3, 0, 0), Space(second, 0, 0)];
-        check(&rt, &DUMP, &items, reason)?;
     }
     Ok(())
 }
 
+/// The number of the space behind number 3: the numbers of spaces rise.
+const SECOND_SPACES: [(u32, Option<Reason>); 3] = [
+    (3, Some(Reason::Space)),
+    (2, Some(Reason::Space)),
+    (4, None),
+];
+
+#[test]
+fn a_second_space_head_has_its_reason(rt: HostRuntime) -> Result<(), Fail> {
+    for (second, reason) in &SECOND_SPACES {
+        let items = [Head(2, 0), Space(3, 0, 0), Space(*second, 0, 0)];
+        check(&rt, &DUMP, &items, *reason)?;
+    }
+    Ok(())
+}
+
+const AREAS: [(Item, Reason); 13] = [
+    (Range(16, 0, 3, 0), Reason::Area),
+    (Range(END, 1, 3, 0), Reason::Area),
+    (Range(END - 1, 2, 3, 0), Reason::Area),
+    (Range(1, END, 3, 0), Reason::Area),
+    (Range(1, u64::MAX, 3, 0), Reason::Area),
+    (Range(u64::MAX, 1, 3, 0), Reason::Area),
+    (Range(16, 1, 8, 0), Reason::Area),
+    (Range(16, 1, 0x103, 0), Reason::Area),
+    (Range(16, 0, 8, 1), Reason::Area),
+    (Range(16, 1, 3, 1), Reason::Zero),
+    (Range(16, 1, 3, 1 << 31), Reason::Zero),
+    // What may stand there lets the next item be missed.
+    (Range(0, END, 7, 0), Reason::PastEnd),
+    (Range(END - 1, 1, 0, 0), Reason::PastEnd),
+];
+
 /// The first area of a dump of one space, behind which one run would come.
 #[test]
 fn an_area_has_its_reason(rt: HostRuntime) -> Result<(), Fail> {
-    let rows = [
-        (Range(16, 0, 3, 0), Reason::Area),
-        (Range(END, 1, 3, 0), Reason::Area),
-        (Range(END - 1, 2, 3, 0), Reason::Area),
-        (Range(1, END, 3, 0), Reason::Area),
-        (Range(1, u64::MAX, 3, 0), Reason::Area),
-        (Range(u64::MAX, 1, 3, 0), Reason::Area),
-        (Range(16, 1, 8, 0), Reason::Area),
-        (Range(16, 1, 0x103, 0), Reason::Area),
-        (Range(16, 0, 8, 1), Reason::Area),
-        (Range(16, 1, 3, 1), Reason::Zero),
-        (Range(16, 1, 3, 1 << 31), Reason::Zero),
-        // What may stand there lets the next item be missed.
-        (Range(0, END, 7, 0), Reason::PastEnd),
-        (Range(END - 1, 1, 0, 0), Reason::PastEnd),
-    ];
-    for (area, reason) in &rows {
+    for (area, reason) in &AREAS {
         check(
             &rt,
             &DUMP,
@@ -242,43 +254,45 @@ fn an_area_has_its_reason(rt: HostRuntime) -> Result<(), Fail> {
     Ok(())
 }
 
+const SECOND_AREAS: [(Item, Reason); 7] = [
+    (Range(17, 1, 1, 0), Reason::Area),
+    (Range(2, 1, 1, 0), Reason::Area),
+    (Range(18, 1, 3, 0), Reason::Area),
+    (Range(18, 1, 3, 1), Reason::Area),
+    (Range(18, 1, 1, 1), Reason::Zero),
+    (Range(18, 1, 1, 0), Reason::PastEnd),
+    (Range(19, 1, 3, 0), Reason::PastEnd),
+];
+
 /// An area behind one of pages 16 and 17 with permissions 3.
 #[test]
 fn a_second_area_has_its_reason(rt: HostRuntime) -> Result<(), Fail> {
-    let rows = [
-        (Range(17, 1, 1, 0), Reason::Area),
-        (Range(2, 1, 1, 0), Reason::Area),
-        (Range(18, 1, 3, 0), Reason::Area),
-        (Range(18, 1, 3, 1), Reason::Area),
-        (Range(18, 1, 1, 1), Reason::Zero),
-        (Range(18, 1, 1, 0), Reason::PastEnd),
-        (Range(19, 1, 3, 0), Reason::PastEnd),
-    ];
-    for (area, reason) in &rows {
+    for (area, reason) in &SECOND_AREAS {
         let items = [Head(1, 0), Space(1, 2, 1), Range(16, 2, 3, 0), *area];
         check(&rt, &DUMP, &items, Some(*reason))?;
     }
     Ok(())
 }
 
+const RUNS: [(Item, Reason); 12] = [
+    (Range(16, 0, DATA, 0), Reason::Run),
+    (Range(END, 1, DATA, 0), Reason::Run),
+    (Range(END - 1, 2, ZERO, 0), Reason::Run),
+    (Range(1, u64::MAX, ZERO, 0), Reason::Run),
+    (Range(16, 1, 0, 0), Reason::Run),
+    (Range(16, 1, 4, 0), Reason::Run),
+    (Range(16, 1, 0x101, 0), Reason::Run),
+    (Range(16, 0, 4, 1), Reason::Run),
+    (Range(16, 1, DATA, 1), Reason::Zero),
+    (Range(16, 1, DATA, 1 << 31), Reason::Zero),
+    (Range(0, END, PARENT, 0), Reason::PastEnd),
+    (Range(END - 1, 1, ZERO, 0), Reason::PastEnd),
+];
+
 /// The first run of a pre-dump of one space that would have two.
 #[test]
 fn a_run_has_its_reason(rt: HostRuntime) -> Result<(), Fail> {
-    let rows = [
-        (Range(16, 0, DATA, 0), Reason::Run),
-        (Range(END, 1, DATA, 0), Reason::Run),
-        (Range(END - 1, 2, ZERO, 0), Reason::Run),
-        (Range(1, u64::MAX, ZERO, 0), Reason::Run),
-        (Range(16, 1, 0, 0), Reason::Run),
-        (Range(16, 1, 4, 0), Reason::Run),
-        (Range(16, 1, 0x101, 0), Reason::Run),
-        (Range(16, 0, 4, 1), Reason::Run),
-        (Range(16, 1, DATA, 1), Reason::Zero),
-        (Range(16, 1, DATA, 1 << 31), Reason::Zero),
-        (Range(0, END, PARENT, 0), Reason::PastEnd),
-        (Range(END - 1, 1, ZERO, 0), Reason::PastEnd),
-    ];
-    for (run, reason) in &rows {
+    for (run, reason) in &RUNS {
         check(
             &rt,
             &PRE_DUMP,
@@ -289,96 +303,118 @@ fn a_run_has_its_reason(rt: HostRuntime) -> Result<(), Fail> {
     Ok(())
 }
 
+const SECOND_RUNS: [(Item, Reason); 7] = [
+    (Range(17, 1, ZERO, 0), Reason::Run),
+    (Range(2, 1, ZERO, 0), Reason::Run),
+    (Range(18, 1, DATA, 0), Reason::Run),
+    (Range(18, 1, DATA, 1), Reason::Run),
+    (Range(18, 1, ZERO, 1), Reason::Zero),
+    (Range(18, 1, PARENT, 0), Reason::PastEnd),
+    (Range(19, 1, DATA, 0), Reason::PastEnd),
+];
+
 /// A run behind one of data pages 16 and 17; a third would come.
 #[test]
 fn a_second_run_has_its_reason(rt: HostRuntime) -> Result<(), Fail> {
-    let rows = [
-        (Range(17, 1, ZERO, 0), Reason::Run),
-        (Range(2, 1, ZERO, 0), Reason::Run),
-        (Range(18, 1, DATA, 0), Reason::Run),
-        (Range(18, 1, DATA, 1), Reason::Run),
-        (Range(18, 1, ZERO, 1), Reason::Zero),
-        (Range(18, 1, PARENT, 0), Reason::PastEnd),
-        (Range(19, 1, DATA, 0), Reason::PastEnd),
-    ];
-    for (run, reason) in &rows {
+    for (run, reason) in &SECOND_RUNS {
         let items = [Head(1, 0), Space(1, 0, 3), Range(16, 2, DATA, 0), *run];
         check(&rt, &PRE_DUMP, &items, Some(*reason))?;
     }
     Ok(())
 }
 
+const IN_PARENT: [Item; 4] = [
+    Head(1, 0),
+    Space(1, 1, 1),
+    Range(16, 1, 3, 0),
+    Range(16, 1, PARENT, 0),
+];
+
 /// Where there is no parent, no page is in it.
 #[test]
 fn a_parent_run_needs_a_parent(rt: HostRuntime) -> Result<(), Fail> {
-    let items = [
-        Head(1, 0),
-        Space(1, 1, 1),
-        Range(16, 1, 3, 0),
-        Range(16, 1, PARENT, 0),
-    ];
-    check(&rt, &WHOLE, &items, Some(Reason::Run))?;
-    check(&rt, &MERGED, &items, Some(Reason::Run))?;
-    check(&rt, &DUMP, &items, None)
+    check(&rt, &WHOLE, &IN_PARENT, Some(Reason::Run))?;
+    check(&rt, &MERGED, &IN_PARENT, Some(Reason::Run))?;
+    check(&rt, &DUMP, &IN_PARENT, None)
 }
+
+/// Two runs that are not the pages 16 to 19.
+const NOT_COVERED: [(Item, Item); 6] = [
+    (Range(16, 1, ZERO, 0), Range(18, 2, ZERO, 0)),
+    (Range(17, 1, ZERO, 0), Range(19, 1, ZERO, 0)),
+    (Range(16, 3, ZERO, 0), Range(20, 1, ZERO, 0)),
+    (Range(15, 1, ZERO, 0), Range(17, 3, ZERO, 0)),
+    (Range(16, 4, ZERO, 0), Range(20, 1, DATA, 0)),
+    (Range(15, 1, DATA, 0), Range(16, 4, ZERO, 0)),
+];
 
 /// Two runs in a space with an area of pages 16 to 19: they are not its pages.
 #[test]
 fn the_end_of_a_space_has_its_reason(rt: HostRuntime) -> Result<(), Fail> {
     let wrong = Some(Reason::Coverage);
-    let rows = [
-        (Range(16, 1, ZERO, 0), Range(18, 2, ZERO, 0)),
-        (Range(17, 1, ZERO, 0), Range(19, 1, ZERO, 0)),
-        (Range(16, 3, ZERO, 0), Range(20, 1, ZERO, 0)),
-        (Range(15, 1, ZERO, 0), Range(17, 3, ZERO, 0)),
-        (Range(16, 4, ZERO, 0), Range(20, 1, DATA, 0)),
-        (Range(15, 1, DATA, 0), Range(16, 4, ZERO, 0)),
-    ];
-    for (one, other) in &rows {
+    for (one, other) in &NOT_COVERED {
         let items = [Head(1, 0), Space(1, 1, 2), Range(16, 4, 3, 0), *one, *other];
         check(&rt, &DUMP, &items, wrong)?;
         check(&rt, &MERGED, &items, wrong)?;
     }
-    check(&rt, &PRE_DUMP, &[Head(1, 0), Space(1, 0, 0)], wrong)?;
-    // A run may go over the border of two areas.
-    let border = [
-        Head(1, 0),
-        Space(1, 2, 1),
-        Range(16, 1, 3, 0),
-        Range(17, 3, 1, 0),
-        Range(16, 4, ZERO, 0),
-    ];
-    check(&rt, &DUMP, &border, None)
+    check(&rt, &PRE_DUMP, &[Head(1, 0), Space(1, 0, 0)], wrong)
 }
+
+/// Two areas side by side, and a run over both.
+const OVER_A_BORDER: [Item; 5] = [
+    Head(1, 0),
+    Space(1, 2, 1),
+    Range(16, 1, 3, 0),
+    Range(17, 3, 1, 0),
+    Range(16, 4, ZERO, 0),
+];
+
+#[test]
+fn a_run_may_go_over_a_border(rt: HostRuntime) -> Result<(), Fail> {
+    check(&rt, &DUMP, &OVER_A_BORDER, None)
+}
+
+/// A table without spaces, and a byte behind it.
+const BYTE_BEHIND: [u8; 9] = [0; 9];
+
+const TWO_PAGES: [Item; 4] = [
+    Head(1, 0),
+    Space(1, 1, 1),
+    Range(16, 2, 3, 0),
+    Range(16, 2, DATA, 0),
+];
 
 /// Bytes behind the table, and other numbers of data pages than the header's.
 #[test]
 fn the_end_of_a_table_has_its_reason(rt: HostRuntime) -> Result<(), Fail> {
     let wrong = Some(Reason::Total);
-    let mut more = text(rt.alloc(), &[Head(0, 0)])?;
-    more.push(0)?;
-    assert_eq!(rt; reason_of(rt.alloc(), &DUMP, &more)?, wrong);
-    let two = [
-        Head(1, 0),
-        Space(1, 1, 1),
-        Range(16, 2, 3, 0),
-        Range(16, 2, DATA, 0),
-    ];
+    assert_eq!(rt; reason_of(rt.alloc(), &DUMP, &BYTE_BEHIND)?, wrong);
     for pages in 0..5 {
         let header = Header { pages, ..DUMP };
-        check(&rt, &header, &two, if pages == 2 { None } else { wrong })?;
+        check(
+            &rt,
+            &header,
+            &TWO_PAGES,
+            if pages == 2 { None } else { wrong },
+        )?;
     }
     Ok(())
 }
 
+/// The numbers of pages in two spaces.
+const MANY_PAGES: [(u64, u64, Option<Reason>); 3] = [
+    (65_535, 1, None),
+    (65_536, 1, Some(Reason::Total)),
+    (1, 65_536, Some(Reason::Total)),
+];
+
+const ALL_PAGES: [Item; 3] = [Head(1, 0), Space(1, 0, 1), Range(0, END, PARENT, 0)];
+
 /// At most 65,536 pages are mapped, in all spaces together. A pre-dump maps none.
 #[test]
 fn too_many_pages_have_their_reason(rt: HostRuntime) -> Result<(), Fail> {
-    for (here, there, reason) in [
-        (65_535, 1, None),
-        (65_536, 1, Some(Reason::Total)),
-        (1, 65_536, Some(Reason::Total)),
-    ] {
+    for (here, there, reason) in &MANY_PAGES {
+        let (here, there, reason) = (*here, *there, *reason);
         let items = [
             Head(2, 0),
             Space(1, 1, 1),
@@ -391,54 +427,68 @@ fn too_many_pages_have_their_reason(rt: HostRuntime) -> Result<(), Fail> {
         check(&rt, &DUMP, &items, reason)?;
         check(&rt, &MERGED, &items, reason)?;
     }
-    let all = [Head(1, 0), Space(1, 0, 1), Range(0, END, PARENT, 0)];
-    check(&rt, &PRE_DUMP, &all, None)
+    check(&rt, &PRE_DUMP, &ALL_PAGES, None)
 }
+
+/// Items of which two are at fault, and the reason of the first.
+const FAULTY: [(&[Item], Reason); 5] = [
+    (&[Head(0, 1), Space(17, 1025, 0)], Reason::Zero),
+    (
+        &[
+            Head(1, 0),
+            Space(1, 2, 1),
+            Range(16, 1, 3, 1),
+            Range(1, 1, 3, 0),
+        ],
+        Reason::Zero,
+    ),
+    (
+        &[
+            Head(2, 0),
+            Space(1, 1, 0),
+            Range(16, 0, 3, 0),
+            Space(17, 0, 0),
+        ],
+        Reason::Area,
+    ),
+    (
+        &[
+            Head(2, 0),
+            Space(1, 0, 1),
+            Range(16, 1, 4, 0),
+            Space(17, 1025, 0),
+        ],
+        Reason::Run,
+    ),
+    (
+        &[
+            Head(2, 0),
+            Space(1, 1, 0),
+            Range(16, 1, 3, 0),
+            Space(17, 0, 0),
+        ],
+        Reason::Coverage,
+    ),
+];
 
 /// An item with a greater number before one with a less.
 #[test]
 fn the_first_item_at_fault_has_its_reason(rt: HostRuntime) -> Result<(), Fail> {
-    let rows: [(&[Item], Reason); 5] = [
-        (&[Head(0, 1), Space(17, 1025, 0)], Reason::Zero),
-        (
-            &[
-                Head(1, 0),
-                Space(1, 2, 1),
-                Range(16, 1, 3, 1),
-                Range(1, 1, 3, 0),
-            ],
-            Reason::Zero,
-        ),
-        (
-            &[
-                Head(2, 0),
-                Space(1, 1, 0),
-                Range(16, 0, 3, 0),
-                Space(17, 0, 0),
-            ],
-            Reason::Area,
-        ),
-        (
-            &[
-                Head(2, 0),
-                Space(1, 0, 1),
-                Range(16, 1, 4, 0),
-                Space(17, 1025, 0),
-            ],
-            Reason::Run,
-        ),
-        (
-            &[
-                Head(2, 0),
-                Space(1, 1, 0),
-                Range(16, 1, 3, 0),
-                Space(17, 0, 0),
-            ],
-            Reason::Coverage,
-        ),
-    ];
-    for (items, reason) in &rows {
+    for (items, reason) in &FAULTY {
         check(&rt, &DUMP, items, Some(*reason))?;
+    }
+    Ok(())
+}
+
+/// Pushes the items of a space with 1,024 areas and as many runs.
+fn push_limit(items: &mut Vec<Item>) -> Result<(), AllocError> {
+    items.push(Head(1, 0))?;
+    items.push(Space(16, 1024, 1024))?;
+    for page in 0..1024 {
+        items.push(Range(page, 1, (page % 2) as u32, 0))?;
+    }
+    for page in 0..1024 {
+        items.push(Range(page, 1, DATA + (page % 2) as u32, 0))?;
     }
     Ok(())
 }
@@ -446,38 +496,37 @@ fn the_first_item_at_fault_has_its_reason(rt: HostRuntime) -> Result<(), Fail> {
 /// The greatest table of one space: 1,024 areas, and as many runs.
 #[test]
 fn the_limit_of_areas_is_taken(rt: HostRuntime) -> Result<(), Fail> {
-    let mut items = vec![in rt.alloc(); Head(1, 0), Space(16, 1024, 1024)]?;
-    for page in 0..1024 {
-        items.push(Range(page, 1, (page % 2) as u32, 0))?;
-    }
-    for page in 0..1024 {
-        items.push(Range(page, 1, DATA + (page % 2) as u32, 0))?;
-    }
+    let mut items = Vec::new(rt.alloc());
+    push_limit(&mut items)?;
     let header = Header { pages: 512, ..DUMP };
     check(&rt, &header, &items, None)
+}
+
+const EACH_KIND: [Item; 10] = [
+    Head(2, 0),
+    Space(2, 2, 3),
+    Range(1, 2, 7, 0),
+    Range(3, 2, 4, 0),
+    Range(1, 1, PARENT, 0),
+    Range(2, 2, DATA, 0),
+    Range(4, 1, ZERO, 0),
+    Space(16, 1, 1),
+    Range(END - 1, 1, 0, 0),
+    Range(END - 1, 1, PARENT, 0),
+];
+
+/// A table with two data pages is written as it was.
+fn is_written_again(rt: &impl Abort, alloc: Global, bytes: &[u8]) -> Result<(), Fail> {
+    let header = Header { pages: 2, ..DUMP };
+    let table = decode_table(alloc, &header, bytes).ok().ok_or("a table")?;
+    let again = encode_table(alloc, &table)?;
+    assert_eq!(rt; again.as_slice(), bytes);
+    Ok(())
 }
 
 /// What is read of a table with every kind of run is written as it was.
 #[test]
 fn a_table_of_each_kind_of_run_is_read_back(rt: HostRuntime) -> Result<(), Fail> {
-    let items = [
-        Head(2, 0),
-        Space(2, 2, 3),
-        Range(1, 2, 7, 0),
-        Range(3, 2, 4, 0),
-        Range(1, 1, PARENT, 0),
-        Range(2, 2, DATA, 0),
-        Range(4, 1, ZERO, 0),
-        Space(16, 1, 1),
-        Range(END - 1, 1, 0, 0),
-        Range(END - 1, 1, PARENT, 0),
-    ];
-    let bytes = text(rt.alloc(), &items)?;
-    let header = Header { pages: 2, ..DUMP };
-    let table = decode_table(rt.alloc(), &header, &bytes)
-        .ok()
-        .ok_or("a table")?;
-    let again = encode_table(rt.alloc(), &table)?;
-    assert_eq!(rt; again.as_slice(), bytes.as_slice());
-    Ok(())
+    let bytes = text(rt.alloc(), &EACH_KIND)?;
+    is_written_again(&rt, rt.alloc(), &bytes)
 }
