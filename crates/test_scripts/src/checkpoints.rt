@@ -1,5 +1,8 @@
 //! Checkpoints, and the stores that they leave.
-use crate::run::{answers, empty, file, folder, fresh, listed, path, ran, shown};
+use crate::run::{
+    HEADER, TABLE, answers, cut_first, empty, file, file_behind, folder, fresh, is_listed,
+    is_shown, path, prints,
+};
 use sd_disk::Disk;
 use std::fs;
 use std::process::Abort;
@@ -157,51 +160,62 @@ const LEFT: [Left; 7] = [
     COPY_ON_WRITE,
 ];
 
+/// A store has these images, and is restored to this.
+fn is_left<D: Disk>(rt: &(impl Abort + AllocGlobal), disk: &mut D, left: Left) -> Result<(), Fail> {
+    is_listed(rt, disk, left.listed)?;
+    is_shown(rt, disk, left.shown)
+}
+
+fn leaves(rt: &(impl Abort + AllocGlobal), left: Left) -> Result<(), Fail> {
+    let mut disk = fresh(rt, left.rows)?;
+    is_left(rt, &mut disk, left)
+}
+
 #[test]
 fn scripts_leave_their_stores(rt: HostRuntime) -> Result<(), Fail> {
     for left in LEFT {
-        let mut disk = fresh(&rt, left.rows)?;
-        assert_eq!(rt; listed(rt.alloc(), &mut disk)?.as_str(), left.listed);
-        assert_eq!(rt; shown(rt.alloc(), &mut disk)?.as_str(), left.shown);
+        leaves(&rt, left)?;
     }
     Ok(())
 }
 
+fn is_hex(rt: &(impl Abort + AllocGlobal), bytes: &[u8], digits: &str) -> Result<(), Fail> {
+    assert_eq!(rt; hex::encode(rt.alloc(), bytes)?.as_str(), digits);
+    Ok(())
+}
+
 /// The bytes of the first image: the header, the page and the table.
-const HEADER: &str =
-    "a55344434841494e0100020000000000010000000000000001000000000000000000000000000000010000000000000001000000000000004800000000000000";
-
-const TABLE: &str =
-    "010000000000000001000000010000000100000000000000100000000000000001000000000000000300000000000000100000000000000001000000000000000100000000000000";
-
-#[test]
-fn first_image(rt: HostRuntime) -> Result<(), Fail> {
-    let alloc = rt.alloc();
-    let mut disk = fresh(&rt, FIRST.rows)?;
-    let bytes = file(&rt, alloc, &mut disk, 0)?;
+fn is_first(rt: &(impl Abort + AllocGlobal), bytes: &[u8]) -> Result<(), Fail> {
     assert_eq!(rt; bytes.len(), 8264);
-    let header = bytes.get(..64).ok_or("a header")?;
-    assert_eq!(rt; hex::encode(alloc, header)?.as_str(), HEADER);
+    is_hex(rt, &bytes[..64], HEADER)?;
     assert!(rt; bytes[64..4096].iter().all(|byte| *byte == 0));
     assert_eq!(rt; &bytes[4096..4101], b"hello".as_slice());
     assert!(rt; bytes[4101..8192].iter().all(|byte| *byte == 0));
-    assert_eq!(rt; hex::encode(alloc, &bytes[8192..])?.as_str(), TABLE);
-    Ok(())
+    is_hex(rt, &bytes[8192..], TABLE)
+}
+
+#[test]
+fn first_image(rt: HostRuntime) -> Result<(), Fail> {
+    let bytes = file_behind(&rt, FIRST.rows, 0)?;
+    is_first(&rt, &bytes)
 }
 
 /// The table of a second image without data is that of the first but for the kind of its run: 2 leaves the page to the
 /// parent, 3 is zeros.
 const TABLES: [(Left, u8); 2] = [(SECOND, 2), (RENEWED_REGION, 3)];
 
+fn is_second(rt: &(impl Abort + AllocGlobal), bytes: &[u8], kind: u8) -> Result<(), Fail> {
+    assert_eq!(rt; bytes.len(), 4096 + 72);
+    assert_eq!(rt; bytes[4096 + 64], kind);
+    let table = hex::encode(rt.alloc(), &bytes[4096..4096 + 64])?;
+    assert!(rt; TABLE.starts_with(table.as_str()));
+    Ok(())
+}
+
 #[test]
 fn second_images(rt: HostRuntime) -> Result<(), Fail> {
     for (left, kind) in TABLES {
-        let mut disk = fresh(&rt, left.rows)?;
-        let bytes = file(&rt, rt.alloc(), &mut disk, 1)?;
-        assert_eq!(rt; bytes.len(), 4096 + 72);
-        assert_eq!(rt; bytes[4096 + 64], kind);
-        let table = hex::encode(rt.alloc(), &bytes[4096..4096 + 64])?;
-        assert!(rt; TABLE.starts_with(table.as_str()));
+        is_second(&rt, &file_behind(&rt, left.rows, 1)?, kind)?;
     }
     Ok(())
 }
@@ -209,65 +223,103 @@ fn second_images(rt: HostRuntime) -> Result<(), Fail> {
 /// Without the page the tables have no run: that of a pre-dump no space, that of a dump a space without areas.
 #[test]
 fn tables_without_runs(rt: HostRuntime) -> Result<(), Fail> {
-    let mut disk = fresh(&rt, VANISHED_PAGE.rows)?;
     for (slot, table) in [(0, 8), (1, 24)] {
-        let bytes = file(&rt, rt.alloc(), &mut disk, slot)?;
-        assert_eq!(rt; bytes.len(), 4096 + table);
+        assert_eq!(rt;
+            file_behind(&rt, VANISHED_PAGE.rows, slot)?.len(),
+            4096 + table
+        );
     }
     Ok(())
+}
+
+/// A run goes on from what a first one left.
+fn goes_on(
+    rt: &(impl Abort + AllocGlobal),
+    first: Left,
+    rows: &str,
+    listed: &str,
+) -> Result<(), Fail> {
+    let disk = fresh(rt, first.rows)?;
+    let mut disk = answers(rt, disk, "reopened 1", rows)?;
+    is_listed(rt, &mut disk, listed)
 }
 
 /// A second run goes on from what the first left, and its first checkpoint is whole.
 #[test]
 fn second_run(rt: HostRuntime) -> Result<(), Fail> {
-    let disk = fresh(&rt, FIRST.rows)?;
     let rows = "load 1 0x10000 5 => bytes 68656c6c6f\ncheckpoint 0 => acked 2";
-    let mut disk = answers(&rt, disk, "reopened 1", rows)?;
-    let wanted = "slot 000 dump serial 1 stands 1 parent 0 checkpoint 1 pages 1
+    let listed = "slot 000 dump serial 1 stands 1 parent 0 checkpoint 1 pages 1
 slot 001 dump serial 2 stands 2 parent 0 checkpoint 2 pages 1
 tip 2
 ";
-    assert_eq!(rt; listed(rt.alloc(), &mut disk)?.as_str(), wanted);
-    let disk = fresh(&rt, COPY_ON_WRITE.rows)?;
+    goes_on(&rt, FIRST, rows, listed)?;
     let rows = "load 2 0x10000 2 => bytes 6200\nload 1 0x10000 2 => bytes 6100\nfork 2 => child 3";
-    answers(&rt, disk, "reopened 1", rows)?;
+    goes_on(&rt, COPY_ON_WRITE, rows, COPY_ON_WRITE.listed)
+}
+
+/// Two disks have the same file in a slot.
+fn have_same_file<A: Disk, B: Disk>(
+    rt: &(impl Abort + AllocGlobal),
+    one: &mut A,
+    other: &mut B,
+    slot: usize,
+) -> Result<(), Fail> {
+    let written = file(rt, rt.alloc(), one, slot)?;
+    let wanted = file(rt, rt.alloc(), other, slot)?;
+    assert_eq!(rt; written.as_slice(), wanted.as_slice());
     Ok(())
+}
+
+/// Two disks have the same images, in two slots.
+fn agree<A: Disk, B: Disk>(
+    rt: &(impl Abort + AllocGlobal),
+    one: &mut A,
+    other: &mut B,
+    listed: &str,
+) -> Result<(), Fail> {
+    is_listed(rt, one, listed)?;
+    is_listed(rt, other, listed)?;
+    have_same_file(rt, one, other, 0)?;
+    have_same_file(rt, one, other, 1)
+}
+
+/// Runs the rows over this disk and over one in memory, which agree then.
+fn agrees_with_memory<D: Disk + Drop>(
+    rt: &(impl Abort + AllocGlobal),
+    disk: D,
+    left: Left,
+) -> Result<(), Fail> {
+    let mut disk = answers(rt, disk, "reopened none", left.rows)?;
+    let mut memory = fresh(rt, left.rows)?;
+    agree(rt, &mut disk, &mut memory, left.listed)
 }
 
 /// A folder holds the same files as a disk in memory.
 #[test]
 fn folder_and_memory_agree(rt: HostRuntime) -> Result<(), Fail> {
     let path = path(&rt, "agree")?;
-    let rows = STALE_BITS.rows;
-    let mut folder = answers(&rt, folder(&rt, path.as_str())?, "reopened none", rows)?;
-    let mut memory = fresh(&rt, rows)?;
-    assert_eq!(rt;
-        listed(rt.alloc(), &mut folder)?.as_str(),
-        listed(rt.alloc(), &mut memory)?.as_str()
-    );
-    for slot in 0..2 {
-        let written = file(&rt, rt.alloc(), &mut folder, slot)?;
-        let wanted = file(&rt, rt.alloc(), &mut memory, slot)?;
-        assert_eq!(rt; written.as_slice(), wanted.as_slice());
-    }
+    agrees_with_memory(&rt, folder(&rt, path.as_str())?, STALE_BITS)?;
     fs::remove_dir_all(&rt, path.as_str())?;
     Ok(())
+}
+
+const DAMAGED: &str = "damaged 000 9\n";
+
+fn is_damaged_by_cut<D: Disk>(rt: &(impl Abort + AllocGlobal), disk: &mut D) -> Result<(), Fail> {
+    cut_first(rt, disk)?;
+    is_shown(rt, disk, DAMAGED)
 }
 
 /// The store that a script left may be cut short: it is then damaged.
 #[test]
 fn a_cut_image_is_damaged(rt: HostRuntime) -> Result<(), Fail> {
     let mut disk = fresh(&rt, FIRST.rows)?;
-    assert!(rt; 0 < disk.slots());
-    assert_eq!(rt; disk.len(0)?, 8264);
-    disk.cut(0, 8263)?;
-    assert_eq!(rt; shown(rt.alloc(), &mut disk)?.as_str(), "damaged 000 9\n");
-    let (_, out, status) = ran(rt.alloc(), disk, "checkpoint 0\n");
-    assert_eq!(rt; out.as_slice(), b"damaged 000 9\n".as_slice());
-    assert_eq!(rt; status, 1);
-    assert_eq!(rt;
-        shown(rt.alloc(), &mut empty(rt.alloc())?)?.as_str(),
-        "empty chain\n"
-    );
+    is_damaged_by_cut(&rt, &mut disk)?;
+    prints(&rt, disk, "checkpoint 0\n", DAMAGED, 1);
     Ok(())
+}
+
+#[test]
+fn an_empty_store_has_no_chain(rt: HostRuntime) -> Result<(), Fail> {
+    is_shown(&rt, &mut empty(rt.alloc())?, "empty chain\n")
 }

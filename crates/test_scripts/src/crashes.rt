@@ -1,6 +1,6 @@
 //! A gate that a crash tears, and one whose sync fails.
-use crate::run::{answers, empty, fresh, listed, shown};
-use sd_disk::{Fused, Pick};
+use crate::run::{answers, empty, fresh, is_listed, shown};
+use sd_disk::{Disk, Fused, MemDisk, Pick};
 use std::process::Abort;
 use std::test::Fail;
 
@@ -34,15 +34,37 @@ checkpoint 0 => acked 1
 begin 0 => begun 2
 step dumper 22 => worked";
 
+/// What a store is restored to begins so.
+fn shows_first<D: Disk>(
+    rt: &(impl Abort + AllocGlobal),
+    disk: &mut D,
+    first: &str,
+) -> Result<(), Fail> {
+    let text = shown(rt.alloc(), disk)?;
+    assert!(rt; text.as_str().starts_with(first), "{text}");
+    Ok(())
+}
+
+/// A crash that leaves this byte as the gate of checkpoint 2.
+fn is_torn(
+    rt: &(impl Abort + AllocGlobal),
+    disk: &MemDisk,
+    gate: u8,
+    first: &str,
+) -> Result<(), Fail> {
+    let mut crashed = disk.crash(rt.alloc(), &mut Torn { gate })?;
+    shows_first(rt, &mut crashed, first)
+}
+
+fn is_torn_or_open(rt: &(impl Abort + AllocGlobal), disk: &MemDisk) -> Result<(), Fail> {
+    is_torn(rt, disk, 0xA5, "checkpoint 2\n")?;
+    is_torn(rt, disk, 0x3C, "checkpoint 1\n")
+}
+
 #[test]
 fn torn_gate(rt: HostRuntime) -> Result<(), Fail> {
     let disk = fresh(&rt, GATE_WRITTEN)?;
-    for (gate, first) in [(0xA5, "checkpoint 2\n"), (0x3C, "checkpoint 1\n")] {
-        let mut crashed = disk.crash(rt.alloc(), &mut Torn { gate })?;
-        let text = shown(rt.alloc(), &mut crashed)?;
-        assert!(rt; text.as_str().starts_with(first), "{text}");
-    }
-    Ok(())
+    is_torn_or_open(&rt, &disk)
 }
 
 /// The sync behind the gate of checkpoint 2 fails.
@@ -72,6 +94,5 @@ const CALLS: u64 = 24 + 16 + 9 + 7;
 fn doubtful_commit(rt: HostRuntime) -> Result<(), Fail> {
     let disk = Fused::new(empty(rt.alloc())?, CALLS);
     let mut disk = answers(&rt, disk, "reopened none", DOUBTFUL)?;
-    assert_eq!(rt; listed(rt.alloc(), &mut disk)?.as_str(), LISTED);
-    Ok(())
+    is_listed(&rt, &mut disk, LISTED)
 }

@@ -1,5 +1,5 @@
 //! Stores that a run opens, and opens again.
-use crate::run::{answers, empty, folder, fresh, path, ran};
+use crate::run::{HEADER, TABLE, answers, cut_first, empty, folder, has_first, path, prints};
 use sd_disk::{Disk, Fused, MemDisk};
 use sd_run::run_script;
 use std::alloc::Global;
@@ -7,26 +7,22 @@ use std::process::Abort;
 use std::test::Fail;
 use std::{fs, io};
 
-/// The header, the table, and the first bytes of the page of checkpoint 1: page 0x10 of space 1 begins with `hello`.
-const HEADER: &str =
-    "a55344434841494e0100020000000000010000000000000001000000000000000000000000000000010000000000000001000000000000004800000000000000";
+fn push_hex(alloc: Global, file: &mut Vec<u8>, digits: &str) -> Result<(), Fail> {
+    let bytes = hex::decode(alloc, digits)?;
+    file.extend_from_slice(&bytes)?;
+    Ok(())
+}
 
-const TABLE: &str =
-    "010000000000000001000000010000000100000000000000100000000000000001000000000000000300000000000000100000000000000001000000000000000100000000000000";
-
-/// A disk whose slot 0 has checkpoint 1.
-fn with_first(rt: &(impl Abort + AllocGlobal)) -> Result<MemDisk, Fail> {
-    let alloc = rt.alloc();
-    let mut disk = empty(alloc)?;
-    let header = hex::decode(alloc, HEADER)?;
-    let table = hex::decode(alloc, TABLE)?;
-    let mut file = vec![in alloc; 0; 8192]?;
-    assert!(rt; header.len() == 64);
-    file[..64].copy_from_slice(&header);
-    file[4096..4101].copy_from_slice(b"hello");
-    file.extend_from_slice(&table)?;
-    put(rt, &mut disk, &file)?;
-    Ok(disk)
+/// The header, the page and the table of checkpoint 1.
+fn push_first(rt: &(impl Abort + AllocGlobal), file: &mut Vec<u8>) -> Result<(), Fail> {
+    push_hex(rt.alloc(), file, HEADER)?;
+    assert_eq!(rt; file.len(), 64);
+    file.resize(4096, 0)?;
+    file.extend_from_slice(b"hello")?;
+    file.resize(8192, 0)?;
+    push_hex(rt.alloc(), file, TABLE)?;
+    assert_eq!(rt; file.len(), 8264);
+    Ok(())
 }
 
 /// Writes these bytes at the start of slot 0.
@@ -34,6 +30,20 @@ fn put<D: Disk>(rt: &impl Abort, disk: &mut D, bytes: &[u8]) -> Result<(), Fail>
     assert!(rt; 0 < disk.slots() && !bytes.is_empty());
     disk.write_at(0, 0, bytes)?;
     Ok(())
+}
+
+/// Writes checkpoint 1 into slot 0.
+fn put_first<D: Disk>(rt: &(impl Abort + AllocGlobal), disk: &mut D) -> Result<(), Fail> {
+    let mut file = Vec::new(rt.alloc());
+    push_first(rt, &mut file)?;
+    put(rt, disk, &file)
+}
+
+/// A disk whose slot 0 has checkpoint 1.
+fn with_first(rt: &(impl Abort + AllocGlobal)) -> Result<MemDisk, Fail> {
+    let mut disk = empty(rt.alloc())?;
+    put_first(rt, &mut disk)?;
+    Ok(disk)
 }
 
 /// The opening makes 24 calls; the opener's first call fails.
@@ -44,34 +54,28 @@ step opener 1 => refused 14 idle
 reopen => reopened none
 reopen => refused 11 busy";
 
-#[test]
-fn an_opening_that_fails_is_made_again(rt: HostRuntime) -> Result<(), Fail> {
-    let disk = Fused::new(empty(rt.alloc())?, 24);
-    answers(&rt, disk, "refused 22 device", FAILED)?;
-    Ok(())
-}
-
-/// An opening event by event: an empty slot takes a sync and a length, of three events each.
+/// An opening event by event ends at a refusal: an empty slot takes a sync and a length, of three events each.
 const STEPS: &str = "work opener => refused 13 store-down
 step opener 2 => refused 14 idle
 reopen => reopened none";
 
+/// How many calls come before the one that fails, and what is answered then.
+const FAILING: [(u64, &str); 2] = [(24, FAILED), (25, STEPS)];
+
 #[test]
-fn steps_end_at_a_refusal(rt: HostRuntime) -> Result<(), Fail> {
-    let disk = Fused::new(empty(rt.alloc())?, 25);
-    answers(&rt, disk, "refused 22 device", STEPS)?;
+fn an_opening_that_fails_is_made_again(rt: HostRuntime) -> Result<(), Fail> {
+    for (calls, rows) in FAILING {
+        let disk = Fused::new(empty(rt.alloc())?, calls);
+        answers(&rt, disk, "refused 22 device", rows)?;
+    }
     Ok(())
 }
 
 #[test]
 fn a_damaged_store_prints_its_fault_alone(rt: HostRuntime) -> Result<(), Fail> {
     let mut disk = with_first(&rt)?;
-    assert!(rt; 0 < disk.slots());
-    assert_eq!(rt; disk.len(0)?, 8264);
-    disk.cut(0, 8263)?;
-    let (_, out, status) = ran(rt.alloc(), disk, "load 1 0x10000 1\n");
-    assert_eq!(rt; out.as_slice(), b"damaged 000 9\n".as_slice());
-    assert_eq!(rt; status, 1);
+    cut_first(&rt, &mut disk)?;
+    prints(&rt, disk, "load 1 0x10000 1\n", "damaged 000 9\n", 1);
     Ok(())
 }
 
@@ -86,9 +90,7 @@ fn one_byte_is_closed(rt: HostRuntime) -> Result<(), Fail> {
 #[test]
 fn a_device_that_fails_at_the_opening_is_told(rt: HostRuntime) -> Result<(), Fail> {
     let disk = Fused::new(empty(rt.alloc())?, 3);
-    let (_, out, status) = ran(rt.alloc(), disk, "reopen\n");
-    assert_eq!(rt; out.as_slice(), b"device\n".as_slice());
-    assert_eq!(rt; status, 1);
+    prints(&rt, disk, "reopen\n", "device\n", 1);
     Ok(())
 }
 
@@ -116,15 +118,16 @@ const FAULTS: [(&str, &str); 17] = [
     ("begin-merge\n", "script line 1\n"),
 ];
 
+/// A script that doesn't fit is told its line, and leaves checkpoint 1 as it is.
+fn is_blamed(rt: &(impl Abort + AllocGlobal), script: &str, printed: &str) -> Result<(), Fail> {
+    let mut disk = prints(rt, with_first(rt)?, script, printed, 2);
+    has_first(rt, &mut disk)
+}
+
 #[test]
 fn script_faults(rt: HostRuntime) -> Result<(), Fail> {
-    for (script, wanted) in FAULTS {
-        let disk = with_first(&rt)?;
-        let (mut disk, out, status) = ran(rt.alloc(), disk, script);
-        assert_eq!(rt; out.as_slice(), wanted.as_bytes(), "at {script:?}");
-        assert_eq!(rt; status, 2);
-        assert!(rt; 0 < disk.slots());
-        assert_eq!(rt; disk.len(0)?, 8264);
+    for (script, printed) in FAULTS {
+        is_blamed(&rt, script, printed)?;
     }
     Ok(())
 }
@@ -152,43 +155,36 @@ impl io::Write for Failing {
 /// What a run over checkpoint 1 prints.
 const LOADED: &str = "reopened 1\nbytes 68656c6c6f\nrefused 11 busy\n";
 
+/// The status of a run over checkpoint 1 whose writer fails behind so many bytes.
+fn status_behind(rt: &(impl Abort + AllocGlobal), left: usize) -> Result<u8, Fail> {
+    let script = b"load 1 0x10000 5\nreopen\n";
+    let disk = with_first(rt)?;
+    let (_, status) = run_script(rt.alloc(), disk, script, &mut Failing { left });
+    Ok(status)
+}
+
 #[test]
 fn a_writer_that_fails_ends_the_run(rt: HostRuntime) -> Result<(), Fail> {
-    let script = b"load 1 0x10000 5\nreopen\n";
     for left in 0..LOADED.len() {
-        let disk = with_first(&rt)?;
-        let (_, status) = run_script(rt.alloc(), disk, script, &mut Failing { left });
-        assert_eq!(rt; status, 1);
+        assert_eq!(rt; status_behind(&rt, left)?, 1);
     }
-    let disk = with_first(&rt)?;
-    let left = LOADED.len();
-    let (_, status) = run_script(rt.alloc(), disk, script, &mut Failing { left });
-    assert_eq!(rt; status, 0);
+    assert_eq!(rt; status_behind(&rt, LOADED.len())?, 0);
+    Ok(())
+}
+
+/// An empty disk is opened, takes checkpoint 1, and is opened again.
+fn takes_first<D: Disk + Drop>(rt: &(impl Abort + AllocGlobal), disk: D) -> Result<(), Fail> {
+    let mut disk = answers(rt, disk, "reopened none", "cancel => refused 14 idle")?;
+    put_first(rt, &mut disk)?;
+    let rows = "load 1 0x10000 5 => bytes 68656c6c6f";
+    answers(rt, disk, "reopened 1", rows)?;
     Ok(())
 }
 
 #[test]
 fn a_folder_is_opened(rt: HostRuntime) -> Result<(), Fail> {
     let path = path(&rt, "opened")?;
-    let disk = folder(&rt, path.as_str())?;
-    let mut disk = answers(&rt, disk, "reopened none", "cancel => refused 14 idle")?;
-    copy(&rt, rt.alloc(), &mut disk)?;
-    answers(
-        &rt,
-        disk,
-        "reopened 1",
-        "load 1 0x10000 5 => bytes 68656c6c6f",
-    )?;
+    takes_first(&rt, folder(&rt, path.as_str())?)?;
     fs::remove_dir_all(&rt, path.as_str())?;
     Ok(())
-}
-
-/// Copies checkpoint 1 into slot 0.
-fn copy<D: Disk>(rt: &(impl Abort + AllocGlobal), alloc: Global, disk: &mut D) -> Result<(), Fail> {
-    let mut first = with_first(rt)?;
-    assert!(rt; 0 < first.slots());
-    assert_eq!(rt; first.len(0)?, 8264);
-    let mut file = vec![in alloc; 0; 8264]?;
-    first.read(0, 0, &mut file)?;
-    put(rt, disk, &file)
 }

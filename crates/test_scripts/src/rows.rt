@@ -1,6 +1,7 @@
 //! Scripts over an empty store, each line with its answer.
 use crate::run::{answers, fresh, shown};
-use sd_disk::MemDisk;
+use sd_disk::{Disk, MemDisk};
+use std::process::Abort;
 use std::test::Fail;
 
 const REFUSALS: &str = "mmap 1 0x10000 0 rw => refused 1 EINVAL
@@ -187,22 +188,26 @@ exit 3 => done
 fork 1 => child 3
 checkpoint 0 => acked 1";
 
+fn shows_lines<D: Disk>(
+    rt: &(impl Abort + AllocGlobal),
+    disk: &mut D,
+    count: usize,
+) -> Result<(), Fail> {
+    assert_eq!(rt; shown(rt.alloc(), disk)?.as_str().lines().count(), count);
+    Ok(())
+}
+
 #[test]
 fn spaces(rt: HostRuntime) -> Result<(), Fail> {
     let mut disk = fresh(&rt, SPACES)?;
-    assert_eq!(rt; shown(rt.alloc(), &mut disk)?.as_str().lines().count(), 17);
-    Ok(())
+    shows_lines(&rt, &mut disk, 17)
 }
 
 /// Fewer free slots than a checkpoint takes.
 #[test]
 fn one_free_slot(rt: HostRuntime) -> Result<(), Fail> {
     let disk = MemDisk::new(rt.alloc(), 2, 20_000, 400)?;
-    answers(
-        &rt,
-        disk,
-        "reopened none",
-        "checkpoint 0 => acked 1\ncheckpoint 0 => refused 12 no-slot",
-    )?;
+    let rows = "checkpoint 0 => acked 1\ncheckpoint 0 => refused 12 no-slot";
+    answers(&rt, disk, "reopened none", rows)?;
     Ok(())
 }

@@ -1,16 +1,23 @@
 //! Runs of scripts, and what they leave.
-use sd_areas::{PAGE_BYTES, PAGE_SIZE, PageNo, SnapshotPage, areas_in};
-use sd_chain::OpenImage;
+use sd_areas::{Area, PAGE_BYTES, PAGE_SIZE, PageNo, Snapshot, SnapshotPage, areas_in};
+use sd_chain::{Catalog, OpenImage};
 use sd_disk::{DirDisk, Disk, Folder, MemDisk, OpenError};
 use sd_image::Kind;
 use sd_procfs::areas_text;
-use sd_restore::{Fault, restore, scan};
+use sd_restore::{restore, scan};
 use sd_run::run_script;
 use std::alloc::{AllocError, Global};
 use std::fmt::Write;
 use std::process::{self, Abort};
 use std::test::Fail;
 use std::{fs, str};
+
+/// The header and the table of the image of checkpoint 1: page 0x10 of space 1 begins with `hello`.
+pub(crate) const HEADER: &str =
+    "a55344434841494e0100020000000000010000000000000001000000000000000000000000000000010000000000000001000000000000004800000000000000";
+
+pub(crate) const TABLE: &str =
+    "010000000000000001000000010000000100000000000000100000000000000001000000000000000300000000000000100000000000000001000000000000000100000000000000";
 
 /// An empty disk.
 pub(crate) fn empty(alloc: Global) -> Result<MemDisk, Fail> {
@@ -30,11 +37,54 @@ pub(crate) fn folder(rt: &HostRuntime, path: &str) -> Result<DirDisk, OpenError>
     Ok(DirDisk::new(Folder::open(rt, path, true)?))
 }
 
-/// What a run printed, and its exit status.
-pub(crate) fn ran<D: Disk>(alloc: Global, disk: D, script: &str) -> (D, Vec<u8>, u8) {
-    let mut out = Vec::new(alloc);
-    let (disk, status) = run_script(alloc, disk, script.as_bytes(), &mut out);
-    (disk, out, status)
+/// A script, and what its run prints.
+#[derive(Drop)]
+struct Told {
+    script: String,
+    printed: String,
+}
+
+impl Told {
+    /// The rows' lines and answers; the store is first answered as opened.
+    fn new(alloc: Global, opened: &str, rows: &str) -> Result<Self, Fail> {
+        let mut told = Told {
+            script: String::new(alloc),
+            printed: String::from_str(alloc, opened)?,
+        };
+        told.push_rows(rows)?;
+        Ok(told)
+    }
+
+    fn push_rows(&mut self, rows: &str) -> Result<(), Fail> {
+        self.printed.push_str("\n")?;
+        for row in rows.lines() {
+            let (line, answer) = row.split_once(" => ").ok_or("a row")?;
+            self.push(line, answer)?;
+        }
+        Ok(())
+    }
+
+    fn push(&mut self, line: &str, answer: &str) -> Result<(), AllocError> {
+        self.script.push_str(line)?;
+        self.script.push_str("\n")?;
+        self.printed.push_str(answer)?;
+        self.printed.push_str("\n")
+    }
+}
+
+/// Runs a script over a disk, which prints this and ends with this status, and gives the disk back.
+pub(crate) fn prints<D: Disk>(
+    rt: &(impl Abort + AllocGlobal),
+    disk: D,
+    script: &str,
+    printed: &str,
+    status: u8,
+) -> D {
+    let mut out = Vec::new(rt.alloc());
+    let (disk, ended) = run_script(rt.alloc(), disk, script.as_bytes(), &mut out);
+    assert_eq!(rt; str::from_utf8(&out).ok(), Some(printed), "at {script:?}");
+    assert_eq!(rt; ended, status, "at {script:?}");
+    disk
 }
 
 /// Runs rows over a disk, each a line of a script, ` => ` and its answer; the store is first answered as opened.
@@ -44,22 +94,8 @@ pub(crate) fn answers<D: Disk + Drop>(
     opened: &str,
     rows: &str,
 ) -> Result<D, Fail> {
-    let alloc = rt.alloc();
-    let mut script = String::new(alloc);
-    let mut wanted = String::from_str(alloc, opened)?;
-    wanted.push_str("\n")?;
-    for row in rows.lines() {
-        let (line, answer) = row.split_once(" => ").ok_or("a row")?;
-        script.push_str(line)?;
-        script.push_str("\n")?;
-        wanted.push_str(answer)?;
-        wanted.push_str("\n")?;
-    }
-    let (disk, out, status) = ran(alloc, disk, script.as_str());
-    let text = str::from_utf8(&out).ok().ok_or("a text")?;
-    assert_eq!(rt; text, wanted.as_str());
-    assert_eq!(rt; status, 0);
-    Ok(disk)
+    let told = Told::new(rt.alloc(), opened, rows)?;
+    Ok(prints(rt, disk, told.script.as_str(), told.printed.as_str(), 0))
 }
 
 /// The same over an empty disk.
@@ -69,25 +105,46 @@ pub(crate) fn fresh(rt: &(impl Abort + AllocGlobal), rows: &str) -> Result<MemDi
 
 /// What a store is restored to, as `ckpt restore` prints it.
 pub(crate) fn shown<D: Disk>(alloc: Global, disk: &mut D) -> Result<String, Fail> {
-    let snapshot = match restore(alloc, disk) {
-        Ok(snapshot) => snapshot,
-        Err(Fault::EmptyChain) => return Ok(String::from_str(alloc, "empty chain\n")?),
-        Err(fault) => return Ok(format!(in alloc; "{fault}\n")?),
-    };
+    match restore(alloc, disk) {
+        Ok(snapshot) => text_of(alloc, &snapshot),
+        Err(fault) => Ok(format!(in alloc; "{fault}\n")?),
+    }
+}
+
+/// A store is restored to this.
+pub(crate) fn is_shown<D: Disk>(
+    rt: &(impl Abort + AllocGlobal),
+    disk: &mut D,
+    wanted: &str,
+) -> Result<(), Fail> {
+    assert_eq!(rt; shown(rt.alloc(), disk)?.as_str(), wanted);
+    Ok(())
+}
+
+fn text_of(alloc: Global, snapshot: &Snapshot) -> Result<String, Fail> {
     let mut text = format!(in alloc; "checkpoint {}\n", snapshot.checkpoint)?;
+    push_spaces(alloc, &mut text, snapshot)?;
+    Ok(text)
+}
+
+fn push_spaces(alloc: Global, text: &mut String, snapshot: &Snapshot) -> Result<(), Fail> {
     for (space, pages) in &snapshot.spaces {
         writeln!(text, "space {}", space.number())?;
-        let areas = areas_in(alloc, pages)?;
-        for area in &areas {
-            let first = PAGE_BYTES.wrapping_mul(area.first.number());
-            let end = first.wrapping_add(PAGE_BYTES.wrapping_mul(area.count));
-            writeln!(text, "area 0x{first:x} 0x{end:x} {}", area.prot)?;
-        }
+        push_areas(text, &areas_in(alloc, pages)?)?;
         for (page, found) in pages {
-            push_page(alloc, &mut text, *page, found)?;
+            push_page(alloc, text, *page, found)?;
         }
     }
-    Ok(text)
+    Ok(())
+}
+
+fn push_areas(text: &mut String, areas: &[Area]) -> Result<(), AllocError> {
+    for area in areas {
+        let first = PAGE_BYTES.wrapping_mul(area.first.number());
+        let end = first.wrapping_add(PAGE_BYTES.wrapping_mul(area.count));
+        writeln!(text, "area 0x{first:x} 0x{end:x} {}", area.prot)?;
+    }
+    Ok(())
 }
 
 /// A line for each 32 bytes of a page that aren't all zeros.
@@ -100,30 +157,58 @@ fn push_page(
     let mut address = PAGE_BYTES.wrapping_mul(page.number());
     let bytes: &[u8; PAGE_SIZE] = &found.bytes;
     for line in bytes.chunks(32) {
-        if !line.iter().all(|byte| *byte == 0) {
-            let digits = hex::encode(alloc, line)?;
-            writeln!(text, "bytes 0x{address:x} {digits}")?;
-        }
+        push_bytes(alloc, text, address, line)?;
         address = address.wrapping_add(32);
     }
     Ok(())
 }
 
+fn push_bytes(alloc: Global, text: &mut String, address: u64, line: &[u8]) -> Result<(), Fail> {
+    if line.iter().all(|byte| *byte == 0) {
+        return Ok(());
+    }
+    let digits = hex::encode(alloc, line)?;
+    writeln!(text, "bytes 0x{address:x} {digits}")?;
+    Ok(())
+}
+
 /// The images of a store, as `ckpt list` prints them.
-pub(crate) fn listed<D: Disk>(alloc: Global, disk: &mut D) -> Result<String, Fail> {
-    let catalog = match scan(alloc, disk) {
-        Ok(catalog) => catalog,
-        Err(fault) => return Ok(format!(in alloc; "{fault}\n")?),
-    };
+fn listed<D: Disk>(alloc: Global, disk: &mut D) -> Result<String, Fail> {
+    match scan(alloc, disk) {
+        Ok(catalog) => list_of(alloc, &catalog),
+        Err(fault) => Ok(format!(in alloc; "{fault}\n")?),
+    }
+}
+
+/// A store has these images.
+pub(crate) fn is_listed<D: Disk>(
+    rt: &(impl Abort + AllocGlobal),
+    disk: &mut D,
+    wanted: &str,
+) -> Result<(), Fail> {
+    assert_eq!(rt; listed(rt.alloc(), disk)?.as_str(), wanted);
+    Ok(())
+}
+
+fn list_of(alloc: Global, catalog: &Catalog) -> Result<String, Fail> {
     let mut text = String::new(alloc);
-    for image in &catalog.list()? {
-        push_image(&mut text, image)?;
-    }
-    match catalog.tip() {
-        Some(tip) => writeln!(text, "tip {}", tip.header().serial)?,
-        None => writeln!(text, "tip none")?,
-    }
+    push_images(&mut text, &catalog.list()?)?;
+    push_tip(&mut text, catalog)?;
     Ok(text)
+}
+
+fn push_images(text: &mut String, images: &[&OpenImage]) -> Result<(), AllocError> {
+    for image in images {
+        push_image(text, image)?;
+    }
+    Ok(())
+}
+
+fn push_tip(text: &mut String, catalog: &Catalog) -> Result<(), AllocError> {
+    match catalog.tip() {
+        Some(tip) => writeln!(text, "tip {}", tip.header().serial),
+        None => writeln!(text, "tip none"),
+    }
 }
 
 fn push_image(text: &mut String, image: &OpenImage) -> Result<(), AllocError> {
@@ -157,4 +242,29 @@ pub(crate) fn file<D: Disk>(
     let mut bytes = vec![in alloc; 0; len]?;
     disk.read(slot, 0, &mut bytes)?;
     Ok(bytes)
+}
+
+/// The file of a slot that a script over an empty disk leaves.
+pub(crate) fn file_behind(
+    rt: &(impl Abort + AllocGlobal),
+    rows: &str,
+    slot: usize,
+) -> Result<Vec<u8>, Fail> {
+    let mut disk = fresh(rt, rows)?;
+    file(rt, rt.alloc(), &mut disk, slot)
+}
+
+/// Slot 0 has the whole file of checkpoint 1.
+pub(crate) fn has_first<D: Disk>(rt: &impl Abort, disk: &mut D) -> Result<(), Fail> {
+    assert!(rt; 0 < disk.slots());
+    assert_eq!(rt; disk.len(0)?, 8264);
+    Ok(())
+}
+
+/// Cuts the last byte off the file of checkpoint 1.
+pub(crate) fn cut_first<D: Disk>(rt: &impl Abort, disk: &mut D) -> Result<(), Fail> {
+    assert!(rt; 0 < disk.slots());
+    assert_eq!(rt; disk.len(0)?, 8264);
+    disk.cut(0, 8263)?;
+    Ok(())
 }
