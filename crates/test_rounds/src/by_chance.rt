@@ -5,6 +5,7 @@ use crate::calls::call_by_chance;
 use crate::chance::Chance;
 use crate::drive::Drive;
 use crate::moment::Moment;
+use sd_pagetable::Memory;
 use std::alloc::Global;
 use std::test::Fail;
 
@@ -20,6 +21,15 @@ const IMAGES: u64 = 4;
 /// More steps than a checkpoint has before its freeze.
 const MOST: usize = 1_000;
 
+/// The slots from a first one up to another.
+fn slots(alloc: Global, first: usize, end: usize) -> Result<Vec<usize>, Fail> {
+    let mut slots = Vec::new(alloc);
+    for slot in first..end {
+        slots.push(slot)?;
+    }
+    Ok(slots)
+}
+
 /// Begins a checkpoint of no to three rounds. Those of a chain have slots of their own.
 fn begin(alloc: Global, drive: &mut Drive, chance: &mut Chance, number: u64) -> Result<(), Fail>
     requires { 1 ≤ number }
@@ -27,20 +37,23 @@ fn begin(alloc: Global, drive: &mut Drive, chance: &mut Chance, number: u64) -> 
     let place = (number - 1) % CHAIN;
     let first = (place * IMAGES) as usize;
     let dump = first + chance.below(IMAGES) as usize;
-    let mut rounds = Vec::new(alloc);
-    for slot in first..dump {
-        rounds.push(slot)?;
-    }
+    let rounds = slots(alloc, first, dump)?;
     let parent = if place == 0 { 0 } else { drive.serials() };
     drive.begin(number, rounds, dump, parent)
+}
+
+/// Makes no, one or two calls on a memory.
+fn call_some(memory: &mut Memory, chance: &mut Chance) -> Result<(), Fail> {
+    for _ in 0..chance.below(3) {
+        call_by_chance(memory, chance)?;
+    }
+    Ok(())
 }
 
 /// Makes the steps up to the freeze, with some calls before each.
 fn up_to_freeze(drive: &mut Drive, chance: &mut Chance) -> Result<(), Fail> {
     for _ in 0..MOST {
-        for _ in 0..chance.below(3) {
-            call_by_chance(&mut drive.memory, chance)?;
-        }
+        call_some(&mut drive.memory, chance)?;
         if drive.step()? {
             return Err(Fail::from("a freeze before the end"));
         }

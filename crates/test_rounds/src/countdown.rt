@@ -6,6 +6,7 @@ use sd_gate::{Request, SlotState, perform};
 use sd_pagetable::Memory;
 use sd_rounds::{Dumper, ImageStep, NextImage, Progress, WorkError};
 use std::alloc::Global;
+use std::process::Abort;
 use std::test::Fail;
 
 /// More steps than the checkpoint has.
@@ -28,19 +29,29 @@ struct Watched {
 impl Watched {
     /// A checkpoint of one pre-dump that begins, over two pages: one has a byte, one is all zeros.
     fn new(alloc: Global) -> Result<Self, Fail> {
-        let mut memory = Memory::new(alloc, 16)?;
-        memory.mmap(SpaceId::new(SPACE), FIRST, 2 * PAGE, PROT)?;
-        memory.store_now(SpaceId::new(SPACE), FIRST, &[0x61])?;
-        let mut dumper = Dumper::new(alloc);
-        dumper.begin(1, vec![in alloc; 0]?, 1, 0)?;
-        let left = dumper.left(&memory);
-        Ok(Watched {
-            memory,
+        let mut watched = Watched {
+            memory: Memory::new(alloc, 16)?,
             disk: MemDisk::new(alloc, 2, 0x8000, 1_000)?,
-            dumper,
-            left,
+            dumper: Dumper::new(alloc),
+            left: 0,
             moves: 0,
-        })
+        };
+        watched.begin(alloc)?;
+        Ok(watched)
+    }
+
+    fn begin(&mut self, alloc: Global) -> Result<(), Fail> {
+        self.map()?;
+        self.dumper.begin(1, vec![in alloc; 0]?, 1, 0)?;
+        self.look();
+        Ok(())
+    }
+
+    fn map(&mut self) -> Result<(), Fail> {
+        self.memory
+            .mmap(SpaceId::new(SPACE), FIRST, 2 * PAGE, PROT)?;
+        self.memory.store_now(SpaceId::new(SPACE), FIRST, &[0x61])?;
+        Ok(())
     }
 
     /// How much was left at the last look, and how much is left now.
@@ -61,7 +72,10 @@ impl Watched {
 
     /// Whether a step is refused so, and leaves what is left.
     fn is_refused(&mut self, error: WorkError) -> bool {
-        let refused = matches!(self.work(), Err(found) if found == error);
+        let refused = match self.work() {
+            Ok(_) => false,
+            Err(found) => found == error,
+        };
         let (before, now) = self.look();
         refused && now == before
     }
@@ -129,9 +143,7 @@ impl Watched {
 /// An image that hasn't begun counts 39: a format of three calls, a freeze, eleven for each page, and five calls that
 /// close it. The pre-dump has 36 of them: it freezes nothing, and the page of zeros isn't written. The dump has 19:
 /// both pages are clean.
-#[test]
-fn left_falls_to_none(rt: HostRuntime) -> Result<(), Fail> {
-    let mut watched = Watched::new(rt.alloc())?;
+fn falls_to_none(rt: &impl Abort, watched: &mut Watched) -> Result<(), Fail> {
     assert_eq!(rt; watched.left, 39 + 39 + 1);
     watched.finish()?;
     assert_eq!(rt; watched.moves, 36 + 19);
@@ -141,9 +153,7 @@ fn left_falls_to_none(rt: HostRuntime) -> Result<(), Fail> {
 }
 
 /// Commands that map no page leave what is left, and a page that is unmapped ahead of both images takes it down by 22.
-#[test]
-fn other_commands_leave_it(rt: HostRuntime) -> Result<(), Fail> {
-    let mut watched = Watched::new(rt.alloc())?;
+fn is_left_by_others(rt: &impl Abort, watched: &mut Watched) -> Result<(), Fail> {
     let space = SpaceId::new(SPACE);
     watched.up_to(INTO_PASS)?;
     let left = watched.left;
@@ -159,9 +169,7 @@ fn other_commands_leave_it(rt: HostRuntime) -> Result<(), Fail> {
 }
 
 /// Each page that is mapped ahead of both images raises it by 22: by `mmap`, or by `fork` for a child that is ended again.
-#[test]
-fn commands_that_map_raise_it(rt: HostRuntime) -> Result<(), Fail> {
-    let mut watched = Watched::new(rt.alloc())?;
+fn is_raised_by_maps(rt: &impl Abort, watched: &mut Watched) -> Result<(), Fail> {
     let space = SpaceId::new(SPACE);
     watched.up_to(INTO_PASS)?;
     let left = watched.left;
@@ -175,9 +183,7 @@ fn commands_that_map_raise_it(rt: HostRuntime) -> Result<(), Fail> {
 }
 
 /// A checkpoint that is given up has nothing left, and the outcome of its request changes nothing.
-#[test]
-fn none_is_left_behind_a_cancel(rt: HostRuntime) -> Result<(), Fail> {
-    let mut watched = Watched::new(rt.alloc())?;
+fn is_cancelled(rt: &impl Abort, watched: &mut Watched) -> Result<(), Fail> {
     let ImageStep::Call(request) = watched.work()? else {
         return Err(Fail::from("a call"));
     };
@@ -190,5 +196,48 @@ fn none_is_left_behind_a_cancel(rt: HostRuntime) -> Result<(), Fail> {
     let progress = watched.dumper.hand_in(outcome);
     assert!(rt; matches!(progress, Progress::Strange));
     assert_eq!(rt; watched.look(), (0, 0));
+    Ok(())
+}
+
+/// What is looked at while a checkpoint runs.
+#[derive(Clone, Copy)]
+enum Course {
+    Falls,
+    OtherCommands,
+    Maps,
+    Cancel,
+}
+
+const ALL: [Course; 4] = [
+    Course::Falls,
+    Course::OtherCommands,
+    Course::Maps,
+    Course::Cancel,
+];
+
+fn is_right(
+    rt: &(impl Abort + AllocGlobal),
+    watched: &mut Watched,
+    which: Course,
+) -> Result<(), Fail> {
+    match which {
+        Course::Falls => falls_to_none(rt, watched),
+        Course::OtherCommands => is_left_by_others(rt, watched),
+        Course::Maps => is_raised_by_maps(rt, watched),
+        Course::Cancel => is_cancelled(rt, watched),
+    }
+}
+
+/// One of them, over a checkpoint of its own.
+fn counts(rt: &(impl Abort + AllocGlobal), which: Course) -> Result<(), Fail> {
+    let mut watched = Watched::new(rt.alloc())?;
+    is_right(rt, &mut watched, which)
+}
+
+#[test]
+fn left_counts_down(rt: HostRuntime) -> Result<(), Fail> {
+    for which in ALL {
+        counts(&rt, which)?;
+    }
     Ok(())
 }

@@ -48,18 +48,17 @@ pub(crate) struct Drive {
 impl Drive {
     /// An empty disk, and a memory of one page.
     pub(crate) fn new(alloc: Global) -> Result<Self, Fail> {
-        let mut memory = Memory::new(alloc, 16)?;
-        memory.mmap(SpaceId::new(SPACE), FIRST, PAGE, PROT)?;
-        let disk = MemDisk::new(alloc, SLOTS, SLOT_SIZE, CALLS)?;
-        Ok(Drive {
-            memory,
-            disk,
+        let mut drive = Drive {
+            memory: Memory::new(alloc, 16)?,
+            disk: MemDisk::new(alloc, SLOTS, SLOT_SIZE, CALLS)?,
             dumper: Dumper::new(alloc),
             serials: 0,
             events: 0,
             frozen: 0,
             last: None,
-        })
+        };
+        drive.memory.mmap(SpaceId::new(SPACE), FIRST, PAGE, PROT)?;
+        Ok(drive)
     }
 
     /// Begins a checkpoint above the parent with this number: pre-dumps in these slots, and a dump.

@@ -2,6 +2,7 @@
 use sd_areas::{PAGE_SIZE, PageNo, Prot, Snapshot, SnapshotPage, SpaceId};
 use sd_pagetable::{Memory, SECTOR_SIZE};
 use std::alloc::{AllocError, Global};
+use std::collections::BTreeMap;
 
 /// More pages than the spaces of a test have.
 const MOST: usize = 64;
@@ -44,12 +45,23 @@ impl Moment {
         let mut pages = Vec::new(alloc);
         for (space, own) in &snapshot.spaces {
             spaces.push(*space)?;
-            for (page, found) in own {
-                pages.push(page_of_snapshot(alloc, *space, *page, found)?)?;
-            }
+            push_pages(alloc, &mut pages, *space, own)?;
         }
         Ok(Moment { spaces, pages })
     }
+}
+
+/// The pages of a space of a snapshot.
+fn push_pages(
+    alloc: Global,
+    pages: &mut Vec<MomentPage>,
+    space: SpaceId,
+    own: &BTreeMap<PageNo, SnapshotPage>,
+) -> Result<(), AllocError> {
+    for (page, found) in own {
+        pages.push(page_of_snapshot(alloc, space, *page, found)?)?;
+    }
+    Ok(())
 }
 
 fn living(alloc: Global, memory: &Memory) -> Result<Vec<SpaceId>, AllocError> {

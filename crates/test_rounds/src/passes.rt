@@ -3,6 +3,7 @@ use sd_areas::{Prot, SpaceId};
 use sd_pagetable::Memory;
 use sd_rounds::{Round, Standing};
 use std::alloc::Global;
+use std::process::Abort;
 use std::test::Fail;
 
 const SPACE: u64 = 1;
@@ -27,51 +28,101 @@ struct Taken {
     pages: Vec<Vec<u8>>,
 }
 
+/// Maps three pages, with a byte in the first.
+fn map_three(memory: &mut Memory) -> Result<(), Fail> {
+    memory.mmap(SpaceId::new(SPACE), FIRST, 3 * PAGE, PROT)?;
+    memory.store_now(SpaceId::new(SPACE), FIRST, &[0x61])?;
+    Ok(())
+}
+
 /// A memory of three pages, with a byte in the first.
 fn memory(alloc: Global) -> Result<Memory, Fail> {
     let mut memory = Memory::new(alloc, 16)?;
-    memory.mmap(SpaceId::new(SPACE), FIRST, 3 * PAGE, PROT)?;
-    memory.store_now(SpaceId::new(SPACE), FIRST, &[0x61])?;
+    map_three(&mut memory)?;
     Ok(memory)
+}
+
+/// Makes a step of a pass, and returns whether there was one.
+fn step(round: &mut Round, memory: &mut Memory, taken: &mut Taken) -> Result<bool, Fail> {
+    match round.standing() {
+        Standing::Free => match round.visit(memory)? {
+            Some(visit) => taken.visits.push((visit.page.number(), visit.soft_dirty))?,
+            None => return Ok(false),
+        },
+        Standing::Copying => {
+            round.copy_sector(memory)?;
+        }
+        Standing::Copied => taken.pages.push(round.take_page()?)?,
+    }
+    Ok(true)
+}
+
+/// Makes the steps of a pass to its end.
+fn steps(round: &mut Round, memory: &mut Memory, taken: &mut Taken) -> Result<(), Fail> {
+    for _ in 0..STEPS {
+        if !step(round, memory, taken)? {
+            return Ok(());
+        }
+    }
+    Ok(())
 }
 
 /// Makes a pass to its end.
 fn pass(alloc: Global, memory: &mut Memory, takes_all: bool) -> Result<Taken, Fail> {
     let mut round = Round::new(alloc, takes_all);
-    let mut visits = Vec::new(alloc);
-    let mut pages = Vec::new(alloc);
-    for _ in 0..STEPS {
-        match round.standing() {
-            Standing::Free => match round.visit(memory)? {
-                Some(visit) => visits.push((visit.page.number(), visit.soft_dirty))?,
-                None => break,
-            },
-            Standing::Copying => {
-                round.copy_sector(memory)?;
-            }
-            Standing::Copied => pages.push(round.take_page()?)?,
-        }
-    }
-    Ok(Taken { visits, pages })
+    let mut taken = Taken {
+        visits: Vec::new(alloc),
+        pages: Vec::new(alloc),
+    };
+    steps(&mut round, memory, &mut taken)?;
+    Ok(taken)
+}
+
+/// A pass found the pages so, and took one that begins with these bytes.
+fn has_taken(rt: &impl Abort, taken: &Taken, visits: &[(u64, bool)], bytes: &[u8]) {
+    assert_eq!(rt; taken.visits.as_slice(), visits);
+    assert_eq!(rt; taken.pages.len(), 1);
+    assert!(rt; taken.pages[0].starts_with(bytes));
+}
+
+fn takes(
+    rt: &(impl Abort + AllocGlobal),
+    memory: &mut Memory,
+    takes_all: bool,
+    visits: &[(u64, bool)],
+    bytes: &[u8],
+) -> Result<(), Fail> {
+    let taken = pass(rt.alloc(), memory, takes_all)?;
+    has_taken(rt, &taken, visits, bytes);
+    Ok(())
+}
+
+fn takes_what_was_touched(
+    rt: &(impl Abort + AllocGlobal),
+    memory: &mut Memory,
+) -> Result<(), Fail> {
+    let all = [(0x10, true), (0x11, true), (0x12, true)];
+    takes(rt, memory, true, &all, &[0x61, 0])?;
+    memory.store_now(SpaceId::new(SPACE), FIRST + PAGE, &[0x62, 0x63])?;
+    let touched = [(0x10, false), (0x11, true), (0x12, false)];
+    takes(rt, memory, false, &touched, &[0x62, 0x63, 0])
 }
 
 #[test]
 fn a_second_pass_takes_what_was_touched(rt: HostRuntime) -> Result<(), Fail> {
     let mut memory = memory(rt.alloc())?;
-    let first = pass(rt.alloc(), &mut memory, true)?;
-    assert_eq!(rt;
-        first.visits.as_slice(),
-        [(0x10, true), (0x11, true), (0x12, true)].as_slice()
-    );
-    assert_eq!(rt; first.pages.len(), 1);
-    memory.store_now(SpaceId::new(SPACE), FIRST + PAGE, &[0x62, 0x63])?;
-    let second = pass(rt.alloc(), &mut memory, false)?;
-    assert_eq!(rt;
-        second.visits.as_slice(),
-        [(0x10, false), (0x11, true), (0x12, false)].as_slice()
-    );
-    assert_eq!(rt; second.pages.len(), 1);
-    assert!(rt; second.pages[0].starts_with(&[0x62, 0x63, 0]));
+    takes_what_was_touched(&rt, &mut memory)
+}
+
+/// Unmaps the page that a pass copies, which is then free of it.
+fn drops_unmapped(rt: &impl Abort, round: &mut Round, memory: &mut Memory) -> Result<(), Fail> {
+    assert!(rt; matches!(round.standing(), Standing::Free));
+    round.visit(memory)?;
+    memory.munmap(SpaceId::new(SPACE), FIRST, PAGE)?;
+    if let Standing::Copying = round.standing() {
+        round.copy_sector(memory)?;
+    }
+    assert_eq!(rt; round.standing(), Standing::Free);
     Ok(())
 }
 
@@ -79,11 +130,5 @@ fn a_second_pass_takes_what_was_touched(rt: HostRuntime) -> Result<(), Fail> {
 fn an_unmapped_page_is_dropped(rt: HostRuntime) -> Result<(), Fail> {
     let mut memory = memory(rt.alloc())?;
     let mut round = Round::new(rt.alloc(), true);
-    round.visit(&mut memory)?;
-    memory.munmap(SpaceId::new(SPACE), FIRST, PAGE)?;
-    if let Standing::Copying = round.standing() {
-        round.copy_sector(&memory)?;
-    }
-    assert_eq!(rt; round.standing(), Standing::Free);
-    Ok(())
+    drops_unmapped(&rt, &mut round, &mut memory)
 }
