@@ -23,10 +23,23 @@ fn begin_round(alloc: Global, drive: &mut Drive) -> Result<(), Fail> {
     drive.begin(1, vec![in alloc; 0]?, 1, 0)
 }
 
+/// Stores a byte to the page.
+fn store_byte(drive: &mut Drive) -> Result<(), Fail> {
+    drive.memory.store_now(SpaceId::new(SPACE), FIRST, &[0x61])?;
+    Ok(())
+}
+
 /// Stores a byte to the page, and begins a checkpoint of one round.
 fn store_and_begin(alloc: Global, drive: &mut Drive) -> Result<(), Fail> {
-    drive.memory.store_now(SpaceId::new(SPACE), FIRST, &[0x61])?;
+    store_byte(drive)?;
     begin_round(alloc, drive)
+}
+
+/// Makes a checkpoint of no rounds over one page of data.
+fn dump(alloc: Global, drive: &mut Drive) -> Result<(), Fail> {
+    store_byte(drive)?;
+    drive.begin(1, Vec::new(alloc), 0, 0)?;
+    drive.finish()
 }
 
 /// Stores between two sectors of the pre-dump's copy, and returns whether the page was writable before and after its
@@ -70,9 +83,7 @@ fn loses_race(rt: &(impl Abort + AllocGlobal), drive: &mut Drive) -> Result<(), 
 
 /// Makes a checkpoint, maps the region anew, and makes another.
 fn renew(alloc: Global, drive: &mut Drive) -> Result<(), Fail> {
-    drive.memory.store_now(SpaceId::new(SPACE), FIRST, &[0x61])?;
-    drive.begin(1, Vec::new(alloc), 0, 0)?;
-    drive.finish()?;
+    dump(alloc, drive)?;
     drive.memory.munmap(SpaceId::new(SPACE), FIRST, PAGE)?;
     drive.memory.mmap(SpaceId::new(SPACE), FIRST, PAGE, PROT)?;
     drive.begin(2, Vec::new(alloc), 1, 1)?;
@@ -104,13 +115,6 @@ fn has_vanished(rt: &(impl Abort + AllocGlobal), drive: &mut Drive) -> Result<()
     assert_eq!(rt; drive.last.map(|header| header.table_len), Some(24));
     assert_eq!(rt; restored, (1, None));
     Ok(())
-}
-
-/// Makes a checkpoint of no rounds over one page of data.
-fn dump(alloc: Global, drive: &mut Drive) -> Result<(), Fail> {
-    drive.memory.store_now(SpaceId::new(SPACE), FIRST, &[0x61])?;
-    drive.begin(1, Vec::new(alloc), 0, 0)?;
-    drive.finish()
 }
 
 /// One page and no rounds: the memory is frozen with event 10, and the dump is open with event 37.
