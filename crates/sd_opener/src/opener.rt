@@ -6,6 +6,7 @@ ghost use Rattle.sd_gate.specs.Inspections.{the_length};
 ghost use Rattle.sd_gate.specs.Plans.{Planned, begun, found_of};
 ghost use Rattle.sd_gate.specs.Requests.{Asked};
 ghost use Rattle.sd_gate.specs.Sequences.{first_looks};
+ghost use Rattle.sd_restore.specs.Faulty.{IsDamage, Names};
 ghost use Rattle.sd_opener.specs.declared.open_error.OpenError.TheVariants.{Busy};
 ghost use Rattle.sd_opener.specs.declared.opener_progress.OpenerProgress.TheVariants.{Strange as IsStrange, Failed as HasFailed, More as GoesOn};
 ghost use Rattle.sd_opener.specs.Left.{Lowers, LowersByStep, looking_left, stage_left};
@@ -235,6 +236,10 @@ impl Opener {
         ensures told { IfOk result (λ opened. opened.phases.items ≡ self.told) }
         ensures damaged { (files : List (List ℕ)) → Sees files None self → length self.told ≡ length files
             → IfErr result (λ _. IsNoStore files) }
+        ensures names { (files : List (List ℕ)) → Sees files None self → length self.told ≡ length files
+            → IfErr result (Names (IsDamage files)) }
+        ensures empty { result ≢ Err Fault.EmptyChain }
+        ensures device { result ≢ Err Fault.Device }
     {
         let Opener { told, scanned, .. } = self;
         scanned.check()?;
