@@ -120,6 +120,7 @@ module _ (follows : CatalogFollows) (base : Base) (history : History) (places : 
     frozen = frozen_then p;
     serial = m.serial;
     fresh = m.fresh;
+    low = m.low;
     others = λ k i has differs. m.others k i (sym (image_else beliefs then slot belief_now changed k differs) ∙ has) differs;
     phase = m.phase;
     phase_is = m.phase_is;
@@ -138,7 +139,6 @@ module _ (follows : CatalogFollows) (base : Base) (history : History) (places : 
       record {
         catalog = follows.stays places beliefs then (same_images beliefs then slot m.belief belief_now m.belief_is changed same) u.catalog;
         grows_is = u.grows_is;
-        alone = u.alone;
         used = record {
           above = u.used.above;
           slots = λ k i has. elim (cases_eq k slot) [

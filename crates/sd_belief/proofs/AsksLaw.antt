@@ -1,5 +1,5 @@
 -- The next call of an image's plan is asked for.
-use Rattle.std.proofs.Common.{◌≡◌, ℕ, ◌<◌, ◌≤◌, ◌==◌, ◌&&◌, ◌||◌, Bool, true, false, if◌then◌else◌, List, [], ◌∷◌, ◌++◌, Option, Some, None, IfSome, Contains, option_and_then, slice_get, slice_set, refl, sym, ◌∙◌, ap, subst, inl, inr, arith}
+use Rattle.std.proofs.Common.{◌≡◌, ◌≢◌, ◌⊎◌, ℕ, ◌<◌, ◌≤◌, ◌==◌, ◌&&◌, ◌||◌, Bool, true, false, if◌then◌else◌, List, [], ◌∷◌, ◌++◌, Option, Some, None, IfSome, Contains, option_and_then, slice_get, slice_set, refl, sym, ◌∙◌, ap, subst, inl, inr, arith}
 use Rattle.std.proofs.lemmas.Bool.{cases_eq, false≢true}
 use Rattle.std.proofs.lemmas.Option.{same_Some}
 use Rattle.sd_disk.specs.Contents.{file_at}
@@ -7,7 +7,7 @@ use Rattle.sd_image.specs.declared.header.Header.{Header}
 use Rattle.sd_image.specs.declared.header.Kind.{Kind}
 use Rattle.sd_image.specs.declared.header.Kind.TheVariants.{PreDump, Dump, Merged}
 use Rattle.sd_image.specs.Image.{Image, IsImage, gate, image_text}
-use Rattle.sd_image.specs.Shows.{ImagesShow}
+use Rattle.sd_image.specs.Shows.{ImagesShow, IsRestorable}
 use Rattle.sd_image.specs.Table.{Listed}
 use Rattle.sd_image.specs.Words.{kind_number}
 use Rattle.sd_gate.specs.Phases.{is_ready}
@@ -25,7 +25,7 @@ use Rattle.sd_rounds.specs.Making.{Asks, Making, is_frozen, is_past_freeze, with
 use Rattle.sd_rounds.specs.MakingLaws.{image_of}
 use Rattle.sd_store_laws.specs.Beliefs.{Belief, Closed, Kept, Closing, Opening, image_in}
 use Rattle.sd_store_laws.specs.InUse.{CatalogFollows}
-use Rattle.sd_store_laws.specs.Makers.{AboveIsFresh, DumpShows, HasMemory, IsAbove}
+use Rattle.sd_store_laws.specs.Makers.{DumpShows, HasMemory}
 use Rattle.sd_store_laws.specs.Needed.{IsNeeded}
 use Rattle.sd_store_laws.specs.Needs.{IsNeededIn}
 use Rattle.sd_store_laws.specs.SlotSteps.{with_belief}
@@ -36,23 +36,16 @@ use Rattle.sd_belief.specs.GateSteps.{GateSteps}
 use Rattle.sd_belief.specs.InUse.{IsFrozenAs, IsImageOn, IsInUseOn, IsMakingOn, IsReserved, IsRunningOn, IsSlotFor, chain_of, pending_dump}
 use Rattle.sd_belief.specs.StoreSteps.{MayAsk, MayOpen, QuietSteps}
 use Rattle.sd_belief.specs.View.{CoreView, history_of}
-use Rattle.sd_belief.proofs.Asks.{HasIt, changed_by, in_use_then, unchanged_at}
+use Rattle.sd_belief.proofs.Asks.{HasIt, IsChangedAt, changed_by, in_use_then, unchanged_at}
 use Rattle.sd_belief.proofs.AsksImage.{dump_has, plan_on}
 use Rattle.sd_belief.proofs.AsksSlot.{AsksOn, AsksQuietly, AsksToClose, AsksToOpen, asks_on, image_in_stage}
 use Rattle.sd_belief.proofs.BeginsImage.{none_at}
+use Rattle.sd_belief.proofs.MergeStays.{ChangesAt, below_checkpoint, fresh_of, holds_same, leaves_at, merge_then, merging_of, needed_there, own_beside, slots_at, source_there, spares_on}
 use Rattle.sd_belief.proofs.OpenCore.{believes_parts}
 use Rattle.sd_belief.proofs.Places.{free_there, ids_set}
 
--- what is needed stands in the catalog
-pub needed_there : (catalog : List Image) (asked : List ℕ) (i : Image) → IsNeeded catalog asked i → Contains catalog i
-needed_there catalog asked i (inl tip) = tip.member
-needed_there catalog asked i (inr called) = called.2.member
-
 pub its_parent : (chain : List ℕ) (parent : ℕ) → chain ≡ parent ∷ [] → Contains chain parent
 its_parent chain parent is = subst (λ c. Contains c parent) (sym is) (0, omega arith, refl)
-
-pub in_front : (chain work : List ℕ) (parent : ℕ) → chain ≡ parent ∷ [] → Contains (chain ++ work) parent
-in_front chain work parent is = subst (λ c. Contains (c ++ work) parent) (sym is) (0, omega arith, refl)
 
 -- ---- the image whose gate is opened
 
@@ -64,7 +57,7 @@ its_stage PassStage p pages i is = absurd (let no : None ≡ Some i = is in cc)
 its_stage (PageWrite own) p pages i is = absurd (let no : None ≡ Some i = is in cc)
 its_stage (Close own header tables) p pages i is = (header, tables, own, refl, sym (same_Some (image_of header pages tables) i is))
 
-module _ (quiet : QuietSteps) (gates : GateSteps) (made : MadeLaws) (follows : CatalogFollows) (fresh_is : AboveIsFresh) (shows : DumpShows)
+module _ (quiet : QuietSteps) (gates : GateSteps) (made : MadeLaws) (follows : CatalogFollows) (shows : DumpShows)
     (old new : CoreView) (running : Running) (image next : Making) (number : ℕ) (request : Asked) (asked : List (Option Asked)) (bodies files : List (List ℕ))
     (s : AsksFor old running image number (Call request) request next new) (b : Believes old asked bodies files) where
   abbrev history : History
@@ -118,12 +111,16 @@ module _ (quiet : QuietSteps) (gates : GateSteps) (made : MadeLaws) (follows : C
   reserved : IsReserved running slot
   reserved = record { place = running.opened; from = omega arith; is = own_slot }
 
+  abbrev later_running : Running
+  later_running = record running { image = Some (record image { stage = with_plan image.stage asks.next }) }
+
   -- the new core, with these beliefs
   believes_with : (dump_now : Option Image) (later : List Belief) → (new.committing ≡ false → dump_now ≡ None) → HasStore old.base history old.phases asked_now bodies b.store dump_now later
       → IsInUseOn old.base history old.catalog old.grows old.memory old.phases asked_now bodies old.numbers.serial b.store dump_now later (Some (record running { image = Some (record image { stage = with_plan image.stage asks.next }) }))
+      → ChangesAt old.numbers.serial b.store running (slots_at old.phases bodies b.beliefs) b.store (Some (record running { image = Some (record image { stage = with_plan image.stage asks.next }) })) (slots_at old.phases bodies later) slot
       → Believes new asked_now bodies files
-  believes_with dump_now later sure has in_use = believes_parts new old.base history old.catalog old.grows old.memory old.phases old.numbers.serial
-      (Some (record running { image = Some (record image { stage = with_plan image.stage asks.next }) }))
+  believes_with dump_now later sure has in_use changes = believes_parts new old.base history old.catalog old.grows old.memory old.phases old.numbers.serial
+      (Some (record running { image = Some (record image { stage = with_plan image.stage asks.next }) })) old.merger
       (record {
         base_is = s.rest.base;
         history_is = s.history;
@@ -133,10 +130,38 @@ module _ (quiet : QuietSteps) (gates : GateSteps) (made : MadeLaws) (follows : C
         phases_is = s.phases;
         last_is = s.serial;
         running_is = s.is ∙ ap (λ x. Some (record running { image = Some x })) asks.is;
+        merger_is = s.rest.merger;
         closed = s.rest.closed;
       })
       asked_now bodies files b.store dump_now later sure b.knows.count
       (ids_set asked 0 (Some request) ∙ ap (λ ids. slice_set ids 0 (Some request.id)) b.knows.out ∙ sym s.outs) has in_use
+      (merge_then old.numbers.serial b.store (Some running) (slots_at old.phases bodies b.beliefs) old.numbers.serial b.store (Some later_running) (slots_at old.phases bodies later)
+      (leaves_at old.numbers.serial b.store running (slots_at old.phases bodies b.beliefs) b.store (Some later_running) (slots_at old.phases bodies later) slot changes)
+      asked asked_now (own_beside asked (Some request)) old.merger (b.knows.merging s.rest.stands).spelled (merging_of old asked bodies files (Some running) s.rest.stands s.was b))
+
+  -- what changes beside the merge: the belief about the slot, in which this stands then
+  changes_to : (belief_now : Belief) (later : List Belief) → IsChangedAt b.beliefs slot belief_now later
+      → ((j : Image) → image_in belief_now ≡ Some j → (image_in m.belief ≡ Some j) ⊎ (j.header.serial ≡ image.order.serial))
+      → ((j : Image) → belief_now ≡ Opening j → (m.belief ≡ Opening j) ⊎ (j.header.stands_for ≡ image.order.serial))
+      → ChangesAt old.numbers.serial b.store running (slots_at old.phases bodies b.beliefs) b.store (Some later_running) (slots_at old.phases bodies later) slot
+  changes_to belief_now later changed image_is opening_is = record {
+    reserved = reserved;
+    count = refl;
+    others = λ k differs. record { phase = refl; body = refl; belief = changed.others k differs };
+    spares = spares_on old.numbers.serial running image (record image { stage = with_plan image.stage asks.next }) s.making refl;
+    source = refl;
+    work = refl;
+    needs = λ k i differs has needed. needed;
+    still = λ source is. holds_same b.store.catalog source;
+    here = λ j has. elim (image_is j (sym (ap (λ o. option_and_then image_in o) changed.there) ∙ has)) [
+      | inl before ↦ inl (ap (λ o. option_and_then image_in o) m.belief_is ∙ before)
+      | inr own ↦ inr (λ serial other same. other (sym own ∙ same))
+    ];
+    opens = λ j opens. elim (opening_is j (same_Some belief_now (Opening j) (sym changed.there ∙ opens))) [
+      | inl before ↦ inl (m.belief_is ∙ ap Some before)
+      | inr own ↦ inr (λ source is same. subst (λ x. IfSome x (λ y. y.header.stands_for ≢ image.order.serial)) is m.fresh.apart (sym same ∙ own))
+    ];
+  }
 
   few_of : (i : Image) → image_in m.belief ≡ Some i → i.header.serial ≤ old.numbers.serial
   few_of i has = u.used.slots slot i (ap (λ o. option_and_then image_in o) m.belief_is ∙ has)
@@ -160,6 +185,7 @@ module _ (quiet : QuietSteps) (gates : GateSteps) (made : MadeLaws) (follows : C
       (quiet.asks old.base history old.phases asked bodies b.store b.dump b.beliefs 0 request may (record { opens = q.opens; closes = q.closes }) b.has)
       (in_use_then follows old.base history old.catalog old.grows old.memory old.phases asked bodies old.numbers.serial b.store b.dump b.dump b.beliefs b.beliefs running image request m.belief
       u m free on (unchanged_at b.beliefs slot m.belief m.belief_is) (λ i. (λ has. has, λ has. has)) few_of unneeded_of asks.plan asks.next asks.was q.slot_is)
+      (changes_to m.belief b.beliefs (unchanged_at b.beliefs slot m.belief m.belief_is) (λ j has. inl has) (λ j opens. inl opens))
 
   -- ---- the gate of an image that nobody needs is closed
 
@@ -181,6 +207,8 @@ module _ (quiet : QuietSteps) (gates : GateSteps) (made : MadeLaws) (follows : C
       u m free on (changed_by b.beliefs slot m.belief (Closing i) m.belief_is)
       (λ j. (λ has. to_closing j has, λ has. to_kept j has))
       (λ j has. few_of j (has_i ∙ has)) (λ j r has. unneeded_of j r (has_i ∙ has)) asks.plan asks.next asks.was q.slot_is)
+      (changes_to (Closing i) (with_belief b.beliefs slot (Closing i)) (changed_by b.beliefs slot m.belief (Closing i) m.belief_is)
+      (λ j has. inl (has_i ∙ has)) (λ j opens. absurd (let no : Closing i ≡ Opening j = opens in cc)))
     where
       to_closing : (j : Image) → HasIt m.belief j → HasIt (Closing q.image) j
       to_closing j (inl is) = inr (let same : Kept q.image ≡ Kept j = sym q.kept ∙ is in cc)
@@ -220,11 +248,11 @@ module _ (quiet : QuietSteps) (gates : GateSteps) (made : MadeLaws) (follows : C
 
     falls : i.header.parent < i.header.stands_for
     falls =
-        let less = m.fresh.jobs running.parent (in_front b.store.chain b.store.work running.parent w.chain) in
+        let less = m.low in
         let stands = stands_is in let parent = parent_is in omega (arith, less, stands, parent)
 
     fresh : IsFresh b.store i
-    fresh = fresh_is b.store i (stands_is ∙ sym serial_is) falls (subst (IsAbove b.store) (sym serial_is) m.fresh)
+    fresh = fresh_of b.store i image.order.serial serial_is stands_is falls m.fresh
 
     follows_it : IsNext b.store i
     follows_it = record { fresh = fresh; parent = subst (Contains b.store.chain) (sym parent_is) (its_parent b.store.chain running.parent w.chain) }
@@ -240,13 +268,17 @@ module _ (quiet : QuietSteps) (gates : GateSteps) (made : MadeLaws) (follows : C
       belief = ap (slice_get b.beliefs) on ∙ closed_at;
       alone = λ other j has. elim (cases_eq other slot) [
         | inl its ↦ (let no : None ≡ Some j = sym (ap (λ o. option_and_then image_in o) (ap (slice_get b.beliefs) its ∙ closed_at)) ∙ has in absurd cc)
-        | inr differs ↦ (λ same. (let less = m.others other j has differs in let serial = serial_is in omega (arith, less, serial, same)))
+        | inr differs ↦ (λ same. m.others other j has differs (same ∙ serial_is))
       ];
     }
       where
         ap_image : IsImage (gate ∷ file_at bodies request.id.slot) i
         ap_image = subst (λ text. IsImage (gate ∷ text) i) (sym q.spelled ∙ ap (file_at bodies) (sym on))
             (subst (λ x. IsImage (gate ∷ image_text x) x) (sym staged.4) filed.spelled)
+
+    -- the source of a merge that runs beside it
+    its_source : (source : Image) → b.store.source ≡ Some source → Contains b.store.catalog source × IsRestorable source
+    its_source source is = source_there old.phases asked bodies old.numbers.serial b.store b.dump b.beliefs old.dumper.running old.merger b.has.slots (b.knows.merging s.rest.stands).is source is
 
     -- what the image is added to the store as
     adds_it : (kind : Kind) → image.order.kind ≡ kind → HasStore old.base history old.phases asked_now bodies b.store (pending_dump kind i) (with_belief b.beliefs request.id.slot (Opening i))
@@ -263,7 +295,7 @@ module _ (quiet : QuietSteps) (gates : GateSteps) (made : MadeLaws) (follows : C
           next = follows_it;
           restorable = λ other. (let no : Dump ≡ PreDump = sym (kind_is ∙ is) ∙ other in cc);
           newest = λ j member restored. (let less = w.newest j member restored in let checkpoint = checkpoint_is in omega (arith, less, checkpoint));
-          above = subst (λ source. IfSome source (λ x. x.header.checkpoint < i.header.checkpoint)) (sym u.alone.0) tt;
+          above = below_checkpoint b.store.source i.header.checkpoint (λ source is. (let there = its_source source is in let less = w.newest source there.0 there.1 in let checkpoint = checkpoint_is in omega (arith, less, checkpoint)));
         } in
         (gates old.base history old.phases asked bodies).opens_dump b.store b.beliefs 0 request i may_open next_dump
         (record {
@@ -296,6 +328,9 @@ module _ (quiet : QuietSteps) (gates : GateSteps) (made : MadeLaws) (follows : C
         (λ j. (λ has. was_closed j has, λ has. is_opening j has))
         (λ j has. (let same : i ≡ j = same_Some i j has in let serial = serial_is in let last = m.serial in let its = ap (λ (x : Image). x.header.serial) same in omega (arith, serial, last, its)))
         (λ j r has needed. not_needed j (same_Some i j has) needed) asks.plan asks.next asks.was q.slot_is)
+        (changes_to (Opening i) (with_belief b.beliefs slot (Opening i)) (changed_by b.beliefs slot m.belief (Opening i) m.belief_is)
+        (λ j has. inr (ap (λ (x : Image). x.header.serial) (sym (same_Some i j has)) ∙ serial_is))
+        (λ j opens. inr (ap (λ (x : Image). x.header.stands_for) (sym (its_opening i j opens)) ∙ stands_is)))
       where
         was_closed : (j : Image) → HasIt m.belief j → HasIt (Opening i) j
         was_closed j (inl is) = absurd (let no : Closed ≡ Kept j = sym q.closed ∙ is in cc)
@@ -307,8 +342,10 @@ module _ (quiet : QuietSteps) (gates : GateSteps) (made : MadeLaws) (follows : C
 
         not_needed : (j : Image) → i ≡ j → IsNeededIn b.store j → ⊥
         not_needed j same needed =
-            let less = m.fresh.serials j (needed_there b.store.catalog (jobs b.store) j needed) in
-            let serial = serial_is in let its = ap (λ (x : Image). x.header.serial) same in omega (arith, less, serial, its)
+            m.fresh.serial j (needed_there b.store.catalog (jobs b.store) j needed) (ap (λ (x : Image). x.header.serial) (sym same) ∙ serial_is)
+
+        its_opening : (x y : Image) → Opening x ≡ Opening y → x ≡ y
+        its_opening x y same = cc
 
   pub asks_lem : Believes new asked_now bodies files
   asks_lem = elim asked_on.1 [

@@ -1,5 +1,5 @@
 -- The next image of a checkpoint begins.
-use Rattle.std.proofs.Common.{◌≡◌, ◌≢◌, ℕ, ◌+◌, ◌<◌, ◌==◌, ◌&&◌, Bool, true, false, if◌then◌else◌, List, [], length, Option, Some, None, IfSome, option_and_then, slice_get, refl, sym, ◌∙◌, ap, subst, inl, inr, arith}
+use Rattle.std.proofs.Common.{◌≡◌, ◌≢◌, ℕ, ◌+◌, ◌<◌, ◌==◌, ◌&&◌, Bool, true, false, if◌then◌else◌, List, [], ◌∷◌, ◌++◌, length, Option, Some, None, IfSome, Contains, option_and_then, slice_get, refl, sym, ◌∙◌, ap, subst, inl, inr, arith}
 use Rattle.std.proofs.lemmas.Bool.{false≢true, ne_eqb}
 use Rattle.sd_disk.specs.Contents.{file_at}
 use Rattle.sd_image.specs.Image.{Image}
@@ -15,13 +15,14 @@ use Rattle.sd_rounds.specs.MakingLaws.{MakingLaws}
 use Rattle.sd_store_laws.specs.Beliefs.{Belief, image_at, image_in}
 use Rattle.sd_store_laws.specs.InUse.{HasImage, IsCatalogInUse}
 use Rattle.sd_store_laws.specs.Makers.{IsAbove}
-use Rattle.sd_store_laws.specs.Store.{Store}
+use Rattle.sd_store_laws.specs.Store.{Store, jobs}
 use Rattle.sd_belief.specs.Believes.{Believes}
 use Rattle.sd_belief.specs.Calls.{IsFree}
 use Rattle.sd_belief.specs.DumperSteps.{BeginsImage}
-use Rattle.sd_belief.specs.InUse.{AreUsed, IsBetween, IsImageOn, IsInUseOn, IsMakingOn, IsRunningOn, NoneAt, chain_of}
+use Rattle.sd_belief.specs.InUse.{AreUsed, IsBetween, IsImageOn, IsInUseOn, IsMakingOn, IsNewNumber, IsRunningOn, NoneAt, chain_of}
 use Rattle.sd_belief.specs.Knows.{ids_of}
 use Rattle.sd_belief.specs.View.{CoreView, history_of}
+use Rattle.sd_belief.proofs.MergeStays.{merge_beside, spares_with}
 use Rattle.sd_belief.proofs.OpenCore.{believes_parts}
 use Rattle.sd_belief.proofs.Places.{has_too, id_there}
 
@@ -68,6 +69,26 @@ image_of_has : (beliefs : List Belief) (slot : ℕ) (i : Image) → HasImage bel
 image_of_has beliefs slot i (inl kept) = ap (λ o. option_and_then image_in o) kept
 image_of_has beliefs slot i (inr closing) = ap (λ o. option_and_then image_in o) closing
 
+-- ---- a number above all
+
+pub new_number : (store : Store) (number : ℕ) → IsAbove store number → IsNewNumber store number
+new_number store number above = record {
+  serial = λ j member same. (let less = above.serials j member in omega (arith, less, same));
+  unused = record {
+    stands = λ j member same. (let less = above.stands j member in omega (arith, less, same));
+    names = λ j member same. (let less = above.parents j member in omega (arith, less, same));
+    asks = λ member. (let less = above.jobs number member in omega (arith, less));
+  };
+  apart = apart_from store.source above.source;
+}
+  where
+    apart_from : (source : Option Image) → IfSome source (λ x. x.header.stands_for < number) → IfSome source (λ x. x.header.stands_for ≢ number)
+    apart_from None is = tt
+    apart_from (Some source) is = λ same. omega (arith, is, same)
+
+pub in_front : (chain work : List ℕ) (parent : ℕ) → chain ≡ parent ∷ [] → Contains (chain ++ work) parent
+in_front chain work parent is = subst (λ c. Contains (c ++ work) parent) (sym is) (0, omega arith, refl)
+
 -- ---- no request is out on a slot
 
 pub none_at : (asked : List (Option Asked)) (core : CoreView) (slot : ℕ) → ids_of asked ≡ core.outs → IsFree core.outs slot → NoneAt asked slot
@@ -83,10 +104,10 @@ never_frozen false is = false≢true is
 begun_on : MakingLaws → PlansLead → (old : CoreView) (running : Running) (phase : Phase) (asked : List (Option Asked)) (bodies : List (List ℕ)) (store : Store) (dump : Option Image) (beliefs : List Belief)
     → slice_get old.phases (slot_of running) ≡ Some phase → NoneAt asked (slot_of running) → length beliefs ≡ length old.phases
     → IsInUseOn old.base (history_of old) old.catalog old.grows old.memory old.phases asked bodies old.numbers.serial store dump beliefs (Some running)
-    → IsBetween old.memory asked store dump running.parent
+    → IsBetween old.memory asked store dump running.parent → Contains (jobs store) running.parent
     → IsMakingOn old.base (history_of old) old.memory old.phases asked bodies (old.numbers.serial + 1) store dump beliefs running.parent running.number
     (begun_image (order_of running (old.numbers.serial + 1) (state_of phase)))
-begun_on making plans old running phase asked bodies store dump beliefs at free count u between =
+begun_on making plans old running phase asked bodies store dump beliefs at free count u between chained =
     let order = order_of running (old.numbers.serial + 1) (state_of phase) in
     let found = has_too old.phases beliefs (slot_of running) phase count at in
     record {
@@ -94,9 +115,10 @@ begun_on making plans old running phase asked bodies store dump beliefs at free 
       keeps = making.begins order (chain_of store running.parent) old.memory between.rests;
       files = tt;
       frozen = λ is. absurd (never_frozen (kind_number order.kind == 2) is);
-      serial = refl;
-      fresh = u.used.above;
-      others = λ slot i has differs. let few = u.used.slots slot i has in omega (arith, few);
+      serial = omega arith;
+      fresh = new_number store (old.numbers.serial + 1) u.used.above;
+      low = u.used.above.jobs running.parent chained;
+      others = λ slot i has differs same. let few = u.used.slots slot i has in omega (arith, few, same);
       phase = phase;
       phase_is = at;
       belief = found.0;
@@ -130,14 +152,13 @@ begins_image_lem making plans old new running phase asked bodies files s b =
     let free = none_at asked old (slot_of running) b.knows.out s.free in
     let begun = begun_image (order_of running (old.numbers.serial + 1) (state_of phase)) in
     let between = between_of old running asked bodies b.store b.dump b.beliefs running.image s.none w.image in
-    believes_parts new old.base (history_of old) new.catalog old.grows old.memory old.phases (old.numbers.serial + 1) (Some (record running { image = Some begun }))
-    (record { base_is = s.rest.base; history_is = s.history; places_is = refl; grows_is = s.rest.grows; memory_is = s.memory; phases_is = s.phases; last_is = s.serial; running_is = s.is; closed = s.rest.closed })
+    believes_parts new old.base (history_of old) new.catalog old.grows old.memory old.phases (old.numbers.serial + 1) (Some (record running { image = Some begun })) old.merger
+    (record { base_is = s.rest.base; history_is = s.history; places_is = refl; grows_is = s.rest.grows; memory_is = s.memory; phases_is = s.phases; last_is = s.serial; running_is = s.is; merger_is = s.rest.merger; closed = s.rest.closed })
     asked bodies files b.store b.dump b.beliefs (λ is. between.alone) b.knows.count (b.knows.out ∙ sym s.outs) b.has
     (record {
       catalog = held_in_use old.catalog new.catalog b.beliefs (old.numbers.serial + 1) s.held
           (λ slot i has same. (let few = u.used.slots slot i (image_of_has b.beliefs slot i has) in omega (arith, few, same))) u.catalog;
       grows_is = u.grows_is;
-      alone = u.alone;
       used = used_more old.numbers.serial b.store b.beliefs u.used;
       exact = u.exact;
       job = record {
@@ -147,6 +168,9 @@ begins_image_lem making plans old new running phase asked bodies files s b =
         within = λ slot r. w.within slot (record { place = r.place; from = r.from; is = r.is });
         unneeded = λ slot i r. w.unneeded slot i (record { place = r.place; from = r.from; is = r.is });
         apart = w.apart;
-        image = begun_on making plans old running phase asked bodies b.store b.dump b.beliefs s.phase_is free b.has.believed.count u between;
+        image = begun_on making plans old running phase asked bodies b.store b.dump b.beliefs s.phase_is free b.has.believed.count u between
+            (in_front b.store.chain b.store.work running.parent w.chain);
       };
     })
+    (merge_beside old asked asked bodies files running begun (old.numbers.serial + 1) s.rest.stands s.was refl
+    (spares_with old.numbers.serial (old.numbers.serial + 1) running begun (omega arith) (λ serial low other same. omega (arith, low, same))) b)

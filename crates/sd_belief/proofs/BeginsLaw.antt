@@ -1,5 +1,6 @@
 -- A checkpoint begins.
 use Rattle.std.proofs.Common.{◌≡◌, ◌≢◌, ℕ, zero, suc, ◌<◌, ◌+◌, true, List, [], ◌∷◌, ◌++◌, Option, Some, None, Contains, option_and_then, slice_get, refl, sym, ◌∙◌, ap, subst, inl, inr, arith}
+use Rattle.std.proofs.lemmas.List.Elements.{Contains-append_cases, Contains-append_right}
 use Rattle.sd_image.specs.Image.{Image}
 use Rattle.sd_image.specs.Shows.{IsTip}
 use Rattle.sd_chain.specs.Catalog.{Opened, Places, place_of}
@@ -24,6 +25,9 @@ use Rattle.sd_belief.specs.CheckpointSteps.{BeginningIsBelieved, BeginsCheckpoin
 use Rattle.sd_belief.specs.GateSteps.{GateSteps}
 use Rattle.sd_belief.specs.InUse.{IsAtRest, IsImageOn, IsInUseOn, IsReserved, chain_of}
 use Rattle.sd_belief.specs.View.{CoreView, history_of}
+use Rattle.sd_belief.specs.Merges.{IsMergeOn}
+use Rattle.sd_belief.proofs.BeginsBeside.{merge_on_beside, uncalled_by_work}
+use Rattle.sd_belief.proofs.MergeStays.{LeavesMerge, holds_same, merge_then, merging_of, slots_at}
 use Rattle.sd_belief.proofs.OpenCore.{believes_parts}
 
 kept_at : (beliefs : List Belief) (belief : Belief) → Contains beliefs belief → (slot : ℕ) × (slice_get beliefs slot ≡ Some belief)
@@ -55,14 +59,21 @@ module _ (gates : GateSteps) (needs : NeedsNoMore) (reached : NeededIsReached) (
 
   -- ---- the slots
 
-  no_jobs : jobs b.store ≡ []
-  no_jobs = ap (λ chain. chain ++ b.store.work) rest.idle ∙ u.alone.1
+  only_work : jobs b.store ≡ b.store.work
+  only_work = ap (λ chain. chain ++ b.store.work) rest.idle
+
+  merge : IsMergeOn old.phases asked bodies old.numbers.serial b.store b.beliefs None old.merger
+  merge = (merging_of old asked bodies files None s.rest.stands s.was b).is
+
+  members : (i : Image) → Contains b.beliefs (Kept i) → Contains b.store.catalog i
+  members i kept = (b.has.slots.catalog i).1 (inl kept)
 
   -- what is needed stands in its slot, and the tip reaches it
   needed_in : (slot : ℕ) (i : Image) → IsReserved running slot → image_at b.beliefs slot ≡ Some i → IsNeededIn b.store i → ⊥
-  needed_in slot i r has needed = elim ((reached b.store.catalog [] i).0 (subst (λ numbers. IsNeeded b.store.catalog numbers i) no_jobs needed)) [
+  needed_in slot i r has needed = elim ((reached b.store.catalog b.store.work i).0 (subst (λ numbers. IsNeeded b.store.catalog numbers i) only_work needed)) [
     | inl way ↦ by_tip way.0 way.1 way.2
-    | inr way ↦ absurd (let within : way.2.0 < 0 = way.2.1 in omega (arith, within))
+    | inr way ↦ uncalled_by_work places b.store b.beliefs u.catalog told reaches members old.phases asked bodies old.numbers.serial running slot i
+        (inl (ap (slice_get b.beliefs) (sym its) ∙ kept.1)) r old.merger s.merge merge way.0 way.1 way.2 way.3 way.4
   ]
     where
       kept : (k : ℕ) × (slice_get b.beliefs k ≡ Some (Kept i))
@@ -135,7 +146,10 @@ module _ (gates : GateSteps) (needs : NeedsNoMore) (reached : NeededIsReached) (
     serials = u.used.above.serials;
     stands = u.used.above.stands;
     parents = u.used.above.parents;
-    jobs = λ number member. alone number (subst (λ work. Contains (running.parent ∷ work) number) u.alone.1 member);
+    jobs = λ number member. elim (Contains-append_cases (running.parent ∷ []) b.store.work number member) [
+      | inl own ↦ alone number own
+      | inr work ↦ u.used.above.jobs number (Contains-append_right b.store.chain b.store.work number work)
+    ];
     source = u.used.above.source;
   }
     where
@@ -148,8 +162,23 @@ module _ (gates : GateSteps) (needs : NeedsNoMore) (reached : NeededIsReached) (
   image_then None is = record { rests = then.rests; none = rest.none; alone = refl }
   image_then (Some image) is = absurd (let no : Some image ≡ None = is in cc)
 
+  beside : LeavesMerge old.numbers.serial b.store (Some running) (slots_at old.phases bodies b.beliefs) old.numbers.serial (begun b.store running.parent) (Some running) (slots_at old.phases bodies b.beliefs)
+  beside = record {
+    count = refl;
+    same = λ slot spared. record { phase = refl; body = refl; belief = refl };
+    spares = λ slot spared. spared;
+    last_is = omega arith;
+    source = refl;
+    work = refl;
+    needs = λ slot i spared has needed. then.needs_no_more i needed;
+    still = λ source is. holds_same b.store.catalog source;
+    makes = λ serial low other. other;
+    images = λ slot j has. inl has;
+    opening = λ slot j opens. inl opens;
+  }
+
   begins_lem : Believes new asked bodies files
-  begins_lem = believes_parts new old.base history places old.grows old.memory old.phases old.numbers.serial (Some running)
+  begins_lem = believes_parts new old.base history places old.grows old.memory old.phases old.numbers.serial (Some running) old.merger
       (record {
         base_is = s.rest.base;
         history_is = s.history;
@@ -159,13 +188,13 @@ module _ (gates : GateSteps) (needs : NeedsNoMore) (reached : NeededIsReached) (
         phases_is = s.phases;
         last_is = s.serial;
         running_is = s.is;
+        merger_is = s.rest.merger;
         closed = s.rest.closed;
       })
       asked bodies files (begun b.store running.parent) None b.beliefs (λ is. refl) b.knows.count (b.knows.out ∙ sym s.outs) then.has
       (record {
         catalog = u.catalog;
         grows_is = u.grows_is;
-        alone = u.alone;
         used = record { above = above_then; slots = u.used.slots };
         exact = u.exact;
         job = record {
@@ -178,6 +207,11 @@ module _ (gates : GateSteps) (needs : NeedsNoMore) (reached : NeededIsReached) (
           image = image_then running.image s.fresh.0;
         };
       })
+      (merge_then old.numbers.serial b.store (Some running) (slots_at old.phases bodies b.beliefs) old.numbers.serial (begun b.store running.parent) (Some running) (slots_at old.phases bodies b.beliefs)
+      beside asked asked refl old.merger (b.knows.merging s.rest.stands).spelled (record {
+        spelled = (b.knows.merging s.rest.stands).spelled;
+        is = merge_on_beside places b.store b.beliefs u.catalog told reaches members old.phases asked bodies old.numbers.serial running s.fresh.0 old.merger s.merge merge;
+      }))
 
 pub beginning_lem : GateSteps → NeedsNoMore → NeededIsReached → (places : Places) → CatalogInUseTells places → ToldReachesSo places
     → ((all : List Image) → Tells places all → Agrees places all) → BeginningIsBelieved places

@@ -22,6 +22,7 @@ use Rattle.sd_belief.specs.Believes.{Believes, HasStore}
 use Rattle.sd_belief.specs.CoreSteps.{CoreSteps, IsApplied, IsCommanded, SameCore, SameStore}
 use Rattle.sd_belief.specs.InUse.{IsAtWork, IsImageOn, IsInUseOn, chain_of}
 use Rattle.sd_belief.specs.Knows.{Knows, SeesStore}
+use Rattle.sd_belief.specs.Merges.{IsMergeInUse}
 use Rattle.sd_belief.specs.StoreSteps.{QuietSteps}
 use Rattle.sd_belief.specs.View.{CoreView, history_of}
 use Rattle.sd_belief.proofs.NoClear.{no_clear}
@@ -46,6 +47,14 @@ module _ (old new : CoreView) (same : SameStore old new) (asked : List (Option A
           → IsInUseOn old.base h old.catalog old.grows m old.phases asked bodies old.numbers.serial store dump beliefs new.dumper.running
       ap_running h m = subst (λ d. IsInUseOn old.base h old.catalog old.grows m old.phases asked bodies old.numbers.serial store dump beliefs d.running) (sym same.dumper)
 
+  merging_in : IsMergeInUse old.phases asked bodies old.numbers.serial store beliefs old.dumper.running old.merger
+      → IsMergeInUse new.phases asked bodies new.numbers.serial store beliefs new.dumper.running new.merger
+  merging_in m =
+      subst (λ x. IsMergeInUse x asked bodies new.numbers.serial store beliefs new.dumper.running new.merger) (sym same.phases)
+      (subst (λ x. IsMergeInUse old.phases asked bodies x store beliefs new.dumper.running new.merger) (sym same.serial)
+      (subst (λ d. IsMergeInUse old.phases asked bodies old.numbers.serial store beliefs d.running new.merger) (sym same.dumper)
+      (subst (λ x. IsMergeInUse old.phases asked bodies old.numbers.serial store beliefs old.dumper.running x) (sym same.merger) m)))
+
   knows_in : ((stands : old.standing ≡ Open) → IsInUseOn old.base (history_of new) old.catalog old.grows new.memory old.phases asked bodies old.numbers.serial store dump beliefs old.dumper.running)
       → Knows old asked bodies files store dump beliefs → Knows new asked bodies files store dump beliefs
   knows_in in_use knows = record {
@@ -55,6 +64,7 @@ module _ (old new : CoreView) (same : SameStore old new) (asked : List (Option A
         (subst (λ p. IfSome old.opener (SeesStore files p asked)) (sym same.phases) knows.sees);
     sure = λ is. knows.sure (sym same.committing ∙ is);
     in_use = λ stands. open_in (history_of new) new.memory (in_use (sym same.standing ∙ stands));
+    merging = λ stands. merging_in (knows.merging (sym same.standing ∙ stands));
   }
 
   has_in : (history : History) → HasStore old.base history old.phases asked bodies store dump beliefs → HasStore new.base history new.phases asked bodies store dump beliefs
@@ -104,6 +114,7 @@ module _ (keeps : KeepsLaws) (making : MakingLaws) (base : Base) (history : Hist
       frozen = λ is. absurd (let no : None ≡ Some number = sym pends ∙ (m.frozen is).pends in cc);
       serial = m.serial;
       fresh = m.fresh;
+      low = m.low;
       others = m.others;
       phase = m.phase;
       phase_is = m.phase_is;
@@ -145,6 +156,7 @@ module _ (keeps : KeepsLaws) (making : MakingLaws) (base : Base) (history : Hist
     frozen = λ is. let f = m.frozen is in record { cut = f.cut; pends = f.pends; shown = f.shown; still = f.still; dumps = f.dumps; areas = f.areas };
     serial = m.serial;
     fresh = m.fresh;
+    low = m.low;
     others = m.others;
     phase = m.phase;
     phase_is = m.phase_is;
@@ -192,7 +204,6 @@ applied_lem quiet keeps making old new seat command told asked bodies files a b 
           (let u = b.knows.in_use stands in record {
             catalog = u.catalog;
             grows_is = u.grows_is;
-            alone = u.alone;
             used = u.used;
             exact = u.exact;
             job = work_on keeps making old.base (history_of old) seat command told old.memory new.memory old.phases asked bodies old.numbers.serial b.store b.dump b.beliefs

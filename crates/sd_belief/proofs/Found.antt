@@ -3,7 +3,7 @@ use Rattle.std.proofs.Common.{◌≡◌, ℕ, suc, List, [], ◌∷◌, drop, le
 use Rattle.sd_gate.specs.Laws.{found_phase}
 use Rattle.sd_store_laws.specs.GateSteps.{FoundIsBelieved as FilesAreBelieved, FoundIsExact}
 use Rattle.sd_store_laws.specs.InUse.{CatalogIsFound}
-use Rattle.sd_belief.proofs.FoundInUse.{found_in_use}
+use Rattle.sd_belief.proofs.FoundInUse.{found_in_use, found_merging}
 use Rattle.sd_store_laws.specs.Gates.{AreBelieved}
 use Rattle.sd_store_laws.specs.Opens.{OpenedIsSound}
 use Rattle.sd_store_laws.specs.SlotSteps.{SlotsAreFound}
@@ -41,5 +41,6 @@ found_lem files_are exact catalog_is is_sound slots_are core asked files shown p
         sees = subst (λ opener. IfSome opener (SeesStore files core.phases asked)) (sym closed) tt;
         sure = λ is. refl;
         in_use = λ is. found_in_use exact catalog_is core asked files shows.images slots.0 phases none out (open_as is) slots.1 slots.2;
+        merging = λ is. found_merging core asked files shows.images slots.0 out (open_as is) slots.1 slots.2;
       };
     }

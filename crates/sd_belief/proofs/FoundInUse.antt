@@ -17,6 +17,7 @@ use Rattle.sd_belief.specs.Calls.{NoneOut}
 use Rattle.sd_belief.specs.InUse.{IsInUseOn}
 use Rattle.sd_belief.specs.Knows.{ids_of}
 use Rattle.sd_belief.specs.Laws.{IsOpenAs}
+use Rattle.sd_belief.specs.Merges.{IsMergeInUse, IsMergeOn}
 use Rattle.sd_belief.specs.View.{CoreView, history_of}
 use Rattle.sd_belief.proofs.Places.{free_there}
 
@@ -28,7 +29,7 @@ file_of (b ∷ beliefs) [] all slot belief is = absurd all
 file_of (b ∷ beliefs) (file ∷ files) all zero belief is = (file, subst (λ x. IsFoundAs x file) (same_Some b belief is) all.0)
 file_of (b ∷ beliefs) (file ∷ files) all (suc slot) belief is = file_of beliefs files all.1 slot belief is
 
-contains_at : (beliefs : List Belief) (belief : Belief) → Contains beliefs belief → (slot : ℕ) × (slice_get beliefs slot ≡ Some belief)
+pub contains_at : (beliefs : List Belief) (belief : Belief) → Contains beliefs belief → (slot : ℕ) × (slice_get beliefs slot ≡ Some belief)
 contains_at [] belief c = absurd (let within = c.1 in omega (arith, within))
 contains_at (b ∷ beliefs) belief (zero, within, is) = (0, ap Some is)
 contains_at (b ∷ beliefs) belief (suc k, within, is) = let rest = contains_at beliefs belief (k, omega (arith, within), is) in (suc rest.0, rest.1)
@@ -86,7 +87,6 @@ found_in_use exact catalog_is core asked files images beliefs phases none out is
     (sym is.idle) (record {
       catalog = in_use;
       grows_is = sym is.grows;
-      alone = (refl, refl);
       used = record {
         above = record {
           serials = λ i member. let at = kept_in core files is beliefs found in_use images slots i member in
@@ -108,3 +108,16 @@ found_in_use exact catalog_is core asked files images beliefs phases none out is
         idle = refl;
       };
     })
+
+-- no merge runs, and each image stands in a file
+pub found_merging : (core : CoreView) (asked : List (Option Asked)) (files : List (List ℕ)) (images : List Image) (beliefs : List Belief)
+    → ids_of asked ≡ core.outs → IsOpenAs core files → AllZip IsFoundAs beliefs files → AreSlotsOf (opened images) None beliefs
+    → IsMergeInUse core.phases asked (map (drop 1) files) core.numbers.serial (opened images) beliefs core.dumper.running core.merger
+found_merging core asked files images beliefs out is found slots = record {
+  spelled = λ i member. elim ((slots.catalog i).0 member) [
+    | inl kept ↦ (let at = contains_at beliefs (Kept i) kept in file_of beliefs files found at.0 (Kept i) at.1)
+    | inr closing ↦ (let at = contains_at beliefs (Closing i) closing in absurd (file_of beliefs files found at.0 (Closing i) at.1).1)
+  ];
+  is = subst (λ merge. IsMergeOn core.phases asked (map (drop 1) files) core.numbers.serial (opened images) beliefs core.dumper.running merge) (sym is.unmerged)
+      (record { source = refl; work = refl }, free_there asked 1 (ap (λ ids. slice_get ids 1) (out ∙ is.outs)));
+}

@@ -29,6 +29,7 @@ use Rattle.sd_rounds.specs.MakingLaws.{DumpsImage, KeepsImage, MakingLaws, Pages
 use Rattle.sd_rounds.specs.Pass.{Pass, data_pages}
 use Rattle.sd_store_laws.specs.Beliefs.{Belief, Closed, Kept, Closing, Opening, image_at, image_in}
 use Rattle.sd_store_laws.specs.Below.{StepsGive}
+use Rattle.sd_store_laws.specs.Cut.{CutHoldsTheSame}
 use Rattle.sd_store_laws.specs.InUse.{CatalogFollows, HasImage, IsCatalogInUse}
 use Rattle.sd_store_laws.specs.Gates.{IsBelievedAs, IsInDoubt, MayBelieve}
 use Rattle.sd_store_laws.specs.Makers.{IsAbove}
@@ -41,13 +42,14 @@ use Rattle.sd_belief.specs.Believes.{Believes, HasStore}
 use Rattle.sd_belief.specs.Calls.{IsFree}
 use Rattle.sd_belief.specs.DumperOutcomes.{GoesDown, ImageGoesOn, IsDumpersOutcome, LeavesCatalog, closes_for_sure}
 use Rattle.sd_belief.specs.GateSteps.{GateSteps}
-use Rattle.sd_belief.specs.InUse.{IsFrozenAs, IsImageOn, IsInUseOn, IsMakingOn, IsRunningOn, IsSlotFor, NoneAt, chain_of}
+use Rattle.sd_belief.specs.InUse.{IsFrozenAs, IsImageOn, IsInUseOn, IsMakingOn, IsNewNumber, IsRunningOn, IsSlotFor, NoneAt, chain_of}
 use Rattle.sd_belief.specs.Knows.{SeesStore, ids_of}
 use Rattle.sd_belief.specs.declared.standing.Standing.TheVariants as standing
 use Rattle.sd_belief.specs.StoreSteps.{IsOutcomeOf, IsShut, QuietSteps}
 use Rattle.sd_belief.specs.View.{CoreView, history_of}
 use Rattle.sd_belief.proofs.HandsImage.{SlotGoesOn, areas_after, calls_of_done, files_after, hands_slot, was_frozen}
 use Rattle.sd_belief.proofs.HandsSlot.{belief_after, closed_exact, closing_in_doubt, syncs_closing}
+use Rattle.sd_belief.proofs.MergeStays.{ChangesAt, HoldsStill, holds_same, leaves_at, merge_then, merging_of, own_beside, retires_still, slots_at, spares_on}
 use Rattle.sd_belief.proofs.OpenCore.{believes_parts}
 use Rattle.sd_belief.proofs.Places.{body_other, id_there, ids_set, set_count, set_other, set_same}
 
@@ -104,6 +106,7 @@ fails_lem quiet old new made phase asked bodies files g at b = record {
     sees = subst (λ o. IfSome o (SeesStore files new.phases (slice_set asked 0 None))) (sym g.outcome.closed) tt;
     sure = λ is. b.knows.sure (sym g.committing ∙ is);
     in_use = λ stands. absurd (let no : standing.Down ≡ standing.Open = sym g.down ∙ stands in cc);
+    merging = λ stands. absurd (let no : standing.Down ≡ standing.Open = sym g.down ∙ stands in cc);
   };
 }
 
@@ -121,6 +124,7 @@ pub record StoreFollows (old : Store) (beliefs : List Belief) (slot : ℕ) (beli
   pub grows : new.grows ≡ old.grows
   pub needs : (i : Image) → IsNeededIn new i → IsNeededIn old i
   pub gives : Within (chain_of old parent) (chain_of new parent)
+  pub still : (source : Image) → old.source ≡ Some source → HoldsStill old.catalog new.catalog source
 
 pub known_plan : (order : ImageOrder) (pass : Pass) (stage : Stage) (plan : Planned) → plan_of stage ≡ Some plan → IsReadyFor order pass stage → plan.awaits ≡ nothing
 known_plan order pass (Format own) plan was ready = ap (λ (p : Planned). p.awaits) (sym (same_Some own plan was)) ∙ ready.1.known
@@ -137,6 +141,11 @@ pub file_set : (bodies : List (List ℕ)) (k : ℕ) (body : List ℕ) → k < le
 file_set [] k body within = absurd (omega (arith, within))
 file_set (b ∷ bodies) zero body within = refl
 file_set (b ∷ bodies) (suc k) body within = file_set bodies k body (omega (arith, within))
+
+-- what is being opened behind an outcome was before
+opening_before : (sure : Bool) (belief : Belief) (j : Image) → belief_after sure belief ≡ Opening j → belief ≡ Opening j
+opening_before true belief j is = absurd (let no : Closed ≡ Opening j = is in cc)
+opening_before false belief j is = is
 
 -- a slot without an image of the catalog leaves the catalog as it is
 removed_none : (old new : Places) (beliefs : List Belief) (slot : ℕ) (i : Image) → slice_get beliefs slot ≡ Some (Opening i)
@@ -309,6 +318,17 @@ module _ (making : MakingLaws) (old new : CoreView) (running : Running) (image n
       source = subst (λ x. IfSome x (λ source. source.header.stands_for < n)) (sym f.source) is.source;
     }
 
+    new_then : (n : ℕ) → IsNewNumber b.store n → IsNewNumber store n
+    new_then n is = record {
+      serial = λ i member. is.serial i (f.within i member);
+      unused = record {
+        stands = λ i member. is.unused.stands i (f.within i member);
+        names = λ i member. is.unused.names i (f.within i member);
+        asks = λ member. is.unused.asks (subst (λ c. Contains (c ++ b.store.work) n) f.chain (subst (λ c. Contains (store.chain ++ c) n) f.work member));
+      };
+      apart = subst (λ x. IfSome x (λ source. source.header.stands_for ≢ n)) (sym f.source) is.apart;
+    }
+
     keeps_then : KeepsImage m.pages (chain_of store running.parent) later_image old.memory
     keeps_then = subst (λ x. KeepsImage m.pages (chain_of store running.parent) x old.memory) go.is
         (making.agrees m.pages (chain_of b.store running.parent) (chain_of store running.parent) next old.memory f.gives
@@ -343,7 +363,8 @@ module _ (making : MakingLaws) (old new : CoreView) (running : Running) (image n
       files = files_after image.order.kind image.stage nplan nplan.calls image.order image.pass m.pages m.files;
       frozen = frozen_then;
       serial = m.serial;
-      fresh = above_then image.order.serial m.fresh;
+      fresh = new_then image.order.serial m.fresh;
+      low = m.low;
       others = λ k i there differs. m.others k i (f.images k i there) differs;
       phase = after phase made.request.id.call true;
       phase_is = phase_then;
@@ -355,8 +376,26 @@ module _ (making : MakingLaws) (old new : CoreView) (running : Running) (image n
       slot_is = subst (λ body. IsSlotFor later_image.stage image.order m.pages (after phase made.request.id.call true) body None belief_then b.dump) (sym body_then) slot_then.slot_is;
     }
 
+    changes : ChangesAt old.numbers.serial b.store running (slots_at old.phases bodies b.beliefs) store (Some (record running { image = Some later_image })) (slots_at phases_now bodies_now later) slot
+    changes = record {
+      reserved = record { place = running.opened; from = omega arith; is = ap (λ o. o.slot) s.own };
+      count = set_count old.phases call_slot (after phase made.request.id.call (is_done made.answer));
+      others = λ k differs. (let other : k ≢ call_slot = (λ same. differs (same ∙ on)) in record {
+        phase = set_other old.phases call_slot k (after phase made.request.id.call (is_done made.answer)) other;
+        body = body_other bodies call_slot k (body_after (file_at bodies call_slot) made.request.id.call made.request.bytes) other;
+        belief = f.others k differs;
+      });
+      spares = spares_on old.numbers.serial running image later_image s.making refl;
+      source = f.source;
+      work = f.work;
+      needs = λ k i differs has needed. f.needs i needed;
+      still = f.still;
+      here = λ j has. inl (f.images slot j has);
+      opens = λ j opens. inl (m.belief_is ∙ ap Some (opening_before (closes_for_sure phase made.request.id.call) m.belief j (same_Some belief_then (Opening j) (sym f.there ∙ opens))));
+    }
+
     pub believes_then : new.catalog ≡ places → Believes new asked_now bodies_now files
-    believes_then catalog = believes_parts new old.base history places old.grows old.memory phases_now old.numbers.serial (Some (record running { image = Some later_image }))
+    believes_then catalog = believes_parts new old.base history places old.grows old.memory phases_now old.numbers.serial (Some (record running { image = Some later_image })) old.merger
         (record {
           base_is = s.rest.base;
           history_is = s.history;
@@ -366,13 +405,13 @@ module _ (making : MakingLaws) (old new : CoreView) (running : Running) (image n
           phases_is = s.outcome.phases;
           last_is = s.serial;
           running_is = s.is ∙ ap (λ x. Some (record running { image = Some x })) go.is;
+          merger_is = s.rest.merger;
           closed = s.rest.closed;
         })
         asked_now bodies_now files store b.dump later (λ is. b.knows.sure (sym s.committing ∙ is)) (count_then old new made phase asked bodies files s.outcome b) (ids_then old new made phase asked bodies files s.outcome b) has
         (record {
           catalog = in_use;
           grows_is = f.grows ∙ u.grows_is;
-          alone = (f.source ∙ u.alone.0, f.work ∙ u.alone.1);
           used = record { above = above_then (old.numbers.serial + 1) u.used.above; slots = λ k i there. u.used.slots k i (f.images k i there) };
           exact = exact_then;
           job = record {
@@ -386,6 +425,9 @@ module _ (making : MakingLaws) (old new : CoreView) (running : Running) (image n
             image = making_then;
           };
         })
+        (merge_then old.numbers.serial b.store (Some running) (slots_at old.phases bodies b.beliefs) old.numbers.serial store (Some (record running { image = Some later_image })) (slots_at phases_now bodies_now later)
+        (leaves_at old.numbers.serial b.store running (slots_at old.phases bodies b.beliefs) store (Some (record running { image = Some later_image })) (slots_at phases_now bodies_now later) slot changes)
+        asked asked_now (own_beside asked None) old.merger (λ i member. (b.knows.merging s.rest.stands).spelled i (f.within i member)) (merging_of old asked bodies files (Some running) s.rest.stands s.was b))
 
   -- ---- nothing left the catalog
 
@@ -401,11 +443,12 @@ module _ (making : MakingLaws) (old new : CoreView) (running : Running) (image n
     grows = refl;
     needs = λ i needed. needed;
     gives = λ place bytes below. below;
+    still = λ source is. holds_same b.store.catalog source;
   }) u.catalog (has_then quiet old new made phase asked bodies files s.outcome at b) catalog
 
   -- ---- the image that stood in the slot is gone for sure
 
-  module _ (quiet : QuietSteps) (gates : GateSteps) (closing_retires : ClosingRetires) (gives : StepsGive) (needs : NeedsNoMore) (follows : CatalogFollows)
+  module _ (quiet : QuietSteps) (gates : GateSteps) (closing_retires : ClosingRetires) (gives : StepsGive) (needs : NeedsNoMore) (follows : CatalogFollows) (cut : CutHoldsTheSame)
       (is : closes_for_sure phase made.request.id.call ≡ true)
       (leaves : (serial : ℕ) → place_of new.catalog serial ≡ without_slot slot (place_of old.catalog serial)) where
     has_one : HasStore old.base history phases_now asked_now bodies_now b.store b.dump b.beliefs
@@ -431,8 +474,9 @@ module _ (making : MakingLaws) (old new : CoreView) (running : Running) (image n
     closed_follows : (old_belief : Belief) → slice_get b.beliefs slot ≡ Some old_belief → (store : Store) → ((i : Image) → Contains store.catalog i → Contains b.store.catalog i)
         → store.chain ≡ b.store.chain → store.work ≡ b.store.work → store.source ≡ b.store.source → store.grows ≡ b.store.grows
         → ((i : Image) → IsNeededIn store i → IsNeededIn b.store i) → Within (chain_of b.store running.parent) (chain_of store running.parent)
+        → ((source : Image) → b.store.source ≡ Some source → HoldsStill b.store.catalog store.catalog source)
         → StoreFollows b.store b.beliefs slot (belief_after (closes_for_sure phase made.request.id.call) m.belief) running.parent store (with_belief b.beliefs slot Closed)
-    closed_follows old_belief was store within chain work source grows needed below = record {
+    closed_follows old_belief was store within chain work source grows needed below still = record {
       there = set_same b.beliefs slot old_belief Closed was ∙ ap Some (sym belief_closed);
       others = λ k differs. set_other b.beliefs slot k Closed differs;
       images = λ k i there. elim (cases_eq k slot) [
@@ -446,6 +490,7 @@ module _ (making : MakingLaws) (old new : CoreView) (running : Running) (image n
       grows = grows;
       needs = needed;
       gives = below;
+      still = still;
     }
 
     retires : (i : Image) → m.belief ≡ Closing i → new.catalog ≡ new.catalog → Believes new asked_now bodies_now files
@@ -457,14 +502,16 @@ module _ (making : MakingLaws) (old new : CoreView) (running : Running) (image n
         believes_then new.catalog (retired b.store gone.0) (with_belief b.beliefs slot Closed)
         (closed_follows (Closing i) was (retired b.store gone.0) (λ j member. ((gone.1 j).0 member).0) refl refl refl refl
         (λ j needed. needs.retires b.store j gone.0 b.has.sound retired_ok needed)
-        (λ place bytes below. (gives.retires b.store gone.0 b.has.sound retired_ok running.parent place.0 place.1 bytes called).0 below))
+        (λ place bytes below. (gives.retires b.store gone.0 b.has.sound retired_ok running.parent place.0 place.1 bytes called).0 below)
+        (retires_still cut b.store gone.0 b.has.sound retired_ok))
         (follows.removes old.catalog new.catalog b.beliefs slot i u.catalog was leaves) gone.2 same
 
     drops : (i : Image) → m.belief ≡ Opening i → Believes new asked_now bodies_now files
     drops i opening_it =
         let was : slice_get b.beliefs slot ≡ Some (Opening i) = m.belief_is ∙ ap Some opening_it in
         believes_then new.catalog b.store (with_belief b.beliefs slot Closed)
-        (closed_follows (Opening i) was b.store (λ j member. member) refl refl refl refl (λ j needed. needed) (λ place bytes below. below))
+        (closed_follows (Opening i) was b.store (λ j member. member) refl refl refl refl (λ j needed. needed) (λ place bytes below. below)
+        (λ source is. holds_same b.store.catalog source))
         (removed_none old.catalog new.catalog b.beliefs slot i was leaves u.catalog)
         ((gates old.base history phases_now asked_now bodies_now).drops b.store b.dump b.beliefs slot i shut was has_one) refl
 
@@ -474,11 +521,11 @@ module _ (making : MakingLaws) (old new : CoreView) (running : Running) (image n
       | inr opening_it ↦ drops doubt.0 opening_it
     ]
 
-pub goes_on_lem : QuietSteps → GateSteps → MakingLaws → ClosingRetires → StepsGive → NeedsNoMore → CatalogFollows → (old new : CoreView) (running : Running) (image next : Making) (made : Made) (phase : Phase)
+pub goes_on_lem : QuietSteps → GateSteps → MakingLaws → ClosingRetires → StepsGive → NeedsNoMore → CatalogFollows → CutHoldsTheSame → (old new : CoreView) (running : Running) (image next : Making) (made : Made) (phase : Phase)
     (asked : List (Option Asked)) (bodies files : List (List ℕ)) → ImageGoesOn old running image made phase next new → slice_get asked 0 ≡ Some (Some made.request) → Believes old asked bodies files
     → Believes new (slice_set asked 0 None) (bodies_after bodies made.request.id made.request.bytes) files
-goes_on_lem quiet gates making retires gives needs follows old new running image next made phase asked bodies files s at b = elim (cases_Bool (closes_for_sure phase made.request.id.call)) [
-  | inl sure ↦ closes_open making old new running image next made phase asked bodies files s at b quiet gates retires gives needs follows sure
+goes_on_lem quiet gates making retires gives needs follows cut old new running image next made phase asked bodies files s at b = elim (cases_Bool (closes_for_sure phase made.request.id.call)) [
+  | inl sure ↦ closes_open making old new running image next made phase asked bodies files s at b quiet gates retires gives needs follows cut sure
       (λ serial. subst (λ c. LeavesCatalog c made.request.id.slot old.catalog new.catalog) sure s.catalog serial
       ∙ ap (λ k. without_slot k (place_of old.catalog serial)) (on making old new running image next made phase asked bodies files s at b))
   | inr unsure ↦ stays_open making old new running image next made phase asked bodies files s at b unsure quiet (subst (λ c. LeavesCatalog c made.request.id.slot old.catalog new.catalog) unsure s.catalog)

@@ -2,6 +2,7 @@ mod Asks
 mod AsksImage
 mod AsksLaw
 mod AsksSlot
+mod BeginsBeside
 mod BeginsImage
 mod BeginsLaw
 mod CancelLaw
@@ -13,6 +14,9 @@ mod HandsImage
 mod HandsLaw
 mod HandsSlot
 mod Leads
+mod MergeStays
+mod MergerAsks
+mod MergerUse
 mod NoClear
 mod OpenCore
 mod OpenerSteps
@@ -21,5 +25,6 @@ mod Performed
 mod Places
 mod QuietSteps
 mod Reopened
+mod WorkStays
 mod Works
 mod WritesLaw

@@ -5,6 +5,7 @@ use Rattle.sd_chain.specs.Catalog.{Places}
 use Rattle.sd_gate.specs.declared.phase.Phase.{Phase}
 use Rattle.sd_gate.specs.Requests.{Asked}
 use Rattle.sd_journal.specs.History.{Base, History}
+use Rattle.sd_merge.specs.Merger as merger
 use Rattle.sd_pagetable.specs.Contents.{Contents}
 use Rattle.sd_rounds.specs.Dumper.{Running}
 use Rattle.sd_store_laws.specs.Beliefs.{Belief}
@@ -12,10 +13,11 @@ use Rattle.sd_store_laws.specs.Store.{Store}
 use Rattle.sd_belief.specs.Believes.{Believes, HasStore}
 use Rattle.sd_belief.specs.InUse.{IsInUseOn}
 use Rattle.sd_belief.specs.Knows.{SeesStore, ids_of}
+use Rattle.sd_belief.specs.Merges.{IsMergeInUse}
 use Rattle.sd_belief.specs.View.{CoreView, history_of}
 
 -- the fields of a core
-pub record HasParts (core : CoreView) (base : Base) (history : History) (places : Places) (grows : Bool) (memory : Contents) (phases : List Phase) (last : ℕ) (running : Option Running) : Type 0 where
+pub record HasParts (core : CoreView) (base : Base) (history : History) (places : Places) (grows : Bool) (memory : Contents) (phases : List Phase) (last : ℕ) (running : Option Running) (merge : Option merger.Running) : Type 0 where
   pub base_is : core.base ≡ base
   pub history_is : history_of core ≡ history
   pub places_is : core.catalog ≡ places
@@ -24,10 +26,11 @@ pub record HasParts (core : CoreView) (base : Base) (history : History) (places 
   pub phases_is : core.phases ≡ phases
   pub last_is : core.numbers.serial ≡ last
   pub running_is : core.dumper.running ≡ running
+  pub merger_is : core.merger ≡ merge
   pub closed : core.opener ≡ None
 
 module _ (core : CoreView) (base : Base) (history : History) (places : Places) (grows : Bool) (memory : Contents) (phases : List Phase) (last : ℕ) (running : Option Running)
-    (is : HasParts core base history places grows memory phases last running)
+    (merge : Option merger.Running) (is : HasParts core base history places grows memory phases last running merge)
     (asked : List (Option Asked)) (bodies files : List (List ℕ)) (store : Store) (dump : Option Image) (beliefs : List Belief) where
   has_parts : HasStore base history phases asked bodies store dump beliefs → HasStore core.base (history_of core) core.phases asked bodies store dump beliefs
   has_parts has =
@@ -47,9 +50,18 @@ module _ (core : CoreView) (base : Base) (history : History) (places : Places) (
       (subst (λ x. IsInUseOn base history places grows memory phases asked bodies x store dump beliefs core.dumper.running) (sym is.last_is)
       (subst (λ x. IsInUseOn base history places grows memory phases asked bodies last store dump beliefs x) (sym is.running_is) u)))))))
 
+  pub merging_parts : IsMergeInUse phases asked bodies last store beliefs running merge
+      → IsMergeInUse core.phases asked bodies core.numbers.serial store beliefs core.dumper.running core.merger
+  merging_parts m =
+      subst (λ x. IsMergeInUse x asked bodies core.numbers.serial store beliefs core.dumper.running core.merger) (sym is.phases_is)
+      (subst (λ x. IsMergeInUse phases asked bodies x store beliefs core.dumper.running core.merger) (sym is.last_is)
+      (subst (λ x. IsMergeInUse phases asked bodies last store beliefs x core.merger) (sym is.running_is)
+      (subst (λ x. IsMergeInUse phases asked bodies last store beliefs running x) (sym is.merger_is) m)))
+
   pub believes_parts : (core.committing ≡ false → dump ≡ None) → length files ≡ length phases → ids_of asked ≡ core.outs → HasStore base history phases asked bodies store dump beliefs
-      → IsInUseOn base history places grows memory phases asked bodies last store dump beliefs running → Believes core asked bodies files
-  believes_parts sure count out has u = record {
+      → IsInUseOn base history places grows memory phases asked bodies last store dump beliefs running → IsMergeInUse phases asked bodies last store beliefs running merge
+      → Believes core asked bodies files
+  believes_parts sure count out has u m = record {
     store = store;
     dump = dump;
     beliefs = beliefs;
@@ -60,5 +72,6 @@ module _ (core : CoreView) (base : Base) (history : History) (places : Places) (
       sees = subst (λ o. IfSome o (SeesStore files core.phases asked)) (sym is.closed) tt;
       sure = sure;
       in_use = λ stands. in_use_parts u;
+      merging = λ stands. merging_parts m;
     };
   }

@@ -198,6 +198,7 @@ reopens_lem quiet syncs old new opener asked bodies files r b =
       });
       sure = λ is. b.knows.sure (sym r.rest.committing ∙ is);
       in_use = λ is. absurd (not_open old new r.rest is);
+      merging = λ is. absurd (not_open old new r.rest is);
     })
 
 -- ---- its next call is asked for
@@ -243,6 +244,7 @@ looks_lem quiet old new opener next number request asked bodies files l b =
           }));
       sure = λ is. b.knows.sure (sym l.rest.committing ∙ is);
       in_use = λ is. absurd (not_open old new l.rest is);
+      merging = λ is. absurd (not_open old new l.rest is);
     })
   where
     only_look : (a : List (Option Asked)) (r : Asked) → slice_get a 2 ≡ Some None → NoneOut a → IsLook r.id.call → AreLooks (slice_set a 2 (Some r))
@@ -302,6 +304,7 @@ decodes_lem old new opener next asked bodies files d b =
           }));
       sure = λ is. b.knows.sure (sym d.rest.committing ∙ is);
       in_use = λ is. absurd (not_open old new d.rest is);
+      merging = λ is. absurd (not_open old new d.rest is);
     })
 
 -- ---- outcomes
@@ -341,6 +344,7 @@ module _ (old new : CoreView) (made : Made) (phase : Phase) (asked : List (Optio
     sees = subst (λ o. IfSome o (SeesStore files new.phases (slice_set asked 2 None))) (sym ended) tt;
     sure = λ is. b.knows.sure (sym h.rest.committing ∙ is);
     in_use = λ is. absurd (not_open old new h.rest is);
+    merging = λ is. absurd (not_open old new h.rest is);
   })
 
   module _ (opener next : Looking) (t : IsTaught old opener made phase next new) (was_told : WasTold old.phases bodies files made) where
@@ -419,6 +423,7 @@ module _ (old new : CoreView) (made : Made) (phase : Phase) (asked : List (Optio
           }));
       sure = λ is. b.knows.sure (sym h.rest.committing ∙ is);
       in_use = λ is. absurd (not_open old new h.rest is);
+      merging = λ is. absurd (not_open old new h.rest is);
     })
 
 -- ---- it ends
@@ -432,6 +437,7 @@ ends_lem old new asked bodies files g b = moved old new old.phases asked bodies 
       sees = subst (λ o. IfSome o (SeesStore files new.phases asked)) (sym g.opener) tt;
       sure = λ is. b.knows.sure (sym g.rest.committing ∙ is);
       in_use = λ is. absurd (not_open old new g.rest is);
+      merging = λ is. absurd (not_open old new g.rest is);
     })
 
 pub refinds_lem : (core : CoreView) (opener : Looking) (asked : List (Option Asked)) (bodies files : List (List ℕ))

@@ -1,6 +1,7 @@
 -- The image of a pre-dump is open, and enters the catalog.
 use Rattle.std.proofs.Common.{◌≡◌, ◌≢◌, ◌⊎◌, ℕ, zero, suc, ◌+◌, ◌<◌, ◌≤◌, ◌==◌, ◌&&◌, Bool, true, false, if◌then◌else◌, List, [], ◌∷◌, ◌++◌, drop, get_or, length, map, Option, Some, None, IfSome, Contains, option_and_then, slice_get, slice_set, refl, sym, ◌∙◌, ap, subst, inl, inr, arith}
 use Rattle.std.proofs.lemmas.Bool.{cases_eq, cases_lt, false≢true, le-leb}
+use Rattle.std.proofs.lemmas.List.Elements.{Contains-append_cases, Contains-append_right}
 use Rattle.std.proofs.lemmas.Option.{same_Some, slice_get_within}
 use Rattle.sd_disk.specs.Contents.{file_at}
 use Rattle.sd_image.specs.declared.header.Kind.TheVariants.{PreDump, Dump}
@@ -33,24 +34,28 @@ use Rattle.sd_rounds.specs.Keeps.{Rests}
 use Rattle.sd_rounds.specs.Making.{Making, is_past_freeze, plan_of}
 use Rattle.sd_rounds.specs.MakingLaws.{image_of}
 use Rattle.sd_store_laws.specs.Below.{StepsGive}
+use Rattle.sd_store_laws.specs.Cut.{CutHoldsTheSame}
+use Rattle.sd_store_laws.specs.Harmless.{UnusedIsUncalled}
 use Rattle.sd_store_laws.specs.Gates.{IsBelievedAs}
 use Rattle.sd_store_laws.specs.InUse.{CatalogFollows, IsCatalogInUse}
 use Rattle.sd_store_laws.specs.Needed.{IsCalled, by_job}
-use Rattle.sd_store_laws.specs.Makers.{AboveIsFresh, IsAbove}
-use Rattle.sd_store_laws.specs.Needs.{NeedsNoMore}
+use Rattle.sd_store_laws.specs.Makers.{IsAbove}
+use Rattle.sd_store_laws.specs.Needs.{IsNeededIn, NeedsNoMore}
 use Rattle.sd_image.specs.Shows.{IsRestorable, IsTip}
 use Rattle.sd_store_laws.specs.SlotSteps.{with_belief}
 use Rattle.sd_store_laws.specs.Steps.{Adds, added, committed}
-use Rattle.sd_store_laws.specs.Store.{IsNext, IsNextPreDump, Store, jobs}
+use Rattle.sd_store_laws.specs.Store.{IsNext, IsNextDump, IsNextPreDump, Store, jobs}
 use Rattle.sd_belief.specs.Believes.{Believes, HasStore}
 use Rattle.sd_belief.specs.DumperOutcomes.{ImageOpens}
 use Rattle.sd_belief.specs.GateSteps.{GateSteps}
 use Rattle.sd_belief.specs.StoreSteps.{IsOpened, QuietSteps}
 use Rattle.sd_belief.specs.View.{CoreView, history_of}
-use Rattle.sd_belief.proofs.AsksLaw.{in_front, its_parent}
+use Rattle.sd_belief.proofs.AsksLaw.{its_parent}
+use Rattle.sd_belief.proofs.BeginsImage.{in_front}
 use Rattle.sd_belief.proofs.HandsImage.{calls_of_done}
 use Rattle.sd_belief.proofs.HandsLaw.{count_then, file_set, has_then, ids_then, known_plan}
 use Rattle.sd_belief.proofs.Places.{body_other, id_there, ids_set, set_count, set_other, set_same}
+use Rattle.sd_belief.proofs.MergeStays.{ChangesAt, HoldsStill, SparesAsMuch, adds_still, fresh_of, leaves_at, merge_then, merging_of, own_beside, slots_at}
 use Rattle.sd_belief.proofs.OpenCore.{believes_parts}
 use Rattle.sd_belief.proofs.Leads.{leads_end, leads_head}
 
@@ -98,7 +103,7 @@ slots_end [] dump place behind = refl
 slots_end (p ∷ pre_dumps) dump zero behind = absurd (omega (arith, behind))
 slots_end (p ∷ pre_dumps) dump (suc place) behind = slots_end pre_dumps dump place (omega (arith, behind))
 
-module _ (quiet : QuietSteps) (gates : GateSteps) (file : FileLaws) (gives : StepsGive) (needs : NeedsNoMore) (follows : CatalogFollows) (fresh_is : AboveIsFresh)
+module _ (quiet : QuietSteps) (gates : GateSteps) (file : FileLaws) (gives : StepsGive) (needs : NeedsNoMore) (follows : CatalogFollows) (cut : CutHoldsTheSame) (unused : UnusedIsUncalled)
     (old new : CoreView) (running : Running) (image : Making) (made : Made) (phase : Phase) (opened : NewImage) (asked : List (Option Asked)) (bodies files : List (List ℕ))
     (s : ImageOpens old running image made phase opened new) (at : slice_get asked 0 ≡ Some (Some made.request)) (b : Believes old asked bodies files) where
   abbrev history : History
@@ -167,12 +172,12 @@ module _ (quiet : QuietSteps) (gates : GateSteps) (file : FileLaws) (gives : Ste
 
   falls : i.header.parent < i.header.stands_for
   falls =
-      let less = m.fresh.jobs running.parent (in_front b.store.chain b.store.work running.parent w.chain) in
+      let less = m.low in
       let stands = stands_is in let parent = parent_is in omega (arith, less, stands, parent)
 
   next_is : IsNext b.store i
   next_is = record {
-    fresh = fresh_is b.store i (stands_is ∙ sym serial_is) falls (subst (IsAbove b.store) (sym serial_is) m.fresh);
+    fresh = fresh_of b.store i image.order.serial serial_is stands_is falls m.fresh;
     parent = subst (Contains b.store.chain) (sym parent_is) (its_parent b.store.chain running.parent w.chain);
   }
 
@@ -249,13 +254,12 @@ module _ (quiet : QuietSteps) (gates : GateSteps) (file : FileLaws) (gives : Ste
       | inl same ↦ (let its = ap (λ (x : Image). x.header.parent) same in let less = falls in let stands = stands_is in let last = m.serial in omega (arith, its, less, stands, last))
       | inr before ↦ u.used.above.parents j before
     ];
-    jobs = λ asked_for member. few asked_for (subst (λ c. Contains c asked_for) (none_behind chain) (subst (λ work. Contains (chain ++ work) asked_for) u.alone.1 member));
+    jobs = λ asked_for member. elim (Contains-append_cases chain b.store.work asked_for member) [
+      | inl own ↦ few asked_for own
+      | inr work ↦ u.used.above.jobs asked_for (Contains-append_right b.store.chain b.store.work asked_for work)
+    ];
     source = u.used.above.source;
   }
-    where
-      none_behind : (xs : List ℕ) → xs ++ [] ≡ xs
-      none_behind [] = refl
-      none_behind (x ∷ xs) = ap (λ rest. x ∷ rest) (none_behind xs)
 
   exact_then : AreExact phases_now asked_now bodies_now beliefs_now
   exact_then k p belief here of none = elim (cases_eq k slot) [
@@ -288,7 +292,7 @@ module _ (quiet : QuietSteps) (gates : GateSteps) (file : FileLaws) (gives : Ste
         stands = stands_is;
         greatest = λ j member stands. elim (member_then j member) [
           | inl same ↦ (let its = ap (λ (x : Image). x.header.serial) same in omega (arith, its))
-          | inr before ↦ absurd (let less = m.fresh.stands j before in omega (arith, less, stands))
+          | inr before ↦ absurd (m.fresh.unused.stands j before stands)
         ];
       })
       (λ place bytes below. (gives.adds b.store i (i ∷ b.store.catalog) b.has.sound next_is adds_it running.parent place.0 place.1 bytes called).0 below) m.keeps)
@@ -305,6 +309,41 @@ module _ (quiet : QuietSteps) (gates : GateSteps) (file : FileLaws) (gives : Ste
     | inl own ↦ (let its = ap (λ (x : Image). x.header.serial) own.1 in let serial = serial_is in let last = m.serial in omega (arith, its, serial, last))
     | inr before ↦ u.used.slots k j before.1
   ]
+
+  -- ---- the merge beside it
+
+  spelled_then : (j : Image) → Contains (i ∷ b.store.catalog) j → (text : List ℕ) × IsImage text j
+  spelled_then j member = elim (member_then j member) [
+    | inl same ↦ subst (λ x. (text : List ℕ) × IsImage text x) (sym same) (gate ∷ image_text i, filed.spelled)
+    | inr before ↦ (b.knows.merging s.stands).spelled j before
+  ]
+
+  still_then : (source : Image) → b.store.source ≡ Some source → HoldsStill b.store.catalog (i ∷ b.store.catalog) source
+  still_then = adds_still cut unused b.store i (i ∷ b.store.catalog) b.has.sound next_is.fresh adds_it
+
+  changes : (store_now : Store) (running_now : Option Running) → ((source : Image) → b.store.source ≡ Some source → HoldsStill b.store.catalog store_now.catalog source)
+      → store_now.source ≡ b.store.source → store_now.work ≡ b.store.work → SparesAsMuch old.numbers.serial old.numbers.serial (Some running) running_now
+      → ((j : Image) → IsNeededIn store_now j → (j ≡ i) ⊎ IsNeededIn b.store j)
+      → ChangesAt old.numbers.serial b.store running (slots_at old.phases bodies b.beliefs) store_now running_now (slots_at phases_now bodies_now beliefs_now) slot
+  changes store_now running_now still source work spares needed_now = record {
+    reserved = record { place = running.opened; from = omega arith; is = ap (λ o. o.slot) s.own };
+    count = set_count old.phases made.request.id.slot (after phase made.request.id.call (is_done made.answer));
+    others = λ k differs. (let other : k ≢ made.request.id.slot = (λ same. differs (same ∙ on)) in record {
+      phase = set_other old.phases made.request.id.slot k (after phase made.request.id.call (is_done made.answer)) other;
+      body = body_other bodies made.request.id.slot k (body_after (file_at bodies made.request.id.slot) made.request.id.call made.request.bytes) other;
+      belief = set_other b.beliefs slot k (Kept i) differs;
+    });
+    spares = spares;
+    source = source;
+    work = work;
+    needs = λ k j differs has needed. elim (needed_now j needed) [
+      | inl same ↦ absurd (differs (b.has.slots.serials k slot j i has (ap (λ o. option_and_then image_in o) belief_at) (ap (λ (x : Image). x.header.serial) same)))
+      | inr before ↦ before
+    ];
+    still = still;
+    here = λ j has. inl (ap (λ o. option_and_then image_in o) belief_at ∙ sym (ap (λ o. option_and_then image_in o) (set_same b.beliefs slot (Opening i) (Kept i) belief_at)) ∙ has);
+    opens = λ j opens. absurd (let no : Some (Kept i) ≡ Some (Opening j) = sym (set_same b.beliefs slot (Opening i) (Kept i) belief_at) ∙ opens in cc);
+  }
 
   -- ---- a pre-dump
 
@@ -351,13 +390,12 @@ module _ (quiet : QuietSteps) (gates : GateSteps) (file : FileLaws) (gives : Ste
         ]
 
     pub pre_dump_lem : Believes new asked_now bodies_now files
-    pre_dump_lem = believes_parts new old.base history new.catalog old.grows old.memory phases_now old.numbers.serial (Some (after_pre_dump running opened))
-        (record { base_is = s.outcome.base; history_is = same_history; places_is = refl; grows_is = same_grows; memory_is = s.outcome.memory; phases_is = s.outcome.phases; last_is = s.serial; running_is = is_then; closed = s.outcome.closed })
+    pre_dump_lem = believes_parts new old.base history new.catalog old.grows old.memory phases_now old.numbers.serial (Some (after_pre_dump running opened)) old.merger
+        (record { base_is = s.outcome.base; history_is = same_history; places_is = refl; grows_is = same_grows; memory_is = s.outcome.memory; phases_is = s.outcome.phases; last_is = s.serial; running_is = is_then; merger_is = s.merger; closed = s.outcome.closed })
         asked_now bodies_now files store_now None beliefs_now (λ is. refl) (count_then old new made phase asked bodies files s.outcome b) (ids_then old new made phase asked bodies files s.outcome b) has_now
         (record {
           catalog = catalog_then;
           grows_is = u.grows_is;
-          alone = u.alone;
           used = record { above = above_then (i.header.stands_for ∷ []) b.store.grows asks_serial; slots = slots_then };
           exact = exact_then;
           job = record {
@@ -380,6 +418,12 @@ module _ (quiet : QuietSteps) (gates : GateSteps) (file : FileLaws) (gives : Ste
             image = record { rests = λ some. rests_then; none = set_same asked 0 (Some made.request) None at; alone = refl };
           };
         })
+        (merge_then old.numbers.serial b.store (Some running) (slots_at old.phases bodies b.beliefs) old.numbers.serial store_now (Some (after_pre_dump running opened)) (slots_at phases_now bodies_now beliefs_now)
+        (leaves_at old.numbers.serial b.store running (slots_at old.phases bodies b.beliefs) store_now (Some (after_pre_dump running opened)) (slots_at phases_now bodies_now beliefs_now) slot
+        (changes store_now (Some (after_pre_dump running opened)) (λ source is. still_then source is) refl refl
+        (record { spares = λ k spared r. spared (record { place = r.place; from = (let from = r.from in omega (arith, from)); is = r.is }); last_is = omega arith; makes = λ serial low other. tt })
+        (λ j needed. needs.adds b.store i j (i ∷ b.store.catalog) b.has.sound next_pre_dump adds_it needed)))
+        asked asked_now (own_beside asked None) old.merger spelled_then (merging_of old asked bodies files (Some running) s.stands s.was b))
 
   -- ---- the dump
 
@@ -410,6 +454,9 @@ module _ (quiet : QuietSteps) (gates : GateSteps) (file : FileLaws) (gives : Ste
     has_dump = (gates old.base history phases_now asked_now bodies_now).commits b.store b.beliefs slot running.number i opened_slot (pends, legal)
         (subst (λ d. HasStore old.base history phases_now asked_now bodies_now b.store d b.beliefs) pending_is has_one)
 
+    next_dump : IsNextDump b.store i
+    next_dump = subst (λ d. IfSome d (IsNextDump b.store)) pending_is b.has.slots.dump
+
     -- the tip then is the dump
     tip_is : (tip : Image) → IsTip (i ∷ b.store.catalog) tip → tip ≡ i
     tip_is tip is = elim (member_then tip is.member) [
@@ -421,13 +468,12 @@ module _ (quiet : QuietSteps) (gates : GateSteps) (file : FileLaws) (gives : Ste
     ]
 
     pub dump_lem : Believes new asked_now bodies_now files
-    dump_lem = believes_parts new old.base (Acked running.number ∷ history) new.catalog true old.memory phases_now old.numbers.serial None
-        (record { base_is = s.outcome.base; history_is = ap entries_of items; places_is = refl; grows_is = grown; memory_is = s.outcome.memory; phases_is = s.outcome.phases; last_is = s.serial; running_is = is_then; closed = s.outcome.closed })
+    dump_lem = believes_parts new old.base (Acked running.number ∷ history) new.catalog true old.memory phases_now old.numbers.serial None old.merger
+        (record { base_is = s.outcome.base; history_is = ap entries_of items; places_is = refl; grows_is = grown; memory_is = s.outcome.memory; phases_is = s.outcome.phases; last_is = s.serial; running_is = is_then; merger_is = s.merger; closed = s.outcome.closed })
         asked_now bodies_now files store_then None beliefs_now (λ is. refl) (count_then old new made phase asked bodies files s.outcome b) (ids_then old new made phase asked bodies files s.outcome b) has_dump
         (record {
           catalog = catalog_then;
           grows_is = refl;
-          alone = u.alone;
           used = record { above = above_then [] true (λ asked_for member. absurd (let within = member.1 in omega (arith, within))); slots = slots_then };
           exact = exact_then;
           job = record {
@@ -438,3 +484,9 @@ module _ (quiet : QuietSteps) (gates : GateSteps) (file : FileLaws) (gives : Ste
             idle = refl;
           };
         })
+        (merge_then old.numbers.serial b.store (Some running) (slots_at old.phases bodies b.beliefs) old.numbers.serial store_then None (slots_at phases_now bodies_now beliefs_now)
+        (leaves_at old.numbers.serial b.store running (slots_at old.phases bodies b.beliefs) store_then None (slots_at phases_now bodies_now beliefs_now) slot
+        (changes store_then None (λ source is. still_then source is) refl refl
+        (record { spares = λ k spared. tt; last_is = omega arith; makes = λ serial low other. tt })
+        (λ j needed. needs.commits b.store i j (i ∷ b.store.catalog) b.has.sound next_dump adds_it needed)))
+        asked asked_now (own_beside asked None) old.merger spelled_then (merging_of old asked bodies files (Some running) s.stands s.was b))

@@ -1,5 +1,5 @@
 -- A device call that was made leaves what is believed.
-use Rattle.std.proofs.Common.{◌≡◌, ◌⊎◌, ℕ, Bool, true, List, [], ◌∷◌, length, map, Option, Some, None, IfSome, slice_get, slice_set, refl, sym, ◌∙◌, ap, subst, inl, inr}
+use Rattle.std.proofs.Common.{◌≡◌, ◌≢◌, ◌⊎◌, ℕ, Bool, true, List, [], ◌∷◌, length, map, Option, Some, None, IfSome, slice_get, slice_set, refl, sym, ◌∙◌, ap, subst, inl, inr}
 use Rattle.std.proofs.lemmas.Bool.{cases_eq}
 use Rattle.std.proofs.lemmas.Option.{same_Some}
 use Rattle.sd_disk.specs.Contents.{file_at}
@@ -12,13 +12,13 @@ use Rattle.sd_gate.specs.Looks.{LooksAt, IsCallAt, Look, asks}
 use Rattle.sd_gate.specs.Plans.{Planned}
 use Rattle.sd_gate.specs.Phases.{Waits, body_after, after as phase_after}
 use Rattle.sd_gate.specs.Requests.{Asked, Made}
-use Rattle.sd_store_laws.specs.Beliefs.{Belief}
+use Rattle.sd_store_laws.specs.Beliefs.{Belief, Kept}
 use Rattle.sd_store_laws.specs.Gates.{MayBelieve}
 use Rattle.sd_belief.specs.Believes.{Believes, IsCovered}
 use Rattle.sd_belief.specs.Knows.{AreLooks, SeesStore}
 use Rattle.sd_belief.specs.Laws.{IsMadeOf, PerformedIsBelieved}
 use Rattle.sd_image.specs.Table.{table_text}
-use Rattle.sd_image.specs.Image.{Image, image_text}
+use Rattle.sd_image.specs.Image.{Image, IsImage, gate, image_text}
 use Rattle.sd_chain.specs.Catalog.{Places}
 use Rattle.sd_gate.specs.declared.phase.Phase.TheVariants.{Bare, Whole as WholePhase}
 use Rattle.sd_gate.specs.Laws.{Leads, one_call, pages_body}
@@ -31,6 +31,17 @@ use Rattle.sd_rounds.specs.declared.stage.Stage.TheVariants.{Format, Freeze, Pas
 use Rattle.sd_rounds.specs.Dumper.{Running}
 use Rattle.sd_rounds.specs.Making.{Making}
 use Rattle.sd_rounds.specs.MakingLaws.{Pages, image_of}
+use Rattle.sd_rounds.specs.Pass.{Place}
+use Rattle.sd_gate.specs.declared.slot_state.SlotState.{SlotState}
+use Rattle.sd_gate.specs.declared.slot_state.SlotState.TheVariants.{Open as OpenSlot}
+use Rattle.sd_merge.specs.declared.retired.Retired.{Retired}
+use Rattle.sd_merge.specs.declared.source.Source.{Source}
+use Rattle.sd_merge.specs.declared.stage.Stage.{Stage as CopyStage}
+use Rattle.sd_merge.specs.declared.stage.Stage.TheVariants as copy
+use Rattle.sd_merge.specs.Copying.{Copying}
+use Rattle.sd_merge.specs.Merger.{Doing, Retiring, due, copying, opened, retiring}
+use Rattle.sd_merge.specs.Merger as merger
+use Rattle.sd_belief.specs.Merges.{IsAskedIn, IsCopyOn, IsMergeAt, IsMergeOn, IsReadOn, IsRetiredOn, IsSpared, order_of_slot, request_in_slot, stage_in_slot}
 use Rattle.sd_store_laws.specs.Store.{Store}
 use Rattle.sd_belief.specs.InUse.{AreLeft, IsAtWork, IsImageOn, IsInUseOn, IsSlotFor, NoneAt, call_of, calls_left}
 use Rattle.sd_belief.specs.View.{CoreView, history_of}
@@ -254,6 +265,7 @@ module _ (asked : List (Option Asked)) (worker : ℕ) (request : Asked) (made : 
           frozen = m.frozen;
           serial = m.serial;
           fresh = m.fresh;
+          low = m.low;
           others = m.others;
           phase = m.phase;
           phase_is = m.phase_is;
@@ -283,11 +295,142 @@ module _ (asked : List (Option Asked)) (worker : ℕ) (request : Asked) (made : 
     in_use_made places grows running u = record {
       catalog = u.catalog;
       grows_is = u.grows_is;
-      alone = u.alone;
       used = u.used;
       exact = λ slot phase belief here of none. u.exact slot phase belief here of (none_before slot none);
       job = work_made grows running u.job;
     }
+
+  -- ---- the merge
+
+  -- what the merger has out
+  merger_made : (r : Option Asked) → slice_get asked 1 ≡ Some r
+      → (q : Option Asked) × (slice_get after 1 ≡ Some q) × ((q ≡ r) ⊎ ((r ≡ Some request) × (q ≡ Some made.request)))
+  merger_made r own = elim (cases_eq 1 worker) [
+    | inl its ↦ (Some made.request, ap (slice_get after) its ∙ after_at, inr (same_Some r (Some request) (sym own ∙ ap (slice_get asked) its ∙ at), refl))
+    | inr differs ↦ (r, set_other asked worker 1 (Some made.request) differs ∙ own, inl refl)
+  ]
+
+  silent_made : slice_get asked 1 ≡ Some None → slice_get after 1 ≡ Some None
+  silent_made free = elim (cases_eq 1 worker) [
+    | inl its ↦ absurd (let no : Some None ≡ Some (Some request) = sym free ∙ ap (slice_get asked) its ∙ at in cc)
+    | inr differs ↦ set_other asked worker 1 (Some made.request) differs ∙ free
+  ]
+
+  module _ (phases : List Phase) (bodies : List (List ℕ)) (last : ℕ) (store : Store) (beliefs : List Belief) (running : Option Running) where
+    read_made : (target : ℕ) (source : Image) (page : Option Place) → IsReadOn phases bodies store beliefs running target source page request
+        → IsReadOn phases bodies store beliefs running target source page made.request
+    read_made target source page a = record {
+      at = a.at;
+      taking = a.taking;
+      image = a.image;
+      kept = subst (λ (id : RequestId). slice_get beliefs id.slot ≡ Some (Kept a.image)) (sym is.id) a.kept;
+      phase_is = subst (λ (id : RequestId). slice_get phases id.slot ≡ Some WholePhase) (sym is.id) a.phase_is;
+      spelled = subst (λ (id : RequestId). IsImage (gate ∷ file_at bodies id.slot) a.image) (sym is.id) a.spelled;
+      spared = subst (λ (id : RequestId). IsSpared running id.slot) (sym is.id) a.spared;
+      apart = subst (λ (id : RequestId). id.slot ≢ target) (sym is.id) a.apart;
+      reached = a.reached;
+      place = a.place;
+      call = ap (λ (id : RequestId). id.call) is.id ∙ a.call;
+      bytes = a.bytes;
+      stored = a.stored;
+      holds = a.holds;
+    }
+
+    on_made : (target : ℕ) → request.id.slot ≡ target → made.request.id.slot ≡ target
+    on_made target on = ap (λ (id : RequestId). id.slot) is.id ∙ on
+
+    asked_made : (target : ℕ) (source : Image) (stage : CopyStage) (page : Option Place) → IsAskedIn stage phases bodies store beliefs running target source page (Some request)
+        → IsAskedIn stage phases bodies store beliefs running target source page (Some made.request)
+    asked_made target source (copy.Format plan) page a = on_made target a
+    asked_made target source copy.Pass page a = on_made target a
+    asked_made target source (copy.PageRead plan) page a = read_made target source page a
+    asked_made target source (copy.PageWrite plan) page a = on_made target a
+    asked_made target source (copy.Close plan header tables) page a = on_made target a
+
+    slot_in_made : (target : ℕ) (state : SlotState) (stage : CopyStage) (pages : Pages) (phase : Phase) (body : List ℕ) (belief : Belief)
+        → IsSlotFor (stage_in_slot stage) (order_of_slot target state) pages phase body (request_in_slot stage (Some request)) belief None
+        → IsSlotFor (stage_in_slot stage) (order_of_slot target state) pages phase body (request_in_slot stage (Some made.request)) belief None
+    slot_in_made target state (copy.Format plan) pages phase body belief s = slot_made (Format plan) (order_of_slot target state) pages phase body belief None s
+    slot_in_made target state copy.Pass pages phase body belief s = slot_made PassStage (order_of_slot target state) pages phase body belief None s
+    slot_in_made target state (copy.PageRead plan) pages phase body belief s = s
+    slot_in_made target state (copy.PageWrite plan) pages phase body belief s = slot_made (PageWrite plan) (order_of_slot target state) pages phase body belief None s
+    slot_in_made target state (copy.Close plan header tables) pages phase body belief s = slot_made (CloseStage plan header tables) (order_of_slot target state) pages phase body belief None s
+
+    copy_made : (target : ℕ) (source : Image) (making : Copying) → IsCopyOn phases asked bodies last store beliefs running target source making
+        → IsCopyOn phases after bodies last store beliefs running target source making
+    copy_made target source making c = elim own.2 [
+      | inl same ↦ with_it (subst (λ q. IsAskedIn making.stage phases bodies store beliefs running target source making.taking q) (sym same) c.asked_in)
+          (subst (λ q. IsSlotFor (stage_in_slot making.stage) (order_of_slot target making.order.state) c.pages c.phase (file_at bodies target) (request_in_slot making.stage q) c.belief None) (sym same) c.slot_is)
+      | inr both ↦ with_it (subst (λ q. IsAskedIn making.stage phases bodies store beliefs running target source making.taking q) (sym both.1)
+          (asked_made target source making.stage making.taking (subst (λ q. IsAskedIn making.stage phases bodies store beliefs running target source making.taking q) both.0 c.asked_in)))
+          (subst (λ q. IsSlotFor (stage_in_slot making.stage) (order_of_slot target making.order.state) c.pages c.phase (file_at bodies target) (request_in_slot making.stage q) c.belief None) (sym both.1)
+          (slot_in_made target making.order.state making.stage c.pages c.phase (file_at bodies target) c.belief
+          (subst (λ q. IsSlotFor (stage_in_slot making.stage) (order_of_slot target making.order.state) c.pages c.phase (file_at bodies target) (request_in_slot making.stage q) c.belief None) both.0 c.slot_is)))
+    ]
+      where
+        own : (q : Option Asked) × (slice_get after 1 ≡ Some q) × ((q ≡ c.request) ⊎ ((c.request ≡ Some request) × (q ≡ Some made.request)))
+        own = merger_made c.request c.own
+
+        with_it : IsAskedIn making.stage phases bodies store beliefs running target source making.taking own.0
+            → IsSlotFor (stage_in_slot making.stage) (order_of_slot target making.order.state) c.pages c.phase (file_at bodies target) (request_in_slot making.stage own.0) c.belief None
+            → IsCopyOn phases after bodies last store beliefs running target source making
+        with_it asked_in slot_is = record {
+          pages = c.pages;
+          keeps = c.keeps;
+          files = c.files;
+          serial = c.serial;
+          other = c.other;
+          above = c.above;
+          others = c.others;
+          phase = c.phase;
+          phase_is = c.phase_is;
+          belief = c.belief;
+          belief_is = c.belief_is;
+          request = own.0;
+          own = own.1;
+          asked_in = asked_in;
+          slot_is = slot_is;
+        }
+
+    retired_made : (r : Retiring) (one : Retired) → IsRetiredOn phases asked bodies store beliefs running r one → IsRetiredOn phases after bodies store beliefs running r one
+    retired_made r one c = elim own.2 [
+      | inl same ↦ with_it (λ out is_out. c.asked_at out (sym same ∙ is_out))
+          (subst (λ q. IsSlotFor (Format r.plan) (order_of_slot one.slot OpenSlot) [] c.phase (file_at bodies one.slot) q c.belief None) (sym same) c.slot_is)
+      | inr both ↦ with_it (λ out is_out. (let made_is = same_Some made.request out (sym both.1 ∙ is_out) in ap (λ (q : Asked). q.id.slot) (sym made_is) ∙ on_made one.slot (c.asked_at request both.0)))
+          (subst (λ q. IsSlotFor (Format r.plan) (order_of_slot one.slot OpenSlot) [] c.phase (file_at bodies one.slot) q c.belief None) (sym both.1)
+          (slot_made (Format r.plan) (order_of_slot one.slot OpenSlot) [] c.phase (file_at bodies one.slot) c.belief None
+          (subst (λ q. IsSlotFor (Format r.plan) (order_of_slot one.slot OpenSlot) [] c.phase (file_at bodies one.slot) q c.belief None) both.0 c.slot_is)))
+    ]
+      where
+        own : (q : Option Asked) × (slice_get after 1 ≡ Some q) × ((q ≡ c.request) ⊎ ((c.request ≡ Some request) × (q ≡ Some made.request)))
+        own = merger_made c.request c.own
+
+        with_it : ((out : Asked) → own.0 ≡ Some out → out.id.slot ≡ one.slot)
+            → IsSlotFor (Format r.plan) (order_of_slot one.slot OpenSlot) [] c.phase (file_at bodies one.slot) own.0 c.belief None
+            → IsRetiredOn phases after bodies store beliefs running r one
+        with_it asked_at slot_is = record {
+          phase = c.phase;
+          phase_is = c.phase_is;
+          belief = c.belief;
+          belief_is = c.belief_is;
+          unneeded = c.unneeded;
+          spared = c.spared;
+          request = own.0;
+          own = own.1;
+          asked_at = asked_at;
+          slot_is = slot_is;
+        }
+
+    merge_at_made : (target : ℕ) (origin : Source) (doing : Doing) → IsMergeAt phases asked bodies last store beliefs running target origin doing
+        → IsMergeAt phases after bodies last store beliefs running target origin doing
+    merge_at_made target origin due m = (m.0, silent_made m.1)
+    merge_at_made target origin (copying making) m = record { repeats = m.repeats; order = m.order; copy = copy_made target m.repeats.image making m.copy }
+    merge_at_made target origin (opened serial) m = m
+    merge_at_made target origin (retiring r) m = record { alone = m.alone; one = m.one; there = m.there; closes = retired_made r m.one m.closes; later = m.later; apart = m.apart }
+
+    merge_made : (merge : Option merger.Running) → IsMergeOn phases asked bodies last store beliefs running merge → IsMergeOn phases after bodies last store beliefs running merge
+    merge_made None m = (m.0, silent_made m.1)
+    merge_made (Some merge) m = merge_at_made merge.slot merge.source merge.doing m
 
   pub believes_on : (core : CoreView) (bodies : List (List ℕ)) → Believes core asked bodies files → Believes core after bodies new
   believes_on core bodies b = record {
@@ -310,6 +453,10 @@ module _ (asked : List (Option Asked)) (worker : ℕ) (request : Asked) (made : 
       sure = b.knows.sure;
       in_use = λ stands. in_use_made core.base (history_of core) core.memory core.phases bodies core.numbers.serial b.store b.dump b.beliefs
           core.catalog core.grows core.dumper.running (b.knows.in_use stands);
+      merging = λ stands. (let m = b.knows.merging stands in record {
+        spelled = m.spelled;
+        is = merge_made core.phases bodies core.numbers.serial b.store b.beliefs core.dumper.running core.merger m.is;
+      });
     };
   }
 

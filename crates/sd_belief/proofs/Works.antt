@@ -24,6 +24,7 @@ use Rattle.sd_belief.specs.DumperSteps.{FreezesMemory, IsOnPages, WorksOnMemory}
 use Rattle.sd_belief.specs.InUse.{IsImageOn, IsInUseOn, IsMakingOn, IsRunningOn, IsSlotFor, chain_of}
 use Rattle.sd_belief.specs.StoreSteps.{QuietSteps}
 use Rattle.sd_belief.specs.View.{CoreView, history_of}
+use Rattle.sd_belief.proofs.MergeStays.{merge_beside, spares_on}
 use Rattle.sd_belief.proofs.OpenCore.{believes_parts}
 
 -- a running checkpoint whose image is another one, with the same slots
@@ -74,7 +75,7 @@ works_lem making old new running image next number step asked bodies files on s 
     let chain = chain_of b.store running.parent in
     let keeps : KeepsImage m.pages chain nxt new.memory = subst (λ p. KeepsImage p chain nxt new.memory) (no_pages step m.pages on)
     (subst (λ i. KeepsImage (pages_after step m.pages) chain i new.memory) pass.1 (making.steps number m.pages chain image next old.memory new.memory step s.steps m.keeps)) in
-    believes_parts new old.base (history_of old) old.catalog old.grows new.memory old.phases old.numbers.serial (Some (record running { image = Some nxt }))
+    believes_parts new old.base (history_of old) old.catalog old.grows new.memory old.phases old.numbers.serial (Some (record running { image = Some nxt })) old.merger
     (record {
       base_is = s.rest.base;
       history_is = s.history;
@@ -84,13 +85,13 @@ works_lem making old new running image next number step asked bodies files on s 
       phases_is = s.phases;
       last_is = s.serial;
       running_is = s.is ∙ ap (λ x. Some (record running { image = Some x })) pass.1;
+      merger_is = s.rest.merger;
       closed = s.rest.closed;
     })
     asked bodies files b.store b.dump b.beliefs (λ is. b.knows.sure (sym s.committing ∙ is)) b.knows.count (b.knows.out ∙ sym s.outs) b.has
     (record {
       catalog = u.catalog;
       grows_is = u.grows_is;
-      alone = u.alone;
       used = u.used;
       exact = u.exact;
       job = running_with old.base (history_of old) (history_of old) old.memory new.memory old.phases asked asked bodies old.numbers.serial b.store b.dump b.beliefs running nxt w (record {
@@ -109,6 +110,7 @@ works_lem making old new running image next number step asked bodies files on s 
         };
         serial = m.serial;
         fresh = m.fresh;
+        low = m.low;
         others = m.others;
         phase = m.phase;
         phase_is = m.phase_is;
@@ -120,6 +122,7 @@ works_lem making old new running image next number step asked bodies files on s 
         slot_is = m.slot_is;
       });
     })
+    (merge_beside old asked asked bodies files running nxt old.numbers.serial s.rest.stands s.was refl (spares_on old.numbers.serial running image nxt s.making refl) b)
 
 -- ---- the freeze
 
@@ -145,7 +148,7 @@ freezes_lem quiet making old new running image next number asked bodies files s 
     let to_old = sym s.memory in
     let keeps : KeepsImage m.pages chain nxt old.memory = subst (KeepsImage m.pages chain nxt) s.memory
     (subst (λ i. KeepsImage m.pages chain i new.memory) freezes.is (making.steps number m.pages chain image next old.memory new.memory Frozen s.steps m.keeps)) in
-    believes_parts new old.base later old.catalog old.grows old.memory old.phases old.numbers.serial (Some (record running { image = Some nxt }))
+    believes_parts new old.base later old.catalog old.grows old.memory old.phases old.numbers.serial (Some (record running { image = Some nxt })) old.merger
     (record {
       base_is = s.rest.base;
       history_is = ap entries_of s.items;
@@ -155,6 +158,7 @@ freezes_lem quiet making old new running image next number asked bodies files s 
       phases_is = s.phases;
       last_is = s.serial;
       running_is = s.is ∙ ap (λ x. Some (record running { image = Some x })) freezes.is;
+      merger_is = s.rest.merger;
       closed = s.rest.closed;
     })
     asked bodies files b.store b.dump b.beliefs (λ is. b.knows.sure (sym s.committing ∙ is)) b.knows.count (b.knows.out ∙ sym s.outs)
@@ -162,7 +166,6 @@ freezes_lem quiet making old new running image next number asked bodies files s 
     (record {
       catalog = u.catalog;
       grows_is = u.grows_is;
-      alone = u.alone;
       used = u.used;
       exact = u.exact;
       job = running_with old.base (history_of old) later old.memory old.memory old.phases asked asked bodies old.numbers.serial b.store b.dump b.beliefs running nxt w (record {
@@ -180,6 +183,7 @@ freezes_lem quiet making old new running image next number asked bodies files s 
         };
         serial = m.serial;
         fresh = m.fresh;
+        low = m.low;
         others = m.others;
         phase = m.phase;
         phase_is = m.phase_is;
@@ -191,3 +195,4 @@ freezes_lem quiet making old new running image next number asked bodies files s 
         slot_is = subst (λ st. IsSlotFor st image.order m.pages m.phase (file_at bodies image.order.slot) m.request m.belief b.dump) freezes.stage m.slot_is;
       });
     })
+    (merge_beside old asked asked bodies files running nxt old.numbers.serial s.rest.stands s.was refl (spares_on old.numbers.serial running image nxt s.making refl) b)

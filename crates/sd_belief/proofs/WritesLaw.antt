@@ -37,6 +37,7 @@ use Rattle.sd_belief.specs.StoreSteps.{MayAsk, QuietSteps}
 use Rattle.sd_belief.specs.View.{CoreView, history_of}
 use Rattle.sd_belief.proofs.Asks.{in_use_from, unchanged_at}
 use Rattle.sd_belief.proofs.BeginsImage.{none_at}
+use Rattle.sd_belief.proofs.MergeStays.{merge_beside, own_beside, spares_on}
 use Rattle.sd_belief.proofs.OpenCore.{believes_parts}
 use Rattle.sd_belief.proofs.Places.{free_there, ids_set, set_same}
 
@@ -82,16 +83,16 @@ module _ (quiet : QuietSteps) (plans : PlansLead) (bodies_fill : BodiesFill) (fo
   unneeded_of i r has = w.unneeded slot i r (ap (λ o. option_and_then image_in o) m.belief_is ∙ has)
 
   -- a write behind the gate is asked for, and the image is this one
-  believes_write : (place : ℕ) → request.id.call ≡ Write place → request.id.slot ≡ slot → (later : Making) → next ≡ later
+  believes_write : (place : ℕ) → request.id.call ≡ Write place → request.id.slot ≡ slot → (later : Making) → next ≡ later → later.order ≡ image.order
       → IsMakingOn old.base history old.memory old.phases asked_now bodies old.numbers.serial b.store b.dump b.beliefs running.parent running.number later → Believes new asked_now bodies files
-  believes_write place call on later is making_it =
+  believes_write place call on later is same_order making_it =
       let may : MayAsk old.phases asked 0 request = record {
         free = free;
         none = none_at asked old request.id.slot b.knows.out s.apart;
         phase = m.phase;
         waits = record { is = ap (slice_get old.phases) on ∙ m.phase_is; ready = ap (is_ready m.phase) call ∙ ready.0.writes };
       } in
-      believes_parts new old.base history old.catalog old.grows old.memory old.phases old.numbers.serial (Some (record running { image = Some later }))
+      believes_parts new old.base history old.catalog old.grows old.memory old.phases old.numbers.serial (Some (record running { image = Some later })) old.merger
       (record {
         base_is = s.rest.base;
         history_is = s.history;
@@ -101,6 +102,7 @@ module _ (quiet : QuietSteps) (plans : PlansLead) (bodies_fill : BodiesFill) (fo
         phases_is = s.phases;
         last_is = s.serial;
         running_is = s.is ∙ ap (λ x. Some (record running { image = Some x })) is;
+        merger_is = s.rest.merger;
         closed = s.rest.closed;
       })
       asked_now bodies files b.store b.dump b.beliefs (λ is. ready.2) b.knows.count
@@ -111,6 +113,8 @@ module _ (quiet : QuietSteps) (plans : PlansLead) (bodies_fill : BodiesFill) (fo
       }) b.has)
       (in_use_from follows old.base history old.catalog old.grows old.memory old.phases asked bodies old.numbers.serial b.store b.dump b.dump b.beliefs b.beliefs running image request m.belief
       u m free on (unchanged_at b.beliefs slot m.belief m.belief_is) (λ i. (λ has. has, λ has. has)) few_of unneeded_of later making_it)
+      (merge_beside old asked asked_now bodies files running later old.numbers.serial s.rest.stands s.was (own_beside asked (Some request))
+      (spares_on old.numbers.serial running image later s.making same_order) b)
 
   own_now : slice_get asked_now 0 ≡ Some (Some request)
   own_now = set_same asked 0 None (Some request) free
@@ -137,7 +141,7 @@ writes_page_lem quiet plans bodies_fill follows making file old new running imag
     let body = file_at bodies slot_of_image in
     let led = plans.page m0.phase body place request.bytes ready0.0.writes in
     believes_write quiet plans bodies_fill follows making file old new running image next number (PageCall request) request asked bodies files s b writes.stage
-    place (sym given.0) writes.gives.slot later is (record {
+    place (sym given.0) writes.gives.slot later is refl (record {
       pages = pages;
       keeps = keeps;
       files = tt;
@@ -155,6 +159,7 @@ writes_page_lem quiet plans bodies_fill follows making file old new running imag
           };
       serial = m0.serial;
       fresh = m0.fresh;
+      low = m0.low;
       others = m0.others;
       phase = m0.phase;
       phase_is = m0.phase_is;
@@ -197,9 +202,6 @@ its_numbers old running image own some less = record {
   checkpoint = (let checkpoint = ap (λ o. o.checkpoint) own in omega (arith, some, checkpoint));
 }
 
-in_front : (chain work : List ℕ) (parent : ℕ) → chain ≡ parent ∷ [] → Contains (chain ++ work) parent
-in_front chain work parent is = subst (λ c. Contains (c ++ work) parent) (sym is) (0, omega arith, refl)
-
 pub writes_table_lem : QuietSteps → PlansLead → BodiesFill → CatalogFollows → MakingLaws → FileLaws → (old new : CoreView) (running : Running) (image next : Making) (number : ℕ) (request : Asked)
     (asked : List (Option Asked)) (bodies files : List (List ℕ)) → AsksFor old running image number (TableCall request) request next new → Believes old asked bodies files
     → Believes new (slice_set asked 0 (Some request)) bodies files
@@ -216,14 +218,13 @@ writes_table_lem quiet plans bodies_fill follows making file old new running ima
     let chain = chain_of b.store running.parent in
     let i : Image = image_of writes.header m0.pages writes.tables in
     let body = file_at bodies image.order.slot in
-    let less = m0.fresh.jobs running.parent (in_front b.store.chain b.store.work running.parent w0.chain) in
-    let numbers = its_numbers old running image s.own w0.some less in
+    let numbers = its_numbers old running image s.own w0.some m0.low in
     let keeps : KeepsImage m0.pages chain later old.memory = subst (λ mem. KeepsImage m0.pages chain later mem) s.memory
     (subst (λ x. KeepsImage m0.pages chain x new.memory) writes.is (making.steps number m0.pages chain image next old.memory new.memory (TableCall request) s.steps m0.keeps)) in
     let filed : FilesImage m0.pages later = subst (FilesImage m0.pages) writes.is (filed_by image.order.kind refl m0.pages chain m0.keeps numbers (λ kind. m0.frozen (is_frozen_so writes.stage kind))) in
     let spelled : body_closed (pages_body m0.pages) writes.header text ≡ image_text i = file.fills image.order image.pass m0.pages writes.header writes.tables filed in
     believes_write quiet plans bodies_fill follows making file old new running image next number (TableCall request) request asked bodies files s b writes.stage
-    place (sym (first_is (Write place) request.id.call text request.bytes _ writes.next.calls given).0) writes.gives.slot later writes.is (record {
+    place (sym (first_is (Write place) request.id.call text request.bytes _ writes.next.calls given).0) writes.gives.slot later writes.is refl (record {
       pages = m0.pages;
       keeps = keeps;
       files = filed;
@@ -241,6 +242,7 @@ writes_table_lem quiet plans bodies_fill follows making file old new running ima
           };
       serial = m0.serial;
       fresh = m0.fresh;
+      low = m0.low;
       others = m0.others;
       phase = m0.phase;
       phase_is = m0.phase_is;

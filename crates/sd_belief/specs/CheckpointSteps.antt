@@ -5,6 +5,10 @@ use Rattle.sd_chain.specs.Reaches.{ParentsFall, ReachesSerial}
 use Rattle.sd_gate.specs.Requests.{Asked}
 use Rattle.sd_journal.specs.declared.entry.Entry.TheVariants.{Cancelled}
 use Rattle.sd_journal.specs.Marked.{Told}
+use Rattle.sd_merge.specs.declared.retired.Retired.{Retired}
+use Rattle.sd_merge.specs.declared.source.Source.{Source}
+use Rattle.sd_merge.specs.Merger.{list_in, source_in}
+use Rattle.sd_merge.specs.Merger as merger
 use Rattle.sd_rounds.specs.Dumper.{Running, slot_of}
 use Rattle.sd_belief.specs.Believes.{Believes}
 use Rattle.sd_belief.specs.DumperSteps.{OnlyDumps}
@@ -20,6 +24,22 @@ IsUnreached places slot = (serial : ℕ) (o tip : Opened) → place_of places se
 abbrev pub HasParent : Places → CoreView → Running → Type 0
 HasParent places core running = (running.parent ≡ 0)
     ⊎ ((core.grows ≡ true) × (tip : Opened) × IsTip places tip × (running.parent ≡ tip.header.stands_for))
+
+-- no image that a merge repeats, or that its source reaches, stands in the slot
+abbrev pub IsUnread : Places → Option Source → ℕ → Type 0
+IsUnread places None slot = Unit {0}
+IsUnread places (Some source) slot = (serial : ℕ) (o : Opened) → place_of places serial ≡ Some (Some o) → o.slot ≡ slot
+    → ReachesSerial places source.serial serial → ⊥
+
+pub record LeavesMergeAt (places : Places) (merge : merger.Running) (slot : ℕ) : Type 0 where
+  pub target : slot ≢ merge.slot
+  pub listed : (place : ℕ) (one : Retired) → slice_get (list_in merge.doing) place ≡ Some one → slot ≢ one.slot
+  pub source : IsUnread places (source_in merge merge.doing) slot
+
+-- What the merge that runs needs is in none of the checkpoint's slots: neither its own image, nor what it repeats or closes.
+abbrev pub LeavesMerge : Places → Running → Option merger.Running → Type 0
+LeavesMerge places running None = Unit {0}
+LeavesMerge places running (Some merge) = (slot : ℕ) → IsReserved running slot → LeavesMergeAt places merge slot
 
 -- A checkpoint begins, with a number above those of all images, in slots that no image stands in that is needed.
 pub record BeginsCheckpoint (places : Places) (old : CoreView) (running : Running) (new : CoreView) : Type 0 where
@@ -39,6 +59,7 @@ pub record BeginsCheckpoint (places : Places) (old : CoreView) (running : Runnin
   pub parent : HasParent places old running
   pub within : (slot : ℕ) → IsReserved running slot → slot < length old.phases
   pub unreached : ParentsFall places → (slot : ℕ) → IsReserved running slot → IsUnreached places slot
+  pub merge : LeavesMerge places running old.merger
   pub apart : (one other : ℕ) → running.opened ≤ one → one < other → other ≤ length running.pre_dumps
       → slot_of (record running { opened = one }) ≢ slot_of (record running { opened = other })
 
@@ -58,6 +79,7 @@ pub record CancelsCheckpoint (old : CoreView) (n : ℕ) (new : CoreView) : Type 
   pub closed : new.opener ≡ None
   pub free : slice_get old.outs 0 ≡ Some None
   pub sure : old.committing ≡ false
+  pub merger : new.merger ≡ old.merger
   pub images : (serial : ℕ) (o : Opened) → place_of new.catalog serial ≡ Some (Some o) ↔ place_of old.catalog serial ≡ Some (Some o)
   pub grows : new.grows ≡ false
   pub is : new.dumper.running ≡ None

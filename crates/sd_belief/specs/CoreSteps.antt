@@ -23,6 +23,7 @@ pub record SameStore (old new : CoreView) : Type 0 where
   pub grows : new.grows ≡ old.grows
   pub committing : new.committing ≡ old.committing
   pub dumper : new.dumper ≡ old.dumper
+  pub merger : new.merger ≡ old.merger
   pub serial : new.numbers.serial ≡ old.numbers.serial
 
 -- the journal's entries and the memory too

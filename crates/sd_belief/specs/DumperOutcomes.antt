@@ -92,6 +92,7 @@ pub record ImageGoesOn (old : CoreView) (running : Running) (image : Making) (ma
 pub record ImageOpens (old : CoreView) (running : Running) (image : Making) (made : Made) (phase : Phase) (opened : NewImage) (new : CoreView) : Type 0 where
   pub outcome : IsDumpersOutcome old made phase new
   pub stands : old.standing ≡ standing.Open
+  pub merger : new.merger ≡ old.merger
   pub serial : new.numbers.serial ≡ old.numbers.serial
   pub held : place_of old.catalog image.order.serial ≡ Some None
   pub catalog : Changes old.catalog new.catalog image.order.serial (Some (Some (record { slot = opened.slot; header = opened.header; spaces = opened.table })))

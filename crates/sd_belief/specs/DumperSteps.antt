@@ -27,6 +27,7 @@ pub record OnlyDumps (old new : CoreView) : Type 0 where
   pub base : new.base ≡ old.base
   pub closed : new.opener ≡ None
   pub grows : new.grows ≡ old.grows
+  pub merger : new.merger ≡ old.merger
 
 -- The next image begins: it gets the serial above all that were given out, whose place in the catalog is held.
 pub record BeginsImage (old : CoreView) (running : Running) (phase : Phase) (new : CoreView) : Type 0 where

@@ -28,10 +28,11 @@ use Rattle.sd_rounds.specs.Making.{Making, is_frozen}
 use Rattle.sd_rounds.specs.MakingLaws.{DumpsImage, KeepsImage, Pages, image_of}
 use Rattle.sd_store_laws.specs.Beliefs.{Belief, Closed, Opening, image_at}
 use Rattle.sd_store_laws.specs.Gates.{IsBelievedAs}
+use Rattle.sd_store_laws.specs.Harmless.{IsUnused}
 use Rattle.sd_store_laws.specs.InUse.{IsCatalogInUse}
 use Rattle.sd_store_laws.specs.Makers.{IsAbove}
 use Rattle.sd_store_laws.specs.Needs.{IsNeededIn}
-use Rattle.sd_store_laws.specs.Store.{Store}
+use Rattle.sd_store_laws.specs.Store.{Store, jobs}
 
 -- the images of a store, below an image with this number as its parent
 abbrev pub chain_of : Store → ℕ → Chain
@@ -47,6 +48,12 @@ NoneAt asked slot = (worker : ℕ) (request : Asked) → slice_get asked worker 
 pub record AreUsed (last : ℕ) (store : Store) (beliefs : List Belief) : Type 0 where
   pub above : IsAbove store (last + 1)
   pub slots : (slot : ℕ) (i : Image) → image_at beliefs slot ≡ Some i → i.header.serial ≤ last
+
+-- An image of this serial may still enter the catalog: nobody has it as its serial or its number, or asks for it.
+pub record IsNewNumber (store : Store) (number : ℕ) : Type 0 where
+  pub serial : (j : Image) → Contains store.catalog j → j.header.serial ≢ number
+  pub unused : IsUnused store.catalog (jobs store) number
+  pub apart : IfSome store.source (λ source. source.header.stands_for ≢ number)
 
 -- ---- the slot of the image that is being made
 
@@ -140,9 +147,10 @@ pub record IsMakingOn (base : Base) (history : History) (memory : Contents) (pha
   pub keeps : KeepsImage pages (chain_of store parent) image memory
   pub files : FilesImage pages image
   pub frozen : is_frozen image ≡ true → IsFrozenAs base history number memory pages (chain_of store parent) image
-  pub serial : image.order.serial ≡ last
-  pub fresh : IsAbove store image.order.serial
-  pub others : (slot : ℕ) (i : Image) → image_at beliefs slot ≡ Some i → slot ≢ image.order.slot → i.header.serial < image.order.serial
+  pub serial : image.order.serial ≤ last
+  pub fresh : IsNewNumber store image.order.serial
+  pub low : parent < image.order.serial
+  pub others : (slot : ℕ) (i : Image) → image_at beliefs slot ≡ Some i → slot ≢ image.order.slot → i.header.serial ≢ image.order.serial
   pub phase : Phase
   pub phase_is : slice_get phases image.order.slot ≡ Some phase
   pub belief : Belief
@@ -204,7 +212,6 @@ pub record IsInUseOn (base : Base) (history : History) (places : Places) (grows 
     (bodies : List (List ℕ)) (last : ℕ) (store : Store) (dump : Option Image) (beliefs : List Belief) (running : Option Running) : Type 0 where
   pub catalog : IsCatalogInUse places beliefs
   pub grows_is : store.grows ≡ grows
-  pub alone : (store.source ≡ None) × (store.work ≡ [])
   pub used : AreUsed last store beliefs
   pub exact : AreExact phases asked bodies beliefs
   pub job : IsAtWork base history grows memory phases asked bodies last store dump beliefs running

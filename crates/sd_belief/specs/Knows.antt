@@ -20,6 +20,7 @@ use Rattle.sd_store_laws.specs.Beliefs.{Belief}
 use Rattle.sd_store_laws.specs.Store.{Store}
 use Rattle.sd_belief.specs.declared.standing.Standing.TheVariants.{Open}
 use Rattle.sd_belief.specs.InUse.{IsInUseOn}
+use Rattle.sd_belief.specs.Merges.{IsMergeInUse}
 use Rattle.sd_belief.specs.View.{CoreView, history_of}
 
 abbrev pub id_of : Asked → RequestId
@@ -66,3 +67,4 @@ pub record Knows (core : CoreView) (asked : List (Option Asked)) (bodies files :
   pub sure : core.committing ≡ false → dump ≡ None
   pub in_use : core.standing ≡ Open → IsInUseOn core.base (history_of core) core.catalog core.grows core.memory core.phases asked bodies
       core.numbers.serial store dump beliefs core.dumper.running
+  pub merging : core.standing ≡ Open → IsMergeInUse core.phases asked bodies core.numbers.serial store beliefs core.dumper.running core.merger

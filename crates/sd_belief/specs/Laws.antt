@@ -39,6 +39,7 @@ pub record IsOpenAs (core : CoreView) (files : List (List ℕ)) : Type 0 where
   pub serials : (serial : ℕ) (i : Opened) → place_of core.catalog serial ≡ Some (Some i) → i.header.serial ≤ core.numbers.serial
   pub grows : core.grows ≡ false
   pub idle : core.dumper.running ≡ None
+  pub unmerged : core.merger ≡ None
   pub outs : core.outs ≡ None ∷ None ∷ None ∷ []
 
 -- Files that show the last pair are believed, where each slot is in the phase that its file tells, nothing is out, and no

@@ -8,6 +8,9 @@ pub mod GateSteps
 pub mod InUse
 pub mod Knows
 pub mod Laws
+pub mod MergerOutcomes
+pub mod MergerSteps
+pub mod Merges
 pub mod OpenerSteps
 pub mod Shown
 pub mod StoreSteps

@@ -11,6 +11,7 @@ use Rattle.sd_gate.specs.declared.worker.Worker.{Worker}
 use Rattle.sd_gate.specs.declared.worker.Worker.TheVariants.{Dumper, Merger, Opener}
 use Rattle.sd_journal.specs.History.{Base, History}
 use Rattle.sd_journal.specs.Marked.{Marked, entries_of}
+use Rattle.sd_merge.specs.Merger as merger
 use Rattle.sd_opener.specs.Looking.{Looking}
 use Rattle.sd_rounds.specs.Dumper.{Dumping}
 use Rattle.sd_belief.specs.declared.standing.Standing.{Standing}
@@ -40,6 +41,7 @@ pub record CoreView : Type 0 where
   pub outs : List (Option RequestId)
   pub catalog : Places
   pub dumper : Dumping
+  pub merger : Option merger.Running
   pub opener : Option Looking
   pub numbers : Numbers
   -- a checkpoint was acknowledged since the store was opened or a checkpoint cancelled
@@ -55,11 +57,11 @@ base_code = code_by (Option ℕ × PlainMemory) (coded× (coded_option coded_ℕ
 
 -- all but the base and the memory
 abbrev pub Rest : Type 0
-Rest = Marked × (ℕ × (ℕ × (Standing × (List Phase × (List (Option RequestId) × (Places × (Dumping × (Option Looking × (Numbers × (Bool × Bool))))))))))
+Rest = Marked × (ℕ × (ℕ × (Standing × (List Phase × (List (Option RequestId) × (Places × (Dumping × (Option merger.Running × (Option Looking × (Numbers × (Bool × Bool)))))))))))
 
 abbrev pub core_code : Coded Rest → Coded CoreView
 core_code rest = code_by (Base × (Contents × Rest)) (coded× base_code (coded× contents_code rest))
-    (λ c. (c.base, (c.memory, (c.items, (c.held, (c.limit, (c.standing, (c.phases, (c.outs, (c.catalog, (c.dumper, (c.opener, (c.numbers, (c.grows, c.committing))))))))))))))
+    (λ c. (c.base, (c.memory, (c.items, (c.held, (c.limit, (c.standing, (c.phases, (c.outs, (c.catalog, (c.dumper, (c.merger, (c.opener, (c.numbers, (c.grows, c.committing)))))))))))))))
     (λ t. record {
       base = t.0;
       memory = t.1.0;
@@ -71,10 +73,11 @@ core_code rest = code_by (Base × (Contents × Rest)) (coded× base_code (coded�
       outs = t.1.1.1.1.1.1.1.0;
       catalog = t.1.1.1.1.1.1.1.1.0;
       dumper = t.1.1.1.1.1.1.1.1.1.0;
-      opener = t.1.1.1.1.1.1.1.1.1.1.0;
-      numbers = t.1.1.1.1.1.1.1.1.1.1.1.0;
-      grows = t.1.1.1.1.1.1.1.1.1.1.1.1.0;
-      committing = t.1.1.1.1.1.1.1.1.1.1.1.1.1;
+      merger = t.1.1.1.1.1.1.1.1.1.1.0;
+      opener = t.1.1.1.1.1.1.1.1.1.1.1.0;
+      numbers = t.1.1.1.1.1.1.1.1.1.1.1.1.0;
+      grows = t.1.1.1.1.1.1.1.1.1.1.1.1.1.0;
+      committing = t.1.1.1.1.1.1.1.1.1.1.1.1.1.1;
     }) (λ _. refl)
 
 -- ---- parts of it

@@ -13,11 +13,11 @@ use sd_gate::{bodies_fill, plans_lead};
 use sd_journal::journal_laws;
 use sd_rounds::{file_law, keeps_law, made_law, making_law};
 use sd_store_laws::{
-    above_is_fresh, beliefs_follow_calls, catalog_follows, catalog_in_use_tells, catalog_is_found,
-    closing_retires, contents_show, dump_shows, found_is_believed, found_is_exact, given_up_syncs,
+    beliefs_follow_calls, catalog_follows, catalog_in_use_tells, catalog_is_found, closing_retires,
+    contents_show, cut_holds_the_same, dump_shows, found_is_believed, found_is_exact, given_up_syncs,
     left_as_believed, needed_is_reached, needs_no_more, one_belief_changes, opened_is_sound,
     pending_shows, slots_are_found, slots_drop, slots_follow_calls, slots_follow_images,
-    slots_follow_jobs, steps_give, steps_keep, steps_show, told_reaches_so,
+    slots_follow_jobs, steps_give, steps_keep, steps_show, told_reaches_so, unused_is_uncalled,
 };
 
 /// A device call that was made leaves what is believed: its request is still out, as its outcome wasn't handed in.
@@ -80,7 +80,6 @@ pub fn dumper_steps()
     quiet_steps();
     gate_steps();
     catalog_follows();
-    above_is_fresh();
     dump_shows();
     making_law();
     made_law();
@@ -94,7 +93,6 @@ pub fn dumper_steps()
 pub fn dumper_outcomes()
     ensures { DumperOutcomes }
 {
-    above_is_fresh();
     file_law();
     quiet_steps();
     gate_steps();
@@ -103,6 +101,8 @@ pub fn dumper_outcomes()
     steps_give();
     needs_no_more();
     catalog_follows();
+    cut_holds_the_same();
+    unused_is_uncalled();
 }
 
 /// A checkpoint begins, over the catalog of the store.
@@ -123,6 +123,7 @@ pub fn cancelling_law()
 {
     quiet_steps();
     gate_steps();
+    needs_no_more();
 }
 
 /// Steps of an opener: it begins, asks for its next call, decodes an open slot, takes an outcome, and ends.
