@@ -35,7 +35,7 @@ contains_at (b ∷ beliefs) belief (zero, within, is) = (0, ap Some is)
 contains_at (b ∷ beliefs) belief (suc k, within, is) = let rest = contains_at beliefs belief (k, omega (arith, within), is) in (suc rest.0, rest.1)
 
 -- the number that an image stands for, and its parent, are at most its serial
-numbers_fall : (kind : Kind) (serial stands parent : ℕ) → AreNumbers kind serial stands parent → (stands ≤ serial) × (parent ≤ serial)
+pub numbers_fall : (kind : Kind) (serial stands parent : ℕ) → AreNumbers kind serial stands parent → (stands ≤ serial) × (parent ≤ serial)
 numbers_fall PreDump serial stands parent is = let same = is.0 in let less = is.1 in (omega (arith, same), omega (arith, less))
 numbers_fall Dump serial stands parent is = let same = is.0 in let less = is.1 in (omega (arith, same), omega (arith, less))
 numbers_fall Merged serial stands parent is = let less = is.1 in let alone = is.2 in (omega (arith, less), omega (arith, alone))

@@ -16,6 +16,8 @@ mod HandsSlot
 mod Leads
 mod MergeStays
 mod MergerAsks
+mod MergerPass
+mod MergerSource
 mod MergerUse
 mod NoClear
 mod OpenCore

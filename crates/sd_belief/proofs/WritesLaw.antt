@@ -44,7 +44,7 @@ use Rattle.sd_belief.proofs.Places.{free_there, ids_set, set_same}
 heads : (call first : GateCall) (bytes own : List ℕ) (calls rest : Calls) → (call, bytes) ∷ calls ≡ (first, own) ∷ rest → ◌≡◌ {A = GateCall × List ℕ} (call, bytes) (first, own)
 heads call first bytes own calls rest same = cc
 
-first_is : (call first : GateCall) (bytes own : List ℕ) (calls rest : Calls) → (call, bytes) ∷ calls ≡ (first, own) ∷ rest → (call ≡ first) × (bytes ≡ own) × (calls ≡ rest)
+pub first_is : (call first : GateCall) (bytes own : List ℕ) (calls rest : Calls) → (call, bytes) ∷ calls ≡ (first, own) ∷ rest → (call ≡ first) × (bytes ≡ own) × (calls ≡ rest)
 first_is call first bytes own calls rest same =
     let pair = heads call first bytes own calls rest same in
     (ap (λ (c : GateCall × List ℕ). c.0) pair, ap (λ (c : GateCall × List ℕ). c.1) pair, cc)
