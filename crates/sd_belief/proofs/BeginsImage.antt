@@ -65,7 +65,7 @@ held_in_use old new beliefs serial held others use_old = record {
         by_test true is = absurd (let no : Some None ≡ Some (Some o) = sym (held other ∙ ap (λ t. if t then Some None else place_of old other) is) ∙ at in cc)
         by_test false is = sym (held other ∙ ap (λ t. if t then Some None else place_of old other) is) ∙ at
 
-image_of_has : (beliefs : List Belief) (slot : ℕ) (i : Image) → HasImage beliefs slot i → image_at beliefs slot ≡ Some i
+pub image_of_has : (beliefs : List Belief) (slot : ℕ) (i : Image) → HasImage beliefs slot i → image_at beliefs slot ≡ Some i
 image_of_has beliefs slot i (inl kept) = ap (λ o. option_and_then image_in o) kept
 image_of_has beliefs slot i (inr closing) = ap (λ o. option_and_then image_in o) closing
 

@@ -5,6 +5,7 @@ mod AsksSlot
 mod BeginsBeside
 mod BeginsImage
 mod BeginsLaw
+mod BeginsMerge
 mod CancelLaw
 mod CoreSteps
 mod Found

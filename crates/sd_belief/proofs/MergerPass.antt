@@ -91,7 +91,7 @@ abbrev no_dump : Option Image
 no_dump = None
 
 -- a needed image stands in no slot of the checkpoint
-needed_spared : (core : CoreView) (asked : List (Option Asked)) (bodies files : List (List ℕ)) (b : Believes core asked bodies files) (slot : ℕ) (i : Image) → image_at b.beliefs slot ≡ Some i → IsNeededIn b.store i
+pub needed_spared : (core : CoreView) (asked : List (Option Asked)) (bodies files : List (List ℕ)) (b : Believes core asked bodies files) (slot : ℕ) (i : Image) → image_at b.beliefs slot ≡ Some i → IsNeededIn b.store i
     → (running : Option Running) → IsAtWork core.base (history_of core) core.grows core.memory core.phases asked bodies core.numbers.serial b.store b.dump b.beliefs running → IsSpared running slot
 needed_spared core asked bodies files b slot i at needed None w = tt
 needed_spared core asked bodies files b slot i at needed (Some running) w = λ reserved. w.unneeded slot i reserved at needed
