@@ -18,6 +18,7 @@ mod Leads
 mod MergeStays
 mod MergerAsks
 mod MergerPass
+mod MergerRetire
 mod MergerSource
 mod MergerUse
 mod NoClear
