@@ -5,19 +5,23 @@ ghost use Rattle.sd_belief.specs.DumperOutcomes.{DumperOutcomes};
 ghost use Rattle.sd_belief.specs.DumperSteps.{DumperSteps};
 ghost use Rattle.sd_belief.specs.GateSteps.{GateSteps};
 ghost use Rattle.sd_belief.specs.Laws.{FoundIsBelieved, LeftShowsAllowed, PerformedIsBelieved, ReopenedIsBelieved};
+ghost use Rattle.sd_belief.specs.MergerSteps.{MergeBeginningIsBelieved, MergerSteps};
 ghost use Rattle.sd_belief.specs.OpenerSteps.{OpenerSteps};
 ghost use Rattle.sd_belief.specs.StoreSteps.{QuietSteps};
 
 use sd_chain::Catalog;
 use sd_gate::{bodies_fill, plans_lead};
+use sd_image::page_in_file;
 use sd_journal::journal_laws;
+use sd_merge::{merge_law, merged_file_law};
 use sd_rounds::{file_law, keeps_law, made_law, making_law};
 use sd_store_laws::{
     beliefs_follow_calls, catalog_follows, catalog_in_use_tells, catalog_is_found, closing_retires,
-    contents_show, cut_holds_the_same, dump_shows, found_is_believed, found_is_exact, given_up_syncs,
-    left_as_believed, needed_is_reached, needs_no_more, one_belief_changes, opened_is_sound,
-    pending_shows, slots_are_found, slots_drop, slots_follow_calls, slots_follow_images,
-    slots_follow_jobs, steps_give, steps_keep, steps_show, told_reaches_so, unused_is_uncalled,
+    contents_show, cut_holds_the_same, dump_shows, found_is_believed, found_is_exact,
+    given_up_syncs, left_as_believed, merged_repeats, needed_is_reached, needs_no_more,
+    one_belief_changes, opened_is_sound, pending_shows, slots_are_found, slots_drop,
+    slots_follow_calls, slots_follow_images, slots_follow_jobs, source_reaches_needed, steps_give,
+    steps_keep, steps_show, told_reaches_so, unused_is_uncalled,
 };
 
 /// A device call that was made leaves what is believed: its request is still out, as its outcome wasn't handed in.
@@ -114,6 +118,40 @@ pub fn beginning_law(catalog: &Catalog)
     needed_is_reached();
     catalog_in_use_tells(catalog);
     told_reaches_so(catalog);
+    catalog.agrees();
+}
+
+/// A merge of the tip begins, over the catalog of the store.
+pub fn merge_beginning_law(catalog: &Catalog)
+    ensures { MergeBeginningIsBelieved catalog.now }
+{
+    gate_steps();
+    needs_no_more();
+    making_law();
+    needed_is_reached();
+    catalog_in_use_tells(catalog);
+    told_reaches_so(catalog);
+    catalog.agrees();
+}
+
+/// Steps of a merger, over the catalog of the store: its image begins, a device call is asked for, a page of the source is
+/// read, or written, or has only zeros, the table is written, and an image is closed that nobody needs any more.
+pub fn merger_steps(catalog: &Catalog)
+    ensures { MergerSteps catalog.now }
+{
+    quiet_steps();
+    gate_steps();
+    merge_law();
+    merged_file_law();
+    merged_repeats();
+    source_reaches_needed();
+    catalog_follows();
+    making_law();
+    plans_lead();
+    bodies_fill();
+    page_in_file();
+    catalog_in_use_tells(catalog);
+    catalog.sound();
     catalog.agrees();
 }
 
