@@ -102,6 +102,7 @@ impl Model for Core {
       outs = c.outs;
       catalog = c.catalog;
       dumper = c.dumper;
+      merger = None;
       opener = c.opener;
       numbers = record { checkpoint = c.numbers.checkpoint; serial = c.numbers.serial; ticket = c.numbers.ticket };
       grows = c.grows;

@@ -40,7 +40,7 @@ returns-in_default-copy_reply-clause-keeps c =
     let bytes = c.in_default-copy_reply.ensures.bytes refl in
     let same = bytes_pass c.is_some.result c.in-Ok-copy_command.command c.in-Ok-answer.reply bytes.0 c.self.inside.memory c.answer.new.memory bytes.1 c.in-Ok-answer.ensures.answered in
     stays_seen _ _ _ c.self.view_is (stays_same c.core_steps.ensures _ _ (record {
-      store = record { base = refl; phases = refl; outs = refl; opener = refl; standing = refl; catalog = refl; grows = refl; committing = refl; dumper = refl; serial = refl };
+      store = record { base = refl; phases = refl; outs = refl; opener = refl; standing = refl; catalog = refl; grows = refl; committing = refl; dumper = refl; merger = refl; serial = refl };
       history = ap entries_of c.reserve.ensures.grown.items;
       memory = same;
     }))
@@ -81,7 +81,7 @@ pub returns-clause-keeps : goal.returns-clause-keeps
 returns-clause-keeps c =
     let answered = subst (λ frozen. IsAnswered frozen c.in-Ok-copy_command.command c.in-Ok-answer.reply c.self.inside.memory c.answer.new.memory) c.is_some.ensures c.in-Ok-answer.ensures.answered in
     stays_seen _ _ _ c.self.view_is (stays_applied c.core_steps.ensures _ _ c.args.seat c.in-Ok-copy_command.command c.in-Ok-answer.reply (record {
-      store = record { base = refl; phases = refl; outs = refl; opener = refl; standing = refl; catalog = refl; grows = refl; committing = refl; dumper = refl; serial = refl };
+      store = record { base = refl; phases = refl; outs = refl; opener = refl; standing = refl; catalog = refl; grows = refl; committing = refl; dumper = refl; merger = refl; serial = refl };
       items = c.append.ensures.items ∙ ap (λ all. Told (Applied c.args.seat c.in-Ok-copy_command.command c.in-Ok-answer.reply) ∷ all) c.reserve.ensures.grown.items;
       memory = subst (λ waiting. IsCommanded waiting c.in-Ok-copy_command.command c.in-Ok-answer.reply c.self.inside.memory c.answer.new.memory) c.self.invariant.journal_is.frozen_for
           (commanded c.self.inside.pending c.in-Ok-copy_command.command c.in-Ok-answer.reply c.self.inside.memory c.answer.new.memory c.sound.ensures answered);

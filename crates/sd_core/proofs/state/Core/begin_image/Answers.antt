@@ -62,7 +62,7 @@ returns-in_default-hold-clause-takes c =
     let same = c.in_default-hold.ensures.err in
     step_seen its.Dumper (reply.Refused OutOfMemory) _ _ _ c.self.view_is (record {
       keeps = inl (stays_same c.core_steps.ensures _ _ (record {
-        store = record { base = refl; phases = refl; outs = refl; opener = refl; standing = refl; catalog = same; grows = refl; committing = refl; dumper = refl; serial = refl };
+        store = record { base = refl; phases = refl; outs = refl; opener = refl; standing = refl; catalog = same; grows = refl; committing = refl; dumper = refl; merger = refl; serial = refl };
         history = ap entries_of c.in-Ok.ensures.grown.items;
         memory = refl;
       }));
@@ -153,6 +153,7 @@ returns-clause-takes c =
       outs = c.self.inside.outs;
       catalog = c.hold.new.self;
       dumper = record { running = Some (record w.running { image = Some (begun_image order) }); since_freeze = 0 };
+      merger = None;
       opener = c.self.inside.opener;
       numbers = record { checkpoint = c.self.inside.numbers.checkpoint; serial = serial; ticket = c.self.inside.numbers.ticket };
       grows = c.self.inside.grows;
@@ -160,7 +161,7 @@ returns-clause-takes c =
     } in
     hands_seen its.Dumper c.begin_next-request.result _ _ _ c.self.view_is
     (begins_asking c.dumper_steps.ensures _ mid _ w.running phase (begun_image order) w.next c.self.inside.numbers.ticket c.begin_next-request.result (record {
-      rest = record { stands = work.stands; base = refl; closed = work.closed; grows = refl };
+      rest = record { stands = work.stands; base = refl; closed = work.closed; grows = refl; merger = refl };
       history = ap entries_of c.note.ensures.items ∙ ap entries_of c.in-Ok.ensures.grown.items;
       memory = refl;
       phases = refl;
@@ -174,7 +175,7 @@ returns-clause-takes c =
       is = ap (λ s. Some (record w.running { image = Some (begun_image (order_of w.running serial s)) }))
           (c.state.ensures ∙ ap state_of c.index.ensures ∙ ap (λ k. state_of (slice_index_or c.self.inside.phases.items k c.index.result.now)) (sym at));
     }) (record {
-      rest = record { stands = work.stands; base = refl; closed = work.closed; grows = refl };
+      rest = record { stands = work.stands; base = refl; closed = work.closed; grows = refl; merger = refl };
       history = refl;
       catalog = refl;
       memory = w.steps.2;

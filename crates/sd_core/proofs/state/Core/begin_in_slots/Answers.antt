@@ -24,7 +24,7 @@ pub returns-in_default-clause-keeps : goal.returns-in_default-clause-keeps
 returns-in_default-clause-keeps c =
     let same = c.in_default.ensures.err in
     stays_seen _ _ _ c.self.view_is (stays_same c.core_steps.ensures _ _ (record {
-      store = record { base = refl; phases = refl; outs = refl; opener = refl; standing = refl; catalog = refl; grows = refl; committing = refl; dumper = refl; serial = refl };
+      store = record { base = refl; phases = refl; outs = refl; opener = refl; standing = refl; catalog = refl; grows = refl; committing = refl; dumper = refl; merger = refl; serial = refl };
       history = ap (λ j. entries_of j.items) same;
       memory = refl;
     }))
@@ -97,7 +97,7 @@ returns-clause-keeps c =
       outs = refl;
       phases = same_phases c.self.inside.outs c.self.inside.phases.items;
       goes_on = λ asked bodies files b. c.beginning_law.ensures _ _ running asked bodies files (record {
-        rest = record { stands = may.stands; base = refl; closed = closed; grows = refl };
+        rest = record { stands = may.stands; base = refl; closed = closed; grows = refl; merger = refl };
         history = ap entries_of c.in-Ok-hold.ensures.ok.items;
         memory = refl;
         phases = refl;
@@ -118,6 +118,7 @@ returns-clause-keeps c =
         unreached = λ falls slot reserved. subst (IsUnreached c.self.inside.catalog) (sym reserved.is)
             (free_unreached c.self.inside.catalog c.len.result _ r.slots r.free
             (slot_is_free c.self.inside.catalog c.len.result c.args.rounds c.in-Ok.slots.pre_dumps.items c.in-Ok.slots.dump reserved.place r) falls);
+        merge = tt;
         apart = λ one other from below within. slots_apart c.self.inside.catalog c.len.result c.args.rounds c.in-Ok.slots.pre_dumps.items c.in-Ok.slots.dump one other r below within;
       }) b;
     })

@@ -60,6 +60,7 @@ returns-clause-keeps c =
         closed = may.closed;
         free = may.rests;
         sure = may.sure;
+        merger = refl;
         images = same_images c.self.inside.catalog c.release-2.new.self c.self.inside.numbers.serial
             (record { released = c.release-2.ensures.released; nothing = c.release-2.ensures.nothing });
         grows = refl;

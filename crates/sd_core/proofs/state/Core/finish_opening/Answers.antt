@@ -90,5 +90,6 @@ returns-clause-takes c =
       serials = c.found.ensures.serials;
       grows = refl;
       idle = none;
+      unmerged = refl;
       outs = nobody_is c.self.inside.outs c.self.inside.phases.items c.self.inside.dumper.running c.self.inside.opener c.self.invariant.outs_are none rests;
     }))

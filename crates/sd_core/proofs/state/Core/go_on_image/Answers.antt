@@ -228,7 +228,7 @@ returns-in-Copied-clause-takes c =
     let out = out_at_work _ w.running None c.self.invariant w.was rests in
     let work = at_work _ w.running c.self.invariant w.was in
     step_seen its.Dumper reply.Worked _ _ _ c.self.view_is (works_on c.dumper_steps.ensures _ _ w.running w.image w.next c.self.inside.numbers.ticket (Copied c.in-Copied.field-0) tt (record {
-      rest = record { stands = work.stands; base = refl; closed = work.closed; grows = refl };
+      rest = record { stands = work.stands; base = refl; closed = work.closed; grows = refl; merger = refl };
       history = ap entries_of c.in-Ok.ensures.grown.items;
       catalog = refl;
       phases = refl;
@@ -251,7 +251,7 @@ returns-in-Visited-clause-takes c =
     let out = out_at_work _ w.running None c.self.invariant w.was rests in
     let work = at_work _ w.running c.self.invariant w.was in
     step_seen its.Dumper reply.Worked _ _ _ c.self.view_is (works_on c.dumper_steps.ensures _ _ w.running w.image w.next c.self.inside.numbers.ticket (Visited c.in-Visited.visit) tt (record {
-      rest = record { stands = work.stands; base = refl; closed = work.closed; grows = refl };
+      rest = record { stands = work.stands; base = refl; closed = work.closed; grows = refl; merger = refl };
       history = ap entries_of (c.note-in-Visited.ensures.items) ∙ ap entries_of c.in-Ok.ensures.grown.items;
       catalog = refl;
       phases = refl;
@@ -277,7 +277,7 @@ returns-in-Frozen-clause-takes c =
     let items = c.self.inside.journal.items in
     let tracked = c.self.invariant.journal_is.tracked in
     step_seen its.Dumper reply.Worked _ _ _ c.self.view_is (freezes_it c.dumper_steps.ensures _ _ w.running w.image w.next c.self.inside.numbers.ticket (record {
-      rest = record { stands = work.stands; base = refl; closed = work.closed; grows = refl };
+      rest = record { stands = work.stands; base = refl; closed = work.closed; grows = refl; merger = refl };
       items = c.append_held.ensures.items ∙ ap (λ all. Told (Freeze c.self.inside.numbers.begun) ∷ all) c.in-Ok.ensures.grown.items ∙ ap (λ n. Told (Freeze n) ∷ items) (sym work.number);
       legal = subst (λ n. IsLegal base (Freeze n ∷ entries_of items)) (sym work.number)
           (may_freeze _ w.running c.self.invariant w.was b.none, c.tracked_laws.ensures.legal base items tracked.marked);
@@ -304,7 +304,7 @@ returns-in-TableCall-clause-takes c =
     let within = image_within _ c.self.inside.dumper.since_freeze w.running w.image c.self.invariant c.sound.ensures.running w.was w.making in
     let slot = w.steps.0.gives.slot in
     hands_seen its.Dumper c.in-TableCall.request _ _ _ c.self.view_is (hands_asked _ _ w.running w.image w.next c.self.inside.numbers.ticket (TableCall c.in-TableCall.request) c.in-TableCall.request (record {
-      rest = record { stands = work.stands; base = refl; closed = work.closed; grows = refl };
+      rest = record { stands = work.stands; base = refl; closed = work.closed; grows = refl; merger = refl };
       history = ap entries_of c.note.ensures.items ∙ ap entries_of c.in-Ok.ensures.grown.items;
       catalog = refl;
       memory = w.steps.2;
@@ -334,7 +334,7 @@ returns-in-Call-clause-takes c =
     let a = asks_or_writes c.self.inside.numbers.ticket w.image c.self.inside.memory c.in-Ok-step_on.step c.in-Call.request w.next c.step_on.new.memory c.in-Call.is w.steps in
     let slot = (image_calls _ _ _ _ w.image w.next c.in-Call.request (same_numbers _) (image_of_work _ w.running w.image c.self.invariant w.was w.making) a.either).slot in
     hands_seen its.Dumper c.in-Call.request _ _ _ c.self.view_is (hands_call c.dumper_steps.ensures _ _ w.running w.image w.next c.self.inside.numbers.ticket c.in-Ok-step_on.step c.in-Call.request c.in-Call.is (record {
-      rest = record { stands = work.stands; base = refl; closed = work.closed; grows = refl };
+      rest = record { stands = work.stands; base = refl; closed = work.closed; grows = refl; merger = refl };
       history = ap entries_of c.in-Ok.ensures.grown.items;
       catalog = refl;
       memory = a.same;

@@ -258,7 +258,7 @@ returns-in-More-clause-handed c =
     handed_seen made reply.Worked _ _ _ c.self.view_is (handed_dumper _ _ made phase reply.Worked outcome c.requires.dumper count
     (λ asked bodies files. c.dumper_outcomes.ensures.goes_on _ _ h.running h.hands.image h.hands.next made phase asked bodies files (record {
       outcome = outcome;
-      rest = record { stands = work.stands; base = refl; closed = work.closed; grows = refl };
+      rest = record { stands = work.stands; base = refl; closed = work.closed; grows = refl; merger = refl };
       history = refl;
       serial = refl;
       catalog = leaves;
@@ -313,6 +313,7 @@ returns-in-PreDump-clause-handed c =
       opens_it = record {
         outcome = outcome;
         stands = work.stands;
+        merger = refl;
         serial = refl;
         held = image.held;
         catalog = changes;
@@ -371,6 +372,7 @@ returns-in-Dump-clause-handed c =
       opens_it = record {
         outcome = outcome;
         stands = work.stands;
+        merger = refl;
         serial = refl;
         held = image.held;
         catalog = changes;
