@@ -251,7 +251,7 @@ module _ (gates : GateSteps) (needs : NeedsNoMore) (making : MakingLaws) (reache
       checkpoint = ap (λ h. h.checkpoint) (sym image.2.header);
       pages = ap (λ (l : List Listed). few_pages (listed_count l)) (sym image.2.spaces);
       restorable = tip_is.restorable;
-      some = subst (λ (h : Header). 0 < h.checkpoint) (sym image.2.header) s.some;
+      some = ((b.knows.merging s.rest.stands).spelled tip image.1).1.header.checkpoint;
       slot = source_at.0;
       kept = source_at.1;
       spared = needed_spared old asked bodies files b source_at.0 tip source_there (inl tip_is) running u.job;

@@ -57,7 +57,6 @@ pub record BeginsMerge (places : Places) (old : CoreView) (tip : Opened) (slot :
   pub catalog : new.catalog ≡ places
   pub was : old.merger ≡ None
   pub is_tip : IsTip places tip
-  pub some : 0 < tip.header.checkpoint
   pub within : slot < length old.phases
   pub spared : IsSpared old.dumper.running slot
   pub unreached : ParentsFall places → IsUnreached places slot

@@ -82,6 +82,7 @@ pub struct Core {
 }
 
 impl Model for Core {
+    ghost use Rattle.std.specs.Prelude.{None};
     ghost use Rattle.sd_areas.specs.Memory.{memory_of};
     ghost use Rattle.std.specs.Coded.{codes};
     ghost use Rattle.sd_belief.specs.View.{CoreView, core_code};
