@@ -16,6 +16,7 @@ mod HandsSlot
 mod Leads
 mod MergeStays
 mod MergerAsks
+mod MergerHands
 mod MergerOutcome
 mod MergerUse
 mod NoClear
