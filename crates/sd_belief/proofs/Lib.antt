@@ -23,6 +23,7 @@ mod NoClear
 mod OpenCore
 mod OpenerSteps
 mod OpensLaw
+mod PageTold
 mod Performed
 mod Places
 mod QuietSteps

@@ -5,14 +5,20 @@ use Rattle.std.proofs.lemmas.Option.{same_Some, slice_get_within}
 use Rattle.sd_disk.specs.Contents.{file_at}
 use Rattle.sd_image.specs.declared.header.Header.{Header}
 use Rattle.sd_image.specs.Image.{Image, IsImage, gate, image_text}
+use Rattle.sd_image.specs.Laws.{PageInFile}
+use Rattle.sd_image.specs.Shows.{Holds}
 use Rattle.sd_image.specs.Table.{Listed}
+use Rattle.sd_gate.specs.declared.call.Call.{Call as GateCall}
+use Rattle.sd_gate.specs.declared.call.Call.TheVariants.{Read}
 use Rattle.sd_gate.specs.declared.phase.Phase.{Phase}
+use Rattle.sd_gate.specs.declared.phase.Phase.TheVariants.{Whole}
 use Rattle.sd_gate.specs.Calls.{is_done}
 use Rattle.sd_gate.specs.Inspections.{nothing}
-use Rattle.sd_gate.specs.Phases.{after, body_after}
+use Rattle.sd_gate.specs.Fits.{Reads}
+use Rattle.sd_gate.specs.Phases.{after, body_after, is_ready}
 use Rattle.sd_gate.specs.Plans.{Planned, plan_after}
 use Rattle.sd_gate.specs.Requests.{Asked, Made}
-use Rattle.sd_gate.specs.Sequences.{Calls}
+use Rattle.sd_gate.specs.Sequences.{Calls, data_place}
 use Rattle.sd_journal.specs.History.{History}
 use Rattle.sd_merge.specs.declared.copy_progress.CopyProgress.TheVariants as copies
 use Rattle.sd_merge.specs.declared.source.Source.{Source}
@@ -36,14 +42,15 @@ use Rattle.sd_image.specs.declared.header.Kind.TheVariants.{Merged}
 use Rattle.sd_store_laws.specs.Beliefs.{Belief, Kept, Opening, image_at, image_in}
 use Rattle.sd_store_laws.specs.Below.{StepsGive}
 use Rattle.sd_store_laws.specs.Cut.{CutHoldsTheSame}
-use Rattle.sd_store_laws.specs.InUse.{CatalogFollows}
+use Rattle.sd_store_laws.specs.InUse.{CatalogFollows, IsCatalogInUse}
+use Rattle.sd_store_laws.specs.Gates.{IsBelievedAs}
 use Rattle.sd_store_laws.specs.Needs.{IsNeededIn, NeedsNoMore}
 use Rattle.sd_store_laws.specs.SlotSteps.{ClosingRetires}
 use Rattle.sd_store_laws.specs.Steps.{StepsKeep}
 use Rattle.sd_store_laws.specs.Store.{Store}
 use Rattle.sd_belief.specs.Believes.{Believes, HasStore}
 use Rattle.sd_belief.specs.Calls.{WasTold}
-use Rattle.sd_belief.specs.DumperOutcomes.{closes_for_sure}
+use Rattle.sd_belief.specs.DumperOutcomes.{LeavesCatalog, closes_for_sure}
 use Rattle.sd_belief.specs.GateSteps.{GateSteps}
 use Rattle.sd_belief.specs.InUse.{IsInUseOn, IsSlotFor}
 use Rattle.sd_belief.specs.Knows.{SeesStore}
@@ -57,7 +64,8 @@ use Rattle.sd_belief.proofs.HandsLaw.{file_set, opening_before}
 use Rattle.sd_belief.proofs.HandsSlot.{belief_after}
 use Rattle.sd_belief.proofs.MergeStays.{copy_stays, holds_same, slots_at}
 use Rattle.sd_belief.proofs.MergerOutcome.{SlotHandedIn, asked_then, believes_handed, bodies_then, count_handed, handed_body, handed_phase, has_handed, ids_handed, others_handed, phases_then, slot_handed, store_same, use_handed}
-use Rattle.sd_belief.proofs.Places.{set_count, set_same}
+use Rattle.sd_belief.proofs.PageTold.{page_told}
+use Rattle.sd_belief.proofs.Places.{body_other, set_count, set_other, set_same}
 
 -- ---- it failed
 
@@ -346,3 +354,121 @@ module _ (quiet : QuietSteps) (making : MakingLaws) (merges : MergeLaws) (files_
               let within : call.request.id.slot < length bodies = (let long = slice_get_within old.phases call.request.id.slot phase s.outcome.phase_is in let stored = b.has.stored in omega (arith, long, stored)) in
               ap (file_at (bodies_then bodies call)) (sym on) ∙ file_set bodies call.request.id.slot (body_after (file_at bodies call.request.id.slot) call.request.id.call call.request.bytes) within
               ∙ ap (λ x. body_after (file_at bodies x) call.request.id.call call.request.bytes) on
+
+  -- ---- a page of the source was read
+
+  module _ (in_file : PageInFile) (own : Planned) (is : made.stage ≡ copy.PageRead own) where
+    r : IsReadOn old.phases bodies b.store b.beliefs running target source made.taking call.request
+    r = subst (λ stage. IsAskedIn stage old.phases bodies b.store b.beliefs running target source made.taking (Some call.request)) is asked_was
+
+    abbrev slot : ℕ
+    slot = call.request.id.slot
+
+    apart : target ≢ slot
+    apart same = r.apart (sym same)
+
+    -- what is left of the call
+    looked : (x : GateCall) → x ≡ Read (data_place r.place) → (p : Phase) → p ≡ Whole → (done : Bool) → after p x done ≡ Whole
+    looked x call_is p phase_is done = ap (λ y. after p y done) call_is ∙ phase_is
+
+    same_body : body_after (file_at bodies slot) call.request.id.call call.request.bytes ≡ file_at bodies slot
+    same_body = ap (λ x. body_after (file_at bodies slot) x call.request.bytes) r.call
+
+    phase_whole : phase ≡ Whole
+    phase_whole = same_Some phase Whole (sym s.outcome.phase_is ∙ r.phase_is)
+
+    whole_then : slice_get (phases_then old call phase) slot ≡ Some Whole
+    whole_then = set_same old.phases slot phase (after phase call.request.id.call (is_done call.answer)) s.outcome.phase_is ∙ ap Some (looked call.request.id.call r.call phase phase_whole (is_done call.answer))
+
+    body_still : file_at (bodies_then bodies call) slot ≡ file_at bodies slot
+    body_still =
+        let within : slot < length bodies = (let long = slice_get_within old.phases slot phase s.outcome.phase_is in let stored = b.has.stored in omega (arith, long, stored)) in
+        file_set bodies slot (body_after (file_at bodies slot) call.request.id.call call.request.bytes) within ∙ same_body
+
+    not_closing : closes_for_sure phase call.request.id.call ≡ false
+    not_closing = ap (λ p. closes_for_sure p call.request.id.call) phase_whole
+
+    u : IsInUseOn old.base (history_of old) old.catalog old.grows old.memory old.phases asked bodies last b.store b.dump b.beliefs running
+    u = b.knows.in_use s.rest.stands
+
+    catalog_same : new.catalog ≡ old.catalog
+    catalog_same = subst (λ sure. LeavesCatalog sure slot old.catalog new.catalog) not_closing s.catalog
+
+    read_handed : SlotHandedIn old new call phase asked bodies files b slot (Kept r.image)
+    read_handed = record {
+      store = b.store;
+      later = b.beliefs;
+      has = has_handed old new call phase asked bodies files s.outcome at b quiet;
+      in_use = use_handed making old.base (history_of old) old.catalog new.catalog old.grows old.memory last b.store b.store b.dump (slots_at old.phases bodies b.beliefs)
+          (slots_at (phases_then old call phase) (bodies_then bodies call) b.beliefs) running asked slot call.request u at refl (record {
+            count = set_count old.phases slot (after phase call.request.id.call (is_done call.answer));
+            others = λ at_slot differs. others_handed old new call phase asked bodies files s.outcome at b b.beliefs at_slot differs refl;
+            exact = λ p belief here of. subst (λ x. IsBelievedAs x (file_at (bodies_then bodies call) slot) belief) (same_Some Whole p (sym whole_then ∙ here))
+                (r.image, same_Some belief (Kept r.image) (sym of ∙ r.kept), subst (λ body. IsImage (gate ∷ body) r.image) (sym body_still) r.spelled);
+            images = λ at_slot i has. has;
+          }) (store_same old.memory last running b.beliefs b.store) (subst (λ places. IsCatalogInUse places b.beliefs) (sym catalog_same) u.catalog) r.spared s.rest.makes;
+      there = r.kept;
+      others = λ at_slot differs. refl;
+      images = λ at_slot i has. has;
+      within = λ i member. member;
+      source = refl;
+      work = refl;
+      needs = λ i needed. needed;
+      still = λ x source_is. holds_same b.store.catalog x;
+    }
+
+    -- the bytes that came back are those of the page
+    file_is : file_at files slot ≡ gate ∷ file_at bodies slot
+    file_is =
+        let ready : is_ready Whole call.request.id.call ≡ true = ap (is_ready Whole) r.call in
+        let reads = told.reads Whole (record { is = r.phase_is; ready = ready }) in
+        subst (λ p. Reads p (body_after (file_at bodies slot) call.request.id.call call.request.bytes) (file_at files slot)) (looked call.request.id.call r.call Whole refl (is_done call.answer)) reads
+        ∙ ap (λ body. gate ∷ body) same_body
+
+    bytes_are : call.request.bytes ≡ r.bytes
+    bytes_are = page_told in_file (file_at files slot) r.image r.place r.bytes call (subst (λ file. IsImage file r.image) (sym file_is) r.spelled) r.stored r.call r.whole (told.told go.done)
+
+    tells : TellsIn made.stage b.store.catalog source made.taking call
+    tells = subst (λ stage. TellsIn stage b.store.catalog source made.taking call) (sym is) (λ page taken. (
+      r.whole,
+      subst (λ (x : Place). Holds b.store.catalog x.0 x.1 call.request.bytes source) (same_Some r.at page (sym r.taking ∙ taken))
+      (subst (λ bytes. Holds b.store.catalog r.at.0 r.at.1 bytes source) (sym bytes_are) r.holds),
+    ))
+
+    none_left : nplan.calls ≡ []
+    none_left =
+        let reading = (subst (IsReadyFor made.entries made.taking made.read) is s.sound.ready).2 in
+        let same : own ≡ go.plan = same_Some own go.plan (sym (ap copy_plan is) ∙ go.awaited.was) in
+        calls_of_done go.plan call (ap (λ (p : Planned). p.awaits) (sym same) ∙ reading.known) go.done ∙ ap (λ (p : Planned). p.calls) (sym same) ∙ reading.last
+
+    passes : stage_then ≡ copy.Pass
+    passes = ap (copy_after made.stage nplan) none_left
+
+    slot_filled : IsSlotFor PassStage order c.pages c.phase (file_at bodies target) None c.belief None
+    slot_filled = subst (λ stage. IsSlotFor (stage_in_slot stage) order c.pages c.phase (file_at bodies target) (request_in_slot stage c.request) c.belief None) is c.slot_is
+
+    goes_on_read : Believes new (asked_then asked) (bodies_then bodies call) files
+    unfolding read_handed
+    goes_on_read = believes_copying slot (Kept r.image) read_handed tells refl (λ j opens. opens)
+        c.phase (set_other old.phases slot target (after phase call.request.id.call (is_done call.answer)) apart ∙ c.phase_is) c.belief c.belief_is
+        (subst (λ stage. IsAskedIn stage (phases_then old call phase) (bodies_then bodies call) b.store b.beliefs running target source made.taking None) (sym passes) tt)
+        (subst (λ stage. IsSlotFor (stage_in_slot stage) order c.pages c.phase (file_at (bodies_then bodies call) target) None c.belief None) (sym passes)
+        (subst (λ body. IsSlotFor PassStage order c.pages c.phase body None c.belief None)
+        (sym (body_other bodies slot target (body_after (file_at bodies slot) call.request.id.call call.request.bytes) apart)) slot_filled))
+
+  pub goes_on_by : GateSteps → ClosingRetires → StepsKeep → StepsGive → NeedsNoMore → CatalogFollows → CutHoldsTheSame → PageInFile
+      → (stage : CopyStage) → made.stage ≡ stage → Believes new (asked_then asked) (bodies_then bodies call) files
+  goes_on_by gates closing_retires keeps gives needs follows cut in_file (copy.Format own) is =
+      goes_on_in_slot (subst IsOwn (sym is) tt) gates closing_retires keeps gives needs follows cut
+  goes_on_by gates closing_retires keeps gives needs follows cut in_file copy.Pass is =
+      goes_on_in_slot (subst IsOwn (sym is) tt) gates closing_retires keeps gives needs follows cut
+  goes_on_by gates closing_retires keeps gives needs follows cut in_file (copy.PageRead own) is = goes_on_read in_file own is
+  goes_on_by gates closing_retires keeps gives needs follows cut in_file (copy.PageWrite own) is =
+      goes_on_in_slot (subst IsOwn (sym is) tt) gates closing_retires keeps gives needs follows cut
+  goes_on_by gates closing_retires keeps gives needs follows cut in_file (copy.Close own header tables) is =
+      goes_on_in_slot (subst IsOwn (sym is) tt) gates closing_retires keeps gives needs follows cut
+
+pub goes_on_lem : QuietSteps → GateSteps → MakingLaws → MergeLaws → FileLaws → ClosingRetires → StepsKeep → StepsGive → NeedsNoMore → CatalogFollows → CutHoldsTheSame → PageInFile
+    → (old new : CoreView) (merge : merger.Running) (copy next : Copying) (made : Made) (phase : Phase) → MergedGoesOn old merge copy made phase next new → OutcomeIsBelieved old new made
+goes_on_lem quiet gates making merges files_of closing_retires keeps gives needs follows cut in_file old new merge copy next made phase s asked bodies files at told b =
+    goes_on_by quiet making merges files_of old new merge copy next made phase s asked bodies files at told b gates closing_retires keeps gives needs follows cut in_file copy.stage refl
