@@ -18,6 +18,7 @@ mod MergeStays
 mod MergerAsks
 mod MergerHands
 mod MergerOutcome
+mod MergerReplaced
 mod MergerRetires
 mod MergerUse
 mod NoClear
