@@ -17,6 +17,7 @@ mod Leads
 mod MergeStays
 mod MergerAsks
 mod MergerHands
+mod MergerOpens
 mod MergerOutcome
 mod MergerReplaced
 mod MergerRetires
