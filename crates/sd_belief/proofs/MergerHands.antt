@@ -432,7 +432,7 @@ module _ (quiet : QuietSteps) (making : MakingLaws) (merges : MergeLaws) (files_
     tells = subst (λ stage. TellsIn stage b.store.catalog source made.taking call) (sym is) (λ page taken. (
       r.whole,
       subst (λ (x : Place). Holds b.store.catalog x.0 x.1 call.request.bytes source) (same_Some r.at page (sym r.taking ∙ taken))
-      (subst (λ bytes. Holds b.store.catalog r.at.0 r.at.1 bytes source) (sym bytes_are) r.holds),
+          (subst (λ bytes. Holds b.store.catalog r.at.0 r.at.1 bytes source) (sym bytes_are) r.holds),
     ))
 
     none_left : nplan.calls ≡ []

@@ -5,19 +5,23 @@ ghost use Rattle.sd_belief.specs.DumperOutcomes.{DumperOutcomes};
 ghost use Rattle.sd_belief.specs.DumperSteps.{DumperSteps};
 ghost use Rattle.sd_belief.specs.GateSteps.{GateSteps};
 ghost use Rattle.sd_belief.specs.Laws.{FoundIsBelieved, LeftShowsAllowed, PerformedIsBelieved, ReopenedIsBelieved};
+ghost use Rattle.sd_belief.specs.MergerOutcomes.{MergerOutcomes};
 ghost use Rattle.sd_belief.specs.OpenerSteps.{OpenerSteps};
 ghost use Rattle.sd_belief.specs.StoreSteps.{QuietSteps};
 
 use sd_chain::Catalog;
 use sd_gate::{bodies_fill, plans_lead};
+use sd_image::page_in_file;
 use sd_journal::journal_laws;
+use sd_merge::{merge_law, merged_file_law};
 use sd_rounds::{file_law, keeps_law, made_law, making_law};
 use sd_store_laws::{
     beliefs_follow_calls, catalog_follows, catalog_in_use_tells, catalog_is_found, closing_retires,
-    contents_show, cut_holds_the_same, dump_shows, found_is_believed, found_is_exact, given_up_syncs,
-    left_as_believed, needed_is_reached, needs_no_more, one_belief_changes, opened_is_sound,
-    pending_shows, slots_are_found, slots_drop, slots_follow_calls, slots_follow_images,
-    slots_follow_jobs, steps_give, steps_keep, steps_show, told_reaches_so, unused_is_uncalled,
+    contents_show, cut_holds_the_same, dump_shows, found_is_believed, found_is_exact,
+    given_up_syncs, left_as_believed, needed_is_reached, needs_no_more, one_belief_changes,
+    opened_is_sound, pending_shows, slots_are_found, slots_drop, slots_follow_calls,
+    slots_follow_images, slots_follow_jobs, steps_give, steps_keep, steps_show, told_reaches_so,
+    unused_is_uncalled,
 };
 
 /// A device call that was made leaves what is believed: its request is still out, as its outcome wasn't handed in.
@@ -103,6 +107,31 @@ pub fn dumper_outcomes()
     catalog_follows();
     cut_holds_the_same();
     unused_is_uncalled();
+}
+
+/// Outcomes of a merger's calls, over the catalog of the store: one that failed, after which the store is down, one with
+/// which the merged image goes on, the last of it, with which it enters the catalog, and those of the calls that close the
+/// images that nobody needs any more.
+pub fn merger_outcomes(catalog: &Catalog)
+    ensures { MergerOutcomes catalog.now }
+{
+    quiet_steps();
+    gate_steps();
+    making_law();
+    merge_law();
+    merged_file_law();
+    closing_retires();
+    steps_keep();
+    steps_give();
+    needs_no_more();
+    catalog_follows();
+    cut_holds_the_same();
+    page_in_file();
+    plans_lead();
+    needed_is_reached();
+    catalog_in_use_tells(catalog);
+    told_reaches_so(catalog);
+    catalog.agrees();
 }
 
 /// A checkpoint begins, over the catalog of the store.
