@@ -99,6 +99,7 @@ module _ (places : Places) (store : Store) (beliefs : List Belief) (in_use : IsC
       reached = a.reached;
       place = a.place;
       call = a.call;
+      whole = a.whole;
       bytes = a.bytes;
       stored = a.stored;
       holds = a.holds;

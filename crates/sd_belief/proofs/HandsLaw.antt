@@ -143,12 +143,12 @@ file_set (b ∷ bodies) zero body within = refl
 file_set (b ∷ bodies) (suc k) body within = file_set bodies k body (omega (arith, within))
 
 -- what is being opened behind an outcome was before
-opening_before : (sure : Bool) (belief : Belief) (j : Image) → belief_after sure belief ≡ Opening j → belief ≡ Opening j
+pub opening_before : (sure : Bool) (belief : Belief) (j : Image) → belief_after sure belief ≡ Opening j → belief ≡ Opening j
 opening_before true belief j is = absurd (let no : Closed ≡ Opening j = is in cc)
 opening_before false belief j is = is
 
 -- a slot without an image of the catalog leaves the catalog as it is
-removed_none : (old new : Places) (beliefs : List Belief) (slot : ℕ) (i : Image) → slice_get beliefs slot ≡ Some (Opening i)
+pub removed_none : (old new : Places) (beliefs : List Belief) (slot : ℕ) (i : Image) → slice_get beliefs slot ≡ Some (Opening i)
     → ((serial : ℕ) → place_of new serial ≡ without_slot slot (place_of old serial)) → IsCatalogInUse old beliefs → IsCatalogInUse new (slice_set beliefs slot Closed)
 removed_none old new beliefs slot i at removes in_use = record {
   image = λ serial o there.

@@ -169,6 +169,7 @@ module _ (last : ℕ) (store : Store) (running : Option Running) (old : Slots) (
         reached = still.reaches a.image a.reached;
         place = a.place;
         call = a.call;
+        whole = a.whole;
         bytes = a.bytes;
         stored = a.stored;
         holds = still.holds a.at.0 a.at.1 a.bytes a.holds;

@@ -323,6 +323,7 @@ module _ (quiet : QuietSteps) (merge_laws : MergeLaws) (files_of : FileLaws) (ne
         reached = r.reached;
         place = r.place;
         call = r.call;
+        whole = reads.reads.whole;
         bytes = r.bytes;
         stored = r.stored;
         holds = r.holds;

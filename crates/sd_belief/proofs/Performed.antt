@@ -331,6 +331,7 @@ module _ (asked : List (Option Asked)) (worker : ℕ) (request : Asked) (made : 
       reached = a.reached;
       place = a.place;
       call = ap (λ (id : RequestId). id.call) is.id ∙ a.call;
+      whole = kept_length request.id.call request.bytes made.request.bytes is.bytes ∙ a.whole;
       bytes = a.bytes;
       stored = a.stored;
       holds = a.holds;

@@ -1,8 +1,9 @@
 -- How the outcomes of a merger's calls keep what a core believes.
-use Rattle.std.specs.Prelude.{◌≡◌, ◌≢◌, ℕ, ◌<◌, true, List, Option, Some, None, slice_get, slice_set}
+use Rattle.std.specs.Prelude.{◌≡◌, ◌≢◌, ℕ, ◌+◌, ◌<◌, true, List, Option, Some, None, slice_get, slice_set}
 use Rattle.sd_chain.specs.Catalog.{Changes, IsTip, Opened, Places, place_of}
 use Rattle.sd_chain.specs.Reaches.{ParentsFall, ReachesSerial}
 use Rattle.sd_gate.specs.declared.phase.Phase.{Phase}
+use Rattle.sd_gate.specs.declared.phase.Phase.TheVariants.{Whole}
 use Rattle.sd_gate.specs.Calls.{is_done}
 use Rattle.sd_gate.specs.Phases.{bodies_after, phases_after}
 use Rattle.sd_gate.specs.Requests.{Asked, Made}
@@ -52,11 +53,14 @@ pub record MergedGoesOn (old : CoreView) (merge : merger.Running) (copy : Copyin
   pub hands : HandsIn copy made copies.More next
   pub is : new.merger ≡ Some (record merge { doing = copying next })
 
--- An image of the list: it is in the catalog, nobody needs it, and the checkpoint spares its slot.
+-- An image of the list: it is in the catalog, and whole in its slot, on which no request is out, nobody needs it, and the checkpoint spares the
+-- slot.
 pub record MayRetire (places : Places) (old : CoreView) (one : Retired) : Type 0 where
   pub opened : Opened
   pub there : place_of places one.serial ≡ Some (Some opened)
   pub slot : opened.slot ≡ one.slot
+  pub whole : slice_get old.phases one.slot ≡ Some Whole
+  pub free : IsFree (slice_set old.outs 1 None) one.slot
   pub spared : IsSpared old.dumper.running one.slot
   pub unreached : ParentsFall places → IsUnreached places one.slot
   pub uncalled : ParentsFall places → IsUncalled places old.dumper.running one.slot
@@ -83,7 +87,7 @@ pub record MergedOpens (places : Places) (old : CoreView) (merge : merger.Runnin
   pub listed : MayAllRetire places old list
   pub retires : Retires (Some (record merge { doing = opened copy.order.serial })) list done new.merger
 
--- An outcome of a call on an image of the list.
+-- An outcome of a call on an image of the list. No request is out on the slot of the next one.
 pub record RetiringGoesOn (old : CoreView) (merge : merger.Running) (r : Retiring) (made : Made) (phase : Phase) (done : MergeProgress) (next : Retiring) (new : CoreView) : Type 0 where
   pub outcome : IsMergersOutcome old made phase new
   pub rest : OnlyMerges old new
@@ -92,6 +96,7 @@ pub record RetiringGoesOn (old : CoreView) (merge : merger.Running) (r : Retirin
   pub was : old.merger ≡ Some merge
   pub doing : merge.doing ≡ retiring r
   pub sound : IsRetiring r
+  pub free : (one : Retired) → slice_get r.list (r.ended + 1) ≡ Some one → IsFree (slice_set old.outs 1 None) one.slot
   pub ok : is_done made.answer ≡ true
   pub hands : HandsClosing r made done next
 

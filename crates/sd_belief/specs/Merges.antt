@@ -117,6 +117,7 @@ pub record IsReadOn (phases : List Phase) (bodies : List (List ℕ)) (store : St
   pub reached : Reaches store.catalog image source
   pub place : ℕ
   pub call : request.id.call ≡ Read (data_place place)
+  pub whole : length request.bytes ≡ 4096
   pub bytes : List ℕ
   pub stored : slice_get image.pages place ≡ Some bytes
   pub holds : Holds store.catalog at.0 at.1 bytes source

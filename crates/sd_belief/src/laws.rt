@@ -5,6 +5,7 @@ ghost use Rattle.sd_belief.specs.DumperOutcomes.{DumperOutcomes};
 ghost use Rattle.sd_belief.specs.DumperSteps.{DumperSteps};
 ghost use Rattle.sd_belief.specs.GateSteps.{GateSteps};
 ghost use Rattle.sd_belief.specs.Laws.{FoundIsBelieved, LeftShowsAllowed, PerformedIsBelieved, ReopenedIsBelieved};
+ghost use Rattle.sd_belief.specs.MergerOutcomes.{MergerOutcomes};
 ghost use Rattle.sd_belief.specs.MergerSteps.{MergeBeginningIsBelieved, MergerSteps};
 ghost use Rattle.sd_belief.specs.OpenerSteps.{OpenerSteps};
 ghost use Rattle.sd_belief.specs.StoreSteps.{QuietSteps};
@@ -107,6 +108,31 @@ pub fn dumper_outcomes()
     catalog_follows();
     cut_holds_the_same();
     unused_is_uncalled();
+}
+
+/// Outcomes of a merger's calls, over the catalog of the store: one that failed, after which the store is down, one with
+/// which the merged image goes on, the last of it, with which it enters the catalog, and those of the calls that close the
+/// images that nobody needs any more.
+pub fn merger_outcomes(catalog: &Catalog)
+    ensures { MergerOutcomes catalog.now }
+{
+    quiet_steps();
+    gate_steps();
+    making_law();
+    merge_law();
+    merged_file_law();
+    closing_retires();
+    steps_keep();
+    steps_give();
+    needs_no_more();
+    catalog_follows();
+    cut_holds_the_same();
+    page_in_file();
+    plans_lead();
+    needed_is_reached();
+    catalog_in_use_tells(catalog);
+    told_reaches_so(catalog);
+    catalog.agrees();
 }
 
 /// A checkpoint begins, over the catalog of the store.
