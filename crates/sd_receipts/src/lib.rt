@@ -1,0 +1,10 @@
+//! Whether a journal accounts for what the seats and the worker were told.
+#![tactic(auto)]
+
+mod checking;
+mod laws;
+mod rising;
+
+pub use checking::check_receipts;
+pub use laws::fault_laws;
+pub use sd_journal::{CloseFault, Receipt};
