@@ -4,6 +4,8 @@
 mod checking;
 mod laws;
 mod rising;
+#[cfg(test)]
+mod tests;
 
 pub use checking::check_receipts;
 pub use laws::fault_laws;

@@ -7,7 +7,7 @@ use sd_journal::{Receipt, SEAT_LIMIT};
 
 /// No seat has a number yet.
 pub(crate) fn no_numbers() -> [Option<u64>; SEAT_LIMIT]
-    ensures { AreNoted [] result }
+    ensures { result ≡ replicate 1000 None }
 {
     [None; SEAT_LIMIT]
 }
