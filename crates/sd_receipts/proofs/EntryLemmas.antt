@@ -1,5 +1,5 @@
 -- Entries by their numbers, and the acknowledgements among them.
-use Rattle.std.proofs.Common.{◌≡◌, ◌+◌, ◌<◌, ◌≤◌, ◌++◌, ℕ, true, false, List, [], ◌∷◌, length, take, drop, get_or, Some, None, slice_get, IsTrue, refl, sym, ◌∙◌, ap, arith, append_assoc, take-append-drop, append-nil, length-append}
+use Rattle.std.proofs.Common.{◌≡◌, ◌+◌, ◌<◌, ◌≤◌, ◌++◌, ℕ, true, false, List, [], ◌∷◌, length, take, drop, get_or, None, slice_get, IsTrue, refl, sym, ◌∙◌, ap, arith, append_assoc, take-append-drop, append-nil, length-append}
 use Rattle.std.specs.List.{filter_map}
 use Rattle.std.proofs.lemmas.List.{take_more, length-take-le}
 use Rattle.std.proofs.Math.Seq.{get_or-append_seam}

@@ -7,7 +7,7 @@ use Rattle.sd_journal.specs.declared.close_fault.CloseFault.{CloseFault}
 use Rattle.sd_journal.specs.declared.close_fault.CloseFault.TheVariants.{NotThere, Differs, OutOfOrder, Count, Acks}
 use Rattle.sd_journal.specs.declared.entry.Entry.{Entry}
 use Rattle.sd_journal.specs.declared.receipt.Receipt.{Receipt}
-use Rattle.sd_journal.specs.Receipts.{Accounts, AllStand, AreRising, HasCommand, IsFault, IsFaultAfter, IsFaultAt, Stands, acked_numbers, command_count}
+use Rattle.sd_journal.specs.Receipts.{Accounts, AllStand, AreRising, HasCommand, IsFault, IsFaultAfter, IsFaultAt, Stands, command_count}
 use Rattle.sd_receipts.specs.Noted.{AreNoted, Rises}
 use Rattle.sd_receipts.proofs.GotLemmas.{front_of_front, got_before, got_in_front, got_push, got_taken, none_is_some, some_is}
 

@@ -5,6 +5,7 @@ use sd_areas::SpaceId;
 use sd_command::{Command, Reply};
 use sd_journal::{Entry, Journal};
 use std::alloc::Global;
+use std::process::Abort;
 use std::test::Fail;
 
 fn exit() -> Command {
@@ -73,7 +74,7 @@ fn receipts(alloc: Global, seat: usize, numbers: &[u64]) -> Result<Vec<Receipt>,
 }
 
 /// Each fault of receipts of one seat, at the numbers 0, 1 and 2.
-fn each_fault(rt: HostRuntime, seat: usize) -> Result<(), Fail> {
+fn each_fault(rt: &(impl Abort + AllocGlobal), seat: usize) -> Result<(), Fail> {
     let rows: [(&[u64], &[u64], Result<(), CloseFault>); 8] = [
         (&[0, 1, 2], &[7], Ok(())),
         (&[0, 1], &[7], Err(CloseFault::Count)),
@@ -94,18 +95,18 @@ fn each_fault(rt: HostRuntime, seat: usize) -> Result<(), Fail> {
 
 #[test]
 fn each_fault_of_the_first_seat(rt: HostRuntime) -> Result<(), Fail> {
-    each_fault(rt, 0)
+    each_fault(&rt, 0)
 }
 
 #[test]
 fn each_fault_of_the_last_seat(rt: HostRuntime) -> Result<(), Fail> {
-    each_fault(rt, 999)
+    each_fault(&rt, 999)
 }
 
 /// A seat that has no place in the table.
 #[test]
 fn each_fault_of_seat_1000(rt: HostRuntime) -> Result<(), Fail> {
-    each_fault(rt, 1000)
+    each_fault(&rt, 1000)
 }
 
 #[test]

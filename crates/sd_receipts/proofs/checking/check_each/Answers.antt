@@ -11,7 +11,7 @@ pub returns-in_err-check_one-clause-fault : goal.returns-in_err-check_one-clause
 returns-in_err-check_one-clause-fault c =
     let p = err_from_is_err_and c.from_residual.result c.from_residual.ensures.1 in
     rw (p.1, p.2) (fault_at c.args.first c.args.entries.now c.args.receipts.now c.loop-place.place c.index-receipts-place.result c.loop-place.last
-      c.in_err-check_one.field-0.0 c.loop-place-test.true c.index-receipts-place.is c.loop-place.invariant c.in_err-check_one.ensures.fault)
+    c.in_err-check_one.field-0.0 c.loop-place-test.true c.index-receipts-place.is c.loop-place.invariant c.in_err-check_one.ensures.fault)
 
 pub loop-place-preserved : goal.loop-place-preserved
 loop-place-preserved c =
