@@ -18,7 +18,7 @@ ghost use Rattle.sd_gate.specs.declared.worker.Worker.TheVariants as its;
 ghost use Rattle.sd_command.specs.declared.refusal.Refusal.{Refusal as Why};
 ghost use Rattle.sd_rounds.specs.Dumper.{Running, next_slot, pages_of};
 ghost use Rattle.sd_core.specs.Answering.{IsAnswered};
-ghost use Rattle.sd_core.specs.Beginning.{BeginsAs, begin_refusal, merge_refusal};
+ghost use Rattle.sd_core.specs.Beginning.{BeginsAs, begin_refusal, is_down, merge_refusal};
 ghost use Rattle.sd_core.specs.Images.{IsAcked};
 ghost use Rattle.sd_core.specs.LittleWork.{IsLittleDump, IsLittlePreDump, OpensPreDump};
 ghost use Rattle.sd_core.specs.Opening.{IsAllRead};
@@ -187,6 +187,28 @@ impl Core {
         ensures same { result.now ≡ self.now.memory }
     {
         &self.memory
+    }
+
+    /// The journal of the run, whose entries are numbered from 0.
+    pub fn journal(&self) -> &Journal
+        ensures items { result.now.items ≡ self.now.items }
+        ensures first { result.now.first ≡ 0 }
+    {
+        &self.journal
+    }
+
+    /// Whether a checkpoint is pending: commands are refused as frozen.
+    pub fn is_frozen(&self) -> bool
+        ensures { result ≡ is_some (pending (history_of self.now)) }
+    {
+        self.pending.is_some()
+    }
+
+    /// Whether a device call failed, and the store wasn't opened again since.
+    pub fn is_down(&self) -> bool
+        ensures { result ≡ is_down self.now.standing }
+    {
+        is_down(self.standing)
     }
 
     /// A law: the journal is legal, the memory is the one that it makes, and its bits are those that the commands and
