@@ -13,6 +13,8 @@ mod shared;
 #[cfg(test)]
 mod tests;
 mod thaw;
+#[cfg(test)]
+mod thread_tests;
 
 pub use hold::Hold;
 pub use seat::Seat;

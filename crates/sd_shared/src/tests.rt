@@ -2,7 +2,7 @@
 
 use crate::{Hold, Seat, Shared};
 use sd_areas::{Prot, SpaceId};
-use sd_command::{Bytes, Command, Reply};
+use sd_command::{Bytes, Command, Refusal, Reply};
 use sd_disk::MemDisk;
 use sd_journal::Receipt;
 use std::alloc::Global;
@@ -11,13 +11,13 @@ use std::sync::Wait;
 use std::test::Fail;
 
 /// A hold that lets each call go on.
-struct Free;
+pub(crate) struct Free;
 
 impl Hold for Free {
     fn before(&self, _call: u64) {}
 }
 
-fn mmap(pages: u64) -> Command {
+pub(crate) fn mmap(pages: u64) -> Command {
     Command::Mmap {
         space: SpaceId::new(1),
         address: 0x100_000,
@@ -30,10 +30,12 @@ fn mmap(pages: u64) -> Command {
     }
 }
 
-fn store(alloc: Global, page: u64, number: u64) -> Result<Command, Fail> {
+pub(crate) fn store(alloc: Global, page: u64, number: u64) -> Result<Command, Refusal> {
     let mut bytes = Vec::new(alloc);
     for byte in number.to_le_bytes() {
-        bytes.push(byte)?;
+        let Ok(()) = bytes.push(byte) else {
+            return Err(Refusal::OutOfMemory);
+        };
     }
     Ok(Command::Store {
         space: SpaceId::new(1),
@@ -42,19 +44,39 @@ fn store(alloc: Global, page: u64, number: u64) -> Result<Command, Fail> {
     })
 }
 
-/// Makes a command and keeps its receipt.
-fn make(
+/// Makes a command and keeps its receipt. Returns why it was refused, if it was.
+pub(crate) fn make(
     rt: &impl Wait,
     shared: &Shared<MemDisk>,
     seat: &mut Seat,
     receipts: &mut Vec<Receipt>,
     command: Command,
-) -> Result<(), Fail> {
-    receipts.try_reserve(1)?;
-    let Ok(receipt) = shared.call(rt, seat, command) else {
-        return Err(Fail::from("a command that is refused"));
+) -> Result<Option<Refusal>, Refusal> {
+    let Ok(()) = receipts.try_reserve(1) else {
+        return Err(Refusal::OutOfMemory);
     };
-    receipts.push(receipt)?;
+    let receipt = shared.call(rt, seat, command)?;
+    let refused = match receipt.reply {
+        Reply::Refused(why) => Some(why),
+        _ => None,
+    };
+    let Ok(()) = receipts.push(receipt) else {
+        return Err(Refusal::OutOfMemory);
+    };
+    Ok(refused)
+}
+
+/// Maps two pages and stores into each.
+pub(crate) fn prepare(
+    rt: &impl Wait,
+    alloc: Global,
+    shared: &Shared<MemDisk>,
+    seat: &mut Seat,
+    receipts: &mut Vec<Receipt>,
+) -> Result<(), Refusal> {
+    make(rt, shared, seat, receipts, mmap(2))?;
+    make(rt, shared, seat, receipts, store(alloc, 0, 7)?)?;
+    make(rt, shared, seat, receipts, store(alloc, 1, 7)?)?;
     Ok(())
 }
 
@@ -69,8 +91,10 @@ fn one_seat_closes(rt: HostRuntime) -> Result<(), Fail> {
         return Err(Fail::from("no seat"));
     };
     let mut receipts = Vec::new(rt.alloc());
-    make(&rt, &shared, &mut seat, &mut receipts, mmap(1))?;
-    make(&rt, &shared, &mut seat, &mut receipts, store(rt.alloc(), 0, 7)?)?;
+    assert_eq!(rt;
+        prepare(&rt, rt.alloc(), &shared, &mut seat, &mut receipts),
+        Ok(())
+    );
     assert_eq!(rt; shared.run_opener(&rt, &Free), Reply::Reopened(None));
     assert_eq!(rt; shared.run_dumper(&rt, 0, &Free), Reply::Acked(1));
     assert!(rt; shared.close(&receipts, &[1]).is_ok());
