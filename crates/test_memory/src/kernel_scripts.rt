@@ -666,7 +666,7 @@ const SCRIPTS: [(&str, &[Line]); 48] = [
 /// A memory returns what the kernel returned, line by line.
 #[test]
 fn kernel_scripts(rt: HostRuntime) -> Result<(), Fail> {
-    for (name, script) in SCRIPTS {
+    for (name, script) in &SCRIPTS {
         assert_eq!(rt;
             first_difference(rt.alloc(), 65_536, script)?,
             None,
