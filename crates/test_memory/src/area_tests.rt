@@ -51,12 +51,19 @@ fn area(rt: &impl Abort, first: u64, count: u64, prot: Prot) -> Area {
     Area { first, count, prot }
 }
 
+fn is_run(found: &Area, wanted: &Run) -> bool {
+    let (first, count, prot) = *wanted;
+    found.first.number() == first && found.count == count && found.prot == prot
+}
+
 /// Whether a space has these areas, and no others.
 fn has_areas(map: &AreaMap, wanted: &[Run]) -> bool {
-    map.areas().len() == wanted.len()
-        && map.areas().iter().zip(wanted).all(|(found, (first, count, prot))| {
-            found.first.number() == *first && found.count == *count && found.prot == *prot
-        })
+    let found = map.areas();
+    found.len() == wanted.len()
+        && found
+            .iter()
+            .zip(wanted)
+            .all(|(area, run)| is_run(area, run))
 }
 
 /// A caller of `clone` knows that the copy is the same space.
@@ -196,78 +203,78 @@ fn returns_each(
     rt: &impl Abort,
     alloc: Global,
     ranges: &[(u64, u64)],
-    mapped: Result<(), AreaError>,
-    unmapped: Result<(), AreaError>,
-    protected: Result<(), AreaError>,
+    returned: &Returned,
 ) -> Result<(), Fail> {
-    let returned = Returned {
-        mapped,
-        unmapped,
-        protected,
-    };
-    keeps_over(rt, &mut AreaMap::new(alloc), ranges, &returned)
+    keeps_over(rt, &mut AreaMap::new(alloc), ranges, returned)
 }
+
+const WITHOUT_LENGTH: [(u64, u64); 5] = [
+    (0x10000, 0),
+    (0x20000, 0),
+    (LAST_PAGE, 0),
+    (END, 0),
+    (LAST_MULTIPLE, 0),
+];
+
+const PROTECTED_ALONE: Returned = Returned {
+    mapped: Err(EINVAL),
+    unmapped: Err(EINVAL),
+    protected: Ok(()),
+};
 
 #[test]
 fn refuses_length_zero_but_to_protect(rt: HostRuntime) -> Result<(), Fail> {
-    let ranges = [
-        (0x10000, 0),
-        (0x20000, 0),
-        (LAST_PAGE, 0),
-        (END, 0),
-        (LAST_MULTIPLE, 0),
-    ];
-    returns_each(&rt, rt.alloc(), &ranges, Err(EINVAL), Err(EINVAL), Ok(()))
+    returns_each(&rt, rt.alloc(), &WITHOUT_LENGTH, &PROTECTED_ALONE)
 }
+
+const BETWEEN_PAGES: [(u64, u64); 9] = [
+    (0x10001, 0),
+    (0x10001, 4096),
+    (0x10FFF, 1),
+    (0x10800, 4096),
+    (END + 1, 0),
+    (END + 1, 1),
+    (u64::MAX, 0),
+    (u64::MAX, 1),
+    (u64::MAX, u64::MAX),
+];
+
+const ALL_EINVAL: Returned = Returned {
+    mapped: Err(EINVAL),
+    unmapped: Err(EINVAL),
+    protected: Err(EINVAL),
+};
 
 #[test]
 fn refuses_addresses_between_pages(rt: HostRuntime) -> Result<(), Fail> {
-    let ranges = [
-        (0x10001, 0),
-        (0x10001, 4096),
-        (0x10FFF, 1),
-        (0x10800, 4096),
-        (END + 1, 0),
-        (END + 1, 1),
-        (u64::MAX, 0),
-        (u64::MAX, 1),
-        (u64::MAX, u64::MAX),
-    ];
-    returns_each(
-        &rt,
-        rt.alloc(),
-        &ranges,
-        Err(EINVAL),
-        Err(EINVAL),
-        Err(EINVAL),
-    )
+    returns_each(&rt, rt.alloc(), &BETWEEN_PAGES, &ALL_EINVAL)
 }
+
+const PAST_THE_LAST: [(u64, u64); 13] = [
+    (LAST_PAGE, 4097),
+    (LAST_PAGE, 8192),
+    (LAST_PAGE, u64::MAX),
+    (0, END + 1),
+    (0x1000, END),
+    (0x10000, u64::MAX),
+    (0, u64::MAX),
+    (END, 1),
+    (END, 4096),
+    (LAST_MULTIPLE, 1),
+    (LAST_MULTIPLE, 4096),
+    (LAST_MULTIPLE, 4097),
+    (LAST_MULTIPLE, u64::MAX),
+];
+
+const UNMAPPED_EINVAL: Returned = Returned {
+    mapped: Err(ENOMEM),
+    unmapped: Err(EINVAL),
+    protected: Err(ENOMEM),
+};
 
 #[test]
 fn refuses_pages_past_the_last(rt: HostRuntime) -> Result<(), Fail> {
-    let ranges = [
-        (LAST_PAGE, 4097),
-        (LAST_PAGE, 8192),
-        (LAST_PAGE, u64::MAX),
-        (0, END + 1),
-        (0x1000, END),
-        (0x10000, u64::MAX),
-        (0, u64::MAX),
-        (END, 1),
-        (END, 4096),
-        (LAST_MULTIPLE, 1),
-        (LAST_MULTIPLE, 4096),
-        (LAST_MULTIPLE, 4097),
-        (LAST_MULTIPLE, u64::MAX),
-    ];
-    returns_each(
-        &rt,
-        rt.alloc(),
-        &ranges,
-        Err(ENOMEM),
-        Err(EINVAL),
-        Err(ENOMEM),
-    )
+    returns_each(&rt, rt.alloc(), &PAST_THE_LAST, &UNMAPPED_EINVAL)
 }
 
 /// Makes a call. One that is out of memory leaves the areas as they were, and is made again.
@@ -300,77 +307,102 @@ fn follows(rt: &impl Abort, alloc: Global, steps: &[(Call, &[Run])]) {
     follows_on(rt, &mut AreaMap::new(alloc), steps);
 }
 
+const WHOLE: &[Run] = &[(16, 8, READ)];
+
+const SPLIT: &[Run] = &[(16, 2, READ), (18, 2, READ_WRITE), (20, 4, READ)];
+
+const FRONT: &[Run] = &[(16, 2, READ_WRITE), (18, 6, READ)];
+
+const ENDS: &[Run] = &[(16, 2, READ_WRITE), (18, 4, READ), (22, 2, READ_WRITE)];
+
+const LONGER: &[Run] = &[(16, 10, READ_WRITE)];
+
+const JOINING: [(Call, &[Run]); 11] = [
+    (Call::Map(0x10000, 0x8000, READ), WHOLE),
+    (Call::Protect(0x12000, 0x1001, READ_WRITE), SPLIT),
+    (Call::Protect(0x12000, 0x2000, READ), WHOLE),
+    (Call::Map(0x12000, 0x1001, READ_WRITE), SPLIT),
+    (Call::Map(0x12000, 0x2000, READ), WHOLE),
+    (Call::Protect(0x10000, 0x2000, READ_WRITE), FRONT),
+    (Call::Protect(0x16000, 0x2000, READ_WRITE), ENDS),
+    (
+        Call::Protect(0x12000, 0x4000, READ_WRITE),
+        &[(16, 8, READ_WRITE)],
+    ),
+    (Call::Map(0x18000, 0x2000, READ_WRITE), LONGER),
+    (
+        Call::Map(0xF000, 0x1000, READ_WRITE),
+        &[(15, 11, READ_WRITE)],
+    ),
+    (Call::Map(0xE000, 0xE000, READ), &[(14, 14, READ)]),
+];
+
 #[test]
 fn splits_and_joins_areas(rt: HostRuntime) {
-    let whole: &[Run] = &[(16, 8, READ)];
-    let split: &[Run] = &[(16, 2, READ), (18, 2, READ_WRITE), (20, 4, READ)];
-    let front: &[Run] = &[(16, 2, READ_WRITE), (18, 6, READ)];
-    let ends: &[Run] = &[(16, 2, READ_WRITE), (18, 4, READ), (22, 2, READ_WRITE)];
-    let longer: &[Run] = &[(16, 10, READ_WRITE)];
-    let steps = [
-        (Call::Map(0x10000, 0x8000, READ), whole),
-        (Call::Protect(0x12000, 0x1001, READ_WRITE), split),
-        (Call::Protect(0x12000, 0x2000, READ), whole),
-        (Call::Map(0x12000, 0x1001, READ_WRITE), split),
-        (Call::Map(0x12000, 0x2000, READ), whole),
-        (Call::Protect(0x10000, 0x2000, READ_WRITE), front),
-        (Call::Protect(0x16000, 0x2000, READ_WRITE), ends),
-        (
-            Call::Protect(0x12000, 0x4000, READ_WRITE),
-            &[(16, 8, READ_WRITE)],
-        ),
-        (Call::Map(0x18000, 0x2000, READ_WRITE), longer),
-        (
-            Call::Map(0xF000, 0x1000, READ_WRITE),
-            &[(15, 11, READ_WRITE)],
-        ),
-        (Call::Map(0xE000, 0xE000, READ), &[(14, 14, READ)]),
-    ];
-    follows(&rt, rt.alloc(), &steps);
+    follows(&rt, rt.alloc(), &JOINING);
 }
+
+const SPLIT_BY_A_HOLE: &[Run] = &[(16, 2, READ), (19, 5, READ)];
+
+const APART: &[Run] = &[(16, 1, READ), (20, 4, READ)];
+
+const OVER_HOLES: [(Call, &[Run]); 11] = [
+    (Call::Unmap(0x10000, 0x1000), &[]),
+    (Call::Map(0x10000, 0x8000, READ), WHOLE),
+    (Call::Unmap(0x12000, 1), SPLIT_BY_A_HOLE),
+    (Call::Unmap(0x11000, 0x2001), APART),
+    (Call::Unmap(0x11000, 0x3000), APART),
+    (Call::Unmap(0, 0x10000), APART),
+    (Call::Unmap(0x18000, 0x10000), APART),
+    (Call::Map(0x11000, 0x3000, READ), WHOLE),
+    (Call::Unmap(0, 0x11000), &[(17, 7, READ)]),
+    (Call::Unmap(0x17000, 0x10000), &[(17, 6, READ)]),
+    (Call::Unmap(0, END), &[]),
+];
 
 #[test]
 fn unmaps_over_holes(rt: HostRuntime) {
-    let split: &[Run] = &[(16, 2, READ), (19, 5, READ)];
-    let apart: &[Run] = &[(16, 1, READ), (20, 4, READ)];
-    let steps = [
-        (Call::Unmap(0x10000, 0x1000), [].as_slice()),
-        (Call::Map(0x10000, 0x8000, READ), &[(16, 8, READ)]),
-        (Call::Unmap(0x12000, 1), split),
-        (Call::Unmap(0x11000, 0x2001), apart),
-        (Call::Unmap(0x11000, 0x3000), apart),
-        (Call::Unmap(0, 0x10000), apart),
-        (Call::Unmap(0x18000, 0x10000), apart),
-        (Call::Map(0x11000, 0x3000, READ), &[(16, 8, READ)]),
-        (Call::Unmap(0, 0x11000), &[(17, 7, READ)]),
-        (Call::Unmap(0x17000, 0x10000), &[(17, 6, READ)]),
-        (Call::Unmap(0, END), &[]),
-    ];
-    follows(&rt, rt.alloc(), &steps);
+    follows(&rt, rt.alloc(), &OVER_HOLES);
 }
+
+const FIVE: &[Run] = &[
+    (0, 1, READ),
+    (2, 1, READ),
+    (4, 1, READ),
+    (6, 1, READ),
+    (8, 1, READ),
+];
+
+const SIX: &[Run] = &[
+    (0, 1, READ),
+    (2, 1, READ),
+    (4, 1, READ),
+    (6, 1, READ),
+    (8, 1, READ),
+    (10, 1, READ),
+];
+
+const MAPPING_SIX: [(Call, &[Run]); 8] = [
+    (Call::Map(0, 1, READ), &[(0, 1, READ)]),
+    (Call::Map(0x2000, 1, READ), &[(0, 1, READ), (2, 1, READ)]),
+    (
+        Call::Map(0x4000, 1, READ),
+        &[(0, 1, READ), (2, 1, READ), (4, 1, READ)],
+    ),
+    (
+        Call::Map(0x6000, 1, READ),
+        &[(0, 1, READ), (2, 1, READ), (4, 1, READ), (6, 1, READ)],
+    ),
+    (Call::Map(0x8000, 1, READ), FIVE),
+    (Call::Map(0xA000, 1, READ), SIX),
+    (Call::Protect(0x2000, 1, READ), SIX),
+    (Call::Unmap(0xA000, 1), FIVE),
+];
 
 /// The list of areas grows within the later calls.
 #[test]
 fn maps_six_areas(rt: HostRuntime) {
-    let apart = [
-        (0, 1, READ),
-        (2, 1, READ),
-        (4, 1, READ),
-        (6, 1, READ),
-        (8, 1, READ),
-        (10, 1, READ),
-    ];
-    let steps = [
-        (Call::Map(0, 1, READ), &apart[..1]),
-        (Call::Map(0x2000, 1, READ), &apart[..2]),
-        (Call::Map(0x4000, 1, READ), &apart[..3]),
-        (Call::Map(0x6000, 1, READ), &apart[..4]),
-        (Call::Map(0x8000, 1, READ), &apart[..5]),
-        (Call::Map(0xA000, 1, READ), &apart),
-        (Call::Protect(0x2000, 1, READ), &apart),
-        (Call::Unmap(0xA000, 1), &apart[..5]),
-    ];
-    follows(&rt, rt.alloc(), &steps);
+    follows(&rt, rt.alloc(), &MAPPING_SIX);
 }
 
 /// Ranges with a page in a hole.

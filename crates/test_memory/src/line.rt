@@ -8,7 +8,7 @@ use std::test::Fail;
 
 /// A line of a script, with what it returns. First comes the number of the space, and then the
 /// address.
-#[derive(Clone, Copy, Debug)]
+#[derive(Clone, Copy)]
 pub(crate) enum Line {
     /// Maps so many bytes with these permissions.
     Mmap(u64, u64, u64, Prot),

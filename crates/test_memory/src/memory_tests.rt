@@ -6,6 +6,7 @@ use crate::support::{
 };
 use sd_areas::{PageNo, SpaceId};
 use sd_pagetable::{Memory, MemoryError, MemoryRefusal, Segv, StoreOutcome};
+use std::alloc::Global;
 use std::process::Abort;
 use std::test::Fail;
 
@@ -99,17 +100,21 @@ const ROWS: [(&str, usize, &[Line]); 6] = [
     ("boundaries", 16, &BOUNDARIES),
 ];
 
+fn return_each(
+    rt: &impl Abort,
+    alloc: Global,
+    rows: &[(&'static str, usize, &'static [Line])],
+) -> Result<(), Fail> {
+    for (name, frames, script) in rows {
+        assert_eq!(rt; first_difference(alloc, *frames, script)?, None, "{name}");
+    }
+    Ok(())
+}
+
 /// Each row returns what its lines say.
 #[test]
 fn rows_of_calls(rt: HostRuntime) -> Result<(), Fail> {
-    for (name, frames, script) in &ROWS {
-        assert_eq!(rt;
-            first_difference(rt.alloc(), *frames, script)?,
-            None,
-            "{name}"
-        );
-    }
-    Ok(())
+    return_each(&rt, rt.alloc(), &ROWS)
 }
 
 /// Stores to the only page, which is fresh.
