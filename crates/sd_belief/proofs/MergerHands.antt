@@ -1,7 +1,7 @@
 -- An outcome of a call of the merged image is handed in: it failed, or the image goes on.
-use Rattle.std.proofs.Common.{◌≡◌, ◌≢◌, ℕ, suc, ◌+◌, ◌*◌, ◌<◌, ◌≤◌, ◌==◌, Bool, true, false, if◌then◌else◌, List, [], ◌∷◌, length, Option, Some, None, IfSome, Contains, option_and_then, slice_get, slice_range, slice_set, refl, sym, ◌∙◌, ap, subst, inl, inr, arith}
+use Rattle.std.proofs.Common.{◌≡◌, ◌≢◌, ℕ, suc, Bool, true, false, List, [], ◌∷◌, length, Option, Some, None, IfSome, slice_get, refl, sym, ◌∙◌, ap, subst, inl, inr, arith}
 use Rattle.std.proofs.lemmas.Bool.{cases_eq}
-use Rattle.std.proofs.lemmas.Option.{same_Some, slice_get_within}
+use Rattle.std.proofs.lemmas.Option.{same_Some}
 use Rattle.sd_disk.specs.Contents.{file_at}
 use Rattle.sd_image.specs.declared.header.Header.{Header}
 use Rattle.sd_image.specs.Image.{Image, IsImage, gate, image_text}
@@ -19,9 +19,6 @@ use Rattle.sd_gate.specs.Phases.{after, body_after, is_ready}
 use Rattle.sd_gate.specs.Plans.{Planned, plan_after}
 use Rattle.sd_gate.specs.Requests.{Asked, Made}
 use Rattle.sd_gate.specs.Sequences.{Calls, data_place}
-use Rattle.sd_journal.specs.History.{History}
-use Rattle.sd_merge.specs.declared.copy_progress.CopyProgress.TheVariants as copies
-use Rattle.sd_merge.specs.declared.source.Source.{Source}
 use Rattle.sd_merge.specs.declared.stage.Stage.{Stage as CopyStage}
 use Rattle.sd_merge.specs.declared.stage.Stage.TheVariants as copy
 use Rattle.sd_merge.specs.Copying.{Copying, GoesOn, IsReadyFor, plan_of as copy_plan, stage_after as copy_after, with_plan as copy_with}
@@ -31,20 +28,18 @@ use Rattle.sd_merge.specs.Merger.{copying}
 use Rattle.sd_merge.specs.Merger as merger
 use Rattle.sd_merge.specs.Merging.{KeepsCopy, MergeLaws, TellsIn}
 use Rattle.sd_rounds.specs.declared.image_order.ImageOrder.{ImageOrder}
-use Rattle.sd_rounds.specs.declared.stage.Stage.{Stage}
 use Rattle.sd_rounds.specs.declared.stage.Stage.TheVariants.{Format, Pass as PassStage, PageWrite, Close}
-use Rattle.sd_rounds.specs.declared.stage.Stage.TheVariants as rounds
 use Rattle.sd_rounds.specs.Dumper.{Running}
 use Rattle.sd_rounds.specs.Making.{plan_of, stage_after}
 use Rattle.sd_rounds.specs.MakingLaws.{MakingLaws, Pages, image_of}
 use Rattle.sd_rounds.specs.Pass.{Entry, Place, data_pages}
 use Rattle.sd_image.specs.declared.header.Kind.TheVariants.{Merged}
-use Rattle.sd_store_laws.specs.Beliefs.{Belief, Kept, Opening, image_at, image_in}
+use Rattle.sd_store_laws.specs.Beliefs.{Belief, Kept, Opening}
 use Rattle.sd_store_laws.specs.Below.{StepsGive}
 use Rattle.sd_store_laws.specs.Cut.{CutHoldsTheSame}
 use Rattle.sd_store_laws.specs.InUse.{CatalogFollows, IsCatalogInUse}
 use Rattle.sd_store_laws.specs.Gates.{IsBelievedAs}
-use Rattle.sd_store_laws.specs.Needs.{IsNeededIn, NeedsNoMore}
+use Rattle.sd_store_laws.specs.Needs.{NeedsNoMore}
 use Rattle.sd_store_laws.specs.SlotSteps.{ClosingRetires}
 use Rattle.sd_store_laws.specs.Steps.{StepsKeep}
 use Rattle.sd_store_laws.specs.Store.{Store}
@@ -54,16 +49,16 @@ use Rattle.sd_belief.specs.DumperOutcomes.{LeavesCatalog, closes_for_sure}
 use Rattle.sd_belief.specs.GateSteps.{GateSteps}
 use Rattle.sd_belief.specs.InUse.{IsInUseOn, IsSlotFor}
 use Rattle.sd_belief.specs.Knows.{SeesStore}
-use Rattle.sd_belief.specs.MergerOutcomes.{IsMergersOutcome, MergeGoesDown, MergedGoesOn, OutcomeIsBelieved}
-use Rattle.sd_belief.specs.Merges.{IsAskedIn, IsCopyOn, IsCopying, IsMergeAt, IsMergeOn, IsReadOn, IsRepeating, order_of_slot, request_in_slot, stage_in_slot}
+use Rattle.sd_belief.specs.MergerOutcomes.{MergeGoesDown, MergedGoesOn, OutcomeIsBelieved}
+use Rattle.sd_belief.specs.Merges.{IsAskedIn, IsCopyOn, IsCopying, IsMergeAt, IsMergeOn, IsReadOn, order_of_slot, request_in_slot, stage_in_slot}
 use Rattle.sd_belief.specs.declared.standing.Standing.TheVariants as standing
 use Rattle.sd_belief.specs.StoreSteps.{QuietSteps}
 use Rattle.sd_belief.specs.View.{CoreView, history_of}
 use Rattle.sd_belief.proofs.HandsImage.{SlotGoesOn, calls_of_done, hands_slot}
-use Rattle.sd_belief.proofs.HandsLaw.{file_set, opening_before}
+use Rattle.sd_belief.proofs.HandsLaw.{opening_before}
 use Rattle.sd_belief.proofs.HandsSlot.{belief_after}
 use Rattle.sd_belief.proofs.MergeStays.{copy_stays, holds_same, slots_at}
-use Rattle.sd_belief.proofs.MergerOutcome.{SlotHandedIn, asked_then, believes_handed, bodies_then, count_handed, handed_body, handed_phase, has_handed, ids_handed, others_handed, phases_then, slot_handed, store_same, use_handed}
+use Rattle.sd_belief.proofs.MergerOutcome.{SlotHandedIn, asked_then, believes_handed, bodies_then, body_handed, count_handed, has_handed, ids_handed, others_handed, phase_handed, phases_then, slot_handed, store_same, use_handed}
 use Rattle.sd_belief.proofs.PageTold.{page_told}
 use Rattle.sd_belief.proofs.Places.{body_other, set_count, set_other, set_same}
 
@@ -343,17 +338,10 @@ module _ (quiet : QuietSteps) (making : MakingLaws) (merges : MergeLaws) (files_
           (handed.others k.repeats.source.slot k.repeats.source.apart)
           (λ j is. c.belief_is ∙ ap Some (opening_before (closes_for_sure phase call.request.id.call) c.belief j (same_Some belief_then (Opening j) (sym handed.there ∙ is))))
           (after phase call.request.id.call true)
-          (ap (slice_get (phases_then old call phase)) (sym on) ∙ ap (λ d. slice_get (slice_set old.phases call.request.id.slot (after phase call.request.id.call d)) call.request.id.slot) go.done
-          ∙ set_same old.phases call.request.id.slot phase (after phase call.request.id.call true) s.outcome.phase_is)
+          (phase_handed old new call phase asked bodies files s.outcome at b target on go.done)
           belief_then handed.there (none_asked made.stage nplan nplan.calls (phases_then old call phase) (bodies_then bodies call) handed.store handed.later running target source made.taking own)
           (subst (λ st. IsSlotFor st order c.pages (after phase call.request.id.call true) (file_at (bodies_then bodies call) target) None belief_then None) (sym (own_after made.stage nplan nplan.calls own))
-          (subst (λ body. IsSlotFor (stage_after Merged (stage_in_slot made.stage) nplan nplan.calls) order c.pages (after phase call.request.id.call true) body None belief_then None) (sym body_there) slot_then.slot_is))
-        where
-          body_there : file_at (bodies_then bodies call) target ≡ body_after (file_at bodies target) call.request.id.call call.request.bytes
-          body_there =
-              let within : call.request.id.slot < length bodies = (let long = slice_get_within old.phases call.request.id.slot phase s.outcome.phase_is in let stored = b.has.stored in omega (arith, long, stored)) in
-              ap (file_at (bodies_then bodies call)) (sym on) ∙ file_set bodies call.request.id.slot (body_after (file_at bodies call.request.id.slot) call.request.id.call call.request.bytes) within
-              ∙ ap (λ x. body_after (file_at bodies x) call.request.id.call call.request.bytes) on
+          (subst (λ body. IsSlotFor (stage_after Merged (stage_in_slot made.stage) nplan nplan.calls) order c.pages (after phase call.request.id.call true) body None belief_then None) (sym (body_handed old new call phase asked bodies files s.outcome at b target on)) slot_then.slot_is))
 
   -- ---- a page of the source was read
 
@@ -381,9 +369,7 @@ module _ (quiet : QuietSteps) (making : MakingLaws) (merges : MergeLaws) (files_
     whole_then = set_same old.phases slot phase (after phase call.request.id.call (is_done call.answer)) s.outcome.phase_is ∙ ap Some (looked call.request.id.call r.call phase phase_whole (is_done call.answer))
 
     body_still : file_at (bodies_then bodies call) slot ≡ file_at bodies slot
-    body_still =
-        let within : slot < length bodies = (let long = slice_get_within old.phases slot phase s.outcome.phase_is in let stored = b.has.stored in omega (arith, long, stored)) in
-        file_set bodies slot (body_after (file_at bodies slot) call.request.id.call call.request.bytes) within ∙ same_body
+    body_still = body_handed old new call phase asked bodies files s.outcome at b slot refl ∙ same_body
 
     not_closing : closes_for_sure phase call.request.id.call ≡ false
     not_closing = ap (λ p. closes_for_sure p call.request.id.call) phase_whole

@@ -1,7 +1,7 @@
 -- The merged image is open: it enters the catalog, and the images of the list begin to be closed.
-use Rattle.std.proofs.Common.{◌≡◌, ◌≢◌, ◌⊎◌, ℕ, zero, suc, ◌+◌, ◌<◌, ◌≤◌, Bool, true, false, List, [], ◌∷◌, ◌++◌, length, Option, Some, None, IfSome, Contains, option_and_then, slice_get, slice_set, refl, sym, ◌∙◌, ap, subst, inl, inr, arith}
+use Rattle.std.proofs.Common.{◌≡◌, ◌≢◌, ◌⊎◌, ℕ, zero, suc, ◌<◌, Bool, List, [], ◌∷◌, length, Option, Some, None, IfSome, Contains, option_and_then, slice_get, slice_set, refl, sym, ◌∙◌, ap, subst, inl, inr, arith}
 use Rattle.std.proofs.lemmas.Bool.{cases_Bool, cases_eq}
-use Rattle.std.proofs.lemmas.Option.{same_Some, slice_get_within}
+use Rattle.std.proofs.lemmas.Option.{same_Some}
 use Rattle.sd_disk.specs.Contents.{file_at}
 use Rattle.sd_image.specs.declared.header.Kind.{Kind}
 use Rattle.sd_image.specs.declared.header.Kind.TheVariants.{PreDump, Dump, Merged}
@@ -14,14 +14,12 @@ use Rattle.sd_gate.specs.declared.phase.Phase.{Phase}
 use Rattle.sd_gate.specs.declared.phase.Phase.TheVariants.{Whole}
 use Rattle.sd_gate.specs.Calls.{is_done}
 use Rattle.sd_gate.specs.Laws.{PlansLead}
-use Rattle.sd_gate.specs.Phases.{after, body_after}
+use Rattle.sd_gate.specs.Phases.{after}
 use Rattle.sd_gate.specs.Requests.{Asked, Made}
 use Rattle.sd_journal.specs.History.{Base, History}
 use Rattle.sd_merge.specs.declared.merge_progress.MergeProgress.{MergeProgress}
 use Rattle.sd_merge.specs.declared.merge_progress.MergeProgress.TheVariants as progress
 use Rattle.sd_merge.specs.declared.retired.Retired.{Retired}
-use Rattle.sd_merge.specs.declared.stage.Stage.{Stage as CopyStage}
-use Rattle.sd_merge.specs.declared.stage.Stage.TheVariants as copy
 use Rattle.sd_merge.specs.Copying.{Copying, IsReadyFor}
 use Rattle.sd_merge.specs.Files.{IsFiled, IsFiledIn}
 use Rattle.sd_merge.specs.Merger.{Retires, awaited, copying, opened, retiring}
@@ -40,7 +38,6 @@ use Rattle.sd_store_laws.specs.Beliefs.{Belief, Kept, Closing, Opening, image_at
 use Rattle.sd_store_laws.specs.Below.{StepsGive}
 use Rattle.sd_store_laws.specs.Gates.{IsBelievedAs}
 use Rattle.sd_store_laws.specs.InUse.{CatalogFollows, CatalogInUseTells, HasImage, IsCatalogInUse, ToldReachesSo}
-use Rattle.sd_store_laws.specs.Makers.{IsAbove}
 use Rattle.sd_store_laws.specs.Needed.{NeededIsReached}
 use Rattle.sd_store_laws.specs.Needs.{IsNeededIn, NeedsNoMore}
 use Rattle.sd_store_laws.specs.Reached.{Reaches}
@@ -48,10 +45,9 @@ use Rattle.sd_store_laws.specs.SlotSteps.{with_belief}
 use Rattle.sd_store_laws.specs.Steps.{Adds, StepsKeep, replaced}
 use Rattle.sd_store_laws.specs.Store.{IsNextDump, IsTwin, Store, jobs}
 use Rattle.sd_belief.specs.Believes.{Believes, HasStore}
-use Rattle.sd_belief.specs.Calls.{IsFree, WasTold}
-use Rattle.sd_belief.specs.CheckpointSteps.{IsUnreached}
+use Rattle.sd_belief.specs.Calls.{IsFree}
 use Rattle.sd_belief.specs.GateSteps.{GateSteps, IsOnlyTwin}
-use Rattle.sd_belief.specs.InUse.{IsAtWork, IsClosing, IsImageOn, IsInUseOn, IsMakingOn, IsRunningOn, IsSlotFor, is_opening_at, pending_dump}
+use Rattle.sd_belief.specs.InUse.{IsAtWork, IsClosing, IsImageOn, IsInUseOn, IsSlotFor, is_opening_at, pending_dump}
 use Rattle.sd_belief.specs.MergerOutcomes.{MayRetire, MergedOpens, OutcomeIsBelieved}
 use Rattle.sd_belief.specs.MergerSteps.{IsUncalled}
 use Rattle.sd_belief.specs.Merges.{IsAskedIn, IsCopyOn, IsCopying, IsListedOn, IsMergeAt, IsMergeOn, IsOtherImage, IsUnmerged, MakesOther, order_of_slot, request_in_slot, stage_in_slot}
@@ -59,9 +55,8 @@ use Rattle.sd_belief.specs.StoreSteps.{IsOpened, QuietSteps}
 use Rattle.sd_belief.specs.View.{CoreView, history_of}
 use Rattle.sd_belief.proofs.FoundInUse.{contains_at}
 use Rattle.sd_belief.proofs.HandsImage.{calls_of_done}
-use Rattle.sd_belief.proofs.HandsLaw.{file_set}
 use Rattle.sd_belief.proofs.MergeStays.{slots_at}
-use Rattle.sd_belief.proofs.MergerOutcome.{asked_then, asks_for, bodies_then, count_handed, has_handed, ids_handed, none_on, others_handed, phases_then, use_handed}
+use Rattle.sd_belief.proofs.MergerOutcome.{asked_then, asks_for, bodies_then, body_handed, count_handed, has_handed, ids_handed, none_on, others_handed, phase_handed, phases_then, use_handed}
 use Rattle.sd_belief.proofs.MergerReplaced.{IsRepeated, own_jobs, store_replaced}
 use Rattle.sd_belief.proofs.MergerRetires.{begun_at, retired_begins}
 use Rattle.sd_belief.proofs.OpenCore.{believes_parts}
@@ -205,14 +200,10 @@ module _ (quiet : QuietSteps) (gates : GateSteps) (making : MakingLaws) (keeps :
   belief_at = c.belief_is ∙ ap Some opened_then.belief_is
 
   phase_then : slice_get phases_now target ≡ Some Whole
-  phase_then = ap (slice_get phases_now) (sym on) ∙ ap (λ d. slice_get (slice_set old.phases call.request.id.slot (after phase call.request.id.call d)) call.request.id.slot) s.opens.done
-      ∙ set_same old.phases call.request.id.slot phase (after phase call.request.id.call true) s.outcome.phase_is ∙ ap Some opened_then.whole
+  phase_then = phase_handed old new call phase asked bodies files s.outcome at b target on s.opens.done ∙ ap Some opened_then.whole
 
   body_then : file_at bodies_now target ≡ image_text i
-  body_then =
-      let within : call.request.id.slot < length bodies = (let long = slice_get_within old.phases call.request.id.slot phase s.outcome.phase_is in let stored = b.has.stored in omega (arith, long, stored)) in
-      ap (file_at bodies_now) (sym on) ∙ file_set bodies call.request.id.slot (body_after (file_at bodies call.request.id.slot) call.request.id.call call.request.bytes) within
-      ∙ ap (λ x. body_after (file_at bodies x) call.request.id.call call.request.bytes) on ∙ opened_then.spelled
+  body_then = body_handed old new call phase asked bodies files s.outcome at b target on ∙ opened_then.spelled
 
   abbrev beliefs_now : List Belief
   beliefs_now = with_belief b.beliefs target (Kept i)

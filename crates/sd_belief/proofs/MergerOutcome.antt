@@ -1,5 +1,5 @@
 -- An outcome of the merger's call is handed in: what is known of the open store then.
-use Rattle.std.proofs.Common.{◌≡◌, ◌≢◌, ◌⊎◌, ℕ, ◌+◌, ◌<◌, ◌≤◌, Bool, true, false, List, [], ◌∷◌, ◌++◌, length, Option, Some, None, IfSome, Contains, option_and_then, slice_get, slice_set, refl, sym, ◌∙◌, ap, subst, inl, inr, arith}
+use Rattle.std.proofs.Common.{◌≡◌, ◌≢◌, ℕ, ◌+◌, ◌<◌, Bool, true, false, List, [], ◌∷◌, ◌++◌, length, Option, Some, None, Contains, option_and_then, slice_get, slice_set, refl, sym, ◌∙◌, ap, subst, inl, inr, arith}
 use Rattle.std.proofs.lemmas.Bool.{cases_Bool, cases_eq, cases_lt}
 use Rattle.std.proofs.lemmas.Option.{same_Some, slice_get_within}
 use Rattle.sd_disk.specs.Contents.{file_at}
@@ -11,7 +11,6 @@ use Rattle.sd_chain.specs.Catalog.{Places, place_of, without_slot}
 use Rattle.sd_gate.specs.declared.phase.Phase.{Phase}
 use Rattle.sd_gate.specs.declared.call.Call.TheVariants.{Sync}
 use Rattle.sd_gate.specs.declared.phase.Phase.TheVariants.{Closing as ClosingPhase}
-use Rattle.sd_gate.specs.declared.request_id.RequestId.{RequestId}
 use Rattle.sd_gate.specs.Calls.{is_done}
 use Rattle.sd_gate.specs.Phases.{after, body_after, bodies_after, phases_after, synced}
 use Rattle.sd_gate.specs.Plans.{Planned}
@@ -26,7 +25,7 @@ use Rattle.sd_rounds.specs.Dumper.{Running}
 use Rattle.sd_rounds.specs.Keeps.{Rests, Within}
 use Rattle.sd_rounds.specs.Making.{plan_of}
 use Rattle.sd_rounds.specs.MakingLaws.{MakingLaws, Pages}
-use Rattle.sd_store_laws.specs.Beliefs.{Belief, Closed, Kept, Closing, Opening, image_at, image_in}
+use Rattle.sd_store_laws.specs.Beliefs.{Belief, Closed, Closing, Opening, image_at, image_in}
 use Rattle.sd_store_laws.specs.Below.{StepsGive}
 use Rattle.sd_store_laws.specs.Cut.{CutHoldsTheSame}
 use Rattle.sd_store_laws.specs.InUse.{CatalogFollows, IsCatalogInUse}
@@ -36,7 +35,7 @@ use Rattle.sd_store_laws.specs.Needs.{IsNeededIn, NeedsNoMore}
 use Rattle.sd_store_laws.specs.Needed.{by_job}
 use Rattle.sd_store_laws.specs.SlotSteps.{ClosingRetires, Lacks, with_belief}
 use Rattle.sd_store_laws.specs.Steps.{Retires, StepsKeep, begun, retired}
-use Rattle.sd_store_laws.specs.Store.{IsSound, Store, jobs}
+use Rattle.sd_store_laws.specs.Store.{IsSound, Store}
 use Rattle.sd_belief.specs.Believes.{Believes, HasStore}
 use Rattle.sd_belief.specs.Calls.{IsFree}
 use Rattle.sd_belief.specs.DumperOutcomes.{LeavesCatalog, closes_for_sure}
@@ -45,11 +44,11 @@ use Rattle.sd_belief.specs.InUse.{IsAtWork, IsInUseOn, IsNewNumber, IsReserved, 
 use Rattle.sd_belief.specs.Knows.{ids_of}
 use Rattle.sd_belief.specs.MergerOutcomes.{IsMergersOutcome}
 use Rattle.sd_belief.specs.MergerSteps.{MakesInItsSlot, OnlyMerges}
-use Rattle.sd_belief.specs.Merges.{AreSpelled, IsMergeOn, IsSpared}
-use Rattle.sd_belief.specs.StoreSteps.{IsOutcomeOf, IsShut, QuietSteps}
+use Rattle.sd_belief.specs.Merges.{IsMergeOn, IsSpared}
+use Rattle.sd_belief.specs.StoreSteps.{IsShut, QuietSteps}
 use Rattle.sd_belief.specs.View.{CoreView, history_of}
 use Rattle.sd_belief.proofs.HandsImage.{SlotGoesOn}
-use Rattle.sd_belief.proofs.HandsLaw.{file_set, opening_before, removed_none}
+use Rattle.sd_belief.proofs.HandsLaw.{file_set, removed_none}
 use Rattle.sd_belief.proofs.HandsSlot.{belief_after, closed_exact, closing_in_doubt, syncs_closing}
 use Rattle.sd_belief.proofs.MergeStays.{HoldsStill, IsSameSlot, Slots, holds_same, retires_still, slots_at}
 use Rattle.sd_belief.proofs.MergerUse.{other_slot}
@@ -95,6 +94,19 @@ module _ (old new : CoreView) (made : Made) (phase : Phase) (asked : List (Optio
 
   pub count_handed : length files ≡ length (phases_then old made phase)
   count_handed = b.knows.count ∙ sym (set_count old.phases made.request.id.slot (after phase made.request.id.call (is_done made.answer)))
+
+  -- the slot of the request
+  module _ (slot : ℕ) (on : made.request.id.slot ≡ slot) where
+    pub phase_handed : is_done made.answer ≡ true → slice_get (phases_then old made phase) slot ≡ Some (after phase made.request.id.call true)
+    phase_handed done = ap (slice_get (phases_then old made phase)) (sym on)
+        ∙ ap (λ d. slice_get (slice_set old.phases made.request.id.slot (after phase made.request.id.call d)) made.request.id.slot) done
+        ∙ set_same old.phases made.request.id.slot phase (after phase made.request.id.call true) o.phase_is
+
+    pub body_handed : file_at (bodies_then bodies made) slot ≡ body_after (file_at bodies slot) made.request.id.call made.request.bytes
+    body_handed =
+        let within : made.request.id.slot < length bodies = (let long = slice_get_within old.phases made.request.id.slot phase o.phase_is in let stored = b.has.stored in omega (arith, long, stored)) in
+        ap (file_at (bodies_then bodies made)) (sym on) ∙ file_set bodies made.request.id.slot (body_after (file_at bodies made.request.id.slot) made.request.id.call made.request.bytes) within
+        ∙ ap (λ k. body_after (file_at bodies k) made.request.id.call made.request.bytes) on
 
   -- the slots of no request are as they were
   pub others_handed : (beliefs : List Belief) (k : ℕ) → k ≢ made.request.id.slot → slice_get beliefs k ≡ slice_get b.beliefs k
@@ -359,15 +371,11 @@ module _ (quiet : QuietSteps) (gates : GateSteps) (making : MakingLaws) (closing
   has_one : HasStore old.base history phases_now (asked_then asked) bodies_now b.store b.dump b.beliefs
   has_one = has_handed old new made phase asked bodies files o at b quiet
 
-  pub handed_phase : slice_get phases_now slot ≡ Some (after phase made.request.id.call true)
-  handed_phase = ap (slice_get phases_now) (sym on) ∙ ap (λ d. slice_get (slice_set old.phases made.request.id.slot (after phase made.request.id.call d)) made.request.id.slot) done
-      ∙ set_same old.phases made.request.id.slot phase (after phase made.request.id.call true) o.phase_is
+  handed_phase : slice_get phases_now slot ≡ Some (after phase made.request.id.call true)
+  handed_phase = phase_handed old new made phase asked bodies files o at b slot on done
 
-  pub handed_body : file_at bodies_now slot ≡ body_after (file_at bodies slot) made.request.id.call made.request.bytes
-  handed_body =
-      let within : made.request.id.slot < length bodies = (let long = slice_get_within old.phases made.request.id.slot phase o.phase_is in let stored = b.has.stored in omega (arith, long, stored)) in
-      ap (file_at bodies_now) (sym on) ∙ file_set bodies made.request.id.slot (body_after (file_at bodies made.request.id.slot) made.request.id.call made.request.bytes) within
-      ∙ ap (λ k. body_after (file_at bodies k) made.request.id.call made.request.bytes) on
+  handed_body : file_at bodies_now slot ≡ body_after (file_at bodies slot) made.request.id.call made.request.bytes
+  handed_body = body_handed old new made phase asked bodies files o at b slot on
 
   -- with the store and the beliefs as they are then
   module _ (store : Store) (later : List Belief) (there : slice_get later slot ≡ Some belief_now) (others : (k : ℕ) → k ≢ slot → slice_get later k ≡ slice_get b.beliefs k)

@@ -1,16 +1,15 @@
 -- An outcome of a call on an image that the merger closes is handed in.
-use Rattle.std.proofs.Common.{◌≡◌, ◌≢◌, ℕ, ◌+◌, ◌<◌, ◌≤◌, Bool, true, false, List, [], ◌∷◌, length, Option, Some, None, Contains, option_and_then, slice_get, slice_set, refl, sym, ◌∙◌, ap, subst, inl, inr, arith}
+use Rattle.std.proofs.Common.{◌≡◌, ◌≢◌, ℕ, ◌+◌, ◌<◌, true, List, [], ◌∷◌, length, Option, Some, None, option_and_then, slice_get, refl, sym, ◌∙◌, ap, subst, inl, inr, arith}
 use Rattle.std.proofs.lemmas.Bool.{false≢true}
-use Rattle.std.proofs.lemmas.Option.{same_Some, slice_get_within}
+use Rattle.std.proofs.lemmas.Option.{same_Some}
 use Rattle.sd_disk.specs.Contents.{file_at}
 use Rattle.sd_image.specs.declared.header.Header.{Header}
 use Rattle.sd_image.specs.declared.header.Kind.TheVariants.{Merged}
-use Rattle.sd_image.specs.Image.{Image, IsImage, gate, image_text}
+use Rattle.sd_image.specs.Image.{Image}
 use Rattle.sd_image.specs.Table.{Listed}
 use Rattle.sd_gate.specs.declared.phase.Phase.{Phase}
 use Rattle.sd_gate.specs.declared.phase.Phase.TheVariants.{Raw, RawClosing, Whole, Closing as ClosingPhase, Shut, ShutSynced, Bare, Writing, Ready, Opening as OpeningPhase, Doubt, DoubtSynced}
 use Rattle.sd_gate.specs.declared.slot_state.SlotState.TheVariants.{Open as OpenSlot}
-use Rattle.sd_gate.specs.Calls.{is_done}
 use Rattle.sd_gate.specs.Inspections.{nothing}
 use Rattle.sd_gate.specs.Laws.{PlansLead}
 use Rattle.sd_gate.specs.Phases.{after, body_after, may_close}
@@ -23,12 +22,11 @@ use Rattle.sd_merge.specs.declared.retired.Retired.{Retired}
 use Rattle.sd_merge.specs.Merger.{EndsOne, GoesOnWith, HandsClosing, Retiring, retiring}
 use Rattle.sd_merge.specs.Merger as merger
 use Rattle.sd_rounds.specs.declared.image_order.ImageOrder.{ImageOrder}
-use Rattle.sd_rounds.specs.declared.stage.Stage.{Stage}
 use Rattle.sd_rounds.specs.declared.stage.Stage.TheVariants.{Format, Close}
 use Rattle.sd_rounds.specs.Dumper.{Running}
 use Rattle.sd_rounds.specs.Making.{stage_after}
-use Rattle.sd_rounds.specs.MakingLaws.{MakingLaws, image_of}
-use Rattle.sd_store_laws.specs.Beliefs.{Belief, Closed, Kept, Closing, Opening, image_at, image_in}
+use Rattle.sd_rounds.specs.MakingLaws.{MakingLaws}
+use Rattle.sd_store_laws.specs.Beliefs.{Belief, Closed, Kept, image_in}
 use Rattle.sd_store_laws.specs.Below.{StepsGive}
 use Rattle.sd_store_laws.specs.Cut.{CutHoldsTheSame}
 use Rattle.sd_store_laws.specs.Gates.{IsBelievedAs}
@@ -38,7 +36,6 @@ use Rattle.sd_store_laws.specs.SlotSteps.{ClosingRetires}
 use Rattle.sd_store_laws.specs.Steps.{StepsKeep}
 use Rattle.sd_store_laws.specs.Store.{Store}
 use Rattle.sd_belief.specs.Believes.{Believes}
-use Rattle.sd_belief.specs.Calls.{WasTold}
 use Rattle.sd_belief.specs.DumperOutcomes.{closes_for_sure}
 use Rattle.sd_belief.specs.GateSteps.{GateSteps}
 use Rattle.sd_belief.specs.InUse.{AreExact, IsSlotFor, NoneAt}
@@ -47,9 +44,8 @@ use Rattle.sd_belief.specs.Merges.{IsListedOn, IsMergeAt, IsMergeOn, IsRetiredOn
 use Rattle.sd_belief.specs.StoreSteps.{QuietSteps}
 use Rattle.sd_belief.specs.View.{CoreView}
 use Rattle.sd_belief.proofs.HandsImage.{SlotGoesOn, calls_of_done, hands_slot}
-use Rattle.sd_belief.proofs.HandsLaw.{file_set}
 use Rattle.sd_belief.proofs.HandsSlot.{belief_after}
-use Rattle.sd_belief.proofs.MergerOutcome.{SlotHandedIn, asked_then, believes_handed, bodies_then, handed_body, handed_phase, none_on, phases_then, slot_handed}
+use Rattle.sd_belief.proofs.MergerOutcome.{SlotHandedIn, asked_then, believes_handed, bodies_then, body_handed, none_on, phase_handed, phases_then, slot_handed}
 use Rattle.sd_belief.proofs.Places.{has_too, set_same}
 
 -- ---- an image of the list begins to be closed
@@ -177,16 +173,6 @@ module _ (quiet : QuietSteps) (gates : GateSteps) (making : MakingLaws) (closing
         spared = l.spared;
       }
 
-  phase_there : slice_get (phases_then old made phase) slot ≡ Some (after phase made.request.id.call true)
-  phase_there = ap (slice_get (phases_then old made phase)) (sym on) ∙ ap (λ d. slice_get (slice_set old.phases made.request.id.slot (after phase made.request.id.call d)) made.request.id.slot) s.ok
-      ∙ set_same old.phases made.request.id.slot phase (after phase made.request.id.call true) s.outcome.phase_is
-
-  body_there : file_at (bodies_then bodies made) slot ≡ body_after (file_at bodies slot) made.request.id.call made.request.bytes
-  body_there =
-      let within : made.request.id.slot < length bodies = (let long = slice_get_within old.phases made.request.id.slot phase s.outcome.phase_is in let stored = b.has.stored in omega (arith, long, stored)) in
-      ap (file_at (bodies_then bodies made)) (sym on) ∙ file_set bodies made.request.id.slot (body_after (file_at bodies made.request.id.slot) made.request.id.call made.request.bytes) within
-      ∙ ap (λ x. body_after (file_at bodies x) made.request.id.call made.request.bytes) on
-
   believes_merge : (later : Option merger.Running) → new.merger ≡ later
       → IsMergeOn (phases_then old made phase) (asked_then asked) (bodies_then bodies made) last h.store h.later running later
       → Believes new (asked_then asked) (bodies_then bodies made) files
@@ -201,7 +187,7 @@ module _ (quiet : QuietSteps) (gates : GateSteps) (making : MakingLaws) (closing
     there = k.there;
     closes = record {
       phase = after phase made.request.id.call true;
-      phase_is = phase_there;
+      phase_is = phase_handed old new made phase asked bodies files s.outcome at b slot on s.ok;
       belief = belief_now;
       belief_is = h.there;
       unneeded = λ i has needed. c.unneeded i (h.images slot i has) (h.needs i needed);
@@ -209,7 +195,7 @@ module _ (quiet : QuietSteps) (gates : GateSteps) (making : MakingLaws) (closing
       request = None;
       own = silent;
       asked_at = λ out is_out. absurd (let no : None ≡ Some out = is_out in cc);
-      slot_is = subst (λ body. IsSlotFor (Format nplan) order [] (after phase made.request.id.call true) body None belief_now None) (sym body_there)
+      slot_is = subst (λ body. IsSlotFor (Format nplan) order [] (after phase made.request.id.call true) body None belief_now None) (sym (body_handed old new made phase asked bodies files s.outcome at b slot on))
           (subst (λ stage. IsSlotFor stage order [] (after phase made.request.id.call true) (body_after (file_at bodies slot) made.request.id.call made.request.bytes) None belief_now None)
           (still_formats r.plan nplan nplan.calls g.left) slot_then.slot_is);
     };

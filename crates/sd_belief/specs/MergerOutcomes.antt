@@ -1,7 +1,7 @@
 -- How the outcomes of a merger's calls keep what a core believes.
 use Rattle.std.specs.Prelude.{◌≡◌, ◌≢◌, ℕ, ◌+◌, ◌<◌, true, List, Option, Some, None, slice_get, slice_set}
-use Rattle.sd_chain.specs.Catalog.{Changes, IsTip, Opened, Places, place_of}
-use Rattle.sd_chain.specs.Reaches.{ParentsFall, ReachesSerial}
+use Rattle.sd_chain.specs.Catalog.{Changes, Opened, Places, place_of}
+use Rattle.sd_chain.specs.Reaches.{ParentsFall}
 use Rattle.sd_gate.specs.declared.phase.Phase.{Phase}
 use Rattle.sd_gate.specs.declared.phase.Phase.TheVariants.{Whole}
 use Rattle.sd_gate.specs.Calls.{is_done}
