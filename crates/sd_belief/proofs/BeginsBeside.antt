@@ -14,14 +14,13 @@ use Rattle.sd_merge.specs.declared.stage.Stage.TheVariants as copy
 use Rattle.sd_merge.specs.Copying.{Copying}
 use Rattle.sd_merge.specs.Merger.{Doing, Retiring, due, copying, opened, retiring, list_in, source_in}
 use Rattle.sd_merge.specs.Merger as merger
-use Rattle.sd_rounds.specs.Dumper.{Running}
+use Rattle.sd_rounds.specs.Dumper.{IsReserved, Running}
 use Rattle.sd_rounds.specs.Pass.{Place}
 use Rattle.sd_store_laws.specs.Beliefs.{Belief, Kept}
 use Rattle.sd_store_laws.specs.InUse.{HasImage, IsCatalogInUse, ToldReachesSo}
 use Rattle.sd_store_laws.specs.Reached.{Reaches, beyond, itself}
 use Rattle.sd_store_laws.specs.Store.{Store}
 use Rattle.sd_belief.specs.CheckpointSteps.{IsUnread, LeavesMerge, LeavesMergeAt}
-use Rattle.sd_belief.specs.InUse.{IsReserved}
 use Rattle.sd_belief.specs.Merges.{IsAskedIn, IsCopyOn, IsCopying, IsListedOn, IsMergeAt, IsMergeOn, IsOtherImage, IsRepeating, IsRetiredOn, IsRetiringOn, IsSpared, IsUnmerged, MakesOther}
 use Rattle.sd_belief.proofs.Places.{get_contains}
 

@@ -9,7 +9,7 @@ use Rattle.sd_chain.specs.Reaches.{ReachesSerial}
 use Rattle.sd_chain.specs.Tells.{Agrees, IsToldAs, Tells}
 use Rattle.sd_gate.specs.Requests.{Asked}
 use Rattle.sd_journal.specs.History.{History}
-use Rattle.sd_rounds.specs.Dumper.{Running}
+use Rattle.sd_rounds.specs.Dumper.{IsReserved, Running}
 use Rattle.sd_rounds.specs.Keeps.{Rests}
 use Rattle.sd_rounds.specs.Making.{Making}
 use Rattle.sd_store_laws.specs.Beliefs.{Belief, Kept, image_at, image_in}
@@ -23,7 +23,7 @@ use Rattle.sd_store_laws.specs.Store.{jobs}
 use Rattle.sd_belief.specs.Believes.{Believes, HasStore}
 use Rattle.sd_belief.specs.CheckpointSteps.{BeginningIsBelieved, BeginsCheckpoint}
 use Rattle.sd_belief.specs.GateSteps.{GateSteps}
-use Rattle.sd_belief.specs.InUse.{IsAtRest, IsImageOn, IsInUseOn, IsReserved, chain_of}
+use Rattle.sd_belief.specs.InUse.{IsAtRest, IsImageOn, IsInUseOn, chain_of}
 use Rattle.sd_belief.specs.View.{CoreView, history_of}
 use Rattle.sd_belief.specs.Merges.{IsMergeOn}
 use Rattle.sd_belief.proofs.BeginsBeside.{merge_on_beside, uncalled_by_work}

@@ -19,7 +19,7 @@ use Rattle.sd_merge.specs.Merger.{Doing, Retiring, due, copying, opened, retirin
 use Rattle.sd_merge.specs.Merger as merger
 use Rattle.sd_merge.specs.Merging.{KeepsCopy}
 use Rattle.sd_rounds.specs.declared.stage.Stage.TheVariants.{Format}
-use Rattle.sd_rounds.specs.Dumper.{Running}
+use Rattle.sd_rounds.specs.Dumper.{IsReserved, Running}
 use Rattle.sd_rounds.specs.Making.{Making}
 use Rattle.sd_rounds.specs.MakingLaws.{Pages}
 use Rattle.sd_rounds.specs.Pass.{Place}
@@ -33,7 +33,7 @@ use Rattle.sd_store_laws.specs.Steps.{Adds, Retires}
 use Rattle.sd_store_laws.specs.Store.{IsFresh, IsMerged, IsSound, Store, jobs}
 use Rattle.sd_belief.specs.Believes.{Believes}
 use Rattle.sd_belief.specs.declared.standing.Standing.TheVariants.{Open}
-use Rattle.sd_belief.specs.InUse.{IsNewNumber, IsReserved, IsSlotFor}
+use Rattle.sd_belief.specs.InUse.{IsNewNumber, IsSlotFor}
 use Rattle.sd_belief.specs.Merges.{AreSpelled, IsAskedIn, IsCopyOn, IsCopying, IsListedOn, IsMergeAt, IsMergeInUse, IsMergeOn, IsReadOn, IsRepeating, IsRetiredOn, IsRetiringOn, IsSourceOn, IsSpared, IsTargetOn, IsUnmerged, IsOtherImage, MakesOther, order_of_slot, request_in_slot, stage_in_slot}
 use Rattle.sd_belief.specs.View.{CoreView}
 use Rattle.sd_belief.proofs.Places.{get_contains, set_other}

@@ -22,7 +22,7 @@ use Rattle.sd_pagetable.specs.Contents.{Contents}
 use Rattle.sd_rounds.specs.declared.image_order.ImageOrder.{ImageOrder}
 use Rattle.sd_rounds.specs.declared.stage.Stage.{Stage}
 use Rattle.sd_rounds.specs.declared.stage.Stage.TheVariants.{Close}
-use Rattle.sd_rounds.specs.Dumper.{Running}
+use Rattle.sd_rounds.specs.Dumper.{IsReserved, Running}
 use Rattle.sd_rounds.specs.Keeps.{Rests, Within}
 use Rattle.sd_rounds.specs.Making.{plan_of}
 use Rattle.sd_rounds.specs.MakingLaws.{MakingLaws, Pages}
@@ -41,7 +41,7 @@ use Rattle.sd_belief.specs.Believes.{Believes, HasStore}
 use Rattle.sd_belief.specs.Calls.{IsFree}
 use Rattle.sd_belief.specs.DumperOutcomes.{LeavesCatalog, closes_for_sure}
 use Rattle.sd_belief.specs.GateSteps.{GateSteps}
-use Rattle.sd_belief.specs.InUse.{IsAtWork, IsInUseOn, IsNewNumber, IsReserved, IsSlotFor, NoneAt, chain_of}
+use Rattle.sd_belief.specs.InUse.{IsAtWork, IsInUseOn, IsNewNumber, IsSlotFor, NoneAt, chain_of}
 use Rattle.sd_belief.specs.Knows.{ids_of}
 use Rattle.sd_belief.specs.MergerOutcomes.{IsMergersOutcome}
 use Rattle.sd_belief.specs.MergerSteps.{MakesInItsSlot, OnlyMerges}

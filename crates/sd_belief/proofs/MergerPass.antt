@@ -27,7 +27,7 @@ use Rattle.sd_merge.specs.Merger as merger
 use Rattle.sd_merge.specs.Merging.{IsReadOf, IsSourceAt, KeepsCopy, MergeLaws, pages_after}
 use Rattle.sd_rounds.specs.declared.image_order.ImageOrder.{ImageOrder}
 use Rattle.sd_rounds.specs.declared.stage.Stage.TheVariants.{Pass as PassStage}
-use Rattle.sd_rounds.specs.Dumper.{Running}
+use Rattle.sd_rounds.specs.Dumper.{IsReserved, Running}
 use Rattle.sd_rounds.specs.MakingLaws.{MakingLaws, Pages, image_of}
 use Rattle.sd_rounds.specs.Pass.{data_pages}
 use Rattle.sd_store_laws.specs.Beliefs.{Belief, Closed, Kept, Closing, Opening, image_at, image_in}
@@ -38,7 +38,7 @@ use Rattle.sd_store_laws.specs.Stays.{SourceReachesNeeded}
 use Rattle.sd_belief.specs.Believes.{Believes, HasStore}
 use Rattle.sd_belief.specs.Calls.{IsFree}
 use Rattle.sd_belief.specs.Knows.{ids_of}
-use Rattle.sd_belief.specs.InUse.{IsAtWork, IsFilled, IsInUseOn, IsReserved, IsSlotFor, call_of}
+use Rattle.sd_belief.specs.InUse.{IsAtWork, IsFilled, IsInUseOn, IsSlotFor, call_of}
 use Rattle.sd_belief.specs.MergerSteps.{AsksForMerged, MergesOn, TakesZeros}
 use Rattle.sd_belief.specs.Merges.{IsAskedIn, IsCopyOn, IsCopying, IsMergeAt, IsMergeOn, IsReadOn, IsSpared, MakesOther, order_of_slot, request_in_slot, stage_in_slot}
 use Rattle.sd_belief.specs.StoreSteps.{IsQuiet, MayAsk, QuietSteps}

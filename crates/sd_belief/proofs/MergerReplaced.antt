@@ -5,7 +5,7 @@ use Rattle.std.proofs.lemmas.Option.{same_Some}
 use Rattle.sd_image.specs.Image.{Image}
 use Rattle.sd_image.specs.Shows.{IsNotAfter, IsRestorable, IsTip}
 use Rattle.sd_pagetable.specs.Contents.{Contents}
-use Rattle.sd_rounds.specs.Dumper.{Running}
+use Rattle.sd_rounds.specs.Dumper.{IsReserved, Running}
 use Rattle.sd_rounds.specs.Keeps.{Rests}
 use Rattle.sd_store_laws.specs.Beliefs.{Belief, image_at}
 use Rattle.sd_store_laws.specs.Below.{StepsGive}
@@ -15,7 +15,7 @@ use Rattle.sd_store_laws.specs.Needs.{NeedsNoMore}
 use Rattle.sd_store_laws.specs.Needed.{by_job}
 use Rattle.sd_store_laws.specs.Steps.{Adds, StepsKeep, begun, replaced}
 use Rattle.sd_store_laws.specs.Store.{IsMerged, IsSound, IsTwin, Store, jobs}
-use Rattle.sd_belief.specs.InUse.{IsNewNumber, IsReserved, chain_of}
+use Rattle.sd_belief.specs.InUse.{IsNewNumber, chain_of}
 use Rattle.sd_belief.specs.Merges.{IsOtherImage, IsSpared, MakesOther}
 use Rattle.sd_belief.proofs.BeginsImage.{in_front}
 use Rattle.sd_belief.proofs.MergerOutcome.{StoreThen}

@@ -7,12 +7,12 @@ use Rattle.sd_gate.specs.declared.phase.Phase.{Phase}
 use Rattle.sd_gate.specs.Requests.{Asked}
 use Rattle.sd_journal.specs.History.{Base, History}
 use Rattle.sd_pagetable.specs.Contents.{Contents}
-use Rattle.sd_rounds.specs.Dumper.{Running}
+use Rattle.sd_rounds.specs.Dumper.{IsReserved, Running}
 use Rattle.sd_rounds.specs.MakingLaws.{MakingLaws}
 use Rattle.sd_store_laws.specs.Beliefs.{Belief, image_at, image_in}
 use Rattle.sd_store_laws.specs.InUse.{CatalogFollows}
 use Rattle.sd_store_laws.specs.Store.{Store}
-use Rattle.sd_belief.specs.InUse.{AreExact, IsInUseOn, IsReserved, NoneAt}
+use Rattle.sd_belief.specs.InUse.{AreExact, IsInUseOn, NoneAt}
 use Rattle.sd_belief.specs.MergerSteps.{MakesInItsSlot}
 use Rattle.sd_belief.specs.Merges.{IsSpared, MakesOther}
 use Rattle.sd_belief.proofs.Asks.{HasIt, IsChangedAt, same_images}

@@ -6,14 +6,14 @@ use Rattle.sd_image.specs.Shows.{IsRestorable, IsTip}
 use Rattle.sd_gate.specs.Requests.{Asked}
 use Rattle.sd_journal.specs.History.{Base, History}
 use Rattle.sd_pagetable.specs.Contents.{Contents}
-use Rattle.sd_rounds.specs.Dumper.{Running, slot_of}
+use Rattle.sd_rounds.specs.Dumper.{IsReserved, Running, slot_of}
 use Rattle.sd_rounds.specs.Keeps.{Rests, Within}
 use Rattle.sd_rounds.specs.Making.{Making}
 use Rattle.sd_rounds.specs.MakingLaws.{MakingLaws}
 use Rattle.sd_store_laws.specs.Beliefs.{image_at, image_in}
 use Rattle.sd_store_laws.specs.Needs.{IsNeededIn}
 use Rattle.sd_store_laws.specs.Store.{Store}
-use Rattle.sd_belief.specs.InUse.{IsAtWork, IsFrozenAs, IsImageOn, IsMakingOn, IsNewNumber, IsReserved, IsRunningOn, IsSlotFor, chain_of}
+use Rattle.sd_belief.specs.InUse.{IsAtWork, IsFrozenAs, IsImageOn, IsMakingOn, IsNewNumber, IsRunningOn, IsSlotFor, chain_of}
 use Rattle.sd_belief.specs.MergerSteps.{MakesInItsSlot, MakesItInSlot}
 use Rattle.sd_belief.specs.Merges.{IsOtherImage, MakesOther}
 use Rattle.sd_belief.proofs.MergeStays.{IsSameSlot, Slots}

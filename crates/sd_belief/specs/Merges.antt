@@ -25,7 +25,7 @@ use Rattle.sd_merge.specs.Sources.{few_pages, listed_count}
 use Rattle.sd_rounds.specs.declared.image_order.ImageOrder.{ImageOrder}
 use Rattle.sd_rounds.specs.declared.stage.Stage.{Stage}
 use Rattle.sd_rounds.specs.declared.stage.Stage.TheVariants.{Format, Pass as PassStage, PageWrite, Close}
-use Rattle.sd_rounds.specs.Dumper.{Running}
+use Rattle.sd_rounds.specs.Dumper.{IsReserved, Running}
 use Rattle.sd_rounds.specs.Making.{Making}
 use Rattle.sd_rounds.specs.MakingLaws.{Pages}
 use Rattle.sd_rounds.specs.Pass.{Place}
@@ -33,7 +33,7 @@ use Rattle.sd_store_laws.specs.Beliefs.{Belief, Kept, Opening, image_at}
 use Rattle.sd_store_laws.specs.Needs.{IsNeededIn}
 use Rattle.sd_store_laws.specs.Reached.{Reaches}
 use Rattle.sd_store_laws.specs.Store.{Store}
-use Rattle.sd_belief.specs.InUse.{IsReserved, IsSlotFor}
+use Rattle.sd_belief.specs.InUse.{IsSlotFor}
 
 -- the checkpoint that runs, if one does, doesn't fill this slot
 abbrev pub IsSpared : Option Running → ℕ → Type 0

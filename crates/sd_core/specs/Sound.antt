@@ -14,12 +14,11 @@ use Rattle.sd_pagetable.specs.Contents.{Contents}
 use Rattle.sd_rounds.specs.declared.image_order.ImageOrder.{ImageOrder}
 use Rattle.sd_rounds.specs.declared.stage.Stage.{Stage}
 use Rattle.sd_rounds.specs.declared.stage.Stage.TheVariants.{Format, Freeze, Pass as PassStage, PageWrite, Close}
-use Rattle.sd_rounds.specs.Dumper.{Dumping, Running, is_frozen_image, out_of_image, out_of_running, slot_of}
+use Rattle.sd_rounds.specs.Dumper.{Dumping, IsReserved, Running, is_frozen_image, out_of_image, out_of_running, slot_of}
 use Rattle.sd_rounds.specs.Making.{Making}
 use Rattle.sd_rounds.specs.Pass.{Pass}
 use Rattle.sd_belief.specs.declared.standing.Standing.{Standing}
 use Rattle.sd_belief.specs.declared.standing.Standing.TheVariants.{Open}
-use Rattle.sd_belief.specs.InUse.{IsReserved}
 use Rattle.sd_core.specs.declared.numbers.Numbers.{Numbers}
 use Rattle.sd_core.specs.Images.{AreApart, HasPreDumps, begun_as}
 use Rattle.sd_core.specs.LittleWork.{HasLittle}

@@ -135,6 +135,12 @@ abbrev pub is_dumping : Option Running → Bool
 is_dumping None = false
 is_dumping (Some running) = is_last running
 
+-- a slot that the checkpoint is still to fill, or fills
+pub record IsReserved (running : Running) (slot : ℕ) : Type 0 where
+  pub place : ℕ
+  pub from : running.opened ≤ place
+  pub is : slot ≡ slot_of (record running { opened = place })
+
 -- ---- Outcomes
 
 -- an outcome of the image that is being made, which goes on or fails
