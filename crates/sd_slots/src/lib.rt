@@ -1,0 +1,2 @@
+//! Which slots of a store are taken.
+#![tactic(auto)]
