@@ -2,7 +2,7 @@
 use Rattle.std.specs.Prelude.{◌≡◌, ◌⊎◌, ◌↔◌, ℕ, ◌<◌, ◌≤◌, Bool, true, List, length, Option, Some, None, Contains, slice_get}
 use Rattle.std.specs.Option.{option_map}
 use Rattle.sd_chain.specs.Catalog.{IsTip, Names, Opened, Places, place_of}
-use Rattle.sd_chain.specs.Reaches.{ParentsFall, ReachesSerial}
+use Rattle.sd_chain.specs.Reaches.{ParentsFall}
 use Rattle.sd_gate.specs.declared.request_id.RequestId.{RequestId}
 use Rattle.sd_merge.specs.declared.retired.Retired.{Retired}
 use Rattle.sd_merge.specs.declared.source.Source.{Source}
@@ -17,11 +17,25 @@ abbrev pub NamesParent : Places → Option Running → Opened → Type 0
 NamesParent places None start = ⊥
 NamesParent places (Some running) start = Names places running.parent start
 
--- the tip, what the running checkpoint's parent number names, and what a merge repeats
+-- the serial of the tip, of the image that the running checkpoint's parent number names, and of the one that a merge repeats
+pub record IsTipsSerial (places : Places) (serial : ℕ) : Type 0 where
+  pub tip : Opened
+  pub is : IsTip places tip
+  pub own : serial ≡ tip.header.serial
+
+pub record IsParentsSerial (places : Places) (running : Option Running) (serial : ℕ) : Type 0 where
+  pub start : Opened
+  pub names : NamesParent places running start
+  pub own : serial ≡ start.header.serial
+
+pub record IsSourcesSerial (merge : Option merger.Running) (serial : ℕ) : Type 0 where
+  pub source : Source
+  pub is : merger.source_of merge ≡ Some source
+  pub own : serial ≡ source.serial
+
+-- what is needed for itself
 abbrev pub IsRoot : Places → Option Running → Option merger.Running → ℕ → Type 0
-IsRoot places running merge serial = ((tip : Opened) × IsTip places tip × (serial ≡ tip.header.serial))
-    ⊎ (((start : Opened) × NamesParent places running start × (serial ≡ start.header.serial))
-    ⊎ ((source : Source) × (merger.source_of merge ≡ Some source) × (serial ≡ source.serial)))
+IsRoot places running merge serial = IsTipsSerial places serial ⊎ (IsParentsSerial places running serial ⊎ IsSourcesSerial merge serial)
 
 -- an image that is needed stands in the slot: one of these, or one that they reach
 pub record IsNeededAt (places : Places) (running : Option Running) (merge : Option merger.Running) (slot : ℕ) : Type 0 where
@@ -31,10 +45,10 @@ pub record IsNeededAt (places : Places) (running : Option Running) (merge : Opti
 
 -- ---- jobs
 
--- an image of a merge's list stands in the slot, or stood
-pub record IsListedAt (merge : Option merger.Running) (slot : ℕ) : Type 0 where
+-- an image of a list stands in the slot, or stood
+pub record IsListed (list : List Retired) (slot : ℕ) : Type 0 where
   pub one : Retired
-  pub listed : Contains (merger.list_of merge) one
+  pub listed : Contains list one
   pub at : one.slot ≡ slot
 
 -- a request is out on the slot
@@ -44,9 +58,12 @@ pub record IsOutAt (outs : List (Option RequestId)) (slot : ℕ) : Type 0 where
   pub out : slice_get outs worker ≡ Some (Some id)
   pub at : id.slot ≡ slot
 
+abbrev pub slot_of_id : RequestId → ℕ
+slot_of_id id = id.slot
+
 -- the slot is one of the running checkpoint, that of a merged image, or on a merge's list, or a request is out on it
 abbrev pub IsReservedBy : Option Running → Option merger.Running → List (Option RequestId) → ℕ → Type 0
-IsReservedBy running merge outs slot = HasSlot running slot ⊎ ((option_map merger.slot_of merge ≡ Some slot) ⊎ (IsListedAt merge slot ⊎ IsOutAt outs slot))
+IsReservedBy running merge outs slot = HasSlot running slot ⊎ ((option_map merger.slot_of merge ≡ Some slot) ⊎ (IsListed (merger.list_of merge) slot ⊎ IsOutAt outs slot))
 
 -- ---- free slots
 
@@ -61,6 +78,15 @@ pub record AreFree (places : Places) (running : Option Running) (merge : Option 
   pub marks : List Bool
   pub taken : AreTaken places running merge outs count marks
   pub are : slots ≡ free_from 0 marks
+
+pub record FreeSlotsLaw : Type 0 where
+  pub each : (places : Places) (running : Option Running) (merge : Option merger.Running) (outs : List (Option RequestId)) (count : ℕ) (slots : List ℕ) (place slot : ℕ)
+      → AreFree places running merge outs count slots → slice_get slots place ≡ Some slot → (slot < count) × (IsReservedBy running merge outs slot → ⊥)
+  pub unneeded : (places : Places) (running : Option Running) (merge : Option merger.Running) (outs : List (Option RequestId)) (count : ℕ) (slots : List ℕ) (place slot : ℕ)
+      → AreFree places running merge outs count slots → ParentsFall places → slice_get slots place ≡ Some slot → IsNeededAt places running merge slot → ⊥
+  pub rises : (places : Places) (running : Option Running) (merge : Option merger.Running) (outs : List (Option RequestId)) (count : ℕ) (slots : List ℕ)
+      (place other slot later : ℕ) → AreFree places running merge outs count slots → place < other
+      → slice_get slots place ≡ Some slot → slice_get slots other ≡ Some later → slot < later
 
 -- ---- the images that a merge closes
 
