@@ -1,5 +1,6 @@
 -- The list of the images that a merge closes.
 use Rattle.std.proofs.Common.{◌≡◌, ◌⊎◌, ℕ, zero, suc, ◌+◌, ◌<◌, ◌≤◌, Bool, true, false, List, [], ◌∷◌, ◌++◌, length, take, replicate, Contains, slice_get, slice_index_or, slice_set, get_or, Option, Some, None, refl, sym, ◌∙◌, ap, subst, inl, inr, arith}
+use Rattle.std.proofs.lemmas.List.{length-replicate}
 use Rattle.std.proofs.lemmas.Option.{same_Some, slice_get-get_or, slice_get_within}
 use Rattle.std.proofs.Math.Nat.{eq-or-lt_of_le}
 use Rattle.sd_chain.specs.Catalog.{Opened, Places, place_of}
@@ -268,10 +269,10 @@ list_of_room places running merge outs count marks old serials list taken fresh 
   });
   unneeded = λ fall one in_list needed. let from = found one in_list in marked one from ((taken.exact fall one.slot (within one from)).1 (inl needed));
   all = λ fall apart one inside l none.
-      let has = notes.all one.slot one.serial (subst (λ n. one.slot < n) (sym (ap length fresh ∙ count_is count)) inside)
+      let has = notes.all one.slot one.serial (subst (λ n. one.slot < n) (sym (ap length fresh ∙ length-replicate count None)) inside)
           (record { is_among = l.before; image = l.image; there = l.there; at = l.at }) in
       let same : has.serial ≡ one.serial = apart has.serial one.serial has.stands.image l.image has.stands.there l.there (has.stands.at ∙ sym l.at) in
-      let placed = is_listed 0 marks serials one.slot one.slot one.serial refl (unmarked fall one inside l none) (has.noted_is ∙ ap (λ n. Some (Some n)) same) in
+      let placed = is_listed 0 marks serials one.slot one.slot one.serial (omega arith) (unmarked fall one inside l none) (has.noted_is ∙ ap (λ n. Some (Some n)) same) in
       contains_at list placed.0 one (ap (λ all. slice_get all placed.0) is ∙ placed.1);
   rises = λ place other a b below here there. listed_rises 0 marks serials place other a b below (ap (λ all. slice_get all place) (sym is) ∙ here)
       (ap (λ all. slice_get all other) (sym is) ∙ there);
@@ -279,10 +280,6 @@ list_of_room places running merge outs count marks old serials list taken fresh 
       omega (arith, few, all, none, size);
 }
   where
-    count_is : (n : ℕ) → length (replicate n None) ≡ n
-    count_is zero = refl
-    count_is (suc n) = ap suc (count_is n)
-
     found : (one : Retired) → Contains list one → ComesFrom 0 marks serials one
     found one in_list = comes_from 0 marks serials in_list.0 one (ap (λ all. slice_get all in_list.0) (sym is) ∙ at_contains list one in_list)
 

@@ -129,7 +129,7 @@ impl ListRoom {
         merger: &Merger,
         outs: &[Option<RequestId>; 3],
     ) -> Vec<Retired>
-        ensures { IsListOf catalog.now dumper.now.running merger.now outs.now self.now result.items }
+        ensures { IsListOf catalog.now dumper.now.running merger.now outs.now self result.items }
     {
         let ListRoom {
             mut marks,

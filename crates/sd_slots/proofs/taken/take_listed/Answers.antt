@@ -5,7 +5,7 @@ use Rattle.sd_slots.specs.Taken.{IsListed}
 use Rattle.sd_slots.proofs.MarkLemmas.{among_all, among_more, at_contains, contains_at, takes_its}
 use Rattle.sd_slots.proofs.taken.take_listed.Goals as goal
 
-nothing : Retired
+abbrev nothing : Retired
 nothing = record { serial = 0; slot = 0 }
 
 pub loop-one-preserved : goal.loop-one-preserved
