@@ -159,7 +159,7 @@ module _ (places : Places) (store : Store) (beliefs : List Belief) (in_use : IsC
           };
           later = λ place other after at. (let l = m.later place other after at in record {
             image = l.image;
-            kept = l.kept;
+            has = l.has;
             unneeded = l.unneeded;
             spared = λ reserved. apart other.slot place other reserved at refl;
           });

@@ -210,8 +210,8 @@ module _ (last : ℕ) (store : Store) (running : Option Running) (old : Slots) (
   listed_then : (one : Retired) → IsListedOn store old.beliefs running one → IsListedOn store_now new.beliefs running_now one
   listed_then one l = record {
     image = l.image;
-    kept = (leaves.same one.slot l.spared).belief ∙ l.kept;
-    unneeded = λ needed. l.unneeded (leaves.needs one.slot l.image l.spared (ap (λ o. option_and_then image_in o) l.kept) needed);
+    has = ap (λ o. option_and_then image_in o) (leaves.same one.slot l.spared).belief ∙ l.has;
+    unneeded = λ needed. l.unneeded (leaves.needs one.slot l.image l.spared l.has needed);
     spared = leaves.spares one.slot l.spared;
   }
 

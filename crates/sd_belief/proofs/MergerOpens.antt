@@ -337,18 +337,10 @@ module _ (quiet : QuietSteps) (gates : GateSteps) (making : MakingLaws) (keeps :
     here : HasImage beliefs_now one.slot j
     here = subst (λ n. HasImage beliefs_now n j) m.slot its.2
 
-    whole_now : slice_get phases_now one.slot ≡ Some Whole
-    whole_now = elim (cases_eq one.slot target) [
-      | inl its_slot ↦ ap (slice_get phases_now) its_slot ∙ phase_then
-      | inr differs ↦ set_other old.phases call.request.id.slot one.slot (after phase call.request.id.call (is_done call.answer)) (λ same. differs (same ∙ on)) ∙ m.whole
-    ]
-
-    kept : slice_get beliefs_now one.slot ≡ Some (Kept j)
-    kept = elim here [
-      | inl is ↦ is
-      | inr closing_it ↦
-          let exact = use_now.exact one.slot Whole (Closing j) whole_now closing_it (none_on old new call phase asked bodies files s.outcome at b one.slot m.free) in
-          absurd (let no : Closing j ≡ Kept exact.0 = exact.1 in cc)
+    has : image_at beliefs_now one.slot ≡ Some j
+    has = elim here [
+      | inl is ↦ ap (λ o. option_and_then image_in o) is
+      | inr closing_it ↦ ap (λ o. option_and_then image_in o) closing_it
     ]
 
     at_it : (o : Opened) × (place_of places j.header.serial ≡ Some (Some o)) × IsToldAs o j × (o.slot ≡ one.slot)
@@ -385,7 +377,7 @@ module _ (quiet : QuietSteps) (gates : GateSteps) (making : MakingLaws) (keeps :
     ]
 
     listed : IsListedOn store_now beliefs_now running one
-    listed = record { image = j; kept = kept; unneeded = unneeded; spared = m.spared }
+    listed = record { image = j; has = has; unneeded = unneeded; spared = m.spared }
 
   -- ---- the core then
 

@@ -125,7 +125,7 @@ module _ (quiet : QuietSteps) (gates : GateSteps) (follows : CatalogFollows) (ma
     };
     later = λ place other after at. (let l = m.later place other after at in record {
       image = l.image;
-      kept = changed.others other.slot (λ same. m.apart r.ended place m.one other after m.there at (sym same)) ∙ l.kept;
+      has = ap (λ o. option_and_then image_in o) (changed.others other.slot (λ same. m.apart r.ended place m.one other after m.there at (sym same))) ∙ l.has;
       unneeded = l.unneeded;
       spared = l.spared;
     });

@@ -58,7 +58,7 @@ pub record BeginsCheckpoint (places : Places) (old : CoreView) (running : Runnin
   pub parent : HasParent places old running
   pub within : (slot : ℕ) → IsReserved running slot → slot < length old.phases
   pub unreached : ParentsFall places → (slot : ℕ) → IsReserved running slot → IsUnreached places slot
-  pub merge : LeavesMerge places running old.merger
+  pub merge : ParentsFall places → LeavesMerge places running old.merger
   pub apart : (one other : ℕ) → running.opened ≤ one → one < other → other ≤ length running.pre_dumps
       → slot_of (record running { opened = one }) ≢ slot_of (record running { opened = other })
 

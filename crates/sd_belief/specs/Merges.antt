@@ -155,7 +155,7 @@ pub record IsCopyOn (phases : List Phase) (asked : List (Option Asked)) (bodies 
 -- an image of the list that is still to be closed: nobody needs it, and nobody fills its slot
 pub record IsListedOn (store : Store) (beliefs : List Belief) (running : Option Running) (one : Retired) : Type 0 where
   pub image : Image
-  pub kept : slice_get beliefs one.slot ≡ Some (Kept image)
+  pub has : image_at beliefs one.slot ≡ Some image
   pub unneeded : IsNeededIn store image → ⊥
   pub spared : IsSpared running one.slot
 
