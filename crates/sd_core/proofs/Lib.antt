@@ -7,6 +7,7 @@ mod GiveUp
 mod ImageLemmas
 mod JournalLemmas
 mod LittleLemmas
+mod MergeLemmas
 mod MarkLemmas
 mod OpeningLemmas
 mod OutcomeLemmas

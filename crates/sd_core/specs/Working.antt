@@ -43,16 +43,18 @@ pub record HasEnded (stands : Standing) (old : CoreView) (worker : Worker) (new 
   pub lowers : Lowers old worker new
   pub idle : is_idle new worker ≡ true
 
--- a job that reads the store
-abbrev pub IsReader : Worker → Type 0
-IsReader worker = (worker ≡ Opener) ⊎ (worker ≡ Merger)
+-- What a step leaves that couldn't read the store: the opener has ended, and the merge too, or nothing changed.
+abbrev pub LeavesUnread : CoreView → Worker → CoreView → Type 0
+LeavesUnread old Dumper new = ⊥
+LeavesUnread old Merger new = (new ≡ old) ⊎ HasEnded old.standing old Merger new
+LeavesUnread old Opener new = HasEnded old.standing old Opener new
 
--- What a step leaves. Out of memory it changes nothing; a store that is damaged, or another run's, ends the opener or the merge.
+-- What a step leaves. Out of memory it changes nothing; a store that is damaged, or another run's, isn't read.
 abbrev pub LeavesByStep : CoreView → Worker → Reply → CoreView → Type 0
 LeavesByStep old worker reply.Worked new = MovesOn old worker new
 LeavesByStep old worker (reply.Reopened m) new = HasEnded Open old worker new
 LeavesByStep old worker (reply.Refused OutOfMemory) new = new ≡ old
-LeavesByStep old worker (reply.Refused Damaged) new = IsReader worker × HasEnded old.standing old worker new
+LeavesByStep old worker (reply.Refused Damaged) new = LeavesUnread old worker new
 LeavesByStep old worker _ new = ⊥
 
 abbrev pub Leaves : CoreView → Worker → Taken → CoreView → Type 0

@@ -4,7 +4,7 @@ ghost use Rattle.sd_areas.specs.Memory.{memory_of};
 ghost use Rattle.sd_areas.specs.PlainMemory.{PlainMemory};
 ghost use Rattle.sd_pagetable.specs.Contents.{plain_of};
 ghost use Rattle.sd_pagetable.specs.Tracking.{IsBeginning};
-ghost use Rattle.sd_command.specs.declared.refusal.Refusal.TheVariants.{Damaged, Idle, JournalFull, NoSlot, StoreDown};
+ghost use Rattle.sd_command.specs.declared.refusal.Refusal.TheVariants.{Idle, JournalFull, NoSlot, StoreDown};
 ghost use Rattle.sd_command.specs.declared.reply.Reply.TheVariants as reply;
 ghost use Rattle.sd_image.specs.Shows.{Shows};
 ghost use Rattle.sd_gate.specs.Laws.{found_phase};
@@ -529,16 +529,12 @@ impl Core {
     ///
     /// `Busy` where a request of the worker is out, else `Idle` where it has no job; `OutOfMemory` where a growth was
     /// refused. `Damaged` of the opener, which then has ended: where the store can't be read, or shows neither the last
-    /// checkpoint nor the pending one. `Damaged` of the merger, where its source isn't there to be read: never while the
-    /// files are what is believed of them.
+    /// checkpoint nor the pending one. `Damaged` of the merger, where its source isn't there to be read.
     pub fn take_up(&mut self, worker: Worker) -> Taken
         ensures takes { TakesUp self.old worker result self.new }
         ensures refused { (why : Why) → work_refusal self.old worker ≡ Some why
             → (result ≡ taken.Step (reply.Refused why)) × (self.new ≡ self.old) }
         ensures leaves { work_refusal self.old worker ≡ None → Leaves self.old worker result self.new }
-        ensures finds { work_refusal self.old worker ≡ None → worker ≡ its.Merger
-            → (asked : List (Option Asked)) (bodies files : List (List ℕ)) → Believes self.old asked bodies files
-            → result ≢ taken.Step (reply.Refused Damaged) }
     {
         core_steps();
         match self.refusal_of_work(worker) {

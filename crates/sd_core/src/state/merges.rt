@@ -1,19 +1,16 @@
 //! A core's merger: how it begins a merge, and takes it to its end.
-ghost use Rattle.std.specs.Prelude.{◌≡◌, ◌≢◌, ℕ, true, false, List, Option, Some, None, IsSome, slice_get};
-ghost use Rattle.sd_command.specs.declared.refusal.Refusal.TheVariants.{Damaged, StoreDown};
+ghost use Rattle.std.specs.Prelude.{◌≡◌, ◌↔◌, ℕ, false, Some, None, IsSome, slice_get};
+ghost use Rattle.sd_command.specs.declared.refusal.Refusal.TheVariants.{StoreDown};
 ghost use Rattle.sd_command.specs.declared.reply.Reply.TheVariants as reply;
 ghost use Rattle.sd_gate.specs.Calls.{is_done};
-ghost use Rattle.sd_gate.specs.Requests.{Asked};
 ghost use Rattle.sd_gate.specs.declared.worker.Worker.TheVariants as its;
 ghost use Rattle.sd_merge.specs.Merger.{slot_before};
-ghost use Rattle.sd_belief.specs.Believes.{Believes};
 ghost use Rattle.sd_belief.specs.Calls.{AddsByOrder, HandedIn, IsOut, Stays};
 ghost use Rattle.sd_belief.specs.View.{history_of};
 ghost use Rattle.sd_core.specs.Merging.{IsMerged, MergesAs, merge_refusal};
 ghost use Rattle.sd_core.specs.Refusals.{is_idle, work_refusal};
 ghost use Rattle.sd_core.specs.Starts.{TakesUp};
 ghost use Rattle.sd_core.specs.Working.{Leaves, LeavesByOutcome};
-ghost use Rattle.sd_core.specs.declared.taken.Taken.TheVariants as taken;
 
 use super::Core;
 use crate::beginning::{first_of, has_tip, is_down, is_not_open};
@@ -84,8 +81,6 @@ impl Core {
         requires { work_refusal self.old its.Merger ≡ None }
         ensures takes { TakesUp self.old its.Merger result self.new }
         ensures leaves { Leaves self.old its.Merger result self.new }
-        ensures finds { (asked : List (Option Asked)) (bodies files : List (List ℕ))
-            → Believes self.old asked bodies files → result ≢ taken.Step (reply.Refused Damaged) }
     {
         match self.merger.next_slot() {
             Some(slot) => self.begin_merged(slot),
@@ -102,7 +97,6 @@ impl Core {
         requires next { slot_before self.old.merger ≡ Some slot }
         ensures takes { TakesUp self.old its.Merger result self.new }
         ensures leaves { Leaves self.old its.Merger result self.new }
-        ensures finds { result ≢ taken.Step (reply.Refused Damaged) }
     {
         core_steps();
         self.merger.sound();
@@ -127,16 +121,13 @@ impl Core {
     ///
     /// # Errors
     ///
-    /// `OutOfMemory` where a growth was refused. `Damaged` where the source isn't there to be read, which ends the merge:
-    /// never while the files are what is believed of them.
+    /// `OutOfMemory` where a growth was refused. `Damaged` where the source isn't there to be read.
     fn go_on_merging(&mut self) -> Taken
         requires begun { slot_before self.old.merger ≡ None }
         requires runs { IsSome self.old.merger }
         requires rests { slice_get self.old.outs 1 ≡ Some None }
         ensures takes { TakesUp self.old its.Merger result self.new }
         ensures leaves { Leaves self.old its.Merger result self.new }
-        ensures finds { (asked : List (Option Asked)) (bodies files : List (List ℕ))
-            → Believes self.old asked bodies files → result ≢ taken.Step (reply.Refused Damaged) }
     {
         core_steps();
         merger_steps(&self.catalog);
@@ -147,10 +138,7 @@ impl Core {
             Err(StepFault::OutOfMemory) => {
                 return Taken::Step(Reply::Refused(Refusal::OutOfMemory));
             }
-            Err(StepFault::Lost) => {
-                self.merger.cancel();
-                return Taken::Step(Reply::Refused(Refusal::Damaged));
-            }
+            Err(StepFault::Lost) => return Taken::Step(Reply::Refused(Refusal::Damaged)),
         };
         match step {
             MergeStep::Zero => Taken::Step(Reply::Worked),
