@@ -18,4 +18,5 @@ mod SlotLemmas
 mod StageLemmas
 mod StartLemmas
 mod StepLemmas
+mod TipLemmas
 mod WorkLemmas

@@ -10,11 +10,11 @@ use Rattle.sd_merge.specs.Merger.{Doing, Retiring, due, copying, opened, retirin
 use Rattle.sd_opener.specs.Looking.{Looking}
 use Rattle.sd_rounds.specs.Dumper.{HasSlot, IsReserved, Running, slot_of}
 use Rattle.sd_rounds.specs.Making.{Making}
-use Rattle.sd_belief.specs.declared.standing.Standing.{Standing}
+use Rattle.sd_belief.specs.declared.standing.Standing.TheVariants.{Open}
 use Rattle.sd_belief.specs.Merges.{IsSpared, MakesOther}
 use Rattle.sd_core.specs.declared.numbers.Numbers.{Numbers}
 use Rattle.sd_core.specs.Merging.{IsMergedImage}
-use Rattle.sd_core.specs.Sound.{IsClosingAll, IsCopyOf, IsDoing, IsMerging, IsToClose, Parts, due_serials_in}
+use Rattle.sd_core.specs.Sound.{IsClosingAll, IsCore, IsCopyOf, IsDoing, IsMerging, IsToClose, Parts, due_serials_in}
 
 -- what the dumper, and what else goes on, leaves of a merge
 pub record MergeStays (old new : Parts) : Type 0 where
@@ -91,9 +91,8 @@ merging_stays old new s was = subst (λ m. IfSome m (IsMerging new.standing new.
     by (Some merge) is was = merge_stays old new merge s is was
 
 -- none runs while the store isn't open
-pub none_merges : (core : Parts) → IfSome core.merger (IsMerging core.standing core.phases core.places core.opener core.numbers core.room core.dumper.running)
-    → core.standing ≢ Rattle.sd_belief.specs.declared.standing.Standing.TheVariants.Open → core.merger ≡ None
-none_merges core was closed = by core.merger was
+pub none_merges : (core : Parts) → IsCore core → core.standing ≢ Open → core.merger ≡ None
+none_merges core sound closed = by core.merger sound.merging
   where
     by : (m : Option merger.Running) → IfSome m (IsMerging core.standing core.phases core.places core.opener core.numbers core.room core.dumper.running) → m ≡ None
     by None was = refl
@@ -108,9 +107,8 @@ pub fills_same : (running : Running) (next : Option Making) (slot : ℕ) → IsS
 fills_same running next slot spared r = spared (record { place = r.place; from = r.from; is = r.is })
 
 -- the merger's request that is out is on no slot that the checkpoint fills
-pub asks_apart : (core : Parts) (running : Running) (id other : RequestId) → IfSome core.merger (IsMerging core.standing core.phases core.places core.opener core.numbers core.room core.dumper.running)
-    → core.dumper.running ≡ Some running → id.slot ≡ slot_of running → merger.out_of_merge core.merger ≡ Some other → id.slot ≢ other.slot
-asks_apart core running id other merging was own out same = by core.merger merging out
+pub asks_apart : (core : Parts) (running : Running) (id other : RequestId) → IsCore core → core.dumper.running ≡ Some running → id.slot ≡ slot_of running → merger.out_of_merge core.merger ≡ Some other → id.slot ≢ other.slot
+asks_apart core running id other sound was own out same = by core.merger sound.merging out
   where
     by : (m : Option merger.Running) → IfSome m (IsMerging core.standing core.phases core.places core.opener core.numbers core.room core.dumper.running)
         → merger.out_of_merge m ≡ Some other → ⊥

@@ -1,5 +1,5 @@
 -- A core while its dumper works.
-use Rattle.std.proofs.Common.{◌≡◌, ◌≢◌, ℕ, zero, suc, ◌+◌, ◌<◌, ◌≤◌, ◌^◌, ◌==◌, ◌||◌, false, if◌then◌else◌, List, [], ◌∷◌, length, Option, Some, None, IfSome, slice_get, refl, sym, ◌∙◌, ap, subst, inl, inr, arith}
+use Rattle.std.proofs.Common.{◌≡◌, ◌≢◌, ◌⊎◌, ℕ, zero, suc, ◌+◌, ◌<◌, ◌≤◌, ◌^◌, ◌==◌, ◌||◌, false, if◌then◌else◌, List, [], ◌∷◌, length, Option, Some, None, IfSome, slice_get, refl, sym, ◌∙◌, ap, subst, inl, inr, arith}
 use Rattle.std.specs.List.{list_any}
 use Rattle.std.proofs.lemmas.Bool.Decides.{eqb_tells}
 use Rattle.sd_chain.specs.Catalog.{IsHeld, Opened, Places, place_of}
@@ -270,7 +270,7 @@ turned old new running image next sound t =
       outs_are = subst (λ st. AreOuts st new.outs new.phases (Some (record running { image = Some next })) new.merger None) (sym (t.standing ∙ w.stands))
           (open_outs new.outs new.phases (Some (record running { image = Some next })) new.merger (out_of next.stage) (merger.out_of_merge old.merger) t.outs refl (ap merger.out_of_merge t.merger_is)
           t.slot (λ id out. subst (λ n. id.slot < n) (sym t.count) (merger_within old id sound w.stands out))
-          (λ id other one two. asks_apart old running id other sound.merging t.was (subst (λ o. IfSome o (λ i. i.slot ≡ slot_of running)) one t.asked) two));
+          (λ id other one two. asks_apart old running id other sound t.was (subst (λ o. IfSome o (λ i. i.slot ≡ slot_of running)) one t.asked) two));
       numbers_are = t.numbers_are;
       counted = t.counted;
       work = record {

@@ -23,8 +23,9 @@ use std::mem;
 pub(crate) fn serials_in(alloc: Global, catalog: &Catalog) -> Result<Vec<u64>, AllocError>
     ensures { IfOk result (λ serials. serials.items ≡ map serial_of (images catalog.now)) }
 {
+    let list = catalog.list()?;
     let mut serials = Vec::new(alloc);
-    for image in catalog.list()? {
+    for image in list.iter() {
         serials.push(image.header().serial)?;
     }
     Ok(serials)

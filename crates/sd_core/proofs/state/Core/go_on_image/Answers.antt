@@ -11,6 +11,8 @@ use Rattle.sd_journal.specs.declared.mark.Mark.TheVariants.{Table, Visit}
 use Rattle.sd_journal.specs.Marked.{Noted, Told, entries_of}
 use Rattle.sd_rounds.specs.declared.image_step.ImageStep.TheVariants.{TableCall, Visited, Copied}
 use Rattle.sd_pagetable.specs.Contents.{plain_of}
+use Rattle.sd_merge.specs.Merger as merger
+use Rattle.sd_rounds.specs.declared.image_order.ImageOrder.{ImageOrder}
 use Rattle.sd_rounds.specs.Dumper.{is_dumping, is_last, slot_of}
 use Rattle.sd_belief.specs.DumperSteps.{opens_gate}
 use Rattle.sd_core.specs.Dumping.{StepsOn}
@@ -22,7 +24,7 @@ use Rattle.sd_core.proofs.LittleLemmas.{asks_no_visit, freeze_little, little_of,
 use Rattle.sd_core.proofs.MarkLemmas.{asks_or_writes, before_freeze, freeze_journal, freeze_numbers, frozen_next, may_freeze, sound_image, table_journal, visit_journal}
 use Rattle.sd_core.proofs.OpeningLemmas.{hands_seen, step_seen}
 use Rattle.sd_core.proofs.PreDumpLemmas.{same_stay}
-use Rattle.sd_core.proofs.WorkLemmas.{SameNumbers, asked_on, at_work, core_working, counted_same, grown_core, held_at_work, image_of_work, image_within, numbers_noted, numbers_same, out_at_work, own_order, own_slot, same_numbers, turned}
+use Rattle.sd_core.proofs.WorkLemmas.{SameNumbers, asked_on, at_work, core_working, counted_same, grown_core, held_at_work, image_of_work, image_within, numbers_noted, numbers_same, out_at_work, own_order, own_slot, same_numbers, same_places, turned}
 use Rattle.sd_core.proofs.StepLemmas.{free_of_none, freezes_it, hands_asked, hands_call, works_on}
 use Rattle.sd_core.proofs.state.Core.go_on_image.Goals as goal
 
@@ -39,6 +41,11 @@ invariant_of-self-in-Copied-1 c =
     core_working _ _ w.is (turned _ _ w.running w.image w.next core (record {
       was = w.was;
       making = w.making;
+      is = w.is;
+      merger_is = refl;
+      room = refl;
+      serial = ap (λ (o : ImageOrder). o.serial) t.order;
+      places_stay = same_places w.running c.self.inside.catalog;
       base = refl;
       frozen = refl;
       standing = refl;
@@ -50,7 +57,7 @@ invariant_of-self-in-Copied-1 c =
       journal_is = subst (λ m. IsJournal base c.reserve_mark.new.self m c.self.inside.pending c.self.inside.last) (sym w.steps.1) core.journal_is;
       numbers_are = core.numbers_are;
       counted = core.counted;
-      outs = out.1 ∙ ap (λ o. o ∷ None ∷ None ∷ []) (sym t.out_is);
+      outs = out.1 ∙ ap (λ o. o ∷ merger.out_of_merge c.self.inside.merger ∷ None ∷ []) (sym t.out_is);
       slot = λ id is. absurd (let no : None ≡ Some id = sym t.out_is ∙ is in cc);
       stay = same_stay (begun_as w.running) c.self.inside.catalog w.running.opened;
       asked = asked_on w.running w.image w.next _ t.out_is t.slot (own_slot c.self.inside.dumper.since_freeze _ w.running w.image c.sound.ensures.running w.was w.making);
@@ -75,6 +82,11 @@ invariant_of-self-in-Visited-1 c =
     core_working _ _ w.is (turned _ _ w.running w.image w.next core (record {
       was = w.was;
       making = w.making;
+      is = w.is;
+      merger_is = refl;
+      room = refl;
+      serial = ap (λ (o : ImageOrder). o.serial) t.order;
+      places_stay = same_places w.running c.self.inside.catalog;
       base = refl;
       frozen = refl;
       standing = refl;
@@ -87,7 +99,7 @@ invariant_of-self-in-Visited-1 c =
       numbers_are = subst (λ all. AreNumbers base all c.self.inside.pending c.self.inside.last c.self.inside.numbers) (sym items)
           (numbers_noted base c.reserve_mark.new.self.items c.self.inside.pending c.self.inside.last c.self.inside.numbers (Visit w.image.order.serial c.in-Visited.visit.space c.in-Visited.visit.page) (omega (arith, given)) core.numbers_are);
       counted = core.counted;
-      outs = out.1 ∙ ap (λ o. o ∷ None ∷ None ∷ []) (sym t.out_is);
+      outs = out.1 ∙ ap (λ o. o ∷ merger.out_of_merge c.self.inside.merger ∷ None ∷ []) (sym t.out_is);
       slot = λ id is. absurd (let no : None ≡ Some id = sym t.out_is ∙ is in cc);
       stay = same_stay (begun_as w.running) c.self.inside.catalog w.running.opened;
       asked = asked_on w.running w.image w.next _ t.out_is t.slot (own_slot c.self.inside.dumper.since_freeze _ w.running w.image c.sound.ensures.running w.was w.making);
@@ -113,6 +125,11 @@ invariant_of-self-in-Call c =
     core_working _ _ w.is (turned _ _ w.running w.image w.next core (record {
       was = w.was;
       making = w.making;
+      is = w.is;
+      merger_is = refl;
+      room = refl;
+      serial = ap (λ (o : ImageOrder). o.serial) t.order;
+      places_stay = same_places w.running c.self.inside.catalog;
       base = refl;
       frozen = refl;
       standing = refl;
@@ -124,7 +141,7 @@ invariant_of-self-in-Call c =
       journal_is = subst (λ m. IsJournal base c.reserve_mark.new.self m c.self.inside.pending c.self.inside.last) (sym a.same) core.journal_is;
       numbers_are = numbers_same base c.reserve_mark.new.self.items c.self.inside.pending c.self.inside.last c.self.inside.numbers c.tick-in-Call.new.self numbers core.numbers_are;
       counted = counted_same c.self.inside.catalog c.self.inside.numbers c.tick-in-Call.new.self numbers core.counted;
-      outs = c.put_out-in-Call.ensures ∙ ap (λ outs. slice_set outs 0 (Some c.id-in-Call.result)) out.1 ∙ ap (λ o. o ∷ None ∷ None ∷ []) (ap Some c.id-in-Call.ensures ∙ sym t.out_is);
+      outs = c.put_out-in-Call.ensures ∙ ap (λ outs. slice_set outs 0 (Some c.id-in-Call.result)) out.1 ∙ ap (λ o. o ∷ merger.out_of_merge c.self.inside.merger ∷ None ∷ []) (ap Some c.id-in-Call.ensures ∙ sym t.out_is);
       slot = λ id is. subst (λ (i : RequestId). i.slot < length c.self.inside.phases.items) (same_Some c.in-Call.request.id id (sym t.out_is ∙ is)) (subst (λ slot. slot < length c.self.inside.phases.items) (sym t.slot) within);
       stay = same_stay (begun_as w.running) c.self.inside.catalog w.running.opened;
       asked = asked_on w.running w.image w.next _ t.out_is t.slot (own_slot c.self.inside.dumper.since_freeze _ w.running w.image c.sound.ensures.running w.was w.making);
@@ -150,6 +167,11 @@ invariant_of-self-in-TableCall-1 c =
     core_working _ _ w.is (turned _ _ w.running w.image w.next core (record {
       was = w.was;
       making = w.making;
+      is = w.is;
+      merger_is = refl;
+      room = refl;
+      serial = ap (λ (o : ImageOrder). o.serial) t.order;
+      places_stay = same_places w.running c.self.inside.catalog;
       base = refl;
       frozen = refl;
       standing = refl;
@@ -164,7 +186,7 @@ invariant_of-self-in-TableCall-1 c =
           (numbers_same base _ c.self.inside.pending c.self.inside.last c.self.inside.numbers c.tick.new.self numbers
           (numbers_noted base c.reserve_mark.new.self.items c.self.inside.pending c.self.inside.last c.self.inside.numbers (Table w.image.order.serial) (omega (arith, given)) core.numbers_are));
       counted = counted_same c.self.inside.catalog c.self.inside.numbers c.tick.new.self numbers core.counted;
-      outs = c.put_out.ensures ∙ ap (λ outs. slice_set outs 0 (Some c.id.result)) out.1 ∙ ap (λ o. o ∷ None ∷ None ∷ []) (ap Some c.id.ensures ∙ sym t.out_is);
+      outs = c.put_out.ensures ∙ ap (λ outs. slice_set outs 0 (Some c.id.result)) out.1 ∙ ap (λ o. o ∷ merger.out_of_merge c.self.inside.merger ∷ None ∷ []) (ap Some c.id.ensures ∙ sym t.out_is);
       slot = λ id is. subst (λ (i : RequestId). i.slot < length c.self.inside.phases.items) (same_Some c.in-TableCall.request.id id (sym t.out_is ∙ is)) (subst (λ slot. slot < length c.self.inside.phases.items) (sym t.slot) within);
       stay = same_stay (begun_as w.running) c.self.inside.catalog w.running.opened;
       asked = asked_on w.running w.image w.next _ t.out_is t.slot (own_slot c.self.inside.dumper.since_freeze _ w.running w.image c.sound.ensures.running w.was w.making);
@@ -195,7 +217,7 @@ invariant_of-self-in-Frozen-1 c =
       journal_is = subst (λ m. IsJournal base c.append_held.new.self m (Some c.self.inside.numbers.begun) c.self.inside.last) (sym w.steps.1)
           (freeze_journal c.tracked_laws.ensures _ w.running c.append_held.new.self core w.was b.none c.append_held.ensures.items c.append_held.ensures.numbers.first c.append_held.ensures.numbers.limit);
       held = omega (arith, held, two);
-      outs_are = record { are = out.1 ∙ ap (λ o. o ∷ None ∷ None ∷ []) (sym t.out_is); within = core.outs_are.within };
+      outs_are = record { are = out.1 ∙ ap (λ o. o ∷ merger.out_of_merge c.self.inside.merger ∷ None ∷ []) (sym t.out_is); within = core.outs_are.within };
       numbers_are = subst (λ all. AreNumbers base all (Some c.self.inside.numbers.begun) c.self.inside.last c.self.inside.numbers) (sym c.append_held.ensures.items)
           (freeze_numbers base c.reserve_mark.new.self.items c.self.inside.last c.self.inside.numbers
           (subst (λ f. AreNumbers base c.reserve_mark.new.self.items f c.self.inside.last c.self.inside.numbers) b.none core.numbers_are));
@@ -236,6 +258,11 @@ returns-in-Copied-clause-takes c =
       outs = refl;
       was = w.was;
       making = w.making;
+      is = w.is;
+      merger_is = refl;
+      room = refl;
+      serial = ap (λ (o : ImageOrder). o.serial) t.order;
+      places_stay = same_places w.running c.self.inside.catalog;
       rising = (sound_image _ w.running w.image c.sound.ensures.image w.was w.making).rising;
       steps = w.steps;
       plain = ap plain_of w.steps.1;
@@ -259,6 +286,11 @@ returns-in-Visited-clause-takes c =
       outs = refl;
       was = w.was;
       making = w.making;
+      is = w.is;
+      merger_is = refl;
+      room = refl;
+      serial = ap (λ (o : ImageOrder). o.serial) t.order;
+      places_stay = same_places w.running c.self.inside.catalog;
       rising = (sound_image _ w.running w.image c.sound.ensures.image w.was w.making).rising;
       steps = w.steps;
       plain = w.steps.tests.plain;
@@ -289,6 +321,11 @@ returns-in-Frozen-clause-takes c =
       outs = refl;
       was = w.was;
       making = w.making;
+      is = w.is;
+      merger_is = refl;
+      room = refl;
+      serial = ap (λ (o : ImageOrder). o.serial) t.order;
+      places_stay = same_places w.running c.self.inside.catalog;
       steps = w.steps;
       committing = refl;
       is = w.is;
@@ -315,6 +352,11 @@ returns-in-TableCall-clause-takes c =
       outs = c.put_out.ensures ∙ ap (λ id. slice_set c.self.inside.outs 0 (Some id)) c.id.ensures;
       was = w.was;
       making = w.making;
+      is = w.is;
+      merger_is = refl;
+      room = refl;
+      serial = ap (λ (o : ImageOrder). o.serial) t.order;
+      places_stay = same_places w.running c.self.inside.catalog;
       rising = (sound_image _ w.running w.image c.sound.ensures.image w.was w.making).rising;
       own = own_order c.self.inside.dumper.since_freeze _ w.running w.image c.sound.ensures.running w.was w.making;
       steps = w.steps;
@@ -345,6 +387,11 @@ returns-in-Call-clause-takes c =
       outs = c.put_out-in-Call.ensures ∙ ap (λ id. slice_set c.self.inside.outs 0 (Some id)) c.id-in-Call.ensures;
       was = w.was;
       making = w.making;
+      is = w.is;
+      merger_is = refl;
+      room = refl;
+      serial = ap (λ (o : ImageOrder). o.serial) t.order;
+      places_stay = same_places w.running c.self.inside.catalog;
       rising = (sound_image _ w.running w.image c.sound.ensures.image w.was w.making).rising;
       own = own_order c.self.inside.dumper.since_freeze _ w.running w.image c.sound.ensures.running w.was w.making;
       steps = w.steps;
