@@ -158,13 +158,15 @@ image_calls items places old new image next request same is (inl asks) = image_a
 image_calls items places old new image next request same is (inr writes) = image_page items places old new image next request same is writes
 
 -- the memory is frozen for it
-pub record IsFrozenNext (items : Marked) (places : Places) (numbers : Numbers) (next : Making) : Type 0 where
+pub record IsFrozenNext (items : Marked) (places : Places) (numbers : Numbers) (image next : Making) : Type 0 where
+  pub order : next.order ≡ image.order
   pub image_is : IsImageOf (Told (Freeze numbers.begun) ∷ items) places numbers next
   pub out_is : out_of next.stage ≡ None
 
 pub image_frozen : (items : Marked) (places : Places) (numbers : Numbers) (image next : Making) → IsImageOf items places numbers image → Freezes image next
-    → IsFrozenNext items places numbers next
-image_frozen items places numbers image next is f = subst (IsFrozenNext items places numbers) (sym f.is) (record {
+    → IsFrozenNext items places numbers image next
+image_frozen items places numbers image next is f = subst (IsFrozenNext items places numbers image) (sym f.is) (record {
+  order = refl;
   image_is = turn items (Told (Freeze numbers.begun) ∷ items) places places numbers numbers image image.pass PassStage (same_numbers numbers) is is.held tt
       (record { started = cursor.started; cursor = cursor.cursor });
   out_is = refl;

@@ -1,8 +1,9 @@
 -- A core while its dumper works.
-use Rattle.std.proofs.Common.{◌≡◌, ◌≢◌, ◌⊎◌, ℕ, zero, suc, ◌+◌, ◌<◌, ◌≤◌, ◌^◌, ◌==◌, ◌||◌, false, if◌then◌else◌, List, [], ◌∷◌, length, Option, Some, None, IfSome, slice_get, refl, sym, ◌∙◌, ap, subst, inl, inr, arith}
+use Rattle.std.proofs.Common.{◌≡◌, ◌≢◌, ◌⊎◌, ℕ, zero, suc, ◌+◌, ◌<◌, ◌≤◌, ◌^◌, ◌==◌, ◌||◌, Bool, true, false, if◌then◌else◌, List, [], ◌∷◌, length, Option, Some, None, IfSome, slice_get, refl, sym, ◌∙◌, ap, subst, inl, inr, arith}
 use Rattle.std.specs.List.{list_any}
 use Rattle.std.proofs.lemmas.Bool.Decides.{eqb_tells}
-use Rattle.sd_chain.specs.Catalog.{IsHeld, Opened, Places, place_of}
+use Rattle.std.proofs.lemmas.Option.{same_Some}
+use Rattle.sd_chain.specs.Catalog.{Changes, IsHeld, Opened, Places, place_of}
 use Rattle.sd_gate.specs.declared.phase.Phase.{Phase}
 use Rattle.sd_gate.specs.declared.request_id.RequestId.{RequestId}
 use Rattle.sd_command.specs.declared.command.Command.{Command}
@@ -18,8 +19,9 @@ use Rattle.sd_opener.specs.Looking.{Looking}
 use Rattle.sd_pagetable.specs.Contents.{Contents}
 use Rattle.sd_rounds.specs.declared.stage.Stage.{Stage}
 use Rattle.sd_rounds.specs.declared.stage.Stage.TheVariants.{Format, Freeze as FreezeStage, Pass as PassStage, PageWrite, Close}
-use Rattle.sd_rounds.specs.Dumper.{AreRunning, HasSlot, IsItsImage, Running, order_of, out_of_image, out_of_running, slot_of}
+use Rattle.sd_rounds.specs.Dumper.{AreRunning, HasSlot, IsItsImage, Running, order_of, out_of_image, out_of_running, serial_of, slot_of}
 use Rattle.sd_rounds.specs.Making.{Making, is_frozen, out_of}
+use Rattle.sd_belief.specs.Calls.{IsFree}
 use Rattle.sd_belief.specs.declared.standing.Standing.{Standing}
 use Rattle.sd_belief.specs.declared.standing.Standing.TheVariants.{NotOpen, Open}
 use Rattle.sd_belief.specs.Merges.{IsOtherImage, IsSpared, MakesOther}
@@ -256,6 +258,41 @@ pub pends_so : (running : Running) (image next : Making) → running.image ≡ S
 pends_so running image next making still =
     ap (λ b. if b then Some running.number else None) still ∙ ap (λ i. frozen_by (record running { image = i })) (sym making)
 
+-- what a merge keeps while the image turns
+pub record KeepsMerge (old new : Parts) (running : Running) (image next : Making) : Type 0 where
+  pub was : old.dumper.running ≡ Some running
+  pub making : running.image ≡ Some image
+  pub is : new.dumper.running ≡ Some (record running { image = Some next })
+  pub merger_is : new.merger ≡ old.merger
+  pub room : new.room ≡ old.room
+  pub serial : next.order.serial ≡ image.order.serial
+  pub places_stay : KeepsPlaces running old.places new.places
+  pub standing : new.standing ≡ old.standing
+  pub opener : new.opener ≡ old.opener
+  pub count : length new.phases ≡ length old.phases
+  pub numbers : SameNumbers old.numbers new.numbers
+
+pub merging_turned : (old new : Parts) (running : Running) (image next : Making) → IsCore old → KeepsMerge old new running image next
+    → IfSome new.merger (IsMerging new.standing new.phases new.places new.opener new.numbers new.room new.dumper.running)
+merging_turned old new running image next sound t = merging_stays old new (record {
+  merger_is = t.merger_is;
+  room = t.room;
+  standing = t.standing;
+  opener = t.opener;
+  count = t.count;
+  given = (let given = t.numbers.given in omega (arith, given));
+  checkpoint = (let checkpoint = t.numbers.checkpoint in omega (arith, checkpoint));
+  serials = λ merge is due few. (let serial = t.numbers.serial in omega (arith, serial, few));
+  has = λ slot has. subst (λ r. HasSlot r slot) (sym t.was) (subst (λ r. HasSlot r slot) t.is has);
+  fills = λ slot spared. subst (λ r. IsSpared r slot) (sym t.is) (fills_same running (Some next) slot (subst (λ r. IsSpared r slot) t.was spared));
+  other = λ s given other. subst (λ r. MakesOther r s) (sym t.is) (λ same. other_than s (subst (λ r. MakesOther r s) t.was other) (sym t.serial ∙ same));
+  held = λ s given other held. t.places_stay.held s held;
+  images = λ s o there spared. t.places_stay.images s o there (λ has. spared (subst (λ r. HasSlot r o.slot) (sym t.was) has));
+}) sound.merging
+  where
+    other_than : (serial : ℕ) → MakesOther (Some running) serial → image.order.serial ≢ serial
+    other_than serial other = subst (λ i. IsOtherImage i serial) t.making other
+
 pub turned : (old new : Parts) (running : Running) (image next : Making) → IsCore old → Turns old new running image next
     → IsWorking new (record running { image = Some next })
 turned old new running image next sound t =
@@ -290,25 +327,20 @@ turned old new running image next sound t =
         image = t.image_is;
       };
       little = t.little;
-      merging = subst (λ r. IfSome new.merger (IsMerging new.standing new.phases new.places new.opener new.numbers new.room r)) t.is (merging_stays old new (record {
+      merging = subst (λ r. IfSome new.merger (IsMerging new.standing new.phases new.places new.opener new.numbers new.room r)) t.is (merging_turned old new running image next sound (record {
+        was = t.was;
+        making = t.making;
+        is = t.is;
         merger_is = t.merger_is;
         room = t.room;
+        serial = t.serial;
+        places_stay = t.places_stay;
         standing = t.standing;
         opener = t.opener;
         count = t.count;
-        given = (let given = t.numbers.given in omega (arith, given));
-        checkpoint = (let checkpoint = t.numbers.checkpoint in omega (arith, checkpoint));
-        serials = λ merge is due few. omega (arith, serial, few);
-        has = λ slot has. subst (λ r. HasSlot r slot) (sym t.was) (subst (λ r. HasSlot r slot) t.is has);
-        fills = λ slot spared. subst (λ r. IsSpared r slot) (sym t.is) (fills_same running (Some next) slot (subst (λ r. IsSpared r slot) t.was spared));
-        other = λ s given other. subst (λ r. MakesOther r s) (sym t.is) (λ same. other_than running image s t.making (subst (λ r. MakesOther r s) t.was other) (sym t.serial ∙ same));
-        held = λ s given other held. t.places_stay.held s held;
-        images = λ s o there spared. t.places_stay.images s o there (λ has. spared (subst (λ r. HasSlot r o.slot) (sym t.was) has));
-      }) sound.merging);
+        numbers = t.numbers;
+      }));
     }
-  where
-    other_than : (running : Running) (image : Making) (serial : ℕ) → running.image ≡ Some image → MakesOther (Some running) serial → image.order.serial ≢ serial
-    other_than running image serial making other = subst (λ i. IsOtherImage i serial) making other
 
 -- ---- more room in the journal
 
@@ -350,6 +382,11 @@ pub slot_within : (core : Parts) (running : Running) → IsCore core → core.du
 slot_within core running sound was =
     (at_work core running sound was).within (slot_of running) (record { place = running.opened; from = omega arith; is = refl })
 
+-- the serial that the dumper tells is the image's
+pub its_serial : (running : Option Running) (now : Running) (image : Making) (told : Option ℕ) (serial : ℕ) → running ≡ Some (record now { image = Some image }) → told ≡ serial_of running
+    → told ≡ Some serial → serial ≡ image.order.serial
+its_serial running now image told serial is tells some = same_Some serial image.order.serial (sym some ∙ tells ∙ ap serial_of is)
+
 -- its slot is one of the store's
 pub image_within : (core : Parts) (since : ℕ) (running : Running) (image : Making) → IsCore core → AreRunning since core.dumper.running → core.dumper.running ≡ Some running
     → running.image ≡ Some image → image.order.slot < length core.phases
@@ -360,6 +397,37 @@ image_within core since running image sound are was making =
 pub rests_before : (core : Parts) (running : Running) → IsCore core → core.dumper.running ≡ Some running → running.image ≡ None → core.outs ≡ None ∷ merger.out_of_merge core.merger ∷ None ∷ []
 rests_before core running sound was none = sound.outs_are.jobs (at_work core running sound was).stands ∙ ap (λ r. out_of_running r ∷ merger.out_of_merge core.merger ∷ None ∷ []) was
     ∙ ap (λ i. out_of_image i ∷ merger.out_of_merge core.merger ∷ None ∷ []) none
+
+-- no request is out on the slot of the checkpoint's image
+pub free_beside : (core : Parts) (running : Running) (slot : ℕ) → IsCore core → core.dumper.running ≡ Some running → core.outs ≡ None ∷ merger.out_of_merge core.merger ∷ None ∷ []
+    → slot ≡ slot_of running → IsFree core.outs slot
+free_beside core running slot sound was outs own worker id at same =
+    elim (two_at None (merger.out_of_merge core.merger) worker id (ap (λ all. slice_get all worker) (sym outs) ∙ at)) [
+      | inl a ↦ (let no : None ≡ Some id = a.1 in cc)
+      | inr b ↦ by core.merger sound.merging b.1
+    ]
+  where
+    by : (m : Option merger.Running) → IfSome m (IsMerging core.standing core.phases core.places core.opener core.numbers core.room core.dumper.running)
+        → merger.out_of_merge m ≡ Some id → ⊥
+    by None is out = (let no : None ≡ Some id = out in cc)
+    by (Some merge) is out = (subst (λ r. IsSpared r id.slot) was (is.asks id out)) (record { place = running.opened; from = omega arith; is = same ∙ own })
+
+-- ---- a place is held for an image that begins
+
+pub held_more : (old new : Places) (serial other : ℕ) → Changes old new serial (Some None) → IsHeld old other → IsHeld new other
+held_more old new serial other changes held = changes other ∙ by (serial == other)
+  where
+    by : (b : Bool) → (if b then Some None else place_of old other) ≡ Some None
+    by true = refl
+    by false = held
+
+pub open_more : (old new : Places) (serial other : ℕ) (o : Opened) → Changes old new serial (Some None) → ((o : Opened) → place_of old serial ≡ Some (Some o) → ⊥)
+    → place_of old other ≡ Some (Some o) → place_of new other ≡ Some (Some o)
+open_more old new serial other o changes none there = changes other ∙ by (eqb_tells serial other)
+  where
+    by : (((serial == other) ≡ true) × (serial ≡ other)) ⊎ (((serial == other) ≡ false) × (serial ≢ other)) → (if serial == other then Some None else place_of old other) ≡ Some (Some o)
+    by (inl same) = absurd (none o (ap (place_of old) same.1 ∙ there))
+    by (inr differs) = ap (λ b. if b then Some None else place_of old other) differs.0 ∙ there
 
 -- ---- a command was journaled
 

@@ -1,4 +1,4 @@
-use Rattle.std.proofs.Common.{◌≡◌, ◌+◌, ◌<◌, ◌^◌, if◌then◌else◌, ◌||◌, ◌&&◌, length, Some, None, IfSome, slice_get, slice_set, ◌∷◌, [], refl, sym, ◌∙◌, ap, subst, arith}
+use Rattle.std.proofs.Common.{◌≡◌, ◌+◌, ◌<◌, ◌≤◌, ◌^◌, if◌then◌else◌, ◌||◌, ◌&&◌, length, Some, None, IfSome, slice_get, slice_set, ◌∷◌, [], refl, sym, ◌∙◌, ap, subst, arith}
 use Rattle.sd_areas.specs.Memory.{memory_of}
 use Rattle.std.proofs.lemmas.Option.{same_Some}
 use Rattle.sd_gate.specs.declared.request_id.RequestId.{RequestId}
@@ -18,14 +18,14 @@ use Rattle.sd_belief.specs.DumperSteps.{opens_gate}
 use Rattle.sd_core.specs.Dumping.{StepsOn}
 use Rattle.sd_core.specs.Images.{begun_as}
 use Rattle.sd_core.specs.LittleWork.{TakesLittle}
-use Rattle.sd_core.specs.Sound.{AreNumbers, IsImageOf, IsJournal, begun_images, held_for}
+use Rattle.sd_core.specs.Sound.{AreNumbers, IsImageOf, IsJournal, IsMerging, begun_images, due_serials, held_for}
 use Rattle.sd_core.proofs.ImageLemmas.{image_calls, image_frozen, image_table, image_visited, image_copied}
 use Rattle.sd_core.proofs.LittleLemmas.{asks_no_visit, freeze_little, little_of, step_little, visit_more}
 use Rattle.sd_core.proofs.MarkLemmas.{asks_or_writes, before_freeze, freeze_journal, freeze_numbers, frozen_next, may_freeze, sound_image, table_journal, visit_journal}
 use Rattle.sd_core.proofs.OpeningLemmas.{hands_seen, step_seen}
 use Rattle.sd_core.proofs.PreDumpLemmas.{same_stay}
-use Rattle.sd_core.proofs.WorkLemmas.{SameNumbers, asked_on, at_work, core_working, counted_same, grown_core, held_at_work, image_of_work, image_within, numbers_noted, numbers_same, out_at_work, own_order, own_slot, same_numbers, same_places, turned}
-use Rattle.sd_core.proofs.StepLemmas.{free_of_none, freezes_it, hands_asked, hands_call, works_on}
+use Rattle.sd_core.proofs.WorkLemmas.{SameNumbers, asked_on, at_work, core_working, counted_same, free_beside, grown_core, held_at_work, image_of_work, image_within, its_serial, merging_turned, numbers_noted, numbers_same, out_at_work, own_order, own_slot, same_numbers, same_places, turned}
+use Rattle.sd_core.proofs.StepLemmas.{freezes_it, hands_asked, hands_call, works_on}
 use Rattle.sd_core.proofs.state.Core.go_on_image.Goals as goal
 
 pub invariant_of-self-in-Copied-1 : goal.invariant_of-self-in-Copied-1
@@ -78,7 +78,8 @@ invariant_of-self-in-Visited-1 c =
     let within = image_within _ c.self.inside.dumper.since_freeze w.running w.image core c.sound.ensures.running w.was w.making in
     let t = image_visited _ _ _ w.image w.next c.self.inside.memory _ _ image w.steps in
     let given = image.given in
-    let items = c.note-in-Visited.ensures.items ∙ ap (λ s. Noted (Visit s c.in-Visited.visit.space c.in-Visited.visit.page) ∷ c.reserve_mark.new.self.items) (sym image.serial) in
+    let its = its_serial _ w.running w.next c.serial.result _ w.is c.serial.ensures c.in-Some.is ∙ ap (λ (o : ImageOrder). o.serial) t.order in
+    let items = c.note-in-Visited.ensures.items ∙ ap (λ s. Noted (Visit s c.in-Visited.visit.space c.in-Visited.visit.page) ∷ c.reserve_mark.new.self.items) its in
     core_working _ _ w.is (turned _ _ w.running w.image w.next core (record {
       was = w.was;
       making = w.making;
@@ -163,7 +164,8 @@ invariant_of-self-in-TableCall-1 c =
     let numbers : SameNumbers c.self.inside.numbers c.tick.new.self = record { begun = c.tick.ensures.begun; given = c.tick.ensures.given; checkpoint = c.tick.ensures.checkpoint; serial = c.tick.ensures.serial } in
     let t = image_table _ _ _ c.tick.new.self w.image w.next c.self.inside.memory c.in-TableCall.request numbers image w.steps.0 in
     let given = image.given in
-    let items = c.note.ensures.items ∙ ap (λ s. Noted (Table s) ∷ c.reserve_mark.new.self.items) (sym image.serial) in
+    let its = its_serial _ w.running w.next c.serial.result _ w.is c.serial.ensures c.in-Some.is ∙ ap (λ (o : ImageOrder). o.serial) t.order in
+    let items = c.note.ensures.items ∙ ap (λ s. Noted (Table s) ∷ c.reserve_mark.new.self.items) its in
     core_working _ _ w.is (turned _ _ w.running w.image w.next core (record {
       was = w.was;
       making = w.making;
@@ -212,12 +214,19 @@ invariant_of-self-in-Frozen-1 c =
     let held = c.append_held.ensures.held in
     let two = held_at_work _ w.running core w.was ∙ ap (λ f. held_for f (Some w.running) None) b.none in
     let next = frozen_next w.image w.next b.kind w.steps.0 in
-    let serials = subst (λ i. c.self.inside.numbers.serial < 2 ^ 63 + begun_images w.running i) w.making work.serials in
+    let serials = subst (λ i. c.self.inside.numbers.serial + due_serials c.self.inside.merger ≤ 2 ^ 63 + begun_images w.running i) w.making work.serials in
     core_working _ _ w.is (record {
       journal_is = subst (λ m. IsJournal base c.append_held.new.self m (Some c.self.inside.numbers.begun) c.self.inside.last) (sym w.steps.1)
           (freeze_journal c.tracked_laws.ensures _ w.running c.append_held.new.self core w.was b.none c.append_held.ensures.items c.append_held.ensures.numbers.first c.append_held.ensures.numbers.limit);
       held = omega (arith, held, two);
-      outs_are = record { are = out.1 ∙ ap (λ o. o ∷ merger.out_of_merge c.self.inside.merger ∷ None ∷ []) (sym t.out_is); within = core.outs_are.within };
+      outs_are = record {
+        jobs = λ stands. out.1 ∙ ap (λ o. o ∷ merger.out_of_merge c.self.inside.merger ∷ None ∷ []) (sym t.out_is);
+        opening = tt;
+        none = λ closed idle. core.outs_are.none closed work.closed;
+        two = λ idle. core.outs_are.two work.closed;
+        within = core.outs_are.within;
+        apart = core.outs_are.apart;
+      };
       numbers_are = subst (λ all. AreNumbers base all (Some c.self.inside.numbers.begun) c.self.inside.last c.self.inside.numbers) (sym c.append_held.ensures.items)
           (freeze_numbers base c.reserve_mark.new.self.items c.self.inside.last c.self.inside.numbers
           (subst (λ f. AreNumbers base c.reserve_mark.new.self.items f c.self.inside.last c.self.inside.numbers) b.none core.numbers_are));
@@ -240,6 +249,35 @@ invariant_of-self-in-Frozen-1 c =
       little = subst (λ all. TakesLittle base all c.step_on.new.memory w.running.number w.next) (sym c.append_held.ensures.items)
           (subst (λ n. TakesLittle base (Told (Freeze n) ∷ c.reserve_mark.new.self.items) c.step_on.new.memory w.running.number w.next) work.number
           (freeze_little c.little_law.ensures base c.reserve_mark.new.self.items c.self.inside.memory c.step_on.new.memory w.running.number c.self.inside.numbers.ticket w.image w.next w.steps b.kind core.journal_is.tracked));
+      merging = subst (λ r. IfSome c.self.inside.merger (IsMerging c.self.inside.standing c.self.inside.phases.items c.self.inside.catalog c.self.inside.opener c.self.inside.numbers c.self.inside.room r)) w.is
+          (merging_turned _ (record {
+            base = base;
+            journal = c.append_held.new.self;
+            memory = c.step_on.new.memory;
+            frozen = Some c.self.inside.numbers.begun;
+            newest = c.self.inside.last;
+            standing = c.self.inside.standing;
+            phases = c.self.inside.phases.items;
+            outs = c.self.inside.outs;
+            places = c.self.inside.catalog;
+            dumper = c.step_on.new.dumper;
+            merger = c.self.inside.merger;
+            room = c.self.inside.room;
+            opener = c.self.inside.opener;
+            numbers = c.self.inside.numbers;
+          }) w.running w.image w.next core (record {
+            was = w.was;
+            making = w.making;
+            is = w.is;
+            merger_is = refl;
+            room = refl;
+            serial = ap (λ (o : ImageOrder). o.serial) t.order;
+            places_stay = same_places w.running c.self.inside.catalog;
+            standing = refl;
+            opener = refl;
+            count = refl;
+            numbers = same_numbers _;
+          }));
     })
 
 pub returns-in-Copied-clause-takes : goal.returns-in-Copied-clause-takes
@@ -258,11 +296,6 @@ returns-in-Copied-clause-takes c =
       outs = refl;
       was = w.was;
       making = w.making;
-      is = w.is;
-      merger_is = refl;
-      room = refl;
-      serial = ap (λ (o : ImageOrder). o.serial) t.order;
-      places_stay = same_places w.running c.self.inside.catalog;
       rising = (sound_image _ w.running w.image c.sound.ensures.image w.was w.making).rising;
       steps = w.steps;
       plain = ap plain_of w.steps.1;
@@ -286,11 +319,6 @@ returns-in-Visited-clause-takes c =
       outs = refl;
       was = w.was;
       making = w.making;
-      is = w.is;
-      merger_is = refl;
-      room = refl;
-      serial = ap (λ (o : ImageOrder). o.serial) t.order;
-      places_stay = same_places w.running c.self.inside.catalog;
       rising = (sound_image _ w.running w.image c.sound.ensures.image w.was w.making).rising;
       steps = w.steps;
       plain = w.steps.tests.plain;
@@ -321,11 +349,6 @@ returns-in-Frozen-clause-takes c =
       outs = refl;
       was = w.was;
       making = w.making;
-      is = w.is;
-      merger_is = refl;
-      room = refl;
-      serial = ap (λ (o : ImageOrder). o.serial) t.order;
-      places_stay = same_places w.running c.self.inside.catalog;
       steps = w.steps;
       committing = refl;
       is = w.is;
@@ -348,15 +371,10 @@ returns-in-TableCall-clause-takes c =
       phases = refl;
       serial = c.tick.ensures.serial;
       free = rests;
-      apart = free_of_none _ c.in-TableCall.request.id.slot out.1;
+      apart = free_beside _ w.running c.in-TableCall.request.id.slot c.self.invariant w.was out.1 (slot ∙ own_slot c.self.inside.dumper.since_freeze _ w.running w.image c.sound.ensures.running w.was w.making);
       outs = c.put_out.ensures ∙ ap (λ id. slice_set c.self.inside.outs 0 (Some id)) c.id.ensures;
       was = w.was;
       making = w.making;
-      is = w.is;
-      merger_is = refl;
-      room = refl;
-      serial = ap (λ (o : ImageOrder). o.serial) t.order;
-      places_stay = same_places w.running c.self.inside.catalog;
       rising = (sound_image _ w.running w.image c.sound.ensures.image w.was w.making).rising;
       own = own_order c.self.inside.dumper.since_freeze _ w.running w.image c.sound.ensures.running w.was w.making;
       steps = w.steps;
@@ -383,15 +401,10 @@ returns-in-Call-clause-takes c =
       phases = refl;
       serial = c.tick-in-Call.ensures.serial;
       free = rests;
-      apart = free_of_none _ c.in-Call.request.id.slot out.1;
+      apart = free_beside _ w.running c.in-Call.request.id.slot c.self.invariant w.was out.1 (slot ∙ own_slot c.self.inside.dumper.since_freeze _ w.running w.image c.sound.ensures.running w.was w.making);
       outs = c.put_out-in-Call.ensures ∙ ap (λ id. slice_set c.self.inside.outs 0 (Some id)) c.id-in-Call.ensures;
       was = w.was;
       making = w.making;
-      is = w.is;
-      merger_is = refl;
-      room = refl;
-      serial = ap (λ (o : ImageOrder). o.serial) t.order;
-      places_stay = same_places w.running c.self.inside.catalog;
       rising = (sound_image _ w.running w.image c.sound.ensures.image w.was w.making).rising;
       own = own_order c.self.inside.dumper.since_freeze _ w.running w.image c.sound.ensures.running w.was w.making;
       steps = w.steps;
