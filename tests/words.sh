@@ -24,7 +24,7 @@ folder_that_is_no_text() {
 
 help_has_examples_and_statuses() {
   local program
-  for program in run restore list verify; do
+  for program in run merge restore list verify; do
     "$ckpt" $program --help > out || return 1
     has "$program" "$(cat out)" "ckpt $program store" || return 1
     has "$program" "$(cat out)" "Status: 0" || return 1
@@ -36,7 +36,7 @@ help_has_examples_and_statuses() {
 help_of_run_has_the_language() {
   local word
   "$ckpt" run --help > out || return 1
-  for word in mmap munmap mprotect fork exit store try fault load words checkpoint begin cancel reopen work perform step finish; do
+  for word in mmap munmap mprotect fork exit store try fault load words checkpoint merge begin begin-merge cancel reopen work perform step finish; do
     has "the line of $word" "$(grep -E "^  (.*, )?$word( |,|$)" out)" "$word" || return 1
   done
 }

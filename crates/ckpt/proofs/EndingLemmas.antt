@@ -19,6 +19,7 @@ cause_is_seen (stop.Store fault) e = absurd (let f : 1 ≡ 0 = e in omega (arith
 cause_is_seen (stop.ScriptLine number) e = absurd (let f : 2 ≡ 0 = e in omega (arith, f))
 cause_is_seen stop.CannotReadScript e = absurd (let f : 1 ≡ 0 = e in omega (arith, f))
 cause_is_seen stop.CannotOpenFolder e = absurd (let f : 1 ≡ 0 = e in omega (arith, f))
+cause_is_seen stop.Refused e = absurd (let f : 1 ≡ 0 = e in omega (arith, f))
 cause_is_seen (stop.Writer error) e = absurd (let f : 1 ≡ 0 = e in omega (arith, f))
 
 -- a program that ends with status 0 came to its end

@@ -21,6 +21,7 @@ status_of (stop.Store _) = 1
 status_of (stop.ScriptLine _) = 2
 status_of stop.CannotReadScript = 1
 status_of stop.CannotOpenFolder = 1
+status_of stop.Refused = 1
 status_of (stop.Writer _) = 1
 
 -- the exit status: 0 where the program came to its end; where it was stopped that of the cause, or 1 where its output
@@ -43,6 +44,7 @@ abbrev pub StopsAs : RunStop → Stop → Type 0
 StopsAs (run.ScriptLine number) stopped = stopped ≡ stop.ScriptLine number
 StopsAs run.OutOfMemory stopped = stopped ≡ stop.Fault OutOfMemory
 StopsAs (run.Store fault) stopped = stopped ≡ stop.Store fault
+StopsAs run.Refused stopped = stopped ≡ stop.Refused
 StopsAs (run.Writer error) stopped = stopped ≡ stop.Writer error
 
 -- contents show a checkpoint's memory

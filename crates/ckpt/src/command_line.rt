@@ -13,7 +13,7 @@ const SCRIPT: &str = "A file with one request a line";
 const LIMITS: &str =
     "Limits: 16 spaces, 1,024 areas of a space, 65,536 mapped pages of 4,096 bytes in all,
 addresses below 2^47, 1 to 64 bytes a load or store, 64 images a store; a checkpoint
-needs two free slots, and one more a round. The cause of a failure is told on standard error.";
+needs two free slots, and one more a round; a merge needs one. The cause of a failure is told on standard error.";
 
 const RUN: &str = "Example:
   ckpt run store examples/first.ckpt
@@ -30,7 +30,9 @@ hexadecimal; empty lines and those that begin with # are skipped:
   load SPACE ADDRESS N                loads N bytes
   words SPACE ADDRESS N               the words of N pages, as pagemap shows them
   checkpoint ROUNDS                   makes a checkpoint with 0 to 8 rounds before its freeze
+  merge                               merges the newest chain of images into one image
   begin ROUNDS, cancel                begins a checkpoint; gives the one that runs up
+  begin-merge                         begins a merge, which can go on beside a checkpoint
   reopen                              opens the store again, after its device failed
   work WORKER, perform WORKER         a step of dumper, merger or opener; its device call
   step WORKER N, finish WORKER        N of these events; all up to the end of its job
@@ -66,9 +68,30 @@ Status: 0 where it printed ok; 1 where the store can't be restored, or the devic
 the printing failed (damaged SSS WHY, device, out-of-memory, cannot open DIR); 2 for a fault
 of the command line.";
 
+const MERGE: &str = "Example:
+  ckpt merge store
+
+Merges the newest checkpoint's chain of images into one image, closes those that are no
+longer needed, and prints merged SERIAL or refused N NAME. What the store shows stays the
+same, also if it is cut off. An empty store answers refused 14 idle.
+
+Status: 0 where the chain was merged; 1 where the merge was refused, or the store, its
+device, memory or the printing failed (damaged SSS WHY, device, out-of-memory, cannot open
+DIR); 2 for a fault of the command line.
+
+Only one program at a time can have a store open that is run or merged.";
+
 /// The folder that each program needs.
 fn dir<'a>(alloc: Global) -> Arg<'a> {
     Arg::new(alloc, "DIR").required(true).help(DIR)
+}
+
+/// The flag of a program that keeps the standard error empty.
+fn quiet<'a>(alloc: Global, help: &'a str) -> Arg<'a> {
+    Arg::new(alloc, "quiet")
+        .long("quiet")
+        .action(ArgAction::SetTrue)
+        .help(help)
 }
 
 fn run<'a>(alloc: Global) -> Result<Command<'a>, Error> {
@@ -83,14 +106,22 @@ fn run<'a>(alloc: Global) -> Result<Command<'a>, Error> {
                 .action(ArgAction::SetTrue)
                 .help("Prints afterwards what `restore` prints of the folder"),
         )?
-        .arg(
-            Arg::new(alloc, "quiet")
-                .long("quiet")
-                .action(ArgAction::SetTrue)
-                .help(
-                    "Shows no progress on standard error, and no cause of a fault of the script, the folder or its device",
-                ),
-        )?;
+        .arg(quiet(
+            alloc,
+            "Shows no progress on standard error, and no cause of a fault of the script, the folder or its device",
+        ))?;
+    Ok(command)
+}
+
+fn merge<'a>(alloc: Global) -> Result<Command<'a>, Error> {
+    let command = Command::new(alloc, "merge")
+        .about("Merges the chain of the newest checkpoint in a folder's store into one image")
+        .after_help(MERGE)
+        .arg(dir(alloc))?
+        .arg(quiet(
+            alloc,
+            "Shows no progress on standard error, and no cause of a fault of the folder or its device",
+        ))?;
     Ok(command)
 }
 
@@ -134,6 +165,7 @@ pub fn command<'a>(alloc: Global) -> Result<Command<'a>, Error> {
         .after_help(LIMITS)
         .subcommand_required(true)
         .subcommand(run(alloc)?)?
+        .subcommand(merge(alloc)?)?
         .subcommand(restore)?
         .subcommand(list)?
         .subcommand(verify)?;

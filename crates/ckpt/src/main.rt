@@ -6,7 +6,7 @@ use clap::ArgMatches;
 use progress::ProgressLine;
 use sd_disk::{DirDisk, Disk, Folder, OpenError};
 use sd_restore::Fault;
-use sd_run::{Watch, run_lines};
+use sd_run::{Watch, merge_store, run_lines};
 use sd_script::{Script, ScriptError};
 use std::alloc::Global;
 use std::fs::File;
@@ -92,6 +92,15 @@ fn run_over<D: Disk, W: Write, S: Watch>(
     }
 }
 
+/// Whether the words ask for causes and progress on the standard error.
+fn causes_asked(words: &ArgMatches<'_>) -> Causes {
+    if words.get_flag("quiet") {
+        Causes::Kept
+    } else {
+        Causes::Told
+    }
+}
+
 /// `ckpt run`: a script that can't be taken makes no file.
 fn run_program<W: Write>(
     rt: &HostRuntime,
@@ -99,11 +108,7 @@ fn run_program<W: Write>(
     out: &mut W,
 ) -> Result<(), Stop> {
     let folder = words.get_str("DIR").unwrap_or("");
-    let causes = if words.get_flag("quiet") {
-        Causes::Kept
-    } else {
-        Causes::Told
-    };
+    let causes = causes_asked(words);
     let script = read_script(rt, causes, words.get_str("SCRIPT").unwrap_or(""))?;
     let disk = open_store(rt, causes, folder, true)?;
     let is_watched = causes == Causes::Told && rt.stderr().is_terminal();
@@ -112,6 +117,22 @@ fn run_program<W: Write>(
     let (disk, ended) = run_over(rt.alloc(), disk, script, restores, out, &mut watch);
     tell_device(rt, causes, folder, &disk);
     ended
+}
+
+/// `ckpt merge`: files that are missing are made.
+fn merge_program<W: Write>(
+    rt: &HostRuntime,
+    words: &ArgMatches<'_>,
+    out: &mut W,
+) -> Result<(), Stop> {
+    let folder = words.get_str("DIR").unwrap_or("");
+    let causes = causes_asked(words);
+    let disk = open_store(rt, causes, folder, true)?;
+    let is_watched = causes == Causes::Told && rt.stderr().is_terminal();
+    let mut watch = ProgressLine::new(rt, rt.stderr().lock(), is_watched);
+    let (disk, ended) = merge_store(rt.alloc(), disk, out, &mut watch);
+    tell_device(rt, causes, folder, &disk);
+    Ok(ended?)
 }
 
 /// The programs that only read a store, by their names.
@@ -140,6 +161,7 @@ fn run_matches<W: Write>(
 ) -> Result<(), Stop> {
     match matches.subcommand() {
         Some(("run", words)) => run_program(rt, words, out),
+        Some(("merge", words)) => merge_program(rt, words, out),
         Some((name, words)) => read_program(rt, name, words, out),
         None => Ok(()),
     }

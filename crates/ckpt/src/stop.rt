@@ -16,7 +16,7 @@ pub const FAILED: u8 = 1;
 /// The exit status where the script or the command line doesn't fit.
 pub const UNFIT: u8 = 2;
 
-/// Why a program ends before its last line. It is printed as the program's last line.
+/// Why a program ends early. It is printed as the program's last line, but for a refusal, which is answered before.
 #[derive(Debug, Drop)]
 pub enum Stop {
     /// The store, its device or the memory.
@@ -27,6 +27,8 @@ pub enum Stop {
     ScriptLine(usize),
     CannotReadScript,
     CannotOpenFolder,
+    /// The order was refused, as its answer tells, which is printed already.
+    Refused,
     /// Nothing more can be printed.
     Writer(io::Error),
 }
@@ -39,6 +41,7 @@ impl fmt::Display for Stop {
             Stop::ScriptLine(number) => write!(f, "script line {number}"),
             Stop::CannotReadScript => f.write_str("cannot read SCRIPT"),
             Stop::CannotOpenFolder => f.write_str("cannot open DIR"),
+            Stop::Refused => f.write_str("refused"),
             Stop::Writer(_) => f.write_str("cannot print"),
         }
     }
@@ -51,7 +54,7 @@ pub fn status<W: Write>(ended: Result<(), Stop>, out: &mut W) -> u8
 {
     match ended {
         Ok(()) => 0,
-        Err(Stop::Writer(_)) => FAILED,
+        Err(Stop::Refused | Stop::Writer(_)) => FAILED,
         Err(stop) => match writeln!(out, "{stop}") {
             Ok(()) => stop_status(&stop),
             Err(_) => FAILED,
@@ -116,6 +119,7 @@ impl From<RunStop> for Stop {
             RunStop::ScriptLine(number) => Stop::ScriptLine(number),
             RunStop::OutOfMemory => Stop::Fault(Fault::OutOfMemory),
             RunStop::Store(fault) => Stop::Store(fault),
+            RunStop::Refused => Stop::Refused,
             RunStop::Writer(error) => Stop::Writer(error),
         }
     }

@@ -11,13 +11,13 @@ use Rattle.sd_gate.specs.Plans.{Planned}
 use Rattle.sd_gate.specs.Requests.{Asked}
 use Rattle.sd_journal.specs.History.{Base, History}
 use Rattle.sd_pagetable.specs.Contents.{Contents}
-use Rattle.sd_rounds.specs.Dumper.{Running}
+use Rattle.sd_rounds.specs.Dumper.{IsReserved, Running}
 use Rattle.sd_rounds.specs.Making.{Making, is_frozen, plan_of, with_plan}
 use Rattle.sd_store_laws.specs.Beliefs.{Belief, Kept, Closing, image_at, image_in}
 use Rattle.sd_store_laws.specs.InUse.{CatalogFollows, HasImage}
 use Rattle.sd_store_laws.specs.Needs.{IsNeededIn}
 use Rattle.sd_store_laws.specs.Store.{Store}
-use Rattle.sd_belief.specs.InUse.{IsFrozenAs, IsInUseOn, IsMakingOn, IsReserved, IsRunningOn, IsSlotFor, NoneAt, chain_of}
+use Rattle.sd_belief.specs.InUse.{IsFrozenAs, IsInUseOn, IsMakingOn, IsRunningOn, IsSlotFor, NoneAt, chain_of}
 use Rattle.sd_belief.proofs.AsksImage.{areas_with, dumps_with, files_with, kept_with, past_with}
 use Rattle.sd_belief.proofs.Places.{set_other, set_same}
 

@@ -1,5 +1,5 @@
 -- The next call of an image's plan is asked for.
-use Rattle.std.proofs.Common.{◌≡◌, ◌≢◌, ◌⊎◌, ℕ, ◌<◌, ◌≤◌, ◌==◌, ◌&&◌, ◌||◌, Bool, true, false, if◌then◌else◌, List, [], ◌∷◌, ◌++◌, Option, Some, None, IfSome, Contains, option_and_then, slice_get, slice_set, refl, sym, ◌∙◌, ap, subst, inl, inr, arith}
+use Rattle.std.proofs.Common.{◌≡◌, ◌≢◌, ◌⊎◌, ℕ, ◌<◌, ◌≤◌, ◌==◌, ◌&&◌, ◌||◌, Bool, true, false, if◌then◌else◌, List, [], ◌∷◌, Option, Some, None, IfSome, Contains, option_and_then, slice_get, slice_set, refl, sym, ◌∙◌, ap, subst, inl, inr, arith}
 use Rattle.std.proofs.lemmas.Bool.{cases_eq, false≢true}
 use Rattle.std.proofs.lemmas.Option.{same_Some}
 use Rattle.sd_disk.specs.Contents.{file_at}
@@ -18,7 +18,7 @@ use Rattle.sd_pagetable.specs.Contents.{plain_of}
 use Rattle.sd_rounds.specs.declared.image_step.ImageStep.TheVariants.{Call}
 use Rattle.sd_rounds.specs.declared.stage.Stage.{Stage}
 use Rattle.sd_rounds.specs.declared.stage.Stage.TheVariants.{Format, Freeze, Pass as PassStage, PageWrite, Close}
-use Rattle.sd_rounds.specs.Dumper.{Running, is_last, slot_of}
+use Rattle.sd_rounds.specs.Dumper.{IsReserved, Running, is_last, slot_of}
 use Rattle.sd_rounds.specs.Files.{IsFiled, IsFiledIn}
 use Rattle.sd_rounds.specs.Made.{MadeLaws}
 use Rattle.sd_rounds.specs.Making.{Asks, Making, is_frozen, is_past_freeze, with_plan}
@@ -26,14 +26,13 @@ use Rattle.sd_rounds.specs.MakingLaws.{image_of}
 use Rattle.sd_store_laws.specs.Beliefs.{Belief, Closed, Kept, Closing, Opening, image_in}
 use Rattle.sd_store_laws.specs.InUse.{CatalogFollows}
 use Rattle.sd_store_laws.specs.Makers.{DumpShows, HasMemory}
-use Rattle.sd_store_laws.specs.Needed.{IsNeeded}
 use Rattle.sd_store_laws.specs.Needs.{IsNeededIn}
 use Rattle.sd_store_laws.specs.SlotSteps.{with_belief}
 use Rattle.sd_store_laws.specs.Store.{IsFresh, IsNext, IsNextDump, jobs}
 use Rattle.sd_belief.specs.Believes.{Believes, HasStore}
 use Rattle.sd_belief.specs.DumperSteps.{AsksFor, commits, opens_gate}
 use Rattle.sd_belief.specs.GateSteps.{GateSteps}
-use Rattle.sd_belief.specs.InUse.{IsFrozenAs, IsImageOn, IsInUseOn, IsMakingOn, IsReserved, IsRunningOn, IsSlotFor, chain_of, pending_dump}
+use Rattle.sd_belief.specs.InUse.{IsFrozenAs, IsImageOn, IsInUseOn, IsMakingOn, IsRunningOn, IsSlotFor, chain_of, pending_dump}
 use Rattle.sd_belief.specs.StoreSteps.{MayAsk, MayOpen, QuietSteps}
 use Rattle.sd_belief.specs.View.{CoreView, history_of}
 use Rattle.sd_belief.proofs.Asks.{HasIt, IsChangedAt, changed_by, in_use_then, unchanged_at}

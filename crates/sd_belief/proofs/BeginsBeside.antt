@@ -1,9 +1,8 @@
 -- A checkpoint begins beside a merge: none of its slots has what the merge needs.
-use Rattle.std.proofs.Common.{◌≡◌, ◌≢◌, ℕ, zero, suc, ◌<◌, ◌≤◌, List, [], ◌∷◌, length, Option, Some, None, Contains, slice_get, refl, sym, ◌∙◌, ap, subst, inl, inr, arith}
+use Rattle.std.proofs.Common.{◌≡◌, ◌≢◌, ℕ, zero, suc, ◌<◌, List, [], ◌∷◌, length, Option, Some, None, Contains, slice_get, refl, sym, subst, inl, arith}
 use Rattle.sd_image.specs.Image.{Image}
 use Rattle.sd_image.specs.Shows.{IsNamed}
-use Rattle.sd_chain.specs.Catalog.{Opened, Places, place_of}
-use Rattle.sd_chain.specs.Reaches.{ReachesSerial}
+use Rattle.sd_chain.specs.Catalog.{Places}
 use Rattle.sd_chain.specs.Tells.{Tells}
 use Rattle.sd_gate.specs.declared.phase.Phase.{Phase}
 use Rattle.sd_gate.specs.Requests.{Asked}
@@ -14,15 +13,14 @@ use Rattle.sd_merge.specs.declared.stage.Stage.TheVariants as copy
 use Rattle.sd_merge.specs.Copying.{Copying}
 use Rattle.sd_merge.specs.Merger.{Doing, Retiring, due, copying, opened, retiring, list_in, source_in}
 use Rattle.sd_merge.specs.Merger as merger
-use Rattle.sd_rounds.specs.Dumper.{Running}
+use Rattle.sd_rounds.specs.Dumper.{IsReserved, Running}
 use Rattle.sd_rounds.specs.Pass.{Place}
 use Rattle.sd_store_laws.specs.Beliefs.{Belief, Kept}
 use Rattle.sd_store_laws.specs.InUse.{HasImage, IsCatalogInUse, ToldReachesSo}
 use Rattle.sd_store_laws.specs.Reached.{Reaches, beyond, itself}
 use Rattle.sd_store_laws.specs.Store.{Store}
-use Rattle.sd_belief.specs.CheckpointSteps.{IsUnread, LeavesMerge, LeavesMergeAt}
-use Rattle.sd_belief.specs.InUse.{IsReserved}
-use Rattle.sd_belief.specs.Merges.{IsAskedIn, IsCopyOn, IsCopying, IsListedOn, IsMergeAt, IsMergeOn, IsOtherImage, IsRepeating, IsRetiredOn, IsRetiringOn, IsSpared, IsUnmerged, MakesOther}
+use Rattle.sd_belief.specs.CheckpointSteps.{IsUnread, LeavesMerge}
+use Rattle.sd_belief.specs.Merges.{IsAskedIn, IsCopying, IsMergeAt, IsMergeOn, IsOtherImage, IsRepeating, IsRetiringOn, MakesOther}
 use Rattle.sd_belief.proofs.Places.{get_contains}
 
 module _ (places : Places) (store : Store) (beliefs : List Belief) (in_use : IsCatalogInUse places beliefs) (told : Tells places store.catalog) (reaches : ToldReachesSo places)
@@ -160,7 +158,7 @@ module _ (places : Places) (store : Store) (beliefs : List Belief) (in_use : IsC
           };
           later = λ place other after at. (let l = m.later place other after at in record {
             image = l.image;
-            kept = l.kept;
+            has = l.has;
             unneeded = l.unneeded;
             spared = λ reserved. apart other.slot place other reserved at refl;
           });

@@ -9,7 +9,7 @@ use Rattle.sd_chain.specs.Reaches.{ReachesSerial}
 use Rattle.sd_chain.specs.Tells.{Agrees, IsToldAs, Tells}
 use Rattle.sd_gate.specs.Requests.{Asked}
 use Rattle.sd_journal.specs.History.{History}
-use Rattle.sd_rounds.specs.Dumper.{Running}
+use Rattle.sd_rounds.specs.Dumper.{IsReserved, Running}
 use Rattle.sd_rounds.specs.Keeps.{Rests}
 use Rattle.sd_rounds.specs.Making.{Making}
 use Rattle.sd_store_laws.specs.Beliefs.{Belief, Kept, image_at, image_in}
@@ -23,7 +23,7 @@ use Rattle.sd_store_laws.specs.Store.{jobs}
 use Rattle.sd_belief.specs.Believes.{Believes, HasStore}
 use Rattle.sd_belief.specs.CheckpointSteps.{BeginningIsBelieved, BeginsCheckpoint}
 use Rattle.sd_belief.specs.GateSteps.{GateSteps}
-use Rattle.sd_belief.specs.InUse.{IsAtRest, IsImageOn, IsInUseOn, IsReserved, chain_of}
+use Rattle.sd_belief.specs.InUse.{IsAtRest, IsImageOn, IsInUseOn, chain_of}
 use Rattle.sd_belief.specs.View.{CoreView, history_of}
 use Rattle.sd_belief.specs.Merges.{IsMergeOn}
 use Rattle.sd_belief.proofs.BeginsBeside.{merge_on_beside, uncalled_by_work}
@@ -73,7 +73,7 @@ module _ (gates : GateSteps) (needs : NeedsNoMore) (reached : NeededIsReached) (
   needed_in slot i r has needed = elim ((reached b.store.catalog b.store.work i).0 (subst (λ numbers. IsNeeded b.store.catalog numbers i) only_work needed)) [
     | inl way ↦ by_tip way.0 way.1 way.2
     | inr way ↦ uncalled_by_work places b.store b.beliefs u.catalog told reaches members old.phases asked bodies old.numbers.serial running slot i
-        (inl (ap (slice_get b.beliefs) (sym its) ∙ kept.1)) r old.merger s.merge merge way.0 way.1 way.2 way.3 way.4
+        (inl (ap (slice_get b.beliefs) (sym its) ∙ kept.1)) r old.merger (s.merge (so.fall.1 b.has.sound.fall)) merge way.0 way.1 way.2 way.3 way.4
   ]
     where
       kept : (k : ℕ) × (slice_get b.beliefs k ≡ Some (Kept i))
@@ -210,7 +210,7 @@ module _ (gates : GateSteps) (needs : NeedsNoMore) (reached : NeededIsReached) (
       (merge_then old.numbers.serial b.store (Some running) (slots_at old.phases bodies b.beliefs) old.numbers.serial (begun b.store running.parent) (Some running) (slots_at old.phases bodies b.beliefs)
       beside asked asked refl old.merger (b.knows.merging s.rest.stands).spelled (record {
         spelled = (b.knows.merging s.rest.stands).spelled;
-        is = merge_on_beside places b.store b.beliefs u.catalog told reaches members old.phases asked bodies old.numbers.serial running s.fresh.0 old.merger s.merge merge;
+        is = merge_on_beside places b.store b.beliefs u.catalog told reaches members old.phases asked bodies old.numbers.serial running s.fresh.0 old.merger (s.merge (so.fall.1 b.has.sound.fall)) merge;
       }))
 
 pub beginning_lem : GateSteps → NeedsNoMore → NeededIsReached → (places : Places) → CatalogInUseTells places → ToldReachesSo places

@@ -1,14 +1,11 @@
 -- A merge begins, and its image.
-use Rattle.std.proofs.Common.{◌≡◌, ◌≢◌, ◌⊎◌, ℕ, zero, suc, ◌+◌, ◌<◌, ◌≤◌, true, List, [], ◌∷◌, ◌++◌, length, Option, Some, None, IfSome, Contains, option_and_then, slice_get, refl, sym, ◌∙◌, ap, subst, inl, inr, arith}
+use Rattle.std.proofs.Common.{◌≡◌, ◌≢◌, ℕ, zero, suc, ◌+◌, ◌<◌, List, [], ◌∷◌, length, Option, Some, None, IfSome, Contains, option_and_then, slice_get, refl, sym, ◌∙◌, ap, subst, inl, inr, arith}
 use Rattle.std.proofs.lemmas.List.Elements.{Contains-append_cases, Contains-append_left}
-use Rattle.std.proofs.lemmas.Option.{same_Some}
 use Rattle.sd_disk.specs.Contents.{file_at}
-use Rattle.sd_image.specs.declared.header.Header.{Header}
 use Rattle.sd_image.specs.Image.{Image}
 use Rattle.sd_image.specs.Shows.{IsNamed, IsTip}
 use Rattle.sd_image.specs.Table.{Listed}
 use Rattle.sd_chain.specs.Catalog.{Opened, Places, place_of}
-use Rattle.sd_chain.specs.Catalog as catalog
 use Rattle.sd_chain.specs.Reaches.{ReachesSerial}
 use Rattle.sd_chain.specs.Tells.{Agrees, IsToldAs, Tells}
 use Rattle.sd_gate.specs.declared.phase.Phase.{Phase}
@@ -25,17 +22,17 @@ use Rattle.sd_merge.specs.Sources.{few_pages, listed_count, source_from}
 use Rattle.sd_rounds.specs.Dumper.{Running}
 use Rattle.sd_rounds.specs.Making.{Making}
 use Rattle.sd_rounds.specs.MakingLaws.{MakingLaws}
-use Rattle.sd_store_laws.specs.Beliefs.{Belief, Kept, Opening, IsAdded, image_at, image_in}
-use Rattle.sd_store_laws.specs.InUse.{CatalogInUseTells, HasImage, ToldReachesSo}
+use Rattle.sd_store_laws.specs.Beliefs.{Kept, Opening, IsAdded, image_at, image_in}
+use Rattle.sd_store_laws.specs.InUse.{CatalogInUseTells, ToldReachesSo}
 use Rattle.sd_store_laws.specs.Makers.{IsAbove}
-use Rattle.sd_store_laws.specs.Needed.{IsNeeded, NeededIsReached}
+use Rattle.sd_store_laws.specs.Needed.{NeededIsReached}
 use Rattle.sd_store_laws.specs.Needs.{IsNeededIn, NeedsNoMore}
 use Rattle.sd_store_laws.specs.Reached.{Reaches}
 use Rattle.sd_store_laws.specs.Steps.{merging}
 use Rattle.sd_store_laws.specs.Store.{IsNextDump, Store, jobs}
-use Rattle.sd_belief.specs.Believes.{Believes, HasStore}
+use Rattle.sd_belief.specs.Believes.{Believes}
 use Rattle.sd_belief.specs.GateSteps.{GateSteps}
-use Rattle.sd_belief.specs.InUse.{IsAtWork, IsImageOn, IsInUseOn, IsNewNumber}
+use Rattle.sd_belief.specs.InUse.{IsAtWork, IsImageOn, IsInUseOn}
 use Rattle.sd_belief.specs.MergerSteps.{BeginsMerge, BeginsMerged, IsUncalled, MergeBeginningIsBelieved}
 use Rattle.sd_belief.specs.Merges.{IsCopying, IsMergeAt, IsMergeOn, IsOtherImage, IsRepeating, IsSilent, IsUnmerged, MakesOther}
 use Rattle.sd_belief.specs.View.{CoreView, history_of}

@@ -7,7 +7,6 @@ use Rattle.sd_disk.specs.Contents.{file_at}
 use Rattle.sd_image.specs.Image.{Image, IsImage, gate}
 use Rattle.sd_image.specs.Shows.{Holds, IsNamed, IsRestorable}
 use Rattle.sd_gate.specs.declared.phase.Phase.{Phase}
-use Rattle.sd_gate.specs.declared.phase.Phase.TheVariants.{Whole}
 use Rattle.sd_gate.specs.declared.slot_state.SlotState.TheVariants.{Open as OpenSlot}
 use Rattle.sd_gate.specs.Requests.{Asked}
 use Rattle.sd_merge.specs.declared.retired.Retired.{Retired}
@@ -19,7 +18,7 @@ use Rattle.sd_merge.specs.Merger.{Doing, Retiring, due, copying, opened, retirin
 use Rattle.sd_merge.specs.Merger as merger
 use Rattle.sd_merge.specs.Merging.{KeepsCopy}
 use Rattle.sd_rounds.specs.declared.stage.Stage.TheVariants.{Format}
-use Rattle.sd_rounds.specs.Dumper.{Running}
+use Rattle.sd_rounds.specs.Dumper.{IsReserved, Running}
 use Rattle.sd_rounds.specs.Making.{Making}
 use Rattle.sd_rounds.specs.MakingLaws.{Pages}
 use Rattle.sd_rounds.specs.Pass.{Place}
@@ -33,8 +32,8 @@ use Rattle.sd_store_laws.specs.Steps.{Adds, Retires}
 use Rattle.sd_store_laws.specs.Store.{IsFresh, IsMerged, IsSound, Store, jobs}
 use Rattle.sd_belief.specs.Believes.{Believes}
 use Rattle.sd_belief.specs.declared.standing.Standing.TheVariants.{Open}
-use Rattle.sd_belief.specs.InUse.{IsNewNumber, IsReserved, IsSlotFor}
-use Rattle.sd_belief.specs.Merges.{AreSpelled, IsAskedIn, IsCopyOn, IsCopying, IsListedOn, IsMergeAt, IsMergeInUse, IsMergeOn, IsReadOn, IsRepeating, IsRetiredOn, IsRetiringOn, IsSourceOn, IsSpared, IsTargetOn, IsUnmerged, IsOtherImage, MakesOther, order_of_slot, request_in_slot, stage_in_slot}
+use Rattle.sd_belief.specs.InUse.{IsNewNumber, IsSlotFor}
+use Rattle.sd_belief.specs.Merges.{AreSpelled, IsAskedIn, IsCopyOn, IsListedOn, IsMergeAt, IsMergeInUse, IsMergeOn, IsRepeating, IsRetiredOn, IsSpared, IsUnmerged, IsOtherImage, MakesOther, order_of_slot, request_in_slot, stage_in_slot}
 use Rattle.sd_belief.specs.View.{CoreView}
 use Rattle.sd_belief.proofs.Places.{get_contains, set_other}
 
@@ -210,8 +209,8 @@ module _ (last : ℕ) (store : Store) (running : Option Running) (old : Slots) (
   listed_then : (one : Retired) → IsListedOn store old.beliefs running one → IsListedOn store_now new.beliefs running_now one
   listed_then one l = record {
     image = l.image;
-    kept = (leaves.same one.slot l.spared).belief ∙ l.kept;
-    unneeded = λ needed. l.unneeded (leaves.needs one.slot l.image l.spared (ap (λ o. option_and_then image_in o) l.kept) needed);
+    has = ap (λ o. option_and_then image_in o) (leaves.same one.slot l.spared).belief ∙ l.has;
+    unneeded = λ needed. l.unneeded (leaves.needs one.slot l.image l.spared l.has needed);
     spared = leaves.spares one.slot l.spared;
   }
 

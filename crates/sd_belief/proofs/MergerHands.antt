@@ -1,5 +1,5 @@
 -- An outcome of a call of the merged image is handed in: it failed, or the image goes on.
-use Rattle.std.proofs.Common.{◌≡◌, ◌≢◌, ℕ, suc, ◌+◌, ◌*◌, ◌<◌, ◌≤◌, ◌==◌, Bool, true, false, if◌then◌else◌, List, [], ◌∷◌, length, Option, Some, None, IfSome, Contains, option_and_then, slice_get, slice_range, slice_set, refl, sym, ◌∙◌, ap, subst, inl, inr, arith}
+use Rattle.std.proofs.Common.{◌≡◌, ◌≢◌, ℕ, suc, ◌<◌, Bool, true, false, List, [], ◌∷◌, length, Option, Some, None, IfSome, slice_get, slice_set, refl, sym, ◌∙◌, ap, subst, inl, inr, arith}
 use Rattle.std.proofs.lemmas.Bool.{cases_eq}
 use Rattle.std.proofs.lemmas.Option.{same_Some, slice_get_within}
 use Rattle.sd_disk.specs.Contents.{file_at}
@@ -19,9 +19,6 @@ use Rattle.sd_gate.specs.Phases.{after, body_after, is_ready}
 use Rattle.sd_gate.specs.Plans.{Planned, plan_after}
 use Rattle.sd_gate.specs.Requests.{Asked, Made}
 use Rattle.sd_gate.specs.Sequences.{Calls, data_place}
-use Rattle.sd_journal.specs.History.{History}
-use Rattle.sd_merge.specs.declared.copy_progress.CopyProgress.TheVariants as copies
-use Rattle.sd_merge.specs.declared.source.Source.{Source}
 use Rattle.sd_merge.specs.declared.stage.Stage.{Stage as CopyStage}
 use Rattle.sd_merge.specs.declared.stage.Stage.TheVariants as copy
 use Rattle.sd_merge.specs.Copying.{Copying, GoesOn, IsReadyFor, plan_of as copy_plan, stage_after as copy_after, with_plan as copy_with}
@@ -31,20 +28,18 @@ use Rattle.sd_merge.specs.Merger.{copying}
 use Rattle.sd_merge.specs.Merger as merger
 use Rattle.sd_merge.specs.Merging.{KeepsCopy, MergeLaws, TellsIn}
 use Rattle.sd_rounds.specs.declared.image_order.ImageOrder.{ImageOrder}
-use Rattle.sd_rounds.specs.declared.stage.Stage.{Stage}
 use Rattle.sd_rounds.specs.declared.stage.Stage.TheVariants.{Format, Pass as PassStage, PageWrite, Close}
-use Rattle.sd_rounds.specs.declared.stage.Stage.TheVariants as rounds
 use Rattle.sd_rounds.specs.Dumper.{Running}
 use Rattle.sd_rounds.specs.Making.{plan_of, stage_after}
 use Rattle.sd_rounds.specs.MakingLaws.{MakingLaws, Pages, image_of}
 use Rattle.sd_rounds.specs.Pass.{Entry, Place, data_pages}
 use Rattle.sd_image.specs.declared.header.Kind.TheVariants.{Merged}
-use Rattle.sd_store_laws.specs.Beliefs.{Belief, Kept, Opening, image_at, image_in}
+use Rattle.sd_store_laws.specs.Beliefs.{Belief, Kept, Opening}
 use Rattle.sd_store_laws.specs.Below.{StepsGive}
 use Rattle.sd_store_laws.specs.Cut.{CutHoldsTheSame}
 use Rattle.sd_store_laws.specs.InUse.{CatalogFollows, IsCatalogInUse}
 use Rattle.sd_store_laws.specs.Gates.{IsBelievedAs}
-use Rattle.sd_store_laws.specs.Needs.{IsNeededIn, NeedsNoMore}
+use Rattle.sd_store_laws.specs.Needs.{NeedsNoMore}
 use Rattle.sd_store_laws.specs.SlotSteps.{ClosingRetires}
 use Rattle.sd_store_laws.specs.Steps.{StepsKeep}
 use Rattle.sd_store_laws.specs.Store.{Store}
@@ -54,8 +49,8 @@ use Rattle.sd_belief.specs.DumperOutcomes.{LeavesCatalog, closes_for_sure}
 use Rattle.sd_belief.specs.GateSteps.{GateSteps}
 use Rattle.sd_belief.specs.InUse.{IsInUseOn, IsSlotFor}
 use Rattle.sd_belief.specs.Knows.{SeesStore}
-use Rattle.sd_belief.specs.MergerOutcomes.{IsMergersOutcome, MergeGoesDown, MergedGoesOn, OutcomeIsBelieved}
-use Rattle.sd_belief.specs.Merges.{IsAskedIn, IsCopyOn, IsCopying, IsMergeAt, IsMergeOn, IsReadOn, IsRepeating, order_of_slot, request_in_slot, stage_in_slot}
+use Rattle.sd_belief.specs.MergerOutcomes.{MergeGoesDown, MergedGoesOn, OutcomeIsBelieved}
+use Rattle.sd_belief.specs.Merges.{IsAskedIn, IsCopyOn, IsCopying, IsMergeAt, IsMergeOn, IsReadOn, order_of_slot, request_in_slot, stage_in_slot}
 use Rattle.sd_belief.specs.declared.standing.Standing.TheVariants as standing
 use Rattle.sd_belief.specs.StoreSteps.{QuietSteps}
 use Rattle.sd_belief.specs.View.{CoreView, history_of}
@@ -63,7 +58,7 @@ use Rattle.sd_belief.proofs.HandsImage.{SlotGoesOn, calls_of_done, hands_slot}
 use Rattle.sd_belief.proofs.HandsLaw.{file_set, opening_before}
 use Rattle.sd_belief.proofs.HandsSlot.{belief_after}
 use Rattle.sd_belief.proofs.MergeStays.{copy_stays, holds_same, slots_at}
-use Rattle.sd_belief.proofs.MergerOutcome.{SlotHandedIn, asked_then, believes_handed, bodies_then, count_handed, handed_body, handed_phase, has_handed, ids_handed, others_handed, phases_then, slot_handed, store_same, use_handed}
+use Rattle.sd_belief.proofs.MergerOutcome.{SlotHandedIn, asked_then, believes_handed, bodies_then, count_handed, has_handed, ids_handed, others_handed, phases_then, slot_handed, store_same, use_handed}
 use Rattle.sd_belief.proofs.PageTold.{page_told}
 use Rattle.sd_belief.proofs.Places.{body_other, set_count, set_other, set_same}
 

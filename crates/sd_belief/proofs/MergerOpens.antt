@@ -1,5 +1,5 @@
 -- The merged image is open: it enters the catalog, and the images of the list begin to be closed.
-use Rattle.std.proofs.Common.{◌≡◌, ◌≢◌, ◌⊎◌, ℕ, zero, suc, ◌+◌, ◌<◌, ◌≤◌, Bool, true, false, List, [], ◌∷◌, ◌++◌, length, Option, Some, None, IfSome, Contains, option_and_then, slice_get, slice_set, refl, sym, ◌∙◌, ap, subst, inl, inr, arith}
+use Rattle.std.proofs.Common.{◌≡◌, ◌≢◌, ◌⊎◌, ℕ, zero, suc, ◌<◌, Bool, true, List, [], ◌∷◌, length, Option, Some, None, IfSome, Contains, option_and_then, slice_get, slice_set, refl, sym, ◌∙◌, ap, subst, inl, inr, arith}
 use Rattle.std.proofs.lemmas.Bool.{cases_Bool, cases_eq}
 use Rattle.std.proofs.lemmas.Option.{same_Some, slice_get_within}
 use Rattle.sd_disk.specs.Contents.{file_at}
@@ -20,8 +20,6 @@ use Rattle.sd_journal.specs.History.{Base, History}
 use Rattle.sd_merge.specs.declared.merge_progress.MergeProgress.{MergeProgress}
 use Rattle.sd_merge.specs.declared.merge_progress.MergeProgress.TheVariants as progress
 use Rattle.sd_merge.specs.declared.retired.Retired.{Retired}
-use Rattle.sd_merge.specs.declared.stage.Stage.{Stage as CopyStage}
-use Rattle.sd_merge.specs.declared.stage.Stage.TheVariants as copy
 use Rattle.sd_merge.specs.Copying.{Copying, IsReadyFor}
 use Rattle.sd_merge.specs.Files.{IsFiled, IsFiledIn}
 use Rattle.sd_merge.specs.Merger.{Retires, awaited, copying, opened, retiring}
@@ -36,11 +34,10 @@ use Rattle.sd_rounds.specs.Files.{IsFiledIn as IsDumpFiledIn}
 use Rattle.sd_rounds.specs.Making.{Making}
 use Rattle.sd_rounds.specs.MakingLaws.{MakingLaws, Pages, image_of}
 use Rattle.sd_rounds.specs.Pass.{Pass}
-use Rattle.sd_store_laws.specs.Beliefs.{Belief, Kept, Closing, Opening, image_at, image_in}
+use Rattle.sd_store_laws.specs.Beliefs.{Belief, Kept, Opening, image_at, image_in}
 use Rattle.sd_store_laws.specs.Below.{StepsGive}
 use Rattle.sd_store_laws.specs.Gates.{IsBelievedAs}
 use Rattle.sd_store_laws.specs.InUse.{CatalogFollows, CatalogInUseTells, HasImage, IsCatalogInUse, ToldReachesSo}
-use Rattle.sd_store_laws.specs.Makers.{IsAbove}
 use Rattle.sd_store_laws.specs.Needed.{NeededIsReached}
 use Rattle.sd_store_laws.specs.Needs.{IsNeededIn, NeedsNoMore}
 use Rattle.sd_store_laws.specs.Reached.{Reaches}
@@ -48,10 +45,9 @@ use Rattle.sd_store_laws.specs.SlotSteps.{with_belief}
 use Rattle.sd_store_laws.specs.Steps.{Adds, StepsKeep, replaced}
 use Rattle.sd_store_laws.specs.Store.{IsNextDump, IsTwin, Store, jobs}
 use Rattle.sd_belief.specs.Believes.{Believes, HasStore}
-use Rattle.sd_belief.specs.Calls.{IsFree, WasTold}
-use Rattle.sd_belief.specs.CheckpointSteps.{IsUnreached}
+use Rattle.sd_belief.specs.Calls.{IsFree}
 use Rattle.sd_belief.specs.GateSteps.{GateSteps, IsOnlyTwin}
-use Rattle.sd_belief.specs.InUse.{IsAtWork, IsClosing, IsImageOn, IsInUseOn, IsMakingOn, IsRunningOn, IsSlotFor, is_opening_at, pending_dump}
+use Rattle.sd_belief.specs.InUse.{IsAtWork, IsClosing, IsImageOn, IsInUseOn, IsSlotFor, is_opening_at, pending_dump}
 use Rattle.sd_belief.specs.MergerOutcomes.{MayRetire, MergedOpens, OutcomeIsBelieved}
 use Rattle.sd_belief.specs.MergerSteps.{IsUncalled}
 use Rattle.sd_belief.specs.Merges.{IsAskedIn, IsCopyOn, IsCopying, IsListedOn, IsMergeAt, IsMergeOn, IsOtherImage, IsUnmerged, MakesOther, order_of_slot, request_in_slot, stage_in_slot}
@@ -337,18 +333,10 @@ module _ (quiet : QuietSteps) (gates : GateSteps) (making : MakingLaws) (keeps :
     here : HasImage beliefs_now one.slot j
     here = subst (λ n. HasImage beliefs_now n j) m.slot its.2
 
-    whole_now : slice_get phases_now one.slot ≡ Some Whole
-    whole_now = elim (cases_eq one.slot target) [
-      | inl its_slot ↦ ap (slice_get phases_now) its_slot ∙ phase_then
-      | inr differs ↦ set_other old.phases call.request.id.slot one.slot (after phase call.request.id.call (is_done call.answer)) (λ same. differs (same ∙ on)) ∙ m.whole
-    ]
-
-    kept : slice_get beliefs_now one.slot ≡ Some (Kept j)
-    kept = elim here [
-      | inl is ↦ is
-      | inr closing_it ↦
-          let exact = use_now.exact one.slot Whole (Closing j) whole_now closing_it (none_on old new call phase asked bodies files s.outcome at b one.slot m.free) in
-          absurd (let no : Closing j ≡ Kept exact.0 = exact.1 in cc)
+    has : image_at beliefs_now one.slot ≡ Some j
+    has = elim here [
+      | inl is ↦ ap (λ o. option_and_then image_in o) is
+      | inr closing_it ↦ ap (λ o. option_and_then image_in o) closing_it
     ]
 
     at_it : (o : Opened) × (place_of places j.header.serial ≡ Some (Some o)) × IsToldAs o j × (o.slot ≡ one.slot)
@@ -385,7 +373,7 @@ module _ (quiet : QuietSteps) (gates : GateSteps) (making : MakingLaws) (keeps :
     ]
 
     listed : IsListedOn store_now beliefs_now running one
-    listed = record { image = j; kept = kept; unneeded = unneeded; spared = m.spared }
+    listed = record { image = j; has = has; unneeded = unneeded; spared = m.spared }
 
   -- ---- the core then
 

@@ -1,5 +1,5 @@
 -- An outcome of the merger's call is handed in: what is known of the open store then.
-use Rattle.std.proofs.Common.{◌≡◌, ◌≢◌, ◌⊎◌, ℕ, ◌+◌, ◌<◌, ◌≤◌, Bool, true, false, List, [], ◌∷◌, ◌++◌, length, Option, Some, None, IfSome, Contains, option_and_then, slice_get, slice_set, refl, sym, ◌∙◌, ap, subst, inl, inr, arith}
+use Rattle.std.proofs.Common.{◌≡◌, ◌≢◌, ℕ, ◌+◌, ◌<◌, Bool, true, false, List, [], ◌∷◌, ◌++◌, length, Option, Some, None, Contains, option_and_then, slice_get, slice_set, refl, sym, ◌∙◌, ap, subst, inl, inr, arith}
 use Rattle.std.proofs.lemmas.Bool.{cases_Bool, cases_eq, cases_lt}
 use Rattle.std.proofs.lemmas.Option.{same_Some, slice_get_within}
 use Rattle.sd_disk.specs.Contents.{file_at}
@@ -11,7 +11,6 @@ use Rattle.sd_chain.specs.Catalog.{Places, place_of, without_slot}
 use Rattle.sd_gate.specs.declared.phase.Phase.{Phase}
 use Rattle.sd_gate.specs.declared.call.Call.TheVariants.{Sync}
 use Rattle.sd_gate.specs.declared.phase.Phase.TheVariants.{Closing as ClosingPhase}
-use Rattle.sd_gate.specs.declared.request_id.RequestId.{RequestId}
 use Rattle.sd_gate.specs.Calls.{is_done}
 use Rattle.sd_gate.specs.Phases.{after, body_after, bodies_after, phases_after, synced}
 use Rattle.sd_gate.specs.Plans.{Planned}
@@ -22,11 +21,11 @@ use Rattle.sd_pagetable.specs.Contents.{Contents}
 use Rattle.sd_rounds.specs.declared.image_order.ImageOrder.{ImageOrder}
 use Rattle.sd_rounds.specs.declared.stage.Stage.{Stage}
 use Rattle.sd_rounds.specs.declared.stage.Stage.TheVariants.{Close}
-use Rattle.sd_rounds.specs.Dumper.{Running}
+use Rattle.sd_rounds.specs.Dumper.{IsReserved, Running}
 use Rattle.sd_rounds.specs.Keeps.{Rests, Within}
 use Rattle.sd_rounds.specs.Making.{plan_of}
 use Rattle.sd_rounds.specs.MakingLaws.{MakingLaws, Pages}
-use Rattle.sd_store_laws.specs.Beliefs.{Belief, Closed, Kept, Closing, Opening, image_at, image_in}
+use Rattle.sd_store_laws.specs.Beliefs.{Belief, Closed, Closing, Opening, image_at, image_in}
 use Rattle.sd_store_laws.specs.Below.{StepsGive}
 use Rattle.sd_store_laws.specs.Cut.{CutHoldsTheSame}
 use Rattle.sd_store_laws.specs.InUse.{CatalogFollows, IsCatalogInUse}
@@ -36,20 +35,20 @@ use Rattle.sd_store_laws.specs.Needs.{IsNeededIn, NeedsNoMore}
 use Rattle.sd_store_laws.specs.Needed.{by_job}
 use Rattle.sd_store_laws.specs.SlotSteps.{ClosingRetires, Lacks, with_belief}
 use Rattle.sd_store_laws.specs.Steps.{Retires, StepsKeep, begun, retired}
-use Rattle.sd_store_laws.specs.Store.{IsSound, Store, jobs}
+use Rattle.sd_store_laws.specs.Store.{IsSound, Store}
 use Rattle.sd_belief.specs.Believes.{Believes, HasStore}
 use Rattle.sd_belief.specs.Calls.{IsFree}
 use Rattle.sd_belief.specs.DumperOutcomes.{LeavesCatalog, closes_for_sure}
 use Rattle.sd_belief.specs.GateSteps.{GateSteps}
-use Rattle.sd_belief.specs.InUse.{IsAtWork, IsInUseOn, IsNewNumber, IsReserved, IsSlotFor, NoneAt, chain_of}
+use Rattle.sd_belief.specs.InUse.{IsAtWork, IsInUseOn, IsNewNumber, IsSlotFor, NoneAt, chain_of}
 use Rattle.sd_belief.specs.Knows.{ids_of}
 use Rattle.sd_belief.specs.MergerOutcomes.{IsMergersOutcome}
 use Rattle.sd_belief.specs.MergerSteps.{MakesInItsSlot, OnlyMerges}
-use Rattle.sd_belief.specs.Merges.{AreSpelled, IsMergeOn, IsSpared}
-use Rattle.sd_belief.specs.StoreSteps.{IsOutcomeOf, IsShut, QuietSteps}
+use Rattle.sd_belief.specs.Merges.{IsMergeOn, IsSpared}
+use Rattle.sd_belief.specs.StoreSteps.{IsShut, QuietSteps}
 use Rattle.sd_belief.specs.View.{CoreView, history_of}
 use Rattle.sd_belief.proofs.HandsImage.{SlotGoesOn}
-use Rattle.sd_belief.proofs.HandsLaw.{file_set, opening_before, removed_none}
+use Rattle.sd_belief.proofs.HandsLaw.{file_set, removed_none}
 use Rattle.sd_belief.proofs.HandsSlot.{belief_after, closed_exact, closing_in_doubt, syncs_closing}
 use Rattle.sd_belief.proofs.MergeStays.{HoldsStill, IsSameSlot, Slots, holds_same, retires_still, slots_at}
 use Rattle.sd_belief.proofs.MergerUse.{other_slot}

@@ -1,7 +1,7 @@
 -- The source of a merge is read, and its pages are written.
-use Rattle.std.proofs.Common.{◌≡◌, ◌≢◌, ◌⊎◌, ℕ, ◌<◌, ◌≤◌, Bool, true, false, List, [], ◌∷◌, ◌++◌, length, map, Option, Some, None, Contains, option_and_then, slice_get, slice_set, refl, sym, ◌∙◌, ap, subst, inl, inr, arith}
+use Rattle.std.proofs.Common.{◌≡◌, ◌≢◌, ◌⊎◌, ℕ, ◌<◌, ◌≤◌, true, List, [], ◌∷◌, ◌++◌, length, map, Option, Some, None, Contains, option_and_then, slice_get, slice_set, refl, sym, ◌∙◌, ap, subst, inl, inr, arith}
 use Rattle.std.proofs.lemmas.Bool.{false≢true}
-use Rattle.std.proofs.lemmas.Option.{same_Some}
+use Rattle.std.proofs.lemmas.Option.{same_Some, slice_get_within}
 use Rattle.sd_disk.specs.Contents.{file_at}
 use Rattle.sd_image.specs.Image.{Image, IsImage, gate, image_text}
 use Rattle.sd_image.specs.Table.{table_text}
@@ -25,8 +25,6 @@ use Rattle.sd_merge.specs.Files.{AreItsNumbers, FileLaws, FilesCopy, IsFiled, Is
 use Rattle.sd_merge.specs.Merger.{copying}
 use Rattle.sd_merge.specs.Merger as merger
 use Rattle.sd_merge.specs.Merging.{IsReadOf, IsSourceAt, KeepsCopy, MergeLaws, pages_after}
-use Rattle.sd_rounds.specs.declared.image_order.ImageOrder.{ImageOrder}
-use Rattle.sd_rounds.specs.declared.stage.Stage.TheVariants.{Pass as PassStage}
 use Rattle.sd_rounds.specs.Dumper.{Running}
 use Rattle.sd_rounds.specs.MakingLaws.{MakingLaws, Pages, image_of}
 use Rattle.sd_rounds.specs.Pass.{data_pages}
@@ -38,10 +36,10 @@ use Rattle.sd_store_laws.specs.Stays.{SourceReachesNeeded}
 use Rattle.sd_belief.specs.Believes.{Believes, HasStore}
 use Rattle.sd_belief.specs.Calls.{IsFree}
 use Rattle.sd_belief.specs.Knows.{ids_of}
-use Rattle.sd_belief.specs.InUse.{IsAtWork, IsFilled, IsInUseOn, IsReserved, IsSlotFor, call_of}
+use Rattle.sd_belief.specs.InUse.{IsAtWork, IsFilled, IsInUseOn, IsSlotFor, call_of}
 use Rattle.sd_belief.specs.MergerSteps.{AsksForMerged, MergesOn, TakesZeros}
-use Rattle.sd_belief.specs.Merges.{IsAskedIn, IsCopyOn, IsCopying, IsMergeAt, IsMergeOn, IsReadOn, IsSpared, MakesOther, order_of_slot, request_in_slot, stage_in_slot}
-use Rattle.sd_belief.specs.StoreSteps.{IsQuiet, MayAsk, QuietSteps}
+use Rattle.sd_belief.specs.Merges.{IsAskedIn, IsCopyOn, IsCopying, IsMergeAt, IsMergeOn, IsSpared, MakesOther, order_of_slot, request_in_slot, stage_in_slot}
+use Rattle.sd_belief.specs.StoreSteps.{IsQuiet, QuietSteps}
 use Rattle.sd_belief.specs.View.{CoreView, history_of}
 use Rattle.sd_belief.proofs.Asks.{unchanged_at}
 use Rattle.sd_belief.proofs.BeginsImage.{none_at}
@@ -49,7 +47,7 @@ use Rattle.sd_belief.proofs.FoundInUse.{contains_at, numbers_fall}
 use Rattle.sd_belief.proofs.MergerSource.{KnowsCatalog, source_in}
 use Rattle.sd_belief.proofs.MergerUse.{use_then}
 use Rattle.sd_belief.proofs.OpenCore.{believes_parts}
-use Rattle.sd_belief.proofs.Places.{free_there, get_contains, has_too, ids_set, set_same}
+use Rattle.sd_belief.proofs.Places.{get_contains, has_too, ids_set, set_same}
 use Rattle.sd_belief.proofs.WritesLaw.{first_is}
 
 -- an image that a slot keeps stands in a whole file
@@ -256,6 +254,63 @@ module _ (quiet : QuietSteps) (merge_laws : MergeLaws) (files_of : FileLaws) (ne
       (subst (λ st. IsSlotFor (stage_in_slot st) (order_of_slot merge.slot made.order.state) c0.pages c0.phase (file_at bodies merge.slot) (request_in_slot st None) c0.belief None) (sym stays)
       (filled0, refl, refl)))
 
+  -- ---- where a read is
+
+  same_opened : (x y : Opened) {p : Option (Option Opened)} → p ≡ Some (Some x) → p ≡ Some (Some y) → x ≡ y
+  same_opened x y one other = same_Some x y (same_Some (Some x) (Some y) (sym one ∙ other))
+
+  -- the image that is read stands for sure in its slot, and nobody fills that
+  record IsReadAt (old : CoreView) (beliefs : List Belief) (target : ℕ) (image : Image) (slot : ℕ) : Type 0 where
+    pub kept : slice_get beliefs slot ≡ Some (Kept image)
+    pub spared : IsSpared old.dumper.running slot
+    pub apart : slot ≢ target
+
+  read_at : (old new : CoreView) (merge : merger.Running) (made next : Copying) (ticket : ℕ) (request : Asked) (asked : List (Option Asked)) (bodies files : List (List ℕ))
+      → (its_catalog : old.catalog ≡ places) → (s : MergesOn old merge made ticket (ReadCall request) next new) → (b : Believes old asked bodies files)
+      → (r : IsReadOf places b.store.catalog (source quiet merge_laws files_of needed_of follows making plans bodies_fill places knows old new merge made next ticket (ReadCall request) asked bodies files its_catalog s b) request next.taking)
+      → IsReadAt old b.beliefs merge.slot r.image request.id.slot
+  read_at old new merge made next ticket request asked bodies files its_catalog s b r =
+      let k0 = k quiet merge_laws files_of needed_of follows making plans bodies_fill places knows old new merge made next ticket (ReadCall request) asked bodies files its_catalog s b in
+      let u0 = u quiet merge_laws files_of needed_of follows making plans bodies_fill places knows old new merge made next ticket (ReadCall request) asked bodies files its_catalog s b in
+      let source0 = k0.repeats.image in
+      let origin = k0.repeats.source in
+      let either : (r.image ≡ source0) ⊎ IsNeededIn b.store r.image = needed_of b.store source0 r.image b.has.sound origin.is r.reached in
+      let kept_in : Contains b.beliefs (Kept r.image) = elim either [
+        | inl same ↦ subst (λ i. Contains b.beliefs (Kept i)) (sym same) (get_contains b.beliefs origin.slot (Kept source0) origin.kept)
+        | inr needed ↦ b.has.slots.needed r.image needed
+      ] in
+      let at = contains_at b.beliefs (Kept r.image) kept_in in
+      let o = u0.catalog.opened at.0 r.image (inl at.1) in
+      let own_place = knows.sound.own r.opened r.among in
+      let same_place = ap (place_of places) (ap (λ (h : Header). h.serial) r.told.header) ∙ own_place in
+      let o_is : o.0 ≡ r.opened = same_opened o.0 r.opened (ap (λ p. place_of p r.image.header.serial) (sym its_catalog) ∙ o.1) same_place in
+      let slot_is : at.0 ≡ request.id.slot = sym o.3 ∙ ap (λ (x : Opened). x.slot) o_is ∙ r.slot in
+      let kept : slice_get b.beliefs request.id.slot ≡ Some (Kept r.image) = ap (slice_get b.beliefs) (sym slot_is) ∙ at.1 in
+      let image_there : image_at b.beliefs request.id.slot ≡ Some r.image = ap (λ o. option_and_then image_in o) kept in
+      let own_slot : (same : r.image ≡ source0) → request.id.slot ≡ origin.slot = (λ same. b.has.slots.serials request.id.slot origin.slot r.image source0 image_there (ap (λ o. option_and_then image_in o) origin.kept) (ap (λ (x : Image). x.header.serial) same)) in
+      record {
+        kept = kept;
+        spared = elim either [
+          | inl same ↦ subst (IsSpared old.dumper.running) (sym (own_slot same)) origin.spared
+          | inr needed ↦ needed_spared old asked bodies files b request.id.slot r.image image_there needed old.dumper.running u0.job
+        ];
+        apart = elim either [
+          | inl same ↦ (λ target_is. origin.apart (sym (own_slot same) ∙ target_is))
+          | inr needed ↦ (λ target_is. k0.repeats.slot.unneeded r.image (ap (image_at b.beliefs) (sym target_is) ∙ image_there) needed)
+        ];
+      }
+
+  pub spares_lem : (old new : CoreView) (merge : merger.Running) (made next : Copying) (ticket : ℕ) (request : Asked) (asked : List (Option Asked)) (bodies files : List (List ℕ))
+      → old.catalog ≡ places → MergesOn old merge made ticket (ReadCall request) next new → Believes old asked bodies files
+      → (request.id.slot < length old.phases) × IsSpared old.dumper.running request.id.slot
+  spares_lem old new merge made next ticket request asked bodies files its_catalog s b =
+      let source0 = source quiet merge_laws files_of needed_of follows making plans bodies_fill places knows old new merge made next ticket (ReadCall request) asked bodies files its_catalog s b in
+      let source_is0 = source_is quiet merge_laws files_of needed_of follows making plans bodies_fill places knows old new merge made next ticket (ReadCall request) asked bodies files its_catalog s b in
+      let steps0 = steps quiet merge_laws files_of needed_of follows making plans bodies_fill places knows old new merge made next ticket (ReadCall request) asked bodies files its_catalog s b in
+      let r : IsReadOf places b.store.catalog source0 request next.taking = merge_laws.reads ticket places b.store.catalog source0 made next request steps0 source_is0 in
+      let w = read_at old new merge made next ticket request asked bodies files its_catalog s b r in
+      (subst (λ n. request.id.slot < n) b.has.believed.count (slice_get_within b.beliefs request.id.slot (Kept r.image) w.kept), w.spared)
+
   -- ---- a read
 
   pub reads_lem : (old new : CoreView) (merge : merger.Running) (made next : Copying) (ticket : ℕ) (request : Asked) (asked : List (Option Asked)) (bodies files : List (List ℕ))
@@ -275,34 +330,14 @@ module _ (quiet : QuietSteps) (merge_laws : MergeLaws) (files_of : FileLaws) (ne
       let none0 = none_out quiet merge_laws files_of needed_of follows making plans bodies_fill places knows old new merge made next ticket (ReadCall request) asked bodies files its_catalog s b stage in
       let filled0 = filled_slot quiet merge_laws files_of needed_of follows making plans bodies_fill places knows old new merge made next ticket (ReadCall request) asked bodies files its_catalog s b stage in
       let r : IsReadOf places b.store.catalog source0 request next.taking = merge_laws.reads ticket places b.store.catalog source0 made next request steps0 source_is0 in
-      let origin = k0.repeats.source in
-      -- the image stands for sure in the slot that is read
-      let either : (r.image ≡ source0) ⊎ IsNeededIn b.store r.image = needed_of b.store source0 r.image b.has.sound origin.is r.reached in
-      let kept_in : Contains b.beliefs (Kept r.image) = elim either [
-        | inl same ↦ subst (λ i. Contains b.beliefs (Kept i)) (sym same) (get_contains b.beliefs origin.slot (Kept source0) origin.kept)
-        | inr needed ↦ b.has.slots.needed r.image needed
-      ] in
-      let at = contains_at b.beliefs (Kept r.image) kept_in in
-      let o = u0.catalog.opened at.0 r.image (inl at.1) in
-      let own_place = knows.sound.own r.opened r.among in
-      let same_place = ap (place_of places) (ap (λ (h : Header). h.serial) r.told.header) ∙ own_place in
-      let o_is : o.0 ≡ r.opened = same_opened o.0 r.opened (ap (λ p. place_of p r.image.header.serial) (sym its_catalog) ∙ o.1) same_place in
-      let slot_is : at.0 ≡ request.id.slot = sym o.3 ∙ ap (λ (x : Opened). x.slot) o_is ∙ r.slot in
-      let kept : slice_get b.beliefs request.id.slot ≡ Some (Kept r.image) = ap (slice_get b.beliefs) (sym slot_is) ∙ at.1 in
-      let image_there : image_at b.beliefs request.id.slot ≡ Some r.image = ap (λ o. option_and_then image_in o) kept in
+      let w = read_at old new merge made next ticket request asked bodies files its_catalog s b r in
+      let kept = w.kept in
       let phase = has_too b.beliefs old.phases request.id.slot (Kept r.image) (sym b.has.believed.count) kept in
       let whole = kept_whole phase.0 (file_at bodies request.id.slot) r.image
       (u0.exact request.id.slot phase.0 (Kept r.image) phase.1 kept (none_at asked old request.id.slot b.knows.out a.apart)) in
       let phase_is : slice_get old.phases request.id.slot ≡ Some Whole = phase.1 ∙ ap Some whole.0 in
-      let own_slot : (same : r.image ≡ source0) → request.id.slot ≡ origin.slot = (λ same. b.has.slots.serials request.id.slot origin.slot r.image source0 image_there (ap (λ o. option_and_then image_in o) origin.kept) (ap (λ (x : Image). x.header.serial) same)) in
-      let spared : IsSpared old.dumper.running request.id.slot = elim either [
-        | inl same ↦ subst (IsSpared old.dumper.running) (sym (own_slot same)) origin.spared
-        | inr needed ↦ needed_spared old asked bodies files b request.id.slot r.image image_there needed old.dumper.running u0.job
-      ] in
-      let apart : request.id.slot ≢ merge.slot = elim either [
-        | inl same ↦ (λ target_is. origin.apart (sym (own_slot same) ∙ target_is))
-        | inr needed ↦ (λ target_is. k0.repeats.slot.unneeded r.image (ap (image_at b.beliefs) (sym target_is) ∙ image_there) needed)
-      ] in
+      let spared = w.spared in
+      let apart = w.apart in
       asks_on_slot quiet merge_laws files_of needed_of follows making plans bodies_fill places knows old new merge made next ticket (ReadCall request) asked bodies files its_catalog s b stage
       request a.free a.apart a.outs Whole (Kept r.image) phase_is kept (ap (is_ready Whole) r.call)
       (record { opens = λ same. (let no : Read (data_place r.place) ≡ Open = sym r.call ∙ same in cc); closes = λ same. absurd (let no : Read (data_place r.place) ≡ CloseCall = sym r.call ∙ same in cc) }) spared
@@ -330,9 +365,6 @@ module _ (quiet : QuietSteps) (merge_laws : MergeLaws) (files_of : FileLaws) (ne
       }))
       (subst (λ st. IsSlotFor (stage_in_slot st) (order_of_slot merge.slot made.order.state) c0.pages c0.phase (file_at bodies merge.slot) (request_in_slot st (Some request)) c0.belief None) (sym next_stage)
       (filled0, refl, refl)))
-    where
-      same_opened : (x y : Opened) {p : Option (Option Opened)} → p ≡ Some (Some x) → p ≡ Some (Some y) → x ≡ y
-      same_opened x y one other = same_Some x y (same_Some (Some x) (Some y) (sym one ∙ other))
 
   -- ---- the write of a page that was read
 

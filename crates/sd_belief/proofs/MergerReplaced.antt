@@ -1,7 +1,6 @@
 -- The merged image enters the catalog: what the checkpoint that runs, or the next one, knows of the store stays.
-use Rattle.std.proofs.Common.{◌≡◌, ◌≢◌, ◌⊎◌, ℕ, zero, suc, ◌+◌, ◌<◌, ◌≤◌, Bool, true, List, [], ◌∷◌, ◌++◌, length, Option, Some, None, IfSome, Contains, option_and_then, slice_get, refl, sym, ◌∙◌, ap, subst, inl, inr, arith}
+use Rattle.std.proofs.Common.{◌≡◌, ◌≢◌, ℕ, ◌+◌, ◌<◌, ◌≤◌, true, List, [], ◌∷◌, ◌++◌, Option, Some, IfSome, Contains, refl, sym, ◌∙◌, ap, subst, inl, inr, arith}
 use Rattle.std.proofs.lemmas.List.Elements.{Contains-append_cases, Contains-append_left}
-use Rattle.std.proofs.lemmas.Option.{same_Some}
 use Rattle.sd_image.specs.Image.{Image}
 use Rattle.sd_image.specs.Shows.{IsNotAfter, IsRestorable, IsTip}
 use Rattle.sd_pagetable.specs.Contents.{Contents}
@@ -15,7 +14,7 @@ use Rattle.sd_store_laws.specs.Needs.{NeedsNoMore}
 use Rattle.sd_store_laws.specs.Needed.{by_job}
 use Rattle.sd_store_laws.specs.Steps.{Adds, StepsKeep, begun, replaced}
 use Rattle.sd_store_laws.specs.Store.{IsMerged, IsSound, IsTwin, Store, jobs}
-use Rattle.sd_belief.specs.InUse.{IsNewNumber, IsReserved, chain_of}
+use Rattle.sd_belief.specs.InUse.{IsNewNumber, chain_of}
 use Rattle.sd_belief.specs.Merges.{IsOtherImage, IsSpared, MakesOther}
 use Rattle.sd_belief.proofs.BeginsImage.{in_front}
 use Rattle.sd_belief.proofs.MergerOutcome.{StoreThen}

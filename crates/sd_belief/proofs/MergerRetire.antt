@@ -1,5 +1,5 @@
 -- The next call on an image of a merge's list is asked for.
-use Rattle.std.proofs.Common.{◌≡◌, ◌≢◌, ◌⊎◌, ◌↔◌, ℕ, ◌<◌, ◌≤◌, true, List, [], ◌∷◌, Option, Some, None, Contains, option_and_then, slice_get, slice_set, refl, sym, ◌∙◌, ap, subst, inl, inr, arith}
+use Rattle.std.proofs.Common.{◌≡◌, ◌↔◌, ℕ, ◌≤◌, true, List, [], Option, Some, None, option_and_then, slice_get, slice_set, refl, sym, ◌∙◌, ap, subst, inl, inr}
 use Rattle.std.proofs.lemmas.Option.{same_Some}
 use Rattle.sd_disk.specs.Contents.{file_at}
 use Rattle.sd_image.specs.Image.{Image}
@@ -8,16 +8,14 @@ use Rattle.sd_gate.specs.Phases.{is_ready}
 use Rattle.sd_gate.specs.Plans.{Gives, Planned}
 use Rattle.sd_gate.specs.Requests.{Asked}
 use Rattle.sd_journal.specs.History.{History}
-use Rattle.sd_merge.specs.declared.merge_step.MergeStep.{MergeStep}
 use Rattle.sd_merge.specs.declared.merge_step.MergeStep.TheVariants.{Call}
-use Rattle.sd_merge.specs.declared.retired.Retired.{Retired}
 use Rattle.sd_merge.specs.Merger.{Doing, RetiresOn, Retiring, retiring}
 use Rattle.sd_merge.specs.Merger as merger
 use Rattle.sd_rounds.specs.declared.image_order.ImageOrder.{ImageOrder}
 use Rattle.sd_rounds.specs.declared.stage.Stage.TheVariants.{Format}
 use Rattle.sd_rounds.specs.Dumper.{Running}
 use Rattle.sd_rounds.specs.MakingLaws.{MakingLaws}
-use Rattle.sd_store_laws.specs.Beliefs.{Belief, Closed, Kept, Closing, Opening, image_at, image_in}
+use Rattle.sd_store_laws.specs.Beliefs.{Belief, Kept, Closing, image_in}
 use Rattle.sd_store_laws.specs.InUse.{CatalogFollows}
 use Rattle.sd_store_laws.specs.Needs.{IsNeededIn}
 use Rattle.sd_store_laws.specs.SlotSteps.{with_belief}
@@ -25,7 +23,7 @@ use Rattle.sd_belief.specs.Believes.{Believes, HasStore}
 use Rattle.sd_belief.specs.GateSteps.{GateSteps}
 use Rattle.sd_belief.specs.InUse.{IsInUseOn, IsSlotFor}
 use Rattle.sd_belief.specs.MergerSteps.{AsksToRetire}
-use Rattle.sd_belief.specs.Merges.{IsListedOn, IsMergeAt, IsMergeOn, IsRetiredOn, IsRetiringOn, order_of_slot}
+use Rattle.sd_belief.specs.Merges.{IsMergeAt, IsMergeOn, IsRetiredOn, IsRetiringOn, order_of_slot}
 use Rattle.sd_belief.specs.StoreSteps.{MayAsk, QuietSteps}
 use Rattle.sd_belief.specs.View.{CoreView, history_of}
 use Rattle.sd_belief.proofs.Asks.{HasIt, IsChangedAt, changed_by, unchanged_at}
@@ -125,7 +123,7 @@ module _ (quiet : QuietSteps) (gates : GateSteps) (follows : CatalogFollows) (ma
     };
     later = λ place other after at. (let l = m.later place other after at in record {
       image = l.image;
-      kept = changed.others other.slot (λ same. m.apart r.ended place m.one other after m.there at (sym same)) ∙ l.kept;
+      has = ap (λ o. option_and_then image_in o) (changed.others other.slot (λ same. m.apart r.ended place m.one other after m.there at (sym same))) ∙ l.has;
       unneeded = l.unneeded;
       spared = l.spared;
     });

@@ -1,16 +1,15 @@
 -- An outcome of a call on an image that the merger closes is handed in.
-use Rattle.std.proofs.Common.{◌≡◌, ◌≢◌, ℕ, ◌+◌, ◌<◌, ◌≤◌, Bool, true, false, List, [], ◌∷◌, length, Option, Some, None, Contains, option_and_then, slice_get, slice_set, refl, sym, ◌∙◌, ap, subst, inl, inr, arith}
+use Rattle.std.proofs.Common.{◌≡◌, ◌≢◌, ℕ, ◌+◌, ◌<◌, true, List, [], ◌∷◌, length, Option, Some, None, option_and_then, slice_get, slice_set, refl, sym, ◌∙◌, ap, subst, inl, inr, arith}
 use Rattle.std.proofs.lemmas.Bool.{false≢true}
 use Rattle.std.proofs.lemmas.Option.{same_Some, slice_get_within}
 use Rattle.sd_disk.specs.Contents.{file_at}
 use Rattle.sd_image.specs.declared.header.Header.{Header}
 use Rattle.sd_image.specs.declared.header.Kind.TheVariants.{Merged}
-use Rattle.sd_image.specs.Image.{Image, IsImage, gate, image_text}
+use Rattle.sd_image.specs.Image.{Image}
 use Rattle.sd_image.specs.Table.{Listed}
 use Rattle.sd_gate.specs.declared.phase.Phase.{Phase}
 use Rattle.sd_gate.specs.declared.phase.Phase.TheVariants.{Raw, RawClosing, Whole, Closing as ClosingPhase, Shut, ShutSynced, Bare, Writing, Ready, Opening as OpeningPhase, Doubt, DoubtSynced}
 use Rattle.sd_gate.specs.declared.slot_state.SlotState.TheVariants.{Open as OpenSlot}
-use Rattle.sd_gate.specs.Calls.{is_done}
 use Rattle.sd_gate.specs.Inspections.{nothing}
 use Rattle.sd_gate.specs.Laws.{PlansLead}
 use Rattle.sd_gate.specs.Phases.{after, body_after, may_close}
@@ -23,12 +22,11 @@ use Rattle.sd_merge.specs.declared.retired.Retired.{Retired}
 use Rattle.sd_merge.specs.Merger.{EndsOne, GoesOnWith, HandsClosing, Retiring, retiring}
 use Rattle.sd_merge.specs.Merger as merger
 use Rattle.sd_rounds.specs.declared.image_order.ImageOrder.{ImageOrder}
-use Rattle.sd_rounds.specs.declared.stage.Stage.{Stage}
 use Rattle.sd_rounds.specs.declared.stage.Stage.TheVariants.{Format, Close}
 use Rattle.sd_rounds.specs.Dumper.{Running}
 use Rattle.sd_rounds.specs.Making.{stage_after}
-use Rattle.sd_rounds.specs.MakingLaws.{MakingLaws, image_of}
-use Rattle.sd_store_laws.specs.Beliefs.{Belief, Closed, Kept, Closing, Opening, image_at, image_in}
+use Rattle.sd_rounds.specs.MakingLaws.{MakingLaws}
+use Rattle.sd_store_laws.specs.Beliefs.{Belief, image_at, image_in}
 use Rattle.sd_store_laws.specs.Below.{StepsGive}
 use Rattle.sd_store_laws.specs.Cut.{CutHoldsTheSame}
 use Rattle.sd_store_laws.specs.Gates.{IsBelievedAs}
@@ -38,7 +36,6 @@ use Rattle.sd_store_laws.specs.SlotSteps.{ClosingRetires}
 use Rattle.sd_store_laws.specs.Steps.{StepsKeep}
 use Rattle.sd_store_laws.specs.Store.{Store}
 use Rattle.sd_belief.specs.Believes.{Believes}
-use Rattle.sd_belief.specs.Calls.{WasTold}
 use Rattle.sd_belief.specs.DumperOutcomes.{closes_for_sure}
 use Rattle.sd_belief.specs.GateSteps.{GateSteps}
 use Rattle.sd_belief.specs.InUse.{AreExact, IsSlotFor, NoneAt}
@@ -49,25 +46,34 @@ use Rattle.sd_belief.specs.View.{CoreView}
 use Rattle.sd_belief.proofs.HandsImage.{SlotGoesOn, calls_of_done, hands_slot}
 use Rattle.sd_belief.proofs.HandsLaw.{file_set}
 use Rattle.sd_belief.proofs.HandsSlot.{belief_after}
-use Rattle.sd_belief.proofs.MergerOutcome.{SlotHandedIn, asked_then, believes_handed, bodies_then, handed_body, handed_phase, none_on, phases_then, slot_handed}
+use Rattle.sd_belief.proofs.MergerOutcome.{SlotHandedIn, asked_then, believes_handed, bodies_then, none_on, phases_then, slot_handed}
 use Rattle.sd_belief.proofs.Places.{has_too, set_same}
 
 -- ---- an image of the list begins to be closed
 
 -- the gate of an image that is kept may be closed
-kept_closes : (phase : Phase) (body : List ℕ) (i : Image) → IsBelievedAs phase body (Kept i) → may_close phase ≡ true
-kept_closes Raw body i is = refl
-kept_closes RawClosing body i is = refl
-kept_closes Whole body i is = refl
-kept_closes ClosingPhase body i is = refl
-kept_closes Shut body i is = absurd (let no : Kept i ≡ Closed = is in cc)
-kept_closes ShutSynced body i is = absurd (let no : Kept i ≡ Closed = is in cc)
-kept_closes Bare body i is = absurd (let no : Kept i ≡ Closed = is in cc)
-kept_closes Writing body i is = absurd (let no : Kept i ≡ Closed = is in cc)
-kept_closes Ready body i is = absurd (let no : Kept i ≡ Closed = is in cc)
-kept_closes OpeningPhase body i is = refl
-kept_closes Doubt body i is = refl
-kept_closes DoubtSynced body i is = refl
+image_closes : (phase : Phase) (body : List ℕ) (belief : Belief) (i : Image) → IsBelievedAs phase body belief → image_in belief ≡ Some i → may_close phase ≡ true
+image_closes Raw body belief i is has = refl
+image_closes RawClosing body belief i is has = refl
+image_closes Whole body belief i is has = refl
+image_closes ClosingPhase body belief i is has = refl
+image_closes Shut body belief i is has = absurd (let no : None ≡ Some i = sym (ap image_in is) ∙ has in cc)
+image_closes ShutSynced body belief i is has = absurd (let no : None ≡ Some i = sym (ap image_in is) ∙ has in cc)
+image_closes Bare body belief i is has = absurd (let no : None ≡ Some i = sym (ap image_in is) ∙ has in cc)
+image_closes Writing body belief i is has = absurd (let no : None ≡ Some i = sym (ap image_in is) ∙ has in cc)
+image_closes Ready body belief i is has = absurd (let no : None ≡ Some i = sym (ap image_in is) ∙ has in cc)
+image_closes OpeningPhase body belief i is has = refl
+image_closes Doubt body belief i is has = refl
+image_closes DoubtSynced body belief i is has = refl
+
+-- what is believed of a slot in which an image stands
+believed_there : (beliefs : List Belief) (slot : ℕ) (i : Image) → image_at beliefs slot ≡ Some i → (belief : Belief) × (slice_get beliefs slot ≡ Some belief) × (image_in belief ≡ Some i)
+believed_there beliefs slot i has = there (slice_get beliefs slot) refl has
+  where
+    there : (found : Option Belief) → slice_get beliefs slot ≡ found → option_and_then image_in found ≡ Some i
+        → (belief : Belief) × (slice_get beliefs slot ≡ Some belief) × (image_in belief ≡ Some i)
+    there None at none = absurd (let no : None ≡ Some i = none in cc)
+    there (Some belief) at its = (belief, at, its)
 
 abbrev pub begun_at : ℕ → List Retired → ℕ → Retired → Retiring
 begun_at serial list ended one = record { serial = serial; list = list; ended = ended; plan = begun one.slot closing_calls nothing }
@@ -77,20 +83,21 @@ pub retired_begins : PlansLead → (phases : List Phase) (asked : List (Option A
     → (serial : ℕ) (list : List Retired) (ended : ℕ) (one : Retired) → NoneAt asked one.slot → IsListedOn store beliefs running one
     → IsRetiredOn phases asked bodies store beliefs running (begun_at serial list ended one) one
 retired_begins plans phases asked bodies store beliefs running count exact silent serial list ended one none l =
-    let at = has_too beliefs phases one.slot (Kept l.image) (sym count) l.kept in
-    let is = exact one.slot at.0 (Kept l.image) at.1 l.kept none in
+    let b = believed_there beliefs one.slot l.image l.has in
+    let at = has_too beliefs phases one.slot b.0 (sym count) b.1 in
+    let is = exact one.slot at.0 b.0 at.1 b.1 none in
     record {
       phase = at.0;
       phase_is = at.1;
-      belief = Kept l.image;
-      belief_is = l.kept;
-      unneeded = λ i has needed. l.unneeded (subst (IsNeededIn store) (same_Some i l.image (sym has ∙ ap (λ o. option_and_then image_in o) l.kept)) needed);
+      belief = b.0;
+      belief_is = b.1;
+      unneeded = λ i has needed. l.unneeded (subst (IsNeededIn store) (same_Some i l.image (sym has ∙ l.has)) needed);
       spared = l.spared;
       request = None;
       own = silent;
       asked_at = λ out is_out. absurd (let no : None ≡ Some out = is_out in cc);
       slot_is = (
-        record { place = 0; on = refl; left = refl; leads = plans.retire at.0 (file_at bodies one.slot) (kept_closes at.0 (file_at bodies one.slot) l.image is); formatted = is },
+        record { place = 0; on = refl; left = refl; leads = plans.retire at.0 (file_at bodies one.slot) (image_closes at.0 (file_at bodies one.slot) b.0 l.image is b.2); formatted = is },
         refl,
       );
     }
@@ -172,7 +179,7 @@ module _ (quiet : QuietSteps) (gates : GateSteps) (making : MakingLaws) (closing
       let l = k.later place other behind there in
       record {
         image = l.image;
-        kept = h.others other.slot (λ same. k.apart r.ended place one other behind k.there there (sym same)) ∙ l.kept;
+        has = ap (λ o. option_and_then image_in o) (h.others other.slot (λ same. k.apart r.ended place one other behind k.there there (sym same))) ∙ l.has;
         unneeded = λ needed. l.unneeded (h.needs l.image needed);
         spared = l.spared;
       }

@@ -1,23 +1,15 @@
 -- What a merge reads: its source in the catalog, and the steps of its copy.
-use Rattle.std.proofs.Common.{◌≡◌, ◌≢◌, ◌⊎◌, ℕ, ◌<◌, List, Option, Some, None, Contains, get_or, slice_get, refl, sym, ◌∙◌, ap, subst, inl, inr}
+use Rattle.std.proofs.Common.{ℕ, ◌<◌, List, Contains, get_or, subst}
 use Rattle.std.proofs.lemmas.List.Elements.{Contains-get_or}
 use Rattle.sd_image.specs.declared.header.Header.{Header}
 use Rattle.sd_image.specs.Image.{Image, IsImage}
 use Rattle.sd_image.specs.Laws.{HaveTables, PageInFile}
 use Rattle.sd_image.specs.Table.{IsTable}
-use Rattle.sd_chain.specs.Catalog.{IsSound, Opened, Places, images, place_of}
-use Rattle.sd_chain.specs.Tells.{Agrees, HavePages, IsToldAs, Tells}
+use Rattle.sd_chain.specs.Catalog.{IsSound, Places, images}
+use Rattle.sd_chain.specs.Tells.{Agrees, HavePages, Tells}
 use Rattle.sd_chain.specs.Ways.{AreImages}
-use Rattle.sd_gate.specs.Requests.{Asked}
-use Rattle.sd_merge.specs.declared.source.Source.{Source}
 use Rattle.sd_merge.specs.Merging.{IsSourceAt}
-use Rattle.sd_store_laws.specs.Beliefs.{Kept}
-use Rattle.sd_store_laws.specs.InUse.{CatalogInUseTells, IsCatalogInUse}
-use Rattle.sd_belief.specs.Believes.{Believes}
-use Rattle.sd_belief.specs.InUse.{IsInUseOn}
-use Rattle.sd_belief.specs.Merges.{AreSpelled, IsSourceOn}
-use Rattle.sd_belief.specs.View.{CoreView, history_of}
-use Rattle.sd_belief.proofs.Places.{get_contains}
+use Rattle.sd_store_laws.specs.InUse.{CatalogInUseTells}
 
 -- what the catalog tells
 pub record KnowsCatalog (places : Places) : Type 0 where

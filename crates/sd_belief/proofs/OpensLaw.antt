@@ -1,5 +1,5 @@
 -- The image of a pre-dump is open, and enters the catalog.
-use Rattle.std.proofs.Common.{◌≡◌, ◌≢◌, ◌⊎◌, ℕ, zero, suc, ◌+◌, ◌<◌, ◌≤◌, ◌==◌, ◌&&◌, Bool, true, false, if◌then◌else◌, List, [], ◌∷◌, ◌++◌, drop, get_or, length, map, Option, Some, None, IfSome, Contains, option_and_then, slice_get, slice_set, refl, sym, ◌∙◌, ap, subst, inl, inr, arith}
+use Rattle.std.proofs.Common.{◌≡◌, ◌≢◌, ◌⊎◌, ℕ, zero, suc, ◌+◌, ◌<◌, ◌≤◌, ◌==◌, ◌&&◌, Bool, true, false, if◌then◌else◌, List, [], ◌∷◌, drop, get_or, length, map, Option, Some, None, IfSome, Contains, option_and_then, slice_get, slice_set, refl, sym, ◌∙◌, ap, subst, inl, inr, arith}
 use Rattle.std.proofs.lemmas.Bool.{cases_eq, cases_lt, false≢true, le-leb}
 use Rattle.std.proofs.lemmas.List.Elements.{Contains-append_cases, Contains-append_right}
 use Rattle.std.proofs.lemmas.Option.{same_Some, slice_get_within}
@@ -18,7 +18,7 @@ use Rattle.sd_gate.specs.Requests.{Asked}
 use Rattle.sd_gate.specs.Sequences.{body_calls}
 use Rattle.sd_rounds.specs.declared.image_order.ImageOrder.{ImageOrder}
 use Rattle.sd_store_laws.specs.Beliefs.{Belief, Kept, Opening, image_at, image_in}
-use Rattle.sd_belief.specs.InUse.{AreExact, IsClosing, IsImageOn, IsInUseOn, IsMakingOn, IsReserved, IsRunningOn, IsSlotFor, NoneAt, call_of, chain_of, is_opening_at, pending_dump}
+use Rattle.sd_belief.specs.InUse.{AreExact, IsClosing, IsImageOn, IsInUseOn, IsMakingOn, IsRunningOn, IsSlotFor, NoneAt, call_of, chain_of, is_opening_at, pending_dump}
 use Rattle.sd_chain.specs.Catalog.{Changes, place_of}
 use Rattle.sd_gate.specs.Calls.{is_done}
 use Rattle.sd_gate.specs.Phases.{bodies_after, phases_after}
@@ -28,7 +28,7 @@ use Rattle.sd_journal.specs.History.{History, pending}
 use Rattle.sd_journal.specs.Legal.{IsLegal}
 use Rattle.sd_journal.specs.Marked.{Told, entries_of}
 use Rattle.sd_rounds.specs.declared.new_image.NewImage.{NewImage}
-use Rattle.sd_rounds.specs.Dumper.{Running, after_pre_dump, is_last, slot_of}
+use Rattle.sd_rounds.specs.Dumper.{IsReserved, Running, after_pre_dump, is_last, slot_of}
 use Rattle.sd_rounds.specs.Files.{FileLaws, IsFiled, IsFiledIn}
 use Rattle.sd_rounds.specs.Keeps.{Rests}
 use Rattle.sd_rounds.specs.Making.{Making, is_past_freeze, plan_of}

@@ -1,19 +1,18 @@
 -- What is known of the checkpoint that runs stays while a merge goes on.
-use Rattle.std.proofs.Common.{◌≡◌, ◌≢◌, ◌⊎◌, ℕ, ◌<◌, ◌≤◌, Bool, true, List, [], ◌∷◌, length, Option, Some, None, Contains, option_and_then, slice_get, refl, sym, ◌∙◌, ap, subst, inl, inr, arith}
-use Rattle.sd_disk.specs.Contents.{file_at}
+use Rattle.std.proofs.Common.{◌≡◌, ◌⊎◌, ℕ, ◌≤◌, Bool, true, List, length, Option, Some, None, Contains, option_and_then, slice_get, refl, sym, ◌∙◌, ap, subst, inl, inr, arith}
 use Rattle.sd_image.specs.Image.{Image}
 use Rattle.sd_image.specs.Shows.{IsRestorable, IsTip}
 use Rattle.sd_gate.specs.Requests.{Asked}
 use Rattle.sd_journal.specs.History.{Base, History}
 use Rattle.sd_pagetable.specs.Contents.{Contents}
-use Rattle.sd_rounds.specs.Dumper.{Running, slot_of}
+use Rattle.sd_rounds.specs.Dumper.{IsReserved, Running, slot_of}
 use Rattle.sd_rounds.specs.Keeps.{Rests, Within}
 use Rattle.sd_rounds.specs.Making.{Making}
 use Rattle.sd_rounds.specs.MakingLaws.{MakingLaws}
 use Rattle.sd_store_laws.specs.Beliefs.{image_at, image_in}
 use Rattle.sd_store_laws.specs.Needs.{IsNeededIn}
 use Rattle.sd_store_laws.specs.Store.{Store}
-use Rattle.sd_belief.specs.InUse.{IsAtWork, IsFrozenAs, IsImageOn, IsMakingOn, IsNewNumber, IsReserved, IsRunningOn, IsSlotFor, chain_of}
+use Rattle.sd_belief.specs.InUse.{IsAtWork, IsFrozenAs, IsImageOn, IsMakingOn, IsNewNumber, IsRunningOn, IsSlotFor, chain_of}
 use Rattle.sd_belief.specs.MergerSteps.{MakesInItsSlot, MakesItInSlot}
 use Rattle.sd_belief.specs.Merges.{IsOtherImage, MakesOther}
 use Rattle.sd_belief.proofs.MergeStays.{IsSameSlot, Slots}

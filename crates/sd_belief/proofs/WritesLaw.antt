@@ -1,5 +1,5 @@
 -- The write of a page, and the first of the table, are asked for.
-use Rattle.std.proofs.Common.{◌≡◌, ℕ, ◌<◌, ◌≤◌, ◌==◌, ◌&&◌, Bool, true, false, if◌then◌else◌, List, [], ◌∷◌, ◌++◌, length, map, Option, Some, None, Contains, option_and_then, slice_get, slice_set, refl, sym, ◌∙◌, ap, subst, arith}
+use Rattle.std.proofs.Common.{◌≡◌, ℕ, ◌<◌, ◌≤◌, ◌==◌, ◌&&◌, Bool, true, false, if◌then◌else◌, List, [], ◌∷◌, ◌++◌, length, map, Option, Some, None, option_and_then, slice_get, slice_set, refl, sym, ◌∙◌, ap, subst, arith}
 use Rattle.std.proofs.lemmas.Bool.{false≢true}
 use Rattle.sd_disk.specs.Contents.{file_at}
 use Rattle.sd_image.specs.declared.header.Kind.{Kind}
@@ -21,7 +21,7 @@ use Rattle.sd_rounds.specs.declared.image_step.ImageStep.{ImageStep}
 use Rattle.sd_rounds.specs.declared.image_step.ImageStep.TheVariants.{PageCall, TableCall}
 use Rattle.sd_rounds.specs.declared.stage.Stage.{Stage}
 use Rattle.sd_rounds.specs.declared.stage.Stage.TheVariants.{Pass as PassStage, PageWrite, Close}
-use Rattle.sd_rounds.specs.Dumper.{Running, is_last, order_of}
+use Rattle.sd_rounds.specs.Dumper.{IsReserved, Running, is_last, order_of}
 use Rattle.sd_rounds.specs.Files.{FileLaws, FilesImage, HasAreas}
 use Rattle.sd_rounds.specs.Keeps.{Chain}
 use Rattle.sd_rounds.specs.Making.{Making, WritesPage, WritesTable, is_frozen, is_past_freeze}
@@ -32,7 +32,7 @@ use Rattle.sd_store_laws.specs.InUse.{CatalogFollows}
 use Rattle.sd_store_laws.specs.Needs.{IsNeededIn}
 use Rattle.sd_belief.specs.Believes.{Believes}
 use Rattle.sd_belief.specs.DumperSteps.{AsksFor}
-use Rattle.sd_belief.specs.InUse.{IsFilled, IsFrozenAs, IsImageOn, IsInUseOn, IsMakingOn, IsReserved, IsRunningOn, IsSlotFor, call_of, chain_of}
+use Rattle.sd_belief.specs.InUse.{IsFilled, IsFrozenAs, IsImageOn, IsInUseOn, IsMakingOn, IsRunningOn, IsSlotFor, call_of, chain_of}
 use Rattle.sd_belief.specs.StoreSteps.{MayAsk, QuietSteps}
 use Rattle.sd_belief.specs.View.{CoreView, history_of}
 use Rattle.sd_belief.proofs.Asks.{in_use_from, unchanged_at}

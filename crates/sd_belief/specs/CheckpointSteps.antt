@@ -9,10 +9,9 @@ use Rattle.sd_merge.specs.declared.retired.Retired.{Retired}
 use Rattle.sd_merge.specs.declared.source.Source.{Source}
 use Rattle.sd_merge.specs.Merger.{list_in, source_in}
 use Rattle.sd_merge.specs.Merger as merger
-use Rattle.sd_rounds.specs.Dumper.{Running, slot_of}
+use Rattle.sd_rounds.specs.Dumper.{IsReserved, Running, slot_of}
 use Rattle.sd_belief.specs.Believes.{Believes}
 use Rattle.sd_belief.specs.DumperSteps.{OnlyDumps}
-use Rattle.sd_belief.specs.InUse.{IsReserved}
 use Rattle.sd_belief.specs.View.{CoreView, history_of}
 
 -- no image that the tip reaches stands in the slot
@@ -59,7 +58,7 @@ pub record BeginsCheckpoint (places : Places) (old : CoreView) (running : Runnin
   pub parent : HasParent places old running
   pub within : (slot : ℕ) → IsReserved running slot → slot < length old.phases
   pub unreached : ParentsFall places → (slot : ℕ) → IsReserved running slot → IsUnreached places slot
-  pub merge : LeavesMerge places running old.merger
+  pub merge : ParentsFall places → LeavesMerge places running old.merger
   pub apart : (one other : ℕ) → running.opened ≤ one → one < other → other ≤ length running.pre_dumps
       → slot_of (record running { opened = one }) ≢ slot_of (record running { opened = other })
 

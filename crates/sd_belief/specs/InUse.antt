@@ -21,7 +21,7 @@ use Rattle.sd_pagetable.specs.Contents.{Contents, plain_of}
 use Rattle.sd_rounds.specs.declared.image_order.ImageOrder.{ImageOrder}
 use Rattle.sd_rounds.specs.declared.stage.Stage.{Stage}
 use Rattle.sd_rounds.specs.declared.stage.Stage.TheVariants.{Format, Freeze, Pass as PassStage, PageWrite, Close}
-use Rattle.sd_rounds.specs.Dumper.{Running, slot_of}
+use Rattle.sd_rounds.specs.Dumper.{IsReserved, Running, slot_of}
 use Rattle.sd_rounds.specs.Files.{FilesImage, HasAreas}
 use Rattle.sd_rounds.specs.Keeps.{Chain, Rests}
 use Rattle.sd_rounds.specs.Making.{Making, is_frozen}
@@ -170,12 +170,6 @@ abbrev pub IsImageOn : Base → History → Contents → List Phase → List (Op
 IsImageOn base history memory phases asked bodies last store dump beliefs parent number None = IsBetween memory asked store dump parent
 IsImageOn base history memory phases asked bodies last store dump beliefs parent number (Some image) =
     IsMakingOn base history memory phases asked bodies last store dump beliefs parent number image
-
--- a slot that the checkpoint is still to fill, or fills
-pub record IsReserved (running : Running) (slot : ℕ) : Type 0 where
-  pub place : ℕ
-  pub from : running.opened ≤ place
-  pub is : slot ≡ slot_of (record running { opened = place })
 
 -- the checkpoint that runs asks for its parent's number; nobody needs what stands in its slots
 pub record IsRunningOn (base : Base) (history : History) (memory : Contents) (phases : List Phase) (asked : List (Option Asked)) (bodies : List (List ℕ))

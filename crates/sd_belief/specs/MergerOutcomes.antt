@@ -1,9 +1,8 @@
 -- How the outcomes of a merger's calls keep what a core believes.
 use Rattle.std.specs.Prelude.{◌≡◌, ◌≢◌, ℕ, ◌+◌, ◌<◌, true, List, Option, Some, None, slice_get, slice_set}
-use Rattle.sd_chain.specs.Catalog.{Changes, IsTip, Opened, Places, place_of}
-use Rattle.sd_chain.specs.Reaches.{ParentsFall, ReachesSerial}
+use Rattle.sd_chain.specs.Catalog.{Changes, Opened, Places, place_of}
+use Rattle.sd_chain.specs.Reaches.{ParentsFall}
 use Rattle.sd_gate.specs.declared.phase.Phase.{Phase}
-use Rattle.sd_gate.specs.declared.phase.Phase.TheVariants.{Whole}
 use Rattle.sd_gate.specs.Calls.{is_done}
 use Rattle.sd_gate.specs.Phases.{bodies_after, phases_after}
 use Rattle.sd_gate.specs.Requests.{Asked, Made}
@@ -53,13 +52,11 @@ pub record MergedGoesOn (old : CoreView) (merge : merger.Running) (copy : Copyin
   pub hands : HandsIn copy made copies.More next
   pub is : new.merger ≡ Some (record merge { doing = copying next })
 
--- An image of the list: it is in the catalog, and whole in its slot, on which no request is out, nobody needs it, and the checkpoint spares the
--- slot.
+-- An image of the list: it is in the catalog, no request is out on its slot, nobody needs it, and the checkpoint spares the slot.
 pub record MayRetire (places : Places) (old : CoreView) (one : Retired) : Type 0 where
   pub opened : Opened
   pub there : place_of places one.serial ≡ Some (Some opened)
   pub slot : opened.slot ≡ one.slot
-  pub whole : slice_get old.phases one.slot ≡ Some Whole
   pub free : IsFree (slice_set old.outs 1 None) one.slot
   pub spared : IsSpared old.dumper.running one.slot
   pub unreached : ParentsFall places → IsUnreached places one.slot

@@ -1,5 +1,5 @@
 -- How the steps of a merger keep what a core believes.
-use Rattle.std.specs.Prelude.{◌≡◌, ◌≢◌, ℕ, ◌+◌, ◌<◌, List, length, Option, Some, None, slice_get, slice_set}
+use Rattle.std.specs.Prelude.{◌≡◌, ℕ, ◌+◌, ◌<◌, List, length, Option, Some, None, slice_get, slice_set}
 use Rattle.sd_chain.specs.Catalog.{Changes, IsTip, Names, Opened, Places, place_of}
 use Rattle.sd_chain.specs.Reaches.{ParentsFall, ReachesSerial}
 use Rattle.sd_gate.specs.declared.phase.Phase.{Phase}
@@ -128,6 +128,10 @@ AskingIsBelieved places step = (old new : CoreView) (merge : merger.Running) (co
 pub record MergerSteps (places : Places) : Type 0 where
   pub begins_image : (old new : CoreView) (merge : merger.Running) (phase : Phase) (asked : List (Option Asked)) (bodies files : List (List ℕ))
       → BeginsMerged old merge phase new → Believes old asked bodies files → Believes new asked bodies files
+  -- a read of the source is in a slot of the store that the checkpoint spares
+  pub spares : (old new : CoreView) (merge : merger.Running) (copy next : Copying) (ticket : ℕ) (request : Asked) (asked : List (Option Asked)) (bodies files : List (List ℕ))
+      → old.catalog ≡ places → MergesOn old merge copy ticket (ReadCall request) next new → Believes old asked bodies files
+      → (request.id.slot < length old.phases) × IsSpared old.dumper.running request.id.slot
   -- the next call of a plan
   pub asks : AskingIsBelieved places Call
   -- the read of the source's next page, and the write of the page that was read

@@ -1,5 +1,5 @@
 -- What a core knows of the merge that runs in an open store.
-use Rattle.std.specs.Prelude.{◌≡◌, ◌≢◌, ◌⊎◌, ℕ, ◌<◌, ◌≤◌, List, [], ◌∷◌, length, Option, Some, None, Contains, slice_get}
+use Rattle.std.specs.Prelude.{◌≡◌, ◌≢◌, ℕ, ◌<◌, ◌≤◌, List, [], ◌∷◌, length, Option, Some, None, Contains, slice_get}
 use Rattle.sd_disk.specs.Contents.{file_at}
 use Rattle.sd_image.specs.declared.header.Kind.TheVariants.{Merged}
 use Rattle.sd_image.specs.Image.{Image, IsImage, gate}
@@ -11,7 +11,6 @@ use Rattle.sd_gate.specs.declared.slot_state.SlotState.{SlotState}
 use Rattle.sd_gate.specs.declared.slot_state.SlotState.TheVariants.{Open as OpenSlot}
 use Rattle.sd_gate.specs.Requests.{Asked}
 use Rattle.sd_gate.specs.Sequences.{data_place}
-use Rattle.sd_merge.specs.declared.copy_order.CopyOrder.{CopyOrder}
 use Rattle.sd_merge.specs.declared.retired.Retired.{Retired}
 use Rattle.sd_merge.specs.declared.source.Source.{Source}
 use Rattle.sd_merge.specs.declared.stage.Stage.{Stage as CopyStage}
@@ -25,7 +24,7 @@ use Rattle.sd_merge.specs.Sources.{few_pages, listed_count}
 use Rattle.sd_rounds.specs.declared.image_order.ImageOrder.{ImageOrder}
 use Rattle.sd_rounds.specs.declared.stage.Stage.{Stage}
 use Rattle.sd_rounds.specs.declared.stage.Stage.TheVariants.{Format, Pass as PassStage, PageWrite, Close}
-use Rattle.sd_rounds.specs.Dumper.{Running}
+use Rattle.sd_rounds.specs.Dumper.{IsReserved, Running}
 use Rattle.sd_rounds.specs.Making.{Making}
 use Rattle.sd_rounds.specs.MakingLaws.{Pages}
 use Rattle.sd_rounds.specs.Pass.{Place}
@@ -33,7 +32,7 @@ use Rattle.sd_store_laws.specs.Beliefs.{Belief, Kept, Opening, image_at}
 use Rattle.sd_store_laws.specs.Needs.{IsNeededIn}
 use Rattle.sd_store_laws.specs.Reached.{Reaches}
 use Rattle.sd_store_laws.specs.Store.{Store}
-use Rattle.sd_belief.specs.InUse.{IsReserved, IsSlotFor}
+use Rattle.sd_belief.specs.InUse.{IsSlotFor}
 
 -- the checkpoint that runs, if one does, doesn't fill this slot
 abbrev pub IsSpared : Option Running → ℕ → Type 0
@@ -155,7 +154,7 @@ pub record IsCopyOn (phases : List Phase) (asked : List (Option Asked)) (bodies 
 -- an image of the list that is still to be closed: nobody needs it, and nobody fills its slot
 pub record IsListedOn (store : Store) (beliefs : List Belief) (running : Option Running) (one : Retired) : Type 0 where
   pub image : Image
-  pub kept : slice_get beliefs one.slot ≡ Some (Kept image)
+  pub has : image_at beliefs one.slot ≡ Some image
   pub unneeded : IsNeededIn store image → ⊥
   pub spared : IsSpared running one.slot
 

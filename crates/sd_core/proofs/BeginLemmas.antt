@@ -1,5 +1,5 @@
 -- A checkpoint begins.
-use Rattle.std.proofs.Common.{◌≡◌, ℕ, ◌+◌, ◌<◌, ◌≤◌, ◌^◌, ◌||◌, nat_le, nat_lt, Bool, true, false, if◌then◌else◌, is_none, is_some, not, List, length, Option, Some, None, IfSome, refl, ◌∙◌, ap, arith}
+use Rattle.std.proofs.Common.{◌≡◌, ℕ, ◌+◌, ◌<◌, ◌≤◌, ◌^◌, ◌||◌, nat_le, nat_lt, Bool, true, false, if◌then◌else◌, is_none, is_some, not, List, Option, Some, None, IfSome, refl, ◌∙◌, ap, arith}
 use Rattle.std.proofs.lemmas.Bool.{leb-false, ltb-false}
 use Rattle.sd_chain.specs.Catalog.{Places}
 use Rattle.sd_command.specs.declared.refusal.Refusal.{Refusal}
@@ -12,8 +12,7 @@ use Rattle.sd_belief.specs.declared.standing.Standing.{Standing}
 use Rattle.sd_belief.specs.declared.standing.Standing.TheVariants as standing
 use Rattle.sd_belief.specs.View.{CoreView}
 use Rattle.sd_core.specs.declared.numbers.Numbers.{Numbers}
-use Rattle.sd_command.specs.declared.reply.Reply.TheVariants as reply
-use Rattle.sd_core.specs.Beginning.{BeginsAs, IsShort, are_used_up, begin_refusal, free_entries, is_down, is_not_open}
+use Rattle.sd_core.specs.Beginning.{are_used_up, begin_refusal, free_entries, is_down, is_not_open}
 use Rattle.sd_core.specs.Sound.{AreCounted, AreNumbers, IsOpening}
 
 -- ---- when no refusal holds
@@ -23,7 +22,7 @@ pub first_no : (holds : Bool) (why : Refusal) (rest : Option Refusal) → (if ho
 first_no true why rest is = absurd (let no : Some why ≡ None = is in cc)
 first_no false why rest is = (refl, is)
 
-stands_open : (stands : Standing) → is_not_open stands ≡ false → is_down stands ≡ false → stands ≡ standing.Open
+pub stands_open : (stands : Standing) → is_not_open stands ≡ false → is_down stands ≡ false → stands ≡ standing.Open
 stands_open standing.NotOpen is down = absurd (let no : true ≡ false = is in cc)
 stands_open standing.Open is down = refl
 stands_open standing.Down is down = absurd (let no : true ≡ false = down in cc)
@@ -116,26 +115,3 @@ begun_counted places old new checkpoint was serial o at = let below = was serial
 pub none_opens : (opener : Option Looking) (stands : Standing) (phases : List Phase) → IfSome opener (IsOpening stands phases) → stands ≡ standing.Open → opener ≡ None
 none_opens None stands phases opening is = refl
 none_opens (Some looking) stands phases opening is = absurd (opening.closed is)
-
--- ---- no slots were reserved
-
-pub short_begins : (core : CoreView) (rounds : ℕ) (why : Refusal) → IsShort core.catalog (length core.phases) rounds why → BeginsAs core rounds (reply.Refused why) core
-short_begins core rounds refusal.NoSlot few = (few, refl)
-short_begins core rounds refusal.OutOfMemory few = refl
-short_begins core rounds refusal.Einval few = elim few [ ]
-short_begins core rounds refusal.Enomem few = elim few [ ]
-short_begins core rounds refusal.NoSuchSpace few = elim few [ ]
-short_begins core rounds refusal.TooManySpaces few = elim few [ ]
-short_begins core rounds refusal.NoFrame few = elim few [ ]
-short_begins core rounds refusal.Frozen few = elim few [ ]
-short_begins core rounds refusal.JournalFull few = elim few [ ]
-short_begins core rounds refusal.UnsupportedValue few = elim few [ ]
-short_begins core rounds refusal.NotOpen few = elim few [ ]
-short_begins core rounds refusal.Busy few = elim few [ ]
-short_begins core rounds refusal.StoreDown few = elim few [ ]
-short_begins core rounds refusal.Idle few = elim few [ ]
-short_begins core rounds refusal.LastSpace few = elim few [ ]
-short_begins core rounds refusal.LockBusy few = elim few [ ]
-short_begins core rounds refusal.NumbersUsed few = elim few [ ]
-short_begins core rounds refusal.Damaged few = elim few [ ]
-short_begins core rounds refusal.Device few = elim few [ ]

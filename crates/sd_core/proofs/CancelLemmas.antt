@@ -1,5 +1,5 @@
 -- A checkpoint is cancelled.
-use Rattle.std.proofs.Common.{◌≡◌, ◌⊎◌, ◌↔◌, ℕ, ◌==◌, Bool, true, false, if◌then◌else◌, [], ◌∷◌, Option, Some, None, IfSome, is_some, slice_get, refl, sym, ◌∙◌, ap, subst, inl, inr}
+use Rattle.std.proofs.Common.{◌≡◌, ◌≢◌, ◌⊎◌, ◌↔◌, ℕ, ◌==◌, Bool, true, false, if◌then◌else◌, [], ◌∷◌, Option, Some, None, IfSome, is_some, slice_get, refl, sym, ◌∙◌, ap, subst, inl, inr, arith}
 use Rattle.std.proofs.lemmas.Bool.{eq-eqb}
 use Rattle.std.proofs.lemmas.Bool.Decides.{eqb_tells}
 use Rattle.sd_chain.specs.Catalog.{Changes, IsHeld, Opened, Places, place_of}
@@ -9,9 +9,15 @@ use Rattle.sd_journal.specs.Kept.{Kept}
 use Rattle.sd_journal.specs.Legal.{IsAbove, MayFollow}
 use Rattle.sd_journal.specs.Marked.{IsTracked, Marked, Told, entries_of}
 use Rattle.sd_journal.specs.TrackedLaws.{TrackedLaws}
-use Rattle.sd_rounds.specs.Dumper.{Running, out_of_running}
+use Rattle.sd_gate.specs.declared.request_id.RequestId.{RequestId}
+use Rattle.sd_merge.specs.Merger as merger
+use Rattle.sd_rounds.specs.Dumper.{Dumping, HasSlot, Running, image_serial, out_of_running, serial_of}
+use Rattle.sd_rounds.specs.Making.{Making}
+use Rattle.sd_belief.specs.Merges.{IsOtherImage, IsSpared, MakesOther}
+use Rattle.sd_core.specs.Dumping.{ReleasesPlace}
 use Rattle.sd_core.specs.declared.numbers.Numbers.{Numbers}
-use Rattle.sd_core.specs.Sound.{AreCounted, AreNumbers, IsCore, IsJournal, Parts, out_of_opener}
+use Rattle.sd_core.specs.Sound.{AreCounted, AreNumbers, AreOuts, IsCore, IsJournal, IsMerging, Parts}
+use Rattle.sd_core.proofs.MergeLemmas.{merging_stays}
 use Rattle.sd_core.proofs.WorkLemmas.{at_work}
 
 -- ---- the entry
@@ -60,14 +66,6 @@ cancelled_numbers base items frozen newest numbers was = record {
   serials = was.serials;
 }
 
--- ---- no request of the dumper is out
-
-pub rests_cancelled : (core : Parts) → IsCore core → slice_get core.outs 0 ≡ Some None → core.outs ≡ None ∷ None ∷ out_of_opener core.opener ∷ []
-rests_cancelled core sound at = sound.outs_are.are ∙ ap (λ o. o ∷ None ∷ out_of_opener core.opener ∷ []) (first (ap (λ outs. slice_get outs 0) (sym sound.outs_are.are) ∙ at))
-  where
-    first : Some (out_of_running core.dumper.running) ≡ Some None → out_of_running core.dumper.running ≡ None
-    first e = cc
-
 -- ---- the catalog has the same images
 
 -- a place that was held is let go of, or nothing changes
@@ -101,8 +99,81 @@ same_images old new serial r s o = by_place (place_of old serial) refl
     by_place (Some None) is = by_serial is (serial == s) refl (r.released is s)
     by_place (Some (Some i)) is = same (r.nothing (λ held. let no : Some (Some i) ≡ Some None = sym is ∙ held in cc))
 
-pub counted_released : (numbers : Numbers) (old new : Places) (serial : ℕ) → IsReleased old new serial → AreCounted numbers old → AreCounted numbers new
-counted_released numbers old new serial r was s o at = was s o ((same_images old new serial r s o).0 at)
+-- whichever place was released
+pub images_same : (own : Option ℕ) (old new : Places) → ReleasesPlace own old new → (s : ℕ) (o : Opened)
+    → place_of new s ≡ Some (Some o) ↔ place_of old s ≡ Some (Some o)
+images_same None old new r s o = ((λ at. ap (λ all. place_of all s) (sym r) ∙ at), (λ at. ap (λ all. place_of all s) r ∙ at))
+images_same (Some own) old new r s o = same_images old new own (record { released = r.0; nothing = r.1 }) s o
+
+pub counted_released : (numbers : Numbers) (old new : Places) (own : Option ℕ) → ReleasesPlace own old new → AreCounted numbers old → AreCounted numbers new
+counted_released numbers old new own r was s o at = was s o ((images_same own old new r s o).0 at)
+
+-- ---- no request of the dumper is out
+
+-- so the requests are those of a core without a checkpoint
+pub rests_cancelled : (core : Parts) (running : Option Running) → IsCore core → core.opener ≡ None → slice_get core.outs 0 ≡ Some None → running ≡ None
+    → AreOuts core.standing core.outs core.phases running core.merger core.opener
+rests_cancelled core running sound closed at gone = record {
+  jobs = λ stands. sound.outs_are.jobs stands ∙ ap (λ o. o ∷ merger.out_of_merge core.merger ∷ None ∷ [])
+      (first (out_of_running core.dumper.running) (ap (λ outs. slice_get outs 0) (sym (sound.outs_are.jobs stands)) ∙ at) ∙ sym (ap out_of_running gone));
+  opening = sound.outs_are.opening;
+  none = sound.outs_are.none;
+  two = sound.outs_are.two;
+  within = sound.outs_are.within;
+  apart = sound.outs_are.apart;
+}
+  where
+    first : (o : Option RequestId) → Some o ≡ Some None → o ≡ None
+    first o e = cc
+
+-- a merge beside it goes on
+pub merges_on : (core : Parts) (places : Places) (dumper : Dumping) → IsCore core → dumper.running ≡ None
+    → ReleasesPlace (serial_of core.dumper.running) core.places places
+    → IfSome core.merger (IsMerging core.standing core.phases places core.opener core.numbers core.room dumper.running)
+merges_on core places dumper sound gone released = merging_stays core (record core { places = places; dumper = dumper }) (record {
+  merger_is = refl;
+  room = refl;
+  standing = refl;
+  opener = refl;
+  count = refl;
+  given = omega arith;
+  checkpoint = omega arith;
+  serials = λ merge is due few. few;
+  has = λ slot has. absurd (subst (λ r. HasSlot r slot) gone has);
+  fills = λ slot spared. subst (λ r. IsSpared r slot) (sym gone) tt;
+  other = λ serial given other. subst (λ r. MakesOther r serial) (sym gone) tt;
+  held = λ serial given other held. still_held core.dumper.running serial other released held;
+  images = λ serial o there spared. still_open (serial_of core.dumper.running) serial o released there;
+}) sound.merging
+  where
+    not_same : (a b : ℕ) → a ≢ b → (a == b) ≡ false
+    not_same a b differs = elim (eqb_tells a b) [
+      | inl one ↦ absurd (differs one.1)
+      | inr other ↦ other.0
+    ]
+
+    held_on : (serial own : ℕ) (old new : Places) → own ≢ serial → IsReleased old new own → IsHeld old serial → IsHeld new serial
+    held_on serial own old new differs r held = by_place (place_of old own) refl
+      where
+        same : new ≡ old → IsHeld new serial
+        same is = ap (λ all. place_of all serial) is ∙ held
+
+        by_place : (place : Option (Option Opened)) → place_of old own ≡ place → IsHeld new serial
+        by_place None is = same (r.nothing (λ h. let no : None ≡ Some None = sym is ∙ h in cc))
+        by_place (Some None) is = r.released is serial ∙ ap (λ b. if b then None else place_of old serial) (not_same own serial differs) ∙ held
+        by_place (Some (Some i)) is = same (r.nothing (λ h. let no : Some (Some i) ≡ Some None = sym is ∙ h in cc))
+
+    still_held : (running : Option Running) (serial : ℕ) → MakesOther running serial → ReleasesPlace (serial_of running) core.places places → IsHeld core.places serial → IsHeld places serial
+    still_held None serial other r held = ap (λ all. place_of all serial) r ∙ held
+    still_held (Some running) serial other r held = by_image running.image other r
+      where
+        by_image : (image : Option Making) → IsOtherImage image serial → ReleasesPlace (image_serial image) core.places places → IsHeld places serial
+        by_image None other r = ap (λ all. place_of all serial) r ∙ held
+        by_image (Some image) other r = held_on serial image.order.serial core.places places other (record { released = r.0; nothing = r.1 }) held
+
+    still_open : (own : Option ℕ) (serial : ℕ) (o : Opened) → ReleasesPlace own core.places places → place_of core.places serial ≡ Some (Some o) → place_of places serial ≡ Some (Some o)
+    still_open None serial o r there = ap (λ all. place_of all serial) r ∙ there
+    still_open (Some own) serial o r there = (same_images core.places places own (record { released = r.0; nothing = r.1 }) serial o).1 there
 
 -- ---- none
 

@@ -7,13 +7,14 @@ use Rattle.sd_gate.specs.Phases.{after, phases_after}
 use Rattle.sd_gate.specs.Requests.{Made}
 use Rattle.sd_gate.specs.declared.request_id.RequestId.{RequestId}
 use Rattle.sd_journal.specs.Kept.{Kept}
+use Rattle.sd_merge.specs.Merger as merger
 use Rattle.sd_opener.specs.Looking.{IsDoneAsAsked, Looking}
 use Rattle.sd_rounds.specs.Dumper.{Running, out_of_running}
 use Rattle.sd_belief.specs.declared.standing.Standing.{Standing}
 use Rattle.sd_belief.specs.declared.standing.Standing.TheVariants.{Open}
 use Rattle.sd_belief.specs.OpenerSteps.{nobody, opener_alone}
 use Rattle.sd_core.specs.Opening.{GoesOn, LetsGo, TeachesOpener}
-use Rattle.sd_core.specs.Sound.{AreOuts, IsOpening, held_for, out_of_opener}
+use Rattle.sd_core.specs.Sound.{AreOuts, IsCore, IsOpening, Parts, held_for, out_of_opener}
 
 pub held_opening : (frozen : Option ℕ) (running : Option Running) (opener : Looking) → running ≡ None → held_for frozen running (Some opener) ≡ 1
 held_opening (Some n) running opener none = refl
@@ -32,34 +33,44 @@ held_let_go None running opener old new none held gone =
     let zero_is : new.held ≡ 0 = omega (arith, one, less) in
     zero_is ∙ sym (held_idle running none)
 
-pub nobody_is : (outs : List (Option RequestId)) (phases : List Phase) (running : Option Running) (opener : Option Looking) → AreOuts outs phases running opener
-    → running ≡ None → out_of_opener opener ≡ None → outs ≡ nobody
-nobody_is outs phases running opener are none rests =
-    are.are ∙ ap (λ o. o ∷ None ∷ out_of_opener opener ∷ []) (ap out_of_running none) ∙ ap (λ o. None ∷ None ∷ o ∷ []) rests
+-- whatever opener there is
+if_any : {X : Type 0} (P : Type 0) (one : Option X) → P → IfSome one (λ any. P)
+if_any P None is = tt
+if_any P (Some x) is = is
 
-pub opener_out : (outs : List (Option RequestId)) (phases : List Phase) (running : Option Running) (opener : Option Looking) (id : RequestId) → AreOuts outs phases running opener
-    → slice_get outs 2 ≡ Some (Some id) → out_of_opener opener ≡ Some id
-opener_out outs phases running opener id are out = last_of (ap (λ all. slice_get all 2) (sym are.are) ∙ out)
+any_is : {X : Type 0} (P : Type 0) (one : Option X) (x : X) → one ≡ Some x → IfSome one (λ any. P) → P
+any_is P None x is all = absurd (let no : None ≡ Some x = is in cc)
+any_is P (Some y) x is all = all
+
+-- an opener that runs and rests leaves nobody out
+pub nobody_is : (core : Parts) (looking : Looking) → IsCore core → core.opener ≡ Some looking → out_of_opener core.opener ≡ None → core.outs ≡ nobody
+nobody_is core looking sound is rests =
+    any_is (core.outs ≡ None ∷ None ∷ out_of_opener core.opener ∷ []) core.opener looking is sound.outs_are.opening ∙ ap (λ o. None ∷ None ∷ o ∷ []) rests
+
+-- a request of the opener that is out is the only one
+pub alone_is : (core : Parts) (id : RequestId) → IsCore core → slice_get core.outs 2 ≡ Some (Some id) → (out_of_opener core.opener ≡ Some id) × (core.outs ≡ opener_alone id)
+alone_is core id sound out = by core.opener refl
   where
-    last_of : Some (out_of_opener opener) ≡ Some (Some id) → out_of_opener opener ≡ Some id
-    last_of e = cc
+    last_of : (o : Option RequestId) → Some o ≡ Some (Some id) → o ≡ Some id
+    last_of o e = cc
 
-pub alone_is : (outs : List (Option RequestId)) (phases : List Phase) (running : Option Running) (opener : Option Looking) (id : RequestId) → AreOuts outs phases running opener
-    → running ≡ None → slice_get outs 2 ≡ Some (Some id) → (out_of_opener opener ≡ Some id) × (outs ≡ opener_alone id)
-alone_is outs phases running opener id are none out = (own, are.are ∙ ap (λ o. o ∷ None ∷ out_of_opener opener ∷ []) (ap out_of_running none) ∙ ap (λ o. None ∷ None ∷ o ∷ []) own)
-  where
-    last_of : Some (out_of_opener opener) ≡ Some (Some id) → out_of_opener opener ≡ Some id
-    last_of e = cc
+    by : (opener : Option Looking) → core.opener ≡ opener → (out_of_opener core.opener ≡ Some id) × (core.outs ≡ opener_alone id)
+    by None is = absurd (let two = (sound.outs_are.two is).are in let no : Some None ≡ Some (Some id) = ap (λ all. slice_get all 2) (sym two) ∙ out in cc)
+    by (Some looking) is =
+        let are = any_is (core.outs ≡ None ∷ None ∷ out_of_opener core.opener ∷ []) core.opener looking is sound.outs_are.opening in
+        let own = last_of (out_of_opener core.opener) (ap (λ all. slice_get all 2) (sym are) ∙ out) in
+        (own, are ∙ ap (λ o. None ∷ None ∷ o ∷ []) own)
 
-    own : out_of_opener opener ≡ Some id
-    own = last_of (ap (λ all. slice_get all 2) (sym are.are) ∙ out)
-
--- no worker has a request out
-pub none_out : (outs : List (Option RequestId)) (phases : List Phase) (running : Option Running) (opener : Option Looking) → running ≡ None → out_of_opener opener ≡ None
-    → outs ≡ nobody → AreOuts outs phases running opener
-none_out outs phases running opener none rests is = record {
-  are = is ∙ ap (λ o. None ∷ None ∷ o ∷ []) (sym rests) ∙ ap (λ o. o ∷ None ∷ out_of_opener opener ∷ []) (sym (ap out_of_running none));
+-- no worker has a request out, and no job runs
+pub none_out : (stands : Standing) (outs : List (Option RequestId)) (phases : List Phase) (running : Option Running) (merge : Option merger.Running) (opener : Option Looking)
+    → running ≡ None → merge ≡ None → out_of_opener opener ≡ None → outs ≡ nobody → AreOuts stands outs phases running merge opener
+none_out stands outs phases running merge opener none unmerged rests is = record {
+  jobs = λ stands_open. is ∙ ap (λ o. o ∷ None ∷ None ∷ []) (sym (ap out_of_running none)) ∙ ap (λ o. out_of_running running ∷ o ∷ None ∷ []) (sym (ap merger.out_of_merge unmerged));
+  opening = if_any (outs ≡ None ∷ None ∷ out_of_opener opener ∷ []) opener (is ∙ ap (λ o. None ∷ None ∷ o ∷ []) (sym rests));
+  none = λ closed idle. is;
+  two = λ idle. record { dumper = None; merger = None; are = is };
   within = λ worker id out. absurd (none_at id worker (ap (λ all. slice_get all worker) (sym is) ∙ out));
+  apart = λ one other a b out its same. absurd (none_at a one (ap (λ all. slice_get all one) (sym is) ∙ out));
 }
   where
     none_at : (id : RequestId) (w : ℕ) → slice_get nobody w ≡ Some (Some id) → ⊥
@@ -69,17 +80,22 @@ none_out outs phases running opener none rests is = record {
     none_at id (suc (suc (suc w))) e = cc
 
 -- the opener's alone is
-pub one_out : (outs : List (Option RequestId)) (phases : List Phase) (running : Option Running) (opener : Option Looking) (id : RequestId) → running ≡ None → out_of_opener opener ≡ Some id
-    → outs ≡ opener_alone id → id.slot < length phases → AreOuts outs phases running opener
-one_out outs phases running opener id none own is within = record {
-  are = is ∙ ap (λ o. None ∷ None ∷ o ∷ []) (sym own) ∙ ap (λ o. o ∷ None ∷ out_of_opener opener ∷ []) (sym (ap out_of_running none));
-  within = λ worker other out. subst (λ (i : RequestId). i.slot < length phases) (sym (its other worker (ap (λ all. slice_get all worker) (sym is) ∙ out))) within;
+pub one_out : (stands : Standing) (outs : List (Option RequestId)) (phases : List Phase) (running : Option Running) (merge : Option merger.Running) (opener : Option Looking)
+    (looking : Looking) (id : RequestId) → stands ≢ Open → opener ≡ Some looking → out_of_opener opener ≡ Some id
+    → outs ≡ opener_alone id → id.slot < length phases → AreOuts stands outs phases running merge opener
+one_out stands outs phases running merge opener looking id closed runs own is within = record {
+  jobs = λ stands_open. absurd (closed stands_open);
+  opening = if_any (outs ≡ None ∷ None ∷ out_of_opener opener ∷ []) opener (is ∙ ap (λ o. None ∷ None ∷ o ∷ []) (sym own));
+  none = λ not_open idle. absurd (let no : None ≡ Some looking = sym idle ∙ runs in cc);
+  two = λ idle. absurd (let no : None ≡ Some looking = sym idle ∙ runs in cc);
+  within = λ worker other out. subst (λ (i : RequestId). i.slot < length phases) (sym (its other worker (ap (λ all. slice_get all worker) (sym is) ∙ out)).1) within;
+  apart = λ one other a b out at same. (its a one (ap (λ all. slice_get all one) (sym is) ∙ out)).0 ∙ sym (its b other (ap (λ all. slice_get all other) (sym is) ∙ at)).0;
 }
   where
-    its : (other : RequestId) (w : ℕ) → slice_get (opener_alone id) w ≡ Some (Some other) → other ≡ id
+    its : (other : RequestId) (w : ℕ) → slice_get (opener_alone id) w ≡ Some (Some other) → (w ≡ 2) × (other ≡ id)
     its other zero e = absurd (let no : Some None ≡ Some (Some other) = e in cc)
     its other (suc zero) e = absurd (let no : Some None ≡ Some (Some other) = e in cc)
-    its other (suc (suc zero)) e = cc
+    its other (suc (suc zero)) e = (refl, cc)
     its other (suc (suc (suc w))) e = absurd (let no : None ≡ Some (Some other) = e in cc)
 
 pub set_alone : (outs : List (Option RequestId)) (id : RequestId) → outs ≡ nobody → slice_set outs 2 (Some id) ≡ opener_alone id

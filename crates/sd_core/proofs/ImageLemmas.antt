@@ -1,5 +1,5 @@
 -- What the steps and outcomes of an image leave of what is so of it.
-use Rattle.std.proofs.Common.{◌≡◌, ◌⊎◌, ◌==◌, ◌&&◌, if◌then◌else◌, ◌∷◌, Option, Some, None, IfSome, refl, sym, ◌∙◌, ap, subst, inl, inr}
+use Rattle.std.proofs.Common.{◌≡◌, ◌⊎◌, ◌≤◌, ◌==◌, ◌&&◌, if◌then◌else◌, ◌∷◌, Option, Some, None, IfSome, refl, sym, ◌∙◌, ap, subst, inl, inr, arith}
 use Rattle.std.proofs.lemmas.Bool.{eq-eqb}
 use Rattle.sd_chain.specs.Catalog.{IsHeld, Places}
 use Rattle.sd_gate.specs.declared.request_id.RequestId.{RequestId}
@@ -25,6 +25,7 @@ use Rattle.sd_core.proofs.WorkLemmas.{SameNumbers, same_numbers}
 -- the image in another stage, with its request that is out then
 pub record IsTurned (items : Marked) (places : Places) (numbers : Numbers) (image next : Making) (out : Option RequestId) : Type 0 where
   pub image_is : IsImageOf items places numbers next
+  pub order : next.order ≡ image.order
   pub still : is_frozen next ≡ is_frozen image
   pub out_is : out_of next.stage ≡ out
   pub slot : IfSome out (λ id. id.slot ≡ image.order.slot)
@@ -33,8 +34,7 @@ turn : (items now : Marked) (places after : Places) (old new : Numbers) (image :
     → IsImageOf items places old image → IsHeld after image.order.serial → IsStageOf image.order stage → IsVisitingIn now image.order.serial pass stage
     → IsImageOf now after new (record { order = image.order; pass = pass; stage = stage })
 turn items now places after old new image pass stage same is held at visits = record {
-  serial = is.serial ∙ sym same.serial;
-  given = is.given ∙ sym same.given;
+  given = (let given = is.given in let more = same.given in omega (arith, given, more));
   held = held;
   stage = at;
   visiting_in = visits;
@@ -46,6 +46,7 @@ pub image_asked : (items : Marked) (places : Places) (old new : Numbers) (image 
 image_asked items places old new image next request same is asks = subst (λ m. IsTurned items places new image m (Some request.id)) (sym asks.is) (record {
   image_is = turn items items places places old new image image.pass (with_plan image.stage asks.next) same is is.held asked.stage_is
       (visiting_asked items image.order.serial image.pass image.stage asks.next is.visiting_in);
+  order = refl;
   still = ap (λ b. (kind_number image.order.kind == 2) && b) (frozen_asked image.stage asks.next);
   out_is = asked.out;
   slot = asked.slot;
@@ -65,6 +66,7 @@ pub image_page : (items : Marked) (places : Places) (old new : Numbers) (image n
 image_page items places old new image next request same is writes = subst (λ m. IsTurned items places new image m (Some request.id)) (sym whole) (record {
   image_is = turn items items places places old new image next.pass (PageWrite writes.next) same is is.held writes.gives.same_slot
       (record { started = cursor.started; cursor = cursor.cursor ∙ sym (ap (λ (p : Pass). p.after) writes.taken.is) });
+  order = refl;
   still = ap (λ s. (kind_number image.order.kind == 2) && is_past_freeze s) (sym writes.stage);
   out_is = writes.gives.out;
   slot = writes.gives.slot;
@@ -91,6 +93,7 @@ image_table items places old new image next memory request same is writes =
           checkpoint = ap (λ h. h.checkpoint) writes.numbers;
         },
       ) tt;
+      order = refl;
       still = ap (λ s. (kind_number image.order.kind == 2) && is_past_freeze s) (sym writes.stage);
       out_is = writes.gives.out;
       slot = writes.gives.slot;
@@ -107,6 +110,7 @@ image_visited items places numbers image next before after visit is visits = sub
         cursor = ap (λ b. if b then Some (visit.space, visit.page) else last_visit items image.order.serial) (eq-eqb image.order.serial image.order.serial refl)
             ∙ sym (ap (λ (p : Pass). p.after) visits.tests.is ∙ visited_after image.pass (visit.space, visit.page) visits.tests.page.soft_dirty);
       }));
+  order = refl;
   still = refl;
   out_is = ap out_of visits.passes.0;
   slot = tt;
@@ -122,6 +126,7 @@ image_copied items places numbers image next memory copied is copies = subst (λ
   image_is = turn items items places places numbers numbers image next.pass image.stage (same_numbers numbers) is is.held is.stage
       (subst (λ s. IsVisitingIn items image.order.serial next.pass s) (sym copies.passes.0)
       (record { started = cursor.started; cursor = cursor.cursor ∙ sym (copied_after image.pass next.pass memory copied copies.copies) }));
+  order = refl;
   still = refl;
   out_is = ap out_of copies.passes.0;
   slot = tt;
@@ -137,6 +142,7 @@ image_more items places after numbers image next made is held goes = subst (λ m
   image_is = turn items items places after numbers numbers image image.pass
       (stage_after image.order.kind image.stage (plan_after goes.plan made) (plan_after goes.plan made).calls) (same_numbers numbers) is held
       (on.stage_is is.stage) (on.visiting_in is.visiting_in);
+  order = refl;
   still = on.frozen;
   out_is = on.rests;
   slot = tt;
@@ -152,13 +158,15 @@ image_calls items places old new image next request same is (inl asks) = image_a
 image_calls items places old new image next request same is (inr writes) = image_page items places old new image next request same is writes
 
 -- the memory is frozen for it
-pub record IsFrozenNext (items : Marked) (places : Places) (numbers : Numbers) (next : Making) : Type 0 where
+pub record IsFrozenNext (items : Marked) (places : Places) (numbers : Numbers) (image next : Making) : Type 0 where
+  pub order : next.order ≡ image.order
   pub image_is : IsImageOf (Told (Freeze numbers.begun) ∷ items) places numbers next
   pub out_is : out_of next.stage ≡ None
 
 pub image_frozen : (items : Marked) (places : Places) (numbers : Numbers) (image next : Making) → IsImageOf items places numbers image → Freezes image next
-    → IsFrozenNext items places numbers next
-image_frozen items places numbers image next is f = subst (IsFrozenNext items places numbers) (sym f.is) (record {
+    → IsFrozenNext items places numbers image next
+image_frozen items places numbers image next is f = subst (IsFrozenNext items places numbers image) (sym f.is) (record {
+  order = refl;
   image_is = turn items (Told (Freeze numbers.begun) ∷ items) places places numbers numbers image image.pass PassStage (same_numbers numbers) is is.held tt
       (record { started = cursor.started; cursor = cursor.cursor });
   out_is = refl;
@@ -168,13 +176,11 @@ image_frozen items places numbers image next is f = subst (IsFrozenNext items pl
     cursor = subst (λ s. IsVisitingIn items image.order.serial image.pass s) f.stage is.visiting_in
 
 -- an image that begins, with its first call
-pub begun_asked : (items : Marked) (places : Places) (numbers : Numbers) (order : ImageOrder) (next : Making) (request : Asked) → numbers.serial ≡ order.serial
-    → numbers.given ≡ order.serial → IsHeld places order.serial → last_visit items order.serial ≡ None → Asks (begun_image order) request next
+pub begun_asked : (items : Marked) (places : Places) (numbers : Numbers) (order : ImageOrder) (next : Making) (request : Asked) → order.serial ≤ numbers.given → IsHeld places order.serial → last_visit items order.serial ≡ None → Asks (begun_image order) request next
     → IsTurned (Noted (Start order.serial) ∷ items) places numbers (begun_image order) next (Some request.id)
-begun_asked items places numbers order next request serial given held none asks =
+begun_asked items places numbers order next request given held none asks =
     image_asked (Noted (Start order.serial) ∷ items) places numbers numbers (begun_image order) next request (same_numbers numbers) (record {
-      serial = sym serial;
-      given = sym given;
+      given = given;
       held = held;
       stage = refl;
       visiting_in = record { started = refl; cursor = none };

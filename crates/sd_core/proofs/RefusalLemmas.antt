@@ -1,5 +1,5 @@
 -- What is so where a call isn't refused.
-use Rattle.std.proofs.Common.{◌≡◌, ◌≢◌, ◌<◌, ◌==◌, ◌&&◌, ◌||◌, Bool, true, false, not, is_none, is_some, [], ◌∷◌, Option, Some, None, slice_get, refl, sym, ◌∙◌, ap, inl, inr, arith}
+use Rattle.std.proofs.Common.{◌≡◌, ◌≢◌, ◌<◌, ◌==◌, ◌&&◌, ◌||◌, Bool, true, false, not, is_none, is_some, [], ◌∷◌, Option, Some, None, IfSome, slice_get, refl, sym, ◌∙◌, ap, subst, inl, inr, arith}
 use Rattle.std.proofs.lemmas.Bool.Decides.{eqb_tells}
 use Rattle.sd_command.specs.declared.refusal.Refusal.{Refusal}
 use Rattle.sd_command.specs.declared.refusal.Refusal.TheVariants as refusal
@@ -7,6 +7,7 @@ use Rattle.sd_gate.specs.declared.request_id.RequestId.{RequestId}
 use Rattle.sd_gate.specs.declared.worker.Worker.{Worker}
 use Rattle.sd_gate.specs.declared.worker.Worker.TheVariants.{Dumper}
 use Rattle.sd_journal.specs.History.{pending}
+use Rattle.sd_opener.specs.Looking.{Looking}
 use Rattle.sd_belief.specs.declared.standing.Standing.TheVariants as standing
 use Rattle.sd_belief.specs.OpenerSteps.{nobody}
 use Rattle.sd_belief.specs.View.{CoreView, history_of, index}
@@ -14,7 +15,6 @@ use Rattle.sd_core.specs.Beginning.{first_of, free_entries}
 use Rattle.sd_core.specs.Refusals.{are_resting, cancel_refusal, cant_cancel, has_checkpoint, is_idle, is_in_use, is_open, is_resting, none_at, reopen_refusal, wants_entry, work_refusal}
 use Rattle.sd_core.specs.Sound.{IsCore, Parts, out_of_opener}
 use Rattle.sd_core.proofs.BeginLemmas.{first_no, neither, none_some}
-use Rattle.sd_rounds.specs.Dumper.{out_of_running}
 
 -- ---- Booleans
 
@@ -41,14 +41,19 @@ rests_where (Some None) is = refl
 rests_where (Some (Some id)) is = absurd (let no : false ≡ true = is in cc)
 
 pub nobody_rests : (core : Parts) → IsCore core → are_resting core.outs ≡ true → core.outs ≡ nobody
-nobody_rests core sound is =
-    sound.outs_are.are ∙ by_outs (out_of_running core.dumper.running) (out_of_opener core.opener) (ap are_resting (sym sound.outs_are.are) ∙ is)
+nobody_rests core sound is = by core.opener refl
   where
-    by_outs : (one other : Option RequestId) → are_resting (one ∷ None ∷ other ∷ []) ≡ true → one ∷ None ∷ other ∷ [] ≡ nobody
-    by_outs None None rest = refl
-    by_outs None (Some id) rest = absurd (let no : false ≡ true = rest in cc)
-    by_outs (Some id) None rest = absurd (let no : false ≡ true = rest in cc)
-    by_outs (Some id) (Some i) rest = absurd (let no : false ≡ true = rest in cc)
+    three : (one two last : Option RequestId) → are_resting (one ∷ two ∷ last ∷ []) ≡ true → one ∷ two ∷ last ∷ [] ≡ nobody
+    three None None None rest = refl
+    three None None (Some id) rest = absurd (let no : false ≡ true = rest in cc)
+    three None (Some id) last rest = absurd (let no : false ≡ true = rest in cc)
+    three (Some id) two last rest = absurd (let no : false ≡ true = rest in cc)
+
+    by : (opener : Option Looking) → core.opener ≡ opener → core.outs ≡ nobody
+    by None none = (let two = sound.outs_are.two none in two.are ∙ three two.dumper two.merger None (ap are_resting (sym two.are) ∙ is))
+    by (Some looking) some =
+        let are : core.outs ≡ None ∷ None ∷ out_of_opener core.opener ∷ [] = subst (λ o. IfSome o (λ one. core.outs ≡ None ∷ None ∷ out_of_opener core.opener ∷ [])) some sound.outs_are.opening in
+        are ∙ three None None (out_of_opener core.opener) (ap are_resting (sym are) ∙ is)
 
 -- ---- a checkpoint that can be cancelled
 
@@ -108,6 +113,6 @@ pub record MayWork (core : CoreView) (worker : Worker) : Type 0 where
 
 pub may_work : (core : CoreView) (worker : Worker) → work_refusal core worker ≡ None → MayWork core worker
 may_work core worker is =
-    let one = first_no (is_idle core worker) refusal.Idle _ is in
-    let two = first_no (not (is_resting core.outs worker)) refusal.Busy _ one.1 in
-    record { busy = one.0; rests = rests_where (slice_get core.outs (index worker)) (not_false (is_resting core.outs worker) two.0) }
+    let one = first_no (not (is_resting core.outs worker)) refusal.Busy _ is in
+    let two = first_no (is_idle core worker) refusal.Idle _ one.1 in
+    record { busy = two.0; rests = rests_where (slice_get core.outs (index worker)) (not_false (is_resting core.outs worker) one.0) }

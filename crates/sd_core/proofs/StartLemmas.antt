@@ -1,8 +1,17 @@
 -- A core as it starts.
-use Rattle.std.proofs.Common.{◌≡◌, ℕ, zero, suc, List, [], ◌∷◌, if◌then◌else◌, Option, Some, None, slice_get, refl, ap}
+use Rattle.std.proofs.Common.{◌≡◌, ℕ, zero, suc, ◌<◌, ◌≤◌, List, [], ◌∷◌, if◌then◌else◌, Option, Some, None, IfSome, slice_get, refl, sym, ◌∙◌, ap, subst, arith}
+use Rattle.std.specs.List.{list_any}
 use Rattle.std.proofs.lemmas.Bool.{eq-eqb}
 use Rattle.sd_areas.specs.PlainMemory.{PlainMemory}
 use Rattle.sd_journal.specs.Allowed.{IsLastPair}
+use Rattle.sd_journal.specs.History.{Base, last, pending}
+use Rattle.sd_journal.specs.Kept.{Kept}
+use Rattle.sd_journal.specs.Legal.{IsAbove}
+use Rattle.sd_journal.specs.Marked.{IsTracked, Marked, entries_of, is_of}
+use Rattle.sd_pagetable.specs.Contents.{Contents, plain_of}
+use Rattle.sd_pagetable.specs.Tracking.{IsBeginning}
+use Rattle.sd_core.specs.declared.numbers.Numbers.{Numbers}
+use Rattle.sd_core.specs.Sound.{AreNumbers, IsJournal}
 use Rattle.sd_core.specs.Starts.{shown_base}
 
 -- three workers without a request
@@ -19,3 +28,34 @@ none_of (suc (suc (suc worker))) one is = let no : None ≡ Some (Some one) = is
 pub base_is_last : (number : Option ℕ) (base : PlainMemory) → IsLastPair (record { number = number; memory = base }) [] (shown_base number base)
 base_is_last None base = refl
 base_is_last (Some number) base = (refl, ap (λ b. if b then Some base else None) (eq-eqb number number refl))
+
+-- ---- its invariant
+
+pub start_journal : (base : Base) (journal : Kept) (memory : Contents) (number : Option ℕ) → IsBeginning memory → plain_of memory ≡ base.memory → base.number ≡ number
+    → journal.items ≡ [] → journal.first ≡ 0 → journal.limit ≡ 1048576 → IsJournal base journal memory None number
+start_journal base journal memory number begins same own items first limit = record {
+  tracked = subst (λ all. IsTracked base all memory) (sym items) (record { marked = tt; memory = same; bits = record { soft_dirty = λ space page at there. (begins space page at there).0; writable = λ space page at there. (begins space page at there).1 }; swept = tt });
+  first = first;
+  limit = limit;
+  frozen_for = ap (λ all. pending (entries_of all)) (sym items);
+  newest_is = sym own ∙ ap (λ all. last base (entries_of all)) (sym items);
+}
+
+pub start_numbers : (base : Base) (items : Marked) (number : Option ℕ) (numbers : Numbers) → base.number ≡ number → items ≡ [] → IfSome number (λ n. n ≡ numbers.begun)
+    → numbers.checkpoint ≡ numbers.begun → numbers.serial ≡ 0 → numbers.given ≡ 0 → AreNumbers base items None number numbers
+start_numbers base items number numbers own none begun checkpoint serial given = record {
+  used = λ n above. subst (λ all. IsAbove base (entries_of all) n) (sym none) (subst (λ b. IfSome b (λ own. own < n)) (sym own) (below number n begun above));
+  newest_used = newest number begun;
+  frozen_used = tt;
+  marks = λ s above. ap (list_any (is_of s)) none;
+  checkpoints = omega (arith, checkpoint);
+  serials = omega (arith, serial, given);
+}
+  where
+    below : (number : Option ℕ) (n : ℕ) → IfSome number (λ m. m ≡ numbers.begun) → numbers.begun < n → IfSome number (λ own. own < n)
+    below None n is above = tt
+    below (Some m) n is above = omega (arith, is, above)
+
+    newest : (number : Option ℕ) → IfSome number (λ m. m ≡ numbers.begun) → IfSome number (λ m. m ≤ numbers.begun)
+    newest None is = tt
+    newest (Some m) is = omega (arith, is)

@@ -1,7 +1,6 @@
 -- The dumper's steps, as the calls of a core tell them.
-use Rattle.std.proofs.Common.{◌≡◌, ◌⊎◌, ℕ, zero, suc, ◌<◌, List, length, Option, Some, slice_get, slice_set, refl, sym, ◌∙◌, ap, subst, inl, inr}
+use Rattle.std.proofs.Common.{◌≡◌, ◌⊎◌, ℕ, ◌<◌, List, length, Option, Some, slice_get, slice_set, refl, sym, ◌∙◌, ap, subst, inl, inr}
 use Rattle.sd_gate.specs.declared.phase.Phase.{Phase}
-use Rattle.sd_gate.specs.declared.request_id.RequestId.{RequestId}
 use Rattle.sd_gate.specs.declared.worker.Worker.TheVariants.{Dumper}
 use Rattle.sd_gate.specs.Requests.{Asked}
 use Rattle.sd_command.specs.declared.reply.Reply.TheVariants as reply
@@ -13,19 +12,8 @@ use Rattle.sd_rounds.specs.Making.{IsAskedBy, Making}
 use Rattle.sd_belief.specs.Believes.{Believes}
 use Rattle.sd_belief.specs.Calls.{AreGivenUp, HandsOut, IsFree, MakesStep, running_number}
 use Rattle.sd_belief.specs.DumperSteps.{AsksFor, BeginsImage, DumperSteps, FreezesMemory, IsOnPages, WorksOnMemory}
-use Rattle.sd_belief.specs.OpenerSteps.{nobody}
 use Rattle.sd_belief.specs.View.{CoreView}
 use Rattle.sd_core.proofs.ApplyLemmas.{same_phases}
-
--- no request is out on any slot
-pub free_of_none : (outs : List (Option RequestId)) (slot : ℕ) → outs ≡ nobody → IsFree outs slot
-free_of_none outs slot is worker id out same = none_at worker (ap (λ all. slice_get all worker) (sym is) ∙ out)
-  where
-    none_at : (w : ℕ) → slice_get nobody w ≡ Some (Some id) → ⊥
-    none_at zero e = cc
-    none_at (suc zero) e = cc
-    none_at (suc (suc zero)) e = cc
-    none_at (suc (suc (suc w))) e = cc
 
 -- a device call is asked for
 pub hands_asked : (old new : CoreView) (running : Running) (image next : Making) (number : ℕ) (step : ImageStep) (request : Asked)

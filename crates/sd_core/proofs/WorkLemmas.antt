@@ -1,8 +1,9 @@
 -- A core while its dumper works.
-use Rattle.std.proofs.Common.{◌≡◌, ◌≢◌, ℕ, zero, suc, ◌+◌, ◌<◌, ◌≤◌, ◌^◌, ◌==◌, ◌||◌, false, if◌then◌else◌, List, [], ◌∷◌, length, Option, Some, None, IfSome, slice_get, refl, sym, ◌∙◌, ap, subst, inl, inr, arith}
+use Rattle.std.proofs.Common.{◌≡◌, ◌≢◌, ◌⊎◌, ℕ, zero, suc, ◌+◌, ◌<◌, ◌≤◌, ◌^◌, ◌==◌, ◌||◌, Bool, true, false, if◌then◌else◌, List, [], ◌∷◌, length, Option, Some, None, IfSome, slice_get, refl, sym, ◌∙◌, ap, subst, inl, inr, arith}
 use Rattle.std.specs.List.{list_any}
 use Rattle.std.proofs.lemmas.Bool.Decides.{eqb_tells}
-use Rattle.sd_chain.specs.Catalog.{Places}
+use Rattle.std.proofs.lemmas.Option.{same_Some}
+use Rattle.sd_chain.specs.Catalog.{Changes, IsHeld, Opened, Places, place_of}
 use Rattle.sd_gate.specs.declared.phase.Phase.{Phase}
 use Rattle.sd_gate.specs.declared.request_id.RequestId.{RequestId}
 use Rattle.sd_command.specs.declared.command.Command.{Command}
@@ -13,21 +14,24 @@ use Rattle.sd_journal.specs.History.{Base, last, pending}
 use Rattle.sd_journal.specs.Kept.{HasGrown, Kept}
 use Rattle.sd_journal.specs.Legal.{IsAbove}
 use Rattle.sd_journal.specs.Marked.{IsTracked, Marked, Noted, Told, entries_of, is_of, mark_serial}
+use Rattle.sd_merge.specs.Merger as merger
 use Rattle.sd_opener.specs.Looking.{Looking}
 use Rattle.sd_pagetable.specs.Contents.{Contents}
 use Rattle.sd_rounds.specs.declared.stage.Stage.{Stage}
 use Rattle.sd_rounds.specs.declared.stage.Stage.TheVariants.{Format, Freeze as FreezeStage, Pass as PassStage, PageWrite, Close}
-use Rattle.sd_rounds.specs.Dumper.{AreRunning, IsItsImage, Running, order_of, out_of_image, out_of_running, slot_of}
+use Rattle.sd_rounds.specs.Dumper.{AreRunning, HasSlot, IsItsImage, Running, order_of, out_of_image, out_of_running, serial_of, slot_of}
 use Rattle.sd_rounds.specs.Making.{Making, is_frozen, out_of}
+use Rattle.sd_belief.specs.Calls.{IsFree}
 use Rattle.sd_belief.specs.declared.standing.Standing.{Standing}
-use Rattle.sd_belief.specs.declared.standing.Standing.TheVariants.{Open}
-use Rattle.sd_belief.specs.OpenerSteps.{nobody}
+use Rattle.sd_belief.specs.declared.standing.Standing.TheVariants.{NotOpen, Open}
+use Rattle.sd_belief.specs.Merges.{IsOtherImage, IsSpared, MakesOther}
 use Rattle.sd_core.specs.declared.numbers.Numbers.{Numbers}
 use Rattle.sd_core.proofs.JournalLemmas.{same_journal}
+use Rattle.sd_core.proofs.MergeLemmas.{asks_apart, fills_same, merging_stays}
 use Rattle.sd_core.proofs.PreDumpLemmas.{TheyStay, pre_dumps_stay}
 use Rattle.sd_core.specs.Images.{begun_as}
 use Rattle.sd_core.specs.LittleWork.{HasLittle, TakesLittle}
-use Rattle.sd_core.specs.Sound.{AreCounted, AreNumbers, AreOuts, IsAtWork, IsCore, IsImageOf, IsJournal, IsOpening, IsVisiting, IsVisitingIn, Parts, begun_images, frozen_by, held_for, out_of_opener}
+use Rattle.sd_core.specs.Sound.{AreCounted, AreNumbers, AreOuts, IsAtWork, IsCore, IsImageOf, IsJournal, IsMerging, IsOpening, IsVisiting, IsVisitingIn, Parts, begun_images, due_serials, frozen_by, held_for}
 
 -- ---- where none runs
 
@@ -45,49 +49,51 @@ none_works P running none = subst (λ r. IfSome r P) (sym none) tt
 -- ---- where one does
 
 pub at_work : (core : Parts) (running : Running) → IsCore core → core.dumper.running ≡ Some running
-    → IsAtWork core.base core.journal.items core.frozen core.standing core.phases core.places core.opener core.numbers running
+    → IsAtWork core.base core.journal.items core.frozen core.standing core.phases core.places core.merger core.opener core.numbers running
 at_work core running sound is =
-    subst (λ r. IfSome r (IsAtWork core.base core.journal.items core.frozen core.standing core.phases core.places core.opener core.numbers)) is sound.work
+    subst (λ r. IfSome r (IsAtWork core.base core.journal.items core.frozen core.standing core.phases core.places core.merger core.opener core.numbers)) is sound.work
 
 -- what is out of the dumper
 pub out_at_work : (core : Parts) (running : Running) (out : Option RequestId) → IsCore core → core.dumper.running ≡ Some running → slice_get core.outs 0 ≡ Some out
-    → (out_of_running (Some running) ≡ out) × (core.outs ≡ out ∷ None ∷ None ∷ [])
+    → (out_of_running (Some running) ≡ out) × (core.outs ≡ out ∷ merger.out_of_merge core.merger ∷ None ∷ [])
 out_at_work core running out sound is at = (own, all)
   where
     first : Some (out_of_running (Some running)) ≡ Some out → out_of_running (Some running) ≡ out
     first e = cc
 
-    are : core.outs ≡ out_of_running (Some running) ∷ None ∷ None ∷ []
-    are = sound.outs_are.are ∙ ap (λ r. out_of_running r ∷ None ∷ out_of_opener core.opener ∷ []) is
-        ∙ ap (λ o. out_of_running (Some running) ∷ None ∷ out_of_opener o ∷ []) (at_work core running sound is).closed
+    are : core.outs ≡ out_of_running (Some running) ∷ merger.out_of_merge core.merger ∷ None ∷ []
+    are = sound.outs_are.jobs (at_work core running sound is).stands ∙ ap (λ r. out_of_running r ∷ merger.out_of_merge core.merger ∷ None ∷ []) is
 
     own : out_of_running (Some running) ≡ out
     own = first (ap (λ outs. slice_get outs 0) (sym are) ∙ at)
 
-    all : core.outs ≡ out ∷ None ∷ None ∷ []
-    all = are ∙ ap (λ o. o ∷ None ∷ None ∷ []) own
+    all : core.outs ≡ out ∷ merger.out_of_merge core.merger ∷ None ∷ []
+    all = are ∙ ap (λ o. o ∷ merger.out_of_merge core.merger ∷ None ∷ []) own
 
 -- a core whose dumper works
 pub record IsWorking (core : Parts) (running : Running) : Type 0 where
   pub journal_is : IsJournal core.base core.journal core.memory core.frozen core.newest
   pub held : core.journal.held ≡ held_for core.frozen (Some running) None
-  pub outs_are : AreOuts core.outs core.phases (Some running) None
+  pub outs_are : AreOuts core.standing core.outs core.phases (Some running) core.merger None
   pub numbers_are : AreNumbers core.base core.journal.items core.frozen core.newest core.numbers
   pub counted : AreCounted core.numbers core.places
-  pub work : IsAtWork core.base core.journal.items core.frozen core.standing core.phases core.places core.opener core.numbers running
+  pub work : IsAtWork core.base core.journal.items core.frozen core.standing core.phases core.places core.merger core.opener core.numbers running
   pub little : HasLittle core.base core.journal.items core.memory running
+  pub merging : IfSome core.merger (IsMerging core.standing core.phases core.places core.opener core.numbers core.room (Some running))
 
 pub core_working : (core : Parts) (running : Running) → core.dumper.running ≡ Some running → IsWorking core running → IsCore core
 core_working core running is w = record {
   journal_is = w.journal_is;
   held = w.held ∙ ap (λ r. held_for core.frozen r None) (sym is) ∙ ap (held_for core.frozen core.dumper.running) (sym w.work.closed);
-  outs_are = subst (λ r. AreOuts core.outs core.phases r core.opener) (sym is) (subst (λ o. AreOuts core.outs core.phases (Some running) o) (sym w.work.closed) w.outs_are);
+  outs_are = subst (λ r. AreOuts core.standing core.outs core.phases r core.merger core.opener) (sym is)
+      (subst (λ o. AreOuts core.standing core.outs core.phases (Some running) core.merger o) (sym w.work.closed) w.outs_are);
   opening = subst (λ o. IfSome o (IsOpening core.standing core.phases)) (sym w.work.closed) tt;
   numbers_are = w.numbers_are;
   counted = w.counted;
   rests = λ none. absurd (let no : None ≡ Some running = sym none ∙ is in cc);
-  work = subst (λ r. IfSome r (IsAtWork core.base core.journal.items core.frozen core.standing core.phases core.places core.opener core.numbers)) (sym is) w.work;
+  work = subst (λ r. IfSome r (IsAtWork core.base core.journal.items core.frozen core.standing core.phases core.places core.merger core.opener core.numbers)) (sym is) w.work;
   little = subst (λ r. IfSome r (HasLittle core.base core.journal.items core.memory)) (sym is) w.little;
+  merging = subst (λ r. IfSome core.merger (IsMerging core.standing core.phases core.places core.opener core.numbers core.room r)) (sym is) w.merging;
 }
 
 -- ---- numbers
@@ -158,9 +164,22 @@ noted_journal base old new before after frozen newest mark items first limit tra
 
 -- ---- the image in the making turns to another stage
 
+-- the places that are held stay so, and so do images in slots that the checkpoint hasn't
+pub record KeepsPlaces (running : Running) (old new : Places) : Type 0 where
+  pub held : (serial : ℕ) → IsHeld old serial → IsHeld new serial
+  pub images : (serial : ℕ) (o : Opened) → place_of old serial ≡ Some (Some o) → (HasSlot (Some running) o.slot → ⊥) → place_of new serial ≡ Some (Some o)
+
+pub same_places : (running : Running) (places : Places) → KeepsPlaces running places places
+same_places running places = record { held = λ serial is. is; images = λ serial o there spared. there }
+
 pub record Turns (old new : Parts) (running : Running) (image next : Making) : Type 0 where
   pub was : old.dumper.running ≡ Some running
   pub making : running.image ≡ Some image
+  pub is : new.dumper.running ≡ Some (record running { image = Some next })
+  pub merger_is : new.merger ≡ old.merger
+  pub room : new.room ≡ old.room
+  pub serial : next.order.serial ≡ image.order.serial
+  pub places_stay : KeepsPlaces running old.places new.places
   pub base : new.base ≡ old.base
   pub frozen : new.frozen ≡ old.frozen
   pub standing : new.standing ≡ old.standing
@@ -172,7 +191,7 @@ pub record Turns (old new : Parts) (running : Running) (image next : Making) : T
   pub journal_is : IsJournal new.base new.journal new.memory new.frozen new.newest
   pub numbers_are : AreNumbers new.base new.journal.items new.frozen new.newest new.numbers
   pub counted : AreCounted new.numbers new.places
-  pub outs : new.outs ≡ out_of next.stage ∷ None ∷ None ∷ []
+  pub outs : new.outs ≡ out_of next.stage ∷ merger.out_of_merge old.merger ∷ None ∷ []
   pub slot : (id : RequestId) → out_of next.stage ≡ Some id → id.slot < length new.phases
   pub stay : TheyStay (begun_as running) old.places new.places running.opened
   pub asked : IfSome (out_of next.stage) (λ id. id.slot ≡ slot_of running)
@@ -180,20 +199,51 @@ pub record Turns (old new : Parts) (running : Running) (image next : Making) : T
   pub still : is_frozen next ≡ is_frozen image
   pub little : TakesLittle new.base new.journal.items new.memory running.number next
 
--- only the dumper's request is out
-pub outs_within : (outs : List (Option RequestId)) (phases : List Phase) (out : Option RequestId) → outs ≡ out ∷ None ∷ None ∷ []
-    → ((id : RequestId) → out ≡ Some id → id.slot < length phases)
-    → (worker : ℕ) (id : RequestId) → slice_get outs worker ≡ Some (Some id) → id.slot < length phases
-outs_within outs phases out are slot worker id at = found worker (ap (λ all. slice_get all worker) (sym are) ∙ at)
-  where
-    first : Some out ≡ Some (Some id) → out ≡ Some id
-    first e = cc
+-- ---- requests that are out while the store is open
 
-    found : (w : ℕ) → slice_get (out ∷ None ∷ None ∷ []) w ≡ Some (Some id) → id.slot < length phases
-    found zero e = slot id (first e)
-    found (suc zero) e = absurd (let no : Some None ≡ Some (Some id) = e in cc)
-    found (suc (suc zero)) e = absurd (let no : Some None ≡ Some (Some id) = e in cc)
-    found (suc (suc (suc w))) e = absurd (let no : None ≡ Some (Some id) = e in cc)
+pub two_at : (one two : Option RequestId) (worker : ℕ) (id : RequestId) → slice_get (one ∷ two ∷ None ∷ []) worker ≡ Some (Some id)
+    → ((worker ≡ 0) × (one ≡ Some id)) ⊎ ((worker ≡ 1) × (two ≡ Some id))
+two_at one two zero id at = inl (refl, first_out one id at)
+  where
+    first_out : (o : Option RequestId) (i : RequestId) → Some o ≡ Some (Some i) → o ≡ Some i
+    first_out o i e = cc
+two_at one two (suc zero) id at = inr (refl, second_out two id at)
+  where
+    second_out : (o : Option RequestId) (i : RequestId) → Some o ≡ Some (Some i) → o ≡ Some i
+    second_out o i e = cc
+two_at one two (suc (suc zero)) id at = absurd (let no : Some None ≡ Some (Some id) = at in cc)
+two_at one two (suc (suc (suc w))) id at = absurd (let no : None ≡ Some (Some id) = at in cc)
+
+-- the requests of the jobs of an open store
+pub open_outs : (outs : List (Option RequestId)) (phases : List Phase) (running : Option Running) (merge : Option merger.Running) (one two : Option RequestId)
+    → outs ≡ one ∷ two ∷ None ∷ [] → out_of_running running ≡ one → merger.out_of_merge merge ≡ two
+    → ((id : RequestId) → one ≡ Some id → id.slot < length phases) → ((id : RequestId) → two ≡ Some id → id.slot < length phases)
+    → ((id other : RequestId) → one ≡ Some id → two ≡ Some other → id.slot ≢ other.slot)
+    → AreOuts Open outs phases running merge None
+open_outs outs phases running merge one two are its_one its_two in_one in_two apart = record {
+  jobs = λ stands. are ∙ ap (λ o. o ∷ two ∷ None ∷ []) (sym its_one) ∙ ap (λ o. out_of_running running ∷ o ∷ None ∷ []) (sym its_two);
+  opening = tt;
+  none = λ closed. absurd (let no : Open ≡ NotOpen = closed in cc);
+  two = λ none. record { dumper = one; merger = two; are = are };
+  within = λ worker id at. elim (two_at one two worker id (ap (λ all. slice_get all worker) (sym are) ∙ at)) [
+    | inl a ↦ in_one id a.1
+    | inr b ↦ in_two id b.1
+  ];
+  apart = λ worker other id next at its same. elim (two_at one two worker id (ap (λ all. slice_get all worker) (sym are) ∙ at)) [
+    | inl a ↦ elim (two_at one two other next (ap (λ all. slice_get all other) (sym are) ∙ its)) [
+      | inl c ↦ a.0 ∙ sym c.0
+      | inr d ↦ absurd (apart id next a.1 d.1 same)
+    ]
+    | inr b ↦ elim (two_at one two other next (ap (λ all. slice_get all other) (sym are) ∙ its)) [
+      | inl c ↦ absurd (apart next id c.1 b.1 (sym same))
+      | inr d ↦ b.0 ∙ sym d.0
+    ]
+  ];
+}
+
+-- the merger's request that is out is on a slot of the store
+pub merger_within : (core : Parts) (id : RequestId) → IsCore core → core.standing ≡ Open → merger.out_of_merge core.merger ≡ Some id → id.slot < length core.phases
+merger_within core id sound stands out = sound.outs_are.within 1 id (ap (λ all. slice_get all 1) (sound.outs_are.jobs stands) ∙ ap Some out)
 
 pub held_same : (frozen : Option ℕ) (one other : Running) (opener : Option Looking) → held_for frozen (Some one) opener ≡ held_for frozen (Some other) opener
 held_same (Some n) one other opener = refl
@@ -208,17 +258,56 @@ pub pends_so : (running : Running) (image next : Making) → running.image ≡ S
 pends_so running image next making still =
     ap (λ b. if b then Some running.number else None) still ∙ ap (λ i. frozen_by (record running { image = i })) (sym making)
 
+-- what a merge keeps while the image turns
+pub record KeepsMerge (old new : Parts) (running : Running) (image next : Making) : Type 0 where
+  pub was : old.dumper.running ≡ Some running
+  pub making : running.image ≡ Some image
+  pub is : new.dumper.running ≡ Some (record running { image = Some next })
+  pub merger_is : new.merger ≡ old.merger
+  pub room : new.room ≡ old.room
+  pub serial : next.order.serial ≡ image.order.serial
+  pub places_stay : KeepsPlaces running old.places new.places
+  pub standing : new.standing ≡ old.standing
+  pub opener : new.opener ≡ old.opener
+  pub count : length new.phases ≡ length old.phases
+  pub numbers : SameNumbers old.numbers new.numbers
+
+pub merging_turned : (old new : Parts) (running : Running) (image next : Making) → IsCore old → KeepsMerge old new running image next
+    → IfSome new.merger (IsMerging new.standing new.phases new.places new.opener new.numbers new.room new.dumper.running)
+merging_turned old new running image next sound t = merging_stays old new (record {
+  merger_is = t.merger_is;
+  room = t.room;
+  standing = t.standing;
+  opener = t.opener;
+  count = t.count;
+  given = (let given = t.numbers.given in omega (arith, given));
+  checkpoint = (let checkpoint = t.numbers.checkpoint in omega (arith, checkpoint));
+  serials = λ merge is due few. (let serial = t.numbers.serial in omega (arith, serial, few));
+  has = λ slot has. subst (λ r. HasSlot r slot) (sym t.was) (subst (λ r. HasSlot r slot) t.is has);
+  fills = λ slot spared. subst (λ r. IsSpared r slot) (sym t.is) (fills_same running (Some next) slot (subst (λ r. IsSpared r slot) t.was spared));
+  other = λ s given other. subst (λ r. MakesOther r s) (sym t.is) (λ same. other_than s (subst (λ r. MakesOther r s) t.was other) (sym t.serial ∙ same));
+  held = λ s given other held. t.places_stay.held s held;
+  images = λ s o there spared. t.places_stay.images s o there (λ has. spared (subst (λ r. HasSlot r o.slot) (sym t.was) has));
+}) sound.merging
+  where
+    other_than : (serial : ℕ) → MakesOther (Some running) serial → image.order.serial ≢ serial
+    other_than serial other = subst (λ i. IsOtherImage i serial) t.making other
+
 pub turned : (old new : Parts) (running : Running) (image next : Making) → IsCore old → Turns old new running image next
     → IsWorking new (record running { image = Some next })
 turned old new running image next sound t =
     let w = at_work old running sound t.was in
     let serial = t.numbers.serial in
-    let serials : old.numbers.serial < 2 ^ 63 + (running.opened + 1) = subst (λ i. old.numbers.serial < 2 ^ 63 + begun_images running i) t.making w.serials in
+    let due_same = ap due_serials t.merger_is in
+    let serials : old.numbers.serial + due_serials old.merger ≤ 2 ^ 63 + (running.opened + 1) = subst (λ i. old.numbers.serial + due_serials old.merger ≤ 2 ^ 63 + begun_images running i) t.making w.serials in
     record {
       journal_is = t.journal_is;
       held = t.held ∙ held_at_work old running sound t.was ∙ ap (λ f. held_for f (Some running) None) (sym t.frozen)
           ∙ held_same new.frozen running (record running { image = Some next }) None;
-      outs_are = record { are = t.outs; within = outs_within new.outs new.phases (out_of next.stage) t.outs t.slot };
+      outs_are = subst (λ st. AreOuts st new.outs new.phases (Some (record running { image = Some next })) new.merger None) (sym (t.standing ∙ w.stands))
+          (open_outs new.outs new.phases (Some (record running { image = Some next })) new.merger (out_of next.stage) (merger.out_of_merge old.merger) t.outs refl (ap merger.out_of_merge t.merger_is)
+          t.slot (λ id out. subst (λ n. id.slot < n) (sym t.count) (merger_within old id sound w.stands out))
+          (λ id other one two. asks_apart old running id other sound t.was (subst (λ o. IfSome o (λ i. i.slot ≡ slot_of running)) one t.asked) two));
       numbers_are = t.numbers_are;
       counted = t.counted;
       work = record {
@@ -230,7 +319,7 @@ turned old new running image next sound t =
         some = w.some;
         number = w.number ∙ sym t.numbers.begun;
         few = w.few;
-        serials = omega (arith, serial, serials);
+        serials = omega (arith, serial, serials, due_same);
         within = λ slot reserved. subst (λ k. slot < k) (sym t.count) (w.within slot (record { place = reserved.place; from = reserved.from; is = reserved.is }));
         apart = w.apart;
         pre_dumps = pre_dumps_stay (begun_as running) old.places new.places running.opened running.parent t.stay w.pre_dumps;
@@ -238,6 +327,19 @@ turned old new running image next sound t =
         image = t.image_is;
       };
       little = t.little;
+      merging = subst (λ r. IfSome new.merger (IsMerging new.standing new.phases new.places new.opener new.numbers new.room r)) t.is (merging_turned old new running image next sound (record {
+        was = t.was;
+        making = t.making;
+        is = t.is;
+        merger_is = t.merger_is;
+        room = t.room;
+        serial = t.serial;
+        places_stay = t.places_stay;
+        standing = t.standing;
+        opener = t.opener;
+        count = t.count;
+        numbers = t.numbers;
+      }));
     }
 
 -- ---- more room in the journal
@@ -251,8 +353,9 @@ grown_core core journal sound grown = record {
   numbers_are = subst (λ all. AreNumbers core.base all core.frozen core.newest core.numbers) (sym grown.items) sound.numbers_are;
   counted = sound.counted;
   rests = sound.rests;
-  work = subst (λ all. IfSome core.dumper.running (IsAtWork core.base all core.frozen core.standing core.phases core.places core.opener core.numbers)) (sym grown.items) sound.work;
+  work = subst (λ all. IfSome core.dumper.running (IsAtWork core.base all core.frozen core.standing core.phases core.places core.merger core.opener core.numbers)) (sym grown.items) sound.work;
   little = subst (λ all. IfSome core.dumper.running (HasLittle core.base all core.memory)) (sym grown.items) sound.little;
+  merging = sound.merging;
 }
 
 -- ---- the image in the making
@@ -279,16 +382,52 @@ pub slot_within : (core : Parts) (running : Running) → IsCore core → core.du
 slot_within core running sound was =
     (at_work core running sound was).within (slot_of running) (record { place = running.opened; from = omega arith; is = refl })
 
+-- the serial that the dumper tells is the image's
+pub its_serial : (running : Option Running) (now : Running) (image : Making) (told : Option ℕ) (serial : ℕ) → running ≡ Some (record now { image = Some image }) → told ≡ serial_of running
+    → told ≡ Some serial → serial ≡ image.order.serial
+its_serial running now image told serial is tells some = same_Some serial image.order.serial (sym some ∙ tells ∙ ap serial_of is)
+
 -- its slot is one of the store's
 pub image_within : (core : Parts) (since : ℕ) (running : Running) (image : Making) → IsCore core → AreRunning since core.dumper.running → core.dumper.running ≡ Some running
     → running.image ≡ Some image → image.order.slot < length core.phases
 image_within core since running image sound are was making =
     subst (λ slot. slot < length core.phases) (sym (ap (λ o. o.slot) (own_order since core.dumper.running running image are was making))) (slot_within core running sound was)
 
--- between two images nothing is out
-pub rests_before : (core : Parts) (running : Running) → IsCore core → core.dumper.running ≡ Some running → running.image ≡ None → core.outs ≡ nobody
-rests_before core running sound was none = sound.outs_are.are ∙ ap (λ r. out_of_running r ∷ None ∷ out_of_opener core.opener ∷ []) was
-    ∙ ap (λ i. out_of_image i ∷ None ∷ out_of_opener core.opener ∷ []) none ∙ ap (λ o. None ∷ None ∷ out_of_opener o ∷ []) (at_work core running sound was).closed
+-- between two images nothing of the dumper is out
+pub rests_before : (core : Parts) (running : Running) → IsCore core → core.dumper.running ≡ Some running → running.image ≡ None → core.outs ≡ None ∷ merger.out_of_merge core.merger ∷ None ∷ []
+rests_before core running sound was none = sound.outs_are.jobs (at_work core running sound was).stands ∙ ap (λ r. out_of_running r ∷ merger.out_of_merge core.merger ∷ None ∷ []) was
+    ∙ ap (λ i. out_of_image i ∷ merger.out_of_merge core.merger ∷ None ∷ []) none
+
+-- no request is out on the slot of the checkpoint's image
+pub free_beside : (core : Parts) (running : Running) (slot : ℕ) → IsCore core → core.dumper.running ≡ Some running → core.outs ≡ None ∷ merger.out_of_merge core.merger ∷ None ∷ []
+    → slot ≡ slot_of running → IsFree core.outs slot
+free_beside core running slot sound was outs own worker id at same =
+    elim (two_at None (merger.out_of_merge core.merger) worker id (ap (λ all. slice_get all worker) (sym outs) ∙ at)) [
+      | inl a ↦ (let no : None ≡ Some id = a.1 in cc)
+      | inr b ↦ by core.merger sound.merging b.1
+    ]
+  where
+    by : (m : Option merger.Running) → IfSome m (IsMerging core.standing core.phases core.places core.opener core.numbers core.room core.dumper.running)
+        → merger.out_of_merge m ≡ Some id → ⊥
+    by None is out = (let no : None ≡ Some id = out in cc)
+    by (Some merge) is out = (subst (λ r. IsSpared r id.slot) was (is.asks id out)) (record { place = running.opened; from = omega arith; is = same ∙ own })
+
+-- ---- a place is held for an image that begins
+
+pub held_more : (old new : Places) (serial other : ℕ) → Changes old new serial (Some None) → IsHeld old other → IsHeld new other
+held_more old new serial other changes held = changes other ∙ by (serial == other)
+  where
+    by : (b : Bool) → (if b then Some None else place_of old other) ≡ Some None
+    by true = refl
+    by false = held
+
+pub open_more : (old new : Places) (serial other : ℕ) (o : Opened) → Changes old new serial (Some None) → ((o : Opened) → place_of old serial ≡ Some (Some o) → ⊥)
+    → place_of old other ≡ Some (Some o) → place_of new other ≡ Some (Some o)
+open_more old new serial other o changes none there = changes other ∙ by (eqb_tells serial other)
+  where
+    by : (((serial == other) ≡ true) × (serial ≡ other)) ⊎ (((serial == other) ≡ false) × (serial ≢ other)) → (if serial == other then Some None else place_of old other) ≡ Some (Some o)
+    by (inl same) = absurd (none o (ap (place_of old) same.1 ∙ there))
+    by (inr differs) = ap (λ b. if b then Some None else place_of old other) differs.0 ∙ there
 
 -- ---- a command was journaled
 
@@ -306,7 +445,6 @@ applied_numbers base items frozen newest numbers seat command reply was = record
 image_applied : (items : Marked) (places : Places) (numbers : Numbers) (image : Making) (seat : ℕ) (command : Command) (reply : Reply)
     → IsImageOf items places numbers image → IsImageOf (Told (Applied seat command reply) ∷ items) places numbers image
 image_applied items places numbers image seat command reply is = record {
-  serial = is.serial;
   given = is.given;
   held = is.held;
   stage = is.stage;
@@ -329,11 +467,11 @@ image_applied_some : (items : Marked) (places : Places) (numbers : Numbers) (ima
 image_applied_some items places numbers None seat command reply is = tt
 image_applied_some items places numbers (Some image) seat command reply is = image_applied items places numbers image seat command reply is
 
-pub applied_work : (base : Base) (items : Marked) (frozen : Option ℕ) (stands : Standing) (phases : List Phase) (places : Places) (opener : Option Looking) (numbers : Numbers)
-    (running : Option Running) (seat : ℕ) (command : Command) (reply : Reply) → IfSome running (IsAtWork base items frozen stands phases places opener numbers)
-    → IfSome running (IsAtWork base (Told (Applied seat command reply) ∷ items) frozen stands phases places opener numbers)
-applied_work base items frozen stands phases places opener numbers None seat command reply work = tt
-applied_work base items frozen stands phases places opener numbers (Some running) seat command reply work = record {
+pub applied_work : (base : Base) (items : Marked) (frozen : Option ℕ) (stands : Standing) (phases : List Phase) (places : Places) (merge : Option merger.Running) (opener : Option Looking) (numbers : Numbers)
+    (running : Option Running) (seat : ℕ) (command : Command) (reply : Reply) → IfSome running (IsAtWork base items frozen stands phases places merge opener numbers)
+    → IfSome running (IsAtWork base (Told (Applied seat command reply) ∷ items) frozen stands phases places merge opener numbers)
+applied_work base items frozen stands phases places merge opener numbers None seat command reply work = tt
+applied_work base items frozen stands phases places merge opener numbers (Some running) seat command reply work = record {
   stands = work.stands;
   closed = work.closed;
   pends = work.pends;

@@ -1,7 +1,6 @@
 -- How a checkpoint begins: when it is refused, in which slots it is made, and from which image on.
-use Rattle.std.specs.Prelude.{◌≡◌, ◌⊎◌, ◌↔◌, ℕ, ◌+◌, ◌-◌, ◌<◌, ◌≤◌, ◌^◌, Bool, true, false, if◌then◌else◌, is_some, nat_le, nat_lt, ◌||◌, List, [], ◌∷◌, length, take, replicate, Contains, slice_get, slice_set, Option, Some, None}
-use Rattle.sd_chain.specs.Catalog.{IsTip, Opened, Places, place_of}
-use Rattle.sd_chain.specs.Reaches.{ParentsFall, ReachesSerial}
+use Rattle.std.specs.Prelude.{◌≡◌, ◌⊎◌, ℕ, ◌+◌, ◌-◌, ◌<◌, ◌≤◌, ◌^◌, Bool, true, false, if◌then◌else◌, is_some, nat_le, nat_lt, ◌||◌, List, [], ◌∷◌, length, take, slice_get, Option, Some, None}
+use Rattle.sd_chain.specs.Catalog.{IsTip, Opened, Places}
 use Rattle.sd_command.specs.declared.refusal.Refusal.{Refusal}
 use Rattle.sd_command.specs.declared.refusal.Refusal.TheVariants as refusal
 use Rattle.sd_command.specs.declared.reply.Reply.{Reply}
@@ -10,6 +9,8 @@ use Rattle.sd_rounds.specs.Dumper.{begun_checkpoint}
 use Rattle.sd_belief.specs.declared.standing.Standing.{Standing}
 use Rattle.sd_belief.specs.declared.standing.Standing.TheVariants as standing
 use Rattle.sd_belief.specs.View.{CoreView, Numbers, history_of}
+use Rattle.sd_slots.specs.Taken.{AreFree}
+use Rattle.sd_core.specs.declared.beginning.Slots.{Slots}
 
 -- ---- refusals, by priority
 
@@ -47,61 +48,35 @@ begin_refusal core rounds = first_of (
     ∷ (are_used_up core.numbers, refusal.NumbersUsed)
     ∷ [])
 
--- why a merge can't begin: nothing merges yet
-abbrev pub merge_refusal : Standing → Refusal
-merge_refusal standing.NotOpen = refusal.NotOpen
-merge_refusal standing.Open = refusal.Idle
-merge_refusal standing.Down = refusal.StoreDown
-
 -- ---- slots
 
--- with the slot of an image, where there is one, as used
-abbrev pub with_used : Option (Option Opened) → List Bool → List Bool
-with_used None used = used
-with_used (Some None) used = used
-with_used (Some (Some o)) used = slice_set used o.slot true
-
--- with the slots of the images of these serials as used
-abbrev pub used_by : Places → List ℕ → List Bool → List Bool
-used_by places [] used = used
-used_by places (serial ∷ serials) used = used_by places serials (with_used (place_of places serial) used)
-
--- the slots that aren't used, rising, where the first of these has this number
-abbrev pub free_from : ℕ → List Bool → List ℕ
-free_from slot [] = []
-free_from slot (used ∷ rest) = if used then free_from (slot + 1) rest else slot ∷ free_from (slot + 1) rest
-
--- the serials of the images that the tip reaches, or none where there is no tip
-pub record AreNeeded (places : Places) (serials : List ℕ) : Type 0 where
-  pub reached : ParentsFall places → (tip : Opened) → IsTip places tip → (serial : ℕ)
-      → Contains serials serial ↔ ReachesSerial places tip.header.serial serial
-  pub none : ((tip : Opened) → IsTip places tip → ⊥) → serials ≡ []
-
--- the slots in which no image stands that the tip reaches, rising
-pub record AreFree (places : Places) (count : ℕ) (slots : List ℕ) : Type 0 where
-  pub serials : List ℕ
-  pub needed : AreNeeded places serials
-  pub are : slots ≡ free_from 0 (used_by places serials (replicate count false))
+-- the slots in which no image stands that is needed, that no job reserves and on which no request is out, rising
+abbrev pub FreeSlots : CoreView → List ℕ → Type 0
+FreeSlots core = AreFree core.catalog core.dumper.running core.merger core.outs (length core.phases)
 
 -- The slots of a checkpoint are the lowest free ones, and one more is free.
-pub record AreReserved (places : Places) (count rounds : ℕ) (pre_dumps : List ℕ) (dump : ℕ) : Type 0 where
+pub record AreReserved (core : CoreView) (rounds : ℕ) (pre_dumps : List ℕ) (dump : ℕ) : Type 0 where
   pub slots : List ℕ
-  pub free : AreFree places count slots
+  pub free : FreeSlots core slots
   pub firsts : pre_dumps ≡ take rounds slots
   pub next : slice_get slots rounds ≡ Some dump
   pub spare : rounds + 2 ≤ length slots
 
--- too few slots are free
-pub record AreFew (places : Places) (count rounds : ℕ) : Type 0 where
-  pub slots : List ℕ
-  pub free : AreFree places count slots
-  pub few : length slots < rounds + 2
+-- of these free slots the first are a checkpoint's, where there are two more than its pre-dumps
+pub record TakesFirst (free : List ℕ) (rounds : ℕ) (slots : Slots) : Type 0 where
+  pub firsts : slots.pre_dumps.items ≡ take rounds free
+  pub next : slice_get free rounds ≡ Some slots.dump
+  pub spare : rounds + 2 ≤ length free
 
--- why no slots were reserved: too few are free, or memory was refused
-abbrev pub IsShort : Places → ℕ → ℕ → Refusal → Type 0
-IsShort places count rounds refusal.NoSlot = AreFew places count rounds
-IsShort places count rounds refusal.OutOfMemory = Unit {0}
-IsShort places count rounds _ = ⊥
+abbrev pub IsReserving : List ℕ → ℕ → Option Slots → Type 0
+IsReserving free rounds None = length free < rounds + 2
+IsReserving free rounds (Some slots) = TakesFirst free rounds slots
+
+-- too few slots are free
+pub record AreFew (core : CoreView) (rounds : ℕ) : Type 0 where
+  pub slots : List ℕ
+  pub free : FreeSlots core slots
+  pub few : length slots < rounds + 2
 
 -- ---- the parent
 
@@ -120,14 +95,15 @@ pub record Begins (old : CoreView) (rounds n : ℕ) (new : CoreView) : Type 0 wh
   pub pre_dumps : List ℕ
   pub dump : ℕ
   pub parent : ℕ
-  pub reserved : AreReserved old.catalog (length old.phases) rounds pre_dumps dump
+  pub reserved : AreReserved old rounds pre_dumps dump
   pub first : IsFirstParent old.catalog old.grows parent
   pub running : new.dumper.running ≡ Some (begun_checkpoint n pre_dumps dump parent)
   pub stands : new.standing ≡ old.standing
+  pub merger : new.merger ≡ old.merger
 
 -- what a beginning leaves that none of these refuses
 abbrev pub BeginsAs : CoreView → ℕ → Reply → CoreView → Type 0
 BeginsAs old rounds (reply.Begun n) new = Begins old rounds n new
-BeginsAs old rounds (reply.Refused refusal.NoSlot) new = AreFew old.catalog (length old.phases) rounds × (new ≡ old)
+BeginsAs old rounds (reply.Refused refusal.NoSlot) new = AreFew old rounds × (new ≡ old)
 BeginsAs old rounds (reply.Refused refusal.OutOfMemory) new = new ≡ old
 BeginsAs old rounds _ new = ⊥

@@ -1,5 +1,6 @@
 -- The dumper of a core.
 use Rattle.std.specs.Prelude.{◌≡◌, ℕ, ◌+◌, Option, Some, None}
+use Rattle.sd_chain.specs.Catalog.{Changes, IsHeld, Places}
 use Rattle.sd_gate.specs.declared.slot_state.SlotState.{SlotState}
 use Rattle.sd_gate.specs.Requests.{Asked}
 use Rattle.sd_journal.specs.Kept.{Kept}
@@ -38,3 +39,11 @@ pub record LetsGoOfTwo (pending : Option ℕ) (old new : Kept) : Type 0 where
   pub items : new.items ≡ old.items
   pub limit : new.limit ≡ old.limit
   pub held : with_two pending new.held ≡ old.held
+
+-- the place that was held for a serial is held no more
+abbrev pub ReleasesHeld : ℕ → Places → Places → Type 0
+ReleasesHeld serial old new = (IsHeld old serial → Changes old new serial None) × ((IsHeld old serial → ⊥) → new ≡ old)
+
+abbrev pub ReleasesPlace : Option ℕ → Places → Places → Type 0
+ReleasesPlace None old new = new ≡ old
+ReleasesPlace (Some serial) old new = ReleasesHeld serial old new

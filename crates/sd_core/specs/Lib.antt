@@ -3,6 +3,7 @@ pub mod Beginning
 pub mod Dumping
 pub mod Images
 pub mod LittleWork
+pub mod Merging
 pub mod Opening
 pub mod Orders
 pub mod Refusals

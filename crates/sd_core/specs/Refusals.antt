@@ -56,9 +56,9 @@ reopen_refusal core = first_of ((is_in_use core, refusal.Busy) ∷ (wants_entry 
 -- a worker has no job
 abbrev pub is_idle : CoreView → Worker → Bool
 is_idle core Dumper = is_none core.dumper.running
-is_idle core Merger = true
+is_idle core Merger = is_none core.merger
 is_idle core Opener = is_none core.opener
 
--- why a worker can't go on
+-- why a worker can't go on: also one that is idle may have a request out, since its job may have ended before the outcome
 abbrev pub work_refusal : CoreView → Worker → Option Refusal
-work_refusal core worker = first_of ((is_idle core worker, refusal.Idle) ∷ (not (is_resting core.outs worker), refusal.Busy) ∷ [])
+work_refusal core worker = first_of ((not (is_resting core.outs worker), refusal.Busy) ∷ (is_idle core worker, refusal.Idle) ∷ [])

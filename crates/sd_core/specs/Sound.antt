@@ -5,24 +5,35 @@ use Rattle.sd_chain.specs.Catalog.{IsHeld, Opened, Places, place_of}
 use Rattle.sd_gate.specs.declared.phase.Phase.{Phase}
 use Rattle.sd_gate.specs.declared.request_id.RequestId.{RequestId}
 use Rattle.sd_image.specs.declared.header.Header.{Header}
+use Rattle.sd_image.specs.declared.header.Kind.TheVariants.{Merged}
+use Rattle.sd_gate.specs.declared.call.Call.TheVariants.{Sync}
 use Rattle.sd_journal.specs.Kept.{Kept}
 use Rattle.sd_journal.specs.History.{Base, last, pending}
 use Rattle.sd_journal.specs.Legal.{IsAbove}
 use Rattle.sd_journal.specs.Marked.{IsTracked, Marked, entries_of, is_of, last_visit, visiting}
+use Rattle.sd_merge.specs.declared.copy_order.CopyOrder.{CopyOrder}
+use Rattle.sd_merge.specs.declared.retired.Retired.{Retired}
+use Rattle.sd_merge.specs.declared.stage.Stage.{Stage as CopyStage}
+use Rattle.sd_merge.specs.declared.stage.Stage.TheVariants as copying_stage
+use Rattle.sd_merge.specs.Copying.{Copying}
+use Rattle.sd_merge.specs.Merger as merger
+use Rattle.sd_merge.specs.Merger.{Doing, Retiring, due, copying, opened, retiring}
 use Rattle.sd_opener.specs.Looking.{Looking, out_of}
 use Rattle.sd_pagetable.specs.Contents.{Contents}
 use Rattle.sd_rounds.specs.declared.image_order.ImageOrder.{ImageOrder}
 use Rattle.sd_rounds.specs.declared.stage.Stage.{Stage}
 use Rattle.sd_rounds.specs.declared.stage.Stage.TheVariants.{Format, Freeze, Pass as PassStage, PageWrite, Close}
-use Rattle.sd_rounds.specs.Dumper.{Dumping, Running, is_frozen_image, out_of_image, out_of_running, slot_of}
+use Rattle.sd_rounds.specs.Dumper.{Dumping, HasSlot, IsReserved, Running, is_frozen_image, out_of_image, out_of_running, slot_of}
 use Rattle.sd_rounds.specs.Making.{Making}
 use Rattle.sd_rounds.specs.Pass.{Pass}
 use Rattle.sd_belief.specs.declared.standing.Standing.{Standing}
-use Rattle.sd_belief.specs.declared.standing.Standing.TheVariants.{Open}
-use Rattle.sd_belief.specs.InUse.{IsReserved}
+use Rattle.sd_belief.specs.declared.standing.Standing.TheVariants.{NotOpen, Open}
+use Rattle.sd_belief.specs.Merges.{IsSpared, MakesOther}
+use Rattle.sd_belief.specs.OpenerSteps.{nobody}
 use Rattle.sd_core.specs.declared.numbers.Numbers.{Numbers}
 use Rattle.sd_core.specs.Images.{AreApart, HasPreDumps, begun_as}
 use Rattle.sd_core.specs.LittleWork.{HasLittle}
+use Rattle.sd_core.specs.Merging.{IsMergedImage}
 
 -- how many entries are held: two for a checkpoint before its freeze, one while it is pending, and one for an opener with none pending
 abbrev pub held_for : Option ℕ → Option Running → Option Looking → ℕ
@@ -41,10 +52,22 @@ pub record IsOpening (standing : Standing) (phases : List Phase) (opener : Looki
   pub closed : standing ≢ Open
   pub slots : opener.slots ≡ length phases
 
--- the requests that are out are the workers', on slots of the store
-pub record AreOuts (outs : List (Option RequestId)) (phases : List Phase) (running : Option Running) (opener : Option Looking) : Type 0 where
-  pub are : outs ≡ out_of_running running ∷ None ∷ out_of_opener opener ∷ []
+-- the opener has no request out
+pub record AreTwo (outs : List (Option RequestId)) : Type 0 where
+  pub dumper : Option RequestId
+  pub merger : Option RequestId
+  pub are : outs ≡ dumper ∷ merger ∷ None ∷ []
+
+-- The requests that are out are on different slots of the store. While it is open they are those of its jobs, and while an opener runs it
+-- alone asks. Once it is down the calls of jobs that have ended are out until their outcomes come.
+pub record AreOuts (standing : Standing) (outs : List (Option RequestId)) (phases : List Phase) (running : Option Running) (merge : Option merger.Running)
+    (opener : Option Looking) : Type 0 where
+  pub jobs : standing ≡ Open → outs ≡ out_of_running running ∷ merger.out_of_merge merge ∷ None ∷ []
+  pub opening : IfSome opener (λ one. outs ≡ None ∷ None ∷ out_of_opener opener ∷ [])
+  pub none : standing ≡ NotOpen → opener ≡ None → outs ≡ nobody
+  pub two : opener ≡ None → AreTwo outs
   pub within : (worker : ℕ) (id : RequestId) → slice_get outs worker ≡ Some (Some id) → id.slot < length phases
+  pub apart : (one other : ℕ) (a b : RequestId) → slice_get outs one ≡ Some (Some a) → slice_get outs other ≡ Some (Some b) → a.slot ≡ b.slot → one ≡ other
 
 -- its journal makes its memory, and tells what is pending and what is last
 pub record IsJournal (base : Base) (journal : Kept) (memory : Contents) (frozen newest : Option ℕ) : Type 0 where
@@ -99,10 +122,9 @@ IsVisitingIn items serial pass PassStage = IsVisiting items serial pass
 IsVisitingIn items serial pass (PageWrite plan) = IsVisiting items serial pass
 IsVisitingIn items serial pass (Close plan header tables) = Unit {0}
 
--- An image in the making has the serial that was given out last, whose place in the catalog is held.
+-- An image in the making has a serial that was given out, whose place in the catalog is held.
 pub record IsImageOf (items : Marked) (places : Places) (numbers : Numbers) (image : Making) : Type 0 where
-  pub serial : image.order.serial ≡ numbers.serial
-  pub given : image.order.serial ≡ numbers.given
+  pub given : image.order.serial ≤ numbers.given
   pub held : IsHeld places image.order.serial
   pub stage : IsStageOf image.order image.stage
   pub visiting_in : IsVisitingIn items image.order.serial image.pass image.stage
@@ -116,10 +138,21 @@ abbrev pub begun_images : Running → Option Making → ℕ
 begun_images running None = running.opened
 begun_images running (Some image) = running.opened + 1
 
+abbrev pub due_serials_in : Doing → ℕ
+due_serials_in due = 1
+due_serials_in (copying copy) = 0
+due_serials_in (opened serial) = 0
+due_serials_in (retiring r) = 0
+
+-- a merged image that is to come takes a serial
+abbrev pub due_serials : Option merger.Running → ℕ
+due_serials None = 0
+due_serials (Some merge) = due_serials_in merge.doing
+
 -- A checkpoint runs while the store is open, under the number that was begun last, in slots of the store, of which no two are one. The
 -- pre-dumps so far are in the catalog.
 pub record IsAtWork (base : Base) (items : Marked) (frozen : Option ℕ) (standing : Standing) (phases : List Phase) (places : Places)
-    (opener : Option Looking) (numbers : Numbers) (running : Running) : Type 0 where
+    (merge : Option merger.Running) (opener : Option Looking) (numbers : Numbers) (running : Running) : Type 0 where
   pub stands : standing ≡ Open
   pub closed : opener ≡ None
   pub pends : frozen ≡ frozen_by running
@@ -127,12 +160,69 @@ pub record IsAtWork (base : Base) (items : Marked) (frozen : Option ℕ) (standi
   pub some : 0 < running.number
   pub number : running.number ≡ numbers.begun
   pub few : length running.pre_dumps ≤ 8
-  pub serials : numbers.serial < 2 ^ 63 + begun_images running running.image
+  pub serials : numbers.serial + due_serials merge ≤ 2 ^ 63 + begun_images running running.image
   pub within : (slot : ℕ) → IsReserved running slot → slot < length phases
   pub apart : AreApart running
   pub pre_dumps : HasPreDumps (begun_as running) places running.opened running.parent
   pub asked : IfSome (out_of_image running.image) (λ id. id.slot ≡ slot_of running)
   pub image : IfSome running.image (IsImageOf items places numbers)
+
+-- ---- the merge that runs
+
+-- the header of a merged image has the numbers of its source and its own serial, and names no parent
+pub record IsMergedHeader (order : CopyOrder) (header : Header) : Type 0 where
+  pub kind : header.kind ≡ Merged
+  pub serial : header.serial ≡ order.serial
+  pub stands : header.stands_for ≡ order.source.stands_for
+  pub parent : header.parent ≡ 0
+  pub checkpoint : header.checkpoint ≡ order.source.checkpoint
+
+-- the plan of a merged image's body ends with its header
+abbrev pub HasHeader : CopyOrder → CopyStage → Type 0
+HasHeader order (copying_stage.Format plan) = Unit {0}
+HasHeader order copying_stage.Pass = Unit {0}
+HasHeader order (copying_stage.PageRead plan) = Unit {0}
+HasHeader order (copying_stage.PageWrite plan) = Unit {0}
+HasHeader order (copying_stage.Close plan header tables) = IsMergedHeader order header
+
+-- The merged image in the making has a serial that was given out, whose place in the catalog is held, and that no image of the checkpoint has.
+pub record IsCopyOf (places : Places) (numbers : Numbers) (running : Option Running) (copy : Copying) : Type 0 where
+  pub header : HasHeader copy.order copy.stage
+  pub given : copy.order.serial ≤ numbers.given
+  pub held : IsHeld places copy.order.serial
+  pub other : MakesOther running copy.order.serial
+
+-- an image of the list stands in a slot of the store, which is neither the merged image's nor one of the checkpoint
+pub record IsToClose (phases : List Phase) (running : Option Running) (slot : ℕ) (one : Retired) : Type 0 where
+  pub within : one.slot < length phases
+  pub spared : HasSlot running one.slot → ⊥
+  pub apart : one.slot ≢ slot
+
+-- the merged image is open, and the images of the list, rising by slot, are closed: what is asked for is on none but their slots
+pub record IsClosingAll (phases : List Phase) (places : Places) (running : Option Running) (merge : merger.Running) (r : Retiring) : Type 0 where
+  pub image : IsMergedImage merge places r.serial
+  pub elsewhere : (id : RequestId) → r.plan.out ≡ Some id → id.slot ≢ merge.slot
+  pub each : (place : ℕ) (one : Retired) → slice_get r.list place ≡ Some one → IsToClose phases running merge.slot one
+  pub rises : (place other : ℕ) (a b : Retired) → place < other → slice_get r.list place ≡ Some a → slice_get r.list other ≡ Some b → a.slot < b.slot
+
+abbrev pub IsDoing : List Phase → Places → Numbers → ℕ → Option Running → merger.Running → Doing → Type 0
+IsDoing phases places numbers room running merge due = (numbers.serial < 2 ^ 63 + 9) × (room ≡ length phases)
+IsDoing phases places numbers room running merge (copying copy) = IsCopyOf places numbers running copy × (room ≡ length phases)
+IsDoing phases places numbers room running merge (opened serial) = ⊥
+IsDoing phases places numbers room running merge (retiring r) = IsClosingAll phases places running merge r
+
+-- A merge runs while the store is open, in a slot of the store that no checkpoint has. What it asks for is on no slot that the checkpoint
+-- fills, and a sync on none of its slots.
+pub record IsMerging (standing : Standing) (phases : List Phase) (places : Places) (opener : Option Looking) (numbers : Numbers) (room : ℕ) (running : Option Running)
+    (merge : merger.Running) : Type 0 where
+  pub stands : standing ≡ Open
+  pub closed : opener ≡ None
+  pub within : merge.slot < length phases
+  pub spared : HasSlot running merge.slot → ⊥
+  pub counted : merge.source.checkpoint ≤ numbers.checkpoint
+  pub asks : (id : RequestId) → merger.out_in merge.doing ≡ Some id → IsSpared running id.slot
+  pub syncs : (id : RequestId) → merger.out_in merge.doing ≡ Some id → id.call ≡ Sync → HasSlot running id.slot → ⊥
+  pub doing : IsDoing phases places numbers room running merge merge.doing
 
 -- ---- all of it
 
@@ -148,17 +238,21 @@ pub record Parts : Type 0 where
   pub outs : List (Option RequestId)
   pub places : Places
   pub dumper : Dumping
+  pub merger : Option merger.Running
+  -- for how many slots there is room in the list to come
+  pub room : ℕ
   pub opener : Option Looking
   pub numbers : Numbers
 
 pub record IsCore (core : Parts) : Type 0 where
   pub journal_is : IsJournal core.base core.journal core.memory core.frozen core.newest
   pub held : core.journal.held ≡ held_for core.frozen core.dumper.running core.opener
-  pub outs_are : AreOuts core.outs core.phases core.dumper.running core.opener
+  pub outs_are : AreOuts core.standing core.outs core.phases core.dumper.running core.merger core.opener
   pub opening : IfSome core.opener (IsOpening core.standing core.phases)
   pub numbers_are : AreNumbers core.base core.journal.items core.frozen core.newest core.numbers
   pub counted : AreCounted core.numbers core.places
   -- while the store is open a checkpoint is pending only while it runs
   pub rests : core.dumper.running ≡ None → core.standing ≡ Open → core.frozen ≡ None
-  pub work : IfSome core.dumper.running (IsAtWork core.base core.journal.items core.frozen core.standing core.phases core.places core.opener core.numbers)
+  pub work : IfSome core.dumper.running (IsAtWork core.base core.journal.items core.frozen core.standing core.phases core.places core.merger core.opener core.numbers)
   pub little : IfSome core.dumper.running (HasLittle core.base core.journal.items core.memory)
+  pub merging : IfSome core.merger (IsMerging core.standing core.phases core.places core.opener core.numbers core.room core.dumper.running)

@@ -1,10 +1,11 @@
 -- What the steps and the outcomes of a worker leave: how the store stands, and what is left of its job.
-use Rattle.std.specs.Prelude.{◌≡◌, ℕ, ◌<◌, true, Option, Some, None}
+use Rattle.std.specs.Prelude.{◌≡◌, ◌⊎◌, ℕ, ◌<◌, true, false, Option, Some, None}
 use Rattle.sd_command.specs.declared.refusal.Refusal.TheVariants.{Damaged, OutOfMemory, StoreDown}
 use Rattle.sd_command.specs.declared.reply.Reply.{Reply}
 use Rattle.sd_command.specs.declared.reply.Reply.TheVariants as reply
 use Rattle.sd_gate.specs.declared.worker.Worker.{Worker}
 use Rattle.sd_gate.specs.declared.worker.Worker.TheVariants.{Dumper, Merger, Opener}
+use Rattle.sd_merge.specs.Left as merger
 use Rattle.sd_opener.specs.Left.{looking_left}
 use Rattle.sd_opener.specs.Looking.{Looking}
 use Rattle.sd_pagetable.specs.Contents.{plain_of}
@@ -24,7 +25,7 @@ opener_left (Some opener) = looking_left opener
 -- how many steps and outcomes a worker's job has before it, at most
 abbrev pub left_by : CoreView → Worker → ℕ
 left_by core Dumper = left_of core.dumper.running (plain_of core.memory)
-left_by core Merger = 0
+left_by core Merger = merger.left_of core.merger
 left_by core Opener = opener_left core.opener
 
 abbrev pub Lowers : CoreView → Worker → CoreView → Type 0
@@ -42,12 +43,18 @@ pub record HasEnded (stands : Standing) (old : CoreView) (worker : Worker) (new 
   pub lowers : Lowers old worker new
   pub idle : is_idle new worker ≡ true
 
--- What a step leaves. Out of memory it changes nothing; a store that is damaged, or another run's, ends the opener.
+-- What a step leaves that couldn't read the store: the opener has ended, and the merge too, or nothing changed.
+abbrev pub LeavesUnread : CoreView → Worker → CoreView → Type 0
+LeavesUnread old Dumper new = ⊥
+LeavesUnread old Merger new = (new ≡ old) ⊎ HasEnded old.standing old Merger new
+LeavesUnread old Opener new = HasEnded old.standing old Opener new
+
+-- What a step leaves. Out of memory it changes nothing; a store that is damaged, or another run's, isn't read.
 abbrev pub LeavesByStep : CoreView → Worker → Reply → CoreView → Type 0
 LeavesByStep old worker reply.Worked new = MovesOn old worker new
 LeavesByStep old worker (reply.Reopened m) new = HasEnded Open old worker new
 LeavesByStep old worker (reply.Refused OutOfMemory) new = new ≡ old
-LeavesByStep old worker (reply.Refused Damaged) new = (worker ≡ Opener) × HasEnded old.standing old worker new
+LeavesByStep old worker (reply.Refused Damaged) new = LeavesUnread old worker new
 LeavesByStep old worker _ new = ⊥
 
 abbrev pub Leaves : CoreView → Worker → Taken → CoreView → Type 0
@@ -60,9 +67,16 @@ fallen NotOpen = NotOpen
 fallen Open = Down
 fallen Down = Down
 
+-- A call failed, or one of a job that had ended came late: all jobs have ended, and an open store is down.
+pub record HasFallen (old : CoreView) (worker : Worker) (new : CoreView) : Type 0 where
+  pub stands_so : new.standing ≡ fallen old.standing
+  pub idle : (one : Worker) → is_idle new one ≡ true
+  pub lowers : is_idle old worker ≡ false → Lowers old worker new
+
 -- What an outcome leaves.
 abbrev pub LeavesByOutcome : CoreView → Worker → Reply → CoreView → Type 0
 LeavesByOutcome old worker reply.Worked new = MovesOn old worker new
 LeavesByOutcome old worker (reply.Acked n) new = HasEnded old.standing old worker new
-LeavesByOutcome old worker (reply.Refused StoreDown) new = HasEnded (fallen old.standing) old worker new
+LeavesByOutcome old worker (reply.Merged serial) new = (worker ≡ Merger) × HasEnded old.standing old worker new
+LeavesByOutcome old worker (reply.Refused StoreDown) new = HasFallen old worker new
 LeavesByOutcome old worker _ new = ⊥

@@ -7,7 +7,7 @@ ghost use Rattle.sd_rounds.specs.Dumper.{begun_checkpoint, is_dumping, next_slot
 ghost use Rattle.sd_rounds.specs.Left.{left_of};
 ghost use Rattle.sd_belief.specs.DumperSteps.{opens_gate};
 ghost use Rattle.sd_belief.specs.DumperOutcomes.{LeavesCatalog, closes_for_sure};
-ghost use Rattle.sd_core.specs.Dumping.{BeginsNext, LetsGoOfTwo, StepsOn};
+ghost use Rattle.sd_core.specs.Dumping.{BeginsNext, LetsGoOfTwo, ReleasesPlace, StepsOn};
 ghost use Rattle.sd_core.specs.Images.{job_of};
 
 use crate::beginning::Slots;
@@ -118,6 +118,15 @@ pub(crate) fn leave_catalog(catalog: &mut Catalog, slot: usize, closed: bool)
 {
     if closed {
         catalog.remove(slot);
+    }
+}
+
+/// Lets go of the place that was held for an image, if one was made.
+pub(crate) fn release_place(catalog: &mut Catalog, serial: Option<u64>)
+    ensures { ReleasesPlace serial catalog.old catalog.new }
+{
+    if let Some(serial) = serial {
+        catalog.release(serial);
     }
 }
 

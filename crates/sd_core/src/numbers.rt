@@ -63,6 +63,13 @@ impl Numbers {
         self.checkpoint >= NUMBER_LIMIT || self.serial >= NUMBER_LIMIT
     }
 
+    /// Whether the greatest serial leaves none below 2^63.
+    pub(crate) fn are_serials_used_up(&self) -> bool
+        ensures { result ≡ nat_le (2 ^ 63) self.now.serial }
+    {
+        self.serial >= NUMBER_LIMIT
+    }
+
     /// The number of the checkpoint that begins: one above all that were used.
     pub(crate) fn begin(&mut self) -> u64
         requires { self.old.checkpoint < 2 ^ 63 }

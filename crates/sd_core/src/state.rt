@@ -1,5 +1,5 @@
 //! The state behind one lock.
-ghost use Rattle.std.specs.Prelude.{◌≡◌, ◌↔◌, ◌+◌, ℕ, true, false, List, [], ◌∷◌, length, map, drop, slice_get, Option, Some, None, IsSome, Err, is_some, IfOk};
+ghost use Rattle.std.specs.Prelude.{◌≡◌, ◌≢◌, ◌↔◌, ◌+◌, ℕ, true, false, List, [], ◌∷◌, length, map, drop, slice_get, Option, Some, None, IsSome, Err, is_some, IfOk};
 ghost use Rattle.sd_areas.specs.Memory.{memory_of};
 ghost use Rattle.sd_areas.specs.PlainMemory.{PlainMemory};
 ghost use Rattle.sd_pagetable.specs.Contents.{plain_of};
@@ -12,16 +12,16 @@ ghost use Rattle.sd_gate.specs.Requests.{Asked};
 ghost use Rattle.sd_journal.specs.History.{pending};
 ghost use Rattle.sd_journal.specs.Marked.{IsTracked};
 ghost use Rattle.sd_belief.specs.Believes.{Believes};
-ghost use Rattle.sd_belief.specs.Calls.{AddsByCancel, AddsByOrder, Applies, HandedIn, HandsOut, IsOut, MakesStep, Stays};
+ghost use Rattle.sd_belief.specs.Calls.{AddsByCancel, AddsByOrder, Applies, HandedIn, HandsOut, IsOut, Stays};
 ghost use Rattle.sd_belief.specs.View.{CoreView, history_of};
 ghost use Rattle.sd_gate.specs.declared.worker.Worker.TheVariants as its;
 ghost use Rattle.sd_command.specs.declared.refusal.Refusal.{Refusal as Why};
 ghost use Rattle.sd_rounds.specs.Dumper.{Running, next_slot, pages_of};
 ghost use Rattle.sd_core.specs.Answering.{IsAnswered};
-ghost use Rattle.sd_core.specs.Beginning.{BeginsAs, begin_refusal, merge_refusal};
+ghost use Rattle.sd_core.specs.Beginning.{BeginsAs, FreeSlots, begin_refusal};
 ghost use Rattle.sd_core.specs.Images.{IsAcked};
 ghost use Rattle.sd_core.specs.LittleWork.{IsLittleDump, IsLittlePreDump, OpensPreDump};
-ghost use Rattle.sd_core.specs.Opening.{IsAllRead};
+ghost use Rattle.sd_core.specs.Merging.{IsMerged, MergesAs, merge_refusal};
 ghost use Rattle.sd_core.specs.Orders.{BeginsToOpen, IsCancelled};
 ghost use Rattle.sd_core.specs.Refusals.{cancel_refusal, cant_cancel, has_checkpoint, is_idle, is_in_use, reopen_refusal, wants_entry, work_refusal};
 ghost use Rattle.sd_core.specs.Starts.{TakesUp, IsStart, shown_base};
@@ -35,30 +35,34 @@ use crate::beginning::{first_of, first_parent, is_down, is_not_open, reserve_slo
 use crate::copies::{copy_command, copy_reply};
 use crate::dumping::{
     begin_checkpoint, begin_next, closes_for_sure, enter_catalog, is_committing, leave_catalog,
-    release_unfrozen, step_on,
+    release_place, release_unfrozen, step_on,
 };
 use crate::numbers::Numbers;
 use crate::opening::{
     follow_call, fresh_opener, give_up_all, is_nobody_out, is_open, is_out, is_resting,
-    left_of_opener, let_go, put_opener, put_out, read_by, release_for_opening, step_opener,
-    take_opener, teach,
+    left_of_opener, put_opener, put_out,
 };
 use crate::start::Start;
 use crate::taken::Taken;
 use sd_areas::Snapshot;
 use sd_belief::{
     Standing, beginning_law, cancelling_law, core_steps, dumper_outcomes, dumper_steps, found_law,
-    opener_steps, reopened_law,
+    merger_outcomes, opener_steps,
 };
 use sd_chain::Catalog;
 use sd_command::{Command, Refusal, Reply};
 use sd_gate::{Outcome, Phase, RequestId, Worker};
 use sd_journal::{Entry, Journal, Mark, due_laws, tracked_laws};
-use sd_opener::{Opened, Opener, OpenerStep};
+use sd_merge::Merger;
+use sd_opener::Opener;
 use sd_pagetable::{Memory, plain_law};
 use sd_rounds::{Dumper, ImageStep, NextImage, Progress, little_law, rises_law};
-use std::alloc::Global;
+use sd_slots::{ListRoom, free_in, free_law};
+use std::alloc::{AllocError, Global};
 use std::marker::Model;
+
+mod merges;
+mod openings;
 
 /// The memory of a run, its journal, its workers, and what is known of its store.
 #[derive(Drop)]
@@ -75,6 +79,9 @@ pub struct Core {
     outs: [Option<RequestId>; 3],
     catalog: Catalog,
     dumper: Dumper,
+    merger: Merger,
+    /// The room for the list of the images that the running merge closes.
+    room: ListRoom,
     opener: Option<Opener>,
     numbers: Numbers,
     grows: bool,
@@ -103,7 +110,7 @@ impl Model for Core {
       outs = c.outs;
       catalog = c.catalog;
       dumper = c.dumper;
-      merger = None;
+      merger = c.merger;
       opener = c.opener;
       numbers = record { checkpoint = c.numbers.checkpoint; serial = c.numbers.serial; ticket = c.numbers.ticket };
       grows = c.grows;
@@ -121,6 +128,8 @@ impl Model for Core {
       outs = c.outs;
       places = c.catalog;
       dumper = c.dumper;
+      merger = c.merger;
+      room = c.room;
       opener = c.opener;
       numbers = c.numbers;
     }) };
@@ -157,6 +166,8 @@ impl Core {
             outs: [None; 3],
             catalog: Catalog::new(alloc),
             dumper: Dumper::new(alloc),
+            merger: Merger::new(alloc),
+            room: ListRoom::none(alloc),
             opener: None,
             numbers: Numbers::start(number),
             grows: false,
@@ -172,7 +183,7 @@ impl Core {
     {
         match worker {
             Worker::Dumper => self.dumper.left(&self.memory),
-            Worker::Merger => 0,
+            Worker::Merger => self.merger.left(),
             Worker::Opener => left_of_opener(&self.opener),
         }
     }
@@ -297,9 +308,13 @@ impl Core {
     {
         core_steps();
         beginning_law(&self.catalog);
-        let slots = match reserve_slots(self.alloc, &self.catalog, self.phases.len(), rounds) {
-            Ok(slots) => slots,
-            Err(why) => return Reply::Refused(why),
+        free_law();
+        self.catalog.sound();
+        let Ok(free) = self.free_slots() else {
+            return Reply::Refused(Refusal::OutOfMemory);
+        };
+        let Some(slots) = reserve_slots(free, rounds) else {
+            return Reply::Refused(Refusal::NoSlot);
         };
         let Ok(()) = self.journal.hold(2) else {
             return Reply::Refused(Refusal::OutOfMemory);
@@ -310,21 +325,43 @@ impl Core {
         Reply::Begun(number)
     }
 
-    /// Begins a merge. There is no merger yet.
+    /// The free slots, rising.
     ///
     /// # Errors
     ///
-    /// `NotOpen`, `StoreDown`, and `Idle` in an open store. Nothing changes.
+    /// Out of memory where a list finds no room.
+    fn free_slots(&self) -> Result<Vec<usize>, AllocError>
+        ensures { IfOk result (λ slots. FreeSlots self.now slots.items) }
+    {
+        free_in(
+            self.alloc,
+            self.phases.len(),
+            &self.catalog,
+            &self.dumper,
+            &self.merger,
+            &self.outs,
+        )
+    }
+
+    /// Begins a merge of the newest dump or merged image: the chain that it reaches becomes one image, in the lowest free
+    /// slot, and then the images close that nobody needs any more.
+    ///
+    /// # Errors
+    ///
+    /// The first of these whose condition holds: `NotOpen`; `StoreDown`; `Busy` where a merge runs; `Idle` where the store
+    /// shows no checkpoint; `NumbersUsed` where a serial of 2^63 or more was used; `NoSlot` where no slot is free;
+    /// `OutOfMemory` where a growth was refused. Nothing changed.
     pub fn merge(&mut self) -> Reply
         ensures adds { AddsByOrder result (history_of self.old) (history_of self.new) }
         ensures keeps { Stays self.old self.new }
-        ensures refused { (self.new ≡ self.old) × (result ≡ reply.Refused (merge_refusal self.old.standing)) }
+        ensures refused { (why : Why) → merge_refusal self.old ≡ Some why
+            → (result ≡ reply.Refused why) × (self.new ≡ self.old) }
+        ensures merges { merge_refusal self.old ≡ None → MergesAs self.old result self.new }
     {
         core_steps();
-        match self.standing {
-            Standing::NotOpen => Reply::Refused(Refusal::NotOpen),
-            Standing::Down => Reply::Refused(Refusal::StoreDown),
-            Standing::Open => Reply::Refused(Refusal::Idle),
+        match self.refusal_of_merge() {
+            Some(why) => Reply::Refused(why),
+            None => self.merge_tip(),
         }
     }
 
@@ -388,8 +425,8 @@ impl Core {
         let held = self.journal.held();
         self.journal.release(held);
         self.pending = None;
+        release_place(&mut self.catalog, self.dumper.serial());
         self.dumper.cancel();
-        self.catalog.release(self.numbers.serial);
         self.grows = false;
         Reply::Cancelled(number)
     }
@@ -470,8 +507,8 @@ impl Core {
         ensures { result ≡ work_refusal self.now worker }
     {
         first_of(&[
-            (self.is_idle(worker), Refusal::Idle),
             (!is_resting(&self.outs, worker), Refusal::Busy),
+            (self.is_idle(worker), Refusal::Idle),
         ])
     }
 
@@ -481,7 +518,7 @@ impl Core {
     {
         match worker {
             Worker::Dumper => self.dumper.is_idle(),
-            Worker::Merger => true,
+            Worker::Merger => self.merger.is_idle(),
             Worker::Opener => self.opener.is_none(),
         }
     }
@@ -490,9 +527,9 @@ impl Core {
     ///
     /// # Errors
     ///
-    /// `Idle` where the worker has no job, `Busy` where its request is out, `OutOfMemory` where a growth was refused.
-    /// `Damaged` of the opener, which then has ended: where the store can't be read, or shows neither the last checkpoint
-    /// nor the pending one.
+    /// `Busy` where a request of the worker is out, else `Idle` where it has no job; `OutOfMemory` where a growth was
+    /// refused. `Damaged` of the opener, which then has ended: where the store can't be read, or shows neither the last
+    /// checkpoint nor the pending one. `Damaged` of the merger, where its source isn't there to be read.
     pub fn take_up(&mut self, worker: Worker) -> Taken
         ensures takes { TakesUp self.old worker result self.new }
         ensures refused { (why : Why) → work_refusal self.old worker ≡ Some why
@@ -504,7 +541,7 @@ impl Core {
             Some(why) => Taken::Step(Reply::Refused(why)),
             None => match worker {
                 Worker::Dumper => self.take_up_dumper(),
-                Worker::Merger => unreachable!(),
+                Worker::Merger => self.take_up_merger(),
                 Worker::Opener => self.take_up_opener(),
             },
         }
@@ -587,7 +624,9 @@ impl Core {
         let Ok(step) = step_on(&mut self.dumper, &mut self.memory, self.numbers.ticket) else {
             return Taken::Step(Reply::Refused(Refusal::OutOfMemory));
         };
-        let serial = self.numbers.serial;
+        let Some(serial) = self.dumper.serial() else {
+            unreachable!();
+        };
         match step {
             ImageStep::Call(request) | ImageStep::PageCall(request) => {
                 self.numbers.tick();
@@ -619,78 +658,22 @@ impl Core {
         }
     }
 
-    /// Makes the opener's next step, or hands out its next device call.
-    fn take_up_opener(&mut self) -> Taken
-        requires { work_refusal self.old its.Opener ≡ None }
-        ensures takes { TakesUp self.old its.Opener result self.new }
-        ensures leaves { Leaves self.old its.Opener result self.new }
-    {
-        opener_steps();
-        let Ok(step) = step_opener(&mut self.opener, self.numbers.ticket) else {
-            return Taken::Step(Reply::Refused(Refusal::OutOfMemory));
-        };
-        match step {
-            OpenerStep::Call(request) => {
-                self.numbers.tick();
-                put_out(&mut self.outs, Worker::Opener, Some(request.id()));
-                Taken::Call(request)
-            }
-            OpenerStep::Decoded => Taken::Step(Reply::Worked),
-            OpenerStep::Damaged { .. } => {
-                let_go(&mut self.opener, &mut self.journal, self.pending);
-                Taken::Step(Reply::Refused(Refusal::Damaged))
-            }
-            OpenerStep::AllRead => Taken::Step(self.finish_opening()),
-        }
-    }
-
-    /// Ends the opener, which has read every slot: the store is open.
-    ///
-    /// # Errors
-    ///
-    /// `Damaged` where the store shows neither the last checkpoint nor the pending one.
-    fn finish_opening(&mut self) -> Reply
-        requires { IsAllRead self.old.opener }
-        ensures takes { MakesStep self.old its.Opener result self.new }
-        ensures leaves { LeavesByStep self.old its.Opener result self.new }
-    {
-        reopened_law();
-        opener_steps();
-        tracked_laws();
-        let Some(opener) = take_opener(&mut self.opener) else {
-            unreachable!();
-        };
-        let Some((opened, found)) = read_by(opener, self.last, self.pending) else {
-            release_for_opening(&mut self.journal, self.pending);
-            return Reply::Refused(Refusal::Damaged);
-        };
-        let Opened { catalog, phases } = opened;
-        catalog.sound();
-        self.numbers.found(&catalog);
-        self.journal.append_held(Entry::Reopened(found));
-        self.pending = None;
-        self.last = found;
-        self.standing = Standing::Open;
-        self.catalog = catalog;
-        self.phases = phases;
-        self.grows = false;
-        self.committing = false;
-        Reply::Reopened(found)
-    }
-
     /// Takes the outcome of a device call that is out. An outcome of no such call is refused as idle, and dropped.
     ///
     /// # Errors
     ///
-    /// `StoreDown` where the call failed.
+    /// `StoreDown` where the call failed, and where its job has ended, since the store went down meanwhile.
     pub fn hand_in(&mut self, outcome: Outcome) -> Reply
         ensures strange { (IsOut self.old outcome.request.id → ⊥)
             → (result ≡ reply.Refused Idle) × (self.new ≡ self.old) }
         ensures handed { IsOut self.old outcome.request.id → HandedIn self.old outcome result self.new }
         ensures failed { IsOut self.old outcome.request.id → is_done outcome.answer ≡ false
             → result ≡ reply.Refused StoreDown }
-        ensures down { IsOut self.old outcome.request.id → outcome.request.id.worker ≡ its.Dumper
+        ensures down { IsOut self.old outcome.request.id → outcome.request.id.worker ≢ its.Opener
+            → is_idle self.old outcome.request.id.worker ≡ false
             → result ≡ reply.Refused StoreDown → is_done outcome.answer ≡ false }
+        ensures late { IsOut self.old outcome.request.id → is_idle self.old outcome.request.id.worker ≡ true
+            → result ≡ reply.Refused StoreDown }
         // One of the opener that is done as it was asked for never ends it.
         ensures goes_on { IsOut self.old outcome.request.id → outcome.request.id.worker ≡ its.Opener
             → IsDoneAsAsked outcome → result ≡ reply.Worked }
@@ -703,26 +686,49 @@ impl Core {
         ensures round { IsOut self.old outcome.request.id → outcome.request.id.worker ≡ its.Dumper
             → (running : Running) → OpensPreDump running self.old self.new
             → IsLittlePreDump running self.old self.new }
+        ensures merged { (serial : ℕ) → IsOut self.old outcome.request.id → result ≡ reply.Merged serial
+            → IsMerged serial self.old self.new }
     {
         let id = outcome.id();
         if !is_out(&self.outs, &id) {
             drop(outcome);
             return Reply::Refused(Refusal::Idle);
         }
+        if self.is_idle(id.worker) {
+            return self.hand_in_late(outcome);
+        }
         match id.worker {
             Worker::Dumper => self.hand_in_dumper(outcome),
-            Worker::Merger => {
-                drop(outcome);
-                Reply::Refused(Refusal::Idle)
-            }
+            Worker::Merger => self.hand_in_merger(outcome),
             Worker::Opener => self.hand_in_opener(outcome),
         }
+    }
+
+    /// Takes the outcome of a call whose job has ended, since the store went down.
+    fn hand_in_late(&mut self, outcome: Outcome) -> Reply
+        requires out { IsOut self.old outcome.request.id }
+        requires idle { is_idle self.old outcome.request.id.worker ≡ true }
+        ensures handed { HandedIn self.old outcome result self.new }
+        ensures leaves { LeavesByOutcome self.old outcome.request.id.worker result self.new }
+        ensures late { result ≡ reply.Refused StoreDown }
+        ensures closed { outcome.request.id.worker ≢ its.Opener }
+        ensures images { (running : Running) → OpensPreDump running self.old self.new → ⊥ }
+    {
+        dumper_outcomes();
+        merger_outcomes(&self.catalog);
+        let id = outcome.id();
+        let done = outcome.answer().is_done();
+        follow_call(&mut self.phases, &id, done);
+        put_out(&mut self.outs, id.worker, None);
+        drop(outcome);
+        Reply::Refused(Refusal::StoreDown)
     }
 
     /// Takes the outcome of the dumper's call.
     fn hand_in_dumper(&mut self, outcome: Outcome) -> Reply
         requires out { IsOut self.old outcome.request.id }
         requires dumper { outcome.request.id.worker ≡ its.Dumper }
+        requires runs { is_idle self.old its.Dumper ≡ false }
         ensures handed { HandedIn self.old outcome result self.new }
         ensures failed { is_done outcome.answer ≡ false ↔ result ≡ reply.Refused StoreDown }
         ensures leaves { LeavesByOutcome self.old its.Dumper result self.new }
@@ -747,6 +753,7 @@ impl Core {
             Progress::Failed => {
                 self.standing = Standing::Down;
                 release_unfrozen(&mut self.journal, self.pending);
+                self.merger.cancel();
                 Reply::Refused(Refusal::StoreDown)
             }
             Progress::More => {
@@ -768,26 +775,5 @@ impl Core {
                 Reply::Acked(number)
             }
         }
-    }
-
-    /// Takes the outcome of the opener's call.
-    fn hand_in_opener(&mut self, outcome: Outcome) -> Reply
-        requires out { IsOut self.old outcome.request.id }
-        requires opener { outcome.request.id.worker ≡ its.Opener }
-        ensures handed { HandedIn self.old outcome result self.new }
-        ensures failed { is_done outcome.answer ≡ false → result ≡ reply.Refused StoreDown }
-        ensures goes_on { IsDoneAsAsked outcome → result ≡ reply.Worked }
-        ensures leaves { LeavesByOutcome self.old its.Opener result self.new }
-    {
-        opener_steps();
-        let id = outcome.id();
-        let done = outcome.answer().is_done();
-        follow_call(&mut self.phases, &id, done);
-        put_out(&mut self.outs, Worker::Opener, None);
-        if teach(&mut self.opener, outcome) {
-            return Reply::Worked;
-        }
-        let_go(&mut self.opener, &mut self.journal, self.pending);
-        Reply::Refused(Refusal::StoreDown)
     }
 }

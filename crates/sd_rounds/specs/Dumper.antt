@@ -1,5 +1,5 @@
 -- The dumper, as it is seen: the images of a checkpoint, one after the other.
-use Rattle.std.specs.Prelude.{◌≡◌, ◌≢◌, ℕ, ◌+◌, ◌≤◌, ◌^◌, Bool, true, false, if◌then◌else◌, nat_le, List, length, get_or, Option, Some, None}
+use Rattle.std.specs.Prelude.{◌≡◌, ◌≢◌, ◌⊎◌, ℕ, ◌+◌, ◌≤◌, ◌^◌, Bool, true, false, if◌then◌else◌, nat_le, List, [], length, get_or, Contains, Option, Some, None}
 use Rattle.sd_image.specs.declared.header.Kind.{Kind}
 use Rattle.sd_image.specs.declared.header.Kind.TheVariants.{PreDump, Dump}
 use Rattle.sd_gate.specs.declared.request_id.RequestId.{RequestId}
@@ -134,6 +134,45 @@ next_slot (Some running) = slot_before running running.image
 abbrev pub is_dumping : Option Running → Bool
 is_dumping None = false
 is_dumping (Some running) = is_last running
+
+-- a slot that the checkpoint is still to fill, or fills
+pub record IsReserved (running : Running) (slot : ℕ) : Type 0 where
+  pub place : ℕ
+  pub from : running.opened ≤ place
+  pub is : slot ≡ slot_of (record running { opened = place })
+
+-- a slot that the checkpoint that runs is still to fill, or fills
+abbrev pub Fills : Option Running → ℕ → Type 0
+Fills None slot = ⊥
+Fills (Some running) slot = IsReserved running slot
+
+-- one of the slots of the checkpoint that runs
+abbrev pub HasSlot : Option Running → ℕ → Type 0
+HasSlot None slot = ⊥
+HasSlot (Some running) slot = Contains running.pre_dumps slot ⊎ (slot ≡ running.dump)
+
+-- the slots of its pre-dumps, and that of its dump
+abbrev pub pre_dump_slots : Option Running → List ℕ
+pre_dump_slots None = []
+pre_dump_slots (Some running) = running.pre_dumps
+
+abbrev pub dump_slot : Option Running → Option ℕ
+dump_slot None = None
+dump_slot (Some running) = Some running.dump
+
+-- the number that its next image, or the one that is being made, names as its parent
+abbrev pub parent_of : Option Running → Option ℕ
+parent_of None = None
+parent_of (Some running) = Some running.parent
+
+-- the serial of the image that is being made
+abbrev pub image_serial : Option Making → Option ℕ
+image_serial None = None
+image_serial (Some image) = Some image.order.serial
+
+abbrev pub serial_of : Option Running → Option ℕ
+serial_of None = None
+serial_of (Some running) = image_serial running.image
 
 -- ---- Outcomes
 

@@ -1,5 +1,5 @@
 //! A checkpoint that is made: its images, one after the other.
-ghost use Rattle.std.specs.Prelude.{◌≡◌, ◌↔◌, ◌⊎◌, ℕ, Ok, Err, IsOk, IsErr, IsSome, IfOk, IfErr, MatchOption, None, OnErr, true, false};
+ghost use Rattle.std.specs.Prelude.{◌≡◌, ◌↔◌, ◌⊎◌, ℕ, Ok, Err, IsOk, IsErr, IsSome, IsTrue, IfOk, IfErr, MatchOption, None, Some, OnErr, true, false};
 ghost use Rattle.sd_rounds.specs.declared.progress.Progress.TheVariants.{Dump as DumpOpen, PreDump as PreDumpOpen};
 ghost use Rattle.sd_gate.specs.declared.slot_state.SlotState.{SlotState};
 ghost use Rattle.sd_rounds.specs.declared.work_error.WorkError.TheVariants.{Busy, OutOfMemory};
@@ -8,7 +8,7 @@ ghost use Rattle.sd_rounds.specs.Left.{running_left};
 ghost use Rattle.sd_rounds.specs.PlanSteps.{HaveNoPage, image_step, is_to_freeze};
 ghost use Rattle.sd_rounds.specs.Room.{MakingWants};
 ghost use Rattle.sd_rounds.specs.Sound.{IsSoundMaking};
-ghost use Rattle.sd_rounds.specs.Dumper.{HandsTo, HasFewPages, WorksOn, after_pre_dump, is_frozen_image, is_last, kind_of, order_of, out_of_image, pages_of_image, running_of, slot_of};
+ghost use Rattle.sd_rounds.specs.Dumper.{HandsTo, HasFewPages, IsReserved, WorksOn, after_pre_dump, is_frozen_image, is_last, kind_of, order_of, out_of_image, pages_of_image, running_of, serial_of, slot_of};
 
 use crate::image_maker::ImageMaker;
 use crate::image_order::ImageOrder;
@@ -59,6 +59,29 @@ impl Checkpoint {
             Some(slot) => *slot,
             None => self.dump,
         }
+    }
+
+    /// Whether the image that is made next, or is being made, or one behind it stands in this slot.
+    pub(crate) fn fills(&self, slot: usize) -> bool
+        ensures { IsTrue result ↔ IsReserved (running_of self.now) slot }
+    {
+        if slot == self.dump {
+            return true;
+        }
+        for (place, own) in self.pre_dumps.iter().enumerate() {
+            if place >= self.opened && *own == slot {
+                return true;
+            }
+        }
+        false
+    }
+
+    /// The serial of the image that is being made.
+    pub(crate) fn serial(&self) -> Option<u64>
+        ensures { result ≡ serial_of (Some (running_of self.now)) }
+    {
+        let maker = self.maker.as_ref()?;
+        Some(maker.serial())
     }
 
     /// What is fixed of the next image.

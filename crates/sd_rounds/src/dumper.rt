@@ -1,12 +1,12 @@
 //! The dumper: the images of a checkpoint, step by step.
-ghost use Rattle.std.specs.Prelude.{◌≡◌, ◌↔◌, ◌⊎◌, Err, None, Some, IsSome, IfOk, IfErr, OnOk, OnErr, is_none, if◌then◌else◌};
+ghost use Rattle.std.specs.Prelude.{◌≡◌, ◌↔◌, ◌⊎◌, Err, None, Some, IsSome, IsTrue, IfOk, IfErr, OnOk, OnErr, is_none, if◌then◌else◌};
 ghost use Rattle.std.specs.Option.{option_map};
 ghost use Rattle.sd_rounds.specs.declared.work_error.WorkError.TheVariants.{Busy, Idle, OutOfMemory};
 ghost use Rattle.sd_pagetable.specs.Contents.{plain_of};
 ghost use Rattle.sd_rounds.specs.Left.{left_of};
 ghost use Rattle.sd_rounds.specs.Room.{StepWants};
 ghost use Rattle.sd_rounds.specs.Sound.{HasSoundImage};
-ghost use Rattle.sd_rounds.specs.Dumper.{AreRunning, Dumping, Hands, HasCounted, Works, begun_checkpoint, ends, idle, is_dumping, is_strange, next_slot, out_of_running, pages_of};
+ghost use Rattle.sd_rounds.specs.Dumper.{AreRunning, Dumping, Fills, Hands, HasCounted, Works, begun_checkpoint, dump_slot, ends, idle, is_dumping, is_strange, next_slot, out_of_running, pages_of, parent_of, pre_dump_slots, serial_of};
 
 use crate::checkpoint::Checkpoint;
 use crate::image_step::ImageStep;
@@ -144,6 +144,52 @@ impl Dumper {
             return None;
         }
         Some(checkpoint.slot())
+    }
+
+    /// The slots of the pre-dumps of the checkpoint that runs. None where none runs.
+    pub fn pre_dump_slots(&self) -> &[usize]
+        ensures { result.now ≡ pre_dump_slots self.now.running }
+    {
+        match &self.checkpoint {
+            Some(checkpoint) => &checkpoint.pre_dumps,
+            None => &[],
+        }
+    }
+
+    /// The slot of the dump of the checkpoint that runs.
+    pub fn dump_slot(&self) -> Option<usize>
+        ensures { result ≡ dump_slot self.now.running }
+    {
+        let checkpoint = self.checkpoint.as_ref()?;
+        Some(checkpoint.dump)
+    }
+
+    /// Whether the checkpoint that runs fills this slot, or is still to fill it.
+    pub fn fills(&self, slot: usize) -> bool
+        ensures { IsTrue result ↔ Fills self.now.running slot }
+    {
+        match &self.checkpoint {
+            Some(checkpoint) => checkpoint.fills(slot),
+            None => false,
+        }
+    }
+
+    /// The number that the next image of the checkpoint that runs names as its parent, or the one that is being made.
+    pub fn parent(&self) -> Option<u64>
+        ensures { result ≡ parent_of self.now.running }
+    {
+        let checkpoint = self.checkpoint.as_ref()?;
+        Some(checkpoint.parent)
+    }
+
+    /// The serial of the image that is being made.
+    pub fn serial(&self) -> Option<u64>
+        ensures { result ≡ serial_of self.now.running }
+    {
+        match &self.checkpoint {
+            Some(checkpoint) => checkpoint.serial(),
+            None => None,
+        }
     }
 
     /// Makes the next step: of the image that is being made, or of the next, which gets this serial, and whose slot is in

@@ -322,6 +322,13 @@ impl ImageMaker {
         self.stored
     }
 
+    /// Its serial.
+    pub(crate) fn serial(&self) -> u64
+        ensures { result ≡ self.now.order.serial }
+    {
+        self.order.serial
+    }
+
     /// Whether it is the dump of a memory that is frozen.
     pub(crate) fn is_frozen(&self) -> bool
         ensures frozen { result ≡ is_frozen self.now }

@@ -13,6 +13,7 @@ stopped_isnt_zero : (why : Stop) → status_of why ≡ 0 → ⊥
 stopped_isnt_zero (stop.ScriptLine number) is = omega arith
 stopped_isnt_zero stop.OutOfMemory is = omega arith
 stopped_isnt_zero (stop.Store fault) is = omega arith
+stopped_isnt_zero stop.Refused is = omega arith
 stopped_isnt_zero (stop.Writer why) is = omega arith
 
 -- with status 0 it came to its end

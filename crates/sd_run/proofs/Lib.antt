@@ -1,4 +1,5 @@
 mod GoesLemmas
 mod DriveLemmas
 mod LineLemmas
+mod MergingLemmas
 mod EndLemmas

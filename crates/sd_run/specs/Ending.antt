@@ -12,6 +12,7 @@ abbrev pub status_of : Stop → ℕ
 status_of (stop.ScriptLine number) = 2
 status_of stop.OutOfMemory = 1
 status_of (stop.Store fault) = 1
+status_of stop.Refused = 1
 status_of (stop.Writer why) = 1
 
 -- the exit status: 0 where the run came to its end; where it was stopped that of the cause, or 1 where that can't be printed
@@ -29,6 +30,7 @@ abbrev pub stop_text : Stop → Option (List ℕ)
 stop_text (stop.ScriptLine number) = Some (codes "script line " ++ decimal number)
 stop_text stop.OutOfMemory = Some (codes "out-of-memory")
 stop_text (stop.Store fault) = None
+stop_text stop.Refused = Some (codes "refused")
 stop_text (stop.Writer why) = Some (codes "cannot print")
 
 -- the line that blames a script's line

@@ -2,5 +2,6 @@ pub mod Ending
 pub mod Goes
 pub mod Jobs
 pub mod Lines
+pub mod Merging
 pub mod Whole
 pub mod Words

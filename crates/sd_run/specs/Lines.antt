@@ -2,12 +2,12 @@
 use Rattle.std.specs.Prelude.{◌≡◌, ℕ, max, List, [], ◌∷◌}
 use Rattle.sd_command.specs.declared.reply.Reply.{Reply}
 use Rattle.sd_disk.specs.declared.disk.Disk.{Ghosts}
-use Rattle.sd_gate.specs.declared.worker.Worker.TheVariants.{Dumper, Opener}
+use Rattle.sd_gate.specs.declared.worker.Worker.TheVariants.{Dumper, Merger, Opener}
 use Rattle.sd_script.specs.declared.answer.Answer.{Answer}
 use Rattle.sd_script.specs.declared.answer.Answer.TheVariants as answer
 use Rattle.sd_script.specs.declared.line.Line.{Line}
 use Rattle.sd_script.specs.declared.line.Line.TheVariants as line
-use Rattle.sd_world.specs.declared.event.Event.TheVariants.{Command, Begin, Work, Perform, Cancel, Reopen}
+use Rattle.sd_world.specs.declared.event.Event.TheVariants.{Command, Begin, Work, Perform, Merge, Cancel, Reopen}
 use Rattle.sd_world.specs.Runs.{IsStep}
 use Rattle.sd_world.specs.View.{WorldView}
 use Rattle.sd_run.specs.Jobs.{IsDriven, IsFinished, IsJob}
@@ -27,12 +27,14 @@ abbrev pub AnswersLine : {D : Type 0} → Ghosts D → Line → WorldView D → 
 AnswersLine g (line.Command command) first given last = IsReplyOf (λ r. IsStep g (Command script_seat command) first r last) given
 AnswersLine g (line.Words space address count) first given last = AreGiven first.core.memory space address count given × (last ≡ first)
 AnswersLine g (line.Begin rounds) first given last = IsReplyOf (λ r. IsStep g (Begin rounds) first r last) given
+AnswersLine g line.BeginMerge first given last = IsReplyOf (λ r. IsStep g Merge first r last) given
 AnswersLine g line.Cancel first given last = IsReplyOf (λ r. IsStep g Cancel first r last) given
 AnswersLine g (line.Work worker) first given last = IsReplyOf (λ r. IsStep g (Work worker) first r last) given
 AnswersLine g (line.Perform worker) first given last = IsReplyOf (λ r. IsStep g (Perform worker) first r last) given
 AnswersLine g (line.Step worker count) first given last = IsReplyOf (λ r. IsDriven g worker (max count 1) first r last) given
 AnswersLine g (line.Finish worker) first given last = IsReplyOf (λ r. IsFinished g worker first r last) given
 AnswersLine g (line.Checkpoint rounds) first given last = IsReplyOf (λ r. IsJob g (Begin rounds) Dumper first r last) given
+AnswersLine g line.Merge first given last = IsReplyOf (λ r. IsJob g Merge Merger first r last) given
 AnswersLine g line.Reopen first given last = IsReplyOf (λ r. IsJob g Reopen Opener first r last) given
 
 -- the lines, one after the other, each with its answer

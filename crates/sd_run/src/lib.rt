@@ -3,11 +3,13 @@
 
 mod driving;
 mod lines;
+mod merging;
 mod page_words;
 mod running;
 mod stop;
 mod watch;
 
+pub use merging::{merge_store, merge_to};
 pub use running::{run_lines, run_script};
 pub use stop::Stop;
 pub use watch::{Unwatched, Watch};

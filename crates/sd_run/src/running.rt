@@ -18,7 +18,7 @@ use std::io;
 use std::io::Write;
 
 /// How many frames a run's memory has.
-const FRAMES: usize = 65_536;
+pub(crate) const FRAMES: usize = 65_536;
 
 /// Parses a whole script and then runs it over a disk: the store is opened, and opened again, whose reply is printed, and
 /// then each line is answered, and its answer printed as one line. Returns the disk and the exit status: 0 at the end of the

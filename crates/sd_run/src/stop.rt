@@ -1,4 +1,4 @@
-//! How a run ends before its last line.
+//! How a run ends early.
 ghost use Rattle.std.specs.Prelude.{◌≡◌, OnOk};
 ghost use Rattle.sd_run.specs.Ending.{Blames, Ends, status_of};
 
@@ -7,7 +7,7 @@ use sd_world::OpenFault;
 use std::io::Write;
 use std::{fmt, io};
 
-/// Why a run ends before its last line. It is printed as the run's last line.
+/// Why a run ends early. It is printed as the run's last line, but for a refusal, which is answered before.
 #[derive(Debug, Drop)]
 pub enum Stop {
     /// The line with this number, counted from 1, doesn't fit the language.
@@ -16,6 +16,8 @@ pub enum Stop {
     OutOfMemory,
     /// The store isn't opened.
     Store(OpenFault),
+    /// The order was refused, as its answer tells, which is printed already.
+    Refused,
     /// Nothing more can be printed.
     Writer(io::Error),
 }
@@ -30,6 +32,7 @@ impl fmt::Display for Stop {
             Stop::ScriptLine(number) => write!(f, "script line {number}"),
             Stop::OutOfMemory => f.write_str("out-of-memory"),
             Stop::Store(fault) => write!(f, "{fault}"),
+            Stop::Refused => f.write_str("refused"),
             Stop::Writer(_) => f.write_str("cannot print"),
         }
     }
@@ -56,7 +59,7 @@ pub(crate) fn status<W: Write>(ended: Result<(), Stop>, out: &mut W) -> u8
 {
     match ended {
         Ok(()) => 0,
-        Err(Stop::Writer(_)) => 1,
+        Err(Stop::Refused | Stop::Writer(_)) => 1,
         Err(stop) => match writeln!(out, "{stop}") {
             Ok(()) => stop.status(),
             Err(_) => 1,

@@ -11,7 +11,7 @@ use Rattle.sd_command.specs.declared.command.Command.TheVariants.{Mmap, Munmap, 
 use Rattle.sd_gate.specs.declared.worker.Worker.{Worker}
 use Rattle.sd_gate.specs.declared.worker.Worker.TheVariants.{Dumper, Merger, Opener}
 use Rattle.sd_script.specs.declared.line.Line.{Line}
-use Rattle.sd_script.specs.declared.line.Line.TheVariants.{Command, Words, Begin, Cancel, Work, Perform, Step, Finish, Checkpoint, Reopen}
+use Rattle.sd_script.specs.declared.line.Line.TheVariants.{Command, Words, Begin, BeginMerge, Cancel, Work, Perform, Step, Finish, Checkpoint, Merge, Reopen}
 use Rattle.sd_script.specs.declared.line_error.LineError.{LineError}
 use Rattle.sd_script.specs.declared.line_error.LineError.TheVariants.{Unfit, OutOfMemory}
 
@@ -171,6 +171,11 @@ begin_of (rounds ∷ []) = do
   Some (Begin r)
 begin_of _ = None
 
+-- `begin-merge`, with nothing behind the word
+abbrev pub begin_merge_of : List (List ℕ) → Option Line
+begin_merge_of [] = Some BeginMerge
+begin_merge_of (_ ∷ _) = None
+
 -- `cancel`, with nothing behind the word
 abbrev pub cancel_of : List (List ℕ) → Option Line
 cancel_of [] = Some Cancel
@@ -213,6 +218,11 @@ checkpoint_of (rounds ∷ []) = do
   Some (Checkpoint r)
 checkpoint_of _ = None
 
+-- `merge`, with nothing behind the word
+abbrev pub merge_of : List (List ℕ) → Option Line
+merge_of [] = Some Merge
+merge_of (_ ∷ _) = None
+
 -- `reopen`, with nothing behind the word
 abbrev pub reopen_of : List (List ℕ) → Option Line
 reopen_of [] = Some Reopen
@@ -232,12 +242,14 @@ asked_by_word word arguments =
     else if bytes_eq word (codes "store") then store_of arguments
     else if bytes_eq word (codes "words") then words_of arguments
     else if bytes_eq word (codes "begin") then begin_of arguments
+    else if bytes_eq word (codes "begin-merge") then begin_merge_of arguments
     else if bytes_eq word (codes "cancel") then cancel_of arguments
     else if bytes_eq word (codes "work") then work_of arguments
     else if bytes_eq word (codes "perform") then perform_of arguments
     else if bytes_eq word (codes "step") then step_of arguments
     else if bytes_eq word (codes "finish") then finish_of arguments
     else if bytes_eq word (codes "checkpoint") then checkpoint_of arguments
+    else if bytes_eq word (codes "merge") then merge_of arguments
     else if bytes_eq word (codes "reopen") then reopen_of arguments
     else None
 

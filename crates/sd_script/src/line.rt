@@ -2,7 +2,7 @@
 
 ghost use Rattle.std.specs.Prelude.{◌≡◌, ◌==◌, ◌≤◌, map, OnOk};
 ghost use Rattle.std.specs.List.{slice_split};
-ghost use Rattle.sd_script.specs.Line.{Gives, GivesBytes, asked_by, asked_by_word, at_least_one, begin_of, cancel_of, checkpoint_of, exit_of, fault_of, finish_of, fork_of, hex_of, load_of, mmap_of, mprotect_of, munmap_of, number_of, numeral_of, perform_of, prot_of, reopen_of, step_of, store_of, try_of, words_of, work_of, worker_of};
+ghost use Rattle.sd_script.specs.Line.{Gives, GivesBytes, asked_by, asked_by_word, at_least_one, begin_of, begin_merge_of, cancel_of, checkpoint_of, exit_of, fault_of, finish_of, fork_of, hex_of, load_of, merge_of, mmap_of, mprotect_of, munmap_of, number_of, numeral_of, perform_of, prot_of, reopen_of, step_of, store_of, try_of, words_of, work_of, worker_of};
 
 use crate::digits::{decode_into, digit};
 use crate::line_error::LineError;
@@ -23,6 +23,8 @@ pub enum Line {
     },
     /// The order to begin a checkpoint of so many pre-dumps and a dump.
     Begin(u64),
+    /// The order to begin a merge.
+    BeginMerge,
     /// The order to cancel the checkpoint.
     Cancel,
     /// A worker's next step, or its next device call asked for or handed in.
@@ -38,6 +40,8 @@ pub enum Line {
     Finish(Worker),
     /// A checkpoint of so many pre-dumps and a dump, up to its end.
     Checkpoint(u64),
+    /// A merge, up to its end.
+    Merge,
     /// The store opened again, up to the end of that.
     Reopen,
 }
@@ -87,12 +91,14 @@ fn request(alloc: Global, word: &str, arguments: &[&str]) -> Result<Line, LineEr
         "store" => store(alloc, arguments),
         "words" => words(arguments).ok_or(LineError::Unfit),
         "begin" => begin(arguments).ok_or(LineError::Unfit),
+        "begin-merge" => begin_merge(arguments).ok_or(LineError::Unfit),
         "cancel" => cancel(arguments).ok_or(LineError::Unfit),
         "work" => work(arguments).ok_or(LineError::Unfit),
         "perform" => perform(arguments).ok_or(LineError::Unfit),
         "step" => step(arguments).ok_or(LineError::Unfit),
         "finish" => finish(arguments).ok_or(LineError::Unfit),
         "checkpoint" => checkpoint(arguments).ok_or(LineError::Unfit),
+        "merge" => merge(arguments).ok_or(LineError::Unfit),
         "reopen" => reopen(arguments).ok_or(LineError::Unfit),
         _ => Err(LineError::Unfit),
     }
@@ -239,6 +245,12 @@ fn begin(arguments: &[&str]) -> Option<Line>
     Some(Line::Begin(number(rounds)?))
 }
 
+fn begin_merge(arguments: &[&str]) -> Option<Line>
+    ensures { result ≡ begin_merge_of (map (λ field. field.now) arguments.now) }
+{
+    arguments.is_empty().then_some(Line::BeginMerge)
+}
+
 fn cancel(arguments: &[&str]) -> Option<Line>
     ensures { result ≡ cancel_of (map (λ field. field.now) arguments.now) }
 {
@@ -292,6 +304,12 @@ fn checkpoint(arguments: &[&str]) -> Option<Line>
         return None;
     };
     Some(Line::Checkpoint(number(rounds)?))
+}
+
+fn merge(arguments: &[&str]) -> Option<Line>
+    ensures { result ≡ merge_of (map (λ field. field.now) arguments.now) }
+{
+    arguments.is_empty().then_some(Line::Merge)
 }
 
 fn reopen(arguments: &[&str]) -> Option<Line>

@@ -18,7 +18,7 @@ fn fields_behind(word: &str) -> Option<&'static [FieldKind]> {
         "fork" | "exit" | "begin" | "checkpoint" => Some(&[Number]),
         "work" | "perform" | "finish" => Some(&[WorkerName]),
         "step" => Some(&[WorkerName, Positive]),
-        "cancel" | "reopen" => Some(&[]),
+        "begin-merge" | "cancel" | "merge" | "reopen" => Some(&[]),
         _ => None,
     }
 }

@@ -19,7 +19,7 @@ fn unfit_line(rt: &HostRuntime, script: &[u8]) -> Result<Option<usize>, Fail> {
 }
 
 /// Lines, and the requests that they ask for.
-const LINES: [(&str, &str); 18] = [
+const LINES: [(&str, &str); 19] = [
     (
         "# a page\n\nmmap 1 0x10000 4096 rx\n",
         "[Command(Mmap { space: SpaceId { number: 1 }, address: 65536, length: 4096, prot: Prot { read: true, write: false, execute: true } })]",
@@ -59,7 +59,8 @@ const LINES: [(&str, &str); 18] = [
     ),
     ("checkpoint 0", "[Checkpoint(0)]"),
     ("begin 0x9\ncheckpoint 8", "[Begin(9), Checkpoint(8)]"),
-    ("cancel\nreopen", "[Cancel, Reopen]"),
+    ("begin-merge\ncancel", "[BeginMerge, Cancel]"),
+    ("merge\nreopen", "[Merge, Reopen]"),
     ("work dumper", "[Work(Dumper)]"),
     ("perform merger", "[Perform(Merger)]"),
     ("step opener 1", "[Step { worker: Opener, count: 1 }]"),
@@ -120,8 +121,9 @@ fn a_line_that_does_not_fit_is_blamed(rt: HostRuntime) -> Result<(), Fail> {
         ("step dumper", 1),
         ("step 3 dumper", 1),
         ("finish Opener", 1),
-        ("merge", 1),
-        ("begin-merge", 1),
+        ("merge 1", 1),
+        ("begin-merge 0", 1),
+        ("begin_merge", 1),
         ("Load 1 2 3", 1),
         ("checkpoint 0\n \ncheckpoint 1", 2),
         (" # no comment", 1),

@@ -2,12 +2,13 @@
 use sd_areas::{Prot, Snapshot, SpaceId};
 use sd_chain::{Catalog, OpenImage};
 use sd_disk::{Disk, Fused, MemDisk};
-use sd_gate::{Outcome, Request, SlotState, perform};
+use sd_gate::{Outcome, Request, RequestId, SlotState, perform};
 use sd_image::Header;
 use sd_merge::{MergeProgress, MergeStep, Merger, NextImage, Retired, Source};
 use sd_pagetable::Memory;
 use sd_restore::restore;
 use sd_rounds::{Dumper, ImageStep, NewImage, Progress};
+use sd_slots::{ListRoom, free_in};
 use std::alloc::Global;
 use std::test::Fail;
 
@@ -41,7 +42,7 @@ pub(crate) struct Drive {
     pub(crate) memory: Memory,
     catalog: Catalog,
     disk: Fused<MemDisk>,
-    dumper: Dumper,
+    pub(crate) dumper: Dumper,
     pub(crate) merger: Merger,
     serials: u64,
     tickets: u64,
@@ -157,6 +158,12 @@ impl Drive {
 
     /// Makes one step of the merger, with its device call. Returns the serial of the merged image where the merge ends.
     pub(crate) fn merge_step(&mut self, alloc: Global) -> Result<Option<u64>, Fail> {
+        let progress = self.merge_on()?;
+        self.follow(alloc, progress)
+    }
+
+    /// Makes one step of the merger, with its device call, and returns what it came to.
+    fn merge_on(&mut self) -> Result<MergeProgress, Fail> {
         self.tickets = self.tickets.wrapping_add(1);
         self.events = self.events.wrapping_add(1);
         let before = self.merger.left();
@@ -171,14 +178,14 @@ impl Drive {
             | MergeStep::ReadCall(request)
             | MergeStep::PageCall(request)
             | MergeStep::TableCall(request) => request,
-            MergeStep::Zero => return Ok(None),
+            MergeStep::Zero => return Ok(MergeProgress::More),
         };
         self.events = self.events.wrapping_add(2);
         let outcome = self.call(request)?;
         let before = self.merger.left();
         let progress = self.merger.hand_in(outcome);
         self.watch(before);
-        self.follow(alloc, progress)
+        Ok(progress)
     }
 
     /// Notes whether less is left than before.
@@ -211,8 +218,40 @@ impl Drive {
         }
     }
 
+    /// Makes the steps of the merge up to the one with which its image is open. Its list is awaited then.
+    pub(crate) fn open_merged(&mut self) -> Result<(), Fail> {
+        for _ in 0..MOST {
+            if let MergeProgress::Opened(image) = self.merge_on()? {
+                self.catalog.add(image.slot, image.header, image.table)?;
+                return Ok(());
+            }
+        }
+        Err(Fail::from("a merged image that is open"))
+    }
+
+    /// The slots that are free while these requests are out.
+    pub(crate) fn free(
+        &self,
+        alloc: Global,
+        outs: &[Option<RequestId>; 3],
+    ) -> Result<Vec<usize>, Fail> {
+        Ok(free_in(
+            alloc,
+            SLOTS,
+            &self.catalog,
+            &self.dumper,
+            &self.merger,
+            outs,
+        )?)
+    }
+
+    /// The list that the merge closes, made in this room.
+    pub(crate) fn list(&self, room: ListRoom, outs: &[Option<RequestId>; 3]) -> Vec<Retired> {
+        room.into_list(&self.catalog, &self.dumper, &self.merger, outs)
+    }
+
     /// Gives the merge the images to close.
-    fn retire(&mut self, list: Vec<Retired>) -> Result<Option<u64>, Fail> {
+    pub(crate) fn retire(&mut self, list: Vec<Retired>) -> Result<Option<u64>, Fail> {
         match self.merger.retire(list) {
             MergeProgress::More => Ok(None),
             MergeProgress::Merged(serial) => Ok(Some(serial)),

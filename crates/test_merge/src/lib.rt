@@ -1,7 +1,9 @@
-//! Tests of the merger by its public names.
+//! Tests of the merger, and of the slots that it closes, by their public names.
 #![tactic(auto)]
 
 #[cfg(test)]
 mod drive;
 #[cfg(test)]
 mod rows;
+#[cfg(test)]
+mod slots;

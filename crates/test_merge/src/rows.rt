@@ -74,7 +74,7 @@ fn count_of_merge_steps(rt: HostRuntime) -> Result<(), Fail> {
 }
 
 /// Three checkpoints of three pages: one has data in the first, one in the second image, and one is zeros.
-fn make_chain(alloc: Global, drive: &mut Drive) -> Result<(), Fail> {
+pub(crate) fn make_chain(alloc: Global, drive: &mut Drive) -> Result<(), Fail> {
     drive.store(0, &[0x61])?;
     drive.checkpoint(alloc, 1, 0)?;
     drive.store(1, &[0x62])?;

@@ -35,7 +35,7 @@ const MOST: usize = 1000;
 pub(crate) struct Drive {
     pub(crate) memory: Memory,
     disk: MemDisk,
-    dumper: Dumper,
+    pub(crate) dumper: Dumper,
     serials: u64,
     /// How many events the checkpoint had so far: a step has one, and two more where a device call is made.
     pub(crate) events: usize,

@@ -16,4 +16,6 @@ mod moment;
 #[cfg(test)]
 mod passes;
 #[cfg(test)]
+mod questions;
+#[cfg(test)]
 mod rows;

@@ -8,6 +8,8 @@ mod crashes;
 #[cfg(test)]
 mod little_work;
 #[cfg(test)]
+mod merges;
+#[cfg(test)]
 mod opening;
 #[cfg(test)]
 mod rows;

@@ -114,8 +114,8 @@ const FAULTS: [(&str, &str); 17] = [
     ("step dumper 0\n", "script line 1\n"),
     ("step dumper\n", "script line 1\n"),
     ("finish dumper 1\n", "script line 1\n"),
-    ("merge\n", "script line 1\n"),
-    ("begin-merge\n", "script line 1\n"),
+    ("merge 1\n", "script line 1\n"),
+    ("begin-merge 0\n", "script line 1\n"),
 ];
 
 /// A script that doesn't fit is told its line, and leaves checkpoint 1 as it is.

@@ -54,6 +54,7 @@ fn count_of_steps(rt: HostRuntime) -> Result<(), Fail> {
 const FIRST: &str = "\
 reopen = worked
 open = reopened none
+merge = refused 14 idle
 map = done
 store 1 = done
 begin 0 = begun 1
@@ -76,9 +77,11 @@ merge = refused 10 not-open
 load = bytes 04
 reopen = worked
 open = reopened 3
-merge = refused 14 idle
 begin 0 = begun 4
-finish = acked 4";
+finish = acked 4
+merge = worked
+merge = refused 11 busy
+begin 0 = begun 5";
 
 #[test]
 fn second_run(rt: HostRuntime) -> Result<(), Fail> {

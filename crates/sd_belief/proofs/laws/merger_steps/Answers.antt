@@ -1,6 +1,6 @@
 use Rattle.sd_belief.proofs.BeginsMerge.{begins_merged_lem}
 use Rattle.sd_belief.proofs.MergerAsks.{merger_asks_lem}
-use Rattle.sd_belief.proofs.MergerPass.{reads_lem, takes_zeros_lem, writes_page_lem, writes_table_lem}
+use Rattle.sd_belief.proofs.MergerPass.{reads_lem, spares_lem, takes_zeros_lem, writes_page_lem, writes_table_lem}
 use Rattle.sd_belief.proofs.MergerRetire.{merger_retires_lem}
 use Rattle.sd_belief.proofs.MergerSource.{KnowsCatalog}
 use Rattle.sd_belief.proofs.laws.merger_steps.Goals as goal
@@ -20,6 +20,8 @@ returns c =
           merger_asks_lem c.quiet_steps.ensures c.gate_steps.ensures c.merged_file_law.ensures c.merged_repeats.ensures c.catalog_follows.ensures c.making_law.ensures
           old new merge copy next ticket request asked bodies files s b;
       reads = reads_lem c.quiet_steps.ensures c.merge_law.ensures c.merged_file_law.ensures c.source_reaches_needed.ensures c.catalog_follows.ensures c.making_law.ensures
+          c.plans_lead.ensures c.bodies_fill.ensures places knows;
+      spares = spares_lem c.quiet_steps.ensures c.merge_law.ensures c.merged_file_law.ensures c.source_reaches_needed.ensures c.catalog_follows.ensures c.making_law.ensures
           c.plans_lead.ensures c.bodies_fill.ensures places knows;
       writes_page = writes_page_lem c.quiet_steps.ensures c.merge_law.ensures c.merged_file_law.ensures c.source_reaches_needed.ensures c.catalog_follows.ensures c.making_law.ensures
           c.plans_lead.ensures c.bodies_fill.ensures places knows;

@@ -3,7 +3,7 @@ use Rattle.std.proofs.Common.{sym, subst}
 use Rattle.sd_run.specs.Goes.{GoesOn}
 use Rattle.sd_run.specs.Jobs.{IsDriven}
 use Rattle.sd_run.proofs.LineLemmas.{answered_as}
-use Rattle.sd_run.proofs.lines.answer.Goals.{in-Command, in-Begin, in-Cancel, in-Work, in-Perform, in-Step, in-Finish, in-Checkpoint, in-Reopen}
+use Rattle.sd_run.proofs.lines.answer.Goals.{in-Command, in-Begin, in-BeginMerge, in-Cancel, in-Work, in-Perform, in-Step, in-Finish, in-Checkpoint, in-Merge, in-Reopen}
 use Rattle.sd_run.proofs.lines.answer.Goals as goal
 
 pub returns-clause-answered : goal.returns-clause-answered
@@ -17,6 +17,8 @@ returns-clause-answered g c =
           w.make-reply.ensures.step
       | in-Begin w ↦ answered_as g.D.Disk first last w.make-reply-in-Begin.new.world line _ reply w.make-reply-in-Begin.result w.in-Begin.is w.reply-is w.world-is
           w.make-reply-in-Begin.ensures.step
+      | in-BeginMerge w ↦ answered_as g.D.Disk first last w.make-reply-in-BeginMerge.new.world line _ reply w.make-reply-in-BeginMerge.result w.in-BeginMerge.is w.reply-is w.world-is
+          w.make-reply-in-BeginMerge.ensures.step
       | in-Cancel w ↦ answered_as g.D.Disk first last w.make-reply-in-Cancel.new.world line _ reply w.make-reply-in-Cancel.result w.in-Cancel.is w.reply-is w.world-is
           w.make-reply-in-Cancel.ensures.step
       | in-Work w ↦ answered_as g.D.Disk first last w.make-reply-in-Work.new.world line _ reply w.make-reply-in-Work.result w.in-Work.is w.reply-is w.world-is
@@ -29,6 +31,8 @@ returns-clause-answered g c =
           w.finish-reply.ensures.finished
       | in-Checkpoint w ↦ answered_as g.D.Disk first last w.do_job-reply.new.world line _ reply w.do_job-reply.result w.in-Checkpoint.is w.reply-is w.world-is
           w.do_job-reply.ensures.job
+      | in-Merge w ↦ answered_as g.D.Disk first last w.do_job-reply-in-Merge.new.world line _ reply w.do_job-reply-in-Merge.result w.in-Merge.is w.reply-is w.world-is
+          w.do_job-reply-in-Merge.ensures.job
       | in-Reopen w ↦ answered_as g.D.Disk first last w.do_job-reply-in-Reopen.new.world line _ reply w.do_job-reply-in-Reopen.result w.in-Reopen.is w.reply-is w.world-is
           w.do_job-reply-in-Reopen.ensures.job
     ]
@@ -39,11 +43,13 @@ returns-clause-goes_on g c =
     elim c.match-line.branch [
       | in-Command w ↦ subst (GoesOn g.D.Disk first) (sym w.world-is) w.make-reply.ensures.goes_on
       | in-Begin w ↦ subst (GoesOn g.D.Disk first) (sym w.world-is) w.make-reply-in-Begin.ensures.goes_on
+      | in-BeginMerge w ↦ subst (GoesOn g.D.Disk first) (sym w.world-is) w.make-reply-in-BeginMerge.ensures.goes_on
       | in-Cancel w ↦ subst (GoesOn g.D.Disk first) (sym w.world-is) w.make-reply-in-Cancel.ensures.goes_on
       | in-Work w ↦ subst (GoesOn g.D.Disk first) (sym w.world-is) w.make-reply-in-Work.ensures.goes_on
       | in-Perform w ↦ subst (GoesOn g.D.Disk first) (sym w.world-is) w.make-reply-in-Perform.ensures.goes_on
       | in-Step w ↦ subst (GoesOn g.D.Disk first) (sym w.world-is) w.drive-reply.ensures.goes_on
       | in-Finish w ↦ subst (GoesOn g.D.Disk first) (sym w.world-is) w.finish-reply.ensures.goes_on
       | in-Checkpoint w ↦ subst (GoesOn g.D.Disk first) (sym w.world-is) w.do_job-reply.ensures.goes_on
+      | in-Merge w ↦ subst (GoesOn g.D.Disk first) (sym w.world-is) w.do_job-reply-in-Merge.ensures.goes_on
       | in-Reopen w ↦ subst (GoesOn g.D.Disk first) (sym w.world-is) w.do_job-reply-in-Reopen.ensures.goes_on
     ]

@@ -30,9 +30,10 @@ invariant_of-self-in_default-copy_reply c =
       numbers_are = subst (λ all. AreNumbers base all c.self.inside.pending c.self.inside.last c.self.inside.numbers) (sym before) c.self.invariant.numbers_are;
       counted = c.self.invariant.counted;
       rests = c.self.invariant.rests;
-      work = subst (λ all. IfSome c.self.inside.dumper.running (IsAtWork base all c.self.inside.pending c.self.inside.standing c.self.inside.phases.items c.self.inside.catalog c.self.inside.opener c.self.inside.numbers)) (sym before) c.self.invariant.work;
+      work = subst (λ all. IfSome c.self.inside.dumper.running (IsAtWork base all c.self.inside.pending c.self.inside.standing c.self.inside.phases.items c.self.inside.catalog c.self.inside.merger c.self.inside.opener c.self.inside.numbers)) (sym before) c.self.invariant.work;
       little = subst (λ m. IfSome c.self.inside.dumper.running (HasLittle base c.reserve.new.self.items m)) (sym same)
           (subst (λ all. IfSome c.self.inside.dumper.running (HasLittle base all c.self.inside.memory)) (sym before) c.self.invariant.little);
+      merging = c.self.invariant.merging;
     }
 
 pub returns-in_default-copy_reply-clause-keeps : goal.returns-in_default-copy_reply-clause-keeps
@@ -61,12 +62,13 @@ invariant_of-self-2 c =
           (applied_numbers base c.self.inside.journal.items c.self.inside.pending c.self.inside.last c.self.inside.numbers c.args.seat c.in-Ok-copy_command.command c.in-Ok-answer.reply c.self.invariant.numbers_are);
       counted = c.self.invariant.counted;
       rests = c.self.invariant.rests;
-      work = subst (λ all. IfSome c.self.inside.dumper.running (IsAtWork base all c.self.inside.pending c.self.inside.standing c.self.inside.phases.items c.self.inside.catalog c.self.inside.opener c.self.inside.numbers)) (sym items)
-          (applied_work base c.self.inside.journal.items c.self.inside.pending c.self.inside.standing c.self.inside.phases.items c.self.inside.catalog c.self.inside.opener c.self.inside.numbers
+      work = subst (λ all. IfSome c.self.inside.dumper.running (IsAtWork base all c.self.inside.pending c.self.inside.standing c.self.inside.phases.items c.self.inside.catalog c.self.inside.merger c.self.inside.opener c.self.inside.numbers)) (sym items)
+          (applied_work base c.self.inside.journal.items c.self.inside.pending c.self.inside.standing c.self.inside.phases.items c.self.inside.catalog c.self.inside.merger c.self.inside.opener c.self.inside.numbers
           c.self.inside.dumper.running c.args.seat c.in-Ok-copy_command.command c.in-Ok-answer.reply c.self.invariant.work);
       little = subst (λ all. IfSome c.self.inside.dumper.running (HasLittle base all c.answer.new.memory)) (sym items)
           (applied_little base c.self.inside.journal.items c.self.inside.memory c.answer.new.memory c.self.inside.dumper.running c.args.seat c.in-Ok-copy_command.command c.in-Ok-answer.reply
           (still_while_frozen _ c.answer.new.memory c.in-Ok-copy_command.command c.in-Ok-answer.reply c.self.invariant answered) c.self.invariant.little);
+      merging = c.self.invariant.merging;
     }
 
 pub returns-clause-number : goal.returns-clause-number

@@ -1,4 +1,4 @@
-use Rattle.std.proofs.Common.{◌≡◌, ℕ, ◌+◌, ◌^◌, ◌<◌, ◌≤◌, ◌||◌, ◌&&◌, if◌then◌else◌, ◌∷◌, [], Some, None, IsSome, length, slice_get, slice_index_or, slice_set, refl, sym, ◌∙◌, ap, subst, inl, arith}
+use Rattle.std.proofs.Common.{◌≡◌, ℕ, ◌+◌, ◌^◌, ◌<◌, ◌≤◌, ◌||◌, ◌&&◌, if◌then◌else◌, ◌∷◌, [], Some, None, IsSome, IfSome, length, slice_get, slice_index_or, slice_set, refl, sym, ◌∙◌, ap, subst, inl, arith}
 use Rattle.std.proofs.lemmas.Option.{same_Some, slice_get-get_or}
 use Rattle.std.proofs.Math.Bool.{and-false}
 use Rattle.sd_areas.specs.Memory.{memory_of}
@@ -12,23 +12,27 @@ use Rattle.sd_journal.specs.declared.mark.Mark.TheVariants.{Start}
 use Rattle.sd_journal.specs.History.{Base}
 use Rattle.sd_journal.specs.Legal.{IsAbove}
 use Rattle.sd_journal.specs.Marked.{entries_of}
-use Rattle.sd_rounds.specs.Dumper.{AreRunning, is_dumping, is_frozen_image, is_last, next_slot, order_of, slot_of}
+use Rattle.sd_merge.specs.Merger as merger
+use Rattle.sd_rounds.specs.declared.image_order.ImageOrder.{ImageOrder}
+use Rattle.sd_belief.specs.Merges.{IsSpared, MakesOther}
+use Rattle.sd_rounds.specs.Dumper.{AreRunning, HasSlot, is_dumping, is_frozen_image, is_last, next_slot, order_of, slot_of}
 use Rattle.sd_rounds.specs.Making.{begun_image}
 use Rattle.sd_belief.specs.DumperSteps.{opens_gate}
 use Rattle.sd_belief.specs.View.{CoreView}
 use Rattle.sd_core.specs.declared.numbers.Numbers.{Numbers}
 use Rattle.sd_core.specs.Images.{begun_as}
 use Rattle.sd_core.specs.LittleWork.{TakesLittle}
-use Rattle.sd_core.specs.Sound.{AreNumbers, IsImageOf, IsJournal, begun_images}
+use Rattle.sd_core.specs.Sound.{AreNumbers, AreOuts, IsImageOf, IsJournal, IsMerging, begun_images, due_serials}
 use Rattle.sd_core.proofs.ApplyLemmas.{stays_same}
 use Rattle.sd_core.proofs.ImageLemmas.{begun_asked}
 use Rattle.sd_core.proofs.LittleLemmas.{begun_little}
 use Rattle.sd_core.proofs.MarkLemmas.{counted_held, held_place, next_is, none_visited, start_numbers}
+use Rattle.sd_core.proofs.MergeLemmas.{asks_apart, fills_same, merging_stays}
 use Rattle.sd_core.proofs.OpeningLemmas.{hands_seen, step_seen}
 use Rattle.sd_core.proofs.PreDumpLemmas.{change_stays, pre_dumps_stay}
 use Rattle.sd_core.proofs.StageLemmas.{asked_in}
-use Rattle.sd_core.proofs.StepLemmas.{begins_asking, free_of_none}
-use Rattle.sd_core.proofs.WorkLemmas.{asked_on, at_work, core_working, grown_core, held_at_work, held_same, noted_journal, out_at_work, outs_within, rests_before, slot_within}
+use Rattle.sd_core.proofs.StepLemmas.{begins_asking}
+use Rattle.sd_core.proofs.WorkLemmas.{asked_on, at_work, core_working, grown_core, held_at_work, held_same, free_beside, held_more, merger_within, noted_journal, open_more, open_outs, out_at_work, rests_before, slot_within}
 use Rattle.sd_core.proofs.state.Core.begin_image.Goals as goal
 
 pub overflow_add-serial : goal.overflow_add-serial
@@ -37,7 +41,7 @@ overflow_add-serial c =
     let work = at_work _ n.running c.self.invariant n.was in
     let few = work.few in
     let opened = (subst (AreRunning c.self.inside.dumper.since_freeze) n.was c.sound.ensures.running).few in
-    let serials : c.self.inside.numbers.serial < 2 ^ 63 + n.running.opened = subst (λ i. c.self.inside.numbers.serial < 2 ^ 63 + begun_images n.running i) n.none work.serials in
+    let serials : c.self.inside.numbers.serial + due_serials c.self.inside.merger ≤ 2 ^ 63 + n.running.opened = subst (λ i. c.self.inside.numbers.serial + due_serials c.self.inside.merger ≤ 2 ^ 63 + begun_images n.running i) n.none work.serials in
     omega (arith, serials, few, opened)
 
 pub index-requires : goal.index-requires
@@ -54,7 +58,7 @@ give-requires c =
     let work = at_work _ n.running c.self.invariant n.was in
     let few = work.few in
     let opened = (subst (AreRunning c.self.inside.dumper.since_freeze) n.was c.sound.ensures.running).few in
-    let serials : c.self.inside.numbers.serial < 2 ^ 63 + n.running.opened = subst (λ i. c.self.inside.numbers.serial < 2 ^ 63 + begun_images n.running i) n.none work.serials in
+    let serials : c.self.inside.numbers.serial + due_serials c.self.inside.merger ≤ 2 ^ 63 + n.running.opened = subst (λ i. c.self.inside.numbers.serial + due_serials c.self.inside.merger ≤ 2 ^ 63 + begun_images n.running i) n.none work.serials in
     omega (arith, serials, few, opened)
 
 pub returns-in_default-hold-clause-takes : goal.returns-in_default-hold-clause-takes
@@ -85,9 +89,11 @@ invariant_of-self-2 c =
     let above = core.numbers_are.serials in
     let fresh = core.numbers_are.marks serial (omega (arith, above)) in
     let t = begun_asked c.reserve_mark.new.self.items c.hold.new.self c.tick.new.self (order_of w.running serial c.state.result) w.next c.begin_next-request.result
-    now given (held_place c.self.inside.catalog c.hold.new.self serial c.in-Ok-hold.ensures.held) (none_visited c.reserve_mark.new.self.items serial fresh) w.steps.0 in
+    (omega (arith, given)) (held_place c.self.inside.catalog c.hold.new.self serial c.in-Ok-hold.ensures.held) (none_visited c.reserve_mark.new.self.items serial fresh) w.steps.0 in
     let within = slot_within _ w.running core w.was in
-    let serials : old.serial < 2 ^ 63 + w.running.opened = subst (λ i. old.serial < 2 ^ 63 + begun_images w.running i) w.none work.serials in
+    let serials : old.serial + due_serials c.self.inside.merger ≤ 2 ^ 63 + w.running.opened = subst (λ i. old.serial + due_serials c.self.inside.merger ≤ 2 ^ 63 + begun_images w.running i) w.none work.serials in
+    let few = work.few in
+    let opened = (subst (AreRunning c.self.inside.dumper.since_freeze) w.was c.sound.ensures.running).few in
     let new_serial : (o : Opened) → place_of c.self.inside.catalog serial ≡ Some (Some o) → ⊥ =
     (λ o is. let double = c.hold.ensures.double.1 (subst IsSome (sym is) refl) in cc) in
     core_working _ _ w.is (record {
@@ -96,13 +102,14 @@ invariant_of-self-2 c =
           c.note.ensures.items c.note.ensures.numbers.first c.note.ensures.numbers.limit
           (c.tracked_laws.ensures.started base c.reserve_mark.new.self.items c.self.inside.memory serial core.journal_is.tracked fresh) core.journal_is);
       held = c.note.ensures.held ∙ held_at_work _ w.running core w.was ∙ held_same c.self.inside.pending w.running (record w.running { image = Some w.next }) None;
-      outs_are = record {
-        are = c.put_out.ensures ∙ ap (λ outs. slice_set outs 0 (Some c.id.result)) out.1 ∙ ap (λ o. o ∷ None ∷ None ∷ []) (ap Some c.id.ensures ∙ sym t.out_is);
-        within = outs_within c.put_out.new.outs c.self.inside.phases.items (Some c.begin_next-request.result.id)
-            (c.put_out.ensures ∙ ap (λ outs. slice_set outs 0 (Some c.id.result)) out.1 ∙ ap (λ o. o ∷ None ∷ None ∷ []) (ap Some c.id.ensures))
-            (λ id is. subst (λ (i : RequestId). i.slot < length c.self.inside.phases.items) (same_Some c.begin_next-request.result.id id is)
-            (subst (λ slot. slot < length c.self.inside.phases.items) (sym t.slot) within));
-      };
+      outs_are = subst (λ st. AreOuts st c.put_out.new.outs c.self.inside.phases.items (Some (record w.running { image = Some w.next })) c.self.inside.merger None) (sym work.stands)
+          (open_outs c.put_out.new.outs c.self.inside.phases.items (Some (record w.running { image = Some w.next })) c.self.inside.merger (Some c.begin_next-request.result.id) (merger.out_of_merge c.self.inside.merger)
+          (c.put_out.ensures ∙ ap (λ outs. slice_set outs 0 (Some c.id.result)) out.1 ∙ ap (λ o. o ∷ merger.out_of_merge c.self.inside.merger ∷ None ∷ []) (ap Some c.id.ensures))
+          t.out_is refl
+          (λ id is. subst (λ (i : RequestId). i.slot < length c.self.inside.phases.items) (same_Some c.begin_next-request.result.id id is)
+          (subst (λ slot. slot < length c.self.inside.phases.items) (sym t.slot) within))
+          (λ id is. merger_within _ id core work.stands is)
+          (λ id other one two. asks_apart _ w.running id other core w.was (ap (λ (i : RequestId). i.slot) (sym (same_Some c.begin_next-request.result.id id one)) ∙ t.slot) two));
       numbers_are = subst (λ all. AreNumbers base all c.self.inside.pending c.self.inside.last c.tick.new.self) (sym c.note.ensures.items)
           (start_numbers base c.reserve_mark.new.self.items c.self.inside.pending c.self.inside.last old c.tick.new.self begun checkpoint given now core.numbers_are);
       counted = subst (λ n. (s : ℕ) (o : Opened) → place_of c.hold.new.self s ≡ Some (Some o) → o.header.checkpoint ≤ n) (sym checkpoint)
@@ -126,6 +133,52 @@ invariant_of-self-2 c =
       little = subst (λ all. TakesLittle base all c.begin_next-request.new.memory w.running.number w.next) (sym c.note.ensures.items)
           (begun_little c.little_law.ensures base c.reserve_mark.new.self.items c.self.inside.memory c.begin_next-request.new.memory w.running.number _ (order_of w.running serial c.state.result) w.next
           c.begin_next-request.result w.steps fresh (t.still ∙ and-false _));
+      merging = subst (λ r. IfSome c.self.inside.merger (IsMerging c.self.inside.standing c.self.inside.phases.items c.hold.new.self c.self.inside.opener c.tick.new.self c.self.inside.room r)) w.is
+          (merging_stays (record {
+            base = base;
+            journal = c.reserve_mark.new.self;
+            memory = c.self.inside.memory;
+            frozen = c.self.inside.pending;
+            newest = c.self.inside.last;
+            standing = c.self.inside.standing;
+            phases = c.self.inside.phases.items;
+            outs = c.self.inside.outs;
+            places = c.self.inside.catalog;
+            dumper = c.self.inside.dumper;
+            merger = c.self.inside.merger;
+            room = c.self.inside.room;
+            opener = c.self.inside.opener;
+            numbers = old;
+          }) (record {
+            base = base;
+            journal = c.note.new.self;
+            memory = c.begin_next-request.new.memory;
+            frozen = c.self.inside.pending;
+            newest = c.self.inside.last;
+            standing = c.self.inside.standing;
+            phases = c.self.inside.phases.items;
+            outs = c.put_out.new.outs;
+            places = c.hold.new.self;
+            dumper = c.begin_next-request.new.dumper;
+            merger = c.self.inside.merger;
+            room = c.self.inside.room;
+            opener = c.self.inside.opener;
+            numbers = c.tick.new.self;
+          }) (record {
+            merger_is = refl;
+            room = refl;
+            standing = refl;
+            opener = refl;
+            count = refl;
+            given = omega (arith, given, above);
+            checkpoint = omega (arith, checkpoint);
+            serials = λ merge is due under. (let one = ap due_serials is ∙ due in omega (arith, now, serials, one, few, opened));
+            has = λ slot has. subst (λ r. HasSlot r slot) (sym w.was) (subst (λ r. HasSlot r slot) w.is has);
+            fills = λ slot spared. subst (λ r. IsSpared r slot) (sym w.is) (fills_same w.running (Some w.next) slot (subst (λ r. IsSpared r slot) w.was spared));
+            other = λ s given_to other. subst (λ r. MakesOther r s) (sym w.is) (λ same. (let own = ap (λ (o : ImageOrder). o.serial) t.order in omega (arith, same, own, given_to, above)));
+            held = λ s given_to other held. held_more c.self.inside.catalog c.hold.new.self serial s c.in-Ok-hold.ensures.held held;
+            images = λ s o there spared. open_more c.self.inside.catalog c.hold.new.self serial s o c.in-Ok-hold.ensures.held new_serial there;
+          }) core.merging);
     })
 
 pub returns-clause-takes : goal.returns-clause-takes
@@ -153,7 +206,7 @@ returns-clause-takes c =
       outs = c.self.inside.outs;
       catalog = c.hold.new.self;
       dumper = record { running = Some (record w.running { image = Some (begun_image order) }); since_freeze = 0 };
-      merger = None;
+      merger = c.self.inside.merger;
       opener = c.self.inside.opener;
       numbers = record { checkpoint = c.self.inside.numbers.checkpoint; serial = serial; ticket = c.self.inside.numbers.ticket };
       grows = c.self.inside.grows;
@@ -166,7 +219,7 @@ returns-clause-takes c =
       memory = refl;
       phases = refl;
       outs = refl;
-      free = free_of_none _ (slot_of w.running) none;
+      free = free_beside _ w.running (slot_of w.running) c.self.invariant w.was none refl;
       was = w.was;
       none = w.none;
       phase_is = slice_get-get_or c.self.inside.phases.items (slot_of w.running) c.index.result.now within;
@@ -182,7 +235,7 @@ returns-clause-takes c =
       phases = refl;
       serial = c.tick.ensures.serial ∙ ap (λ (n : Numbers). n.serial) c.give.ensures;
       free = ap (λ outs. slice_get outs 0) none;
-      apart = free_of_none _ c.begin_next-request.result.id.slot none;
+      apart = free_beside _ w.running c.begin_next-request.result.id.slot c.self.invariant w.was none slot;
       outs = c.put_out.ensures ∙ ap (λ id. slice_set c.self.inside.outs 0 (Some id)) c.id.ensures;
       was = refl;
       making = refl;

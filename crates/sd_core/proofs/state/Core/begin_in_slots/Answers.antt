@@ -1,33 +1,25 @@
-use Rattle.std.proofs.Common.{◌≡◌, ◌<◌, length, Some, None, refl, sym, ◌∙◌, ap, subst, arith}
+use Rattle.std.proofs.Common.{◌≡◌, ◌∷◌, [], length, Some, None, refl, sym, ◌∙◌, ap, subst, arith}
 use Rattle.std.proofs.lemmas.List.{length-take-le}
 use Rattle.sd_areas.specs.Memory.{memory_of}
 use Rattle.sd_journal.specs.History.{Base}
 use Rattle.sd_journal.specs.Legal.{IsAbove}
 use Rattle.sd_journal.specs.Marked.{entries_of}
-use Rattle.sd_rounds.specs.Dumper.{begun_checkpoint}
-use Rattle.sd_belief.specs.CheckpointSteps.{HasParent, IsUnreached}
+use Rattle.sd_merge.specs.Merger as merger
+use Rattle.sd_rounds.specs.Dumper.{begun_checkpoint, out_of_running}
+use Rattle.sd_belief.specs.CheckpointSteps.{HasParent}
 use Rattle.sd_belief.specs.View.{CoreView}
-use Rattle.sd_command.specs.declared.reply.Reply.TheVariants as reply
-use Rattle.sd_core.specs.Beginning.{BeginsAs, IsFirstParent, IsShort}
+use Rattle.sd_core.specs.Beginning.{AreReserved, IsFirstParent}
 use Rattle.sd_core.specs.declared.numbers.Numbers.{Numbers}
-use Rattle.sd_core.specs.Sound.{AreNumbers, held_for, out_of_opener}
-use Rattle.sd_core.proofs.ApplyLemmas.{same_phases, stays_same}
-use Rattle.sd_core.proofs.BeginLemmas.{MayBegin, begun_counted, begun_numbers, may_begin, none_opens, short_begins}
-use Rattle.sd_core.proofs.CoreLemmas.{nobody_is}
+use Rattle.sd_core.specs.Sound.{AreNumbers, AreOuts, held_for}
+use Rattle.sd_core.proofs.ApplyLemmas.{same_phases}
+use Rattle.sd_core.proofs.BeginLemmas.{MayBegin, begun_counted, begun_numbers, may_begin, none_opens}
+use Rattle.sd_core.proofs.BegunLemmas.{begun_beside, few_due}
 use Rattle.sd_core.proofs.JournalLemmas.{same_journal}
 use Rattle.sd_core.proofs.OpeningLemmas.{stays_seen}
-use Rattle.sd_core.proofs.SlotLemmas.{free_unreached, free_within, has_parent, slot_is_free, slots_apart}
-use Rattle.sd_core.proofs.WorkLemmas.{core_working, outs_within}
+use Rattle.sd_core.proofs.SlotLemmas.{filled_free, free_unreached, free_within, has_parent, leaves_merge, slots_apart}
+use Rattle.sd_core.proofs.WorkLemmas.{core_working, merger_within, open_outs}
+use Rattle.sd_core.specs.contracts.state.Core.{the_view}
 use Rattle.sd_core.proofs.state.Core.begin_in_slots.Goals as goal
-
-pub returns-in_default-clause-keeps : goal.returns-in_default-clause-keeps
-returns-in_default-clause-keeps c =
-    let same = c.in_default.ensures.err in
-    stays_seen _ _ _ c.self.view_is (stays_same c.core_steps.ensures _ _ (record {
-      store = record { base = refl; phases = refl; outs = refl; opener = refl; standing = refl; catalog = refl; grows = refl; committing = refl; dumper = refl; merger = refl; serial = refl };
-      history = ap (λ j. entries_of j.items) same;
-      memory = refl;
-    }))
 
 pub invariant_of-self-2 : goal.invariant_of-self-2
 invariant_of-self-2 c =
@@ -36,28 +28,35 @@ invariant_of-self-2 c =
     let inside = c.self.invariant in
     let closed = none_opens c.self.inside.opener c.self.inside.standing c.self.inside.phases.items inside.opening may.stands in
     let none = inside.rests may.idle may.stands in
-    let r = c.in-Ok.ensures.reserved in
+    let slots = c.in-Some.slots in
+    let view = the_view c.self.inside in
+    let r = subst (λ v. AreReserved v c.args.rounds slots.pre_dumps.items slots.dump) (sym c.self.view_is)
+    (record { slots = c.in-Ok.free.items; free = c.in-Ok.ensures; firsts = c.in-Some.ensures.firsts; next = c.in-Some.ensures.next; spare = c.in-Some.ensures.spare }) in
     let grown = c.in-Ok-hold.ensures.ok in
     let begun = ap (λ (n : Numbers). n.begun) c.begin-number.ensures.numbers in
     let checkpoint = ap (λ (n : Numbers). n.checkpoint) c.begin-number.ensures.numbers in
     let given = ap (λ (n : Numbers). n.given) c.begin-number.ensures.numbers in
     let serial = ap (λ (n : Numbers). n.serial) c.begin-number.ensures.numbers in
-    let nobody_out = nobody_is c.self.inside.outs c.self.inside.phases.items c.self.inside.dumper.running c.self.inside.opener inside.outs_are may.idle (ap out_of_opener closed) in
+    let outs : c.self.inside.outs ≡ None ∷ merger.out_of_merge c.self.inside.merger ∷ None ∷ [] =
+    inside.outs_are.jobs may.stands ∙ ap (λ r. out_of_running r ∷ merger.out_of_merge c.self.inside.merger ∷ None ∷ []) may.idle in
     let held = grown.held in
     let before = inside.held ∙ ap (λ f. held_for f c.self.inside.dumper.running c.self.inside.opener) none ∙ ap (λ r. held_for None r c.self.inside.opener) may.idle
     ∙ ap (held_for None None) closed in
     let two : c.hold.new.self.held ≡ 2 = omega (arith, held, before) in
     let few = may.few in
     let used = may.serial in
+    let one = few_due c.self.inside.merger in
     let spare = r.spare in
     let short = ap length r.firsts ∙ length-take-le c.args.rounds r.slots (omega (arith, spare)) in
     let number = c.begin-number.ensures.number in
     let below = inside.numbers_are.checkpoints in
-    let count = c.len.ensures ∙ c.self.inside.phases.ok.0 in
+    let running = begun_checkpoint c.begin-number.result slots.pre_dumps.items slots.dump c.first_parent-parent.result in
     core_working _ _ c.begin_checkpoint.ensures (record {
       journal_is = same_journal base c.self.inside.journal c.hold.new.self c.self.inside.memory c.self.inside.pending c.self.inside.last grown.first grown.items grown.limit inside.journal_is;
-      held = two ∙ ap (λ f. held_for f (Some (begun_checkpoint c.begin-number.result c.in-Ok.slots.pre_dumps.items c.in-Ok.slots.dump c.first_parent-parent.result)) None) (sym none);
-      outs_are = record { are = nobody_out; within = outs_within c.self.inside.outs c.self.inside.phases.items None nobody_out (λ id is. absurd (let no : None ≡ Some id = is in cc)) };
+      held = two ∙ ap (λ f. held_for f (Some running) None) (sym none);
+      outs_are = subst (λ st. AreOuts st c.self.inside.outs c.self.inside.phases.items (Some running) c.self.inside.merger None) (sym may.stands)
+          (open_outs c.self.inside.outs c.self.inside.phases.items (Some running) c.self.inside.merger None (merger.out_of_merge c.self.inside.merger) outs refl refl
+          (λ id is. absurd (let no : None ≡ Some id = is in cc)) (λ id is. merger_within _ id inside may.stands is) (λ id other is at. (let no : None ≡ Some id = is in cc)));
       numbers_are = subst (λ all. AreNumbers base all c.self.inside.pending c.self.inside.last c.begin-number.new.self) (sym grown.items)
           (subst (λ f. AreNumbers base c.self.inside.journal.items f c.self.inside.last c.begin-number.new.self) (sym none)
           (begun_numbers base c.self.inside.journal.items c.self.inside.last c.self.inside.numbers c.begin-number.new.self begun checkpoint given serial
@@ -71,16 +70,16 @@ invariant_of-self-2 c =
         some = omega (arith, number);
         number = number ∙ sym begun;
         few = omega (arith, short, few);
-        serials = omega (arith, serial, used);
-        within = λ slot reserved. subst (λ k. slot < k) count
-            (subst (λ s. s < c.len.result) (sym reserved.is) (free_within c.self.inside.catalog c.len.result _ r.slots r.free
-            (slot_is_free c.self.inside.catalog c.len.result c.args.rounds c.in-Ok.slots.pre_dumps.items c.in-Ok.slots.dump reserved.place r)));
-        apart = λ one other below within. slots_apart c.self.inside.catalog c.len.result c.args.rounds c.in-Ok.slots.pre_dumps.items c.in-Ok.slots.dump one other r below within;
+        serials = omega (arith, serial, used, one);
+        within = λ slot reserved. free_within c.free_law.ensures view r.slots slot r.free (filled_free view c.args.rounds c.begin-number.result slots.pre_dumps.items slots.dump c.first_parent-parent.result slot r reserved);
+        apart = λ one other below within. slots_apart c.free_law.ensures view c.args.rounds slots.pre_dumps.items slots.dump one other r below within;
         pre_dumps = refl;
         asked = tt;
         image = tt;
       };
       little = tt;
+      merging = begun_beside c.free_law.ensures view c.self.inside.numbers c.begin-number.new.self c.self.inside.room c.args.rounds c.begin-number.result slots.pre_dumps.items slots.dump c.first_parent-parent.result r
+          outs serial given (omega (arith, checkpoint)) inside.merging;
     })
 
 pub returns-clause-keeps : goal.returns-clause-keeps
@@ -88,10 +87,12 @@ returns-clause-keeps c =
     let may = subst (λ v. MayBegin v c.args.rounds) (sym c.self.view_is) (may_begin c.args.self.now c.args.rounds c.requires) in
     let inside = c.self.invariant in
     let closed = none_opens c.self.inside.opener c.self.inside.standing c.self.inside.phases.items inside.opening may.stands in
-    let r = c.in-Ok.ensures.reserved in
+    let slots = c.in-Some.slots in
+    let view = the_view c.self.inside in
+    let r = subst (λ v. AreReserved v c.args.rounds slots.pre_dumps.items slots.dump) (sym c.self.view_is)
+    (record { slots = c.in-Ok.free.items; free = c.in-Ok.ensures; firsts = c.in-Some.ensures.firsts; next = c.in-Some.ensures.next; spare = c.in-Some.ensures.spare }) in
     let number = c.begin-number.ensures.number in
-    let count = c.len.ensures ∙ c.self.inside.phases.ok.0 in
-    let running = begun_checkpoint c.begin-number.result c.in-Ok.slots.pre_dumps.items c.in-Ok.slots.dump c.first_parent-parent.result in
+    let running = begun_checkpoint c.begin-number.result slots.pre_dumps.items slots.dump c.first_parent-parent.result in
     stays_seen _ _ _ c.self.view_is (record {
       base = refl;
       outs = refl;
@@ -112,18 +113,10 @@ returns-clause-keeps c =
         newest = λ serial o at. (let below = inside.counted serial o at in omega (arith, number, below));
         parent = subst (λ v. HasParent c.self.inside.catalog v running) (sym c.self.view_is) (has_parent c.self.inside.catalog c.args.self.now running
             (subst (λ (v : CoreView). IsFirstParent c.self.inside.catalog v.grows c.first_parent-parent.result) c.self.view_is c.first_parent-parent.ensures));
-        within = λ slot reserved. subst (λ k. slot < k) count
-            (subst (λ s. s < c.len.result) (sym reserved.is) (free_within c.self.inside.catalog c.len.result _ r.slots r.free
-            (slot_is_free c.self.inside.catalog c.len.result c.args.rounds c.in-Ok.slots.pre_dumps.items c.in-Ok.slots.dump reserved.place r)));
-        unreached = λ falls slot reserved. subst (IsUnreached c.self.inside.catalog) (sym reserved.is)
-            (free_unreached c.self.inside.catalog c.len.result _ r.slots r.free
-            (slot_is_free c.self.inside.catalog c.len.result c.args.rounds c.in-Ok.slots.pre_dumps.items c.in-Ok.slots.dump reserved.place r) falls);
-        merge = tt;
-        apart = λ one other from below within. slots_apart c.self.inside.catalog c.len.result c.args.rounds c.in-Ok.slots.pre_dumps.items c.in-Ok.slots.dump one other r below within;
+        within = λ slot reserved. free_within c.free_law.ensures view r.slots slot r.free (filled_free view c.args.rounds c.begin-number.result slots.pre_dumps.items slots.dump c.first_parent-parent.result slot r reserved);
+        unreached = λ falls slot reserved. free_unreached c.free_law.ensures view r.slots slot r.free
+            (filled_free view c.args.rounds c.begin-number.result slots.pre_dumps.items slots.dump c.first_parent-parent.result slot r reserved) c.sound.ensures falls;
+        merge = λ falls. leaves_merge c.free_law.ensures view c.args.rounds c.begin-number.result slots.pre_dumps.items slots.dump c.first_parent-parent.result r c.sound.ensures falls;
+        apart = λ one other from below within. slots_apart c.free_law.ensures view c.args.rounds slots.pre_dumps.items slots.dump one other r below within;
       }) b;
     })
-
-pub returns-in-Err-clause-begins : goal.returns-in-Err-clause-begins
-returns-in-Err-clause-begins c =
-    subst (λ (v : CoreView). BeginsAs v c.args.rounds (reply.Refused c.in-Err.why) v) c.self.view_is
-    (short_begins _ c.args.rounds c.in-Err.why (subst (λ n. IsShort c.self.inside.catalog n c.args.rounds c.in-Err.why) (c.len.ensures ∙ c.self.inside.phases.ok.0) c.in-Err.ensures.few))

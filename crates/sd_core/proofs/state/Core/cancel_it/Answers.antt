@@ -1,12 +1,13 @@
-use Rattle.std.proofs.Common.{◌≡◌, ◌∷◌, [], None, IfSome, refl, sym, ◌∙◌, ap, subst, arith}
+use Rattle.std.proofs.Common.{◌≡◌, None, IfSome, refl, sym, ◌∙◌, ap, subst, arith}
 use Rattle.sd_areas.specs.Memory.{memory_of}
 use Rattle.sd_journal.specs.History.{Base}
 use Rattle.sd_journal.specs.Kept.{Kept}
-use Rattle.sd_rounds.specs.Dumper.{Dumping, out_of_running}
+use Rattle.sd_rounds.specs.Dumper.{Dumping, serial_of}
+use Rattle.sd_core.specs.Dumping.{ReleasesPlace}
 use Rattle.sd_core.specs.LittleWork.{HasLittle}
-use Rattle.sd_core.specs.Sound.{AreNumbers, IsAtWork, held_for, out_of_opener}
+use Rattle.sd_core.specs.Sound.{AreNumbers, IsAtWork, held_for}
 use Rattle.sd_core.proofs.ApplyLemmas.{same_phases}
-use Rattle.sd_core.proofs.CancelLemmas.{cancelled_journal, cancelled_numbers, counted_released, may_cancel, rests_cancelled, same_images}
+use Rattle.sd_core.proofs.CancelLemmas.{cancelled_journal, cancelled_numbers, counted_released, images_same, may_cancel, merges_on, rests_cancelled}
 use Rattle.sd_core.proofs.JournalLemmas.{same_journal}
 use Rattle.sd_core.proofs.OpeningLemmas.{stays_seen}
 use Rattle.sd_core.proofs.RefusalLemmas.{MayCancel, may_cancel_now}
@@ -17,6 +18,7 @@ invariant_of-self c =
     let base : Base = record { number = c.self.inside.number; memory = memory_of c.self.inside.base } in
     let may = subst MayCancel (sym c.self.view_is) (may_cancel_now c.args.self.now c.requires) in
     let gone = ap (λ (d : Dumping). d.running) c.cancel.ensures in
+    let released = subst (λ own. ReleasesPlace own c.self.inside.catalog c.release_place.new.catalog) c.serial.ensures c.release_place.ensures in
     let journal = cancelled_journal c.tracked_laws.ensures _ c.append_held.new.self c.self.invariant (may_cancel _ c.self.invariant (λ idle none. may.some idle (sym c.self.invariant.journal_is.frozen_for ∙ none)))
     c.append_held.ensures.items c.append_held.ensures.numbers.first c.append_held.ensures.numbers.limit in
     let held = c.held-held.ensures in
@@ -27,24 +29,22 @@ invariant_of-self c =
       journal_is = same_journal base c.append_held.new.self c.release.new.self c.self.inside.memory None c.self.inside.last (ap (λ (k : Kept). k.first) c.release.ensures) items
           (ap (λ (k : Kept). k.limit) c.release.ensures) journal;
       held = free ∙ ap (λ r. held_for None r None) (sym gone) ∙ ap (held_for None c.cancel.new.self.running) (sym may.closed);
-      outs_are = record {
-        are = rests_cancelled _ c.self.invariant may.rests ∙ ap (λ r. out_of_running r ∷ None ∷ out_of_opener c.self.inside.opener ∷ []) (sym gone);
-        within = c.self.invariant.outs_are.within;
-      };
+      outs_are = rests_cancelled _ c.cancel.new.self.running c.self.invariant may.closed may.rests gone;
       opening = c.self.invariant.opening;
       numbers_are = subst (λ all. AreNumbers base all None c.self.inside.last c.self.inside.numbers) (sym (items ∙ c.append_held.ensures.items))
           (cancelled_numbers base c.self.inside.journal.items c.self.inside.pending c.self.inside.last c.self.inside.numbers c.self.invariant.numbers_are);
-      counted = counted_released c.self.inside.numbers c.self.inside.catalog c.release-2.new.self c.self.inside.numbers.serial
-          (record { released = c.release-2.ensures.released; nothing = c.release-2.ensures.nothing }) c.self.invariant.counted;
+      counted = counted_released c.self.inside.numbers c.self.inside.catalog c.release_place.new.catalog (serial_of c.self.inside.dumper.running) released c.self.invariant.counted;
       rests = λ none stands. refl;
-      work = subst (λ r. IfSome r (IsAtWork base c.release.new.self.items None c.self.inside.standing c.self.inside.phases.items c.release-2.new.self c.self.inside.opener c.self.inside.numbers)) (sym gone) tt;
+      work = subst (λ r. IfSome r (IsAtWork base c.release.new.self.items None c.self.inside.standing c.self.inside.phases.items c.release_place.new.catalog c.self.inside.merger c.self.inside.opener c.self.inside.numbers)) (sym gone) tt;
       little = subst (λ r. IfSome r (HasLittle base c.release.new.self.items c.self.inside.memory)) (sym gone) tt;
+      merging = merges_on _ c.release_place.new.catalog c.cancel.new.self c.self.invariant gone released;
     }
 
 pub returns-clause-keeps : goal.returns-clause-keeps
 returns-clause-keeps c =
     let may = subst MayCancel (sym c.self.view_is) (may_cancel_now c.args.self.now c.requires) in
     let gone = ap (λ (d : Dumping). d.running) c.cancel.ensures in
+    let released = subst (λ own. ReleasesPlace own c.self.inside.catalog c.release_place.new.catalog) c.serial.ensures c.release_place.ensures in
     stays_seen _ _ _ c.self.view_is (record {
       base = refl;
       outs = refl;
@@ -61,8 +61,7 @@ returns-clause-keeps c =
         free = may.rests;
         sure = may.sure;
         merger = refl;
-        images = same_images c.self.inside.catalog c.release-2.new.self c.self.inside.numbers.serial
-            (record { released = c.release-2.ensures.released; nothing = c.release-2.ensures.nothing });
+        images = images_same (serial_of c.self.inside.dumper.running) c.self.inside.catalog c.release_place.new.catalog released;
         grows = refl;
         is = gone;
       }) b;

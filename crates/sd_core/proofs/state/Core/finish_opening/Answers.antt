@@ -11,6 +11,7 @@ use Rattle.sd_belief.specs.View.{CoreView}
 use Rattle.sd_core.specs.Sound.{AreNumbers, IsOpening, held_for, out_of_opener}
 use Rattle.sd_core.proofs.CoreLemmas.{held_idle, held_opening, nobody_is, none_out}
 use Rattle.sd_core.proofs.JournalLemmas.{found_used, reopened_journal, reopened_numbers}
+use Rattle.sd_core.proofs.MergeLemmas.{no_merge, none_merges}
 use Rattle.sd_core.proofs.OpeningLemmas.{ends_refused, starts_anew, step_seen}
 use Rattle.sd_core.proofs.WorkLemmas.{none_closed, none_works}
 use Rattle.sd_core.proofs.state.Core.finish_opening.Goals as goal
@@ -33,8 +34,9 @@ invariant_of-self-2 c =
       journal_is = (reopened_journal c.tracked_laws.ensures base c.self.inside.journal c.append_held.new.self c.self.inside.memory c.self.inside.pending c.self.inside.last c.in-Some-read_by.found
           c.append_held.ensures.items c.append_held.ensures.numbers.first c.append_held.ensures.numbers.limit c.in-Some-read_by.ensures.expected c.self.invariant.journal_is).0;
       held = zero_is ∙ sym (held_idle c.self.inside.dumper.running none) ∙ ap (held_for None c.self.inside.dumper.running) (sym c.take_opener.ensures.left);
-      outs_are = none_out c.self.inside.outs c.in-Some-read_by.opened.phases.items c.self.inside.dumper.running c.take_opener.new.opener none (ap out_of_opener c.take_opener.ensures.left)
-          (nobody_is c.self.inside.outs c.self.inside.phases.items c.self.inside.dumper.running c.self.inside.opener c.self.invariant.outs_are none rests);
+      outs_are = none_out Open c.self.inside.outs c.in-Some-read_by.opened.phases.items c.self.inside.dumper.running c.self.inside.merger c.take_opener.new.opener none
+          (none_merges _ c.self.invariant opening.closed) (ap out_of_opener c.take_opener.ensures.left)
+          (nobody_is _ o c.self.invariant is rests);
       opening = subst (λ x. IfSome x (IsOpening Open c.in-Some-read_by.opened.phases.items)) (sym c.take_opener.ensures.left) tt;
       numbers_are = subst (λ all. AreNumbers base all None c.in-Some-read_by.found c.found.new.self) (sym c.append_held.ensures.items)
           (reopened_numbers base c.self.inside.journal.items c.self.inside.pending c.self.inside.last c.in-Some-read_by.found c.self.inside.numbers c.found.new.self
@@ -43,6 +45,7 @@ invariant_of-self-2 c =
       rests = λ idle stands. refl;
       work = none_works _ c.self.inside.dumper.running none;
       little = none_works _ c.self.inside.dumper.running none;
+      merging = no_merge _ c.self.inside.merger (none_merges _ c.self.invariant opening.closed);
     }
 
 pub returns-in_default-read_by-clause-takes : goal.returns-in_default-read_by-clause-takes
@@ -77,7 +80,7 @@ returns-clause-takes c =
       base = refl;
       items = c.append_held.ensures.items;
       outs = refl;
-      none = nobody_is c.self.inside.outs c.self.inside.phases.items c.self.inside.dumper.running c.self.inside.opener c.self.invariant.outs_are none rests;
+      none = nobody_is _ o c.self.invariant is rests;
       legal = (legal.1, c.tracked_laws.ensures.legal base c.self.inside.journal.items c.self.invariant.journal_is.tracked.marked);
       was = is;
       all = all;
@@ -90,6 +93,6 @@ returns-clause-takes c =
       serials = c.found.ensures.serials;
       grows = refl;
       idle = none;
-      unmerged = refl;
-      outs = nobody_is c.self.inside.outs c.self.inside.phases.items c.self.inside.dumper.running c.self.inside.opener c.self.invariant.outs_are none rests;
+      unmerged = none_merges _ c.self.invariant opening.closed;
+      outs = nobody_is _ o c.self.invariant is rests;
     }))

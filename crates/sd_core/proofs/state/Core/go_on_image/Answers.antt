@@ -1,4 +1,4 @@
-use Rattle.std.proofs.Common.{◌≡◌, ◌+◌, ◌<◌, ◌^◌, if◌then◌else◌, ◌||◌, ◌&&◌, length, Some, None, IfSome, slice_get, slice_set, ◌∷◌, [], refl, sym, ◌∙◌, ap, subst, arith}
+use Rattle.std.proofs.Common.{◌≡◌, ◌+◌, ◌<◌, ◌≤◌, ◌^◌, if◌then◌else◌, ◌||◌, ◌&&◌, length, Some, None, IfSome, slice_get, slice_set, ◌∷◌, [], refl, sym, ◌∙◌, ap, subst, arith}
 use Rattle.sd_areas.specs.Memory.{memory_of}
 use Rattle.std.proofs.lemmas.Option.{same_Some}
 use Rattle.sd_gate.specs.declared.request_id.RequestId.{RequestId}
@@ -11,19 +11,21 @@ use Rattle.sd_journal.specs.declared.mark.Mark.TheVariants.{Table, Visit}
 use Rattle.sd_journal.specs.Marked.{Noted, Told, entries_of}
 use Rattle.sd_rounds.specs.declared.image_step.ImageStep.TheVariants.{TableCall, Visited, Copied}
 use Rattle.sd_pagetable.specs.Contents.{plain_of}
+use Rattle.sd_merge.specs.Merger as merger
+use Rattle.sd_rounds.specs.declared.image_order.ImageOrder.{ImageOrder}
 use Rattle.sd_rounds.specs.Dumper.{is_dumping, is_last, slot_of}
 use Rattle.sd_belief.specs.DumperSteps.{opens_gate}
 use Rattle.sd_core.specs.Dumping.{StepsOn}
 use Rattle.sd_core.specs.Images.{begun_as}
 use Rattle.sd_core.specs.LittleWork.{TakesLittle}
-use Rattle.sd_core.specs.Sound.{AreNumbers, IsImageOf, IsJournal, begun_images, held_for}
+use Rattle.sd_core.specs.Sound.{AreNumbers, IsImageOf, IsJournal, IsMerging, begun_images, due_serials, held_for}
 use Rattle.sd_core.proofs.ImageLemmas.{image_calls, image_frozen, image_table, image_visited, image_copied}
 use Rattle.sd_core.proofs.LittleLemmas.{asks_no_visit, freeze_little, little_of, step_little, visit_more}
 use Rattle.sd_core.proofs.MarkLemmas.{asks_or_writes, before_freeze, freeze_journal, freeze_numbers, frozen_next, may_freeze, sound_image, table_journal, visit_journal}
 use Rattle.sd_core.proofs.OpeningLemmas.{hands_seen, step_seen}
 use Rattle.sd_core.proofs.PreDumpLemmas.{same_stay}
-use Rattle.sd_core.proofs.WorkLemmas.{SameNumbers, asked_on, at_work, core_working, counted_same, grown_core, held_at_work, image_of_work, image_within, numbers_noted, numbers_same, out_at_work, own_order, own_slot, same_numbers, turned}
-use Rattle.sd_core.proofs.StepLemmas.{free_of_none, freezes_it, hands_asked, hands_call, works_on}
+use Rattle.sd_core.proofs.WorkLemmas.{SameNumbers, asked_on, at_work, core_working, counted_same, free_beside, grown_core, held_at_work, image_of_work, image_within, its_serial, merging_turned, numbers_noted, numbers_same, out_at_work, own_order, own_slot, same_numbers, same_places, turned}
+use Rattle.sd_core.proofs.StepLemmas.{freezes_it, hands_asked, hands_call, works_on}
 use Rattle.sd_core.proofs.state.Core.go_on_image.Goals as goal
 
 pub invariant_of-self-in-Copied-1 : goal.invariant_of-self-in-Copied-1
@@ -39,6 +41,11 @@ invariant_of-self-in-Copied-1 c =
     core_working _ _ w.is (turned _ _ w.running w.image w.next core (record {
       was = w.was;
       making = w.making;
+      is = w.is;
+      merger_is = refl;
+      room = refl;
+      serial = ap (λ (o : ImageOrder). o.serial) t.order;
+      places_stay = same_places w.running c.self.inside.catalog;
       base = refl;
       frozen = refl;
       standing = refl;
@@ -50,7 +57,7 @@ invariant_of-self-in-Copied-1 c =
       journal_is = subst (λ m. IsJournal base c.reserve_mark.new.self m c.self.inside.pending c.self.inside.last) (sym w.steps.1) core.journal_is;
       numbers_are = core.numbers_are;
       counted = core.counted;
-      outs = out.1 ∙ ap (λ o. o ∷ None ∷ None ∷ []) (sym t.out_is);
+      outs = out.1 ∙ ap (λ o. o ∷ merger.out_of_merge c.self.inside.merger ∷ None ∷ []) (sym t.out_is);
       slot = λ id is. absurd (let no : None ≡ Some id = sym t.out_is ∙ is in cc);
       stay = same_stay (begun_as w.running) c.self.inside.catalog w.running.opened;
       asked = asked_on w.running w.image w.next _ t.out_is t.slot (own_slot c.self.inside.dumper.since_freeze _ w.running w.image c.sound.ensures.running w.was w.making);
@@ -71,10 +78,16 @@ invariant_of-self-in-Visited-1 c =
     let within = image_within _ c.self.inside.dumper.since_freeze w.running w.image core c.sound.ensures.running w.was w.making in
     let t = image_visited _ _ _ w.image w.next c.self.inside.memory _ _ image w.steps in
     let given = image.given in
-    let items = c.note-in-Visited.ensures.items ∙ ap (λ s. Noted (Visit s c.in-Visited.visit.space c.in-Visited.visit.page) ∷ c.reserve_mark.new.self.items) (sym image.serial) in
+    let its = its_serial _ w.running w.next c.serial.result _ w.is c.serial.ensures c.in-Some.is ∙ ap (λ (o : ImageOrder). o.serial) t.order in
+    let items = c.note-in-Visited.ensures.items ∙ ap (λ s. Noted (Visit s c.in-Visited.visit.space c.in-Visited.visit.page) ∷ c.reserve_mark.new.self.items) its in
     core_working _ _ w.is (turned _ _ w.running w.image w.next core (record {
       was = w.was;
       making = w.making;
+      is = w.is;
+      merger_is = refl;
+      room = refl;
+      serial = ap (λ (o : ImageOrder). o.serial) t.order;
+      places_stay = same_places w.running c.self.inside.catalog;
       base = refl;
       frozen = refl;
       standing = refl;
@@ -87,7 +100,7 @@ invariant_of-self-in-Visited-1 c =
       numbers_are = subst (λ all. AreNumbers base all c.self.inside.pending c.self.inside.last c.self.inside.numbers) (sym items)
           (numbers_noted base c.reserve_mark.new.self.items c.self.inside.pending c.self.inside.last c.self.inside.numbers (Visit w.image.order.serial c.in-Visited.visit.space c.in-Visited.visit.page) (omega (arith, given)) core.numbers_are);
       counted = core.counted;
-      outs = out.1 ∙ ap (λ o. o ∷ None ∷ None ∷ []) (sym t.out_is);
+      outs = out.1 ∙ ap (λ o. o ∷ merger.out_of_merge c.self.inside.merger ∷ None ∷ []) (sym t.out_is);
       slot = λ id is. absurd (let no : None ≡ Some id = sym t.out_is ∙ is in cc);
       stay = same_stay (begun_as w.running) c.self.inside.catalog w.running.opened;
       asked = asked_on w.running w.image w.next _ t.out_is t.slot (own_slot c.self.inside.dumper.since_freeze _ w.running w.image c.sound.ensures.running w.was w.making);
@@ -113,6 +126,11 @@ invariant_of-self-in-Call c =
     core_working _ _ w.is (turned _ _ w.running w.image w.next core (record {
       was = w.was;
       making = w.making;
+      is = w.is;
+      merger_is = refl;
+      room = refl;
+      serial = ap (λ (o : ImageOrder). o.serial) t.order;
+      places_stay = same_places w.running c.self.inside.catalog;
       base = refl;
       frozen = refl;
       standing = refl;
@@ -124,7 +142,7 @@ invariant_of-self-in-Call c =
       journal_is = subst (λ m. IsJournal base c.reserve_mark.new.self m c.self.inside.pending c.self.inside.last) (sym a.same) core.journal_is;
       numbers_are = numbers_same base c.reserve_mark.new.self.items c.self.inside.pending c.self.inside.last c.self.inside.numbers c.tick-in-Call.new.self numbers core.numbers_are;
       counted = counted_same c.self.inside.catalog c.self.inside.numbers c.tick-in-Call.new.self numbers core.counted;
-      outs = c.put_out-in-Call.ensures ∙ ap (λ outs. slice_set outs 0 (Some c.id-in-Call.result)) out.1 ∙ ap (λ o. o ∷ None ∷ None ∷ []) (ap Some c.id-in-Call.ensures ∙ sym t.out_is);
+      outs = c.put_out-in-Call.ensures ∙ ap (λ outs. slice_set outs 0 (Some c.id-in-Call.result)) out.1 ∙ ap (λ o. o ∷ merger.out_of_merge c.self.inside.merger ∷ None ∷ []) (ap Some c.id-in-Call.ensures ∙ sym t.out_is);
       slot = λ id is. subst (λ (i : RequestId). i.slot < length c.self.inside.phases.items) (same_Some c.in-Call.request.id id (sym t.out_is ∙ is)) (subst (λ slot. slot < length c.self.inside.phases.items) (sym t.slot) within);
       stay = same_stay (begun_as w.running) c.self.inside.catalog w.running.opened;
       asked = asked_on w.running w.image w.next _ t.out_is t.slot (own_slot c.self.inside.dumper.since_freeze _ w.running w.image c.sound.ensures.running w.was w.making);
@@ -146,10 +164,16 @@ invariant_of-self-in-TableCall-1 c =
     let numbers : SameNumbers c.self.inside.numbers c.tick.new.self = record { begun = c.tick.ensures.begun; given = c.tick.ensures.given; checkpoint = c.tick.ensures.checkpoint; serial = c.tick.ensures.serial } in
     let t = image_table _ _ _ c.tick.new.self w.image w.next c.self.inside.memory c.in-TableCall.request numbers image w.steps.0 in
     let given = image.given in
-    let items = c.note.ensures.items ∙ ap (λ s. Noted (Table s) ∷ c.reserve_mark.new.self.items) (sym image.serial) in
+    let its = its_serial _ w.running w.next c.serial.result _ w.is c.serial.ensures c.in-Some.is ∙ ap (λ (o : ImageOrder). o.serial) t.order in
+    let items = c.note.ensures.items ∙ ap (λ s. Noted (Table s) ∷ c.reserve_mark.new.self.items) its in
     core_working _ _ w.is (turned _ _ w.running w.image w.next core (record {
       was = w.was;
       making = w.making;
+      is = w.is;
+      merger_is = refl;
+      room = refl;
+      serial = ap (λ (o : ImageOrder). o.serial) t.order;
+      places_stay = same_places w.running c.self.inside.catalog;
       base = refl;
       frozen = refl;
       standing = refl;
@@ -164,7 +188,7 @@ invariant_of-self-in-TableCall-1 c =
           (numbers_same base _ c.self.inside.pending c.self.inside.last c.self.inside.numbers c.tick.new.self numbers
           (numbers_noted base c.reserve_mark.new.self.items c.self.inside.pending c.self.inside.last c.self.inside.numbers (Table w.image.order.serial) (omega (arith, given)) core.numbers_are));
       counted = counted_same c.self.inside.catalog c.self.inside.numbers c.tick.new.self numbers core.counted;
-      outs = c.put_out.ensures ∙ ap (λ outs. slice_set outs 0 (Some c.id.result)) out.1 ∙ ap (λ o. o ∷ None ∷ None ∷ []) (ap Some c.id.ensures ∙ sym t.out_is);
+      outs = c.put_out.ensures ∙ ap (λ outs. slice_set outs 0 (Some c.id.result)) out.1 ∙ ap (λ o. o ∷ merger.out_of_merge c.self.inside.merger ∷ None ∷ []) (ap Some c.id.ensures ∙ sym t.out_is);
       slot = λ id is. subst (λ (i : RequestId). i.slot < length c.self.inside.phases.items) (same_Some c.in-TableCall.request.id id (sym t.out_is ∙ is)) (subst (λ slot. slot < length c.self.inside.phases.items) (sym t.slot) within);
       stay = same_stay (begun_as w.running) c.self.inside.catalog w.running.opened;
       asked = asked_on w.running w.image w.next _ t.out_is t.slot (own_slot c.self.inside.dumper.since_freeze _ w.running w.image c.sound.ensures.running w.was w.making);
@@ -190,12 +214,19 @@ invariant_of-self-in-Frozen-1 c =
     let held = c.append_held.ensures.held in
     let two = held_at_work _ w.running core w.was ∙ ap (λ f. held_for f (Some w.running) None) b.none in
     let next = frozen_next w.image w.next b.kind w.steps.0 in
-    let serials = subst (λ i. c.self.inside.numbers.serial < 2 ^ 63 + begun_images w.running i) w.making work.serials in
+    let serials = subst (λ i. c.self.inside.numbers.serial + due_serials c.self.inside.merger ≤ 2 ^ 63 + begun_images w.running i) w.making work.serials in
     core_working _ _ w.is (record {
       journal_is = subst (λ m. IsJournal base c.append_held.new.self m (Some c.self.inside.numbers.begun) c.self.inside.last) (sym w.steps.1)
           (freeze_journal c.tracked_laws.ensures _ w.running c.append_held.new.self core w.was b.none c.append_held.ensures.items c.append_held.ensures.numbers.first c.append_held.ensures.numbers.limit);
       held = omega (arith, held, two);
-      outs_are = record { are = out.1 ∙ ap (λ o. o ∷ None ∷ None ∷ []) (sym t.out_is); within = core.outs_are.within };
+      outs_are = record {
+        jobs = λ stands. out.1 ∙ ap (λ o. o ∷ merger.out_of_merge c.self.inside.merger ∷ None ∷ []) (sym t.out_is);
+        opening = tt;
+        none = λ closed idle. core.outs_are.none closed work.closed;
+        two = λ idle. core.outs_are.two work.closed;
+        within = core.outs_are.within;
+        apart = core.outs_are.apart;
+      };
       numbers_are = subst (λ all. AreNumbers base all (Some c.self.inside.numbers.begun) c.self.inside.last c.self.inside.numbers) (sym c.append_held.ensures.items)
           (freeze_numbers base c.reserve_mark.new.self.items c.self.inside.last c.self.inside.numbers
           (subst (λ f. AreNumbers base c.reserve_mark.new.self.items f c.self.inside.last c.self.inside.numbers) b.none core.numbers_are));
@@ -218,6 +249,35 @@ invariant_of-self-in-Frozen-1 c =
       little = subst (λ all. TakesLittle base all c.step_on.new.memory w.running.number w.next) (sym c.append_held.ensures.items)
           (subst (λ n. TakesLittle base (Told (Freeze n) ∷ c.reserve_mark.new.self.items) c.step_on.new.memory w.running.number w.next) work.number
           (freeze_little c.little_law.ensures base c.reserve_mark.new.self.items c.self.inside.memory c.step_on.new.memory w.running.number c.self.inside.numbers.ticket w.image w.next w.steps b.kind core.journal_is.tracked));
+      merging = subst (λ r. IfSome c.self.inside.merger (IsMerging c.self.inside.standing c.self.inside.phases.items c.self.inside.catalog c.self.inside.opener c.self.inside.numbers c.self.inside.room r)) w.is
+          (merging_turned _ (record {
+            base = base;
+            journal = c.append_held.new.self;
+            memory = c.step_on.new.memory;
+            frozen = Some c.self.inside.numbers.begun;
+            newest = c.self.inside.last;
+            standing = c.self.inside.standing;
+            phases = c.self.inside.phases.items;
+            outs = c.self.inside.outs;
+            places = c.self.inside.catalog;
+            dumper = c.step_on.new.dumper;
+            merger = c.self.inside.merger;
+            room = c.self.inside.room;
+            opener = c.self.inside.opener;
+            numbers = c.self.inside.numbers;
+          }) w.running w.image w.next core (record {
+            was = w.was;
+            making = w.making;
+            is = w.is;
+            merger_is = refl;
+            room = refl;
+            serial = ap (λ (o : ImageOrder). o.serial) t.order;
+            places_stay = same_places w.running c.self.inside.catalog;
+            standing = refl;
+            opener = refl;
+            count = refl;
+            numbers = same_numbers _;
+          }));
     })
 
 pub returns-in-Copied-clause-takes : goal.returns-in-Copied-clause-takes
@@ -311,7 +371,7 @@ returns-in-TableCall-clause-takes c =
       phases = refl;
       serial = c.tick.ensures.serial;
       free = rests;
-      apart = free_of_none _ c.in-TableCall.request.id.slot out.1;
+      apart = free_beside _ w.running c.in-TableCall.request.id.slot c.self.invariant w.was out.1 (slot ∙ own_slot c.self.inside.dumper.since_freeze _ w.running w.image c.sound.ensures.running w.was w.making);
       outs = c.put_out.ensures ∙ ap (λ id. slice_set c.self.inside.outs 0 (Some id)) c.id.ensures;
       was = w.was;
       making = w.making;
@@ -341,7 +401,7 @@ returns-in-Call-clause-takes c =
       phases = refl;
       serial = c.tick-in-Call.ensures.serial;
       free = rests;
-      apart = free_of_none _ c.in-Call.request.id.slot out.1;
+      apart = free_beside _ w.running c.in-Call.request.id.slot c.self.invariant w.was out.1 (slot ∙ own_slot c.self.inside.dumper.since_freeze _ w.running w.image c.sound.ensures.running w.was w.making);
       outs = c.put_out-in-Call.ensures ∙ ap (λ id. slice_set c.self.inside.outs 0 (Some id)) c.id-in-Call.ensures;
       was = w.was;
       making = w.making;

@@ -1,9 +1,10 @@
-use Rattle.std.proofs.Common.{◌≡◌, ◌↔◌, ◌+◌, ◌^◌, ◌<◌, ◌==◌, ◌∷◌, Contains, [], length, Some, None, IfSome, slice_get, slice_index_or, slice_set, refl, sym, ◌∙◌, ap, subst, arith}
+use Rattle.std.proofs.Common.{◌≡◌, ◌↔◌, ◌+◌, ◌^◌, ◌<◌, ◌≤◌, ◌==◌, ◌∷◌, Contains, [], length, Some, None, IfSome, slice_get, slice_index_or, slice_set, refl, sym, ◌∙◌, ap, subst, arith}
 use Rattle.std.proofs.lemmas.Option.{same_Some, slice_get-get_or}
 use Rattle.sd_areas.specs.Memory.{memory_of}
 use Rattle.sd_chain.specs.Catalog.{Changes, Opened}
 use Rattle.sd_image.specs.declared.run.RunKind.{RunKind}
 use Rattle.sd_image.specs.Shows.{pages_of}
+use Rattle.sd_rounds.specs.declared.image_order.ImageOrder.{ImageOrder}
 use Rattle.sd_rounds.specs.LittleWork.{TookVisited}
 use Rattle.sd_rounds.specs.Pass.{Place}
 use Rattle.sd_gate.specs.declared.phase.Phase.{Phase}
@@ -15,23 +16,45 @@ use Rattle.sd_command.specs.declared.reply.Reply.TheVariants as reply
 use Rattle.sd_journal.specs.declared.entry.Entry.TheVariants.{Acked}
 use Rattle.sd_journal.specs.History.{Base}
 use Rattle.sd_journal.specs.Marked.{Told, entries_of}
-use Rattle.sd_rounds.specs.Dumper.{Hands, HasCounted, after_pre_dump, out_of_running, slot_of}
+use Rattle.sd_rounds.specs.Dumper.{Hands, HasCounted, HasSlot, after_pre_dump, out_of_running, slot_of}
 use Rattle.sd_belief.specs.DumperOutcomes.{IsDumpersOutcome, LeavesCatalog, closes_for_sure}
-use Rattle.sd_belief.specs.OpenerSteps.{nobody}
 use Rattle.sd_belief.specs.View.{CoreView, index}
+use Rattle.sd_belief.specs.declared.standing.Standing.TheVariants.{Open}
+use Rattle.sd_belief.specs.Merges.{IsSpared, MakesOther}
+use Rattle.sd_merge.specs.Merger as merger
 use Rattle.sd_core.specs.Images.{HasImage, HasPreDumps, begun_as}
 use Rattle.sd_core.specs.LittleWork.{HasLittle, visits_of, way_due}
-use Rattle.sd_core.specs.Sound.{AreNumbers, IsAtWork, IsOpening, begun_images, held_for, out_of_opener}
+use Rattle.sd_core.specs.Sound.{AreNumbers, IsAtWork, AreOuts, IsMerging, IsOpening, begun_images, due_serials, held_for}
 use Rattle.sd_core.proofs.CoreLemmas.{after_count}
+use Rattle.sd_core.proofs.EnteredLemmas.{entered_merge, fills_after, left_places}
+use Rattle.sd_core.proofs.FallenLemmas.{fallen_core, free_after, let_go_two}
 use Rattle.sd_core.proofs.ImageLemmas.{image_more}
 use Rattle.sd_core.proofs.LittleLemmas.{dump_ways, freeze_memory, little_of, more_little, round_took, seen_before}
 use Rattle.sd_core.proofs.MarkLemmas.{sound_image}
 use Rattle.sd_core.proofs.OpeningLemmas.{handed_seen}
 use Rattle.sd_core.proofs.OutcomeLemmas.{has_image, acked_journal, acked_numbers, checkpoint_used, counted_opened, dump_pends, handed_dumper, left_counted, left_held, opened_now, pre_dump_pends}
 use Rattle.sd_core.proofs.PreDumpLemmas.{all_pre_dumps, change_stays, few_opened, leave_stays, none_held, pre_dump_entered, pre_dumps_stay}
-use Rattle.sd_core.proofs.StepLemmas.{free_of_none}
-use Rattle.sd_core.proofs.WorkLemmas.{at_work, core_working, held_at_work, held_same, image_of_work, out_at_work, outs_within, own_order, same_numbers, turned}
+use Rattle.sd_core.proofs.WorkLemmas.{at_work, core_working, held_at_work, held_same, image_of_work, merger_within, open_outs, out_at_work, own_order, same_numbers, turned}
 use Rattle.sd_core.proofs.state.Core.hand_in_dumper.Goals as goal
+
+pub invariant_of-self : goal.invariant_of-self
+invariant_of-self c =
+    let made = c.args.outcome in
+    let id = made.request.id in
+    let phases = c.self.inside.phases.items in
+    let own : slice_get c.self.inside.outs 0 ≡ Some (Some id) = ap (λ w. slice_get c.self.inside.outs (index w)) (sym c.requires.dumper)
+    ∙ ap (λ (v : CoreView). slice_get v.outs (index id.worker)) c.self.view_is ∙ c.requires.out in
+    let h = subst (λ p. Hands c.self.inside.dumper made p c.hand_in.new.self) c.in-Failed.is c.hand_in.ensures.hands in
+    let work = at_work _ h.running c.self.invariant h.was in
+    let within = c.self.invariant.outs_are.within 0 id own in
+    let follows : (phase : Phase) → slice_get phases id.slot ≡ Some phase → c.follow_call.new.phases.items ≡ phases_after phases id phase (is_done made.answer) =
+    (λ phase is. c.follow_call.ensures phase (ap (λ (i : RequestId). slice_get phases i.slot) c.id-id.ensures ∙ is)
+    ∙ ap (λ i. phases_after phases i phase c.is_done-done.result) c.id-id.ensures
+    ∙ ap (phases_after phases id phase) (c.is_done-done.ensures ∙ ap is_done c.answer.ensures)) in
+    let count = after_count phases c.follow_call.new.phases.items id (is_done made.answer) within follows in
+    fallen_core _ c.release_unfrozen.new.journal _ _ _ _ _ _ 0 c.self.invariant work.closed c.release_unfrozen.ensures.items c.release_unfrozen.ensures.first c.release_unfrozen.ensures.limit
+    (let_go_two c.self.inside.pending _ h.running c.self.inside.journal _ h.was (c.self.invariant.held ∙ ap (held_for c.self.inside.pending c.self.inside.dumper.running) work.closed) c.release_unfrozen.ensures)
+    refl count c.put_out.ensures (ap (λ d. d.running) h.is) c.cancel.ensures
 
 pub invariant_of-self-in-More : goal.invariant_of-self-in-More
 invariant_of-self-in-More c =
@@ -45,7 +68,7 @@ invariant_of-self-in-More c =
     let work = at_work _ h.running c.self.invariant h.was in
     let out = out_at_work _ h.running (Some id) c.self.invariant h.was own in
     let within = c.self.invariant.outs_are.within 0 id own in
-    let none_now : c.put_out.new.outs ≡ nobody = c.put_out.ensures ∙ ap (λ outs. slice_set outs 0 None) out.1 in
+    let now_out : c.put_out.new.outs ≡ None ∷ merger.out_of_merge c.self.inside.merger ∷ None ∷ [] = c.put_out.ensures ∙ ap (λ outs. slice_set outs 0 None) out.1 in
     let follows : (phase : Phase) → slice_get phases id.slot ≡ Some phase → c.follow_call.new.phases.items ≡ phases_after phases id phase (is_done made.answer) =
     (λ phase is. c.follow_call.ensures phase (ap (λ (i : RequestId). slice_get phases i.slot) c.id-id.ensures ∙ is)
     ∙ ap (λ i. phases_after phases i phase c.is_done-done.result) c.id-id.ensures
@@ -54,9 +77,15 @@ invariant_of-self-in-More c =
     let image = image_of_work _ h.running h.hands.image c.self.invariant h.was h.hands.was in
     let t = image_more c.self.inside.journal.items c.self.inside.catalog c.leave_catalog.new.catalog c.self.inside.numbers h.hands.image h.hands.next made image
     (left_held c.closes_for_sure-closed.result c.id-id.result.slot c.self.inside.catalog c.leave_catalog.new.catalog h.hands.image.order.serial c.leave_catalog.ensures image.held) h.hands.hands in
+    let own_slot_is = ap (λ (i : RequestId). i.slot) c.id-id.ensures ∙ subst (λ o. IfSome o (λ i. i.slot ≡ slot_of h.running)) out.0 work.asked in
     core_working _ _ (ap (λ d. d.running) h.is ∙ ap Some h.hands.is) (turned _ _ h.running h.hands.image h.hands.next c.self.invariant (record {
       was = h.was;
       making = h.hands.was;
+      is = ap (λ d. d.running) h.is ∙ ap Some h.hands.is;
+      merger_is = refl;
+      room = refl;
+      serial = ap (λ (o : ImageOrder). o.serial) t.order;
+      places_stay = left_places h.running c.closes_for_sure-closed.result c.id-id.result.slot c.self.inside.catalog c.leave_catalog.new.catalog c.leave_catalog.ensures own_slot_is;
       base = refl;
       frozen = refl;
       standing = refl;
@@ -68,10 +97,10 @@ invariant_of-self-in-More c =
       journal_is = c.self.invariant.journal_is;
       numbers_are = c.self.invariant.numbers_are;
       counted = left_counted c.closes_for_sure-closed.result c.id-id.result.slot c.self.inside.catalog c.leave_catalog.new.catalog c.self.inside.numbers c.leave_catalog.ensures c.self.invariant.counted;
-      outs = none_now ∙ ap (λ o. o ∷ None ∷ None ∷ []) (sym t.out_is);
+      outs = now_out ∙ ap (λ o. o ∷ merger.out_of_merge c.self.inside.merger ∷ None ∷ []) (sym t.out_is);
       slot = λ other is. absurd (let no : None ≡ Some other = sym t.out_is ∙ is in cc);
       stay = leave_stays h.running c.closes_for_sure-closed.result c.id-id.result.slot c.self.inside.catalog c.leave_catalog.new.catalog c.leave_catalog.ensures
-          (ap (λ (i : RequestId). i.slot) c.id-id.ensures ∙ subst (λ o. IfSome o (λ i. i.slot ≡ slot_of h.running)) out.0 work.asked) (few_opened c.self.inside.dumper.since_freeze _ h.running c.sound.ensures.running h.was) work.apart;
+          own_slot_is (few_opened c.self.inside.dumper.since_freeze _ h.running c.sound.ensures.running h.was) work.apart;
       asked = subst (λ o. IfSome o (λ i. i.slot ≡ slot_of h.running)) (sym t.out_is) tt;
       image_is = t.image_is;
       still = t.still;
@@ -91,7 +120,7 @@ invariant_of-self-in-PreDump c =
     let work = at_work _ h.running c.self.invariant h.was in
     let out = out_at_work _ h.running (Some id) c.self.invariant h.was own in
     let within = c.self.invariant.outs_are.within 0 id own in
-    let none_now : c.put_out.new.outs ≡ nobody = c.put_out.ensures ∙ ap (λ outs. slice_set outs 0 None) out.1 in
+    let now_out : c.put_out.new.outs ≡ None ∷ merger.out_of_merge c.self.inside.merger ∷ None ∷ [] = c.put_out.ensures ∙ ap (λ outs. slice_set outs 0 None) out.1 in
     let follows : (phase : Phase) → slice_get phases id.slot ≡ Some phase → c.follow_call.new.phases.items ≡ phases_after phases id phase (is_done made.answer) =
     (λ phase is. c.follow_call.ensures phase (ap (λ (i : RequestId). slice_get phases i.slot) c.id-id.ensures ∙ is)
     ∙ ap (λ i. phases_after phases i phase c.is_done-done.result) c.id-id.ensures
@@ -105,11 +134,15 @@ invariant_of-self-in-PreDump c =
     let counted = counted_opened c.self.inside.numbers c.self.inside.catalog c.enter_catalog.new.catalog h.hands.0.image.order.serial _ changes
     (checkpoint_used _ c.self.inside.dumper.since_freeze h.running h.hands.0.image opened c.self.invariant c.sound.ensures.running h.was h.hands.0.was now) c.self.invariant.counted in
     let none = pre_dump_pends _ c.self.inside.dumper.since_freeze h.running h.hands.0.image c.self.invariant c.sound.ensures.running h.was h.hands.0.was h.hands.1 in
-    let serials : c.self.inside.numbers.serial < 2 ^ 63 + (h.running.opened + 1) = subst (λ i. c.self.inside.numbers.serial < 2 ^ 63 + begun_images h.running i) h.hands.0.was work.serials in
-    core_working _ _ (ap (λ d. d.running) h.is ∙ ap Some h.hands.2) (record {
+    let serials : c.self.inside.numbers.serial + due_serials c.self.inside.merger ≤ 2 ^ 63 + (h.running.opened + 1) = subst (λ i. c.self.inside.numbers.serial + due_serials c.self.inside.merger ≤ 2 ^ 63 + begun_images h.running i) h.hands.0.was work.serials in
+    let gone = ap (λ d. d.running) h.is ∙ ap Some h.hands.2 in
+    core_working _ _ gone (record {
       journal_is = c.self.invariant.journal_is;
       held = held_at_work _ h.running c.self.invariant h.was ∙ held_same c.self.inside.pending h.running (after_pre_dump h.running opened) None;
-      outs_are = record { are = none_now; within = outs_within c.put_out.new.outs c.follow_call.new.phases.items None none_now (λ other is. absurd (let no : None ≡ Some other = is in cc)) };
+      outs_are = subst (λ st. AreOuts st c.put_out.new.outs c.follow_call.new.phases.items (Some (after_pre_dump h.running opened)) c.self.inside.merger None) (sym work.stands)
+          (open_outs c.put_out.new.outs c.follow_call.new.phases.items (Some (after_pre_dump h.running opened)) c.self.inside.merger None (merger.out_of_merge c.self.inside.merger) now_out refl refl
+          (λ other is. absurd (let no : None ≡ Some other = is in cc)) (λ other is. subst (λ n. other.slot < n) (sym count) (merger_within _ other c.self.invariant work.stands is))
+          (λ other one is at. (let no : None ≡ Some other = is in cc)));
       numbers_are = c.self.invariant.numbers_are;
       counted = counted;
       work = record {
@@ -133,6 +166,37 @@ invariant_of-self-in-PreDump c =
         image = tt;
       };
       little = tt;
+      merging = subst (λ r. IfSome c.self.inside.merger (IsMerging c.self.inside.standing c.follow_call.new.phases.items c.enter_catalog.new.catalog c.self.inside.opener c.self.inside.numbers c.self.inside.room r)) gone
+          (entered_merge _ (record {
+            base = base;
+            journal = c.self.inside.journal;
+            memory = c.self.inside.memory;
+            frozen = c.self.inside.pending;
+            newest = c.self.inside.last;
+            standing = c.self.inside.standing;
+            phases = c.follow_call.new.phases.items;
+            outs = c.put_out.new.outs;
+            places = c.enter_catalog.new.catalog;
+            dumper = c.hand_in.new.self;
+            merger = c.self.inside.merger;
+            room = c.self.inside.room;
+            opener = c.self.inside.opener;
+            numbers = c.self.inside.numbers;
+          }) h.running h.hands.0.image (record { slot = opened.slot; header = opened.header; spaces = opened.table }) c.self.invariant (record {
+            was = h.was;
+            making = h.hands.0.was;
+            merger_is = refl;
+            room = refl;
+            standing = refl;
+            opener = refl;
+            count = count;
+            numbers = refl;
+            held = image.held;
+            changes = changes;
+            has = λ slot has. subst (λ r. HasSlot r slot) gone has;
+            fills = λ slot spared. subst (λ r. IsSpared r slot) (sym gone) (fills_after h.running opened slot spared);
+            other = λ serial. subst (λ r. MakesOther r serial) (sym gone) tt;
+          }));
     })
 
 pub invariant_of-self-in-Dump : goal.invariant_of-self-in-Dump
@@ -147,7 +211,7 @@ invariant_of-self-in-Dump c =
     let work = at_work _ h.running c.self.invariant h.was in
     let out = out_at_work _ h.running (Some id) c.self.invariant h.was own in
     let within = c.self.invariant.outs_are.within 0 id own in
-    let none_now : c.put_out.new.outs ≡ nobody = c.put_out.ensures ∙ ap (λ outs. slice_set outs 0 None) out.1 in
+    let now_out : c.put_out.new.outs ≡ None ∷ merger.out_of_merge c.self.inside.merger ∷ None ∷ [] = c.put_out.ensures ∙ ap (λ outs. slice_set outs 0 None) out.1 in
     let follows : (phase : Phase) → slice_get phases id.slot ≡ Some phase → c.follow_call.new.phases.items ≡ phases_after phases id phase (is_done made.answer) =
     (λ phase is. c.follow_call.ensures phase (ap (λ (i : RequestId). slice_get phases i.slot) c.id-id.ensures ∙ is)
     ∙ ap (λ i. phases_after phases i phase c.is_done-done.result) c.id-id.ensures
@@ -169,17 +233,49 @@ invariant_of-self-in-Dump c =
     record {
       journal_is = acked_journal c.tracked_laws.ensures _ c.append_held.new.self c.self.invariant pends c.append_held.ensures.items c.append_held.ensures.numbers.first c.append_held.ensures.numbers.limit;
       held = free ∙ ap (λ r. held_for None r None) (sym gone) ∙ ap (held_for None c.hand_in.new.self.running) (sym work.closed);
-      outs_are = record {
-        are = none_now ∙ ap (λ r. out_of_running r ∷ None ∷ None ∷ []) (sym gone) ∙ ap (λ o. out_of_running c.hand_in.new.self.running ∷ None ∷ out_of_opener o ∷ []) (sym work.closed);
-        within = outs_within c.put_out.new.outs c.follow_call.new.phases.items None none_now (λ other is. absurd (let no : None ≡ Some other = is in cc));
-      };
+      outs_are = subst (λ st. AreOuts st c.put_out.new.outs c.follow_call.new.phases.items c.hand_in.new.self.running c.self.inside.merger c.self.inside.opener) (sym work.stands)
+          (subst (λ o. AreOuts Open c.put_out.new.outs c.follow_call.new.phases.items c.hand_in.new.self.running c.self.inside.merger o) (sym work.closed)
+          (open_outs c.put_out.new.outs c.follow_call.new.phases.items c.hand_in.new.self.running c.self.inside.merger None (merger.out_of_merge c.self.inside.merger) now_out
+          (ap out_of_running gone) refl
+          (λ other is. absurd (let no : None ≡ Some other = is in cc)) (λ other is. subst (λ n. other.slot < n) (sym count) (merger_within _ other c.self.invariant work.stands is))
+          (λ other one is at. (let no : None ≡ Some other = is in cc))));
       opening = subst (λ o. IfSome o (IsOpening c.self.inside.standing c.follow_call.new.phases.items)) (sym work.closed) tt;
       numbers_are = subst (λ all. AreNumbers base all None (Some c.self.inside.numbers.begun) c.self.inside.numbers) (sym c.append_held.ensures.items)
           (acked_numbers base c.self.inside.journal.items c.self.inside.pending c.self.inside.last c.self.inside.numbers c.self.invariant.numbers_are);
       counted = counted;
       rests = λ none open_. refl;
-      work = subst (λ r. IfSome r (IsAtWork base c.append_held.new.self.items None c.self.inside.standing c.follow_call.new.phases.items c.enter_catalog-in-Dump.new.catalog c.self.inside.opener c.self.inside.numbers)) (sym gone) tt;
+      work = subst (λ r. IfSome r (IsAtWork base c.append_held.new.self.items None c.self.inside.standing c.follow_call.new.phases.items c.enter_catalog-in-Dump.new.catalog c.self.inside.merger c.self.inside.opener c.self.inside.numbers)) (sym gone) tt;
       little = subst (λ r. IfSome r (HasLittle base c.append_held.new.self.items c.self.inside.memory)) (sym gone) tt;
+      merging = entered_merge _ (record {
+        base = base;
+        journal = c.append_held.new.self;
+        memory = c.self.inside.memory;
+        frozen = None;
+        newest = Some c.self.inside.numbers.begun;
+        standing = c.self.inside.standing;
+        phases = c.follow_call.new.phases.items;
+        outs = c.put_out.new.outs;
+        places = c.enter_catalog-in-Dump.new.catalog;
+        dumper = c.hand_in.new.self;
+        merger = c.self.inside.merger;
+        room = c.self.inside.room;
+        opener = c.self.inside.opener;
+        numbers = c.self.inside.numbers;
+      }) h.running h.hands.0.image (record { slot = opened.slot; header = opened.header; spaces = opened.table }) c.self.invariant (record {
+        was = h.was;
+        making = h.hands.0.was;
+        merger_is = refl;
+        room = refl;
+        standing = refl;
+        opener = refl;
+        count = count;
+        numbers = refl;
+        held = image.held;
+        changes = changes;
+        has = λ slot has. absurd (subst (λ r. HasSlot r slot) gone has);
+        fills = λ slot spared. subst (λ r. IsSpared r slot) (sym gone) tt;
+        other = λ serial. subst (λ r. MakesOther r serial) (sym gone) tt;
+      });
     }
 
 pub returns-in-Failed-clause-handed : goal.returns-in-Failed-clause-handed
@@ -194,7 +290,7 @@ returns-in-Failed-clause-handed c =
     let work = at_work _ h.running c.self.invariant h.was in
     let out = out_at_work _ h.running (Some id) c.self.invariant h.was own in
     let within = c.self.invariant.outs_are.within 0 id own in
-    let none_now : c.put_out.new.outs ≡ nobody = c.put_out.ensures ∙ ap (λ outs. slice_set outs 0 None) out.1 in
+    let now_out : c.put_out.new.outs ≡ None ∷ merger.out_of_merge c.self.inside.merger ∷ None ∷ [] = c.put_out.ensures ∙ ap (λ outs. slice_set outs 0 None) out.1 in
     let follows : (phase : Phase) → slice_get phases id.slot ≡ Some phase → c.follow_call.new.phases.items ≡ phases_after phases id phase (is_done made.answer) =
     (λ phase is. c.follow_call.ensures phase (ap (λ (i : RequestId). slice_get phases i.slot) c.id-id.ensures ∙ is)
     ∙ ap (λ i. phases_after phases i phase c.is_done-done.result) c.id-id.ensures
@@ -208,7 +304,7 @@ returns-in-Failed-clause-handed c =
       memory = refl;
       out = own;
       outs = c.put_out.ensures;
-      apart = free_of_none (slice_set c.self.inside.outs 0 None) id.slot (ap (λ outs. slice_set outs 0 None) out.1);
+      apart = free_after _ c.self.inside.outs _ _ _ _ 0 id c.self.invariant.outs_are own;
       phase_is = phase_is;
       phases = follows phase phase_is;
     } in
@@ -232,7 +328,7 @@ returns-in-More-clause-handed c =
     let work = at_work _ h.running c.self.invariant h.was in
     let out = out_at_work _ h.running (Some id) c.self.invariant h.was own in
     let within = c.self.invariant.outs_are.within 0 id own in
-    let none_now : c.put_out.new.outs ≡ nobody = c.put_out.ensures ∙ ap (λ outs. slice_set outs 0 None) out.1 in
+    let now_out : c.put_out.new.outs ≡ None ∷ merger.out_of_merge c.self.inside.merger ∷ None ∷ [] = c.put_out.ensures ∙ ap (λ outs. slice_set outs 0 None) out.1 in
     let follows : (phase : Phase) → slice_get phases id.slot ≡ Some phase → c.follow_call.new.phases.items ≡ phases_after phases id phase (is_done made.answer) =
     (λ phase is. c.follow_call.ensures phase (ap (λ (i : RequestId). slice_get phases i.slot) c.id-id.ensures ∙ is)
     ∙ ap (λ i. phases_after phases i phase c.is_done-done.result) c.id-id.ensures
@@ -251,7 +347,7 @@ returns-in-More-clause-handed c =
       memory = refl;
       out = own;
       outs = c.put_out.ensures;
-      apart = free_of_none (slice_set c.self.inside.outs 0 None) id.slot (ap (λ outs. slice_set outs 0 None) out.1);
+      apart = free_after _ c.self.inside.outs _ _ _ _ 0 id c.self.invariant.outs_are own;
       phase_is = phase_is;
       phases = follows phase phase_is;
     } in
@@ -283,7 +379,7 @@ returns-in-PreDump-clause-handed c =
     let work = at_work _ h.running c.self.invariant h.was in
     let out = out_at_work _ h.running (Some id) c.self.invariant h.was own in
     let within = c.self.invariant.outs_are.within 0 id own in
-    let none_now : c.put_out.new.outs ≡ nobody = c.put_out.ensures ∙ ap (λ outs. slice_set outs 0 None) out.1 in
+    let now_out : c.put_out.new.outs ≡ None ∷ merger.out_of_merge c.self.inside.merger ∷ None ∷ [] = c.put_out.ensures ∙ ap (λ outs. slice_set outs 0 None) out.1 in
     let follows : (phase : Phase) → slice_get phases id.slot ≡ Some phase → c.follow_call.new.phases.items ≡ phases_after phases id phase (is_done made.answer) =
     (λ phase is. c.follow_call.ensures phase (ap (λ (i : RequestId). slice_get phases i.slot) c.id-id.ensures ∙ is)
     ∙ ap (λ i. phases_after phases i phase c.is_done-done.result) c.id-id.ensures
@@ -304,7 +400,7 @@ returns-in-PreDump-clause-handed c =
       memory = refl;
       out = own;
       outs = c.put_out.ensures;
-      apart = free_of_none (slice_set c.self.inside.outs 0 None) id.slot (ap (λ outs. slice_set outs 0 None) out.1);
+      apart = free_after _ c.self.inside.outs _ _ _ _ 0 id c.self.invariant.outs_are own;
       phase_is = phase_is;
       phases = follows phase phase_is;
     } in
@@ -341,7 +437,7 @@ returns-in-Dump-clause-handed c =
     let work = at_work _ h.running c.self.invariant h.was in
     let out = out_at_work _ h.running (Some id) c.self.invariant h.was own in
     let within = c.self.invariant.outs_are.within 0 id own in
-    let none_now : c.put_out.new.outs ≡ nobody = c.put_out.ensures ∙ ap (λ outs. slice_set outs 0 None) out.1 in
+    let now_out : c.put_out.new.outs ≡ None ∷ merger.out_of_merge c.self.inside.merger ∷ None ∷ [] = c.put_out.ensures ∙ ap (λ outs. slice_set outs 0 None) out.1 in
     let follows : (phase : Phase) → slice_get phases id.slot ≡ Some phase → c.follow_call.new.phases.items ≡ phases_after phases id phase (is_done made.answer) =
     (λ phase is. c.follow_call.ensures phase (ap (λ (i : RequestId). slice_get phases i.slot) c.id-id.ensures ∙ is)
     ∙ ap (λ i. phases_after phases i phase c.is_done-done.result) c.id-id.ensures
@@ -362,7 +458,7 @@ returns-in-Dump-clause-handed c =
       memory = refl;
       out = own;
       outs = c.put_out.ensures;
-      apart = free_of_none (slice_set c.self.inside.outs 0 None) id.slot (ap (λ outs. slice_set outs 0 None) out.1);
+      apart = free_after _ c.self.inside.outs _ _ _ _ 0 id c.self.invariant.outs_are own;
       phase_is = phase_is;
       phases = follows phase phase_is;
     } in

@@ -7,7 +7,8 @@ use Rattle.sd_command.specs.declared.reply.Reply.TheVariants as reply
 use Rattle.sd_command.specs.declared.refusal.Refusal.TheVariants.{StoreDown}
 use Rattle.sd_belief.specs.View.{CoreView, index}
 use Rattle.sd_core.specs.Sound.{IsOpening, held_for, out_of_opener}
-use Rattle.sd_core.proofs.CoreLemmas.{alone_is, after_count, closed_by, held_opening, none_out, not_taught, opener_out, set_nobody, taught_opener}
+use Rattle.sd_core.proofs.CoreLemmas.{alone_is, after_count, closed_by, held_opening, none_out, not_taught, set_nobody, taught_opener}
+use Rattle.sd_core.proofs.MergeLemmas.{no_merge, none_merges}
 use Rattle.sd_core.proofs.OpeningLemmas.{handed_failed, handed_on, handed_seen}
 use Rattle.sd_core.proofs.WorkLemmas.{none_closed, none_works}
 use Rattle.sd_core.proofs.state.Core.hand_in_opener.Goals as goal
@@ -18,8 +19,8 @@ invariant_of-self c =
     let own : slice_get c.self.inside.outs 2 ≡ Some (Some id) = ap (λ w. slice_get c.self.inside.outs (index w)) (sym c.requires.opener)
     ∙ ap (λ (v : CoreView). slice_get v.outs (index id.worker)) c.self.view_is ∙ c.requires.out in
     let none = none_closed _ c.self.invariant (closed_by c.self.inside.opener id c.self.inside.standing c.self.inside.phases.items c.self.invariant.opening
-    (opener_out c.self.inside.outs c.self.inside.phases.items c.self.inside.dumper.running c.self.inside.opener id c.self.invariant.outs_are own)) in
-    let alone = alone_is c.self.inside.outs c.self.inside.phases.items c.self.inside.dumper.running c.self.inside.opener id c.self.invariant.outs_are none own in
+    (alone_is _ id c.self.invariant own).0) in
+    let alone = alone_is _ id c.self.invariant own in
     let follows : (phase : Phase) → slice_get c.self.inside.phases.items id.slot ≡ Some phase → c.follow_call.new.phases.items ≡ phases_after c.self.inside.phases.items id phase (is_done c.args.outcome.answer) =
     (λ phase is. c.follow_call.ensures phase (ap (λ (i : RequestId). slice_get c.self.inside.phases.items i.slot) c.id-id.ensures ∙ is)
     ∙ ap (λ i. phases_after c.self.inside.phases.items i phase c.is_done-done.result) c.id-id.ensures
@@ -35,7 +36,8 @@ invariant_of-self c =
       held = c.self.invariant.held ∙ ap (held_for c.self.inside.pending c.self.inside.dumper.running) t.was
           ∙ held_opening c.self.inside.pending c.self.inside.dumper.running t.opener none ∙ sym (held_opening c.self.inside.pending c.self.inside.dumper.running t.next none)
           ∙ ap (held_for c.self.inside.pending c.self.inside.dumper.running) (sym t.is);
-      outs_are = none_out c.put_out.new.outs c.follow_call.new.phases.items c.self.inside.dumper.running c.teach.new.opener none rests none_now;
+      outs_are = none_out c.self.inside.standing c.put_out.new.outs c.follow_call.new.phases.items c.self.inside.dumper.running c.self.inside.merger c.teach.new.opener none
+          (none_merges _ c.self.invariant closed) rests none_now;
       opening = subst (λ x. IfSome x (IsOpening c.self.inside.standing c.follow_call.new.phases.items)) (sym t.is)
           (record { closed = before.closed; slots = t.goes_on.slots ∙ before.slots ∙ sym count });
       numbers_are = c.self.invariant.numbers_are;
@@ -43,6 +45,7 @@ invariant_of-self c =
       rests = c.self.invariant.rests;
       work = none_works _ c.self.inside.dumper.running none;
       little = none_works _ c.self.inside.dumper.running none;
+      merging = no_merge _ c.self.inside.merger (none_merges _ c.self.invariant closed);
     }
 
 pub returns-then-teach-clause-handed : goal.returns-then-teach-clause-handed
@@ -51,8 +54,8 @@ returns-then-teach-clause-handed c =
     let own : slice_get c.self.inside.outs 2 ≡ Some (Some id) = ap (λ w. slice_get c.self.inside.outs (index w)) (sym c.requires.opener)
     ∙ ap (λ (v : CoreView). slice_get v.outs (index id.worker)) c.self.view_is ∙ c.requires.out in
     let none = none_closed _ c.self.invariant (closed_by c.self.inside.opener id c.self.inside.standing c.self.inside.phases.items c.self.invariant.opening
-    (opener_out c.self.inside.outs c.self.inside.phases.items c.self.inside.dumper.running c.self.inside.opener id c.self.invariant.outs_are own)) in
-    let alone = alone_is c.self.inside.outs c.self.inside.phases.items c.self.inside.dumper.running c.self.inside.opener id c.self.invariant.outs_are none own in
+    (alone_is _ id c.self.invariant own).0) in
+    let alone = alone_is _ id c.self.invariant own in
     let follows : (phase : Phase) → slice_get c.self.inside.phases.items id.slot ≡ Some phase → c.follow_call.new.phases.items ≡ phases_after c.self.inside.phases.items id phase (is_done c.args.outcome.answer) =
     (λ phase is. c.follow_call.ensures phase (ap (λ (i : RequestId). slice_get c.self.inside.phases.items i.slot) c.id-id.ensures ∙ is)
     ∙ ap (λ i. phases_after c.self.inside.phases.items i phase c.is_done-done.result) c.id-id.ensures
@@ -84,8 +87,8 @@ returns-clause-handed c =
     let own : slice_get c.self.inside.outs 2 ≡ Some (Some id) = ap (λ w. slice_get c.self.inside.outs (index w)) (sym c.requires.opener)
     ∙ ap (λ (v : CoreView). slice_get v.outs (index id.worker)) c.self.view_is ∙ c.requires.out in
     let none = none_closed _ c.self.invariant (closed_by c.self.inside.opener id c.self.inside.standing c.self.inside.phases.items c.self.invariant.opening
-    (opener_out c.self.inside.outs c.self.inside.phases.items c.self.inside.dumper.running c.self.inside.opener id c.self.invariant.outs_are own)) in
-    let alone = alone_is c.self.inside.outs c.self.inside.phases.items c.self.inside.dumper.running c.self.inside.opener id c.self.invariant.outs_are none own in
+    (alone_is _ id c.self.invariant own).0) in
+    let alone = alone_is _ id c.self.invariant own in
     let follows : (phase : Phase) → slice_get c.self.inside.phases.items id.slot ≡ Some phase → c.follow_call.new.phases.items ≡ phases_after c.self.inside.phases.items id phase (is_done c.args.outcome.answer) =
     (λ phase is. c.follow_call.ensures phase (ap (λ (i : RequestId). slice_get c.self.inside.phases.items i.slot) c.id-id.ensures ∙ is)
     ∙ ap (λ i. phases_after c.self.inside.phases.items i phase c.is_done-done.result) c.id-id.ensures
@@ -109,4 +112,4 @@ returns-clause-goes_on c as_asked =
     let own : slice_get c.self.inside.outs 2 ≡ Some (Some id) = ap (λ w. slice_get c.self.inside.outs (index w)) (sym c.requires.opener)
     ∙ ap (λ (v : CoreView). slice_get v.outs (index id.worker)) c.self.view_is ∙ c.requires.out in
     absurd (not_taught c.self.inside.opener c.args.outcome c.teach.new.opener c.if-teach.ensures
-    (opener_out c.self.inside.outs c.self.inside.phases.items c.self.inside.dumper.running c.self.inside.opener id c.self.invariant.outs_are own) as_asked)
+    (alone_is _ id c.self.invariant own).0 as_asked)

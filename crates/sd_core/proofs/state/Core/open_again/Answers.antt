@@ -5,6 +5,7 @@ use Rattle.sd_core.specs.Opening.{HoldsForOpening}
 use Rattle.sd_core.specs.Sound.{AreNumbers, IsOpening, held_for, out_of_opener}
 use Rattle.sd_core.proofs.CoreLemmas.{none_out}
 use Rattle.sd_core.proofs.JournalLemmas.{same_journal}
+use Rattle.sd_core.proofs.MergeLemmas.{no_merge, none_merges}
 use Rattle.sd_core.proofs.OpeningLemmas.{given_count, held_opened, stays_reopened, stays_seen}
 use Rattle.sd_core.proofs.RefusalLemmas.{MayReopen, may_reopen, nobody_rests}
 use Rattle.sd_core.proofs.WorkLemmas.{none_closed, none_works}
@@ -25,7 +26,8 @@ invariant_of-self-2 c =
       journal_is = same_journal base c.self.inside.journal c.fresh_opener.new.journal c.self.inside.memory c.self.inside.pending c.self.inside.last held.first held.items held.limit inside.journal_is;
       held = held_opened c.self.inside.pending c.self.inside.dumper.running c.self.inside.opener opener c.self.inside.journal.held c.fresh_opener.new.journal.held held.held inside.held none may.none
           ∙ ap (held_for c.self.inside.pending c.self.inside.dumper.running) (sym is);
-      outs_are = none_out c.self.inside.outs c.give_up_all.new.phases.items c.self.inside.dumper.running c.put_opener.new.opener none (ap out_of_opener is ∙ ap (λ s. out_of_opener (Some (record opener { stage = s }))) fresh.stage) nobody_out;
+      outs_are = none_out c.self.inside.standing c.self.inside.outs c.give_up_all.new.phases.items c.self.inside.dumper.running c.self.inside.merger c.put_opener.new.opener none
+          (none_merges _ inside may.closed) (ap out_of_opener is ∙ ap (λ s. out_of_opener (Some (record opener { stage = s }))) fresh.stage) nobody_out;
       opening = subst (λ x. IfSome x (IsOpening c.self.inside.standing c.give_up_all.new.phases.items)) (sym is) (record {
         closed = may.closed;
         slots = fresh.count ∙ c.len.ensures ∙ c.self.inside.phases.ok.0 ∙ sym (given_count c.self.inside.phases.items) ∙ sym (ap length c.give_up_all.ensures);
@@ -35,6 +37,7 @@ invariant_of-self-2 c =
       rests = inside.rests;
       work = none_works _ c.self.inside.dumper.running none;
       little = none_works _ c.self.inside.dumper.running none;
+      merging = no_merge _ c.self.inside.merger (none_merges _ inside may.closed);
     }
 
 pub returns-clause-keeps : goal.returns-clause-keeps

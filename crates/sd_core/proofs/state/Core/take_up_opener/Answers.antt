@@ -9,6 +9,7 @@ use Rattle.sd_opener.specs.Looking.{out_of}
 use Rattle.sd_core.specs.Opening.{WorksOpener}
 use Rattle.sd_core.specs.Sound.{IsOpening, held_for, out_of_opener}
 use Rattle.sd_core.proofs.CoreLemmas.{held_opening, nobody_is, one_out, set_alone}
+use Rattle.sd_core.proofs.MergeLemmas.{no_merge, none_merges}
 use Rattle.sd_core.proofs.OpeningLemmas.{decoded, ends_refused, hands_out, hands_seen, step_seen}
 use Rattle.sd_core.proofs.WorkLemmas.{SameNumbers, counted_same, none_closed, none_works, numbers_same}
 use Rattle.sd_core.proofs.state.Core.take_up_opener.Goals as goal
@@ -20,7 +21,7 @@ invariant_of-self-in-Call c =
     let inside = c.self.invariant in
     let opening = subst (λ x. IfSome x (IsOpening c.self.inside.standing c.self.inside.phases.items)) w.was inside.opening in
     let none = none_closed _ inside opening.closed in
-    let nobody_out = nobody_is c.self.inside.outs c.self.inside.phases.items c.self.inside.dumper.running c.self.inside.opener inside.outs_are none (ap out_of_opener w.was ∙ w.rests) in
+    let nobody_out = nobody_is _ w.opener inside w.was (ap out_of_opener w.was ∙ w.rests) in
     let numbers : SameNumbers c.self.inside.numbers c.tick.new.self = record { begun = c.tick.ensures.begun; given = c.tick.ensures.given; checkpoint = c.tick.ensures.checkpoint; serial = c.tick.ensures.serial } in
     let slots = opening.slots in
     let slot = w.moves.slot in
@@ -29,7 +30,7 @@ invariant_of-self-in-Call c =
       journal_is = inside.journal_is;
       held = inside.held ∙ ap (held_for c.self.inside.pending c.self.inside.dumper.running) w.was ∙ held_opening c.self.inside.pending c.self.inside.dumper.running w.opener none
           ∙ sym (held_opening c.self.inside.pending c.self.inside.dumper.running w.next none) ∙ ap (held_for c.self.inside.pending c.self.inside.dumper.running) (sym w.is);
-      outs_are = one_out c.put_out.new.outs c.self.inside.phases.items c.self.inside.dumper.running c.step_opener.new.opener c.in-Call.request.id none (ap out_of_opener w.is ∙ ap out_of w.moves.is ∙ w.moves.gives.out)
+      outs_are = one_out c.self.inside.standing c.put_out.new.outs c.self.inside.phases.items c.self.inside.dumper.running c.self.inside.merger c.step_opener.new.opener w.next c.in-Call.request.id opening.closed w.is (ap out_of_opener w.is ∙ ap out_of w.moves.is ∙ w.moves.gives.out)
           (c.put_out.ensures ∙ set_alone c.self.inside.outs c.id.result nobody_out ∙ ap opener_alone c.id.ensures) (omega (arith, slot, within, slots));
       opening = subst (λ x. IfSome x (IsOpening c.self.inside.standing c.self.inside.phases.items)) (sym w.is) (record { closed = opening.closed; slots = w.slots ∙ opening.slots });
       numbers_are = numbers_same base c.self.inside.journal.items c.self.inside.pending c.self.inside.last c.self.inside.numbers c.tick.new.self numbers inside.numbers_are;
@@ -37,6 +38,7 @@ invariant_of-self-in-Call c =
       rests = inside.rests;
       work = none_works _ c.self.inside.dumper.running none;
       little = none_works _ c.self.inside.dumper.running none;
+      merging = no_merge _ c.self.inside.merger (none_merges _ inside opening.closed);
     }
 
 pub returns-in-Call-clause-takes : goal.returns-in-Call-clause-takes
@@ -45,8 +47,7 @@ returns-in-Call-clause-takes c =
     let opening = subst (λ x. IfSome x (IsOpening c.self.inside.standing c.self.inside.phases.items)) w.was c.self.invariant.opening in
     let closed = opening.closed in
     let slots = opening.slots in
-    let none = nobody_is c.self.inside.outs c.self.inside.phases.items c.self.inside.dumper.running c.self.inside.opener c.self.invariant.outs_are (none_closed _ c.self.invariant closed)
-    (ap out_of_opener w.was ∙ w.rests) in
+    let none = nobody_is _ w.opener c.self.invariant w.was (ap out_of_opener w.was ∙ w.rests) in
     hands_seen its.Opener c.in-Call.request _ _ _ c.self.view_is
     (hands_out c.opener_steps.ensures _ _ w.opener w.next c.self.inside.numbers.ticket c.in-Call.request (record {
       rest = record { closed = closed; base = refl; items = refl; memory = refl; standing = refl; catalog = refl; dumper = refl; numbers = c.tick.ensures.serial; grows = refl; committing = refl };
@@ -63,8 +64,7 @@ pub returns-in-Decoded-clause-takes : goal.returns-in-Decoded-clause-takes
 returns-in-Decoded-clause-takes c =
     let w = subst (λ step. WorksOpener c.self.inside.opener c.self.inside.numbers.ticket step c.step_opener.new.opener) c.in-Decoded.is c.in-Ok.ensures.works in
     let closed = (subst (λ x. IfSome x (IsOpening c.self.inside.standing c.self.inside.phases.items)) w.was c.self.invariant.opening).closed in
-    let none = nobody_is c.self.inside.outs c.self.inside.phases.items c.self.inside.dumper.running c.self.inside.opener c.self.invariant.outs_are (none_closed _ c.self.invariant closed)
-    (ap out_of_opener w.was ∙ w.rests) in
+    let none = nobody_is _ w.opener c.self.invariant w.was (ap out_of_opener w.was ∙ w.rests) in
     step_seen its.Opener reply.Worked _ _ _ c.self.view_is
     (decoded c.opener_steps.ensures _ _ w.opener w.next (record {
       rest = record { closed = closed; base = refl; items = refl; memory = refl; standing = refl; catalog = refl; dumper = refl; numbers = refl; grows = refl; committing = refl };

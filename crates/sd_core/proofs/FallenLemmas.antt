@@ -1,0 +1,92 @@
+-- A call failed: the jobs have ended, and the calls of the others are still out.
+use Rattle.std.proofs.Common.{◌≡◌, ℕ, zero, suc, ◌<◌, List, [], ◌∷◌, length, Option, Some, None, IfSome, slice_get, slice_set, sym, ◌∙◌, ap, subst, arith}
+use Rattle.sd_gate.specs.declared.phase.Phase.{Phase}
+use Rattle.sd_gate.specs.declared.request_id.RequestId.{RequestId}
+use Rattle.sd_merge.specs.Merger as merger
+use Rattle.sd_opener.specs.Looking.{Looking}
+use Rattle.sd_journal.specs.Kept.{Kept}
+use Rattle.sd_rounds.specs.Dumper.{Dumping, Running}
+use Rattle.sd_belief.specs.declared.standing.Standing.{Standing}
+use Rattle.sd_belief.specs.declared.standing.Standing.TheVariants.{NotOpen, Open, Down}
+use Rattle.sd_core.specs.Dumping.{LetsGoOfTwo}
+use Rattle.sd_core.specs.LittleWork.{HasLittle}
+use Rattle.sd_core.specs.Merging.{EndsCheckpoint}
+use Rattle.sd_core.specs.Sound.{AreNumbers, AreOuts, AreTwo, IsAtWork, IsCore, IsMerging, IsOpening, Parts, held_for}
+use Rattle.sd_core.proofs.JournalLemmas.{same_journal}
+
+-- what is out without one worker's was out
+pub less_out : (outs : List (Option RequestId)) (place worker : ℕ) (id : RequestId) → slice_get (slice_set outs place None) worker ≡ Some (Some id)
+    → slice_get outs worker ≡ Some (Some id)
+less_out [] place worker id at = at
+less_out (o ∷ outs) zero zero id at = absurd (let no : Some None ≡ Some (Some id) = at in cc)
+less_out (o ∷ outs) zero (suc worker) id at = at
+less_out (o ∷ outs) (suc place) zero id at = at
+less_out (o ∷ outs) (suc place) (suc worker) id at = less_out outs place worker id at
+
+two_left : (outs : List (Option RequestId)) (place : ℕ) → AreTwo outs → AreTwo (slice_set outs place None)
+two_left outs zero two = record { dumper = None; merger = two.merger; are = ap (λ all. slice_set all 0 None) two.are }
+two_left outs (suc zero) two = record { dumper = two.dumper; merger = None; are = ap (λ all. slice_set all 1 None) two.are }
+two_left outs (suc (suc zero)) two = record { dumper = two.dumper; merger = two.merger; are = ap (λ all. slice_set all 2 None) two.are }
+two_left outs (suc (suc (suc worker))) two = record { dumper = two.dumper; merger = two.merger; are = ap (λ all. slice_set all (suc (suc (suc worker))) None) two.are }
+
+-- in a store that is down
+pub fallen_outs : (stands : Standing) (outs : List (Option RequestId)) (phases new : List Phase) (running now : Option Running) (merge next : Option merger.Running)
+    (opener : Option Looking) (place : ℕ) → AreOuts stands outs phases running merge opener → opener ≡ None → length new ≡ length phases
+    → AreOuts Down (slice_set outs place None) new now next None
+fallen_outs stands outs phases new running now merge next opener place are closed count = record {
+  jobs = λ open_. absurd (let no : Down ≡ Open = open_ in cc);
+  opening = tt;
+  none = λ not_open idle. absurd (let no : Down ≡ NotOpen = not_open in cc);
+  two = λ idle. two_left outs place (are.two closed);
+  within = λ worker id at. subst (λ n. id.slot < n) (sym count) (are.within worker id (less_out outs place worker id at));
+  apart = λ one other a b at its. are.apart one other a b (less_out outs place one a at) (less_out outs place other b its);
+}
+
+-- where one worker's is handed in, none is out on its slot any more
+pub free_after : (stands : Standing) (outs : List (Option RequestId)) (phases : List Phase) (running : Option Running) (merge : Option merger.Running) (opener : Option Looking)
+    (place : ℕ) (id : RequestId) → AreOuts stands outs phases running merge opener → slice_get outs place ≡ Some (Some id)
+    → (worker : ℕ) (other : RequestId) → slice_get (slice_set outs place None) worker ≡ Some (Some other) → other.slot ≡ id.slot → ⊥
+free_after stands outs phases running merge opener place id are own worker other at same =
+    let one = are.apart worker place other id (less_out outs place worker other at) own same in
+    gone outs place other (ap (slice_get (slice_set outs place None)) (sym one) ∙ at)
+  where
+    gone : (outs : List (Option RequestId)) (place : ℕ) (other : RequestId) → slice_get (slice_set outs place None) place ≡ Some (Some other) → ⊥
+    gone [] place other at = (let no : None ≡ Some (Some other) = at in cc)
+    gone (o ∷ outs) zero other at = (let no : Some None ≡ Some (Some other) = at in cc)
+    gone (o ∷ outs) (suc place) other at = gone outs place other at
+
+-- the entries of the checkpoint that ended are let go, but that of a pending one
+pub let_go_two : (frozen : Option ℕ) (running : Option Running) (now : Running) (old new : Kept) → running ≡ Some now → old.held ≡ held_for frozen running None → LetsGoOfTwo frozen old new
+    → new.held ≡ held_for frozen None None
+let_go_two (Some n) running now old new is held goes = goes.held ∙ held
+let_go_two None running now old new is held goes =
+    let before : old.held ≡ 2 = held ∙ ap (λ r. held_for None r None) is in
+    let less = goes.held in
+    omega (arith, before, less)
+
+-- those of the one that ended with the merger's call
+pub let_go_all : (frozen : Option ℕ) (running : Option Running) (old new : Kept) → old.held ≡ held_for frozen running None → EndsCheckpoint running frozen old new → new.held ≡ held_for frozen None None
+let_go_all None None old new held ends = (let less = ends.held in omega (arith, held, less))
+let_go_all (Some n) None old new held ends = (let less = ends.held in omega (arith, held, less))
+let_go_all None (Some running) old new held ends = (let less = ends.held in omega (arith, held, less))
+let_go_all (Some n) (Some running) old new held ends = (let less = ends.held in omega (arith, held, less))
+
+-- a core whose store is down
+pub fallen_core : (core : Parts) (journal : Kept) (stands : Standing) (phases : List Phase) (outs : List (Option RequestId)) (dumper : Dumping) (merge : Option merger.Running) (room place : ℕ)
+    → IsCore core → core.opener ≡ None → journal.items ≡ core.journal.items → journal.first ≡ core.journal.first → journal.limit ≡ core.journal.limit
+    → journal.held ≡ held_for core.frozen None None → stands ≡ Down → length phases ≡ length core.phases → outs ≡ slice_set core.outs place None → dumper.running ≡ None → merge ≡ None
+    → IsCore (record core { journal = journal; standing = stands; phases = phases; outs = outs; dumper = dumper; merger = merge; room = room })
+fallen_core core journal stands phases outs dumper merge room place sound closed items first limit held is_down count are idle none = record {
+  journal_is = same_journal core.base core.journal journal core.memory core.frozen core.newest first items limit sound.journal_is;
+  held = held ∙ ap (λ r. held_for core.frozen r None) (sym idle) ∙ ap (held_for core.frozen dumper.running) (sym closed);
+  outs_are = subst (λ st. AreOuts st outs phases dumper.running merge core.opener) (sym is_down) (subst (λ o. AreOuts Down o phases dumper.running merge core.opener) (sym are)
+      (subst (λ one. AreOuts Down (slice_set core.outs place None) phases dumper.running merge one) (sym closed)
+      (fallen_outs core.standing core.outs core.phases phases core.dumper.running dumper.running core.merger merge core.opener place sound.outs_are closed count)));
+  opening = subst (λ o. IfSome o (IsOpening stands phases)) (sym closed) tt;
+  numbers_are = subst (λ all. AreNumbers core.base all core.frozen core.newest core.numbers) (sym items) sound.numbers_are;
+  counted = sound.counted;
+  rests = λ resting open_. absurd (let no : Down ≡ Open = sym is_down ∙ open_ in cc);
+  work = subst (λ r. IfSome r (IsAtWork core.base journal.items core.frozen stands phases core.places merge core.opener core.numbers)) (sym idle) tt;
+  little = subst (λ r. IfSome r (HasLittle core.base journal.items core.memory)) (sym idle) tt;
+  merging = subst (λ m. IfSome m (IsMerging stands phases core.places core.opener core.numbers room dumper.running)) (sym none) tt;
+}

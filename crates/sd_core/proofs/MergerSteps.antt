@@ -1,0 +1,128 @@
+-- What the steps of a merger leave of its merge.
+use Rattle.std.proofs.Common.{◌≡◌, ◌≢◌, ℕ, List, [], ◌∷◌, Some, None, slice_get, refl, sym, ◌∙◌, ap, subst, arith}
+use Rattle.std.proofs.Math.Nat.{min-le_right}
+use Rattle.std.proofs.lemmas.Option.{same_Some}
+use Rattle.sd_chain.specs.Catalog.{Places}
+use Rattle.sd_gate.specs.declared.call.Call.{Call}
+use Rattle.sd_gate.specs.declared.call.Call.TheVariants.{Read, Sync}
+use Rattle.sd_gate.specs.declared.slot_state.SlotState.{SlotState}
+use Rattle.sd_gate.specs.declared.slot_state.SlotState.TheVariants.{Raw, Closed, Open as OpenSlot, Writing}
+use Rattle.sd_gate.specs.PlanRuns.{AreChanges}
+use Rattle.sd_gate.specs.Plans.{Planned}
+use Rattle.sd_gate.specs.Requests.{Asked}
+use Rattle.sd_gate.specs.Sequences.{Calls, data_place, format_calls}
+use Rattle.sd_merge.specs.declared.copy_order.CopyOrder.{CopyOrder}
+use Rattle.sd_merge.specs.declared.stage.Stage.{Stage}
+use Rattle.sd_merge.specs.declared.stage.Stage.TheVariants.{Format, Pass as PassStage, PageRead, PageWrite, Close}
+use Rattle.sd_merge.specs.Copying.{Asks, Copying, IsOwnPlan, IsReadyFor, IsSoundCopying, StepsRead, StepsTable, WritesPage, begun_copy, out_of, plan_of, with_plan}
+use Rattle.sd_core.specs.Sound.{HasHeader, IsMergedHeader}
+
+-- ---- a request on the slot of the merged image
+
+pub record AsksOwn (copy next : Copying) (request : Asked) : Type 0 where
+  pub order : next.order ≡ copy.order
+  pub slot : request.id.slot ≡ copy.order.slot
+  pub out : out_of next.stage ≡ Some request.id
+
+pub asks_own : (copy next : Copying) (request : Asked) → IsSoundCopying copy → Asks copy request next → AsksOwn copy next request
+asks_own copy next request sound a = record {
+  order = ap (λ (k : Copying). k.order) a.is;
+  slot = own_by copy.stage a.was sound.ready sound.own;
+  out = ap (λ (k : Copying). out_of k.stage) a.is ∙ out_by copy.stage a.was;
+}
+  where
+    on_plan : (p : Planned) → Some p ≡ Some a.plan → p.slot ≡ copy.order.slot → request.id.slot ≡ copy.order.slot
+    on_plan p was own = a.gives.slot ∙ ap (λ (q : Planned). q.slot) (sym (same_Some p a.plan was)) ∙ own
+
+    own_by : (stage : Stage) → plan_of stage ≡ Some a.plan → IsReadyFor copy.entries copy.taking copy.read stage → IsOwnPlan copy.order.slot stage → request.id.slot ≡ copy.order.slot
+    own_by (Format p) was ready own = on_plan p was own
+    own_by PassStage was ready own = absurd (let no : None ≡ Some a.plan = was in cc)
+    own_by (PageRead p) was ready own =
+        absurd (let no : [] ≡ (request.id.call, request.bytes) ∷ a.next.calls = sym ready.2.last ∙ ap (λ (q : Planned). q.calls) (same_Some p a.plan was) ∙ a.gives.next in cc)
+    own_by (PageWrite p) was ready own = on_plan p was own
+    own_by (Close p header tables) was ready own = on_plan p was own
+
+    out_by : (stage : Stage) → plan_of stage ≡ Some a.plan → out_of (with_plan stage a.next) ≡ Some request.id
+    out_by (Format p) was = a.gives.out
+    out_by PassStage was = absurd (let no : None ≡ Some a.plan = was in cc)
+    out_by (PageRead p) was = a.gives.out
+    out_by (PageWrite p) was = a.gives.out
+    out_by (Close p header tables) was = a.gives.out
+
+pub writes_own : (copy next : Copying) (request : Asked) → WritesPage copy request next → AsksOwn copy next request
+writes_own copy next request w = record {
+  order = ap (λ (k : Copying). k.order) w.is;
+  slot = w.gives.slot;
+  out = ap (λ (k : Copying). out_of k.stage) w.is ∙ w.gives.out;
+}
+
+pub tables_own : (places : Places) (copy next : Copying) (request : Asked) → StepsTable places copy request next → AsksOwn copy next request
+tables_own places copy next request t = record {
+  order = ap (λ (k : Copying). k.order) t.writes.is;
+  slot = t.writes.gives.slot;
+  out = ap (λ (k : Copying). out_of k.stage) t.writes.is ∙ t.writes.gives.out;
+}
+
+-- the image that begins is sound
+pub begun_sound : (order : CopyOrder) → IsSoundCopying (begun_copy order)
+begun_sound order = record {
+  few = (let few = min-le_right order.source.pages 65536 in omega (arith, few));
+  ready = (refl, record { taking = refl; read = refl }, record { known = refl; changes = changes order.state; some = λ free. some order.state });
+  own = refl;
+}
+  where
+    changes : (state : SlotState) → AreChanges (format_calls state)
+    changes Raw = (tt, (tt, (tt, tt)))
+    changes Closed = (tt, tt)
+    changes OpenSlot = (tt, (tt, (tt, tt)))
+    changes Writing = (tt, tt)
+
+    some : (state : SlotState) → format_calls state ≢ []
+    some Raw none = cc
+    some Closed none = cc
+    some OpenSlot none = cc
+    some Writing none = cc
+
+-- ---- a read of the source
+
+pub record AsksRead (copy next : Copying) (request : Asked) : Type 0 where
+  pub order : next.order ≡ copy.order
+  pub no_sync : request.id.call ≢ Sync
+  pub out : out_of next.stage ≡ Some request.id
+
+pub reads_source : (places : Places) (copy next : Copying) (request : Asked) → StepsRead places copy request next → AsksRead copy next request
+reads_source places copy next request s = record {
+  order = ap (λ (k : Copying). k.order) s.reads.is;
+  no_sync = λ sync. read_only (s.reads.gives.next) sync;
+  out = ap (λ (k : Copying). out_of k.stage) s.reads.is ∙ s.reads.gives.out;
+}
+  where
+    read_only : (Read (data_place s.place), request.bytes) ∷ [] ≡ (request.id.call, request.bytes) ∷ s.reads.next.calls → request.id.call ≡ Sync → ⊥
+    read_only e sync =
+        let first = same_Some (Read (data_place s.place), request.bytes) (request.id.call, request.bytes) (ap (λ (all : Calls). slice_get all 0) e) in
+        let no : Read (data_place s.place) ≡ Sync = ap (λ (call : Call × List ℕ). call.0) first ∙ sync in
+        cc
+
+-- ---- the header
+
+-- a plan that goes on ends with the same header
+pub asked_header : (order : CopyOrder) (stage : Stage) (next : Planned) → HasHeader order stage → HasHeader order (with_plan stage next)
+asked_header order (Format p) next has = tt
+asked_header order PassStage next has = tt
+asked_header order (PageRead p) next has = tt
+asked_header order (PageWrite p) next has = tt
+asked_header order (Close p header tables) next has = has
+
+-- what the steps leave of it
+pub asks_header : (copy next : Copying) (request : Asked) → Asks copy request next → HasHeader copy.order copy.stage → HasHeader copy.order next.stage
+asks_header copy next request a has = subst (HasHeader copy.order) (sym (ap (λ (k : Copying). k.stage) a.is)) (asked_header copy.order copy.stage a.next has)
+
+pub writes_header : (copy next : Copying) (request : Asked) → WritesPage copy request next → HasHeader copy.order copy.stage → HasHeader copy.order next.stage
+writes_header copy next request w has = subst (HasHeader copy.order) (sym (ap (λ (k : Copying). k.stage) w.is)) tt
+
+pub tables_header : (places : Places) (copy next : Copying) (request : Asked) → StepsTable places copy request next → HasHeader copy.order copy.stage → HasHeader copy.order next.stage
+tables_header places copy next request t has = subst (HasHeader copy.order) (sym (ap (λ (k : Copying). k.stage) t.writes.is)) (subst (IsMergedHeader copy.order) (sym t.writes.numbers)
+    (record { kind = refl; serial = refl; stands = refl; parent = refl; checkpoint = refl }))
+
+pub reads_header : (places : Places) (copy next : Copying) (request : Asked) → StepsRead places copy request next → HasHeader copy.order copy.stage → HasHeader copy.order next.stage
+reads_header places copy next request s has = subst (HasHeader copy.order) (sym (ap (λ (k : Copying). k.stage) s.reads.is)) tt

@@ -1,0 +1,62 @@
+-- Whether a catalog shows a checkpoint, and the serials of its images.
+use Rattle.std.proofs.Common.{◌≡◌, ℕ, zero, suc, ◌≤◌, ◌||◌, Bool, true, false, List, [], ◌∷◌, ◌++◌, length, map, take, slice_get, is_some, Option, Some, None, Bor, refl, sym, ◌∙◌, ap, arith}
+use Rattle.std.specs.List.{list_any}
+use Rattle.std.proofs.lemmas.List.Folds.{list_any_none}
+use Rattle.std.proofs.lemmas.Option.{same_Some, slice_get-get_or}
+use Rattle.sd_chain.specs.Catalog.{IsNewestChoice, Opened, Places, images, serial_of}
+use Rattle.sd_image.specs.declared.header.Kind.{Kind}
+use Rattle.sd_image.specs.declared.header.Kind.TheVariants.{PreDump, Dump, Merged}
+use Rattle.sd_core.specs.Merging.{has_tip, is_restored}
+
+abbrev restored : Opened → Bool
+restored i = is_restored i.header.kind
+
+restored_kind : (kind : Kind) → (kind ≡ PreDump → ⊥) → is_restored kind ≡ true
+restored_kind PreDump other = absurd (other refl)
+restored_kind Dump other = refl
+restored_kind Merged other = refl
+
+not_restored : (kind : Kind) → ((kind ≡ PreDump → ⊥) → ⊥) → is_restored kind ≡ false
+not_restored PreDump not_other = refl
+not_restored Dump not_other = absurd (not_other (λ is. (let no : Dump ≡ PreDump = is in cc)))
+not_restored Merged not_other = absurd (not_other (λ is. (let no : Merged ≡ PreDump = is in cc)))
+
+or_true : (one : Bool) → (one || true) ≡ true
+or_true true = refl
+or_true false = refl
+
+any_at : (all : List Opened) (place : ℕ) (i : Opened) → slice_get all place ≡ Some i → restored i ≡ true → list_any restored all ≡ true
+any_at [] place i at is = absurd (let no : None ≡ Some i = at in cc)
+any_at (x ∷ all) zero i at is = ap (λ b. b || list_any restored all) (ap restored (same_Some x i at) ∙ is)
+any_at (x ∷ all) (suc place) i at is = ap (λ b. restored x || b) (any_at all place i at is) ∙ or_true (restored x)
+
+pub tip_is_some : (places : Places) (chosen : Option (Bor Opened)) → IsNewestChoice (images places) chosen → is_some chosen ≡ has_tip places
+tip_is_some places None none = sym (list_any_none restored (images places) (λ k d within. not_restored _ (none k d within)))
+tip_is_some places (Some tip) is = sym (any_at (images places) is.member.0 tip.now (slice_get-get_or (images places) is.member.0 tip.now is.member.1 ∙ ap Some is.member.2)
+    (restored_kind tip.now.header.kind is.restored))
+
+-- a store with a tip
+pub tip_not_none : (places : Places) → has_tip places ≡ true → (chosen : Option (Bor Opened)) → IsNewestChoice (images places) chosen → chosen ≡ None → ⊥
+tip_not_none places is chosen newest none = (let no : false ≡ true = sym (ap is_some none) ∙ tip_is_some places chosen newest ∙ is in cc)
+
+-- ---- serials
+
+pub serials_are : (all : List (Bor Opened)) → map (λ (i : Bor Opened). i.now.header.serial) all ≡ map serial_of (map (λ i. i.now) all)
+serials_are [] = refl
+serials_are (i ∷ all) = ap (λ rest. i.now.header.serial ∷ rest) (serials_are all)
+
+pub serials_more : (all : List (Bor Opened)) (place : ℕ) (i : Bor Opened) → slice_get all place ≡ Some i
+    → map (λ (i : Bor Opened). i.now.header.serial) (take (suc place) all) ≡ map (λ (i : Bor Opened). i.now.header.serial) (take place all) ++ i.now.header.serial ∷ []
+serials_more [] place i at = absurd (let no : None ≡ Some i = at in cc)
+serials_more (x ∷ all) zero i at = ap (λ (o : Bor Opened). o.now.header.serial ∷ []) (same_Some x i at)
+serials_more (x ∷ all) (suc place) i at = ap (λ rest. x.now.header.serial ∷ rest) (serials_more all place i at)
+
+pub take_all : {X : Type 0} (all : List X) (count : ℕ) → length all ≤ count → take count all ≡ all
+take_all [] zero past = refl
+take_all [] (suc count) past = refl
+take_all (x ∷ all) zero past = absurd (omega (arith, past))
+take_all (x ∷ all) (suc count) past = ap (λ rest. x ∷ rest) (take_all all count (omega (arith, past)))
+
+pub never_some : {X : Type 0} (one : Option X) → ((x : X) → one ≡ Some x → ⊥) → one ≡ None
+never_some None none = refl
+never_some (Some x) none = absurd (none x refl)

@@ -1,0 +1,152 @@
+use Rattle.std.proofs.Common.{◌≡◌, ℕ, ◌+◌, ◌<◌, ◌≤◌, length, Some, None, IsSome, slice_index_or, slice_set, refl, sym, ◌∙◌, ap, subst, arith}
+use Rattle.std.proofs.lemmas.Option.{same_Some, slice_get-get_or}
+use Rattle.sd_areas.specs.Memory.{memory_of}
+use Rattle.sd_chain.specs.Catalog.{Opened, place_of}
+use Rattle.sd_gate.specs.declared.request_id.RequestId.{RequestId}
+use Rattle.sd_gate.specs.declared.worker.Worker.TheVariants as its
+use Rattle.sd_gate.specs.Phases.{state_of}
+use Rattle.sd_journal.specs.History.{Base}
+use Rattle.sd_merge.specs.declared.copy_order.CopyOrder.{CopyOrder}
+use Rattle.sd_merge.specs.Copying.{begun_copy}
+use Rattle.sd_merge.specs.Merger as merger
+use Rattle.sd_merge.specs.Merger.{copying, slot_before, slot_due}
+use Rattle.sd_rounds.specs.Dumper.{HasSlot}
+use Rattle.sd_belief.specs.Calls.{IsFree}
+use Rattle.sd_belief.specs.View.{CoreView}
+use Rattle.sd_core.specs.declared.numbers.Numbers.{Numbers}
+use Rattle.sd_core.specs.Sound.{HasHeader, IsDoing, due_serials}
+use Rattle.sd_core.proofs.BesideLemmas.{core_asks, due_rests, free_asked, merger_works, other_above}
+use Rattle.sd_core.proofs.MarkLemmas.{counted_held, held_place}
+use Rattle.sd_core.proofs.MergerSteps.{asks_header, asks_own, begun_sound}
+use Rattle.sd_core.proofs.OpeningLemmas.{hands_seen}
+use Rattle.sd_core.proofs.OwnLemmas.{makes_in, spared_of}
+use Rattle.sd_core.proofs.WorkLemmas.{at_work, held_more, open_more}
+use Rattle.sd_core.proofs.state.Core.begin_merged.Goals as goal
+
+pub invariant_of-self-2 : goal.invariant_of-self-2
+invariant_of-self-2 c =
+    let old = c.self.inside.numbers in
+    let serial = old.serial + 1 in
+    let w = c.begin_copy-request.ensures.begins in
+    let m = merger_works _ w.merge c.self.invariant w.was in
+    let d = subst (IsDoing c.self.inside.phases.items c.self.inside.catalog old c.self.inside.room c.self.inside.dumper.running w.merge) w.is_due m.doing in
+    let order = merger.order_of w.merge serial c.state.result in
+    let own = asks_own (begun_copy order) w.copy c.begin_copy-request.result (begun_sound order) w.steps.0 in
+    let begun = c.tick.ensures.begun ∙ ap (λ (n : Numbers). n.begun) c.give.ensures in
+    let checkpoint = c.tick.ensures.checkpoint ∙ ap (λ (n : Numbers). n.checkpoint) c.give.ensures in
+    let given = c.tick.ensures.given ∙ ap (λ (n : Numbers). n.given) c.give.ensures in
+    let now = c.tick.ensures.serial ∙ ap (λ (n : Numbers). n.serial) c.give.ensures in
+    let above = c.self.invariant.numbers_are.serials in
+    let own_serial = ap (λ (o : CopyOrder). o.serial) own.order in
+    let counted = m.counted in
+    let out : merger.out_in (copying w.copy) ≡ Some c.begin_copy-request.result.id = own.out in
+    let new_serial : (o : Opened) → place_of c.self.inside.catalog serial ≡ Some (Some o) → ⊥ =
+    (λ o is. let double = c.hold.ensures.double.1 (subst IsSome (sym is) refl) in cc) in
+    core_asks _ c.put_out.new.outs c.hold.new.self c.tick.new.self (record w.merge { doing = copying w.copy }) c.begin_copy-request.new.merger c.begin_copy-request.result.id c.self.invariant
+    m.stands m.closed w.is (due_rests _ w.merge c.self.invariant w.was w.is_due) (c.put_out.ensures ∙ ap (λ id. slice_set c.self.inside.outs 1 (Some id)) c.id.ensures) out
+    (subst (λ s. s < length c.self.inside.phases.items) (sym own.slot) m.within) (spared_of c.self.inside.dumper.running _ (λ has. m.spared (subst (HasSlot c.self.inside.dumper.running) own.slot has)))
+    (record {
+      begun = begun;
+      given = omega (arith, given, above);
+      checkpoint = checkpoint;
+      above = omega (arith, given, now);
+      serials = λ running runs. (let before = (at_work _ running c.self.invariant runs).serials in let due_is = ap due_serials w.was ∙ ap (λ doing. due_serials (Some (record w.merge { doing = doing }))) w.is_due in omega (arith, before, due_is, now));
+      held = λ running image runs making held. held_more c.self.inside.catalog c.hold.new.self serial image.order.serial c.in-Ok.ensures.held held;
+      stay = λ number o at has. open_more c.self.inside.catalog c.hold.new.self serial number o c.in-Ok.ensures.held new_serial at;
+    })
+    (subst (λ n. (s : ℕ) (o : Opened) → place_of c.hold.new.self s ≡ Some (Some o) → o.header.checkpoint ≤ n) (sym checkpoint)
+    (counted_held old c.self.inside.catalog c.hold.new.self serial c.in-Ok.ensures.held c.self.invariant.counted))
+    (record {
+      stands = m.stands;
+      closed = m.closed;
+      within = m.within;
+      spared = m.spared;
+      counted = omega (arith, counted, checkpoint);
+      asks = λ id at. spared_of c.self.inside.dumper.running id.slot
+          (λ has. m.spared (subst (HasSlot c.self.inside.dumper.running) (ap (λ (i : RequestId). i.slot) (sym (same_Some c.begin_copy-request.result.id id (sym out ∙ at))) ∙ own.slot) has));
+      syncs = λ id at sync has. m.spared (subst (HasSlot c.self.inside.dumper.running) (ap (λ (i : RequestId). i.slot) (sym (same_Some c.begin_copy-request.result.id id (sym out ∙ at))) ∙ own.slot) has);
+      doing = (
+        record {
+          header = subst (λ o. HasHeader o w.copy.stage) (sym own.order) (asks_header (begun_copy order) w.copy c.begin_copy-request.result w.steps.0 tt);
+          given = omega (arith, given, own_serial);
+          held = subst (λ s. place_of c.hold.new.self s ≡ Some None) (sym own_serial) (held_place c.self.inside.catalog c.hold.new.self serial c.in-Ok.ensures.held);
+          other = other_above _ w.copy.order.serial c.self.invariant (omega (arith, own_serial, above));
+        },
+        d.1,
+      );
+    })
+
+pub returns-clause-takes : goal.returns-clause-takes
+returns-clause-takes c =
+    let base : Base = record { number = c.self.inside.number; memory = memory_of c.self.inside.base } in
+    let serial = c.self.inside.numbers.serial + 1 in
+    let request = c.begin_copy-request.result in
+    let w = c.begin_copy-request.ensures.begins in
+    let m = merger_works _ w.merge c.self.invariant w.was in
+    let order = merger.order_of w.merge serial c.state.result in
+    let begun = record w.merge { doing = copying (begun_copy order) } in
+    let own = asks_own (begun_copy order) w.copy request (begun_sound order) w.steps.0 in
+    let at : w.merge.slot ≡ c.args.slot = same_Some w.merge.slot c.args.slot (sym (ap (slot_due w.merge) w.is_due) ∙ sym (ap slot_before w.was)
+    ∙ ap (λ (v : CoreView). slot_before v.merger) c.self.view_is ∙ c.requires.next) in
+    let rests = due_rests _ w.merge c.self.invariant w.was w.is_due in
+    let spared = spared_of c.self.inside.dumper.running w.merge.slot m.spared in
+    let free = free_asked _ w.merge.slot c.self.invariant m.stands rests spared in
+    let makes = makes_in c.self.inside.dumper.since_freeze c.self.inside.dumper.running c.sound-2.ensures.running in
+    let phase = slice_index_or c.self.inside.phases.items w.merge.slot c.index.result.now in
+    let mid : CoreView = record {
+      base = base;
+      items = c.self.inside.journal.items;
+      held = c.self.inside.journal.held;
+      limit = c.self.inside.journal.limit;
+      memory = c.self.inside.memory;
+      standing = c.self.inside.standing;
+      phases = c.self.inside.phases.items;
+      outs = c.self.inside.outs;
+      catalog = c.hold.new.self;
+      dumper = c.self.inside.dumper;
+      merger = Some begun;
+      opener = c.self.inside.opener;
+      numbers = record { checkpoint = c.self.inside.numbers.checkpoint; serial = serial; ticket = c.self.inside.numbers.ticket };
+      grows = c.self.inside.grows;
+      committing = c.self.inside.committing;
+    } in
+    let outs = c.put_out.ensures ∙ ap (λ id. slice_set c.self.inside.outs 1 (Some id)) c.id.ensures in
+    hands_seen its.Merger request _ _ _ c.self.view_is (record {
+      free = rests;
+      base = refl;
+      history = refl;
+      phases = refl;
+      outs = outs;
+      whose = w.steps.1.worker;
+      slot = subst (λ s. s < length c.self.inside.phases.items) (sym own.slot) m.within;
+      alone = subst (IsFree c.self.inside.outs) (sym own.slot) free;
+      goes_on = λ asked bodies files believed.
+          c.merger_steps.ensures.asks mid _ begun (begun_copy order) w.copy c.self.inside.numbers.ticket request asked bodies files refl (record {
+            merges = record {
+              rest = record { stands = m.stands; base = refl; history = refl; memory = refl; closed = m.closed; grows = refl; committing = refl; dumper = refl; makes = makes };
+              phases = refl;
+              serial = c.tick.ensures.serial ∙ ap (λ (n : Numbers). n.serial) c.give.ensures;
+              catalog = refl;
+              was = refl;
+              doing = refl;
+              sound = begun_sound order;
+              steps = w.steps;
+              is = w.is;
+            };
+            free = rests;
+            apart = subst (IsFree c.self.inside.outs) (sym own.slot) free;
+            outs = outs;
+          }) (c.merger_steps.ensures.begins_image _ mid w.merge phase asked bodies files (record {
+            rest = record { stands = m.stands; base = refl; history = refl; memory = refl; closed = m.closed; grows = refl; committing = refl; dumper = refl; makes = makes };
+            phases = refl;
+            outs = refl;
+            phase_is = slice_get-get_or c.self.inside.phases.items w.merge.slot c.index.result.now m.within;
+            free = free;
+            serial = refl;
+            held = c.in-Ok.ensures.held;
+            was = w.was;
+            due = w.is_due;
+            is = ap (λ s. Some (record w.merge { doing = copying (begun_copy (merger.order_of w.merge serial s)) }))
+                (c.state.ensures ∙ ap state_of c.index.ensures ∙ ap (λ k. state_of (slice_index_or c.self.inside.phases.items k c.index.result.now)) (sym at));
+          }) believed);
+    })

@@ -1,0 +1,271 @@
+use Rattle.std.proofs.Common.{◌≡◌, Some, slice_get, slice_index_or, refl, sym, ◌∙◌, ap, subst}
+use Rattle.std.proofs.lemmas.Option.{slice_get-get_or}
+use Rattle.sd_gate.specs.declared.phase.Phase.{Phase}
+use Rattle.sd_gate.specs.declared.request_id.RequestId.{RequestId}
+use Rattle.sd_gate.specs.Calls.{is_done}
+use Rattle.sd_gate.specs.Phases.{phases_after}
+use Rattle.sd_command.specs.declared.refusal.Refusal.TheVariants.{StoreDown}
+use Rattle.sd_command.specs.declared.reply.Reply.TheVariants as reply
+use Rattle.sd_journal.specs.Marked.{entries_of}
+use Rattle.sd_merge.specs.Merger.{AreRunning, Hands, HasSoundCopy}
+use Rattle.sd_belief.specs.Calls.{AddsByOutcome}
+use Rattle.sd_belief.specs.DumperOutcomes.{LeavesCatalog, closes_for_sure}
+use Rattle.sd_belief.specs.MergerOutcomes.{IsMergersOutcome}
+use Rattle.sd_belief.specs.View.{CoreView, index}
+use Rattle.sd_core.specs.contracts.state.Core.{the_view}
+use Rattle.sd_core.specs.Merging.{FixesList}
+use Rattle.sd_core.specs.Sound.{held_for}
+use Rattle.sd_core.proofs.BesideLemmas.{merger_works}
+use Rattle.sd_core.proofs.CoreLemmas.{after_count}
+use Rattle.sd_core.proofs.FallenLemmas.{fallen_core, free_after, let_go_all}
+use Rattle.sd_core.proofs.HandedLemmas.{handed_merger, sync_of}
+use Rattle.sd_core.proofs.MergerHands.{IsMore, core_goes_on, handed_on, its_out, list_free, core_merged, ends_list, goes_on_believed, goes_rests, merged_believed}
+use Rattle.sd_core.proofs.OpenedLemmas.{core_opened, opened_believed, opens_beside}
+use Rattle.sd_core.proofs.OpeningLemmas.{handed_seen}
+use Rattle.sd_core.proofs.OwnLemmas.{makes_in}
+use Rattle.sd_core.proofs.state.Core.hand_in_merger.Goals.{in-None, in-Some}
+use Rattle.sd_core.proofs.state.Core.hand_in_merger.Goals as goal
+
+pub invariant_of-self : goal.invariant_of-self
+invariant_of-self c =
+    let made = c.args.outcome in
+    let id = made.request.id in
+    let phases = c.self.inside.phases.items in
+    let own : slice_get c.self.inside.outs 1 ≡ Some (Some id) = ap (λ w. slice_get c.self.inside.outs (index w)) (sym c.requires.merger)
+    ∙ ap (λ (v : CoreView). slice_get v.outs (index id.worker)) c.self.view_is ∙ c.requires.out in
+    let h = subst (λ p. Hands c.self.inside.merger made p c.hand_in-progress.new.self) c.in-Failed.is c.hand_in-progress.ensures in
+    let m = merger_works _ h.running c.self.invariant h.was in
+    let within = c.self.invariant.outs_are.within 1 id own in
+    let follows : (phase : Phase) → slice_get phases id.slot ≡ Some phase → c.follow_call.new.phases.items ≡ phases_after phases id phase (is_done made.answer) =
+    (λ phase is. c.follow_call.ensures phase (ap (λ (i : RequestId). slice_get phases i.slot) c.id-id.ensures ∙ is)
+    ∙ ap (λ i. phases_after phases i phase c.is_done-done.result) c.id-id.ensures
+    ∙ ap (phases_after phases id phase) (c.is_done-done.ensures ∙ ap is_done c.answer.ensures)) in
+    let count = after_count phases c.follow_call.new.phases.items id (is_done made.answer) within follows in
+    let ends = c.end_checkpoint.ensures.journal in
+    fallen_core _ c.end_checkpoint.new.journal _ _ _ _ _ _ 1 c.self.invariant m.closed ends.items ends.first ends.limit
+    (let_go_all c.self.inside.pending c.self.inside.dumper.running c.self.inside.journal _ (c.self.invariant.held ∙ ap (held_for c.self.inside.pending c.self.inside.dumper.running) m.closed) ends)
+    refl count c.put_out.ensures (ap (λ d. d.running) c.end_checkpoint.ensures.dumper) h.is
+
+pub invariant_of-self-in-More : goal.invariant_of-self-in-More
+invariant_of-self-in-More c =
+    let made = c.args.outcome in
+    let id = made.request.id in
+    let phases = c.self.inside.phases.items in
+    let own : slice_get c.self.inside.outs 1 ≡ Some (Some id) = ap (λ w. slice_get c.self.inside.outs (index w)) (sym c.requires.merger)
+    ∙ ap (λ (v : CoreView). slice_get v.outs (index id.worker)) c.self.view_is ∙ c.requires.out in
+    let within = c.self.invariant.outs_are.within 1 id own in
+    let follows : (phase : Phase) → slice_get phases id.slot ≡ Some phase → c.follow_call.new.phases.items ≡ phases_after phases id phase (is_done made.answer) =
+    (λ phase is. c.follow_call.ensures phase (ap (λ (i : RequestId). slice_get phases i.slot) c.id-id.ensures ∙ is)
+    ∙ ap (λ i. phases_after phases i phase c.is_done-done.result) c.id-id.ensures
+    ∙ ap (phases_after phases id phase) (c.is_done-done.ensures ∙ ap is_done c.answer.ensures)) in
+    let count = after_count phases c.follow_call.new.phases.items id (is_done made.answer) within follows in
+    let phase = slice_index_or phases id.slot c.index.result.now in
+    let phase_is = slice_get-get_or phases id.slot c.index.result.now within in
+    let closed = c.closes_for_sure-closed.ensures ∙ ap (λ p. closes_for_sure p c.id-id.result.call) (c.index.ensures ∙ ap (λ (i : RequestId). slice_index_or phases i.slot c.index.result.now) c.id-id.ensures)
+    ∙ ap (λ (i : RequestId). closes_for_sure phase i.call) c.id-id.ensures in
+    let leaves : LeavesCatalog (closes_for_sure phase id.call) id.slot c.self.inside.catalog c.leave_catalog.new.catalog =
+    subst (λ b. LeavesCatalog b id.slot c.self.inside.catalog c.leave_catalog.new.catalog) closed
+    (subst (λ (i : RequestId). LeavesCatalog c.closes_for_sure-closed.result i.slot c.self.inside.catalog c.leave_catalog.new.catalog) c.id-id.ensures c.leave_catalog.ensures) in
+    let more : IsMore c.hand_in-progress.result = c.in-More.is in
+    let h = handed_on c.self.inside.merger made c.hand_in-progress.result c.hand_in-progress.new.self more c.hand_in-progress.ensures in
+    let rests = goes_rests _ c.follow_call.new.phases.items c.leave_catalog.new.catalog h.merge made c.hand_in-progress.result h.doing (closes_for_sure phase id.call) c.self.invariant h.was count leaves more h.hands in
+    core_goes_on _ c.put_out.new.outs c.follow_call.new.phases.items c.leave_catalog.new.catalog h.merge h.doing c.hand_in-progress.new.self id (closes_for_sure phase id.call) c.self.invariant h.was h.is rests count
+    c.put_out.ensures leaves (sync_of phase id.call) (its_out _ h.merge id c.self.invariant h.was own)
+
+pub invariant_of-self-in-Merged : goal.invariant_of-self-in-Merged
+invariant_of-self-in-Merged c =
+    let made = c.args.outcome in
+    let id = made.request.id in
+    let phases = c.self.inside.phases.items in
+    let own : slice_get c.self.inside.outs 1 ≡ Some (Some id) = ap (λ w. slice_get c.self.inside.outs (index w)) (sym c.requires.merger)
+    ∙ ap (λ (v : CoreView). slice_get v.outs (index id.worker)) c.self.view_is ∙ c.requires.out in
+    let within = c.self.invariant.outs_are.within 1 id own in
+    let follows : (phase : Phase) → slice_get phases id.slot ≡ Some phase → c.follow_call.new.phases.items ≡ phases_after phases id phase (is_done made.answer) =
+    (λ phase is. c.follow_call.ensures phase (ap (λ (i : RequestId). slice_get phases i.slot) c.id-id.ensures ∙ is)
+    ∙ ap (λ i. phases_after phases i phase c.is_done-done.result) c.id-id.ensures
+    ∙ ap (phases_after phases id phase) (c.is_done-done.ensures ∙ ap is_done c.answer.ensures)) in
+    let count = after_count phases c.follow_call.new.phases.items id (is_done made.answer) within follows in
+    let phase = slice_index_or phases id.slot c.index.result.now in
+    let phase_is = slice_get-get_or phases id.slot c.index.result.now within in
+    let closed = c.closes_for_sure-closed.ensures ∙ ap (λ p. closes_for_sure p c.id-id.result.call) (c.index.ensures ∙ ap (λ (i : RequestId). slice_index_or phases i.slot c.index.result.now) c.id-id.ensures)
+    ∙ ap (λ (i : RequestId). closes_for_sure phase i.call) c.id-id.ensures in
+    let leaves : LeavesCatalog (closes_for_sure phase id.call) id.slot c.self.inside.catalog c.leave_catalog-in-Merged.new.catalog =
+    subst (λ b. LeavesCatalog b id.slot c.self.inside.catalog c.leave_catalog-in-Merged.new.catalog) closed
+    (subst (λ (i : RequestId). LeavesCatalog c.closes_for_sure-closed.result i.slot c.self.inside.catalog c.leave_catalog-in-Merged.new.catalog) c.id-id.ensures c.leave_catalog-in-Merged.ensures) in
+    let h = subst (λ p. Hands c.self.inside.merger made p c.hand_in-progress.new.self) c.in-Merged.is c.hand_in-progress.ensures in
+    core_merged _ c.put_out.new.outs c.follow_call.new.phases.items c.leave_catalog-in-Merged.new.catalog h.running c.hand_in-progress.new.self id (closes_for_sure phase id.call) c.self.invariant h.was h.is count
+    c.put_out.ensures leaves (sync_of phase id.call) (its_out _ h.running id c.self.invariant h.was own)
+
+pub returns-in-Failed-clause-handed : goal.returns-in-Failed-clause-handed
+returns-in-Failed-clause-handed c =
+    let made = c.args.outcome in
+    let id = made.request.id in
+    let phases = c.self.inside.phases.items in
+    let own : slice_get c.self.inside.outs 1 ≡ Some (Some id) = ap (λ w. slice_get c.self.inside.outs (index w)) (sym c.requires.merger)
+    ∙ ap (λ (v : CoreView). slice_get v.outs (index id.worker)) c.self.view_is ∙ c.requires.out in
+    let within = c.self.invariant.outs_are.within 1 id own in
+    let follows : (phase : Phase) → slice_get phases id.slot ≡ Some phase → c.follow_call.new.phases.items ≡ phases_after phases id phase (is_done made.answer) =
+    (λ phase is. c.follow_call.ensures phase (ap (λ (i : RequestId). slice_get phases i.slot) c.id-id.ensures ∙ is)
+    ∙ ap (λ i. phases_after phases i phase c.is_done-done.result) c.id-id.ensures
+    ∙ ap (phases_after phases id phase) (c.is_done-done.ensures ∙ ap is_done c.answer.ensures)) in
+    let count = after_count phases c.follow_call.new.phases.items id (is_done made.answer) within follows in
+    let phase = slice_index_or phases id.slot c.index.result.now in
+    let phase_is = slice_get-get_or phases id.slot c.index.result.now within in
+    let h = subst (λ p. Hands c.self.inside.merger made p c.hand_in-progress.new.self) c.in-Failed.is c.hand_in-progress.ensures in
+    let m = merger_works _ h.running c.self.invariant h.was in
+    let outcome : IsMergersOutcome _ made phase _ = record {
+      out = own;
+      outs = c.put_out.ensures;
+      apart = free_after _ c.self.inside.outs _ _ _ _ 1 id c.self.invariant.outs_are own;
+      phase_is = phase_is;
+      phases = follows phase phase_is;
+    } in
+    let history = ap entries_of c.end_checkpoint.ensures.journal.items in
+    handed_seen made (reply.Refused StoreDown) _ _ _ c.self.view_is (handed_merger _ _ made phase (reply.Refused StoreDown) outcome refl c.requires.merger count
+    (c.merger_outcomes.ensures.fails _ _ made phase (record { outcome = outcome; base = refl; history = history; closed = m.closed; down = refl; committing = refl })) history)
+
+pub returns-in-More-clause-handed : goal.returns-in-More-clause-handed
+returns-in-More-clause-handed c =
+    let made = c.args.outcome in
+    let id = made.request.id in
+    let phases = c.self.inside.phases.items in
+    let own : slice_get c.self.inside.outs 1 ≡ Some (Some id) = ap (λ w. slice_get c.self.inside.outs (index w)) (sym c.requires.merger)
+    ∙ ap (λ (v : CoreView). slice_get v.outs (index id.worker)) c.self.view_is ∙ c.requires.out in
+    let within = c.self.invariant.outs_are.within 1 id own in
+    let follows : (phase : Phase) → slice_get phases id.slot ≡ Some phase → c.follow_call.new.phases.items ≡ phases_after phases id phase (is_done made.answer) =
+    (λ phase is. c.follow_call.ensures phase (ap (λ (i : RequestId). slice_get phases i.slot) c.id-id.ensures ∙ is)
+    ∙ ap (λ i. phases_after phases i phase c.is_done-done.result) c.id-id.ensures
+    ∙ ap (phases_after phases id phase) (c.is_done-done.ensures ∙ ap is_done c.answer.ensures)) in
+    let count = after_count phases c.follow_call.new.phases.items id (is_done made.answer) within follows in
+    let phase = slice_index_or phases id.slot c.index.result.now in
+    let phase_is = slice_get-get_or phases id.slot c.index.result.now within in
+    let closed = c.closes_for_sure-closed.ensures ∙ ap (λ p. closes_for_sure p c.id-id.result.call) (c.index.ensures ∙ ap (λ (i : RequestId). slice_index_or phases i.slot c.index.result.now) c.id-id.ensures)
+    ∙ ap (λ (i : RequestId). closes_for_sure phase i.call) c.id-id.ensures in
+    let leaves : LeavesCatalog (closes_for_sure phase id.call) id.slot c.self.inside.catalog c.leave_catalog.new.catalog =
+    subst (λ b. LeavesCatalog b id.slot c.self.inside.catalog c.leave_catalog.new.catalog) closed
+    (subst (λ (i : RequestId). LeavesCatalog c.closes_for_sure-closed.result i.slot c.self.inside.catalog c.leave_catalog.new.catalog) c.id-id.ensures c.leave_catalog.ensures) in
+    let more : IsMore c.hand_in-progress.result = c.in-More.is in
+    let h = handed_on c.self.inside.merger made c.hand_in-progress.result c.hand_in-progress.new.self more c.hand_in-progress.ensures in
+    let m = merger_works _ h.merge c.self.invariant h.was in
+    let outcome : IsMergersOutcome _ made phase _ = record {
+      out = own;
+      outs = c.put_out.ensures;
+      apart = free_after _ c.self.inside.outs _ _ _ _ 1 id c.self.invariant.outs_are own;
+      phase_is = phase_is;
+      phases = follows phase phase_is;
+    } in
+    handed_seen made reply.Worked _ _ _ c.self.view_is (handed_merger _ _ made phase reply.Worked outcome refl c.requires.merger count
+    (goes_on_believed _ c.merger_outcomes.ensures _ _ h.merge made phase c.hand_in-progress.result h.doing (record {
+      outcome = outcome;
+      rest = record { stands = m.stands; base = refl; history = refl; memory = refl; closed = m.closed; grows = refl; committing = refl; dumper = refl; makes = makes_in c.self.inside.dumper.since_freeze c.self.inside.dumper.running c.sound-2.ensures.running };
+      serial = refl;
+      catalog = leaves;
+      was = h.was;
+      running = subst AreRunning h.was c.sound.ensures.running;
+      copied = subst HasSoundCopy h.was c.sound.ensures.copy;
+      free = list_free _ h.merge c.self.invariant h.was;
+    }) more h.hands h.is) refl)
+
+pub returns-in-Merged-clause-handed : goal.returns-in-Merged-clause-handed
+returns-in-Merged-clause-handed c =
+    let made = c.args.outcome in
+    let id = made.request.id in
+    let phases = c.self.inside.phases.items in
+    let own : slice_get c.self.inside.outs 1 ≡ Some (Some id) = ap (λ w. slice_get c.self.inside.outs (index w)) (sym c.requires.merger)
+    ∙ ap (λ (v : CoreView). slice_get v.outs (index id.worker)) c.self.view_is ∙ c.requires.out in
+    let within = c.self.invariant.outs_are.within 1 id own in
+    let follows : (phase : Phase) → slice_get phases id.slot ≡ Some phase → c.follow_call.new.phases.items ≡ phases_after phases id phase (is_done made.answer) =
+    (λ phase is. c.follow_call.ensures phase (ap (λ (i : RequestId). slice_get phases i.slot) c.id-id.ensures ∙ is)
+    ∙ ap (λ i. phases_after phases i phase c.is_done-done.result) c.id-id.ensures
+    ∙ ap (phases_after phases id phase) (c.is_done-done.ensures ∙ ap is_done c.answer.ensures)) in
+    let count = after_count phases c.follow_call.new.phases.items id (is_done made.answer) within follows in
+    let phase = slice_index_or phases id.slot c.index.result.now in
+    let phase_is = slice_get-get_or phases id.slot c.index.result.now within in
+    let closed = c.closes_for_sure-closed.ensures ∙ ap (λ p. closes_for_sure p c.id-id.result.call) (c.index.ensures ∙ ap (λ (i : RequestId). slice_index_or phases i.slot c.index.result.now) c.id-id.ensures)
+    ∙ ap (λ (i : RequestId). closes_for_sure phase i.call) c.id-id.ensures in
+    let leaves : LeavesCatalog (closes_for_sure phase id.call) id.slot c.self.inside.catalog c.leave_catalog-in-Merged.new.catalog =
+    subst (λ b. LeavesCatalog b id.slot c.self.inside.catalog c.leave_catalog-in-Merged.new.catalog) closed
+    (subst (λ (i : RequestId). LeavesCatalog c.closes_for_sure-closed.result i.slot c.self.inside.catalog c.leave_catalog-in-Merged.new.catalog) c.id-id.ensures c.leave_catalog-in-Merged.ensures) in
+    let h = subst (λ p. Hands c.self.inside.merger made p c.hand_in-progress.new.self) c.in-Merged.is c.hand_in-progress.ensures in
+    let m = merger_works _ h.running c.self.invariant h.was in
+    let outcome : IsMergersOutcome _ made phase _ = record {
+      out = own;
+      outs = c.put_out.ensures;
+      apart = free_after _ c.self.inside.outs _ _ _ _ 1 id c.self.invariant.outs_are own;
+      phase_is = phase_is;
+      phases = follows phase phase_is;
+    } in
+    handed_seen made (reply.Merged c.in-Merged.serial) _ _ _ c.self.view_is (handed_merger _ _ made phase (reply.Merged c.in-Merged.serial) outcome refl c.requires.merger count
+    (merged_believed _ c.merger_outcomes.ensures _ _ h.running made phase c.in-Merged.serial (record {
+      outcome = outcome;
+      rest = record { stands = m.stands; base = refl; history = refl; memory = refl; closed = m.closed; grows = refl; committing = refl; dumper = refl; makes = makes_in c.self.inside.dumper.since_freeze c.self.inside.dumper.running c.sound-2.ensures.running };
+      serial = refl;
+      catalog = leaves;
+      was = h.was;
+      running = subst AreRunning h.was c.sound.ensures.running;
+      copied = subst HasSoundCopy h.was c.sound.ensures.copy;
+      free = list_free _ h.running c.self.invariant h.was;
+    }) (ends_list h.running made c.in-Merged.serial _ h.hands.hands) h.is) refl)
+
+pub invariant_of-self-in-Opened : goal.invariant_of-self-in-Opened
+invariant_of-self-in-Opened c =
+    let made = c.args.outcome in
+    let id = made.request.id in
+    let phases = c.self.inside.phases.items in
+    let own : slice_get c.self.inside.outs 1 ≡ Some (Some id) = ap (λ w. slice_get c.self.inside.outs (index w)) (sym c.requires.merger)
+    ∙ ap (λ (v : CoreView). slice_get v.outs (index id.worker)) c.self.view_is ∙ c.requires.out in
+    let within = c.self.invariant.outs_are.within 1 id own in
+    let follows : (phase : Phase) → slice_get phases id.slot ≡ Some phase → c.follow_call.new.phases.items ≡ phases_after phases id phase (is_done made.answer) =
+    (λ phase is. c.follow_call.ensures phase (ap (λ (i : RequestId). slice_get phases i.slot) c.id-id.ensures ∙ is)
+    ∙ ap (λ i. phases_after phases i phase c.is_done-done.result) c.id-id.ensures
+    ∙ ap (phases_after phases id phase) (c.is_done-done.ensures ∙ ap is_done c.answer.ensures)) in
+    let count = after_count phases c.follow_call.new.phases.items id (is_done made.answer) within follows in
+    let phase = slice_index_or phases id.slot c.index.result.now in
+    let phase_is = slice_get-get_or phases id.slot c.index.result.now within in
+    let h = subst (λ p. Hands c.self.inside.merger made p c.hand_in-progress.new.self) c.in-Opened.is c.hand_in-progress.ensures in
+    let o = opens_beside _ h.running made c.in-Opened.image h.next.doing c.self.invariant h.was (subst AreRunning h.was c.sound.ensures.running) (subst HasSoundCopy h.was c.sound.ensures.copy) h.hands.hands in
+    core_opened _ c.put_out.new.outs c.follow_call.new.phases.items c.enter_catalog.new.catalog c.take_room-room.new.room h.running made c.in-Opened.image h.next.doing c.hand_in-progress.new.self
+    c.fix_list.new.merger c.fix_list.result c.self.invariant h.was o (h.is ∙ ap Some h.hands.is) c.enter_catalog.ensures count c.put_out.ensures
+    (subst (λ n. FixesList c.enter_catalog.new.catalog c.self.inside.dumper.running c.put_out.new.outs n c.hand_in-progress.new.self c.fix_list.result c.fix_list.new.merger) c.take_room-room.ensures c.fix_list.ensures.fixes)
+
+pub returns-after-fix_list-clause-handed : goal.returns-after-fix_list-clause-handed
+returns-after-fix_list-clause-handed c =
+    let made = c.args.outcome in
+    let id = made.request.id in
+    let phases = c.self.inside.phases.items in
+    let own : slice_get c.self.inside.outs 1 ≡ Some (Some id) = ap (λ w. slice_get c.self.inside.outs (index w)) (sym c.requires.merger)
+    ∙ ap (λ (v : CoreView). slice_get v.outs (index id.worker)) c.self.view_is ∙ c.requires.out in
+    let within = c.self.invariant.outs_are.within 1 id own in
+    let follows : (phase : Phase) → slice_get phases id.slot ≡ Some phase → c.follow_call.new.phases.items ≡ phases_after phases id phase (is_done made.answer) =
+    (λ phase is. c.follow_call.ensures phase (ap (λ (i : RequestId). slice_get phases i.slot) c.id-id.ensures ∙ is)
+    ∙ ap (λ i. phases_after phases i phase c.is_done-done.result) c.id-id.ensures
+    ∙ ap (phases_after phases id phase) (c.is_done-done.ensures ∙ ap is_done c.answer.ensures)) in
+    let count = after_count phases c.follow_call.new.phases.items id (is_done made.answer) within follows in
+    let phase = slice_index_or phases id.slot c.index.result.now in
+    let phase_is = slice_get-get_or phases id.slot c.index.result.now within in
+    let h = subst (λ p. Hands c.self.inside.merger made p c.hand_in-progress.new.self) c.in-Opened.is c.hand_in-progress.ensures in
+    let m = merger_works _ h.running c.self.invariant h.was in
+    let o = opens_beside _ h.running made c.in-Opened.image h.next.doing c.self.invariant h.was (subst AreRunning h.was c.sound.ensures.running) (subst HasSoundCopy h.was c.sound.ensures.copy) h.hands.hands in
+    let outcome : IsMergersOutcome _ made phase _ = record {
+      out = own;
+      outs = c.put_out.ensures;
+      apart = free_after _ c.self.inside.outs _ _ _ _ 1 id c.self.invariant.outs_are own;
+      phase_is = phase_is;
+      phases = follows phase phase_is;
+    } in
+    let believed = opened_believed _ c.merger_outcomes-in-Opened.ensures _ (the_view c.self.inside) _ h.running made phase c.in-Opened.image h.next.doing c.hand_in-progress.new.self c.fix_list.result
+    c.take_room-room.result (record {
+      outcome = outcome;
+      rest = record { stands = m.stands; base = refl; history = refl; memory = refl; closed = m.closed; grows = refl; committing = refl; dumper = refl; makes = makes_in c.self.inside.dumper.since_freeze c.self.inside.dumper.running c.sound-2.ensures.running };
+      serial = refl;
+      old_places = refl;
+      old_running = refl;
+      its_catalog = refl;
+      was = h.was;
+    }) o (h.is ∙ ap Some h.hands.is) c.sound-in-Opened.ensures c.enter_catalog.ensures c.fix_list.ensures.fixes in
+    elim c.match-fix_list.branch [
+      | in-None w ↦ handed_seen made c.match-fix_list.result _ _ _ c.self.view_is (handed_merger _ _ made phase c.match-fix_list.result outcome refl c.requires.merger count believed
+          (subst (λ a. AddsByOutcome id.worker a (entries_of c.self.inside.journal.items) (entries_of c.self.inside.journal.items)) (sym w.result-is) refl))
+      | in-Some w ↦ handed_seen made c.match-fix_list.result _ _ _ c.self.view_is (handed_merger _ _ made phase c.match-fix_list.result outcome refl c.requires.merger count believed
+          (subst (λ a. AddsByOutcome id.worker a (entries_of c.self.inside.journal.items) (entries_of c.self.inside.journal.items)) (sym w.result-is) refl))
+    ]

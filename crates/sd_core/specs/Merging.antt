@@ -1,0 +1,151 @@
+-- The merger of a core: when a merge is refused, how one begins, and what its steps and outcomes are.
+use Rattle.std.specs.Prelude.{◌≡◌, ℕ, ◌+◌, ◌<◌, ◌^◌, Bool, true, false, not, nat_le, is_some, List, [], ◌∷◌, map, Option, Some, None, slice_get}
+use Rattle.std.specs.List.{list_any}
+use Rattle.sd_chain.specs.Catalog.{IsTip, Opened, Places, images, place_of, serial_of}
+use Rattle.sd_command.specs.declared.refusal.Refusal.{Refusal}
+use Rattle.sd_command.specs.declared.refusal.Refusal.TheVariants as refusal
+use Rattle.sd_command.specs.declared.reply.Reply.{Reply}
+use Rattle.sd_command.specs.declared.reply.Reply.TheVariants as reply
+use Rattle.sd_gate.specs.declared.request_id.RequestId.{RequestId}
+use Rattle.sd_gate.specs.declared.slot_state.SlotState.{SlotState}
+use Rattle.sd_gate.specs.Requests.{Asked}
+use Rattle.sd_image.specs.declared.header.Kind.{Kind}
+use Rattle.sd_image.specs.declared.header.Kind.TheVariants.{PreDump, Dump, Merged}
+use Rattle.sd_journal.specs.Kept.{Kept}
+use Rattle.sd_merge.specs.declared.merge_progress.MergeProgress.{MergeProgress}
+use Rattle.sd_merge.specs.declared.merge_progress.MergeProgress.TheVariants as progress
+use Rattle.sd_merge.specs.declared.merge_step.MergeStep.{MergeStep}
+use Rattle.sd_merge.specs.declared.merge_step.MergeStep.TheVariants.{Call}
+use Rattle.sd_merge.specs.declared.retired.Retired.{Retired}
+use Rattle.sd_merge.specs.Copying.{Copying, Steps, begun_copy}
+use Rattle.sd_merge.specs.Merger as merger
+use Rattle.sd_merge.specs.Merger.{CopiesOn, Retires, RetiresOn, Retiring, WorksAt, begun_merge, copying, due, retiring}
+use Rattle.sd_merge.specs.Sources.{source_from}
+use Rattle.sd_rounds.specs.Dumper.{Running}
+use Rattle.sd_belief.specs.Merges.{IsSpared}
+use Rattle.sd_belief.specs.View.{CoreView}
+use Rattle.sd_slots.specs.Taken.{IsListOf}
+use Rattle.sd_core.specs.Beginning.{FreeSlots, first_of, is_down, is_not_open}
+
+-- ---- refusals
+
+-- an image of this kind can be restored
+abbrev pub is_restored : Kind → Bool
+is_restored PreDump = false
+is_restored Dump = true
+is_restored Merged = true
+
+-- the store shows a checkpoint
+abbrev pub has_tip : Places → Bool
+has_tip places = list_any (λ (i : Opened). is_restored i.header.kind) (images places)
+
+-- why a merge can't begin, before its slot is looked for
+abbrev pub merge_refusal : CoreView → Option Refusal
+merge_refusal core = first_of (
+    (is_not_open core.standing, refusal.NotOpen)
+    ∷ (is_down core.standing, refusal.StoreDown)
+    ∷ (is_some core.merger, refusal.Busy)
+    ∷ (not (has_tip core.catalog), refusal.Idle)
+    ∷ (nat_le (2 ^ 63) core.numbers.serial, refusal.NumbersUsed)
+    ∷ [])
+
+-- ---- a merge that has begun
+
+-- It repeats the tip, in the lowest free slot, and knows which images were there.
+pub record Merges (old new : CoreView) : Type 0 where
+  pub tip : Opened
+  pub is_tip : IsTip old.catalog tip
+  pub slots : List ℕ
+  pub free : FreeSlots old slots
+  pub slot : ℕ
+  pub lowest : slice_get slots 0 ≡ Some slot
+  pub is : new.merger ≡ Some (begun_merge (source_from tip) slot (map serial_of (images old.catalog)))
+  pub stands : new.standing ≡ old.standing
+  pub dumper : new.dumper ≡ old.dumper
+
+-- no slot is free
+pub record IsFull (core : CoreView) : Type 0 where
+  pub slots : List ℕ
+  pub free : FreeSlots core slots
+  pub none : slots ≡ []
+
+-- what a merge leaves that none of these refuses
+abbrev pub MergesAs : CoreView → Reply → CoreView → Type 0
+MergesAs old reply.Worked new = Merges old new
+MergesAs old (reply.Refused refusal.NoSlot) new = IsFull old × (new ≡ old)
+MergesAs old (reply.Refused refusal.OutOfMemory) new = new ≡ old
+MergesAs old _ new = ⊥
+
+-- ---- its steps
+
+-- the merged image begins, and asks for the first call of its slot's format
+pub record BeginsCopy (serial : ℕ) (state : SlotState) (ticket : ℕ) (places : Places) (old : Option merger.Running) (request : Asked) (new : Option merger.Running) : Type 0 where
+  pub merge : merger.Running
+  pub was : old ≡ Some merge
+  pub is_due : merge.doing ≡ due
+  pub copy : Copying
+  pub steps : Steps ticket places (begun_copy (merger.order_of merge serial state)) (Call request) copy
+  pub is : new ≡ Some (record merge { doing = copying copy })
+
+-- a step on the merged image, or on one that is being closed
+abbrev pub StepsAt : ℕ → Places → merger.Running → merger.Doing → MergeStep → merger.Doing → Type 0
+StepsAt ticket places merge due made new = ⊥
+StepsAt ticket places merge (copying copy) made new = CopiesOn ticket places copy made new
+StepsAt ticket places merge (merger.opened serial) made new = ⊥
+StepsAt ticket places merge (retiring r) made new = RetiresOn ticket r made new
+
+pub record IsStepOf (ticket : ℕ) (places : Places) (old : Option merger.Running) (made : MergeStep) (new : Option merger.Running) : Type 0 where
+  pub merge : merger.Running
+  pub was : old ≡ Some merge
+  pub doing : merger.Doing
+  pub steps : StepsAt ticket places merge merge.doing made doing
+  pub is : new ≡ Some (record merge { doing = doing })
+
+-- a slot of the store that the running checkpoint doesn't fill
+pub record MayRead (running : Option Running) (count slot : ℕ) : Type 0 where
+  pub within : slot < count
+  pub spared : IsSpared running slot
+
+-- ---- the list of the images to close
+
+abbrev pub retires_as : Option ℕ → MergeProgress
+retires_as None = progress.More
+retires_as (Some serial) = progress.Merged serial
+
+-- the list was fixed; where it is empty the merge has ended
+pub record FixesList (places : Places) (running : Option Running) (outs : List (Option RequestId)) (count : ℕ) (old : Option merger.Running) (ended : Option ℕ) (new : Option merger.Running) : Type 0 where
+  pub list : List Retired
+  pub is : IsListOf places running old outs count list
+  pub retires : Retires old list (retires_as ended) new
+
+-- ---- the merged image
+
+-- the image of this serial is open in a merge's slot: it stands for what the merge repeats, and has no parent
+pub record IsMergedImage (merge : merger.Running) (places : Places) (serial : ℕ) : Type 0 where
+  pub image : Opened
+  pub there : place_of places serial ≡ Some (Some image)
+  pub slot : image.slot ≡ merge.slot
+  pub kind : image.header.kind ≡ Merged
+  pub own : image.header.serial ≡ serial
+  pub stands : image.header.stands_for ≡ merge.source.stands_for
+  pub checkpoint : image.header.checkpoint ≡ merge.source.checkpoint
+  pub parent : image.header.parent ≡ 0
+
+-- a merge ends with its image
+pub record IsMerged (serial : ℕ) (old new : CoreView) : Type 0 where
+  pub merge : merger.Running
+  pub was : old.merger ≡ Some merge
+  pub image : IsMergedImage merge new.catalog serial
+
+-- ---- the entries of a checkpoint that ends with the merge's call
+
+abbrev pub lets_go : Option Running → Option ℕ → ℕ
+lets_go None pending = 0
+lets_go (Some running) None = 2
+lets_go (Some running) (Some n) = 0
+
+pub record EndsCheckpoint (running : Option Running) (pending : Option ℕ) (old new : Kept) : Type 0 where
+  pub first : new.first ≡ old.first
+  pub items : new.items ≡ old.items
+  pub limit : new.limit ≡ old.limit
+  pub held : new.held + lets_go running pending ≡ old.held

@@ -1,0 +1,219 @@
+//! A core's merger: how it begins a merge, and takes it to its end.
+ghost use Rattle.std.specs.Prelude.{◌≡◌, ◌↔◌, ℕ, false, Some, None, IsSome, slice_get};
+ghost use Rattle.sd_command.specs.declared.refusal.Refusal.TheVariants.{StoreDown};
+ghost use Rattle.sd_command.specs.declared.reply.Reply.TheVariants as reply;
+ghost use Rattle.sd_gate.specs.Calls.{is_done};
+ghost use Rattle.sd_gate.specs.declared.worker.Worker.TheVariants as its;
+ghost use Rattle.sd_merge.specs.Merger.{slot_before};
+ghost use Rattle.sd_belief.specs.Calls.{AddsByOrder, HandedIn, IsOut, Stays};
+ghost use Rattle.sd_belief.specs.View.{history_of};
+ghost use Rattle.sd_core.specs.Merging.{IsMerged, MergesAs, merge_refusal};
+ghost use Rattle.sd_core.specs.Refusals.{is_idle, work_refusal};
+ghost use Rattle.sd_core.specs.Starts.{TakesUp};
+ghost use Rattle.sd_core.specs.Working.{Leaves, LeavesByOutcome};
+
+use super::Core;
+use crate::beginning::{first_of, has_tip, is_down, is_not_open};
+use crate::dumping::{closes_for_sure, enter_catalog, leave_catalog};
+use crate::merging::{
+    StepFault, begin_copy, begin_merge, end_checkpoint, fix_list, may_read, serials_in,
+    step_merger, take_room,
+};
+use crate::opening::{follow_call, put_out};
+use crate::taken::Taken;
+use sd_belief::{Standing, core_steps, merge_beginning_law, merger_outcomes, merger_steps};
+use sd_command::{Refusal, Reply};
+use sd_gate::{Outcome, Worker};
+use sd_merge::{MergeProgress, MergeStep, NextImage, Source, left_law};
+use sd_slots::{ListRoom, free_law};
+
+impl Core {
+    /// Why a merge can't begin, before its slot is looked for.
+    pub(super) fn refusal_of_merge(&self) -> Option<Refusal>
+        ensures { result ≡ merge_refusal self.now }
+    {
+        first_of(&[
+            (is_not_open(self.standing), Refusal::NotOpen),
+            (is_down(self.standing), Refusal::StoreDown),
+            (!self.merger.is_idle(), Refusal::Busy),
+            (!has_tip(&self.catalog), Refusal::Idle),
+            (self.numbers.are_serials_used_up(), Refusal::NumbersUsed),
+        ])
+    }
+
+    /// Begins a merge of the tip, in the lowest free slot.
+    ///
+    /// # Errors
+    ///
+    /// `NoSlot`, `OutOfMemory`: as `merge`.
+    pub(super) fn merge_tip(&mut self) -> Reply
+        requires { merge_refusal self.old ≡ None }
+        ensures adds { AddsByOrder result (history_of self.old) (history_of self.new) }
+        ensures keeps { Stays self.old self.new }
+        ensures merges { MergesAs self.old result self.new }
+    {
+        core_steps();
+        merge_beginning_law(&self.catalog);
+        free_law();
+        self.catalog.sound();
+        self.dumper.sound();
+        let Ok(slots) = self.free_slots() else {
+            return Reply::Refused(Refusal::OutOfMemory);
+        };
+        let Some(slot) = slots.first() else {
+            return Reply::Refused(Refusal::NoSlot);
+        };
+        let Ok(before) = serials_in(self.alloc, &self.catalog) else {
+            return Reply::Refused(Refusal::OutOfMemory);
+        };
+        let Ok(room) = ListRoom::for_slots(self.alloc, self.phases.len()) else {
+            return Reply::Refused(Refusal::OutOfMemory);
+        };
+        let Some(tip) = self.catalog.tip() else {
+            unreachable!();
+        };
+        let source = Source::of(tip);
+        self.room = room;
+        begin_merge(&mut self.merger, source, *slot, before);
+        Reply::Worked
+    }
+
+    /// Makes the merger's next step, or hands out its next device call.
+    pub(super) fn take_up_merger(&mut self) -> Taken
+        requires { work_refusal self.old its.Merger ≡ None }
+        ensures takes { TakesUp self.old its.Merger result self.new }
+        ensures leaves { Leaves self.old its.Merger result self.new }
+    {
+        match self.merger.next_slot() {
+            Some(slot) => self.begin_merged(slot),
+            None => self.go_on_merging(),
+        }
+    }
+
+    /// Begins the merged image, which gets the next serial, and hands out the first device call on its slot.
+    ///
+    /// # Errors
+    ///
+    /// `OutOfMemory` where a growth was refused.
+    fn begin_merged(&mut self, slot: usize) -> Taken
+        requires next { slot_before self.old.merger ≡ Some slot }
+        ensures takes { TakesUp self.old its.Merger result self.new }
+        ensures leaves { Leaves self.old its.Merger result self.new }
+    {
+        core_steps();
+        self.merger.sound();
+        self.dumper.sound();
+        let serial = self.numbers.serial + 1;
+        let Ok(()) = self.catalog.hold(serial) else {
+            return Taken::Step(Reply::Refused(Refusal::OutOfMemory));
+        };
+        merger_steps(&self.catalog);
+        let image = NextImage {
+            serial,
+            state: self.phases[slot].state(),
+        };
+        let request = begin_copy(&mut self.merger, &self.catalog, image, self.numbers.ticket);
+        self.numbers.give();
+        self.numbers.tick();
+        put_out(&mut self.outs, Worker::Merger, Some(request.id()));
+        Taken::Call(request)
+    }
+
+    /// Makes the next step of the merge, or hands out its next device call.
+    ///
+    /// # Errors
+    ///
+    /// `OutOfMemory` where a growth was refused. `Damaged` where the source isn't there to be read.
+    fn go_on_merging(&mut self) -> Taken
+        requires begun { slot_before self.old.merger ≡ None }
+        requires runs { IsSome self.old.merger }
+        requires rests { slice_get self.old.outs 1 ≡ Some None }
+        ensures takes { TakesUp self.old its.Merger result self.new }
+        ensures leaves { Leaves self.old its.Merger result self.new }
+    {
+        core_steps();
+        merger_steps(&self.catalog);
+        self.merger.sound();
+        self.dumper.sound();
+        let step = match step_merger(&mut self.merger, &self.catalog, self.numbers.ticket) {
+            Ok(step) => step,
+            Err(StepFault::OutOfMemory) => {
+                return Taken::Step(Reply::Refused(Refusal::OutOfMemory));
+            }
+            Err(StepFault::Lost) => return Taken::Step(Reply::Refused(Refusal::Damaged)),
+        };
+        match step {
+            MergeStep::Zero => Taken::Step(Reply::Worked),
+            MergeStep::Call(request)
+            | MergeStep::PageCall(request)
+            | MergeStep::TableCall(request) => {
+                self.numbers.tick();
+                put_out(&mut self.outs, Worker::Merger, Some(request.id()));
+                Taken::Call(request)
+            }
+            MergeStep::ReadCall(request) => {
+                if !may_read(&self.dumper, self.phases.len(), request.id().slot) {
+                    self.merger.cancel();
+                    return Taken::Step(Reply::Refused(Refusal::Damaged));
+                }
+                self.numbers.tick();
+                put_out(&mut self.outs, Worker::Merger, Some(request.id()));
+                Taken::Call(request)
+            }
+        }
+    }
+
+    /// Takes the outcome of the merger's call.
+    pub(super) fn hand_in_merger(&mut self, outcome: Outcome) -> Reply
+        requires out { IsOut self.old outcome.request.id }
+        requires merger { outcome.request.id.worker ≡ its.Merger }
+        requires runs { is_idle self.old its.Merger ≡ false }
+        ensures handed { HandedIn self.old outcome result self.new }
+        ensures failed { is_done outcome.answer ≡ false ↔ result ≡ reply.Refused StoreDown }
+        ensures leaves { LeavesByOutcome self.old its.Merger result self.new }
+        ensures merged { (serial : ℕ) → result ≡ reply.Merged serial → IsMerged serial self.old self.new }
+    {
+        self.merger.sound();
+        self.dumper.sound();
+        left_law();
+        let id = outcome.id();
+        let done = outcome.answer().is_done();
+        let closed = closes_for_sure(self.phases[id.slot], id.call);
+        follow_call(&mut self.phases, &id, done);
+        put_out(&mut self.outs, Worker::Merger, None);
+        let progress = self.merger.hand_in(outcome);
+        merger_outcomes(&self.catalog);
+        match progress {
+            MergeProgress::Strange => unreachable!(),
+            MergeProgress::Failed => {
+                self.standing = Standing::Down;
+                end_checkpoint(&mut self.dumper, &mut self.journal, self.pending);
+                Reply::Refused(Refusal::StoreDown)
+            }
+            MergeProgress::More | MergeProgress::Closed(_) => {
+                leave_catalog(&mut self.catalog, id.slot, closed);
+                Reply::Worked
+            }
+            MergeProgress::Opened(image) => {
+                enter_catalog(&mut self.catalog, image);
+                merger_outcomes(&self.catalog);
+                self.catalog.sound();
+                let room = take_room(self.alloc, &mut self.room);
+                match fix_list(
+                    &mut self.merger,
+                    room,
+                    &self.catalog,
+                    &self.dumper,
+                    &self.outs,
+                ) {
+                    None => Reply::Worked,
+                    Some(serial) => Reply::Merged(serial),
+                }
+            }
+            MergeProgress::Merged(serial) => {
+                leave_catalog(&mut self.catalog, id.slot, closed);
+                Reply::Merged(serial)
+            }
+        }
+    }
+}

@@ -1,0 +1,105 @@
+//! A core's opener: how it goes on, and takes the store to its opening.
+ghost use Rattle.std.specs.Prelude.{◌≡◌, None, false};
+ghost use Rattle.sd_command.specs.declared.refusal.Refusal.TheVariants.{StoreDown};
+ghost use Rattle.sd_command.specs.declared.reply.Reply.TheVariants as reply;
+ghost use Rattle.sd_gate.specs.Calls.{is_done};
+ghost use Rattle.sd_gate.specs.declared.worker.Worker.TheVariants as its;
+ghost use Rattle.sd_opener.specs.Looking.{IsDoneAsAsked};
+ghost use Rattle.sd_belief.specs.Calls.{HandedIn, IsOut, MakesStep};
+ghost use Rattle.sd_core.specs.Opening.{IsAllRead};
+ghost use Rattle.sd_core.specs.Refusals.{work_refusal};
+ghost use Rattle.sd_core.specs.Starts.{TakesUp};
+ghost use Rattle.sd_core.specs.Working.{Leaves, LeavesByOutcome, LeavesByStep};
+
+use super::Core;
+use crate::opening::{
+    follow_call, let_go, put_out, read_by, release_for_opening, step_opener, take_opener, teach,
+};
+use crate::taken::Taken;
+use sd_belief::{Standing, opener_steps, reopened_law};
+use sd_command::{Refusal, Reply};
+use sd_gate::{Outcome, Worker};
+use sd_journal::{Entry, tracked_laws};
+use sd_opener::{Opened, OpenerStep};
+
+impl Core {
+    /// Makes the opener's next step, or hands out its next device call.
+    pub(super) fn take_up_opener(&mut self) -> Taken
+        requires { work_refusal self.old its.Opener ≡ None }
+        ensures takes { TakesUp self.old its.Opener result self.new }
+        ensures leaves { Leaves self.old its.Opener result self.new }
+    {
+        opener_steps();
+        let Ok(step) = step_opener(&mut self.opener, self.numbers.ticket) else {
+            return Taken::Step(Reply::Refused(Refusal::OutOfMemory));
+        };
+        match step {
+            OpenerStep::Call(request) => {
+                self.numbers.tick();
+                put_out(&mut self.outs, Worker::Opener, Some(request.id()));
+                Taken::Call(request)
+            }
+            OpenerStep::Decoded => Taken::Step(Reply::Worked),
+            OpenerStep::Damaged { .. } => {
+                let_go(&mut self.opener, &mut self.journal, self.pending);
+                Taken::Step(Reply::Refused(Refusal::Damaged))
+            }
+            OpenerStep::AllRead => Taken::Step(self.finish_opening()),
+        }
+    }
+
+    /// Ends the opener, which has read every slot: the store is open.
+    ///
+    /// # Errors
+    ///
+    /// `Damaged` where the store shows neither the last checkpoint nor the pending one.
+    fn finish_opening(&mut self) -> Reply
+        requires { IsAllRead self.old.opener }
+        ensures takes { MakesStep self.old its.Opener result self.new }
+        ensures leaves { LeavesByStep self.old its.Opener result self.new }
+    {
+        reopened_law();
+        opener_steps();
+        tracked_laws();
+        let Some(opener) = take_opener(&mut self.opener) else {
+            unreachable!();
+        };
+        let Some((opened, found)) = read_by(opener, self.last, self.pending) else {
+            release_for_opening(&mut self.journal, self.pending);
+            return Reply::Refused(Refusal::Damaged);
+        };
+        let Opened { catalog, phases } = opened;
+        catalog.sound();
+        self.numbers.found(&catalog);
+        self.journal.append_held(Entry::Reopened(found));
+        self.pending = None;
+        self.last = found;
+        self.standing = Standing::Open;
+        self.catalog = catalog;
+        self.phases = phases;
+        self.grows = false;
+        self.committing = false;
+        Reply::Reopened(found)
+    }
+
+    /// Takes the outcome of the opener's call.
+    pub(super) fn hand_in_opener(&mut self, outcome: Outcome) -> Reply
+        requires out { IsOut self.old outcome.request.id }
+        requires opener { outcome.request.id.worker ≡ its.Opener }
+        ensures handed { HandedIn self.old outcome result self.new }
+        ensures failed { is_done outcome.answer ≡ false → result ≡ reply.Refused StoreDown }
+        ensures goes_on { IsDoneAsAsked outcome → result ≡ reply.Worked }
+        ensures leaves { LeavesByOutcome self.old its.Opener result self.new }
+    {
+        opener_steps();
+        let id = outcome.id();
+        let done = outcome.answer().is_done();
+        follow_call(&mut self.phases, &id, done);
+        put_out(&mut self.outs, Worker::Opener, None);
+        if teach(&mut self.opener, outcome) {
+            return Reply::Worked;
+        }
+        let_go(&mut self.opener, &mut self.journal, self.pending);
+        Reply::Refused(Refusal::StoreDown)
+    }
+}
