@@ -211,7 +211,7 @@ fn run_all<R: Threads + Wait + Clock + Abort + Sync>(
     let Ok((core, mut disk)) = shared.close(&receipts, &[1]) else {
         return Err(Fail::from("not closed"));
     };
-    assert_eq!(rt; audit(&core, &mut disk), Ok(true));
+    assert_eq!(rt; audit(alloc, &core, &mut disk), Ok(true));
     Ok(())
 }
 

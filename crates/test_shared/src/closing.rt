@@ -28,9 +28,9 @@ fn closes(rt: &(impl Abort + Wait), alloc: Global) -> Result<(), Fail> {
     let Ok((core, mut disk)) = shared.close(&mutator.receipts, &[1]) else {
         return Err(Fail::from("not closed"));
     };
-    assert_eq!(rt; audit(&core, &mut disk), Ok(true));
+    assert_eq!(rt; audit(alloc, &core, &mut disk), Ok(true));
     let mut other = MemDisk::new(alloc, 8, 1_000_000, 10_000)?;
-    assert_eq!(rt; audit(&core, &mut other), Ok(false));
+    assert_eq!(rt; audit(alloc, &core, &mut other), Ok(false));
     Ok(())
 }
 
