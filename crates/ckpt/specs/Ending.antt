@@ -3,6 +3,8 @@ use Rattle.std.specs.Prelude.{◌≡◌, ◌⊎◌, ℕ, List, Option, Some, Res
 use Rattle.sd_areas.specs.PlainMemory.{PlainMemory}
 use Rattle.sd_image.specs.Image.{Image}
 use Rattle.sd_image.specs.Shows.{IsStore, Shows}
+use Rattle.sd_mutate.specs.declared.fault.MutateFault.{MutateFault}
+use Rattle.sd_mutate.specs.declared.fault.MutateFault.TheVariants as mutate
 use Rattle.sd_restore.specs.declared.fault.Fault.TheVariants.{EmptyChain, Damaged, Device, OutOfMemory}
 use Rattle.sd_run.specs.declared.stop.Stop.{Stop as RunStop}
 use Rattle.sd_run.specs.declared.stop.Stop.TheVariants as run
@@ -21,6 +23,8 @@ status_of (stop.Store _) = 1
 status_of (stop.ScriptLine _) = 2
 status_of stop.CannotReadScript = 1
 status_of stop.CannotOpenFolder = 1
+status_of stop.NotEmpty = 1
+status_of (stop.Order _) = 1
 status_of stop.Refused = 1
 status_of (stop.Writer _) = 1
 
@@ -46,6 +50,13 @@ StopsAs run.OutOfMemory stopped = stopped ≡ stop.Fault OutOfMemory
 StopsAs (run.Store fault) stopped = stopped ≡ stop.Store fault
 StopsAs run.Refused stopped = stopped ≡ stop.Refused
 StopsAs (run.Writer error) stopped = stopped ≡ stop.Writer error
+
+-- how a fault of a run of threads stops a program
+abbrev pub StopsMutating : MutateFault → Stop → Type 0
+StopsMutating (mutate.Store fault) stopped = stopped ≡ stop.Fault fault
+StopsMutating mutate.NotEmpty stopped = stopped ≡ stop.NotEmpty
+StopsMutating (mutate.Open fault) stopped = stopped ≡ stop.Store fault
+StopsMutating (mutate.Refused why) stopped = stopped ≡ stop.Order why
 
 -- contents show a checkpoint's memory
 abbrev pub ShowsMemory : List (List ℕ) → Type 0

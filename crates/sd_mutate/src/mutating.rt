@@ -93,6 +93,20 @@ fn run_all<R: Threads + Wait + Sync, D: Disk + Drop + Send>(
     saved
 }
 
+/// How many numbers the mutators stored and loaded back.
+fn stores_of(mutators: &[Mutator]) -> u64 {
+    let mut stores: u64 = 0;
+    for mutator in mutators {
+        stores = stores.saturating_add(mutator.stores);
+    }
+    stores
+}
+
+/// Why the first mutator that was stopped was.
+fn stopped_in(mutators: &[Mutator]) -> Option<Refusal> {
+    mutators.iter().find_map(|mutator| mutator.stopped)
+}
+
 /// The receipts of all mutators, those of each in their order.
 fn receipts_of(alloc: Global, mutators: Vec<Mutator>) -> Result<Vec<Receipt>, AllocError> {
     let mut receipts = Vec::new(alloc);
@@ -119,7 +133,8 @@ fn mutate_shared<R: Threads + Wait + Sync, D: Disk + Drop + Send>(
     }
     let saved = run_all(rt, alloc, &shared, &mut mutators);
     let threads = mutators.len();
-    let stores = mutators.iter().fold(0, |sum: u64, one| sum.saturating_add(one.stores));
+    let stores = stores_of(&mutators);
+    let refused = saved.refused.or(stopped_in(&mutators));
     let Ok(receipts) = receipts_of(alloc, mutators) else {
         return (None, wanting);
     };
@@ -128,6 +143,7 @@ fn mutate_shared<R: Threads + Wait + Sync, D: Disk + Drop + Send>(
         threads,
         stores,
         acked: saved.acks.last().copied().unwrap_or(0),
+        refused,
         closes: closed.is_ok(),
     };
     let disk = closed.ok().map(|(_core, disk)| disk);

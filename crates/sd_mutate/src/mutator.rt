@@ -141,7 +141,7 @@ impl Mutator {
             Some(Receipt {
                 reply: Reply::Bytes(bytes),
                 ..
-            }) => *bytes.as_slice() == number.to_le_bytes(),
+            }) => bytes.as_slice() == number.to_le_bytes().as_slice(),
             _ => false,
         }
     }

@@ -33,6 +33,7 @@ enum Way {
 }
 
 /// What the dumper's hold and the mutators tell each other.
+#[derive(Drop)]
 struct Flags {
     begun: AtomicU64,
     answered: AtomicU64,
@@ -51,6 +52,7 @@ fn await_flag<R: Clock>(rt: &R, flag: &AtomicU64) -> bool {
 }
 
 /// A hold that at the first page's write lets the mutators begin, and waits until one of their stores is answered.
+#[derive(Drop)]
 struct Gate<'a, R> {
     rt: &'a R,
     flags: &'a Flags,
@@ -83,6 +85,7 @@ fn call<R: Wait>(
 }
 
 /// What a mutator works with.
+#[derive(Drop)]
 struct Place<'a, R> {
     rt: &'a R,
     shared: &'a Shared<MemDisk>,

@@ -9,6 +9,7 @@ use std::sync::atomic::{AtomicU64, Ordering};
 use std::test::Fail;
 
 /// A hold that counts the calls, where each comes with the next number.
+#[derive(Drop)]
 struct Counting<'a> {
     calls: &'a AtomicU64,
 }
