@@ -1,10 +1,19 @@
--- What a seat is told of its command.
-use Rattle.std.specs.Prelude.{ℕ, Result, Ok, Err}
+-- What a seat is told of its command, and a worker of its job.
+use Rattle.std.specs.Prelude.{ℕ, Bool, true, false, Result, Ok, Err}
 use Rattle.sd_command.specs.declared.refusal.Refusal.{Refusal}
 use Rattle.sd_command.specs.declared.reply.Reply.{Reply}
+use Rattle.sd_command.specs.declared.reply.Reply.TheVariants as reply
 use Rattle.sd_journal.specs.declared.receipt.Receipt.{Receipt}
 
 -- the number and the reply of a receipt
 abbrev pub told : Result Receipt Refusal → Result (ℕ × Reply) Refusal
 told (Ok receipt) = Ok (receipt.number, receipt.reply)
 told (Err why) = Err why
+
+-- the last reply of a worker's job: the job came to its end, or was refused
+abbrev pub ends_job : Reply → Bool
+ends_job (reply.Acked n) = true
+ends_job (reply.Merged serial) = true
+ends_job (reply.Reopened m) = true
+ends_job (reply.Refused why) = true
+ends_job _ = false
