@@ -90,7 +90,7 @@ impl Mutator {
 
     /// Stores a byte into the next page.
     fn store<R: Wait + Clock>(&mut self, rt: &R, shared: &Shared<MemDisk>) -> Result<(), Refusal> {
-        let Ok(command) = store(self.alloc, self.page, self.done as u8) else {
+        let Ok(command) = store(self.alloc, self.page, (self.done % 256) as u8) else {
             return Err(Refusal::OutOfMemory);
         };
         match shared.call(rt, &mut self.seat, command)?.reply {
@@ -178,7 +178,7 @@ fn sum(mutators: &[Mutator], took: Duration) -> Beside {
 }
 
 /// Makes a checkpoint of many rounds beside four seats that store.
-pub(crate) fn beside<R: Threads + Wait + Clock + Sync>(
+pub(crate) fn save_beside<R: Threads + Wait + Clock + Sync>(
     rt: &R,
     alloc: Global,
 ) -> Result<Beside, BenchFault> {

@@ -23,7 +23,7 @@ fn done(reply: Reply) -> Result<(), Refusal> {
 }
 
 /// Makes so many stores by one seat of a shared core.
-pub(crate) fn calls(rt: &impl Wait, alloc: Global, count: u64) -> Result<u64, BenchFault> {
+pub(crate) fn make_calls(rt: &impl Wait, alloc: Global, count: u64) -> Result<u64, BenchFault> {
     let Ok((shared, mut seats)) = Shared::open(alloc, small(alloc)?, 16, 1) else {
         return Err(BenchFault::NotOpened);
     };
@@ -32,14 +32,14 @@ pub(crate) fn calls(rt: &impl Wait, alloc: Global, count: u64) -> Result<u64, Be
     };
     done(shared.call(rt, &mut seat, mmap(1))?.reply)?;
     for number in 0..count {
-        let command = store(alloc, 0, number as u8)?;
+        let command = store(alloc, 0, (number % 256) as u8)?;
         done(shared.call(rt, &mut seat, command)?.reply)?;
     }
     Ok(count)
 }
 
 /// Makes so many stores as events of a world.
-pub(crate) fn steps(alloc: Global, count: u64) -> Result<u64, BenchFault> {
+pub(crate) fn make_steps(alloc: Global, count: u64) -> Result<u64, BenchFault> {
     let Ok(mut world) = World::open(alloc, small(alloc)?, 16) else {
         return Err(BenchFault::NotOpened);
     };
@@ -47,7 +47,7 @@ pub(crate) fn steps(alloc: Global, count: u64) -> Result<u64, BenchFault> {
     let command = mmap(1);
     done(world.step(&Event::Command { seat, command }))?;
     for number in 0..count {
-        let command = store(alloc, 0, number as u8)?;
+        let command = store(alloc, 0, (number % 256) as u8)?;
         done(world.step(&Event::Command { seat, command }))?;
     }
     Ok(count)

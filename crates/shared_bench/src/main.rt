@@ -6,8 +6,8 @@ mod calls;
 mod fault;
 mod place;
 
-use crate::beside::beside;
-use crate::calls::{calls, steps};
+use crate::beside::save_beside;
+use crate::calls::{make_calls, make_steps};
 use crate::fault::BenchFault;
 use std::alloc::Global;
 use std::io;
@@ -26,9 +26,9 @@ fn timed<R: Threads + Wait + Clock + Sync>(
     count: u64,
 ) -> Result<String, BenchFault> {
     match word {
-        "calls" => Ok(format!(in alloc; "{} calls", calls(rt, alloc, count)?)?),
-        "steps" => Ok(format!(in alloc; "{} steps", steps(alloc, count)?)?),
-        "beside" => Ok(format!(in alloc; "{}", beside(rt, alloc)?)?),
+        "calls" => Ok(format!(in alloc; "{} calls", make_calls(rt, alloc, count)?)?),
+        "steps" => Ok(format!(in alloc; "{} steps", make_steps(alloc, count)?)?),
+        "beside" => Ok(format!(in alloc; "{}", save_beside(rt, alloc)?)?),
         _ => Ok(format!(in alloc; "{USAGE}")?),
     }
 }
