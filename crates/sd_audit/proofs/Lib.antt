@@ -1,2 +1,3 @@
 pub mod Seen
 pub mod SameLemmas
+pub mod CopyLemmas
