@@ -1,3 +1,4 @@
 pub mod Seen
 pub mod SameLemmas
 pub mod CopyLemmas
+pub mod EntryLemmas
