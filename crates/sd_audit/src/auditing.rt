@@ -11,7 +11,7 @@ ghost use Rattle.sd_restore.specs.Faulty.{IsBrokenChain, IsDamage, Names};
 ghost use Rattle.sd_audit.specs.ShowsOne.{ShowsOne, base_of, shown_by};
 
 use crate::freezes::memory_at_freeze;
-use crate::numbers::{last_number, pending_number};
+use crate::numbers::{is_last_or_pending, last_number};
 use crate::same::is_same_memory;
 use sd_areas::Snapshot;
 use sd_disk::Disk;
@@ -89,12 +89,11 @@ fn is_allowed(
     ensures { IfOk result (λ told. IsTrue told
         ↔ IsAllowed (base_of number base.now) (reverse entries.now) (option_map shown_by found.now)) }
 {
-    let last = last_number(number, entries);
     let Some(snapshot) = found else {
-        return Ok(last.is_none());
+        return Ok(last_number(number, entries).is_none());
     };
     let checkpoint = snapshot.checkpoint;
-    if last != Some(checkpoint) && pending_number(entries) != Some(checkpoint) {
+    if !is_last_or_pending(number, entries, checkpoint) {
         return Ok(false);
     }
     let Some(memory) = memory_at_freeze(alloc, number, base, entries, checkpoint)? else {

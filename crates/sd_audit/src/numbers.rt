@@ -1,8 +1,17 @@
 //! The numbers of the last and of the pending checkpoint, as a run's entries tell them.
-ghost use Rattle.std.specs.Prelude.{◌≡◌, ◌∷◌, reverse};
+ghost use Rattle.std.specs.Prelude.{◌≡◌, ◌↔◌, ◌⊎◌, ◌∷◌, reverse, IsTrue};
 ghost use Rattle.sd_journal.specs.History.{Base, History, last, pending, unless_it_is};
 
 use sd_journal::Entry;
+
+/// Whether a checkpoint is the last or the pending one.
+pub(crate) fn is_last_or_pending(number: Option<u64>, entries: &[Entry], checkpoint: u64) -> bool
+    ensures { (base : Base) → base.number ≡ number
+        → IsTrue result ↔ ((last base (reverse entries.now) ≡ Some checkpoint)
+        ⊎ (pending (reverse entries.now) ≡ Some checkpoint)) }
+{
+    last_number(number, entries) == Some(checkpoint) || pending_number(entries) == Some(checkpoint)
+}
 
 /// The number of the last checkpoint: that in the latest acknowledgement or reopening, else the one that the run started
 /// from.

@@ -4,4 +4,4 @@ use Rattle.sd_audit.proofs.numbers.last_number.Given as goal
 
 -- the last checkpoint of the entries so far
 abbrev pub invariant-loop-entry : goal.invariant-loop-entry
-invariant-loop-entry l = (base : Base) → base.number ≡ l.number → l.found ≡ last base (reverse (take l.entry-index l.entries))
+invariant-loop-entry l = (base : Base) → base.number ≡ l.fn.number → l.found ≡ last base (reverse (take l.entry-index l.entries))
