@@ -1,12 +1,11 @@
 -- Entries in order of time: what one more says of the checkpoints, and what those before a place are.
-use Rattle.std.proofs.Common.{◌≡◌, ℕ, suc, ◌+◌, ◌<◌, ◌≤◌, ◌==◌, Bool, true, false, cond, nat_eq, List, [], ◌∷◌, ◌++◌, length, take, drop, get_or, reverse, Option, Some, None, refl, sym, ◌∙◌, ap, subst, arith}
+use Rattle.std.proofs.Common.{◌≡◌, ℕ, suc, ◌+◌, ◌<◌, ◌==◌, true, false, cond, List, [], ◌∷◌, ◌++◌, length, take, drop, get_or, reverse, Option, Some, refl, sym, ◌∙◌, ap, subst, arith}
 use Rattle.std.proofs.lemmas.Bool.Decides.{nat_tests}
 use Rattle.std.proofs.lemmas.List.{reverse-append, take-append-drop}
 use Rattle.std.proofs.Math.Seq.{take-suc}
-use Rattle.sd_areas.specs.PlainMemory.{PlainMemory}
 use Rattle.sd_journal.specs.declared.entry.Entry.{Entry}
 use Rattle.sd_journal.specs.declared.entry.Entry.TheVariants.{Applied, Freeze, Acked, Cancelled, Reopened}
-use Rattle.sd_journal.specs.History.{Base, History, memory_after, at_base, at_freeze, last, pending, unless_it_is}
+use Rattle.sd_journal.specs.History.{Base, History, memory_after, at_freeze}
 use Rattle.sd_journal.specs.Legal.{IsLegal}
 use Rattle.sd_audit.specs.Freezes.{memory_at}
 

@@ -9,4 +9,4 @@ pub returns-then-not-is_last_or_pending : goal.returns-then-not-is_last_or_pendi
 returns-then-not-is_last_or_pending c =
     let base : Base = base_of c.args.number c.args.base.now in
     told_apart (another_checkpoint base (reverse c.args.entries.now) c.args.found.now c.in-Some.snapshot c.in-Some.is
-        (told_false c.is_last_or_pending.result (c.is_last_or_pending.ensures base refl).1 c.if-not-is_last_or_pending.true))
+    (told_false c.is_last_or_pending.result (c.is_last_or_pending.ensures base refl).1 c.if-not-is_last_or_pending.true))
