@@ -87,7 +87,12 @@ fn run_all<R: Threads + Wait + Sync, D: Disk + Drop + Send>(
     thread::join(
         rt,
         || saved.save_twice(rt, shared),
-        || thread::for_each_mut(rt, mutators, threads, &|_index, mutator| mutator.run(rt, shared)),
+        || thread::for_each_mut(
+            rt,
+            mutators,
+            threads,
+            &|_index, mutator| mutator.run(rt, shared),
+        ),
     );
     saved.save(rt, shared, 0);
     saved

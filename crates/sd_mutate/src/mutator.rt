@@ -138,10 +138,12 @@ impl Mutator {
     /// Whether the last reply has a number's bytes.
     fn has_loaded(&self, number: u64) -> bool {
         match self.receipts.last() {
-            Some(Receipt {
-                reply: Reply::Bytes(bytes),
-                ..
-            }) => bytes.as_slice() == number.to_le_bytes().as_slice(),
+            Some(
+                Receipt {
+                    reply: Reply::Bytes(bytes),
+                    ..
+                },
+            ) => bytes.as_slice() == number.to_le_bytes().as_slice(),
             _ => false,
         }
     }

@@ -5,12 +5,11 @@ use sd_command::{Refusal, Reply};
 use sd_disk::MemDisk;
 use sd_shared::{Hold, Seat, Shared};
 use std::alloc::{AllocError, Global};
-use std::fmt;
 use std::sync::Wait;
 use std::sync::atomic::{AtomicU64, Ordering};
-use std::thread;
 use std::thread::Threads;
 use std::time::{Clock, Duration, Instant};
+use std::{fmt, thread};
 
 /// How many seats store.
 const SEATS: usize = 4;
@@ -147,11 +146,7 @@ fn prepare(
 }
 
 /// Makes the checkpoint, tells the seats that it has ended, and returns how long it took.
-fn save<R: Wait + Clock>(
-    rt: &R,
-    shared: &Shared<MemDisk>,
-    over: &AtomicU64,
-) -> (Reply, Duration) {
+fn save<R: Wait + Clock>(rt: &R, shared: &Shared<MemDisk>, over: &AtomicU64) -> (Reply, Duration) {
     let from = Instant::now(rt);
     let reply = shared.run_dumper(rt, ROUNDS, &Free);
     over.store(1, Ordering::SeqCst);
@@ -195,9 +190,12 @@ pub(crate) fn save_beside<R: Threads + Wait + Clock + Sync>(
         rt,
         || save(rt, &shared, &over),
         || {
-            thread::for_each_mut(rt, &mut mutators, SEATS, &|_index, mutator| {
-                mutator.run(rt, &shared, &over)
-            })
+            thread::for_each_mut(
+                rt,
+                &mut mutators,
+                SEATS,
+                &|_index, mutator| { mutator.run(rt, &shared, &over) },
+            )
         },
     );
     match reply {

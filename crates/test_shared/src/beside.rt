@@ -199,13 +199,7 @@ fn run_all<R: Threads + Wait + Clock + Abort + Sync>(
         page,
     };
     let (low, high) = (place(0), place(1));
-    let (reply, ended) = run_beside(
-        rt,
-        &shared,
-        (&low, &high),
-        (&mut first, &mut last),
-        &flags,
-    );
+    let (reply, ended) = run_beside(rt, &shared, (&low, &high), (&mut first, &mut last), &flags);
     is_reply(rt, reply, Reply::Acked(1));
     assert_eq!(rt; ended, (Ok(()), Ok(())));
     assert_eq!(rt; flags.missed.load(Ordering::SeqCst), 0);

@@ -11,10 +11,7 @@ use std::sync::Wait;
 use std::test::Fail;
 
 /// A store that was opened, three commands of the first seat, and a checkpoint.
-fn saved(
-    rt: &(impl Abort + Wait),
-    alloc: Global,
-) -> Result<(Shared<MemDisk>, Mutator), Fail> {
+fn saved(rt: &(impl Abort + Wait), alloc: Global) -> Result<(Shared<MemDisk>, Mutator), Fail> {
     let (shared, mut mutator, _last) = open(alloc)?;
     is_reply(rt, shared.run_opener(rt, &Free), Reply::Reopened(None));
     assert_eq!(rt; prepare(rt, alloc, &shared, &mut mutator, 2), Ok(()));
