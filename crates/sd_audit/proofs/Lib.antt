@@ -1,5 +1,5 @@
-pub mod Seen
-pub mod SameLemmas
+pub mod AuditLemmas
 pub mod CopyLemmas
 pub mod EntryLemmas
-pub mod AuditLemmas
+pub mod SameLemmas
+pub mod Seen

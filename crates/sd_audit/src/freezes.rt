@@ -1,5 +1,5 @@
 //! The memory at the freeze of a checkpoint.
-ghost use Rattle.std.specs.Prelude.{◌≡◌, ◌↔◌, ◌<◌, length, reverse, IfOk, IfSome, IsTrue};
+ghost use Rattle.std.specs.Prelude.{◌≡◌, ◌↔◌, ◌≤◌, length, reverse, IfOk, IfSome, IsTrue};
 ghost use Rattle.std.specs.Option.{option_map};
 ghost use Rattle.sd_areas.specs.Memory.{memory_of};
 ghost use Rattle.sd_journal.specs.History.{at_freeze};
@@ -41,7 +41,7 @@ pub fn memory_at_freeze(
 
 /// Where the latest freeze of a checkpoint stands.
 fn freeze_place(entries: &[Entry], checkpoint: u64) -> Option<usize>
-    ensures within { IfSome result (λ place. place < length entries.now) }
+    ensures within { IfSome result (λ place. place ≤ length entries.now) }
     ensures place { IsFreezePlace entries.now checkpoint result }
 {
     let mut latest = None;
