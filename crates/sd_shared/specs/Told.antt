@@ -1,9 +1,10 @@
 -- What a seat is told of its command, and a worker of its job.
-use Rattle.std.specs.Prelude.{ℕ, Bool, true, false, Result, Ok, Err}
+use Rattle.std.specs.Prelude.{ℕ, Bool, true, false, List, map, Result, Ok, Err}
 use Rattle.sd_command.specs.declared.refusal.Refusal.{Refusal}
 use Rattle.sd_command.specs.declared.reply.Reply.{Reply}
 use Rattle.sd_command.specs.declared.reply.Reply.TheVariants as reply
 use Rattle.sd_journal.specs.declared.receipt.Receipt.{Receipt}
+use Rattle.sd_shared.specs.declared.seat.Seat.{Seat}
 
 -- the number and the reply of a receipt
 abbrev pub told : Result Receipt Refusal → Result (ℕ × Reply) Refusal
@@ -17,3 +18,7 @@ ends_job (reply.Merged serial) = true
 ends_job (reply.Reopened m) = true
 ends_job (reply.Refused why) = true
 ends_job _ = false
+
+-- the numbers of seats, in their order
+abbrev pub numbers_of : List Seat → List ℕ
+numbers_of seats = map (λ seat. seat.number) seats
