@@ -1,5 +1,6 @@
 -- What a seat is told of its command, and a worker of its job.
 use Rattle.std.specs.Prelude.{ℕ, Bool, true, false, List, map, Result, Ok, Err}
+use Rattle.std.specs.List.{range_with_len}
 use Rattle.sd_command.specs.declared.refusal.Refusal.{Refusal}
 use Rattle.sd_command.specs.declared.reply.Reply.{Reply}
 use Rattle.sd_command.specs.declared.reply.Reply.TheVariants as reply
@@ -19,6 +20,6 @@ ends_job (reply.Reopened m) = true
 ends_job (reply.Refused why) = true
 ends_job _ = false
 
--- the numbers of seats, in their order
-abbrev pub numbers_of : List Seat → List ℕ
-numbers_of seats = map (λ seat. seat.number) seats
+-- so many seats, numbered from 0
+abbrev pub seats_from_0 : ℕ → List Seat
+seats_from_0 count = map (λ n. record { number = n }) (range_with_len 0 count)

@@ -21,8 +21,12 @@ pub(crate) struct Job<'a, R, D: Drop, H> {
 }
 
 impl<R: Wait, D: Disk + Drop, H: Hold> Job<'_, R, D, H> {
+    ghost use Rattle.std.specs.Prelude.{◌≡◌};
+
     /// Makes a device call, and hands its outcome in.
-    fn call(&mut self, request: Request) -> Reply {
+    fn call(&mut self, request: Request) -> Reply
+        ensures { self.new.began ≡ self.old.began }
+    {
         self.calls = self.calls.saturating_add(1);
         self.hold.before(self.calls);
         match self.shared.perform(self.rt, request) {

@@ -1,9 +1,8 @@
 //! A core and its disk, shared by threads.
 ghost use Rattle.std.specs.Prelude.{◌≡◌, ◌≤◌, IfOk, IfErr};
-ghost use Rattle.std.specs.List.{range_with_len};
 ghost use Rattle.sd_disk.specs.Reads.{OnlyReads};
 ghost use Rattle.sd_world.specs.Opens.{HasNoFrame, IsFaultOf};
-ghost use Rattle.sd_shared.specs.Told.{numbers_of};
+ghost use Rattle.sd_shared.specs.Told.{seats_from_0};
 
 use crate::driving::drive;
 use crate::hands::Hands;
@@ -37,7 +36,7 @@ fn holds_commands(core: &Core) -> bool {
 
 /// So many seats, numbered from 0.
 fn seats_of(alloc: Global, count: usize) -> Result<Vec<Seat>, AllocError>
-    ensures { IfOk result (λ seats. numbers_of seats.items ≡ range_with_len 0 count) }
+    ensures { IfOk result (λ seats. seats.items ≡ seats_from_0 count) }
 {
     let mut seats = Vec::with_capacity(alloc, count)?;
     for number in 0..count {
@@ -60,8 +59,7 @@ impl<D: Disk + Drop> Shared<D> {
     ) -> Result<(Shared<D>, Vec<Seat>), OpenError<D>>
         requires least { 1 ≤ frames }
         requires greatest { frames ≤ 65536 }
-        ensures seats { IfOk result (λ opened.
-            numbers_of opened.1.items ≡ range_with_len 0 seats) }
+        ensures seats { IfOk result (λ opened. opened.1.items ≡ seats_from_0 seats) }
         ensures refused { IfErr result (λ error. OnlyReads D.Disk disk error.disk) }
         ensures fault { IfErr result (λ error. D.is_honest error.disk
             → IsFaultOf (D.contents disk) (D.failed disk) (D.failed error.disk) error.fault) }
