@@ -1,9 +1,14 @@
 //! A whole run: threads that store, checkpoints beside them, and what the journal says of both.
+ghost use Rattle.std.specs.Prelude.{◌≡◌, ◌<◌, false, Err, IfOk, IfErr};
+ghost use Rattle.sd_disk.specs.Reads.{OnlyReads};
+ghost use Rattle.sd_mutate.specs.Ending.{LeavesStore, is_early, open_images};
+
 use crate::fault::MutateFault;
 use crate::mutator::Mutator;
 use crate::saving::{Free, Saved};
 use crate::tally::Tally;
 use sd_command::{Refusal, Reply};
+use sd_core::Core;
 use sd_disk::Disk;
 use sd_journal::Receipt;
 use sd_restore::verify;
@@ -31,7 +36,9 @@ pub fn mutate<R: Threads + Wait + Sync, D: Disk + Drop + Send>(
     alloc: Global,
     mut disk: D,
     threads: usize,
-) -> (Option<D>, Result<Tally, MutateFault>) {
+) -> (Option<D>, Result<Tally, MutateFault>)
+    ensures left { LeavesStore D.Disk disk result.0 result.1 }
+{
     if let Err(fault) = check_empty(alloc, &mut disk) {
         return (Some(disk), Err(fault));
     }
@@ -42,7 +49,12 @@ pub fn mutate<R: Threads + Wait + Sync, D: Disk + Drop + Send>(
 }
 
 /// Whether a store can be restored, and has no open image.
-fn check_empty<D: Disk>(alloc: Global, disk: &mut D) -> Result<(), MutateFault> {
+fn check_empty<D: Disk>(alloc: Global, disk: &mut D) -> Result<(), MutateFault>
+    ensures reads { OnlyReads D.Disk disk.old disk.new }
+    ensures not_empty { result ≡ Err MutateFault.NotEmpty → D.is_honest disk.new
+        → 0 < open_images (D.contents disk.old) }
+    ensures empty { D.is_honest disk.new → IfOk result (λ _. open_images (D.contents disk.old) ≡ 0) }
+{
     match verify(alloc, disk) {
         Ok(report) if report.images == 0 => Ok(()),
         Ok(_) => Err(MutateFault::NotEmpty),
@@ -112,45 +124,100 @@ fn stopped_in(mutators: &[Mutator]) -> Option<Refusal> {
     mutators.iter().find_map(|mutator| mutator.stopped)
 }
 
+/// Puts receipts behind others.
+fn append(receipts: &mut Vec<Receipt>, more: Vec<Receipt>) -> Result<(), AllocError> {
+    receipts.try_reserve(more.len())?;
+    for receipt in more {
+        receipts.push(receipt)?;
+    }
+    Ok(())
+}
+
 /// The receipts of all mutators, those of each in their order.
 fn receipts_of(alloc: Global, mutators: Vec<Mutator>) -> Result<Vec<Receipt>, AllocError> {
     let mut receipts = Vec::new(alloc);
     for mutator in mutators {
-        for receipt in mutator.receipts {
-            receipts.push(receipt)?;
-        }
+        append(&mut receipts, mutator.receipts)?;
     }
     Ok(receipts)
 }
 
+/// What threads were told, and what they did.
+#[derive(Drop)]
+struct Told {
+    receipts: Vec<Receipt>,
+    acks: Vec<u64>,
+    stores: u64,
+    refused: Option<Refusal>,
+}
+
+/// Lets the mutators of all seats run while checkpoints are made.
+fn run_seats<R: Threads + Wait + Sync, D: Disk + Drop + Send>(
+    rt: &R,
+    alloc: Global,
+    shared: &Shared<D>,
+    seats: Vec<Seat>,
+) -> Result<Told, Refusal> {
+    let Ok(mut mutators) = mutators_of(alloc, seats) else {
+        return Err(Refusal::OutOfMemory);
+    };
+    prepare(rt, shared, &mut mutators)?;
+    let Saved { acks, refused } = run_all(rt, alloc, shared, &mut mutators);
+    let stores = stores_of(&mutators);
+    let refused = refused.or(stopped_in(&mutators));
+    match receipts_of(alloc, mutators) {
+        Ok(receipts) => Ok(Told {
+            receipts,
+            acks,
+            stores,
+            refused,
+        }),
+        Err(_) => Err(Refusal::OutOfMemory),
+    }
+}
+
+/// The disk of a core that is dropped.
+fn disk_alone<D>(_core: Core, disk: D) -> D {
+    disk
+}
+
+/// Compares the journal with what was told. Returns the disk, where it accounts for that.
+fn close<D: Disk + Drop>(shared: Shared<D>, told: &Told) -> Option<D> {
+    match shared.close(&told.receipts, &told.acks) {
+        Ok((core, disk)) => Some(disk_alone(core, disk)),
+        Err(_) => None,
+    }
+}
+
+/// Drops a shared core of which something was refused.
+fn refuse<D: Disk + Drop>(_shared: Shared<D>, why: Refusal) -> MutateFault
+    ensures { result ≡ MutateFault.Refused why }
+{
+    MutateFault::Refused(why)
+}
+
+/// Lets the mutators of all seats run while checkpoints are made, and closes the store.
 fn mutate_shared<R: Threads + Wait + Sync, D: Disk + Drop + Send>(
     rt: &R,
     alloc: Global,
     shared: Shared<D>,
     seats: Vec<Seat>,
-) -> (Option<D>, Result<Tally, MutateFault>) {
-    let wanting = Err(MutateFault::Refused(Refusal::OutOfMemory));
-    let Ok(mut mutators) = mutators_of(alloc, seats) else {
-        return (None, wanting);
-    };
-    if let Err(why) = prepare(rt, &shared, &mut mutators) {
-        return (None, Err(MutateFault::Refused(why)));
+) -> (Option<D>, Result<Tally, MutateFault>)
+    ensures { IfErr result.1 (λ fault. is_early fault ≡ false) }
+{
+    let threads = seats.len();
+    match run_seats(rt, alloc, &shared, seats) {
+        Ok(told) => {
+            let disk = close(shared, &told);
+            let tally = Tally {
+                threads,
+                stores: told.stores,
+                acked: told.acks.last().copied().unwrap_or(0),
+                refused: told.refused,
+                closes: disk.is_some(),
+            };
+            (disk, Ok(tally))
+        }
+        Err(why) => (None, Err(refuse(shared, why))),
     }
-    let saved = run_all(rt, alloc, &shared, &mut mutators);
-    let threads = mutators.len();
-    let stores = stores_of(&mutators);
-    let refused = saved.refused.or(stopped_in(&mutators));
-    let Ok(receipts) = receipts_of(alloc, mutators) else {
-        return (None, wanting);
-    };
-    let closed = shared.close(&receipts, &saved.acks);
-    let tally = Tally {
-        threads,
-        stores,
-        acked: saved.acks.last().copied().unwrap_or(0),
-        refused,
-        closes: closed.is_ok(),
-    };
-    let disk = closed.ok().map(|(_core, disk)| disk);
-    (disk, Ok(tally))
 }
