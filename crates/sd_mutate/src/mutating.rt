@@ -87,6 +87,21 @@ fn prepare<D: Disk + Drop>(
     }
 }
 
+/// Lets each mutator run in a thread of its own.
+fn run_each<R: Threads + Wait + Sync, D: Disk + Drop + Send>(
+    rt: &R,
+    shared: &Shared<D>,
+    mutators: &mut [Mutator],
+) {
+    let threads = mutators.len().max(1);
+    thread::for_each_mut(
+        rt,
+        mutators,
+        threads,
+        &|_index, mutator| { mutator.run(rt, shared) },
+    );
+}
+
 /// Lets all mutators run while checkpoints are made, and makes the last one behind them.
 fn run_all<R: Threads + Wait + Sync, D: Disk + Drop + Send>(
     rt: &R,
@@ -95,16 +110,10 @@ fn run_all<R: Threads + Wait + Sync, D: Disk + Drop + Send>(
     mutators: &mut [Mutator],
 ) -> Saved {
     let mut saved = Saved::new(alloc);
-    let threads = mutators.len().max(1);
     thread::join(
         rt,
         || saved.save_twice(rt, shared),
-        || thread::for_each_mut(
-            rt,
-            mutators,
-            threads,
-            &|_index, mutator| mutator.run(rt, shared),
-        ),
+        || run_each(rt, shared, mutators),
     );
     saved.save(rt, shared, 0);
     saved
