@@ -1,5 +1,5 @@
 -- What a run of threads leaves of a store.
-use Rattle.std.specs.Prelude.{◌≡◌, ◌×◌, ℕ, Bool, true, false, List, length, filter, Option, Some, None, Result, Ok, Err}
+use Rattle.std.specs.Prelude.{◌≡◌, ℕ, Bool, true, false, List, length, filter, Option, Some, None, Result, Ok, Err}
 use Rattle.sd_disk.specs.declared.disk.Disk.{Ghosts}
 use Rattle.sd_disk.specs.Reads.{OnlyReads}
 use Rattle.sd_image.specs.Image.{is_open}
