@@ -6,6 +6,7 @@ use clap::ArgMatches;
 use progress::ProgressLine;
 use sd_disk::{DirDisk, Disk, Folder, OpenError};
 use sd_mutate::{Tally, mutate};
+use sd_report::{print_list, print_report, print_restored};
 use sd_restore::Fault;
 use sd_run::{Watch, merge_store, run_lines};
 use sd_script::{Script, ScriptError};
@@ -21,19 +22,12 @@ use stop::{FAILED, Stop, UNFIT};
 
 mod cause;
 mod command_line;
-mod list;
-mod listing;
-mod page_text;
 mod progress;
 #[cfg(test)]
 mod progress_tests;
-mod restore;
 mod stop;
 #[cfg(test)]
-mod store_tests;
-#[cfg(test)]
 mod tests;
-mod verify;
 
 /// Opens the store in a folder.
 fn open_store(
@@ -87,8 +81,8 @@ fn run_over<D: Disk, W: Write, S: Watch>(
     let (mut disk, ended) = run_lines(alloc, disk, script, out, watch);
     match ended {
         Ok(()) if restores => {
-            let restored = restore::print_restored(alloc, &mut disk, out);
-            (disk, restored)
+            let restored = print_restored(alloc, &mut disk, out);
+            (disk, restored.map_err(Stop::from))
         }
         Ok(()) => (disk, Ok(())),
         Err(stop) => (disk, Err(Stop::from(stop))),
@@ -176,12 +170,12 @@ fn read_program<W: Write>(
     let folder = words.get_str("DIR").unwrap_or("");
     let mut disk = open_store(rt, Causes::Told, folder, false)?;
     let ended = match name {
-        "list" => list::print_list(rt.alloc(), &mut disk, out),
-        "verify" => verify::print_report(rt.alloc(), &mut disk, out),
-        _ => restore::print_restored(rt.alloc(), &mut disk, out),
+        "list" => print_list(rt.alloc(), &mut disk, out),
+        "verify" => print_report(rt.alloc(), &mut disk, out),
+        _ => print_restored(rt.alloc(), &mut disk, out),
     };
     tell_device(rt, Causes::Told, folder, &disk);
-    ended
+    Ok(ended?)
 }
 
 /// Runs the program that the words ask for.

@@ -4,6 +4,7 @@ ghost use Rattle.ckpt.specs.Ending.{Ends, status_of};
 
 use sd_command::Refusal;
 use sd_mutate::MutateFault;
+use sd_report::Stop as ReportStop;
 use sd_restore::Fault;
 use sd_run::Stop as RunStop;
 use sd_script::ScriptError;
@@ -113,6 +114,19 @@ impl From<ScriptError> for Stop {
         match error {
             ScriptError::Line(number) => Stop::ScriptLine(number),
             ScriptError::OutOfMemory => Stop::Fault(Fault::OutOfMemory),
+        }
+    }
+}
+
+impl From<ReportStop> for Stop {
+    ghost use Rattle.ckpt.specs.Ending.{StopsReading};
+
+    ghost from_gives = { StopsReading };
+
+    fn from(stop: ReportStop) -> Stop {
+        match stop {
+            ReportStop::Fault(fault) => Stop::Fault(fault),
+            ReportStop::Writer(error) => Stop::Writer(error),
         }
     }
 }
