@@ -1,8 +1,9 @@
 -- How a program ends.
-use Rattle.std.specs.Prelude.{◌≡◌, ◌⊎◌, ℕ, List, Option, Some, Result, Ok, Err, IfErr}
-use Rattle.sd_areas.specs.PlainMemory.{PlainMemory}
-use Rattle.sd_image.specs.Image.{Image}
-use Rattle.sd_image.specs.Shows.{IsStore, Shows}
+use Rattle.std.specs.Prelude.{◌≡◌, ◌⊎◌, ℕ, Result, Ok, Err}
+use Rattle.sd_mutate.specs.declared.fault.MutateFault.{MutateFault}
+use Rattle.sd_mutate.specs.declared.fault.MutateFault.TheVariants as mutate
+use Rattle.sd_report.specs.declared.stop.Stop.{Stop as ReportStop}
+use Rattle.sd_report.specs.declared.stop.Stop.TheVariants as report
 use Rattle.sd_restore.specs.declared.fault.Fault.TheVariants.{EmptyChain, Damaged, Device, OutOfMemory}
 use Rattle.sd_run.specs.declared.stop.Stop.{Stop as RunStop}
 use Rattle.sd_run.specs.declared.stop.Stop.TheVariants as run
@@ -21,6 +22,8 @@ status_of (stop.Store _) = 1
 status_of (stop.ScriptLine _) = 2
 status_of stop.CannotReadScript = 1
 status_of stop.CannotOpenFolder = 1
+status_of stop.NotEmpty = 1
+status_of (stop.Order _) = 1
 status_of stop.Refused = 1
 status_of (stop.Writer _) = 1
 
@@ -30,14 +33,15 @@ abbrev pub Ends : Result Unit Stop → ℕ → Type 0
 Ends (Ok _) status = status ≡ 0
 Ends (Err why) status = (status ≡ status_of why) ⊎ (status ≡ 1)
 
--- a program that is stopped ends with status 1
-abbrev pub EndsWithOne : {T : Type 0} → Result T Stop → Type 0
-EndsWithOne result = IfErr result (λ why. status_of why ≡ 1)
-
 -- how a script that can't be taken stops a program
 abbrev pub StopsFor : ScriptError → Stop → Type 0
 StopsFor (error.Line number) stopped = stopped ≡ stop.ScriptLine number
 StopsFor error.OutOfMemory stopped = stopped ≡ stop.Fault OutOfMemory
+
+-- how the printing of a store that ends early stops a program
+abbrev pub StopsReading : ReportStop → Stop → Type 0
+StopsReading (report.Fault fault) stopped = stopped ≡ stop.Fault fault
+StopsReading (report.Writer error) stopped = stopped ≡ stop.Writer error
 
 -- how a run that ends early stops a program
 abbrev pub StopsAs : RunStop → Stop → Type 0
@@ -47,15 +51,9 @@ StopsAs (run.Store fault) stopped = stopped ≡ stop.Store fault
 StopsAs run.Refused stopped = stopped ≡ stop.Refused
 StopsAs (run.Writer error) stopped = stopped ≡ stop.Writer error
 
--- contents show a checkpoint's memory
-abbrev pub ShowsMemory : List (List ℕ) → Type 0
-ShowsMemory contents = (moment : ℕ × PlainMemory) × Shows contents (Some moment)
-
--- every open slot is an image, with a serial of its own
-pub record IsReadable (contents : List (List ℕ)) : Type 0 where
-  pub images : List Image
-  pub store : IsStore contents images
-
--- contents show a checkpoint's memory, or that nothing was saved
-abbrev pub IsShowing : List (List ℕ) → Type 0
-IsShowing contents = (shown : Option (ℕ × PlainMemory)) × Shows contents shown
+-- how a fault of a run of threads stops a program
+abbrev pub StopsMutating : MutateFault → Stop → Type 0
+StopsMutating (mutate.Store fault) stopped = stopped ≡ stop.Fault fault
+StopsMutating mutate.NotEmpty stopped = stopped ≡ stop.NotEmpty
+StopsMutating (mutate.Open fault) stopped = stopped ≡ stop.Store fault
+StopsMutating (mutate.Refused why) stopped = stopped ≡ stop.Order why

@@ -1,5 +1,6 @@
 //! The words that the program is called with.
 
+use clap::builder::ValueParser;
 use clap::{Arg, ArgAction, Command, Error};
 use std::alloc::Global;
 
@@ -81,6 +82,22 @@ DIR); 2 for a fault of the command line.
 
 Only one program at a time can have a store open that is run or merged.";
 
+const MUTATE: &str = "Example:
+  ckpt mutate store 4
+
+Needs a store without an image. Each thread stores the numbers 1 to 1,000 at the start of a page
+of its own, from 0x100000 on in space 1, and loads each back. Meanwhile two checkpoints of two
+rounds are made, the second beside a merge, and a third one when all have ended. Prints threads T
+stores S acked N, and then close ok where the journal accounts for what each thread was told, or
+close failed.
+
+Status: 0 where all was done and accounted for; 1 where a checkpoint or a thread was refused, or
+the store has an image (store not empty), or the store, its device, memory or the printing
+failed (damaged SSS WHY, device, out-of-memory, cannot open DIR); 2 for a fault of the command
+line.
+
+Only one program at a time can have a store open that is run, merged or mutated.";
+
 /// The folder that each program needs.
 fn dir<'a>(alloc: Global) -> Arg<'a> {
     Arg::new(alloc, "DIR").required(true).help(DIR)
@@ -121,6 +138,23 @@ fn merge<'a>(alloc: Global) -> Result<Command<'a>, Error> {
         .arg(quiet(
             alloc,
             "Shows no progress on standard error, and no cause of a fault of the folder or its device",
+        ))?;
+    Ok(command)
+}
+
+fn mutate<'a>(alloc: Global) -> Result<Command<'a>, Error> {
+    let threads = Arg::new(alloc, "THREADS")
+        .required(true)
+        .value_parser(ValueParser::unsigned(1, 8))
+        .help("How many threads store, 1 to 8");
+    let command = Command::new(alloc, "mutate")
+        .about("Stores by threads into an empty store while checkpoints are made")
+        .after_help(MUTATE)
+        .arg(dir(alloc))?
+        .arg(threads)?
+        .arg(quiet(
+            alloc,
+            "Shows no cause of a fault of the folder or its device on standard error",
         ))?;
     Ok(command)
 }
@@ -166,6 +200,7 @@ pub fn command<'a>(alloc: Global) -> Result<Command<'a>, Error> {
         .subcommand_required(true)
         .subcommand(run(alloc)?)?
         .subcommand(merge(alloc)?)?
+        .subcommand(mutate(alloc)?)?
         .subcommand(restore)?
         .subcommand(list)?
         .subcommand(verify)?;

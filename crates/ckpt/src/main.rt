@@ -5,6 +5,8 @@ use cause::{Causes, tell, tell_device, tell_line};
 use clap::ArgMatches;
 use progress::ProgressLine;
 use sd_disk::{DirDisk, Disk, Folder, OpenError};
+use sd_mutate::{Tally, mutate};
+use sd_report::{print_list, print_report, print_restored};
 use sd_restore::Fault;
 use sd_run::{Watch, merge_store, run_lines};
 use sd_script::{Script, ScriptError};
@@ -14,23 +16,18 @@ use std::io;
 use std::io::{BufWriter, IsTerminal, Lock, Write};
 use std::process::ExitCode;
 use std::rt::{Env, Files};
+use std::sync::Wait;
+use std::thread::Threads;
 use stop::{FAILED, Stop, UNFIT};
 
 mod cause;
 mod command_line;
-mod list;
-mod listing;
-mod page_text;
 mod progress;
 #[cfg(test)]
 mod progress_tests;
-mod restore;
 mod stop;
 #[cfg(test)]
-mod store_tests;
-#[cfg(test)]
 mod tests;
-mod verify;
 
 /// Opens the store in a folder.
 fn open_store(
@@ -84,8 +81,8 @@ fn run_over<D: Disk, W: Write, S: Watch>(
     let (mut disk, ended) = run_lines(alloc, disk, script, out, watch);
     match ended {
         Ok(()) if restores => {
-            let restored = restore::print_restored(alloc, &mut disk, out);
-            (disk, restored)
+            let restored = print_restored(alloc, &mut disk, out);
+            (disk, restored.map_err(Stop::from))
         }
         Ok(()) => (disk, Ok(())),
         Err(stop) => (disk, Err(Stop::from(stop))),
@@ -135,6 +132,34 @@ fn merge_program<W: Write>(
     Ok(ended?)
 }
 
+/// `ckpt mutate`: files that are missing are made.
+fn mutate_program<R: Threads + Wait + Sync, W: Write>(
+    rt: &HostRuntime,
+    threads: &R,
+    words: &ArgMatches<'_>,
+    out: &mut W,
+) -> Result<(), Stop> {
+    let folder = words.get_str("DIR").unwrap_or("");
+    let causes = causes_asked(words);
+    let count = words.get_one::<usize>("THREADS").unwrap_or(1);
+    let disk = open_store(rt, causes, folder, true)?;
+    let (disk, ended) = mutate(threads, rt.alloc(), disk, count);
+    if let Some(disk) = &disk {
+        tell_device(rt, causes, folder, disk);
+    }
+    print_tally(&ended?, out)
+}
+
+/// Prints what was done by threads. A tally that isn't whole is a failure.
+fn print_tally<W: Write>(tally: &Tally, out: &mut W) -> Result<(), Stop> {
+    writeln!(out, "{tally}")?;
+    if tally.is_whole() {
+        Ok(())
+    } else {
+        Err(Stop::Refused)
+    }
+}
+
 /// The programs that only read a store, by their names.
 fn read_program<W: Write>(
     rt: &(impl Files<File = File> + Eprint + AllocGlobal),
@@ -145,33 +170,40 @@ fn read_program<W: Write>(
     let folder = words.get_str("DIR").unwrap_or("");
     let mut disk = open_store(rt, Causes::Told, folder, false)?;
     let ended = match name {
-        "list" => list::print_list(rt.alloc(), &mut disk, out),
-        "verify" => verify::print_report(rt.alloc(), &mut disk, out),
-        _ => restore::print_restored(rt.alloc(), &mut disk, out),
+        "list" => print_list(rt.alloc(), &mut disk, out),
+        "verify" => print_report(rt.alloc(), &mut disk, out),
+        _ => print_restored(rt.alloc(), &mut disk, out),
     };
     tell_device(rt, Causes::Told, folder, &disk);
-    ended
+    Ok(ended?)
 }
 
 /// Runs the program that the words ask for.
-fn run_matches<W: Write>(
+fn run_matches<R: Threads + Wait + Sync, W: Write>(
     rt: &HostRuntime,
+    threads: &R,
     matches: &ArgMatches<'_>,
     out: &mut W,
 ) -> Result<(), Stop> {
     match matches.subcommand() {
         Some(("run", words)) => run_program(rt, words, out),
         Some(("merge", words)) => merge_program(rt, words, out),
+        Some(("mutate", words)) => mutate_program(rt, threads, words, out),
         Some((name, words)) => read_program(rt, name, words, out),
         None => Ok(()),
     }
 }
 
 /// Runs the program that the words ask for, and returns its exit status. The error is a fault of the words.
-fn run_words<W: Write>(rt: &HostRuntime, words: &[String], out: &mut W) -> Result<u8, clap::Error> {
+fn run_words<R: Threads + Wait + Sync, W: Write>(
+    rt: &HostRuntime,
+    threads: &R,
+    words: &[String],
+    out: &mut W,
+) -> Result<u8, clap::Error> {
     let command = command_line::command(rt.alloc())?;
     let matches = command.try_get_matches_from(words)?;
-    let ended = run_matches(rt, &matches, out);
+    let ended = run_matches(rt, threads, &matches, out);
     if let Err(Stop::Writer(error)) = &ended {
         tell(rt, Causes::Told, PRINTED, error);
     }
@@ -193,9 +225,13 @@ fn finish<W: Write>(rt: &impl Eprint, out: &mut W, status: u8) -> u8 {
 }
 
 /// Runs the program that the words ask for, or prints what is wrong with them, or the help; and returns the status.
-fn run_command(rt: &HostRuntime, words: &[String]) -> io::Result<u8> {
+fn run_command<R: Threads + Wait + Sync>(
+    rt: &HostRuntime,
+    threads: &R,
+    words: &[String],
+) -> io::Result<u8> {
     let mut out = BufWriter::new(rt.alloc(), io::writer(rt))?;
-    match run_words(rt, words, &mut out) {
+    match run_words(rt, threads, words, &mut out) {
         Ok(status) => Ok(finish(rt, &mut out, status)),
         Err(error) => {
             error.print(rt)?;
@@ -238,7 +274,7 @@ fn words_of(rt: &(impl Env + Eprint + AllocGlobal)) -> Result<Vec<String>, u8> {
 }
 
 /// The exit status.
-fn status_of(rt: &HostRuntime) -> u8 {
+fn status_of<R: Threads + Wait + Sync>(rt: &HostRuntime, threads: &R) -> u8 {
     let held = hold_descriptors(rt);
     if let Err(error) = &held {
         tell(rt, Causes::Told, NOTHING, error);
@@ -248,7 +284,7 @@ fn status_of(rt: &HostRuntime) -> u8 {
         Ok(words) => words,
         Err(status) => return status,
     };
-    match run_command(rt, &words) {
+    match run_command(rt, threads, &words) {
         Ok(status) => status,
         Err(error) => {
             tell(rt, Causes::Told, PRINTED, &error);
@@ -258,5 +294,5 @@ fn status_of(rt: &HostRuntime) -> u8 {
 }
 
 fn main(rt: HostRuntime) -> ExitCode {
-    ExitCode::from(status_of(&rt))
+    ExitCode::from(status_of(&rt, &rt))
 }

@@ -2,6 +2,9 @@
 ghost use Rattle.std.specs.Prelude.{◌≡◌};
 ghost use Rattle.ckpt.specs.Ending.{Ends, status_of};
 
+use sd_command::Refusal;
+use sd_mutate::MutateFault;
+use sd_report::Stop as ReportStop;
 use sd_restore::Fault;
 use sd_run::Stop as RunStop;
 use sd_script::ScriptError;
@@ -27,6 +30,10 @@ pub enum Stop {
     ScriptLine(usize),
     CannotReadScript,
     CannotOpenFolder,
+    /// An image is open in a store that has to be empty.
+    NotEmpty,
+    /// An order was refused, as is to be printed.
+    Order(Refusal),
     /// The order was refused, as its answer tells, which is printed already.
     Refused,
     /// Nothing more can be printed.
@@ -41,6 +48,8 @@ impl fmt::Display for Stop {
             Stop::ScriptLine(number) => write!(f, "script line {number}"),
             Stop::CannotReadScript => f.write_str("cannot read SCRIPT"),
             Stop::CannotOpenFolder => f.write_str("cannot open DIR"),
+            Stop::NotEmpty => f.write_str("store not empty"),
+            Stop::Order(why) => write!(f, "refused {} {}", why.number(), why.name()),
             Stop::Refused => f.write_str("refused"),
             Stop::Writer(_) => f.write_str("cannot print"),
         }
@@ -109,6 +118,19 @@ impl From<ScriptError> for Stop {
     }
 }
 
+impl From<ReportStop> for Stop {
+    ghost use Rattle.ckpt.specs.Ending.{StopsReading};
+
+    ghost from_gives = { StopsReading };
+
+    fn from(stop: ReportStop) -> Stop {
+        match stop {
+            ReportStop::Fault(fault) => Stop::Fault(fault),
+            ReportStop::Writer(error) => Stop::Writer(error),
+        }
+    }
+}
+
 impl From<RunStop> for Stop {
     ghost use Rattle.ckpt.specs.Ending.{StopsAs};
 
@@ -121,6 +143,21 @@ impl From<RunStop> for Stop {
             RunStop::Store(fault) => Stop::Store(fault),
             RunStop::Refused => Stop::Refused,
             RunStop::Writer(error) => Stop::Writer(error),
+        }
+    }
+}
+
+impl From<MutateFault> for Stop {
+    ghost use Rattle.ckpt.specs.Ending.{StopsMutating};
+
+    ghost from_gives = { StopsMutating };
+
+    fn from(fault: MutateFault) -> Stop {
+        match fault {
+            MutateFault::Store(fault) => Stop::Fault(fault),
+            MutateFault::NotEmpty => Stop::NotEmpty,
+            MutateFault::Open(fault) => Stop::Store(fault),
+            MutateFault::Refused(why) => Stop::Order(why),
         }
     }
 }

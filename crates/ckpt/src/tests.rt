@@ -1,9 +1,9 @@
 //! Whole runs, and the restore of what they leave.
 
 use crate::cause::Causes;
-use crate::restore::restore_to;
 use crate::run_over;
 use sd_disk::{Disk, MemDisk};
+use sd_report::restore_to;
 use sd_run::{Unwatched, run_script};
 use sd_script::Script;
 use std::alloc::{AllocError, Global};

@@ -63,6 +63,7 @@ use std::marker::Model;
 
 mod merges;
 mod openings;
+mod told;
 
 /// The memory of a run, its journal, its workers, and what is known of its store.
 #[derive(Drop)]
@@ -193,13 +194,6 @@ impl Core {
         ensures { result ≡ pages_of self.now.dumper.running }
     {
         self.dumper.pages()
-    }
-
-    /// The memory of the run.
-    pub fn memory(&self) -> &Memory
-        ensures same { result.now ≡ self.now.memory }
-    {
-        &self.memory
     }
 
     /// A law: the journal is legal, the memory is the one that it makes, and its bits are those that the commands and

@@ -15,3 +15,4 @@ mod OpenLemmas
 mod RestoreLemmas
 mod LimitLemmas
 mod LittleLemmas
+mod AuditLemmas

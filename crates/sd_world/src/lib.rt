@@ -2,6 +2,7 @@
 //! says.
 #![tactic(auto)]
 
+mod auditing;
 mod event;
 mod kept;
 mod looking;
@@ -12,6 +13,7 @@ mod restoring;
 mod stepping;
 mod world;
 
+pub use auditing::audit;
 pub use event::Event;
 pub use open_error::OpenError;
 pub use open_fault::OpenFault;

@@ -139,6 +139,15 @@ impl<D: Disk> World<D> {
         self.disk
     }
 
+    /// The core and the disk, as they stand. What is kept of the workers is dropped.
+    pub fn into_parts(self) -> (Core, D)
+        ensures core { result.0 ≡ self.core }
+        ensures disk { result.1 ≡ self.disk }
+    {
+        let World { core, disk, .. } = self;
+        (core, disk)
+    }
+
     /// A law: whatever a crash leaves now shows a pair that the journal allows, and so do the contents as read. The
     /// journal is legal, the memory is the one that it makes, and its bits are those that the commands and visits give.
     pub fn sound(&self)

@@ -32,8 +32,8 @@ fn made(memory: &mut Memory, step: Step) -> Result<(), MemoryError> {
     }
 }
 
-/// A number that stands for the areas of all spaces, and for each page's number, word and first byte.
-fn digest(memory: &Memory) -> u64 {
+/// A number that stands for how many areas each space has.
+fn digest_of_areas(memory: &Memory) -> u64 {
     let mut digest = 0u64;
     for number in 1..=16 {
         let areas = match memory.areas(SpaceId::new(number)) {
@@ -42,6 +42,12 @@ fn digest(memory: &Memory) -> u64 {
         };
         digest = digest.wrapping_mul(31).wrapping_add(areas);
     }
+    digest
+}
+
+/// A number that stands for the areas of all spaces, and for each page's number, word and first byte.
+fn digest(memory: &Memory) -> u64 {
+    let mut digest = digest_of_areas(memory);
     let mut after = None;
     for _ in 0..64u64 {
         let Some((space, page)) = memory.next_page(after) else {
@@ -62,61 +68,73 @@ fn begun(alloc: Global) -> Result<Memory, MemoryError> {
     Ok(Memory::new(alloc, 64)?)
 }
 
-/// Makes calls in turn: one that is refused memory returns that and changes nothing, and a second try
-/// is done.
+/// Makes a call: where it is refused memory it changes nothing, and a second try is done.
+fn made_again(rt: &impl Abort, memory: &mut Memory, step: Step) -> Result<(), MemoryError> {
+    let before = digest(memory);
+    let given = made(memory, step);
+    if given != Err(MemoryError::OutOfMemory) {
+        return given;
+    }
+    assert_eq!(rt; digest(memory), before, "unchanged by {step:?}");
+    made(memory, step)
+}
+
+/// Makes calls in turn, each of which changes the memory.
+fn makes_each(rt: &impl Abort, memory: &mut Memory, steps: &[Step]) {
+    for step in steps {
+        let before = digest(memory);
+        let given = made_again(rt, memory, *step);
+        assert_eq!(rt; given, Ok(()), "{step:?}");
+        assert!(rt; digest(memory) != before, "after {step:?}");
+    }
+}
+
+/// The same from a new memory on.
 fn try_each(rt: &(impl Abort + AllocGlobal), steps: &[Step]) -> Result<(), MemoryError> {
     let mut memory = match begun(rt.alloc()) {
         Ok(memory) => memory,
         Err(_) => begun(rt.alloc())?,
     };
-    for step in steps {
-        let step = *step;
-        let before = digest(&memory);
-        let mut given = made(&mut memory, step);
-        if given == Err(MemoryError::OutOfMemory) {
-            assert_eq!(rt; digest(&memory), before, "unchanged by {step:?}");
-            given = made(&mut memory, step);
-        }
-        assert_eq!(rt; given, Ok(()), "{step:?}");
-        assert!(rt; digest(&memory) != before, "after {step:?}");
-    }
+    makes_each(rt, &mut memory, steps);
     Ok(())
 }
 
+const STEPS: [Step; 13] = [
+    Step::Mmap(1, 0x10000, 0x8000),
+    Step::Store(1, 0x10000),
+    Step::Fault(1, 0x11000),
+    Step::Store(1, 0x11000),
+    Step::Mprotect(1, 0x12000, 0x1000),
+    Step::Munmap(1, 0x13000, 0x1000),
+    Step::Mmap(1, 0x10000, 0x10000),
+    Step::Store(1, 0x14000),
+    Step::Fork(1),
+    Step::Store(2, 0x14000),
+    Step::Mmap(2, 0x40000, 0x8000),
+    Step::Fork(2),
+    Step::Fault(3, 0x14000),
+];
+
 #[test]
 fn refused_growth_changes_nothing(rt: HostRuntime) -> Result<(), Fail> {
-    let steps = [
-        Step::Mmap(1, 0x10000, 0x8000),
-        Step::Store(1, 0x10000),
-        Step::Fault(1, 0x11000),
-        Step::Store(1, 0x11000),
-        Step::Mprotect(1, 0x12000, 0x1000),
-        Step::Munmap(1, 0x13000, 0x1000),
-        Step::Mmap(1, 0x10000, 0x10000),
-        Step::Store(1, 0x14000),
-        Step::Fork(1),
-        Step::Store(2, 0x14000),
-        Step::Mmap(2, 0x40000, 0x8000),
-        Step::Fork(2),
-        Step::Fault(3, 0x14000),
-    ];
-    try_each(&rt, &steps)?;
+    try_each(&rt, &STEPS)?;
     Ok(())
 }
+
+const STEPS_OVER_TABLES: [Step; 7] = [
+    Step::Mmap(1, 0x1f_e000, 0x4000),
+    Step::Mmap(1, 0x3fff_f000, 0x2000),
+    Step::Mmap(1, 0x7f_ffff_f000, 0x2000),
+    Step::Store(1, 0x3fff_f000),
+    Step::Fork(1),
+    Step::Munmap(2, 0x20_0000, 0x1000),
+    Step::Fork(2),
+];
 
 /// The same of pages in several tables: each range ends in a table after the one that it begins in.
 #[test]
 fn refused_growth_over_tables(rt: HostRuntime) -> Result<(), Fail> {
-    let steps = [
-        Step::Mmap(1, 0x1f_e000, 0x4000),
-        Step::Mmap(1, 0x3fff_f000, 0x2000),
-        Step::Mmap(1, 0x7f_ffff_f000, 0x2000),
-        Step::Store(1, 0x3fff_f000),
-        Step::Fork(1),
-        Step::Munmap(2, 0x20_0000, 0x1000),
-        Step::Fork(2),
-    ];
-    try_each(&rt, &steps)?;
+    try_each(&rt, &STEPS_OVER_TABLES)?;
     Ok(())
 }
 
@@ -131,6 +149,23 @@ fn snapshot(alloc: Global) -> Result<Snapshot, AllocError> {
     snapshot_of(alloc, &[1, 3], &SAVED)
 }
 
+/// A memory that begins with a snapshot. Where that is refused, it is for want of memory, and is tried again.
+fn loaded(rt: &impl Abort, alloc: Global, saved: &Snapshot) -> Result<Memory, MemoryError> {
+    match Memory::from_snapshot(alloc, 2, saved) {
+        Ok(memory) => Ok(memory),
+        Err(error) => {
+            assert_eq!(rt; error, MemoryError::OutOfMemory);
+            Memory::from_snapshot(alloc, 2, saved)
+        }
+    }
+}
+
+fn is_loaded(rt: &impl Abort, alloc: Global, saved: &Snapshot) -> Result<(), Fail> {
+    let memory = loaded(rt, alloc, saved)?;
+    assert_eq!(rt; memory.word(SpaceId::new(1), page(rt, 17)), DIRTY_ALONE);
+    Ok(())
+}
+
 /// A snapshot whose loading is refused memory can be loaded again.
 #[test]
 fn refused_loading(rt: HostRuntime) -> Result<(), Fail> {
@@ -138,13 +173,5 @@ fn refused_loading(rt: HostRuntime) -> Result<(), Fail> {
         Ok(snapshot) => snapshot,
         Err(_) => snapshot(rt.alloc())?,
     };
-    let memory = match Memory::from_snapshot(rt.alloc(), 2, &saved) {
-        Ok(memory) => memory,
-        Err(error) => {
-            assert_eq!(rt; error, MemoryError::OutOfMemory);
-            Memory::from_snapshot(rt.alloc(), 2, &saved)?
-        }
-    };
-    assert_eq!(rt; memory.word(SpaceId::new(1), page(&rt, 17)), DIRTY_ALONE);
-    Ok(())
+    is_loaded(&rt, rt.alloc(), &saved)
 }

@@ -8,7 +8,7 @@ use std::test::Fail;
 
 /// A line of a script, with what it returns. First comes the number of the space, and then the
 /// address.
-#[derive(Clone, Copy, Debug)]
+#[derive(Clone, Copy)]
 pub(crate) enum Line {
     /// Maps so many bytes with these permissions.
     Mmap(u64, u64, u64, Prot),
@@ -90,27 +90,68 @@ fn shows(memory: &Memory, space: SpaceId, address: u64, words: &[u64]) -> bool {
     })
 }
 
-/// Whether a call over a range, a fork or an exit returns what its line says. None of another line.
-fn range_returns(memory: &mut Memory, line: Line) -> Result<Option<bool>, AllocError> {
-    Ok(Some(match line {
+/// What a call returned, and what its line says that it returns.
+type Returned = (Result<(), MemoryError>, Result<(), MemoryError>);
+
+/// What a call over a range returned. None of another line.
+fn range_returned(memory: &mut Memory, line: Line) -> Option<Returned> {
+    Some(match line {
         Line::Mmap(space, address, bytes, prot) => {
-            told(memory.mmap(SpaceId::new(space), address, bytes, prot))? == Ok(())
+            (
+                memory.mmap(SpaceId::new(space), address, bytes, prot),
+                Ok(()),
+            )
         }
-        Line::MmapRefused(space, address, bytes, prot, refusal) => {
-            told(memory.mmap(SpaceId::new(space), address, bytes, prot))? == refused(refusal)
-        }
+        Line::MmapRefused(space, address, bytes, prot, refusal) => (
+            memory.mmap(SpaceId::new(space), address, bytes, prot),
+            refused(refusal),
+        ),
         Line::Munmap(space, address, bytes) => {
-            told(memory.munmap(SpaceId::new(space), address, bytes))? == Ok(())
+            (memory.munmap(SpaceId::new(space), address, bytes), Ok(()))
         }
-        Line::MunmapRefused(space, address, bytes, refusal) => {
-            told(memory.munmap(SpaceId::new(space), address, bytes))? == refused(refusal)
-        }
-        Line::Mprotect(space, address, bytes, prot) => {
-            told(memory.mprotect(SpaceId::new(space), address, bytes, prot))? == Ok(())
-        }
-        Line::MprotectRefused(space, address, bytes, prot, refusal) => {
-            told(memory.mprotect(SpaceId::new(space), address, bytes, prot))? == refused(refusal)
-        }
+        Line::MunmapRefused(space, address, bytes, refusal) => (
+            memory.munmap(SpaceId::new(space), address, bytes),
+            refused(refusal),
+        ),
+        Line::Mprotect(space, address, bytes, prot) => (
+            memory.mprotect(SpaceId::new(space), address, bytes, prot),
+            Ok(()),
+        ),
+        Line::MprotectRefused(space, address, bytes, prot, refusal) => (
+            memory.mprotect(SpaceId::new(space), address, bytes, prot),
+            refused(refusal),
+        ),
+        _ => return None,
+    })
+}
+
+/// What a store or a fault returned that may take memory. None of another line.
+fn fault_returned(memory: &mut Memory, line: Line) -> Option<Returned> {
+    Some(match line {
+        Line::StoreNow(space, address, bytes) => (
+            memory.store_now(SpaceId::new(space), address, bytes),
+            Ok(()),
+        ),
+        Line::StoreNowRefused(space, address, bytes, refusal) => (
+            memory.store_now(SpaceId::new(space), address, bytes),
+            refused(refusal),
+        ),
+        Line::Fault(space, address) => (memory.fault(SpaceId::new(space), address), Ok(())),
+        Line::FaultRefused(space, address, refusal) => (
+            memory.fault(SpaceId::new(space), address),
+            refused(refusal),
+        ),
+        Line::FaultStopped(space, address, segv) => (
+            memory.fault(SpaceId::new(space), address),
+            Err(MemoryError::Denied(AccessError::Segv(segv))),
+        ),
+        _ => return None,
+    })
+}
+
+/// Whether a fork, an exit or a clear returns what its line says. None of another line.
+fn space_returns(memory: &mut Memory, line: Line) -> Result<Option<bool>, AllocError> {
+    Ok(Some(match line {
         Line::Fork(space, child) => told(memory.fork(SpaceId::new(space)))?
             == Ok(SpaceId::new(child)),
         Line::ForkRefused(space, refusal) => told(memory.fork(SpaceId::new(space)))?
@@ -133,40 +174,42 @@ fn page_returns(memory: &mut Memory, line: Line) -> Result<bool, AllocError> {
         Line::StoreStopped(space, address, bytes, segv) => {
             memory.try_store(SpaceId::new(space), address, bytes) == Err(AccessError::Segv(segv))
         }
-        Line::StoreNow(space, address, bytes) => {
-            told(memory.store_now(SpaceId::new(space), address, bytes))? == Ok(())
-        }
-        Line::StoreNowRefused(space, address, bytes, refusal) => {
-            told(memory.store_now(SpaceId::new(space), address, bytes))? == refused(refusal)
-        }
-        Line::Fault(space, address) => told(memory.fault(SpaceId::new(space), address))? == Ok(()),
-        Line::FaultRefused(space, address, refusal) => {
-            told(memory.fault(SpaceId::new(space), address))? == refused(refusal)
-        }
-        Line::FaultStopped(space, address, segv) => {
-            told(memory.fault(SpaceId::new(space), address))?
-                == Err(MemoryError::Denied(AccessError::Segv(segv)))
-        }
         Line::Load(space, address, bytes) => loads(memory, SpaceId::new(space), address, bytes),
         Line::LoadStopped(space, address, count, segv) => {
-            load_fails(
-                memory,
-                SpaceId::new(space),
-                address,
-                count,
-                AccessError::Segv(segv),
-            )
+            let error = AccessError::Segv(segv);
+            load_fails(memory, SpaceId::new(space), address, count, error)
         }
-        Line::LoadRefused(space, address, count, refusal) => load_fails(
-            memory,
-            SpaceId::new(space),
-            address,
-            count,
-            AccessError::Refused(refusal),
-        ),
+        Line::LoadRefused(space, address, count, refusal) => {
+            let error = AccessError::Refused(refusal);
+            load_fails(memory, SpaceId::new(space), address, count, error)
+        }
         Line::Words(space, address, words) => shows(memory, SpaceId::new(space), address, words),
         _ => false,
     })
+}
+
+/// Whether a call returns what its line says.
+fn returns(memory: &mut Memory, line: Line) -> Result<bool, AllocError> {
+    if let Some((returned, wanted)) = range_returned(memory, line) {
+        return Ok(told(returned)? == wanted);
+    }
+    if let Some((returned, wanted)) = fault_returned(memory, line) {
+        return Ok(told(returned)? == wanted);
+    }
+    match space_returns(memory, line)? {
+        Some(returns) => Ok(returns),
+        None => page_returns(memory, line),
+    }
+}
+
+/// The first line of a script that returns something else.
+fn first_other(memory: &mut Memory, script: &[Line]) -> Result<Option<usize>, AllocError> {
+    for (index, line) in script.iter().enumerate() {
+        if !returns(memory, *line)? {
+            return Ok(Some(index));
+        }
+    }
+    Ok(None)
 }
 
 /// The first line of a script that returns something else from a memory over so many frames.
@@ -176,14 +219,5 @@ pub(crate) fn first_difference(
     script: &[Line],
 ) -> Result<Option<usize>, Fail> {
     let mut memory = Memory::new(alloc, frames.clamp(1, 65_536))?;
-    for (index, line) in script.iter().enumerate() {
-        let returns = match range_returns(&mut memory, *line)? {
-            Some(returns) => returns,
-            None => page_returns(&mut memory, *line)?,
-        };
-        if !returns {
-            return Ok(Some(index));
-        }
-    }
-    Ok(None)
+    Ok(first_other(&mut memory, script)?)
 }

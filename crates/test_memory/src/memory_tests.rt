@@ -1,10 +1,13 @@
 //! Rows of calls on a memory, and calls whose results no row can hold.
 use crate::line::{Line, first_difference};
 use crate::support::{
-    CLEAN_ALONE, CLEAN_SHARED, DIRTY_ALONE, DIRTY_SHARED, FRESH, READ, READ_WRITE, page, told,
+    CLEAN_ALONE, CLEAN_SHARED, DIRTY_ALONE, DIRTY_SHARED, EINVAL, ENOMEM, FRESH, LAST_SPACE,
+    NO_FRAME, NO_SUCH_SPACE, NOT_MAPPED, READ, READ_WRITE, TOO_MANY_SPACES, page, prints, told,
 };
-use sd_areas::SpaceId;
-use sd_pagetable::{AccessError, Memory, MemoryError, MemoryRefusal, Segv, StoreOutcome};
+use sd_areas::{PageNo, SpaceId};
+use sd_pagetable::{Memory, MemoryError, MemoryRefusal, Segv, StoreOutcome};
+use std::alloc::Global;
+use std::process::Abort;
 use std::test::Fail;
 
 /// A pool of one frame: a second page gets it once the first is unmapped.
@@ -97,16 +100,60 @@ const ROWS: [(&str, usize, &[Line]); 6] = [
     ("boundaries", 16, &BOUNDARIES),
 ];
 
+fn return_each(
+    rt: &impl Abort,
+    alloc: Global,
+    rows: &[(&'static str, usize, &'static [Line])],
+) -> Result<(), Fail> {
+    for (name, frames, script) in rows {
+        assert_eq!(rt; first_difference(alloc, *frames, script)?, None, "{name}");
+    }
+    Ok(())
+}
+
 /// Each row returns what its lines say.
 #[test]
 fn rows_of_calls(rt: HostRuntime) -> Result<(), Fail> {
-    for (name, frames, script) in ROWS {
-        assert_eq!(rt;
-            first_difference(rt.alloc(), frames, script)?,
-            None,
-            "{name}"
-        );
-    }
+    return_each(&rt, rt.alloc(), &ROWS)
+}
+
+/// Stores to the only page, which is fresh.
+fn stores_to_fresh(rt: &impl Abort, memory: &mut Memory, page: PageNo) -> Result<(), Fail> {
+    let space = SpaceId::new(1);
+    assert_eq!(rt; memory.word(space, page), FRESH);
+    let needs_fault = Ok(StoreOutcome::NeedsFault);
+    assert_eq!(rt; memory.try_store(space, 0x10000, &[0x61]), needs_fault);
+    memory.store_now(space, 0x10000, &[0x61])?;
+    assert_eq!(rt; memory.word(space, page), DIRTY_ALONE);
+    Ok(())
+}
+
+fn is_cleared(rt: &impl Abort, memory: &mut Memory, page: PageNo) {
+    let space = SpaceId::new(1);
+    assert_eq!(rt; memory.test_and_clear(space, page), Some(true));
+    assert_eq!(rt; memory.word(space, page), CLEAN_ALONE);
+    let needs_fault = Ok(StoreOutcome::NeedsFault);
+    assert_eq!(rt; memory.try_store(space, 0x10000, &[0x62]), needs_fault);
+}
+
+fn is_read(rt: &impl Abort, memory: &Memory, page: PageNo) {
+    let space = SpaceId::new(1);
+    let mut sector = [7; 512];
+    assert!(rt; memory.read_sector(space, page, 0, &mut sector));
+    assert_eq!(rt; (sector[0], sector[1]), (0x61, 0));
+    assert_eq!(rt; memory.next_page(None), Some((space, page)));
+    assert_eq!(rt; memory.next_page(Some((space, page))), None);
+}
+
+fn has_exact_bits(rt: &impl Abort, memory: &mut Memory) -> Result<(), Fail> {
+    let space = SpaceId::new(1);
+    let page = page(rt, 16);
+    assert_eq!(rt; memory.word(space, page), 0);
+    memory.mmap(space, 0x10000, 4096, READ_WRITE)?;
+    memory.sound();
+    stores_to_fresh(rt, memory, page)?;
+    is_cleared(rt, memory, page);
+    is_read(rt, memory, page);
     Ok(())
 }
 
@@ -114,24 +161,15 @@ fn rows_of_calls(rt: HostRuntime) -> Result<(), Fail> {
 #[test]
 fn exact_bits(rt: HostRuntime) -> Result<(), Fail> {
     let mut memory = Memory::new(rt.alloc(), 16)?;
-    let space = SpaceId::new(1);
-    let page = page(&rt, 16);
-    assert_eq!(rt; memory.word(space, page), 0);
-    memory.mmap(space, 0x10000, 4096, READ_WRITE)?;
-    memory.sound();
-    assert_eq!(rt; memory.word(space, page), FRESH);
-    let needs_fault = Ok(StoreOutcome::NeedsFault);
-    assert_eq!(rt; memory.try_store(space, 0x10000, &[0x61]), needs_fault);
-    memory.store_now(space, 0x10000, &[0x61])?;
-    assert_eq!(rt; memory.word(space, page), DIRTY_ALONE);
-    assert_eq!(rt; memory.test_and_clear(space, page), Some(true));
-    assert_eq!(rt; memory.word(space, page), CLEAN_ALONE);
-    assert_eq!(rt; memory.try_store(space, 0x10000, &[0x62]), needs_fault);
-    let mut sector = [7; 512];
-    assert!(rt; memory.read_sector(space, page, 0, &mut sector));
-    assert_eq!(rt; (sector[0], sector[1]), (0x61, 0));
-    assert_eq!(rt; memory.next_page(None), Some((space, page)));
-    assert_eq!(rt; memory.next_page(Some((space, page))), None);
+    has_exact_bits(&rt, &mut memory)
+}
+
+fn forks_to_sixteen(rt: &impl Abort, memory: &mut Memory) -> Result<(), Fail> {
+    let first = SpaceId::new(1);
+    for number in 2..=16 {
+        assert_eq!(rt; memory.fork(first)?, SpaceId::new(number));
+    }
+    assert_eq!(rt; told(memory.fork(first))?, Err(TOO_MANY_SPACES));
     Ok(())
 }
 
@@ -139,22 +177,10 @@ fn exact_bits(rt: HostRuntime) -> Result<(), Fail> {
 #[test]
 fn sixteen_spaces(rt: HostRuntime) -> Result<(), Fail> {
     let mut memory = Memory::new(rt.alloc(), 16)?;
-    let first = SpaceId::new(1);
-    for number in 2..=16 {
-        assert_eq!(rt; memory.fork(first)?, SpaceId::new(number));
-    }
-    let refused = AccessError::Refused(MemoryRefusal::TooManySpaces);
-    assert_eq!(rt;
-        told(memory.fork(first))?,
-        Err(MemoryError::Denied(refused))
-    );
-    Ok(())
+    forks_to_sixteen(&rt, &mut memory)
 }
 
-/// Many stores over a thousand pages, and a fork of two thousand with a store to each.
-#[test]
-fn many_stores(rt: HostRuntime) -> Result<(), Fail> {
-    let mut memory = Memory::new(rt.alloc(), 65_536)?;
+fn store_often(memory: &mut Memory) -> Result<(), Fail> {
     let space = SpaceId::new(1);
     memory.mmap(space, 0, 2_000 * 4096, READ_WRITE)?;
     for turn in 0..20_000u64 {
@@ -168,26 +194,30 @@ fn many_stores(rt: HostRuntime) -> Result<(), Fail> {
     Ok(())
 }
 
+/// Many stores over a thousand pages, and a fork of two thousand with a store to each.
+#[test]
+fn many_stores(rt: HostRuntime) -> Result<(), Fail> {
+    let mut memory = Memory::new(rt.alloc(), 65_536)?;
+    store_often(&mut memory)
+}
+
+/// Errors, and what they print.
+const PRINTED: [(MemoryError, &str); 8] = [
+    (EINVAL, "1 EINVAL"),
+    (ENOMEM, "2 ENOMEM"),
+    (NO_SUCH_SPACE, "3 no-such-space"),
+    (TOO_MANY_SPACES, "4 too-many-spaces"),
+    (NO_FRAME, "5 no-frame"),
+    (LAST_SPACE, "15 last-space"),
+    (NOT_MAPPED, "segv maperr"),
+    (MemoryError::OutOfMemory, "out-of-memory"),
+];
+
 /// What refusals print.
 #[test]
 fn prints_refusals(rt: HostRuntime) -> Result<(), Fail> {
-    for (refusal, text) in [
-        (MemoryRefusal::Einval, "1 EINVAL"),
-        (MemoryRefusal::Enomem, "2 ENOMEM"),
-        (MemoryRefusal::NoSuchSpace, "3 no-such-space"),
-        (MemoryRefusal::TooManySpaces, "4 too-many-spaces"),
-        (MemoryRefusal::NoFrame, "5 no-frame"),
-        (MemoryRefusal::LastSpace, "15 last-space"),
-    ] {
-        let error = MemoryError::Denied(AccessError::Refused(refusal));
-        assert_eq!(rt; format!(in rt.alloc(); "{error}")?.as_str(), text);
-    }
-    let stopped = MemoryError::Denied(AccessError::Segv(Segv::Maperr));
-    for (error, text) in [
-        (stopped, "segv maperr"),
-        (MemoryError::OutOfMemory, "out-of-memory"),
-    ] {
-        assert_eq!(rt; format!(in rt.alloc(); "{error}")?.as_str(), text);
+    for (error, text) in &PRINTED {
+        prints(&rt, format!(in rt.alloc(); "{error}")?, text);
     }
     Ok(())
 }

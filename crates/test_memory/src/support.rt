@@ -100,6 +100,11 @@ pub(crate) fn page(rt: &impl Abort, number: u64) -> PageNo {
     PageNo::new(number).expect(rt, "a page number")
 }
 
+/// What was printed is this text.
+pub(crate) fn prints(rt: &impl Abort, printed: String, text: &str) {
+    assert_eq!(rt; printed.as_str(), text);
+}
+
 /// A page of a snapshot, by its space, its number, its permissions and its first byte.
 pub(crate) type FirstByte = (u64, u64, Prot, u8);
 

@@ -28,21 +28,30 @@ fn next_after(rt: &impl Abort, memory: &Memory, number: u64) -> Option<u64> {
     Some(next.number())
 }
 
+fn map_borders(memory: &mut Memory) -> Result<(), MemoryError> {
+    for number in BORDERS.iter().rev() {
+        map(memory, *number)?;
+    }
+    Ok(())
+}
+
+fn finds_borders(rt: &impl Abort, memory: &mut Memory) -> Result<(), Fail> {
+    map_borders(memory)?;
+    assert_eq!(rt; memory.next_page(None), Some((only_space(), page(rt, 0))));
+    for (number, next) in BORDERS.iter().zip(&BORDERS[1..]) {
+        assert_eq!(rt; next_after(rt, memory, *number), Some(*next));
+    }
+    assert_eq!(rt; next_after(rt, memory, (1 << 35) - 1), None);
+    memory.munmap(only_space(), 512 * PAGE_BYTES, PAGE_BYTES)?;
+    assert_eq!(rt; next_after(rt, memory, 511), Some(1 << 18));
+    Ok(())
+}
+
 /// Pages that were mapped in falling order are found in rising order.
 #[test]
 fn pages_at_the_borders_of_tables(rt: HostRuntime) -> Result<(), Fail> {
     let mut memory = Memory::new(rt.alloc(), 64)?;
-    for number in BORDERS.iter().rev() {
-        map(&mut memory, *number)?;
-    }
-    assert_eq!(rt; memory.next_page(None), Some((only_space(), page(&rt, 0))));
-    for (number, next) in BORDERS.iter().zip(&BORDERS[1..]) {
-        assert_eq!(rt; next_after(&rt, &memory, *number), Some(*next));
-    }
-    assert_eq!(rt; next_after(&rt, &memory, (1 << 35) - 1), None);
-    memory.munmap(only_space(), 512 * PAGE_BYTES, PAGE_BYTES)?;
-    assert_eq!(rt; next_after(&rt, &memory, 511), Some(1 << 18));
-    Ok(())
+    finds_borders(&rt, &mut memory)
 }
 
 /// A call on one page or two.
@@ -139,17 +148,24 @@ fn is_plain(memory: &Memory, words: &BTreeMap<u64, u64>) -> bool {
     memory.next_page(place_of(before)).is_none()
 }
 
+fn is_as_plain(
+    rt: &impl Abort,
+    memory: &mut Memory,
+    words: &mut BTreeMap<u64, u64>,
+) -> Result<(), Fail> {
+    let mut seed = 1;
+    for _ in 0..400 {
+        let call = by_chance(&mut seed);
+        let returned = told(made(memory, call))?;
+        assert_eq!(rt; returned, made_plain(words, call)?, "{call:?}");
+        assert!(rt; is_plain(memory, words), "after {call:?}");
+    }
+    Ok(())
+}
+
 /// Calls by chance do to a memory what they do to a plain map.
 #[test]
 fn calls_by_chance(rt: HostRuntime) -> Result<(), Fail> {
     let mut memory = Memory::new(rt.alloc(), 64)?;
-    let mut words = BTreeMap::new(rt.alloc());
-    let mut seed = 1;
-    for _ in 0..400 {
-        let call = by_chance(&mut seed);
-        let returned = told(made(&mut memory, call))?;
-        assert_eq!(rt; returned, made_plain(&mut words, call)?, "{call:?}");
-        assert!(rt; is_plain(&memory, &words), "after {call:?}");
-    }
-    Ok(())
+    is_as_plain(&rt, &mut memory, &mut BTreeMap::new(rt.alloc()))
 }

@@ -21,10 +21,22 @@ fn plays(
     Ok(driver)
 }
 
-/// Plays a script over a store, and then another one in a second run over what the first left.
-fn plays_again(rt: &impl Abort, alloc: Global, first: &str, second: &str) -> Result<(), Fail> {
-    let driver = plays(rt, alloc, store(alloc, SLOTS)?, first)?;
-    play(rt, alloc, &mut driver.run_again(alloc)?, second)
+/// Plays a script over a store, and goes on with another one.
+fn plays_on(
+    rt: &impl Abort,
+    alloc: Global,
+    disk: Fused<MemDisk>,
+    first: &str,
+    second: &str,
+) -> Result<(), Fail> {
+    let mut driver = plays(rt, alloc, disk, first)?;
+    play(rt, alloc, &mut driver, second)
+}
+
+/// Plays a script in a second run, over what a first one left.
+fn plays_again(rt: &impl Abort, alloc: Global, first: Driver, second: &str) -> Result<(), Fail> {
+    let mut again = first.run_again(alloc)?;
+    play(rt, alloc, &mut again, second)
 }
 
 /// The first checkpoint of one page takes 37 events: the freeze is the tenth, and until then commands are answered.
@@ -43,12 +55,6 @@ load = refused 6 frozen
 steps 1 = acked 1
 load = bytes 01
 steps 1 = refused 14 idle";
-
-#[test]
-fn count_of_steps(rt: HostRuntime) -> Result<(), Fail> {
-    plays(&rt, rt.alloc(), store(rt.alloc(), SLOTS)?, STEPS)?;
-    Ok(())
-}
 
 /// Checkpoints of no to two pre-dumps, with stores between their steps.
 const FIRST: &str = "\
@@ -83,11 +89,6 @@ merge = worked
 merge = refused 11 busy
 begin 0 = begun 5";
 
-#[test]
-fn second_run(rt: HostRuntime) -> Result<(), Fail> {
-    plays_again(&rt, rt.alloc(), FIRST, SECOND)
-}
-
 /// A checkpoint is cancelled before its freeze, and after it; the next one has the next number.
 const CANCELLED: &str = "\
 reopen = worked
@@ -107,12 +108,6 @@ cancel = refused 14 idle
 begin 0 = begun 3
 finish = acked 3";
 
-#[test]
-fn cancelled(rt: HostRuntime) -> Result<(), Fail> {
-    plays(&rt, rt.alloc(), store(rt.alloc(), SLOTS)?, CANCELLED)?;
-    Ok(())
-}
-
 /// A pre-dump clears the page's bit and is open when its checkpoint is cancelled: the next checkpoint takes the page all
 /// the same, as a second run finds.
 const STALE: &str = "\
@@ -128,11 +123,6 @@ steps 36 = worked
 cancel = cancelled 2
 begin 0 = begun 3
 finish = acked 3";
-
-#[test]
-fn stale_bits(rt: HostRuntime) -> Result<(), Fail> {
-    plays_again(&rt, rt.alloc(), STALE, "load = bytes 02")
-}
 
 /// A call of the second checkpoint fails at its gate or behind it: it is in doubt, and can't be cancelled.
 const DOUBTFUL: &str = "\
@@ -154,8 +144,7 @@ merge = refused 13 store-down";
 #[test]
 fn doubtful_commit_is_found(rt: HostRuntime) -> Result<(), Fail> {
     let disk = failing_store(rt.alloc(), SLOTS, 56)?;
-    let mut driver = plays(&rt, rt.alloc(), disk, DOUBTFUL)?;
-    play(&rt, rt.alloc(), &mut driver, FOUND)
+    plays_on(&rt, rt.alloc(), disk, DOUBTFUL, FOUND)
 }
 
 const FOUND: &str = "\
@@ -169,8 +158,7 @@ finish = acked 3";
 #[test]
 fn doubtful_commit_is_not_found(rt: HostRuntime) -> Result<(), Fail> {
     let disk = dropping_store(rt.alloc(), SLOTS, 55)?;
-    let mut driver = plays(&rt, rt.alloc(), disk, DOUBTFUL)?;
-    play(&rt, rt.alloc(), &mut driver, NOT_FOUND)
+    plays_on(&rt, rt.alloc(), disk, DOUBTFUL, NOT_FOUND)
 }
 
 const NOT_FOUND: &str = "\
@@ -192,12 +180,6 @@ begin 1 = refused 12 no-slot
 begin 0 = begun 2
 finish = acked 2";
 
-#[test]
-fn refused_beginnings(rt: HostRuntime) -> Result<(), Fail> {
-    plays(&rt, rt.alloc(), store(rt.alloc(), 4)?, REFUSED)?;
-    Ok(())
-}
-
 /// In a store of two slots the first checkpoint is acknowledged, and for a second one a slot is missing.
 const TWO_SLOTS: &str = "\
 reopen = worked
@@ -206,9 +188,31 @@ begin 0 = begun 1
 finish = acked 1
 begin 0 = refused 12 no-slot";
 
+/// Scripts, and how many slots their stores have.
+const PLAYED: [(usize, &str); 4] = [
+    (SLOTS, STEPS),
+    (SLOTS, CANCELLED),
+    (4, REFUSED),
+    (2, TWO_SLOTS),
+];
+
 #[test]
-fn two_slots(rt: HostRuntime) -> Result<(), Fail> {
-    plays(&rt, rt.alloc(), store(rt.alloc(), 2)?, TWO_SLOTS)?;
+fn scripts_are_answered(rt: HostRuntime) -> Result<(), Fail> {
+    for (slots, script) in PLAYED {
+        plays(&rt, rt.alloc(), store(rt.alloc(), slots)?, script)?;
+    }
+    Ok(())
+}
+
+/// Scripts of a first run, and of a second one over what it left.
+const PLAYED_AGAIN: [(&str, &str); 2] = [(FIRST, SECOND), (STALE, "load = bytes 02")];
+
+#[test]
+fn second_runs(rt: HostRuntime) -> Result<(), Fail> {
+    for (first, second) in PLAYED_AGAIN {
+        let driver = plays(&rt, rt.alloc(), store(rt.alloc(), SLOTS)?, first)?;
+        plays_again(&rt, rt.alloc(), driver, second)?;
+    }
     Ok(())
 }
 
@@ -226,16 +230,23 @@ cancel-or-finish = done
 begin 0 = begun 2
 finish = acked 2";
 
+/// Cancels it behind so many of its events, and goes on.
+fn cancel(rt: &impl Abort, alloc: Global, driver: &mut Driver, count: u64) -> Result<(), Fail> {
+    driver.steps(count);
+    play(rt, alloc, driver, CANCEL_ENDS)
+}
+
+fn cancelled_behind(rt: &impl Abort, alloc: Global, count: u64) -> Result<(), Fail> {
+    let mut driver = plays(rt, alloc, store(alloc, SLOTS)?, CANCEL_BEGINS)?;
+    cancel(rt, alloc, &mut driver, count)?;
+    plays_again(rt, alloc, driver, "load = bytes 01")
+}
+
 /// Behind each of its 62 events a checkpoint is cancelled, and a second run finds what was stored.
 #[test]
 fn cancelled_at_each_step(rt: HostRuntime) -> Result<(), Fail> {
     for count in 0..62 {
-        let disk = store(rt.alloc(), SLOTS)?;
-        let mut driver = plays(&rt, rt.alloc(), disk, CANCEL_BEGINS)?;
-        driver.steps(count);
-        play(&rt, rt.alloc(), &mut driver, CANCEL_ENDS)?;
-        let mut again = driver.run_again(rt.alloc())?;
-        play(&rt, rt.alloc(), &mut again, "load = bytes 01")?;
+        cancelled_behind(&rt, rt.alloc(), count)?;
     }
     Ok(())
 }

@@ -1,9 +1,10 @@
 //! A world over a disk in memory of which a call may fail. The tests of checkpoints go through it alone.
 use sd_command::Reply;
-use sd_disk::{Fused, MemDisk};
+use sd_disk::{Disk, Fused, MemDisk};
 use sd_gate::Worker;
 use sd_world::{Event, World};
 use std::alloc::Global;
+use std::process::Abort;
 use std::test::Fail;
 
 /// The most events that a job of these tests takes.
@@ -50,13 +51,37 @@ fn empty(alloc: Global, slots: usize) -> Result<MemDisk, Fail> {
     }
 }
 
+/// A world over a store, which isn't opened again yet.
+pub(crate) fn open<D: Disk + Drop>(alloc: Global, disk: D) -> Result<World<D>, Fail> {
+    match World::open(alloc, disk, 16) {
+        Ok(world) => Ok(world),
+        Err(_) => Err(Fail::from("not opened")),
+    }
+}
+
+/// Makes an event, which is answered so.
+pub(crate) fn answers<D: Disk>(rt: &impl Abort, world: &mut World<D>, event: Event, wanted: Reply) {
+    assert_eq!(rt; world.step(&event), wanted);
+}
+
+/// Runs events, which are answered so.
+pub(crate) fn runs<D: Disk>(
+    rt: &impl Abort,
+    world: &mut World<D>,
+    events: &[Event],
+    wanted: &[Reply],
+) -> Result<(), Fail> {
+    let replies = world.run(events)?;
+    assert_eq!(rt; replies.as_slice(), wanted);
+    Ok(())
+}
+
 impl Driver {
     /// A world over a store, which isn't opened again yet.
     pub(crate) fn new(alloc: Global, disk: Fused<MemDisk>) -> Result<Driver, Fail> {
-        match World::open(alloc, disk, 16) {
-            Ok(world) => Ok(Driver { world }),
-            Err(_) => Err(Fail::from("not opened")),
-        }
+        Ok(Driver {
+            world: open(alloc, disk)?,
+        })
     }
 
     /// Makes an event.

@@ -69,6 +69,25 @@ fn make(alloc: Global, driver: &mut Driver, word: &str, number: u64) -> Result<R
     }
 }
 
+/// Makes a request: a word, and a number where it has one.
+fn ask(alloc: Global, driver: &mut Driver, request: &str) -> Result<Reply, Fail> {
+    let (word, number) = request.split_once(' ').unwrap_or((request, "0"));
+    make(alloc, driver, word, number.parse::<u64>().unwrap_or(0))
+}
+
+/// Makes a line of a script, and compares its reply.
+fn is_answered(
+    rt: &impl Abort,
+    alloc: Global,
+    driver: &mut Driver,
+    line: &str,
+) -> Result<(), Fail> {
+    let (request, wanted) = line.split_once(" = ").ok_or("a reply")?;
+    let text = format!(in alloc; "{}", ask(alloc, driver, request)?)?;
+    assert_eq!(rt; text.as_str(), wanted, "{line}");
+    Ok(())
+}
+
 /// Makes a script's lines one after the other, and compares each reply.
 pub(crate) fn play(
     rt: &impl Abort,
@@ -77,11 +96,7 @@ pub(crate) fn play(
     script: &str,
 ) -> Result<(), Fail> {
     for line in script.lines() {
-        let (request, wanted) = line.split_once(" = ").ok_or("a reply")?;
-        let (word, number) = request.split_once(' ').unwrap_or((request, "0"));
-        let reply = make(alloc, driver, word, number.parse::<u64>().unwrap_or(0))?;
-        let text = format!(in alloc; "{reply}")?;
-        assert_eq!(rt; text.as_str(), wanted, "{line}");
+        is_answered(rt, alloc, driver, line)?;
     }
     Ok(())
 }

@@ -1,4 +1,5 @@
 //! Worlds over disks in memory that are empty, and over disks of which one call fails.
+use crate::driver::{open, runs};
 use sd_command::{Refusal, Reply};
 use sd_disk::{Disk, Fused, MemDisk};
 use sd_gate::Worker;
@@ -17,7 +18,6 @@ fn refuses<D: Disk>(rt: &impl Abort, world: &mut World<D>) -> Result<(), Fail> {
         Event::Begin(1),
         Event::Merge,
     ];
-    let replies = world.run(&events)?;
     let wanted = [
         Reply::Refused(Refusal::Idle),
         Reply::Refused(Refusal::Idle),
@@ -26,7 +26,7 @@ fn refuses<D: Disk>(rt: &impl Abort, world: &mut World<D>) -> Result<(), Fail> {
         Reply::Refused(Refusal::NotOpen),
         Reply::Refused(Refusal::NotOpen),
     ];
-    assert_eq!(rt; replies.as_slice(), wanted.as_slice());
+    runs(rt, world, &events, &wanted)?;
     assert!(rt; !world.is_out(Worker::Dumper));
     Ok(())
 }
@@ -34,9 +34,7 @@ fn refuses<D: Disk>(rt: &impl Abort, world: &mut World<D>) -> Result<(), Fail> {
 #[test]
 fn an_empty_store_is_opened(rt: HostRuntime) -> Result<(), Fail> {
     let disk = MemDisk::new(rt.alloc(), 2, 10_000, 100)?;
-    let Ok(mut world) = World::open(rt.alloc(), disk, 16) else {
-        return Err(Fail::from("not opened"));
-    };
+    let mut world = open(rt.alloc(), disk)?;
     refuses(&rt, &mut world)
 }
 

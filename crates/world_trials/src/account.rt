@@ -55,10 +55,7 @@ impl Saved {
 impl Account {
     /// A run that starts from what a store shows.
     pub(crate) fn new(alloc: Global, shown: Option<Saved>) -> Result<Self, AllocError> {
-        let memory = match &shown {
-            Some(saved) => saved.memory.copy()?,
-            None => Plain::new(alloc)?,
-        };
+        let memory = memory_of(alloc, &shown)?;
         let begun = match &shown {
             Some(saved) => saved.number,
             None => 0,
@@ -161,6 +158,14 @@ impl Account {
             self.last = pending;
         }
         is_number(&self.last, number)
+    }
+}
+
+/// The memory of a checkpoint; without one that of a run over an empty store.
+fn memory_of(alloc: Global, shown: &Option<Saved>) -> Result<Plain, AllocError> {
+    match shown {
+        Some(saved) => saved.memory.copy(),
+        None => Plain::new(alloc),
     }
 }
 

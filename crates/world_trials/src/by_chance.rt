@@ -69,7 +69,12 @@ fn on_range(space: SpaceId, chance: &mut Chance) -> Command {
 fn on_address(alloc: Global, space: SpaceId, chance: &mut Chance) -> Result<Command, AllocError> {
     let address = FIRST + chance.below(PAGES) * PAGE_BYTES + chance.below(8) * 512;
     let bytes = Bytes::new(vec![in alloc; chance.below(256) as u8; 1 + chance.below(3) as usize]?);
-    Ok(match chance.below(8) {
+    Ok(with_bytes(space, address, bytes, chance))
+}
+
+/// A command on an address, with bytes where it has some.
+fn with_bytes(space: SpaceId, address: u64, bytes: Bytes, chance: &mut Chance) -> Command {
+    match chance.below(8) {
         0 => Command::Fault { space, address },
         1 => Command::TryStore {
             space,
@@ -86,7 +91,7 @@ fn on_address(alloc: Global, space: SpaceId, chance: &mut Chance) -> Result<Comm
             address,
             bytes,
         },
-    })
+    }
 }
 
 /// A command by chance.
@@ -146,6 +151,24 @@ fn failing(chance: &mut Chance) -> Failing {
     }
 }
 
+/// Makes events by chance, up to the end of a run.
+fn go_on(
+    alloc: Global,
+    course: &mut Course,
+    chance: &mut Chance,
+    figures: &mut Figures,
+) -> Result<(), Trouble> {
+    let most = chance.below(EVENTS);
+    for _ in 0..most {
+        if course.job() == Job::Full {
+            break;
+        }
+        let event = event(alloc, course, chance)?;
+        course.step(event, figures)?;
+    }
+    Ok(())
+}
+
 /// Makes a run over a store.
 fn run(
     alloc: Global,
@@ -154,19 +177,51 @@ fn run(
     figures: &mut Figures,
 ) -> Result<Record, Trouble> {
     figures.run();
-    let mut course = match Course::start(alloc, start, failing(chance))? {
-        Ok(course) => course,
-        Err(record) => return Ok(record),
-    };
-    let most = chance.below(EVENTS);
-    for _ in 0..most {
-        if course.job() == Job::Full {
-            break;
+    match Course::start(alloc, start, failing(chance))? {
+        Ok(mut course) => {
+            go_on(alloc, &mut course, chance, figures)?;
+            Ok(course.into_record())
         }
-        let event = event(alloc, &course, chance)?;
-        course.step(event, figures)?;
+        Err(record) => Ok(record),
     }
-    Ok(course.into_record())
+}
+
+/// Crashes a run everywhere. Returns what a crash by chance leaves behind some of its steps.
+fn crash(
+    alloc: Global,
+    record: &Record,
+    chance: &mut Chance,
+    figures: &mut Figures,
+) -> Result<MemDisk, Trouble> {
+    let rules = [
+        Rule::Now,
+        Rule::Synced,
+        Rule::Least(0),
+        Rule::Greatest(0xA5),
+        Rule::ByChance(*chance),
+    ];
+    record.crash_everywhere(&rules, figures)?;
+    let count = chance.below((record.count() as u64).max(1)) as usize;
+    let left = record.disk_behind(count)?;
+    Ok(left.crash(alloc, &mut Rule::ByChance(*chance))?)
+}
+
+/// Makes a run over a store and crashes it. Returns what a crash by chance leaves.
+fn run_and_crash(
+    alloc: Global,
+    start: MemDisk,
+    chance: &mut Chance,
+    figures: &mut Figures,
+) -> Result<MemDisk, Trouble> {
+    let record = run(alloc, start, chance, figures)?;
+    crash(alloc, &record, chance, figures)
+}
+
+/// An empty store of a size by chance.
+fn store(alloc: Global, chance: &mut Chance) -> Result<MemDisk, Trouble> {
+    let slots = 2 + chance.below(7) as usize;
+    let bytes = 16_384 + 4_096 * chance.below(5) as usize;
+    Ok(MemDisk::new(alloc, slots, bytes, CALLS)?)
 }
 
 /// A list of events by chance over a store by chance, then another one over what a crash of it left by chance, and so on.
@@ -178,22 +233,9 @@ fn run(
 pub fn try_by_chance(alloc: Global, seed: u64, figures: &mut Figures) -> Result<(), Trouble> {
     let mut chance = Chance::new(seed);
     figures.lists = figures.lists.saturating_add(1);
-    let slots = 2 + chance.below(7) as usize;
-    let bytes = 16_384 + 4_096 * chance.below(5) as usize;
-    let mut disk = MemDisk::new(alloc, slots, bytes, CALLS)?;
+    let mut disk = store(alloc, &mut chance)?;
     for _ in 0..1 + chance.below(3) {
-        let record = run(alloc, disk, &mut chance, figures)?;
-        let rules = [
-            Rule::Now,
-            Rule::Synced,
-            Rule::Least(0),
-            Rule::Greatest(0xA5),
-            Rule::ByChance(chance),
-        ];
-        record.crash_everywhere(&rules, figures)?;
-        let count = chance.below((record.count() as u64).max(1)) as usize;
-        let left = record.disk_behind(count)?;
-        disk = left.crash(alloc, &mut Rule::ByChance(chance))?;
+        disk = run_and_crash(alloc, disk, &mut chance, figures)?;
     }
     Ok(())
 }

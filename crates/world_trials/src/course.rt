@@ -117,12 +117,17 @@ impl Course {
     }
 
     fn make(&mut self, event: Event, figures: &mut Figures) -> Result<(), Trouble> {
-        let reply = self.lab.step(&event);
-        let fits = self.account.take(&event, &reply)?;
-        figures.event(&event, &reply, fits);
-        self.job = job_after(self.job, &event, &reply);
+        let reply = self.answer(&event, figures)?;
         self.record.push(Step { event, reply })?;
         Ok(())
+    }
+
+    fn answer(&mut self, event: &Event, figures: &mut Figures) -> Result<Reply, Trouble> {
+        let reply = self.lab.step(event);
+        let fits = self.account.take(event, &reply)?;
+        figures.event(event, &reply, fits);
+        self.job = job_after(self.job, event, &reply);
+        Ok(reply)
     }
 
     /// A worker's next event: the device call that it asked for is made, or else it works.

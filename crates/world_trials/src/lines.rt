@@ -108,6 +108,19 @@ fn make(
     }
 }
 
+/// Makes lines one after the other.
+fn make_all(
+    alloc: Global,
+    course: &mut Course,
+    lines: &[Line],
+    figures: &mut Figures,
+) -> Result<(), Trouble> {
+    for line in lines {
+        make(alloc, course, *line, figures)?;
+    }
+    Ok(())
+}
+
 /// Plays lines over a store that is synced, of which this call fails.
 fn play(
     alloc: Global,
@@ -116,14 +129,13 @@ fn play(
     failing: Failing,
     figures: &mut Figures,
 ) -> Result<Record, Trouble> {
-    let mut course = match Course::start(alloc, start, failing)? {
-        Ok(course) => course,
-        Err(record) => return Ok(record),
-    };
-    for line in lines {
-        make(alloc, &mut course, *line, figures)?;
+    match Course::start(alloc, start, failing)? {
+        Ok(mut course) => {
+            make_all(alloc, &mut course, lines, figures)?;
+            Ok(course.into_record())
+        }
+        Err(record) => Ok(record),
     }
-    Ok(course.into_record())
 }
 
 /// The store that lines leave, synced.
@@ -136,6 +148,11 @@ fn store_of(alloc: Global, lines: &[Line]) -> Result<MemDisk, Trouble> {
         Failing::Nothing,
         &mut Figures::default(),
     )?;
+    end_of(alloc, &record)
+}
+
+/// The store at the end of a run, synced.
+fn end_of(alloc: Global, record: &Record) -> Result<MemDisk, Trouble> {
     let disk = record.disk_behind(record.count())?;
     Ok(disk.crash(alloc, &mut Rule::Now)?)
 }
@@ -155,9 +172,14 @@ pub fn try_lines(
     let mut figures = Figures::default();
     let start = store_of(alloc, before)?;
     let record = play(alloc, start, lines, failing, &mut figures)?;
-    match failing {
-        Failing::Nothing => record.crash_everywhere(&RULES, &mut figures)?,
-        _ => record.crash_where_it_fails(&RULES, &mut figures)?,
-    }
+    crash(&record, failing, &mut figures)?;
     Ok(figures)
+}
+
+/// Crashes a run behind each call; or, where a call is to fail, behind that one and at the end.
+fn crash(record: &Record, failing: Failing, figures: &mut Figures) -> Result<(), Trouble> {
+    match failing {
+        Failing::Nothing => record.crash_everywhere(&RULES, figures),
+        _ => record.crash_where_it_fails(&RULES, figures),
+    }
 }

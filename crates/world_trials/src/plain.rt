@@ -1,7 +1,8 @@
 //! A plain memory: what commands make, without frames, faults or bits.
-use sd_areas::{PAGE_BYTES, PAGE_SIZE, PageNo, Prot, Snapshot, SpaceId};
+use sd_areas::{PAGE_BYTES, PAGE_SIZE, PageNo, Prot, Snapshot, SnapshotPage, SpaceId};
 use sd_command::{Command, Reply};
 use std::alloc::{AllocError, Global};
+use std::collections::BTreeMap;
 use std::ops::Range;
 
 /// A mapped page.
@@ -35,39 +36,56 @@ impl Plain {
 
     /// The same memory once more.
     pub(crate) fn copy(&self) -> Result<Self, AllocError> {
-        let mut spaces = Vec::new(self.alloc);
-        spaces.extend_from_slice(&self.spaces)?;
-        let mut pages = Vec::with_capacity(self.alloc, self.pages.len())?;
-        for own in &self.pages {
-            pages.push(own.copy_in(self.alloc, own.space)?)?;
+        let mut copy = Plain::without_spaces(self.alloc);
+        copy.add_all(self)?;
+        Ok(copy)
+    }
+
+    fn without_spaces(alloc: Global) -> Self {
+        Plain {
+            alloc,
+            spaces: Vec::new(alloc),
+            pages: Vec::new(alloc),
         }
-        Ok(Plain {
-            alloc: self.alloc,
-            spaces,
-            pages,
-        })
+    }
+
+    fn add_all(&mut self, other: &Plain) -> Result<(), AllocError> {
+        self.spaces.extend_from_slice(&other.spaces)?;
+        for own in &other.pages {
+            self.pages.push(own.copy_in(self.alloc, own.space)?)?;
+        }
+        Ok(())
     }
 
     /// The memory of a snapshot.
     pub(crate) fn of_snapshot(alloc: Global, snapshot: &Snapshot) -> Result<Self, AllocError> {
-        let mut spaces = Vec::new(alloc);
-        let mut pages = Vec::new(alloc);
+        let mut plain = Plain::without_spaces(alloc);
+        plain.add_snapshot(snapshot)?;
+        Ok(plain)
+    }
+
+    fn add_snapshot(&mut self, snapshot: &Snapshot) -> Result<(), AllocError> {
         for (space, own) in &snapshot.spaces {
-            spaces.push(*space)?;
-            for (page, found) in own {
-                pages.push(PlainPage {
-                    space: *space,
-                    page: *page,
-                    prot: found.prot,
-                    bytes: found.bytes.to_vec(alloc)?,
-                })?;
-            }
+            self.spaces.push(*space)?;
+            self.add_pages(*space, own)?;
         }
-        Ok(Plain {
-            alloc,
-            spaces,
-            pages,
-        })
+        Ok(())
+    }
+
+    fn add_pages(
+        &mut self,
+        space: SpaceId,
+        own: &BTreeMap<PageNo, SnapshotPage>,
+    ) -> Result<(), AllocError> {
+        for (page, found) in own {
+            self.pages.push(PlainPage {
+                space,
+                page: *page,
+                prot: found.prot,
+                bytes: found.bytes.to_vec(self.alloc)?,
+            })?;
+        }
+        Ok(())
     }
 
     /// Whether it is the same memory.
@@ -185,16 +203,21 @@ impl Plain {
 
     fn fork(&mut self, space: SpaceId, child: SpaceId) -> Result<(), AllocError> {
         self.spaces.push(child)?;
+        for copy in self.copies(space, child)? {
+            self.pages.push(copy)?;
+        }
+        Ok(())
+    }
+
+    /// The pages of a space, for its child.
+    fn copies(&self, space: SpaceId, child: SpaceId) -> Result<Vec<PlainPage>, AllocError> {
         let mut copies = Vec::new(self.alloc);
         for own in &self.pages {
             if own.space == space {
                 copies.push(own.copy_in(self.alloc, child)?)?;
             }
         }
-        for copy in copies {
-            self.pages.push(copy)?;
-        }
-        Ok(())
+        Ok(copies)
     }
 
     fn exit(&mut self, space: SpaceId) {

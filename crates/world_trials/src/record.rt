@@ -60,14 +60,22 @@ impl Record {
     /// What the replies of the run say before its first event. A world that opened the store tells what a copy of
     /// the store restores to.
     pub(crate) fn account(&self) -> Result<Account, Trouble> {
-        let mut disk = self.start.crash(self.alloc, &mut Rule::Now)?;
-        let restored = match self.open()? {
-            Ok(lab) => lab.restored(&mut disk),
-            Err(_) => restore_left(self.alloc, &mut disk),
-        };
-        match shown(self.alloc, restored)? {
+        match self.shown_at_first()? {
             Some(saved) => Ok(Account::new(self.alloc, saved)?),
             None => Err(Trouble::Differs),
+        }
+    }
+
+    fn shown_at_first(&self) -> Result<Option<Option<Saved>>, Trouble> {
+        let mut disk = self.start.crash(self.alloc, &mut Rule::Now)?;
+        shown(self.alloc, self.restored(&mut disk)?)
+    }
+
+    /// What a copy of the store restores to.
+    fn restored(&self, disk: &mut MemDisk) -> Result<Result<Snapshot, Fault>, AllocError> {
+        match self.open()? {
+            Ok(lab) => Ok(lab.restored(disk)),
+            Err(_) => Ok(restore_left(self.alloc, disk)),
         }
     }
 
@@ -82,19 +90,40 @@ impl Record {
         self.steps.len()
     }
 
+    /// Makes so many steps again.
+    fn make_again(&self, lab: &mut Lab, count: usize) -> Result<(), Trouble> {
+        for step in self.steps.iter().take(count) {
+            if lab.step(&step.event) != step.reply {
+                return Err(Trouble::Differs);
+            }
+        }
+        Ok(())
+    }
+
     /// The disk behind so many steps, which are made again.
     pub(crate) fn disk_behind(&self, count: usize) -> Result<MemDisk, Trouble> {
         match self.open()? {
             Ok(mut lab) => {
-                for step in self.steps.iter().take(count) {
-                    if lab.step(&step.event) != step.reply {
-                        return Err(Trouble::Differs);
-                    }
-                }
+                self.make_again(&mut lab, count)?;
                 Ok(lab.close())
             }
             Err(disk) => Ok(disk),
         }
+    }
+
+    /// Which pair it is that a crashed disk shows.
+    fn pair(&self, crashed: &mut MemDisk, account: &Account) -> Result<Pair, Trouble> {
+        let restored = restore_left(self.alloc, crashed);
+        match shown(self.alloc, restored)? {
+            Some(saved) => Ok(account.pair(&saved)),
+            None => Ok(Pair::Other),
+        }
+    }
+
+    /// Crashes a disk under a rule.
+    fn crash_under(&self, disk: &MemDisk, account: &Account, rule: Rule) -> Result<Pair, Trouble> {
+        let mut crashed = disk.crash(self.alloc, &mut { rule })?;
+        self.pair(&mut crashed, account)
     }
 
     /// Crashes a disk under each rule, and counts what is restored.
@@ -106,15 +135,21 @@ impl Record {
         figures: &mut Figures,
     ) -> Result<(), Trouble> {
         for rule in rules {
-            let mut crashed = disk.crash(self.alloc, &mut { *rule })?;
-            let restored = restore_left(self.alloc, &mut crashed);
-            let pair = match shown(self.alloc, restored)? {
-                Some(saved) => account.pair(&saved),
-                None => Pair::Other,
-            };
-            figures.crash(pair);
+            figures.crash(self.crash_under(disk, account, *rule)?);
         }
         Ok(())
+    }
+
+    /// Makes the run again up to so many steps, and crashes its disk there.
+    fn crash_behind(
+        &self,
+        count: usize,
+        account: &Account,
+        rules: &[Rule],
+        figures: &mut Figures,
+    ) -> Result<(), Trouble> {
+        let disk = self.disk_behind(count)?;
+        self.crash(&disk, account, rules, figures)
     }
 
     /// Makes the run again up to its opening, and up to each device call behind it, and crashes its disk there.
@@ -124,12 +159,21 @@ impl Record {
         figures: &mut Figures,
     ) -> Result<(), Trouble> {
         let mut account = self.account()?;
-        self.crash(&self.disk_behind(0)?, &account, rules, figures)?;
+        self.crash_behind(0, &account, rules, figures)?;
+        self.crash_at_calls(&mut account, rules, figures)
+    }
+
+    /// Goes through the steps, and crashes the disk behind each device call.
+    fn crash_at_calls(
+        &self,
+        account: &mut Account,
+        rules: &[Rule],
+        figures: &mut Figures,
+    ) -> Result<(), Trouble> {
         for (index, step) in self.steps.iter().enumerate() {
             figures.reply(account.take(&step.event, &step.reply)?);
             if is_call(&step.event, &step.reply) {
-                let disk = self.disk_behind(index.saturating_add(1))?;
-                self.crash(&disk, &account, rules, figures)?;
+                self.crash_behind(index.saturating_add(1), account, rules, figures)?;
             }
         }
         Ok(())
@@ -142,18 +186,23 @@ impl Record {
         figures: &mut Figures,
     ) -> Result<(), Trouble> {
         let mut account = self.account()?;
+        self.crash_at_failures(&mut account, rules, figures)?;
+        self.crash_behind(self.steps.len(), &account, rules, figures)
+    }
+
+    /// Goes through the steps, and crashes the disk behind each call that fails.
+    fn crash_at_failures(
+        &self,
+        account: &mut Account,
+        rules: &[Rule],
+        figures: &mut Figures,
+    ) -> Result<(), Trouble> {
         for (index, step) in self.steps.iter().enumerate() {
             figures.reply(account.take(&step.event, &step.reply)?);
             if step.reply == Reply::Refused(Refusal::Device) {
-                let disk = self.disk_behind(index.saturating_add(1))?;
-                self.crash(&disk, &account, rules, figures)?;
+                self.crash_behind(index.saturating_add(1), account, rules, figures)?;
             }
         }
-        self.crash(
-            &self.disk_behind(self.steps.len())?,
-            &account,
-            rules,
-            figures,
-        )
+        Ok(())
     }
 }

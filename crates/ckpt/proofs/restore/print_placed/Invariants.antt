@@ -1,6 +1,0 @@
-use Rattle.sd_disk.specs.Reads.{OnlyReads}
-use Rattle.ckpt.proofs.restore.print_placed.Given as goal
-
--- the spaces so far were only read
-abbrev pub invariant-loop-space : goal.invariant-loop-space
-invariant-loop-space g l = OnlyReads g.D.Disk l.fn.disk l.disk

@@ -1,6 +1,0 @@
-use Rattle.sd_disk.specs.Reads.{OnlyReads}
-use Rattle.ckpt.proofs.restore.print_run.Given as goal
-
--- the pages so far were only read
-abbrev pub invariant-loop-part : goal.invariant-loop-part
-invariant-loop-part g l = OnlyReads g.D.Disk l.fn.disk l.disk

@@ -1,0 +1,25 @@
+-- What a run of threads leaves of a store.
+use Rattle.std.specs.Prelude.{◌≡◌, ℕ, Bool, true, false, List, length, filter, Option, Some, None, Result, Ok, Err}
+use Rattle.sd_disk.specs.declared.disk.Disk.{Ghosts}
+use Rattle.sd_disk.specs.Reads.{OnlyReads}
+use Rattle.sd_image.specs.Image.{is_open}
+use Rattle.sd_mutate.specs.declared.fault.MutateFault.{MutateFault}
+use Rattle.sd_mutate.specs.declared.fault.MutateFault.TheVariants.{Store, NotEmpty, Open, Refused}
+use Rattle.sd_mutate.specs.declared.tally.Tally.{Tally}
+
+-- the fault was found before a thread began
+abbrev pub is_early : MutateFault → Bool
+is_early (Store fault) = true
+is_early NotEmpty = true
+is_early (Open fault) = true
+is_early (Refused why) = false
+
+-- behind such a fault the disk is handed back, and was only read
+abbrev pub LeavesStore : {D : Type 0} → Ghosts D → D → Option D → Result Tally MutateFault → Type 0
+LeavesStore g old (Some new) (Err fault) = is_early fault ≡ true → OnlyReads g old new
+LeavesStore g old None (Err fault) = is_early fault ≡ false
+LeavesStore g old left (Ok tally) = Unit {0}
+
+-- how many images are open
+abbrev pub open_images : List (List ℕ) → ℕ
+open_images contents = length (filter is_open contents)

@@ -1,0 +1,175 @@
+//! One thread that stores numbers into a page, and loads each back.
+use sd_areas::{PAGE_BYTES, Prot, SpaceId};
+use sd_command::{Bytes, Command, Refusal, Reply};
+use sd_disk::Disk;
+use sd_journal::Receipt;
+use sd_shared::{Seat, Shared, Thaw};
+use std::alloc::{AllocError, Global};
+use std::sync::Wait;
+
+/// How many numbers each mutator stores.
+const STORES: u64 = 1_000;
+
+/// The first address of the first mutator's page.
+const FIRST: u64 = 0x10_0000;
+
+/// A seat, its page, and what it was told.
+#[derive(Drop)]
+pub(crate) struct Mutator {
+    alloc: Global,
+    seat: Seat,
+    address: u64,
+    pub(crate) receipts: Vec<Receipt>,
+    /// How many numbers it stored and loaded back.
+    pub(crate) stores: u64,
+    /// Why it stopped, if it was stopped.
+    pub(crate) stopped: Option<Refusal>,
+}
+
+/// The pages of so many mutators, readable and writable.
+fn mmap(threads: usize) -> Command {
+    Command::Mmap {
+        space: SpaceId::new(1),
+        address: FIRST,
+        length: (threads as u64).saturating_mul(PAGE_BYTES),
+        prot: Prot {
+            read: true,
+            write: true,
+            execute: false,
+        },
+    }
+}
+
+/// The eight bytes of a number, the least first.
+fn bytes_of(alloc: Global, number: u64) -> Result<Bytes, AllocError> {
+    let mut bytes = Vec::with_capacity(alloc, 8)?;
+    for byte in number.to_le_bytes() {
+        bytes.push(byte)?;
+    }
+    Ok(Bytes::new(bytes))
+}
+
+impl Mutator {
+    /// The mutator of a seat, whose page is that of its number.
+    pub(crate) fn new(alloc: Global, seat: Seat) -> Mutator {
+        let page = seat.number() as u64;
+        Mutator {
+            alloc,
+            seat,
+            address: FIRST.saturating_add(page.saturating_mul(PAGE_BYTES)),
+            receipts: Vec::new(alloc),
+            stores: 0,
+            stopped: None,
+        }
+    }
+
+    /// Maps the pages of so many mutators.
+    ///
+    /// # Errors
+    ///
+    /// The refusal of the command.
+    pub(crate) fn map_all<D: Disk + Drop>(
+        &mut self,
+        rt: &impl Wait,
+        shared: &Shared<D>,
+        threads: usize,
+    ) -> Result<(), Refusal> {
+        self.call(rt, shared, mmap(threads))?;
+        Ok(())
+    }
+
+    /// Makes a command, and keeps its receipt, for which there is room before. Returns the place of the receipt.
+    fn call<D: Disk + Drop>(
+        &mut self,
+        rt: &impl Wait,
+        shared: &Shared<D>,
+        command: Command,
+    ) -> Result<(), Refusal> {
+        let Ok(()) = self.receipts.try_reserve(1) else {
+            return Err(Refusal::OutOfMemory);
+        };
+        let receipt = shared.call(rt, &mut self.seat, command)?;
+        let refused = match receipt.reply {
+            Reply::Refused(why) => Err(why),
+            _ => Ok(()),
+        };
+        self.receipts.push_reserved(receipt);
+        refused
+    }
+
+    /// Makes a command; while the memory is frozen it waits for the thaw and tries again.
+    fn call_thawed<D: Disk + Drop>(
+        &mut self,
+        rt: &impl Wait,
+        shared: &Shared<D>,
+        number: Option<u64>,
+    ) -> Result<(), Refusal> {
+        for _ in rt.forever() {
+            match self.call(rt, shared, self.command(number)?) {
+                Err(Refusal::Frozen) if shared.wait_thaw(rt) == Thaw::Thawed => {}
+                ended => return ended,
+            }
+        }
+        unreachable!()
+    }
+
+    /// The store of a number at the start of the page, or the load of what stands there.
+    fn command(&self, number: Option<u64>) -> Result<Command, Refusal> {
+        let space = SpaceId::new(1);
+        let address = self.address;
+        let Some(number) = number else {
+            let count = 8;
+            return Ok(Command::Load {
+                space,
+                address,
+                count,
+            });
+        };
+        match bytes_of(self.alloc, number) {
+            Ok(bytes) => Ok(Command::Store {
+                space,
+                address,
+                bytes,
+            }),
+            Err(_) => Err(Refusal::OutOfMemory),
+        }
+    }
+
+    /// Whether the last reply has a number's bytes.
+    fn has_loaded(&self, number: u64) -> bool {
+        match self.receipts.last() {
+            Some(
+                Receipt {
+                    reply: Reply::Bytes(bytes),
+                    ..
+                },
+            ) => bytes.as_slice() == number.to_le_bytes().as_slice(),
+            _ => false,
+        }
+    }
+
+    /// Stores a number, and loads it back.
+    fn store<D: Disk + Drop>(
+        &mut self,
+        rt: &impl Wait,
+        shared: &Shared<D>,
+        number: u64,
+    ) -> Result<(), Refusal> {
+        self.call_thawed(rt, shared, Some(number))?;
+        self.call_thawed(rt, shared, None)?;
+        if self.has_loaded(number) {
+            self.stores = self.stores.saturating_add(1);
+        }
+        Ok(())
+    }
+
+    /// Stores each number, and loads it back.
+    pub(crate) fn run<D: Disk + Drop>(&mut self, rt: &impl Wait, shared: &Shared<D>) {
+        for number in 1..=STORES {
+            if let Err(why) = self.store(rt, shared, number) {
+                self.stopped = Some(why);
+                return;
+            }
+        }
+    }
+}

@@ -1,0 +1,4 @@
+pub mod EntryLemmas
+pub mod FaultLemmas
+pub mod GotLemmas
+pub mod NotedLemmas

@@ -1,0 +1,3 @@
+pub mod InTime
+pub mod Laws
+pub mod Noted

@@ -1,0 +1,12 @@
+//! Whether a journal accounts for what the seats and the worker were told.
+#![tactic(auto)]
+
+mod checking;
+mod laws;
+mod rising;
+#[cfg(test)]
+mod tests;
+
+pub use checking::check_receipts;
+pub use laws::fault_laws;
+pub use sd_journal::{CloseFault, Receipt};

@@ -1,0 +1,19 @@
+use Rattle.std.proofs.Common.{◌≡◌, List, ℕ, All, length, sym, subst}
+use Rattle.sd_chain.specs.Store.{IsCatalogOf}
+use Rattle.sd_restore.specs.declared.placed_run.PlacedRun.{PlacedRun}
+use Rattle.sd_restore.specs.Placed.{IsInSlots}
+use Rattle.sd_report.proofs.EndingLemmas.{on_ok}
+use Rattle.sd_report.proofs.restore.print_restored.Goals as goal
+
+pub print_placed-requires-clause-slots : goal.print_placed-requires-clause-slots
+print_placed-requires-clause-slots g c =
+    let same : g.D.Disk.contents c.scan.new.disk ≡ g.D.Disk.contents c.args.disk.now = c.in_ok-catalog.ensures.reads.same in
+    subst (λ contents. All (λ (r : PlacedRun). IsInSlots (length contents) r.there) c.in_ok-placed.placed.runs.items) (sym same)
+    (c.in_ok-placed.ensures.slots (length (g.D.Disk.contents c.args.disk.now)) c.in_ok-catalog.ensures.slots)
+
+pub returns-clause-shown : goal.returns-clause-shown
+returns-clause-shown g c = λ honest.
+    let contents : List (List ℕ) = g.D.Disk.contents c.args.disk.now in
+    let scanned = c.print_placed.ensures.reads.honest honest in
+    let catalog : IsCatalogOf contents c.in_ok-catalog.catalog = c.in_ok-catalog.ensures.catalog scanned in
+    on_ok c.print_placed.result ((c.in_ok-placed.placed.checkpoint, _), c.in_ok-placed.ensures.shown contents catalog)

@@ -1,0 +1,35 @@
+//! `ckpt list`: the images of a store.
+ghost use Rattle.std.specs.Prelude.{◌≡◌, ◌≤◌, OnOk};
+ghost use Rattle.sd_disk.specs.Reads.{OnlyReads};
+ghost use Rattle.sd_report.specs.Ending.{EndsWithOne, IsReadable};
+
+use crate::listing::list_text;
+use crate::stop::{Stop, status};
+use sd_disk::Disk;
+use sd_restore::scan;
+use std::alloc::Global;
+use std::io::Write;
+
+/// Prints a line for each open image, rising by serial, and one for the tip, and returns the exit status.
+pub fn list_to<D: Disk, W: Write>(alloc: Global, disk: &mut D, out: &mut W) -> u8
+    // Status 0 only where every open slot is an image, with a serial of its own.
+    ensures readable { D.is_honest disk.new → result ≡ 0 → IsReadable (D.contents disk.old) }
+    // A store without a checkpoint is no fault here.
+    ensures status { result ≤ 1 }
+    ensures reads { OnlyReads D.Disk disk.old disk.new }
+{
+    let ended = print_list(alloc, disk, out);
+    status(ended, out)
+}
+
+/// Prints the images of a store.
+pub fn print_list<D: Disk, W: Write>(alloc: Global, disk: &mut D, out: &mut W) -> Result<(), Stop>
+    ensures readable { D.is_honest disk.new → OnOk result (IsReadable (D.contents disk.old)) }
+    ensures stopped { EndsWithOne result }
+    ensures reads { OnlyReads D.Disk disk.old disk.new }
+{
+    let catalog = scan(alloc, disk)?;
+    let text = list_text(alloc, &catalog)?;
+    out.write_all(text.as_bytes())?;
+    Ok(())
+}

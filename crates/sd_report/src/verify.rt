@@ -1,0 +1,36 @@
+//! `ckpt verify`: checking that a store can be restored.
+ghost use Rattle.std.specs.Prelude.{◌≡◌, ◌≤◌, OnOk};
+ghost use Rattle.sd_disk.specs.Reads.{OnlyReads};
+ghost use Rattle.sd_report.specs.Ending.{EndsWithOne, IsShowing};
+
+use crate::stop::{Stop, status};
+use sd_disk::Disk;
+use sd_restore::verify;
+use std::alloc::Global;
+use std::io::Write;
+
+/// Prints whether a store shows a checkpoint or that nothing was saved, and returns the exit status.
+pub fn verify_to<D: Disk, W: Write>(alloc: Global, disk: &mut D, out: &mut W) -> u8
+    // Status 0 only where the store shows one of the two.
+    ensures showing { D.is_honest disk.new → result ≡ 0 → IsShowing (D.contents disk.old) }
+    // A store without a checkpoint is no fault here.
+    ensures status { result ≤ 1 }
+    ensures reads { OnlyReads D.Disk disk.old disk.new }
+{
+    let ended = print_report(alloc, disk, out);
+    status(ended, out)
+}
+
+/// Prints what a store shows.
+pub fn print_report<D: Disk, W: Write>(alloc: Global, disk: &mut D, out: &mut W) -> Result<(), Stop>
+    ensures showing { D.is_honest disk.new → OnOk result (IsShowing (D.contents disk.old)) }
+    ensures stopped { EndsWithOne result }
+    ensures reads { OnlyReads D.Disk disk.old disk.new }
+{
+    let report = verify(alloc, disk)?;
+    match report.checkpoint {
+        Some(checkpoint) => writeln!(out, "ok checkpoint {checkpoint} images {}", report.images)?,
+        None => writeln!(out, "ok empty")?,
+    }
+    Ok(())
+}

@@ -1,0 +1,25 @@
+-- What a seat is told of its command, and a worker of its job.
+use Rattle.std.specs.Prelude.{ℕ, Bool, true, false, List, map, Result, Ok, Err}
+use Rattle.std.specs.List.{range_with_len}
+use Rattle.sd_command.specs.declared.refusal.Refusal.{Refusal}
+use Rattle.sd_command.specs.declared.reply.Reply.{Reply}
+use Rattle.sd_command.specs.declared.reply.Reply.TheVariants as reply
+use Rattle.sd_journal.specs.declared.receipt.Receipt.{Receipt}
+use Rattle.sd_shared.specs.declared.seat.Seat.{Seat}
+
+-- the number and the reply of a receipt
+abbrev pub told : Result Receipt Refusal → Result (ℕ × Reply) Refusal
+told (Ok receipt) = Ok (receipt.number, receipt.reply)
+told (Err why) = Err why
+
+-- the last reply of a worker's job: the job came to its end, or was refused
+abbrev pub ends_job : Reply → Bool
+ends_job (reply.Acked n) = true
+ends_job (reply.Merged serial) = true
+ends_job (reply.Reopened m) = true
+ends_job (reply.Refused why) = true
+ends_job _ = false
+
+-- so many seats, numbered from 0
+abbrev pub seats_from_0 : ℕ → List Seat
+seats_from_0 count = map (λ n. record { number = n }) (range_with_len 0 count)

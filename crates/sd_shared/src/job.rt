@@ -1,0 +1,63 @@
+use crate::hands::Hands;
+use crate::hold::Hold;
+use crate::shared::Shared;
+use sd_command::{Refusal, Reply};
+use sd_core::Taken;
+use sd_disk::Disk;
+use sd_gate::{Request, Worker};
+use std::sync::Wait;
+
+/// A worker's job over a shared core and disk. Each method takes one lock at a time, and calls the hold with none.
+#[derive(Drop)]
+pub(crate) struct Job<'a, R, D: Drop, H> {
+    pub(crate) rt: &'a R,
+    pub(crate) shared: &'a Shared<D>,
+    pub(crate) hold: &'a H,
+    pub(crate) worker: Worker,
+    pub(crate) rounds: u64,
+    pub(crate) calls: u64,
+    pub(crate) began: bool,
+    pub(crate) last: Reply,
+}
+
+impl<R: Wait, D: Disk + Drop, H: Hold> Job<'_, R, D, H> {
+    ghost use Rattle.std.specs.Prelude.{◌≡◌};
+
+    /// Makes a device call, and hands its outcome in.
+    fn call(&mut self, request: Request) -> Reply
+        ensures { self.new.began ≡ self.old.began }
+    {
+        self.calls = self.calls.saturating_add(1);
+        self.hold.before(self.calls);
+        match self.shared.perform(self.rt, request) {
+            Some(outcome) => self.shared.hand_in(self.rt, outcome),
+            None => Reply::Refused(Refusal::Device),
+        }
+    }
+}
+
+impl<R: Wait, D: Disk + Drop, H: Hold> Hands for Job<'_, R, D, H> {
+    ghost began = { λ job. job.began };
+
+    ghost last = { λ job. job.last };
+
+    fn begin(&mut self) {
+        self.last = self.shared.begin(self.rt, self.worker, self.rounds);
+        self.began = true;
+    }
+
+    fn go_on(&mut self) {
+        self.last = match self.shared.take_up(self.rt, self.worker) {
+            Taken::Step(reply) => reply,
+            Taken::Call(request) => self.call(request),
+        };
+    }
+
+    fn last(&self) -> &Reply {
+        &self.last
+    }
+
+    fn into_last(self) -> Reply {
+        self.last
+    }
+}

@@ -1,0 +1,18 @@
+//! A core and its disk behind two locks: threads store, workers make device calls, and afterwards the journal proves to
+//! each what it was told.
+#![tactic(auto)]
+
+mod driving;
+mod hands;
+mod hold;
+mod job;
+mod making;
+mod seat;
+mod settling;
+mod shared;
+mod thaw;
+
+pub use hold::Hold;
+pub use seat::Seat;
+pub use shared::Shared;
+pub use thaw::Thaw;

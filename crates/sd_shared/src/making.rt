@@ -1,0 +1,41 @@
+//! A command of a seat, on the core that its lock gives.
+ghost use Rattle.std.specs.Prelude.{◌≡◌, ◌↔◌, ◌+◌, length, is_some, Err, IfOk};
+ghost use Rattle.sd_command.specs.declared.refusal.Refusal.TheVariants.{JournalFull};
+ghost use Rattle.sd_journal.specs.History.{pending};
+ghost use Rattle.sd_belief.specs.Calls.{Applies, Stays};
+ghost use Rattle.sd_belief.specs.View.{history_of};
+ghost use Rattle.sd_core.specs.Answering.{IsAnswered};
+ghost use Rattle.sd_shared.specs.Told.{told};
+
+use sd_command::{Command, Refusal};
+use sd_core::Core;
+use sd_journal::Receipt;
+
+/// Applies a command of a seat, journals it with its reply, and tells both.
+///
+/// # Errors
+///
+/// As `Core::apply`: nothing changes.
+pub(crate) fn make(core: &mut Core, seat: usize, command: Command) -> Result<Receipt, Refusal>
+    ensures seat { IfOk result (λ receipt. receipt.seat ≡ seat) }
+    ensures command { IfOk result (λ receipt. receipt.command ≡ command) }
+    ensures number { IfOk result (λ receipt. receipt.number ≡ length (history_of core.old)) }
+    ensures applies { Applies seat command (told result) core.old core.new }
+    ensures full { result ≡ Err JournalFull
+        ↔ length (history_of core.old) + core.old.held ≡ core.old.limit }
+    ensures answered { IfOk result (λ receipt. IsAnswered (is_some (pending (history_of core.old)))
+        command receipt.reply core.old.memory core.new.memory) }
+    ensures stands { core.new.standing ≡ core.old.standing }
+    ensures job { core.new.dumper ≡ core.old.dumper }
+    ensures keeps { Stays core.old core.new }
+{
+    match core.apply(seat, &command) {
+        Ok((number, reply)) => Ok(Receipt {
+            seat,
+            number,
+            command,
+            reply,
+        }),
+        Err(why) => Err(why),
+    }
+}

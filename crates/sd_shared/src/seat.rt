@@ -1,0 +1,16 @@
+/// The right to make commands under one number. It is moved to its thread, and isn't copied.
+#[derive(Debug, Drop)]
+pub struct Seat {
+    pub(crate) number: usize,
+}
+
+impl Seat {
+    ghost use Rattle.std.specs.Prelude.{◌≡◌};
+
+    /// The number under which its commands stand in the journal.
+    pub fn number(&self) -> usize
+        ensures { result ≡ self.now.number }
+    {
+        self.number
+    }
+}

@@ -1,0 +1,225 @@
+//! A core and its disk, shared by threads.
+ghost use Rattle.std.specs.Prelude.{◌≡◌, ◌≤◌, IfOk, IfErr};
+ghost use Rattle.sd_disk.specs.Reads.{OnlyReads};
+ghost use Rattle.sd_world.specs.Opens.{HasNoFrame, IsFaultOf};
+ghost use Rattle.sd_shared.specs.Told.{seats_from_0};
+
+use crate::driving::drive;
+use crate::hands::Hands;
+use crate::hold::Hold;
+use crate::job::Job;
+use crate::making::make;
+use crate::seat::Seat;
+use crate::settling::settle;
+use crate::thaw::Thaw;
+use sd_command::{Command, Refusal, Reply};
+use sd_core::{Core, Taken};
+use sd_disk::Disk;
+use sd_gate::{Outcome, Request, Worker, perform};
+use sd_journal::{CloseFault, Receipt};
+use sd_world::{OpenError, OpenFault, World};
+use std::alloc::{AllocError, Global};
+use std::sync::{Condvar, Mutex, Wait};
+
+/// A core behind one lock and its disk behind another. No thread holds both.
+#[derive(Drop)]
+pub struct Shared<D: Drop> {
+    core: Mutex<Core>,
+    disk: Mutex<D>,
+    thawed: Condvar,
+}
+
+/// Whether commands are refused as frozen until a worker goes on.
+fn holds_commands(core: &Core) -> bool {
+    core.is_frozen() && !core.is_down()
+}
+
+/// So many seats, numbered from 0.
+fn seats_of(alloc: Global, count: usize) -> Result<Vec<Seat>, AllocError>
+    ensures { IfOk result (λ seats. seats.items ≡ seats_from_0 count) }
+{
+    let mut seats = Vec::with_capacity(alloc, count)?;
+    for number in 0..count {
+        seats.push(Seat { number })?;
+    }
+    Ok(seats)
+}
+
+impl<D: Disk + Drop> Shared<D> {
+    /// Opens a store, as `World::open`, for so many seats, which are numbered from 0 in the order of the list.
+    ///
+    /// # Errors
+    ///
+    /// As `World::open`; `OutOfMemory` also where there is no room for the seats.
+    pub fn open(
+        alloc: Global,
+        disk: D,
+        frames: usize,
+        seats: usize,
+    ) -> Result<(Shared<D>, Vec<Seat>), OpenError<D>>
+        requires least { 1 ≤ frames }
+        requires greatest { frames ≤ 65536 }
+        ensures seats { IfOk result (λ opened. opened.1.items ≡ seats_from_0 seats) }
+        ensures refused { IfErr result (λ error. OnlyReads D.Disk disk error.disk) }
+        ensures fault { IfErr result (λ error. D.is_honest error.disk
+            → IsFaultOf (D.contents disk) (D.failed disk) (D.failed error.disk) error.fault) }
+        ensures no_frame { IfErr result (λ error. D.is_honest error.disk
+            → error.fault ≡ OpenFault.NoFrame → HasNoFrame (D.contents disk) frames) }
+    {
+        let (core, disk) = World::open(alloc, disk, frames)?.into_parts();
+        let Ok(seats) = seats_of(alloc, seats) else {
+            return Err(OpenError {
+                fault: OpenFault::OutOfMemory,
+                disk,
+            });
+        };
+        let shared = Shared {
+            core: Mutex::new(core),
+            disk: Mutex::new(disk),
+            thawed: Condvar::new(),
+        };
+        Ok((shared, seats))
+    }
+
+    /// Makes a command of a seat. It may wait for the lock.
+    ///
+    /// # Errors
+    ///
+    /// `JournalFull`, `OutOfMemory`: nothing changed, and nothing is journaled.
+    pub fn call(
+        &self,
+        rt: &impl Wait,
+        seat: &mut Seat,
+        command: Command,
+    ) -> Result<Receipt, Refusal>
+        ensures seat { IfOk result (λ receipt. receipt.seat ≡ seat.old.number) }
+        ensures command { IfOk result (λ receipt. receipt.command ≡ command) }
+        ensures same { seat.new.number ≡ seat.old.number }
+    {
+        make(&mut self.core.lock(rt), seat.number, command)
+    }
+
+    /// Makes a command of a seat where the lock is free. It never waits.
+    ///
+    /// # Errors
+    ///
+    /// `LockBusy` where another thread may have the lock, and those of `call`: nothing changed, and nothing is journaled.
+    pub fn try_call(&self, seat: &mut Seat, command: Command) -> Result<Receipt, Refusal>
+        ensures seat { IfOk result (λ receipt. receipt.seat ≡ seat.old.number) }
+        ensures command { IfOk result (λ receipt. receipt.command ≡ command) }
+        ensures same { seat.new.number ≡ seat.old.number }
+    {
+        match self.core.try_lock() {
+            Some(mut core) => make(&mut core, seat.number, command),
+            None => Err(Refusal::LockBusy),
+        }
+    }
+
+    /// Waits until nothing is frozen, or the store is down, and tells which.
+    pub fn wait_thaw(&self, rt: &impl Wait) -> Thaw {
+        let core = self
+            .thawed
+            .wait_while(rt, self.core.lock(rt), |core| holds_commands(core));
+        if core.is_frozen() {
+            Thaw::Down
+        } else {
+            Thaw::Thawed
+        }
+    }
+
+    /// Begins a checkpoint of so many rounds and makes it, beside the seats. Returns the last reply.
+    pub fn run_dumper<R: Wait>(&self, rt: &R, rounds: u64, hold: &impl Hold) -> Reply {
+        self.run(rt, Worker::Dumper, rounds, hold)
+    }
+
+    /// Begins a merge and makes it. Returns the last reply.
+    pub fn run_merger<R: Wait>(&self, rt: &R, hold: &impl Hold) -> Reply {
+        self.run(rt, Worker::Merger, 0, hold)
+    }
+
+    /// Opens the store again. Returns the last reply.
+    pub fn run_opener<R: Wait>(&self, rt: &R, hold: &impl Hold) -> Reply {
+        self.run(rt, Worker::Opener, 0, hold)
+    }
+
+    fn run<R: Wait, H: Hold>(&self, rt: &R, worker: Worker, rounds: u64, hold: &H) -> Reply {
+        let mut job = Job {
+            rt,
+            shared: self,
+            hold,
+            worker,
+            rounds,
+            calls: 0,
+            began: false,
+            last: Reply::Worked,
+        };
+        drive(rt, &mut job);
+        job.into_last()
+    }
+
+    /// Cancels the checkpoint that runs or is pending, as `Core::cancel`.
+    pub fn cancel(&self, rt: &impl Wait) -> Reply {
+        let mut core = self.core.lock(rt);
+        let reply = core.cancel();
+        self.wake(&core);
+        reply
+    }
+
+    /// Wakes all that wait for a thaw, unless commands are still held up.
+    fn wake(&self, core: &Core) {
+        if !holds_commands(core) {
+            self.thawed.notify_all();
+        }
+    }
+
+    /// Begins a worker's job.
+    pub(crate) fn begin(&self, rt: &impl Wait, worker: Worker, rounds: u64) -> Reply {
+        let mut core = self.core.lock(rt);
+        match worker {
+            Worker::Dumper => core.begin(rounds),
+            Worker::Merger => core.merge(),
+            Worker::Opener => core.reopen(),
+        }
+    }
+
+    /// A worker's next step. One that ends the job may end a freeze.
+    pub(crate) fn take_up(&self, rt: &impl Wait, worker: Worker) -> Taken {
+        let mut core = self.core.lock(rt);
+        let taken = core.take_up(worker);
+        self.wake(&core);
+        taken
+    }
+
+    /// Makes a device call, where its slot is one of the disk's. The core asks for no other, which no clause can say of a
+    /// core behind a lock.
+    pub(crate) fn perform(&self, rt: &impl Wait, request: Request) -> Option<Outcome> {
+        let mut disk = self.disk.lock(rt);
+        if request.id().slot < disk.slots() {
+            Some(perform(&mut *disk, request))
+        } else {
+            None
+        }
+    }
+
+    /// Hands an outcome in. It may end a freeze, or put the store down.
+    pub(crate) fn hand_in(&self, rt: &impl Wait, outcome: Outcome) -> Reply {
+        let mut core = self.core.lock(rt);
+        let reply = core.hand_in(outcome);
+        self.wake(&core);
+        reply
+    }
+
+    /// Gives the core and the disk back where the journal accounts for the receipts and the acknowledged numbers.
+    ///
+    /// # Errors
+    ///
+    /// The first fault, as `check_receipts`.
+    pub fn close(self, receipts: &[Receipt], acks: &[u64]) -> Result<(Core, D), CloseFault> {
+        let Shared {
+            core,
+            disk,
+            thawed: _,
+        } = self;
+        settle(core.into_inner(), disk.into_inner(), receipts, acks)
+    }
+}

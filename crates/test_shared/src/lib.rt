@@ -1,0 +1,11 @@
+//! Tests of cores that threads share, by the public names of `sd_shared`.
+#![tactic(auto)]
+
+#[cfg(test)]
+mod beside;
+#[cfg(test)]
+mod closing;
+#[cfg(test)]
+mod holds;
+#[cfg(test)]
+mod memory;
