@@ -1,9 +1,9 @@
 //! Calls of one seat, and the same commands as events of a world.
 use crate::fault::BenchFault;
 use crate::place::{mmap, store};
-use sd_command::{Refusal, Reply};
+use sd_command::{Command, Refusal, Reply};
 use sd_disk::MemDisk;
-use sd_shared::Shared;
+use sd_shared::{Seat, Shared};
 use sd_world::{Event, World};
 use std::alloc::{AllocError, Global};
 use std::sync::Wait;
@@ -22,33 +22,51 @@ fn done(reply: Reply) -> Result<(), Refusal> {
     }
 }
 
-/// Makes so many stores by one seat of a shared core.
-pub(crate) fn make_calls(rt: &impl Wait, alloc: Global, count: u64) -> Result<u64, BenchFault> {
-    let Ok((shared, mut seats)) = Shared::open(alloc, small(alloc)?, 16, 1) else {
-        return Err(BenchFault::NotOpened);
-    };
-    let Some(mut seat) = seats.pop() else {
-        return Err(BenchFault::NotOpened);
-    };
-    done(shared.call(rt, &mut seat, mmap(1))?.reply)?;
+/// Maps a page, and makes so many stores by a seat.
+fn call_all(
+    rt: &impl Wait,
+    alloc: Global,
+    shared: &Shared<MemDisk>,
+    seat: &mut Seat,
+    count: u64,
+) -> Result<u64, BenchFault> {
+    done(shared.call(rt, seat, mmap(1))?.reply)?;
     for number in 0..count {
         let command = store(alloc, 0, (number % 256) as u8)?;
-        done(shared.call(rt, &mut seat, command)?.reply)?;
+        done(shared.call(rt, seat, command)?.reply)?;
+    }
+    Ok(count)
+}
+
+/// Makes so many stores by one seat of a shared core.
+pub(crate) fn make_calls(rt: &impl Wait, alloc: Global, count: u64) -> Result<u64, BenchFault> {
+    match Shared::open(alloc, small(alloc)?, 16, 1) {
+        Ok((shared, mut seats)) => match seats.first_mut() {
+            Some(seat) => call_all(rt, alloc, &shared, seat, count),
+            None => Err(BenchFault::NotOpened),
+        },
+        Err(_) => Err(BenchFault::NotOpened),
+    }
+}
+
+/// Makes a command as an event of a world.
+fn step(world: &mut World<MemDisk>, command: Command) -> Result<(), Refusal> {
+    done(world.step(&Event::Command { seat: 0, command }))
+}
+
+/// Maps a page, and makes so many stores as events of a world.
+fn step_all(alloc: Global, world: &mut World<MemDisk>, count: u64) -> Result<u64, BenchFault> {
+    step(world, mmap(1))?;
+    for number in 0..count {
+        step(world, store(alloc, 0, (number % 256) as u8)?)?;
     }
     Ok(count)
 }
 
 /// Makes so many stores as events of a world.
 pub(crate) fn make_steps(alloc: Global, count: u64) -> Result<u64, BenchFault> {
-    let Ok(mut world) = World::open(alloc, small(alloc)?, 16) else {
-        return Err(BenchFault::NotOpened);
-    };
-    let seat = 0;
-    let command = mmap(1);
-    done(world.step(&Event::Command { seat, command }))?;
-    for number in 0..count {
-        let command = store(alloc, 0, (number % 256) as u8)?;
-        done(world.step(&Event::Command { seat, command }))?;
+    match World::open(alloc, small(alloc)?, 16) {
+        Ok(mut world) => step_all(alloc, &mut world, count),
+        Err(_) => Err(BenchFault::NotOpened),
     }
-    Ok(count)
 }
