@@ -23,8 +23,8 @@ const ROUNDS: u64 = 8;
 /// Room for an image of all pages.
 const ROOM: usize = 70_000_000;
 
-/// How long a seat pauses between two stores, so that the journal has room for all of them.
-const PAUSE: Duration = Duration::from_micros(20);
+/// How many microseconds a seat pauses between two stores, so that the journal has room for all of them.
+const PAUSE_MICROS: u64 = 20;
 
 /// A hold that lets each call go on.
 struct Free;
@@ -119,7 +119,7 @@ impl Mutator {
                 self.refused = Some(why);
                 return;
             }
-            thread::sleep(rt, PAUSE);
+            thread::sleep(rt, Duration::from_micros(PAUSE_MICROS));
         }
     }
 }

@@ -7,8 +7,6 @@ use crate::support::{
     READ_WRITE,
 };
 use sd_pagetable::{MemoryRefusal, Segv};
-use std::alloc::Global;
-use std::process::Abort;
 use std::test::Fail;
 
 /// A page just mapped reads soft-dirty, not present; an unmapped one 0.
@@ -665,19 +663,15 @@ const SCRIPTS: [(&str, &[Line]); 48] = [
     ("areas_join", &AREAS_JOIN),
 ];
 
-fn return_each(
-    rt: &impl Abort,
-    alloc: Global,
-    scripts: &[(&'static str, &'static [Line])],
-) -> Result<(), Fail> {
-    for (name, script) in scripts {
-        assert_eq!(rt; first_difference(alloc, 65_536, script)?, None, "{name}");
-    }
-    Ok(())
-}
-
 /// A memory returns what the kernel returned, line by line.
 #[test]
 fn kernel_scripts(rt: HostRuntime) -> Result<(), Fail> {
-    return_each(&rt, rt.alloc(), &SCRIPTS)
+    for (name, script) in SCRIPTS {
+        assert_eq!(rt;
+            first_difference(rt.alloc(), 65_536, script)?,
+            None,
+            "{name}"
+        );
+    }
+    Ok(())
 }

@@ -86,7 +86,7 @@ const REFUSED: [(usize, u64, MemoryError); 4] = [
 
 fn refusal_of(alloc: Global, frames: usize, space: u64) -> Result<Option<MemoryError>, Fail> {
     let snapshot = snapshot_of(alloc, &[space], &TWO_PAGES)?;
-    Ok(Memory::from_snapshot(alloc, frames, &snapshot).err())
+    Ok(Memory::from_snapshot(alloc, frames.clamp(1, 65_536), &snapshot).err())
 }
 
 /// What a memory can't begin with, and in which order it is refused.
