@@ -8,7 +8,6 @@ use sd_disk::Disk;
 use sd_gate::{Phase, Worker, perform};
 use sd_pagetable::Memory;
 use std::alloc::Global;
-use std::process::Abort;
 use std::test::Fail;
 
 /// A core that starts from an empty store of three slots.
@@ -63,16 +62,6 @@ pub fn save<D: Disk>(core: &mut Core, disk: &mut D) -> Reply {
         Reply::Begun(_) => finish(core, disk, Worker::Dumper),
         refused => refused,
     }
-}
-
-/// A reply is this one.
-pub fn is_reply(rt: &impl Abort, reply: Reply, wanted: Reply) {
-    assert_eq!(rt; reply, wanted);
-}
-
-/// A reply is this refusal.
-pub fn is_refused(rt: &impl Abort, reply: Reply, refusal: Refusal) {
-    is_reply(rt, reply, Reply::Refused(refusal));
 }
 
 /// A readable and writable page of space 1.

@@ -1,5 +1,5 @@
 //! A journal that is full.
-use crate::driving::{finish, fresh, is_refused, is_reply, load_byte, map_page, open_again};
+use crate::driving::{finish, fresh, load_byte, map_page, open_again};
 use sd_command::{Refusal, Reply};
 use sd_core::Core;
 use sd_disk::MemDisk;
@@ -20,15 +20,15 @@ fn fill(core: &mut Core, count: usize) -> Result<(), Fail> {
 /// checkpoint begins, and nothing is journaled.
 fn saves_in_held_entries(rt: &impl Abort, core: &mut Core, disk: &mut MemDisk) -> Result<(), Fail> {
     let full = Refusal::JournalFull;
-    is_reply(rt, open_again(core, disk), Reply::Reopened(None));
+    assert_eq!(rt; open_again(core, disk), Reply::Reopened(None));
     core.apply(0, &map_page())?;
     fill(core, 1_048_571)?;
-    is_reply(rt, core.begin(0), Reply::Begun(1));
+    assert_eq!(rt; core.begin(0), Reply::Begun(1));
     fill(core, 1)?;
     assert_eq!(rt; core.apply(0, &load_byte()), Err(full));
-    is_reply(rt, finish(core, disk, Worker::Dumper), Reply::Acked(1));
+    assert_eq!(rt; finish(core, disk, Worker::Dumper), Reply::Acked(1));
     assert_eq!(rt; core.apply(0, &load_byte()), Err(full));
-    is_refused(rt, core.begin(0), full);
+    assert_eq!(rt; core.begin(0), Reply::Refused(full));
     Ok(())
 }
 

@@ -1,7 +1,6 @@
 //! Tests of a core that is driven by hand: what is refused and when, and what failures leave.
 #![tactic(auto)]
 
-#[cfg(test)]
 mod driving;
 #[cfg(test)]
 mod journal_limit;

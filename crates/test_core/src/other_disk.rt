@@ -1,5 +1,5 @@
 //! A store that isn't the run's own.
-use crate::driving::{fresh, is_refused, is_reply, open_again, save};
+use crate::driving::{fresh, open_again, save};
 use sd_command::{Refusal, Reply};
 use sd_core::Core;
 use sd_disk::{Disk, Fused, MemDisk};
@@ -14,14 +14,16 @@ fn other_stores_are_damage<D: Disk>(
     own: &mut D,
     broken: &mut Fused<D>,
     empty: &mut D,
-) {
-    is_reply(rt, open_again(core, own), Reply::Reopened(None));
-    is_reply(rt, save(core, own), Reply::Acked(1));
-    is_refused(rt, save(core, broken), Refusal::StoreDown);
-    is_refused(rt, open_again(core, empty), Refusal::Damaged);
-    is_refused(rt, save(core, own), Refusal::StoreDown);
-    is_reply(rt, open_again(core, own), Reply::Reopened(Some(1)));
-    is_reply(rt, save(core, own), Reply::Acked(3));
+) -> Result<(), Fail> {
+    let down = Reply::Refused(Refusal::StoreDown);
+    assert_eq!(rt; open_again(core, own), Reply::Reopened(None));
+    assert_eq!(rt; save(core, own), Reply::Acked(1));
+    assert_eq!(rt; save(core, broken), down);
+    assert_eq!(rt; open_again(core, empty), Reply::Refused(Refusal::Damaged));
+    assert_eq!(rt; save(core, own), down);
+    assert_eq!(rt; open_again(core, own), Reply::Reopened(Some(1)));
+    assert_eq!(rt; save(core, own), Reply::Acked(3));
+    Ok(())
 }
 
 #[test]
@@ -30,6 +32,5 @@ fn another_store_is_damage(rt: HostRuntime) -> Result<(), Fail> {
     let mut broken = Fused::new(MemDisk::new(rt.alloc(), 4, 100_000, 100)?, 0);
     let mut empty = MemDisk::new(rt.alloc(), 4, 100_000, 100)?;
     let mut core = fresh(rt.alloc())?;
-    other_stores_are_damage(&rt, &mut core, &mut own, &mut broken, &mut empty);
-    Ok(())
+    other_stores_are_damage(&rt, &mut core, &mut own, &mut broken, &mut empty)
 }

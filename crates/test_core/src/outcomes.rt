@@ -1,5 +1,5 @@
 //! Outcomes of calls that aren't out.
-use crate::driving::{finish, fresh, is_refused, is_reply};
+use crate::driving::{finish, fresh};
 use sd_command::{Refusal, Reply};
 use sd_core::{Core, Taken};
 use sd_disk::{Disk, MemDisk};
@@ -26,15 +26,15 @@ fn drops_the_outcome_of_another(
     core: &mut Core,
     other: &mut Core,
     disk: &mut MemDisk,
-) {
-    is_reply(rt, core.reopen(), Reply::Worked);
-    is_reply(rt, other.reopen(), Reply::Worked);
-    is_refused(rt, hand_to_another(other, core, disk), Refusal::Idle);
-    is_reply(
-        rt,
-        finish(core, disk, Worker::Opener),
-        Reply::Reopened(None),
+) -> Result<(), Fail> {
+    assert_eq!(rt; core.reopen(), Reply::Worked);
+    assert_eq!(rt; other.reopen(), Reply::Worked);
+    assert_eq!(rt;
+        hand_to_another(other, core, disk),
+        Reply::Refused(Refusal::Idle)
     );
+    assert_eq!(rt; finish(core, disk, Worker::Opener), Reply::Reopened(None));
+    Ok(())
 }
 
 #[test]
@@ -42,6 +42,5 @@ fn a_strange_outcome_is_dropped(rt: HostRuntime) -> Result<(), Fail> {
     let mut disk = MemDisk::new(rt.alloc(), 3, 100_000, 100)?;
     let mut core = fresh(rt.alloc())?;
     let mut other = fresh(rt.alloc())?;
-    drops_the_outcome_of_another(&rt, &mut core, &mut other, &mut disk);
-    Ok(())
+    drops_the_outcome_of_another(&rt, &mut core, &mut other, &mut disk)
 }

@@ -1,15 +1,13 @@
 //! Mutators that store while a dumper's device call is held.
-use crate::memory::{Free, Mutator, is_reply, load, open, prepare, store};
+use crate::mutator::{Mutator, load, store};
 use sd_command::{Command, Refusal, Reply};
 use sd_disk::MemDisk;
 use sd_journal::Receipt;
 use sd_shared::{Hold, Seat, Shared, Thaw};
-use sd_world::audit;
 use std::alloc::Global;
 use std::process::Abort;
 use std::sync::Wait;
 use std::sync::atomic::{AtomicU64, Ordering};
-use std::test::Fail;
 use std::thread;
 use std::thread::Threads;
 use std::time::{Clock, Duration};
@@ -25,7 +23,7 @@ const TRIES: u64 = 100_000;
 
 /// How a mutator makes its commands.
 #[derive(Clone, Copy)]
-enum Way {
+pub(crate) enum Way {
     /// It waits for the lock.
     Waits,
     /// It tries again where the lock isn't free.
@@ -104,8 +102,8 @@ impl<R: Wait + Clock> Place<'_, R> {
     }
 
     /// Tries a command once: whether it was done, and isn't to be tried again.
-    fn try_once(&self, mutator: &mut Mutator, command: Command) -> Result<bool, Refusal> {
-        match call(self.rt, self.shared, &mut mutator.seat, self.way, command) {
+    fn try_once(&self, mutator: &mut Mutator<'_>, command: Command) -> Result<bool, Refusal> {
+        match call(self.rt, self.shared, mutator.seat, self.way, command) {
             Ok(receipt) => match mutator.keep(receipt)? {
                 None => Ok(true),
                 Some(Refusal::Frozen) => match self.shared.wait_thaw(self.rt) {
@@ -123,7 +121,7 @@ impl<R: Wait + Clock> Place<'_, R> {
     }
 
     /// Makes a command, again after each thaw.
-    fn make(&self, mutator: &mut Mutator, number: Option<u64>) -> Result<(), Refusal> {
+    fn make(&self, mutator: &mut Mutator<'_>, number: Option<u64>) -> Result<(), Refusal> {
         for _ in 0..TRIES {
             if self.try_once(mutator, self.command(number)?)? {
                 return Ok(());
@@ -133,7 +131,7 @@ impl<R: Wait + Clock> Place<'_, R> {
     }
 
     /// Waits for the beginning, and then stores each number into the page, and loads it back.
-    fn mutate(&self, mutator: &mut Mutator, flags: &Flags) -> Result<(), Refusal> {
+    fn mutate(&self, mutator: &mut Mutator<'_>, flags: &Flags) -> Result<(), Refusal> {
         if !await_flag(self.rt, &flags.begun) {
             return Err(Refusal::Idle);
         }
@@ -151,7 +149,7 @@ fn run_beside<R: Threads + Wait + Clock + Sync>(
     rt: &R,
     shared: &Shared<MemDisk>,
     places: (&Place<'_, R>, &Place<'_, R>),
-    mutators: (&mut Mutator, &mut Mutator),
+    mutators: (&mut Mutator<'_>, &mut Mutator<'_>),
     flags: &Flags,
 ) -> (Reply, (Result<(), Refusal>, Result<(), Refusal>)) {
     let gate = Gate { rt, flags };
@@ -169,23 +167,15 @@ fn run_beside<R: Threads + Wait + Clock + Sync>(
     )
 }
 
-/// The receipts of both.
-fn all_of(first: Mutator, last: Mutator) -> Result<Vec<Receipt>, Fail> {
-    let mut receipts = first.receipts;
-    for receipt in last.receipts {
-        receipts.push(receipt)?;
-    }
-    Ok(receipts)
-}
-
-fn run_all<R: Threads + Wait + Clock + Abort + Sync>(
+/// Two mutators store a thousand numbers each, and load each back, beside a checkpoint whose first page write is held until
+/// one of their stores is answered. Returns the receipts of both.
+pub(crate) fn save_beside<R: Threads + Wait + Clock + Abort + Sync>(
     rt: &R,
     alloc: Global,
+    shared: &Shared<MemDisk>,
+    mutators: (&mut Mutator<'_>, &mut Mutator<'_>),
     way: Way,
-) -> Result<(), Fail> {
-    let (shared, mut first, mut last) = open(alloc)?;
-    is_reply(rt, shared.run_opener(rt, &Free), Reply::Reopened(None));
-    assert_eq!(rt; prepare(rt, alloc, &shared, &mut first, 2), Ok(()));
+) {
     let flags = Flags {
         begun: AtomicU64::new(0),
         answered: AtomicU64::new(0),
@@ -193,33 +183,14 @@ fn run_all<R: Threads + Wait + Clock + Abort + Sync>(
     };
     let place = |page| Place {
         rt,
-        shared: &shared,
+        shared,
         way,
         alloc,
         page,
     };
     let (low, high) = (place(0), place(1));
-    let (reply, ended) = run_beside(rt, &shared, (&low, &high), (&mut first, &mut last), &flags);
-    is_reply(rt, reply, Reply::Acked(1));
+    let (reply, ended) = run_beside(rt, shared, (&low, &high), mutators, &flags);
+    assert_eq!(rt; reply, Reply::Acked(1));
     assert_eq!(rt; ended, (Ok(()), Ok(())));
     assert_eq!(rt; flags.missed.load(Ordering::SeqCst), 0);
-    let receipts = all_of(first, last)?;
-    assert!(rt; receipts.len() >= 4_003);
-    let Ok((core, mut disk)) = shared.close(&receipts, &[1]) else {
-        return Err(Fail::from("not closed"));
-    };
-    assert_eq!(rt; audit(alloc, &core, &mut disk), Ok(true));
-    Ok(())
-}
-
-/// Two mutators store while the dumper's first page write is held.
-#[test]
-fn threads(rt: HostRuntime) -> Result<(), Fail> {
-    run_all(&rt, rt.alloc(), Way::Waits)
-}
-
-/// The same without waiting for the lock.
-#[test]
-fn threads_that_try(rt: HostRuntime) -> Result<(), Fail> {
-    run_all(&rt, rt.alloc(), Way::Tries)
 }

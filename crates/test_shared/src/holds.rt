@@ -1,12 +1,17 @@
 //! Holds are told of each device call.
-use crate::memory::{Free, is_reply, open, prepare};
 use sd_command::Reply;
-use sd_shared::Hold;
-use std::alloc::Global;
+use sd_disk::MemDisk;
+use sd_shared::{Hold, Shared};
 use std::process::Abort;
 use std::sync::Wait;
 use std::sync::atomic::{AtomicU64, Ordering};
-use std::test::Fail;
+
+/// A hold that lets each call go on.
+pub(crate) struct Free;
+
+impl Hold for Free {
+    fn before(&self, _call: u64) {}
+}
 
 /// A hold that counts the calls, where each comes with the next number.
 #[derive(Drop)]
@@ -23,19 +28,9 @@ impl Hold for Counting<'_> {
 }
 
 /// On a fresh store, after a checkpoint without rounds of which one page isn't all zeros, a merge makes 13 device calls.
-fn merges_in_13_calls(rt: &(impl Abort + Wait), alloc: Global) -> Result<(), Fail> {
-    let (shared, mut mutator, _last) = open(alloc)?;
-    is_reply(rt, shared.run_opener(rt, &Free), Reply::Reopened(None));
-    assert_eq!(rt; prepare(rt, alloc, &shared, &mut mutator, 1), Ok(()));
-    is_reply(rt, shared.run_dumper(rt, 0, &Free), Reply::Acked(1));
+pub(crate) fn merges_in_13_calls(rt: &(impl Abort + Wait), shared: &Shared<MemDisk>) {
     let calls = AtomicU64::new(0);
     let hold = Counting { calls: &calls };
-    is_reply(rt, shared.run_merger(rt, &hold), Reply::Merged(2));
+    assert_eq!(rt; shared.run_merger(rt, &hold), Reply::Merged(2));
     assert_eq!(rt; calls.load(Ordering::SeqCst), 13);
-    Ok(())
-}
-
-#[test]
-fn a_merge_holds_13_times(rt: HostRuntime) -> Result<(), Fail> {
-    merges_in_13_calls(&rt, rt.alloc())
 }

@@ -4,8 +4,12 @@
 #[cfg(test)]
 mod beside;
 #[cfg(test)]
-mod closing;
+mod cancelling;
+#[cfg(test)]
+mod cases;
 #[cfg(test)]
 mod holds;
 #[cfg(test)]
-mod memory;
+mod mutator;
+#[cfg(test)]
+mod told;

@@ -1,32 +1,23 @@
-//! A store, its seats, and the commands that they make.
+//! A seat that makes commands, and keeps its receipts.
 use sd_areas::{Prot, SpaceId};
 use sd_command::{Bytes, Command, Refusal, Reply};
 use sd_disk::MemDisk;
 use sd_journal::Receipt;
-use sd_shared::{Hold, Seat, Shared};
+use sd_shared::{Seat, Shared};
 use std::alloc::{AllocError, Global};
-use std::process::Abort;
 use std::sync::Wait;
-use std::test::Fail;
 
 /// The first address of the pages.
 const FIRST: u64 = 0x10_0000;
 
-/// A hold that lets each call go on.
-pub(crate) struct Free;
-
-impl Hold for Free {
-    fn before(&self, _call: u64) {}
-}
-
 /// A seat, and the receipts of its commands.
 #[derive(Drop)]
-pub(crate) struct Mutator {
-    pub(crate) seat: Seat,
+pub(crate) struct Mutator<'a> {
+    pub(crate) seat: &'a mut Seat,
     pub(crate) receipts: Vec<Receipt>,
 }
 
-impl Mutator {
+impl Mutator<'_> {
     /// Keeps a receipt, and returns its reply's refusal, if it is one.
     pub(crate) fn keep(&mut self, receipt: Receipt) -> Result<Option<Refusal>, Refusal> {
         let refused = match receipt.reply {
@@ -50,13 +41,28 @@ impl Mutator {
         shared: &Shared<MemDisk>,
         command: Command,
     ) -> Result<Option<Refusal>, Refusal> {
-        let receipt = shared.call(rt, &mut self.seat, command)?;
+        let receipt = shared.call(rt, self.seat, command)?;
         self.keep(receipt)
+    }
+
+    /// Maps so many pages, and stores a number into each.
+    pub(crate) fn prepare(
+        &mut self,
+        rt: &impl Wait,
+        alloc: Global,
+        shared: &Shared<MemDisk>,
+        pages: u64,
+    ) -> Result<(), Refusal> {
+        self.make(rt, shared, mmap(pages))?;
+        for page in 0..pages {
+            self.make(rt, shared, store(alloc, page, 7)?)?;
+        }
+        Ok(())
     }
 }
 
 /// Readable and writable pages of space 1.
-pub(crate) fn mmap(pages: u64) -> Command {
+fn mmap(pages: u64) -> Command {
     Command::Mmap {
         space: SpaceId::new(1),
         address: FIRST,
@@ -100,46 +106,4 @@ pub(crate) fn load(page: u64) -> Command {
         address: address_of(page),
         count: 8,
     }
-}
-
-/// A store of eight slots in memory, and two mutators.
-pub(crate) fn open(alloc: Global) -> Result<(Shared<MemDisk>, Mutator, Mutator), Fail> {
-    let disk = MemDisk::new(alloc, 8, 1_000_000, 10_000)?;
-    let Ok((shared, mut seats)) = Shared::open(alloc, disk, 64, 2) else {
-        return Err(Fail::from("not opened"));
-    };
-    let (Some(last), Some(first)) = (seats.pop(), seats.pop()) else {
-        return Err(Fail::from("no seats"));
-    };
-    let receipts = Vec::new(alloc);
-    let first = Mutator {
-        seat: first,
-        receipts,
-    };
-    let receipts = Vec::new(alloc);
-    let last = Mutator {
-        seat: last,
-        receipts,
-    };
-    Ok((shared, first, last))
-}
-
-/// Maps so many pages, and stores a number into each.
-pub(crate) fn prepare(
-    rt: &impl Wait,
-    alloc: Global,
-    shared: &Shared<MemDisk>,
-    mutator: &mut Mutator,
-    pages: u64,
-) -> Result<(), Refusal> {
-    mutator.make(rt, shared, mmap(pages))?;
-    for page in 0..pages {
-        mutator.make(rt, shared, store(alloc, page, 7)?)?;
-    }
-    Ok(())
-}
-
-/// A reply is this one.
-pub(crate) fn is_reply(rt: &impl Abort, reply: Reply, wanted: Reply) {
-    assert_eq!(rt; reply, wanted);
 }
