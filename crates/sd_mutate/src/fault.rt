@@ -22,7 +22,7 @@ impl fmt::Display for MutateFault {
             MutateFault::Store(fault) => write!(f, "{fault}"),
             MutateFault::NotEmpty => f.write_str("store not empty"),
             MutateFault::Open(fault) => write!(f, "{fault}"),
-            MutateFault::Refused(why) => write!(f, "refused {} {}", why.number(), why.name()),
+            MutateFault::Refused(why) => write!(f, "refused {why}"),
         }
     }
 }

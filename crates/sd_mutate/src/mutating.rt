@@ -1,5 +1,5 @@
 //! A whole run: threads that store, checkpoints beside them, and what the journal says of both.
-ghost use Rattle.std.specs.Prelude.{◌≡◌, ◌<◌, false, Err, IfOk, IfErr};
+ghost use Rattle.std.specs.Prelude.{◌≡◌, ◌<◌, false, length, Err, IfOk, IfErr};
 ghost use Rattle.sd_disk.specs.Reads.{OnlyReads};
 ghost use Rattle.sd_mutate.specs.Ending.{LeavesStore, is_early, open_images};
 
@@ -38,6 +38,7 @@ pub fn mutate<R: Threads + Wait + Sync, D: Disk + Drop + Send>(
     threads: usize,
 ) -> (Option<D>, Result<Tally, MutateFault>)
     ensures left { LeavesStore D.Disk disk result.0 result.1 }
+    ensures threads { IfOk result.1 (λ tally. tally.threads ≡ threads) }
 {
     if let Err(fault) = check_empty(alloc, &mut disk) {
         return (Some(disk), Err(fault));
@@ -212,7 +213,8 @@ fn mutate_shared<R: Threads + Wait + Sync, D: Disk + Drop + Send>(
     shared: Shared<D>,
     seats: Vec<Seat>,
 ) -> (Option<D>, Result<Tally, MutateFault>)
-    ensures { IfErr result.1 (λ fault. is_early fault ≡ false) }
+    ensures late { IfErr result.1 (λ fault. is_early fault ≡ false) }
+    ensures threads { IfOk result.1 (λ tally. tally.threads ≡ length seats.items) }
 {
     let threads = seats.len();
     match run_seats(rt, alloc, &shared, seats) {

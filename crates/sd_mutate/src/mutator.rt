@@ -1,4 +1,5 @@
 //! One thread that stores numbers into a page, and loads each back.
+use crate::tally::STORES;
 use sd_areas::{PAGE_BYTES, Prot, SpaceId};
 use sd_command::{Bytes, Command, Refusal, Reply};
 use sd_disk::Disk;
@@ -6,9 +7,6 @@ use sd_journal::Receipt;
 use sd_shared::{Seat, Shared, Thaw};
 use std::alloc::{AllocError, Global};
 use std::sync::Wait;
-
-/// How many numbers each mutator stores.
-const STORES: u64 = 1_000;
 
 /// The first address of the first mutator's page.
 const FIRST: u64 = 0x10_0000;

@@ -1,5 +1,10 @@
+ghost use Rattle.std.specs.Prelude.{◌≡◌, ◌↔◌, ◌*◌, None, IsTrue};
+
 use sd_command::Refusal;
 use std::fmt;
+
+/// How many numbers each mutator stores.
+pub(crate) const STORES: u64 = 1_000;
 
 /// What mutators and workers did.
 #[derive(Clone, Copy, Debug, PartialEq, Eq)]
@@ -17,9 +22,13 @@ pub struct Tally {
 }
 
 impl Tally {
-    /// Whether nothing ended early, and the journal accounts for all.
-    pub fn is_whole(&self) -> bool {
-        self.refused.is_none() && self.closes
+    /// Whether nothing ended early, each number was stored and loaded back, and the journal accounts for all.
+    pub fn is_whole(&self) -> bool
+        ensures { IsTrue result ↔ (self.now.refused ≡ None) × IsTrue self.now.closes
+            × (self.now.stores ≡ self.now.threads * 1000) }
+    {
+        let wanted = self.threads as u128 * u128::from(STORES);
+        self.refused.is_none() && self.closes && u128::from(self.stores) == wanted
     }
 }
 
@@ -34,7 +43,7 @@ impl fmt::Display for Tally {
         } = *self;
         writeln!(f, "threads {threads} stores {stores} acked {acked}")?;
         if let Some(why) = refused {
-            writeln!(f, "refused {} {}", why.number(), why.name())?;
+            writeln!(f, "refused {why}")?;
         }
         f.write_str(if closes { "close ok" } else { "close failed" })
     }

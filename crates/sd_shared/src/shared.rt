@@ -1,8 +1,10 @@
 //! A core and its disk, shared by threads.
-ghost use Rattle.std.specs.Prelude.{◌≡◌, ◌≤◌, IfOk, IfErr};
+ghost use Rattle.std.specs.Prelude.{◌≡◌, ◌≤◌, true, reverse, IfOk, IfErr};
+ghost use Rattle.sd_belief.specs.View.{CoreView, history_of};
 ghost use Rattle.sd_disk.specs.Reads.{OnlyReads};
+ghost use Rattle.sd_journal.specs.Receipts.{Accounts, IsFault};
 ghost use Rattle.sd_world.specs.Opens.{HasNoFrame, IsFaultOf};
-ghost use Rattle.sd_shared.specs.Told.{seats_from_0};
+ghost use Rattle.sd_shared.specs.Told.{ends_job, seats_from_0};
 
 use crate::driving::drive;
 use crate::hands::Hands;
@@ -128,21 +130,29 @@ impl<D: Disk + Drop> Shared<D> {
     }
 
     /// Begins a checkpoint of so many rounds and makes it, beside the seats. Returns the last reply.
-    pub fn run_dumper<R: Wait>(&self, rt: &R, rounds: u64, hold: &impl Hold) -> Reply {
+    pub fn run_dumper<R: Wait>(&self, rt: &R, rounds: u64, hold: &impl Hold) -> Reply
+        ensures over { ends_job result ≡ true }
+    {
         self.run(rt, Worker::Dumper, rounds, hold)
     }
 
     /// Begins a merge and makes it. Returns the last reply.
-    pub fn run_merger<R: Wait>(&self, rt: &R, hold: &impl Hold) -> Reply {
+    pub fn run_merger<R: Wait>(&self, rt: &R, hold: &impl Hold) -> Reply
+        ensures over { ends_job result ≡ true }
+    {
         self.run(rt, Worker::Merger, 0, hold)
     }
 
     /// Opens the store again. Returns the last reply.
-    pub fn run_opener<R: Wait>(&self, rt: &R, hold: &impl Hold) -> Reply {
+    pub fn run_opener<R: Wait>(&self, rt: &R, hold: &impl Hold) -> Reply
+        ensures over { ends_job result ≡ true }
+    {
         self.run(rt, Worker::Opener, 0, hold)
     }
 
-    fn run<R: Wait, H: Hold>(&self, rt: &R, worker: Worker, rounds: u64, hold: &H) -> Reply {
+    fn run<R: Wait, H: Hold>(&self, rt: &R, worker: Worker, rounds: u64, hold: &H) -> Reply
+        ensures over { ends_job result ≡ true }
+    {
         let mut job = Job {
             rt,
             shared: self,
@@ -214,7 +224,13 @@ impl<D: Disk + Drop> Shared<D> {
     /// # Errors
     ///
     /// The first fault, as `check_receipts`.
-    pub fn close(self, receipts: &[Receipt], acks: &[u64]) -> Result<(Core, D), CloseFault> {
+    pub fn close(self, receipts: &[Receipt], acks: &[u64]) -> Result<(Core, D), CloseFault>
+        ensures accounts { IfOk result (λ parts. Accounts 0 (reverse (history_of parts.0))
+            receipts.now acks.now) }
+        // The fault is that of the core which was behind the lock.
+        ensures fault { IfErr result (λ fault. (core : CoreView)
+            × IsFault 0 (reverse (history_of core)) receipts.now acks.now fault) }
+    {
         let Shared {
             core,
             disk,

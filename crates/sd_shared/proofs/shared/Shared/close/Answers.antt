@@ -1,0 +1,9 @@
+use Rattle.std.proofs.Common.{reverse}
+use Rattle.sd_belief.specs.View.{history_of}
+use Rattle.sd_journal.specs.Receipts.{IsFault}
+use Rattle.sd_shared.proofs.CloseLemmas.{of_some}
+use Rattle.sd_shared.proofs.shared.Shared.close.Goals as goal
+
+pub returns-clause-fault : goal.returns-clause-fault
+returns-clause-fault g c =
+    of_some (λ core. IsFault 0 (reverse (history_of core)) c.args.receipts.now c.args.acks.now) c.settle.result c.into_inner.result c.settle.ensures.fault
