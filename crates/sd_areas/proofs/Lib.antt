@@ -15,3 +15,4 @@ pub mod CountLemmas
 pub mod Joined
 pub mod Around
 pub mod Spliced
+pub mod CopyLemmas

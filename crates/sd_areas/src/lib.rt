@@ -4,6 +4,7 @@
 mod area;
 mod area_map;
 mod changes;
+mod copying;
 mod errno;
 mod laws;
 mod limits;
@@ -17,6 +18,7 @@ mod space_id;
 
 pub use area::Area;
 pub use area_map::AreaMap;
+pub use copying::{copy_pages, copy_snapshot};
 pub use errno::{AreaError, Errno};
 pub use laws::{
     areas_law, count_law, limit_law, mapped_law, memory_law, one_list_law, protected_law,

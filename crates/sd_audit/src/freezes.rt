@@ -7,8 +7,7 @@ ghost use Rattle.sd_journal.specs.Legal.{IsLegal};
 ghost use Rattle.sd_audit.specs.Freezes.{IsFreezePlace};
 ghost use Rattle.sd_audit.specs.ShowsOne.{base_of};
 
-use crate::copying::copy_of;
-use sd_areas::Snapshot;
+use sd_areas::{Snapshot, copy_snapshot};
 use sd_journal::{Entry, replay};
 use std::alloc::{AllocError, Global};
 
@@ -30,11 +29,11 @@ pub fn memory_at_freeze(
         ≡ at_freeze (base_of number base.now) (reverse entries.now) checkpoint) }
 {
     if let Some(place) = freeze_place(entries, checkpoint) {
-        let start = copy_of(alloc, base)?;
+        let start = copy_snapshot(alloc, base)?;
         return Ok(Some(replay(alloc, start, &entries[..place])?));
     }
     if number == Some(checkpoint) {
-        return Ok(Some(copy_of(alloc, base)?));
+        return Ok(Some(copy_snapshot(alloc, base)?));
     }
     Ok(None)
 }

@@ -2,7 +2,6 @@
 #![tactic(auto)]
 
 mod auditing;
-mod copying;
 mod freezes;
 mod numbers;
 mod same;

@@ -66,17 +66,6 @@ fn zero_page(alloc: Global, prot: Prot) -> Result<SnapshotPage, AllocError>
     Ok(SnapshotPage { prot, bytes })
 }
 
-/// A copy of a page.
-fn copy_of(alloc: Global, page: &SnapshotPage) -> Result<SnapshotPage, AllocError>
-    ensures { IfOk result (λ copy. page_of_snapshot copy ≡ page_of_snapshot page.now) }
-{
-    let bytes = Box::new(alloc, *page.bytes)?;
-    Ok(SnapshotPage {
-        prot: page.prot,
-        bytes,
-    })
-}
-
 /// Maps a run of pages of zeros, whatever was there.
 pub(crate) fn map_run(
     alloc: Global,
@@ -174,15 +163,4 @@ fn write(page: &mut [u8; PAGE_SIZE], offset: usize, bytes: &[u8])
     ensures { page.new ≡ stored_at page.old offset bytes.now }
 {
     page[offset..offset + bytes.len()].copy_from_slice(bytes);
-}
-
-/// A copy of all pages.
-pub(crate) fn copy_all(alloc: Global, pages: &Pages) -> Result<Pages, AllocError>
-    ensures { IfOk result (λ copy. space_of copy.entries ≡ space_of pages.now.entries) }
-{
-    let mut copy = BTreeMap::new(alloc);
-    for (page, found) in pages {
-        put(&mut copy, *page, copy_of(alloc, found)?)?;
-    }
-    Ok(copy)
 }

@@ -1,5 +1,5 @@
 -- A map that is copied entry by entry.
-use Rattle.std.proofs.Common.{◌≡◌, ℕ, List, [], ◌∷◌, ◌++◌, refl, sym, ◌∙◌, ap, subst, arith, append-nil}
+use Rattle.std.proofs.Common.{◌≡◌, ℕ, List, [], ◌∷◌, ◌++◌, map, refl, sym, ◌∙◌, ap, subst, arith, append-nil}
 use Rattle.std.proofs.lemmas.Bool.Decides.{nat_tests}
 use Rattle.std.proofs.lemmas.Map.Keys.{sorted_head, sorted_tail}
 use Rattle.std.proofs.lemmas.Map.Made.{keys_of-map_values}
@@ -10,7 +10,18 @@ use Rattle.std.specs.List.Sorted.{IsStrictlySortedBy}
 use Rattle.std.specs.Map.{keys_of}
 use Rattle.std.specs.Ordering.{nat_cmp, match_ordering}
 use Rattle.std.specs.declared.cmp.Ordering.TheVariants.{Less, Greater}
-use Rattle.sd_audit.proofs.Seen.{Rise, mapped, seen}
+use Rattle.std.specs.BTreeMap.{BTreeMap}
+use Rattle.sd_areas.specs.declared.snapshot_page.SnapshotPage.{SnapshotPage}
+use Rattle.sd_areas.specs.Memory.{space_of}
+use Rattle.sd_areas.specs.PlainMemory.{Space}
+
+-- the pages of one of a snapshot's spaces
+abbrev pub pages_in : BTreeMap ℕ SnapshotPage → Space
+pages_in pages = space_of pages.entries
+
+-- the keys rise
+abbrev pub Rise : {X : Type 0} → List (ℕ × X) → Type 0
+Rise es = IsStrictlySortedBy nat_cmp (keys_of es)
 
 turned : (k q : ℕ) → nat_cmp k q ≡ Less → nat_cmp q k ≡ Greater
 turned k q less = grind (arith, nat_tests)
@@ -28,19 +39,26 @@ inserted_last (e ∷ es) fs k x y rises =
     ∙ ap (λ more. e ∷ more) (inserted_last es fs k x y (sorted_tail nat_cmp e.0 (keys_of (es ++ (k, x) ∷ fs)) rises))
 
 module _ {X Y : Type 0} (f : X → Y) where
+  -- the entries as they are seen
+  abbrev pub mapped : List (ℕ × X) → List (ℕ × Y)
+  mapped es = map (λ e. (e.0, f e.1)) es
+
+  abbrev pub seen : List (ℕ × X) → finmap.FinMap nat_cmp Y
+  seen es = finmap.from_entries (mapped es)
+
   -- what was copied and the rest are together what there is
   pub record IsCopied (all rest copy : List (ℕ × X)) : Type 0 where
     pub rises : Rise all
-    pub same : mapped f copy ++ mapped f rest ≡ mapped f all
+    pub same : mapped copy ++ mapped rest ≡ mapped all
 
   pub none_copied : (all rest copy : List (ℕ × X)) → rest ≡ all → copy ≡ [] → Rise all → IsCopied all rest copy
-  none_copied all rest copy e none rises = record { rises = rises; same = ap (λ es. mapped f es ++ mapped f rest) none ∙ ap (mapped f) e }
+  none_copied all rest copy e none rises = record { rises = rises; same = ap (λ es. mapped es ++ mapped rest) none ∙ ap mapped e }
 
-  keys_joined : (es fs : List (ℕ × X)) → keys_of (mapped f es ++ mapped f fs) ≡ keys_of (es ++ fs)
+  keys_joined : (es fs : List (ℕ × X)) → keys_of (mapped es ++ mapped fs) ≡ keys_of (es ++ fs)
   keys_joined [] fs = keys_of-map_values f fs
   keys_joined (e ∷ es) fs = ap (λ ks. e.0 ∷ ks) (keys_joined es fs)
 
-  moved : (es fs : List (ℕ × X)) (k : ℕ) (x : X) → mapped f (es ++ (k, x) ∷ []) ++ mapped f fs ≡ mapped f es ++ (k, f x) ∷ mapped f fs
+  moved : (es fs : List (ℕ × X)) (k : ℕ) (x : X) → mapped (es ++ (k, x) ∷ []) ++ mapped fs ≡ mapped es ++ (k, f x) ∷ mapped fs
   moved [] fs k x = refl
   moved (e ∷ es) fs k x = ap (λ more. (e.0, f e.1) ∷ more) (moved es fs k x)
 
@@ -52,9 +70,9 @@ module _ {X Y : Type 0} (f : X → Y) where
       let last = inserted_last copy left k found twin (subst (IsStrictlySortedBy nat_cmp) keys copied.rises) in
       record {
         rises = copied.rises;
-        same = ap (λ es. mapped f es ++ mapped f left) (put ∙ last) ∙ moved copy left k twin
-            ∙ ap (λ y. mapped f copy ++ (k, y) ∷ mapped f left) alike ∙ ap (λ es. mapped f copy ++ mapped f es) (sym e) ∙ copied.same;
+        same = ap (λ es. mapped es ++ mapped left) (put ∙ last) ∙ moved copy left k twin
+            ∙ ap (λ y. mapped copy ++ (k, y) ∷ mapped left) alike ∙ ap (λ es. mapped copy ++ mapped es) (sym e) ∙ copied.same;
       }
 
-  pub all_copied : (all rest copy : List (ℕ × X)) → IsCopied all rest copy → rest ≡ [] → seen f copy ≡ seen f all
-  all_copied all rest copy copied none = ap (finmap.from_entries {R = nat_cmp}) (sym (append-nil (mapped f copy)) ∙ ap (λ es. mapped f copy ++ mapped f es) (sym none) ∙ copied.same)
+  pub all_copied : (all rest copy : List (ℕ × X)) → IsCopied all rest copy → rest ≡ [] → seen copy ≡ seen all
+  all_copied all rest copy copied none = ap (finmap.from_entries {R = nat_cmp}) (sym (append-nil (mapped copy)) ∙ ap (λ es. mapped copy ++ mapped es) (sym none) ∙ copied.same)
