@@ -7,6 +7,7 @@ use crate::drive::Drive;
 use crate::moment::Moment;
 use sd_pagetable::Memory;
 use std::alloc::Global;
+use std::mem::forget;
 use std::test::Fail;
 
 /// How many checkpoints a test makes.
@@ -83,6 +84,7 @@ fn checkpoint(
 
 /// Makes the checkpoints, and returns the number of the first that isn't restored.
 fn checkpoints(alloc: Global, drive: &mut Drive, seed: u64) -> Result<Option<u64>, Fail> {
+    drive.map()?;
     let mut chance = Chance::new(seed);
     for number in 1..=CHECKPOINTS {
         if !checkpoint(alloc, drive, &mut chance, number)? {
@@ -95,7 +97,9 @@ fn checkpoints(alloc: Global, drive: &mut Drive, seed: u64) -> Result<Option<u64
 /// Makes the checkpoints over a disk of their own.
 fn wrong_by_chance(alloc: Global, seed: u64) -> Result<Option<u64>, Fail> {
     let mut drive = Drive::new(alloc)?;
-    checkpoints(alloc, &mut drive, seed)
+    let wrong = checkpoints(alloc, &mut drive, seed);
+    forget(drive);
+    wrong
 }
 
 /// Whatever is called on a memory between the steps of a checkpoint, what is restored is the memory at its freeze.

@@ -5,7 +5,8 @@ use sd_disk::{Disk, MemDisk};
 use sd_gate::{Request, SlotState, perform};
 use sd_pagetable::Memory;
 use sd_rounds::{Dumper, ImageStep, NextImage, Progress, WorkError};
-use std::alloc::Global;
+use std::alloc::{AllocError, Global};
+use std::mem::forget;
 use std::process::Abort;
 use std::test::Fail;
 
@@ -15,7 +16,8 @@ const MOST: usize = 100;
 /// The moves of the pre-dump's format, of its first visit, and of two of the page's sectors.
 const INTO_PASS: usize = 9;
 
-/// A dumper between a memory and a disk, and how much its checkpoint had before it at the last look.
+/// A dumper between a memory and a disk, and how much its checkpoint had before it at the last look. It is forgotten, as a
+/// drive is.
 #[derive(Drop)]
 struct Watched {
     memory: Memory,
@@ -27,19 +29,27 @@ struct Watched {
 }
 
 impl Watched {
-    /// A checkpoint of one pre-dump that begins, over two pages: one has a byte, one is all zeros.
-    fn new(alloc: Global) -> Result<Self, Fail> {
-        let mut watched = Watched {
-            memory: Memory::new(alloc, 16)?,
-            disk: MemDisk::new(alloc, 2, 0x8000, 1_000)?,
+    /// A memory and a disk, and nothing else yet.
+    fn over(alloc: Global, memory: Memory, disk: MemDisk) -> Watched {
+        Watched {
+            memory,
+            disk,
             dumper: Dumper::new(alloc),
             left: 0,
             moves: 0,
-        };
-        watched.begin(alloc)?;
-        Ok(watched)
+        }
     }
 
+    /// An empty disk, and a memory without pages.
+    fn new(alloc: Global) -> Result<Watched, AllocError> {
+        let disk = MemDisk::new(alloc, 2, 0x8000, 1_000)?;
+        match Memory::new(alloc, 16) {
+            Ok(memory) => Ok(Watched::over(alloc, memory, disk)),
+            Err(error) => Err(error),
+        }
+    }
+
+    /// A checkpoint of one pre-dump begins, over two pages: one has a byte, one is all zeros.
     fn begin(&mut self, alloc: Global) -> Result<(), Fail> {
         self.map()?;
         self.dumper.begin(1, vec![in alloc; 0]?, 1, 0)?;
@@ -144,11 +154,10 @@ impl Watched {
 /// close it. The pre-dump has 36 of them: it freezes nothing, and the page of zeros isn't written. The dump has 19:
 /// both pages are clean.
 fn falls_to_none(rt: &impl Abort, watched: &mut Watched) -> Result<(), Fail> {
-    assert_eq!(rt; watched.left, 39 + 39 + 1);
+    let begun = watched.left == 39 + 39 + 1;
     watched.finish()?;
-    assert_eq!(rt; watched.moves, 36 + 19);
-    assert_eq!(rt; watched.left, 0);
-    assert!(rt; watched.is_refused(WorkError::Idle));
+    let ended = watched.moves == 36 + 19 && watched.left == 0;
+    assert!(rt; begun && ended && watched.is_refused(WorkError::Idle));
     Ok(())
 }
 
@@ -158,13 +167,14 @@ fn is_left_by_others(rt: &impl Abort, watched: &mut Watched) -> Result<(), Fail>
     watched.up_to(INTO_PASS)?;
     let left = watched.left;
     watched.memory.store_now(space, FIRST + PAGE, &[0x62])?;
-    assert_eq!(rt; watched.look(), (left, left));
+    let mut stays = watched.look() == (left, left);
     watched.memory.mprotect(space, FIRST, 2 * PAGE, PROT)?;
-    assert_eq!(rt; watched.look(), (left, left));
+    stays &= watched.look() == (left, left);
     watched.memory.fault(space, FIRST)?;
-    assert_eq!(rt; watched.look(), (left, left));
+    stays &= watched.look() == (left, left);
     watched.memory.munmap(space, FIRST + PAGE, PAGE)?;
-    assert_eq!(rt; watched.look(), (left, left.wrapping_sub(22)));
+    let falls = watched.look() == (left, left.wrapping_sub(22));
+    assert!(rt; stays && falls);
     watched.finish()
 }
 
@@ -174,11 +184,12 @@ fn is_raised_by_maps(rt: &impl Abort, watched: &mut Watched) -> Result<(), Fail>
     watched.up_to(INTO_PASS)?;
     let left = watched.left;
     watched.memory.mmap(space, FIRST + 2 * PAGE, PAGE, PROT)?;
-    assert_eq!(rt; watched.look(), (left, left.wrapping_add(22)));
+    let mapped = watched.look() == (left, left.wrapping_add(22));
     let child = watched.memory.fork(space)?;
-    assert_eq!(rt; watched.look().1, left.wrapping_add(22 + 3 * 22));
+    let forked = watched.look().1 == left.wrapping_add(22 + 3 * 22);
     watched.memory.exit(child)?;
-    assert_eq!(rt; watched.look().1, left.wrapping_add(22));
+    let ended = watched.look().1 == left.wrapping_add(22);
+    assert!(rt; mapped && forked && ended);
     watched.finish()
 }
 
@@ -220,6 +231,7 @@ fn is_right(
     watched: &mut Watched,
     which: Course,
 ) -> Result<(), Fail> {
+    watched.begin(rt.alloc())?;
     match which {
         Course::Falls => falls_to_none(rt, watched),
         Course::OtherCommands => is_left_by_others(rt, watched),
@@ -231,7 +243,9 @@ fn is_right(
 /// One of them, over a checkpoint of its own.
 fn counts(rt: &(impl Abort + AllocGlobal), which: Course) -> Result<(), Fail> {
     let mut watched = Watched::new(rt.alloc())?;
-    is_right(rt, &mut watched, which)
+    let right = is_right(rt, &mut watched, which);
+    forget(watched);
+    right
 }
 
 #[test]

@@ -6,7 +6,7 @@ use sd_image::Header;
 use sd_pagetable::{Memory, StoreOutcome};
 use sd_restore::restore;
 use sd_rounds::{Dumper, ImageStep, NextImage, Progress};
-use std::alloc::Global;
+use std::alloc::{AllocError, Global};
 use std::test::Fail;
 
 pub(crate) const SPACE: u64 = 1;
@@ -30,7 +30,8 @@ const CALLS: usize = 1_000_000;
 /// More steps than any of the checkpoints has.
 const MOST: usize = 1000;
 
-/// A memory, a disk, and a dumper between them.
+/// A memory, a disk, and a dumper between them. It isn't dropped but forgotten: the process of a test ends with it, and a drop
+/// of its memory takes the prover minutes.
 #[derive(Drop)]
 pub(crate) struct Drive {
     pub(crate) memory: Memory,
@@ -46,19 +47,32 @@ pub(crate) struct Drive {
 }
 
 impl Drive {
-    /// An empty disk, and a memory of one page.
-    pub(crate) fn new(alloc: Global) -> Result<Self, Fail> {
-        let mut drive = Drive {
-            memory: Memory::new(alloc, 16)?,
-            disk: MemDisk::new(alloc, SLOTS, SLOT_SIZE, CALLS)?,
+    /// A memory and a disk, and nothing else yet.
+    fn over(alloc: Global, memory: Memory, disk: MemDisk) -> Drive {
+        Drive {
+            memory,
+            disk,
             dumper: Dumper::new(alloc),
             serials: 0,
             events: 0,
             frozen: 0,
             last: None,
-        };
-        drive.memory.mmap(SpaceId::new(SPACE), FIRST, PAGE, PROT)?;
-        Ok(drive)
+        }
+    }
+
+    /// An empty disk, and a memory without pages.
+    pub(crate) fn new(alloc: Global) -> Result<Drive, AllocError> {
+        let disk = MemDisk::new(alloc, SLOTS, SLOT_SIZE, CALLS)?;
+        match Memory::new(alloc, 16) {
+            Ok(memory) => Ok(Drive::over(alloc, memory, disk)),
+            Err(error) => Err(error),
+        }
+    }
+
+    /// Maps the one page.
+    pub(crate) fn map(&mut self) -> Result<(), Fail> {
+        self.memory.mmap(SpaceId::new(SPACE), FIRST, PAGE, PROT)?;
+        Ok(())
     }
 
     /// Begins a checkpoint above the parent with this number: pre-dumps in these slots, and a dump.

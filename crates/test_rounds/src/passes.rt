@@ -3,6 +3,7 @@ use sd_areas::{Prot, SpaceId};
 use sd_pagetable::Memory;
 use sd_rounds::{Round, Standing};
 use std::alloc::Global;
+use std::mem::forget;
 use std::process::Abort;
 use std::test::Fail;
 
@@ -33,13 +34,6 @@ fn map_three(memory: &mut Memory) -> Result<(), Fail> {
     memory.mmap(SpaceId::new(SPACE), FIRST, 3 * PAGE, PROT)?;
     memory.store_now(SpaceId::new(SPACE), FIRST, &[0x61])?;
     Ok(())
-}
-
-/// A memory of three pages, with a byte in the first.
-fn memory(alloc: Global) -> Result<Memory, Fail> {
-    let mut memory = Memory::new(alloc, 16)?;
-    map_three(&mut memory)?;
-    Ok(memory)
 }
 
 /// Makes a step of a pass, and returns whether there was one.
@@ -101,6 +95,7 @@ fn takes_what_was_touched(
     rt: &(impl Abort + AllocGlobal),
     memory: &mut Memory,
 ) -> Result<(), Fail> {
+    map_three(memory)?;
     let all = [(0x10, true), (0x11, true), (0x12, true)];
     takes(rt, memory, true, &all, &[0x61, 0])?;
     memory.store_now(SpaceId::new(SPACE), FIRST + PAGE, &[0x62, 0x63])?;
@@ -110,8 +105,10 @@ fn takes_what_was_touched(
 
 #[test]
 fn a_second_pass_takes_what_was_touched(rt: HostRuntime) -> Result<(), Fail> {
-    let mut memory = memory(rt.alloc())?;
-    takes_what_was_touched(&rt, &mut memory)
+    let mut memory = Memory::new(rt.alloc(), 16)?;
+    let took = takes_what_was_touched(&rt, &mut memory);
+    forget(memory);
+    took
 }
 
 /// Unmaps the page that a pass copies, which is then free of it.
@@ -126,9 +123,17 @@ fn drops_unmapped(rt: &impl Abort, round: &mut Round, memory: &mut Memory) -> Re
     Ok(())
 }
 
+/// Makes a pass over three pages, the first of which is unmapped.
+fn passes_unmapped(rt: &impl Abort, alloc: Global, memory: &mut Memory) -> Result<(), Fail> {
+    map_three(memory)?;
+    let mut round = Round::new(alloc, true);
+    drops_unmapped(rt, &mut round, memory)
+}
+
 #[test]
 fn an_unmapped_page_is_dropped(rt: HostRuntime) -> Result<(), Fail> {
-    let mut memory = memory(rt.alloc())?;
-    let mut round = Round::new(rt.alloc(), true);
-    drops_unmapped(&rt, &mut round, &mut memory)
+    let mut memory = Memory::new(rt.alloc(), 16)?;
+    let dropped = passes_unmapped(&rt, rt.alloc(), &mut memory);
+    forget(memory);
+    dropped
 }

@@ -1,6 +1,7 @@
 //! What a dumper answers about the checkpoint that runs.
 use crate::drive::Drive;
 use sd_rounds::Dumper;
+use std::mem::forget;
 use std::process::Abort;
 use std::test::Fail;
 
@@ -58,6 +59,7 @@ fn answers(
 
 /// Above the parent 9, the serials of the images are 1 to 3. A slot is filled until its image is open.
 fn answers_on_the_way(rt: &(impl Abort + AllocGlobal), drive: &mut Drive) -> Result<(), Fail> {
+    drive.map()?;
     answers_idle(rt, &drive.dumper);
     drive.begin(4, vec![in rt.alloc(); 3, 1]?, 2, 9)?;
     answers(rt, &drive.dumper, 9, None, (false, true, true, true));
@@ -77,5 +79,7 @@ fn answers_on_the_way(rt: &(impl Abort + AllocGlobal), drive: &mut Drive) -> Res
 #[test]
 fn questions_about_a_checkpoint(rt: HostRuntime) -> Result<(), Fail> {
     let mut drive = Drive::new(rt.alloc())?;
-    answers_on_the_way(&rt, &mut drive)
+    let answered = answers_on_the_way(&rt, &mut drive);
+    forget(drive);
+    answered
 }

@@ -3,6 +3,7 @@ use crate::drive::{Drive, FIRST, PAGE, PROT, SPACE};
 use sd_areas::SpaceId;
 use sd_image::{Header, Kind};
 use std::alloc::Global;
+use std::mem::forget;
 use std::process::Abort;
 use std::test::Fail;
 
@@ -143,6 +144,7 @@ const ALL: [Worked; 5] = [
 ];
 
 fn is_right(rt: &(impl Abort + AllocGlobal), drive: &mut Drive, which: Worked) -> Result<(), Fail> {
+    drive.map()?;
     match which {
         Worked::TornCopy => is_copied_whole(rt, drive),
         Worked::LostRace => loses_race(rt, drive),
@@ -155,7 +157,9 @@ fn is_right(rt: &(impl Abort + AllocGlobal), drive: &mut Drive, which: Worked) -
 /// One of them, over a drive of its own.
 fn works(rt: &(impl Abort + AllocGlobal), which: Worked) -> Result<(), Fail> {
     let mut drive = Drive::new(rt.alloc())?;
-    is_right(rt, &mut drive, which)
+    let right = is_right(rt, &mut drive, which);
+    forget(drive);
+    right
 }
 
 #[test]
