@@ -39,8 +39,7 @@ a_store_that_cannot_be_merged_is_told() {
   same "the status without a folder" "$(ends "$ckpt" merge file)" 1 || return 1
   same "without a folder" "$(cat out)" "cannot open DIR" || return 1
   has "the cause" "$(cat err)" "ckpt: file: " || return 1
-  same "the status with --quiet" "$(ends "$ckpt" merge --quiet file)" 1 || return 1
-  same "the standard error with --quiet" "$(cat err)" ""
+  prints 1 "cannot open DIR" "" "$ckpt" merge --quiet file
 }
 
 closed_output_harms_no_merge() {

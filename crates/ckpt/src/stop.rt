@@ -49,7 +49,7 @@ impl fmt::Display for Stop {
             Stop::CannotReadScript => f.write_str("cannot read SCRIPT"),
             Stop::CannotOpenFolder => f.write_str("cannot open DIR"),
             Stop::NotEmpty => f.write_str("store not empty"),
-            Stop::Order(why) => write!(f, "refused {} {}", why.number(), why.name()),
+            Stop::Order(why) => write!(f, "refused {why}"),
             Stop::Refused => f.write_str("refused"),
             Stop::Writer(_) => f.write_str("cannot print"),
         }

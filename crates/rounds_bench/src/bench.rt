@@ -74,110 +74,192 @@ fn only_space() -> SpaceId {
     SpaceId::new(1)
 }
 
+/// A memory with its one area.
+fn mapped(alloc: Global) -> Result<Memory, BenchError> {
+    let mut memory = Memory::new(alloc, PAGES as usize)?;
+    match memory.mmap(only_space(), 0, PAGES * PAGE_BYTES, READ_WRITE) {
+        Ok(()) => Ok(memory),
+        Err(error) => Err(BenchError::Memory(error)),
+    }
+}
+
+/// Stores to the pages that are touched.
+fn touch(memory: &mut Memory) -> Result<(), BenchError> {
+    for page in 0..TOUCHED {
+        memory.store_now(
+            only_space(),
+            page * STEP * PAGE_BYTES,
+            &[1, 2, 3, 4, 5, 6, 7, 8],
+        )?;
+    }
+    Ok(())
+}
+
+/// Finds, reads and clears the word of each page.
+fn look_up(memory: &mut Memory) {
+    let mut after = None;
+    for _ in 0..PAGES {
+        let Some((space, page)) = memory.next_page(after) else {
+            return;
+        };
+        let _word = memory.word(space, page);
+        let _bit = memory.test_and_clear(space, page);
+        after = Some((space, page));
+    }
+}
+
+/// Reads a page into the buffer.
+fn read_page(memory: &Memory, buffer: &mut Vec<u8>, number: u64) -> Result<(), AllocError> {
+    buffer.clear();
+    let Some(page) = PageNo::new(number) else {
+        return Ok(());
+    };
+    for number in 0..SECTORS {
+        let mut sector = [0; SECTOR_SIZE];
+        memory.read_sector(only_space(), page, number, &mut sector);
+        buffer.extend_from_slice(&sector)?;
+    }
+    Ok(())
+}
+
+/// Writes bytes into the slot.
+fn write(disk: &mut MemDisk, at: usize, bytes: &[u8]) -> Result<(), DeviceError> {
+    if SLOT < disk.slots() && !bytes.is_empty() {
+        disk.write_at(SLOT, at, bytes)
+    } else {
+        Ok(())
+    }
+}
+
+/// Makes what is in the slot durable.
+fn sync(disk: &mut MemDisk) -> Result<(), DeviceError> {
+    if SLOT < disk.slots() {
+        disk.sync(SLOT)
+    } else {
+        Ok(())
+    }
+}
+
+/// Cuts the slot down to its gate.
+fn cut(disk: &mut MemDisk) -> Result<(), DeviceError> {
+    if SLOT < disk.slots() {
+        disk.cut(SLOT, 1)
+    } else {
+        Ok(())
+    }
+}
+
+/// Closes and cuts the slot.
+fn clear_slot(disk: &mut MemDisk) -> Result<(), DeviceError> {
+    write(disk, 0, &[0])?;
+    sync(disk)?;
+    cut(disk)
+}
+
+/// Makes the slot's pages durable, and opens it.
+fn open_slot(disk: &mut MemDisk) -> Result<(), DeviceError> {
+    sync(disk)?;
+    write(disk, 0, &[1])?;
+    sync(disk)
+}
+
+/// Reads a page, and writes it into the slot.
+fn copy_page(
+    memory: &Memory,
+    disk: &mut MemDisk,
+    buffer: &mut Vec<u8>,
+    page: u64,
+) -> Result<(), BenchError> {
+    read_page(memory, buffer, page.saturating_mul(STEP))?;
+    let at = PAGE_SIZE.saturating_mul((page as usize).saturating_add(1));
+    write(disk, at, buffer)?;
+    Ok(())
+}
+
+/// Reads the pages that are touched, and writes them.
+fn copy_pages(memory: &Memory, disk: &mut MemDisk, buffer: &mut Vec<u8>) -> Result<(), BenchError> {
+    for page in 0..TOUCHED {
+        copy_page(memory, disk, buffer, page)?;
+    }
+    Ok(())
+}
+
+/// Makes a device call, and hands its outcome in. Returns whether the dump is open then. It is apart from the steps, which
+/// need no room for a request.
+#[inline(never)]
+fn call(disk: &mut MemDisk, dumper: &mut Dumper, request: Request) -> Result<bool, BenchError> {
+    if disk.slots() <= request.id().slot {
+        return Err(BenchError::Device);
+    }
+    let outcome = perform(disk, request);
+    match dumper.hand_in(outcome) {
+        Progress::More | Progress::PreDump(_) => Ok(false),
+        Progress::Dump(_) => Ok(true),
+        Progress::Strange | Progress::Failed => Err(BenchError::Device),
+    }
+}
+
+/// Makes one step, with its device call. Returns whether the dump is open then.
+fn step(
+    memory: &mut Memory,
+    disk: &mut MemDisk,
+    dumper: &mut Dumper,
+    serial: u64,
+) -> Result<bool, BenchError> {
+    let state = SlotState::Raw;
+    match dumper.work(memory, NextImage { serial, state }, 1) {
+        Ok(ImageStep::Visited(_) | ImageStep::Copied(_) | ImageStep::Frozen) => Ok(false),
+        Ok(ImageStep::Call(request))
+        | Ok(ImageStep::PageCall(request))
+        | Ok(ImageStep::TableCall(request)) => call(disk, dumper, request),
+        Err(error) => Err(BenchError::Work(error)),
+    }
+}
+
+/// A memory whose touched pages have frames, and of which every page is clean.
+fn clean(alloc: Global) -> Result<Memory, BenchError> {
+    let mut memory = mapped(alloc)?;
+    touch(&mut memory)?;
+    look_up(&mut memory);
+    Ok(memory)
+}
+
 impl Bench {
     /// A memory whose touched pages have frames, and of which every page is clean.
     pub(crate) fn new(alloc: Global) -> Result<Self, BenchError> {
-        let mut memory = Memory::new(alloc, PAGES as usize)?;
-        memory.mmap(only_space(), 0, PAGES * PAGE_BYTES, READ_WRITE)?;
-        let mut bench = Bench {
-            memory,
-            disk: MemDisk::new(alloc, 2, ROOM, usize::MAX)?,
+        let buffer = Vec::with_capacity(alloc, PAGE_SIZE)?;
+        let disk = MemDisk::new(alloc, 2, ROOM, usize::MAX)?;
+        Ok(Bench {
+            memory: clean(alloc)?,
+            disk,
             dumper: Dumper::new(alloc),
-            buffer: Vec::with_capacity(alloc, PAGE_SIZE)?,
+            buffer,
             serial: 1,
             checkpoint: 1,
-        };
-        bench.touch()?;
-        bench.look_up();
-        Ok(bench)
+        })
     }
 
     /// Stores to the pages that are touched.
     pub(crate) fn touch(&mut self) -> Result<(), BenchError> {
-        for page in 0..TOUCHED {
-            self.memory.store_now(
-                only_space(),
-                page * STEP * PAGE_BYTES,
-                &[1, 2, 3, 4, 5, 6, 7, 8],
-            )?;
-        }
-        Ok(())
+        touch(&mut self.memory)
     }
 
     /// Finds, reads and clears the word of each page.
     pub(crate) fn look_up(&mut self) {
-        let mut after = None;
-        for _ in 0..PAGES {
-            let Some((space, page)) = self.memory.next_page(after) else {
-                return;
-            };
-            let _word = self.memory.word(space, page);
-            let _bit = self.memory.test_and_clear(space, page);
-            after = Some((space, page));
-        }
+        look_up(&mut self.memory);
     }
 
     /// Reads the pages that are touched, and writes them, with the syncs and the cut that a dump makes.
     pub(crate) fn copy_touched(&mut self) -> Result<(), BenchError> {
-        self.clear_slot()?;
-        let mut at = PAGE_SIZE;
-        for page in 0..TOUCHED {
-            self.read_page(page * STEP)?;
-            if SLOT < self.disk.slots() && !self.buffer.is_empty() {
-                self.disk.write_at(SLOT, at, &self.buffer)?;
-            }
-            at = at.saturating_add(PAGE_SIZE);
-        }
-        self.open_slot()
+        clear_slot(&mut self.disk)?;
+        copy_pages(&self.memory, &mut self.disk, &mut self.buffer)?;
+        Ok(open_slot(&mut self.disk)?)
     }
 
     /// Closes, cuts and opens the slot, as an image without pages does.
     pub(crate) fn empty_slot(&mut self) -> Result<(), BenchError> {
-        self.clear_slot()?;
-        self.open_slot()
-    }
-
-    /// Closes and cuts the slot.
-    fn clear_slot(&mut self) -> Result<(), BenchError> {
-        if SLOT < self.disk.slots() {
-            self.disk.write_at(SLOT, 0, &[0])?;
-        }
-        if SLOT < self.disk.slots() {
-            self.disk.sync(SLOT)?;
-        }
-        if SLOT < self.disk.slots() {
-            self.disk.cut(SLOT, 1)?;
-        }
-        Ok(())
-    }
-
-    /// Makes the slot's pages durable, and opens it.
-    fn open_slot(&mut self) -> Result<(), BenchError> {
-        if SLOT < self.disk.slots() {
-            self.disk.sync(SLOT)?;
-        }
-        if SLOT < self.disk.slots() {
-            self.disk.write_at(SLOT, 0, &[1])?;
-        }
-        if SLOT < self.disk.slots() {
-            self.disk.sync(SLOT)?;
-        }
-        Ok(())
-    }
-
-    /// Reads a page into the buffer.
-    fn read_page(&mut self, number: u64) -> Result<(), BenchError> {
-        self.buffer.clear();
-        let Some(page) = PageNo::new(number) else {
-            return Ok(());
-        };
-        for number in 0..SECTORS {
-            let mut sector = [0; SECTOR_SIZE];
-            self.memory
-                .read_sector(only_space(), page, number, &mut sector);
-            self.buffer.extend_from_slice(&sector)?;
-        }
-        Ok(())
+        clear_slot(&mut self.disk)?;
+        Ok(open_slot(&mut self.disk)?)
     }
 
     /// Makes a checkpoint with pre-dumps in these slots, above the image before it.
@@ -185,43 +267,24 @@ impl Bench {
         self.checkpoint = self.checkpoint.saturating_add(1);
         self.dumper
             .begin(self.checkpoint, pre_dumps, SLOT, self.serial)?;
+        self.go_on()
+    }
+
+    /// Makes steps until the dump is open.
+    fn go_on(&mut self) -> Result<(), BenchError> {
         for _ in 0..u64::MAX {
-            if self.step()? {
+            if self.dumper.next_slot().is_some() {
+                self.serial = self.serial.saturating_add(1);
+            }
+            if step(
+                &mut self.memory,
+                &mut self.disk,
+                &mut self.dumper,
+                self.serial,
+            )? {
                 return Ok(());
             }
         }
         Ok(())
-    }
-
-    /// Makes one step, with its device call. Returns whether the dump is open then.
-    fn step(&mut self) -> Result<bool, BenchError> {
-        if self.dumper.next_slot().is_some() {
-            self.serial = self.serial.saturating_add(1);
-        }
-        let image = NextImage {
-            serial: self.serial,
-            state: SlotState::Raw,
-        };
-        match self.dumper.work(&mut self.memory, image, 1) {
-            Ok(ImageStep::Visited(_) | ImageStep::Copied(_) | ImageStep::Frozen) => Ok(false),
-            Ok(ImageStep::Call(request))
-            | Ok(ImageStep::PageCall(request))
-            | Ok(ImageStep::TableCall(request)) => self.call(request),
-            Err(error) => Err(error.into()),
-        }
-    }
-
-    /// Makes a device call, and hands its outcome in. It is apart from the steps, which need no room for a request.
-    #[inline(never)]
-    fn call(&mut self, request: Request) -> Result<bool, BenchError> {
-        if self.disk.slots() <= request.id().slot {
-            return Err(BenchError::Device);
-        }
-        let outcome = perform(&mut self.disk, request);
-        match self.dumper.hand_in(outcome) {
-            Progress::More | Progress::PreDump(_) => Ok(false),
-            Progress::Dump(_) => Ok(true),
-            Progress::Strange | Progress::Failed => Err(BenchError::Device),
-        }
     }
 }

@@ -57,31 +57,43 @@ fn rounds(alloc: Global, bench: &mut Bench) -> Result<(), BenchError> {
     bench.dump(vec![in alloc; 0; TURNS as usize]?)
 }
 
-/// Makes what a word names, and tells how it ended.
-fn timed(alloc: Global, word: &str) -> Result<&'static str, BenchError> {
-    let mut bench = Bench::new(alloc)?;
+/// Does what a word names. Returns whether it names something.
+fn act(alloc: Global, bench: &mut Bench, word: &str) -> Result<bool, BenchError> {
     match word {
         "made" => {}
-        "touched" => touched(&mut bench)?,
-        "plain" => plain(&mut bench)?,
-        "dumps" => dumps(alloc, &mut bench)?,
-        "walks" => walks(&mut bench),
-        "emptied" => emptied(&mut bench)?,
-        "rounds" => rounds(alloc, &mut bench)?,
-        _ => return Ok("usage: rounds_bench made|touched|plain|dumps|walks|emptied|rounds"),
+        "touched" => touched(bench)?,
+        "plain" => plain(bench)?,
+        "dumps" => dumps(alloc, bench)?,
+        "walks" => walks(bench),
+        "emptied" => emptied(bench)?,
+        "rounds" => rounds(alloc, bench)?,
+        _ => return Ok(false),
     }
-    Ok("done")
+    Ok(true)
+}
+
+/// Makes a bench, and does what a word names. Returns whether it names something.
+fn timed(alloc: Global, word: &str) -> Result<bool, BenchError> {
+    let mut bench = Bench::new(alloc)?;
+    act(alloc, &mut bench, word)
+}
+
+/// Does what the first argument names.
+fn timed_argument(alloc: Global, words: &[String]) -> Result<bool, BenchError> {
+    match words.get(1) {
+        Some(word) => timed(alloc, word.as_str()),
+        None => timed(alloc, ""),
+    }
 }
 
 fn main(rt: HostRuntime) -> io::Result<ExitCode> {
     let alloc = rt.alloc();
     let words: Vec<String> = std::env::args(&rt)?.collect(alloc)?;
-    let word = match words.get(1) {
-        Some(word) => word.as_str(),
-        None => "",
-    };
-    match timed(alloc, word) {
-        Ok(ending) => println!(rt; "{ending}")?,
+    match timed_argument(alloc, &words) {
+        Ok(true) => println!(rt; "done")?,
+        Ok(false) => {
+            println!(rt; "usage: rounds_bench made|touched|plain|dumps|walks|emptied|rounds")?;
+        }
         Err(error) => println!(rt; "{error:?}")?,
     }
     Ok(ExitCode::from(0))

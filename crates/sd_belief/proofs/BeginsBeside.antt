@@ -72,6 +72,7 @@ module _ (places : Places) (store : Store) (beliefs : List Belief) (in_use : IsC
             kept = s.kept;
             spared = unreserved origin r.image s.serial (members r.image (get_contains beliefs s.slot (Kept r.image) s.kept)) unread s.slot r.image (inl s.kept) itself;
             apart = s.apart;
+            held = s.held;
           };
           slot = record { within = r.slot.within; spared = λ reserved. target at reserved refl; unneeded = r.slot.unneeded };
           opening = r.opening;
@@ -156,6 +157,7 @@ module _ (places : Places) (store : Store) (beliefs : List Belief) (in_use : IsC
             asked_at = c.asked_at;
             slot_is = c.slot_is;
           };
+          before = λ place other behind at. record { bare = (m.before place other behind at).bare; spared = λ reserved. apart other.slot place other reserved at refl };
           later = λ place other after at. (let l = m.later place other after at in record {
             image = l.image;
             has = l.has;

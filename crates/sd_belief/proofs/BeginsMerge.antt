@@ -42,6 +42,7 @@ use Rattle.sd_belief.proofs.MergeStays.{slots_at}
 use Rattle.sd_belief.proofs.MergerPass.{needed_spared}
 use Rattle.sd_belief.proofs.OpenCore.{believes_parts}
 use Rattle.sd_belief.proofs.Places.{get_contains, has_too}
+use Rattle.sd_belief.proofs.TipHeld.{tip_held}
 use Rattle.sd_belief.proofs.WorkStays.{LeavesWork, work_beside}
 
 -- ---- the merged image begins
@@ -253,6 +254,7 @@ module _ (gates : GateSteps) (needs : NeedsNoMore) (making : MakingLaws) (reache
       kept = source_at.1;
       spared = needed_spared old asked bodies files b source_at.0 tip source_there (inl tip_is) running u.job;
       apart = λ same. not_needed tip (ap (image_at b.beliefs) (sym same) ∙ source_there) (inl tip_is);
+      held = tip_held b.store.catalog b.has.last.shown b.has.sound.serials b.has.last.shows tip tip_is ((b.knows.merging s.rest.stands).spelled tip image.1).1.table;
     };
     slot = record {
       within = s.within;

@@ -17,6 +17,7 @@ mod HandsSlot
 mod Leads
 mod MergeStays
 mod MergerAsks
+mod MergerFinds
 mod MergerHands
 mod MergerOpens
 mod MergerOutcome
@@ -35,6 +36,7 @@ mod Performed
 mod Places
 mod QuietSteps
 mod Reopened
+mod TipHeld
 mod WorkStays
 mod Works
 mod WritesLaw

@@ -33,7 +33,7 @@ use Rattle.sd_store_laws.specs.Store.{IsFresh, IsMerged, IsSound, Store, jobs}
 use Rattle.sd_belief.specs.Believes.{Believes}
 use Rattle.sd_belief.specs.declared.standing.Standing.TheVariants.{Open}
 use Rattle.sd_belief.specs.InUse.{IsNewNumber, IsSlotFor}
-use Rattle.sd_belief.specs.Merges.{AreSpelled, IsAskedIn, IsCopyOn, IsListedOn, IsMergeAt, IsMergeInUse, IsMergeOn, IsRepeating, IsRetiredOn, IsSpared, IsUnmerged, IsOtherImage, MakesOther, order_of_slot, request_in_slot, stage_in_slot}
+use Rattle.sd_belief.specs.Merges.{AreSpelled, IsAskedIn, IsCopyOn, IsCutOn, IsListedOn, IsMergeAt, IsMergeInUse, IsMergeOn, IsRepeating, IsRetiredOn, IsSpared, IsUnmerged, IsOtherImage, MakesOther, order_of_slot, request_in_slot, stage_in_slot}
 use Rattle.sd_belief.specs.View.{CoreView}
 use Rattle.sd_belief.proofs.Places.{get_contains, set_other}
 
@@ -134,6 +134,7 @@ module _ (last : ℕ) (store : Store) (running : Option Running) (old : Slots) (
           kept = (leaves.same s.slot s.spared).belief ∙ s.kept;
           spared = leaves.spares s.slot s.spared;
           apart = s.apart;
+          held = λ page lists. (let it = s.held page lists in (it.0, (leaves.still r.image s.is).holds page.0 page.1 it.0 it.1));
         };
         slot = record {
           within = (let count = leaves.count in let within = t.within in omega (arith, count, within));
@@ -214,6 +215,9 @@ module _ (last : ℕ) (store : Store) (running : Option Running) (old : Slots) (
     spared = leaves.spares one.slot l.spared;
   }
 
+  cut_then : (one : Retired) → IsCutOn old.phases running one → IsCutOn new.phases running_now one
+  cut_then one c = record { bare = (leaves.same one.slot c.spared).phase ∙ c.bare; spared = leaves.spares one.slot c.spared }
+
   retired_then : (r : Retiring) (one : Retired) → IsRetiredOn old.phases asked old.bodies store old.beliefs running r one
       → IsRetiredOn new.phases asked_now new.bodies store_now new.beliefs running_now r one
   retired_then r one c =
@@ -246,6 +250,7 @@ module _ (last : ℕ) (store : Store) (running : Option Running) (old : Slots) (
     one = m.one;
     there = m.there;
     closes = retired_then r m.one m.closes;
+    before = λ place other behind at. cut_then other (m.before place other behind at);
     later = λ place other after at. listed_then other (m.later place other after at);
     apart = m.apart;
   }

@@ -205,6 +205,7 @@ module _ (quiet : QuietSteps) (gates : GateSteps) (files_of : FileLaws) (repeats
         kept = changed.others x.slot x.apart ∙ x.kept;
         spared = x.spared;
         apart = x.apart;
+        held = x.held;
       });
       slot = record {
         within = k.repeats.slot.within;

@@ -258,6 +258,7 @@ module _ (quiet : QuietSteps) (making : MakingLaws) (merges : MergeLaws) (files_
           kept = source_there ∙ x.kept;
           spared = x.spared;
           apart = x.apart;
+          held = λ page lists. (let it = x.held page lists in (it.0, (h.still source x.is).holds page.0 page.1 it.0 it.1));
         });
         slot = record {
           within = (let within = k.repeats.slot.within in let count = set_count old.phases call.request.id.slot (after phase call.request.id.call (is_done call.answer)) in omega (arith, within, count));

@@ -14,14 +14,14 @@ use Rattle.sd_gate.specs.declared.phase.Phase.{Phase}
 use Rattle.sd_gate.specs.declared.phase.Phase.TheVariants.{Whole}
 use Rattle.sd_gate.specs.Calls.{is_done}
 use Rattle.sd_gate.specs.Laws.{PlansLead}
-use Rattle.sd_gate.specs.Phases.{after, body_after}
+use Rattle.sd_gate.specs.Phases.{after, bodies_after, body_after}
 use Rattle.sd_gate.specs.Requests.{Asked, Made}
 use Rattle.sd_journal.specs.History.{Base, History}
 use Rattle.sd_merge.specs.declared.merge_progress.MergeProgress.{MergeProgress}
 use Rattle.sd_merge.specs.declared.merge_progress.MergeProgress.TheVariants as progress
 use Rattle.sd_merge.specs.declared.retired.Retired.{Retired}
 use Rattle.sd_merge.specs.Copying.{Copying, IsReadyFor}
-use Rattle.sd_merge.specs.Files.{IsFiled, IsFiledIn}
+use Rattle.sd_merge.specs.Files.{FileLaws, IsFiled, IsFiledIn}
 use Rattle.sd_merge.specs.Merger.{Retires, awaited, copying, opened, retiring}
 use Rattle.sd_merge.specs.Merger as merger
 use Rattle.sd_pagetable.specs.Contents.{Contents}
@@ -34,7 +34,7 @@ use Rattle.sd_rounds.specs.Files.{IsFiledIn as IsDumpFiledIn}
 use Rattle.sd_rounds.specs.Making.{Making}
 use Rattle.sd_rounds.specs.MakingLaws.{MakingLaws, Pages, image_of}
 use Rattle.sd_rounds.specs.Pass.{Pass}
-use Rattle.sd_store_laws.specs.Beliefs.{Belief, Kept, Opening, image_at, image_in}
+use Rattle.sd_store_laws.specs.Beliefs.{Belief, Closing, Kept, Opening, image_at, image_in}
 use Rattle.sd_store_laws.specs.Below.{StepsGive}
 use Rattle.sd_store_laws.specs.Gates.{IsBelievedAs}
 use Rattle.sd_store_laws.specs.InUse.{CatalogFollows, CatalogInUseTells, HasImage, IsCatalogInUse, ToldReachesSo}
@@ -42,27 +42,31 @@ use Rattle.sd_store_laws.specs.Needed.{NeededIsReached}
 use Rattle.sd_store_laws.specs.Needs.{IsNeededIn, NeedsNoMore}
 use Rattle.sd_store_laws.specs.Reached.{Reaches}
 use Rattle.sd_store_laws.specs.SlotSteps.{with_belief}
+use Rattle.sd_store_laws.specs.Stays.{SourceReachesNeeded}
 use Rattle.sd_store_laws.specs.Steps.{Adds, StepsKeep, replaced}
 use Rattle.sd_store_laws.specs.Store.{IsNextDump, IsTwin, Store, jobs}
 use Rattle.sd_belief.specs.Believes.{Believes, HasStore}
 use Rattle.sd_belief.specs.Calls.{IsFree}
+use Rattle.sd_belief.specs.Copies.{AreImagesOf, IsCopyThere, IsOrderly, StandsIn}
 use Rattle.sd_belief.specs.GateSteps.{GateSteps, IsOnlyTwin}
 use Rattle.sd_belief.specs.InUse.{IsAtWork, IsClosing, IsImageOn, IsInUseOn, IsSlotFor, is_opening_at, pending_dump}
 use Rattle.sd_belief.specs.MergerOutcomes.{MayRetire, MergedOpens, OutcomeIsBelieved}
 use Rattle.sd_belief.specs.MergerSteps.{IsUncalled}
-use Rattle.sd_belief.specs.Merges.{IsAskedIn, IsCopyOn, IsCopying, IsListedOn, IsMergeAt, IsMergeOn, IsOtherImage, IsUnmerged, MakesOther, order_of_slot, request_in_slot, stage_in_slot}
+use Rattle.sd_belief.specs.Merges.{IsAskedIn, IsCopyOn, IsCopying, IsListedOn, IsMergeAt, IsMergeOn, IsOtherImage, IsSpared, IsUnmerged, MakesOther, order_of_slot, request_in_slot, stage_in_slot}
 use Rattle.sd_belief.specs.StoreSteps.{IsOpened, QuietSteps}
 use Rattle.sd_belief.specs.View.{CoreView, history_of}
+use Rattle.sd_belief.proofs.BeginsImage.{image_of_has}
 use Rattle.sd_belief.proofs.FoundInUse.{contains_at}
 use Rattle.sd_belief.proofs.HandsImage.{calls_of_done}
 use Rattle.sd_belief.proofs.HandsLaw.{file_set}
 use Rattle.sd_belief.proofs.MergeStays.{slots_at}
 use Rattle.sd_belief.proofs.MergerOutcome.{asked_then, asks_for, bodies_then, count_handed, has_handed, ids_handed, none_on, others_handed, phases_then, use_handed}
+use Rattle.sd_belief.proofs.MergerPass.{kept_whole, needed_spared}
 use Rattle.sd_belief.proofs.MergerReplaced.{IsRepeated, own_jobs, store_replaced}
 use Rattle.sd_belief.proofs.MergerRetires.{begun_at, retired_begins}
 use Rattle.sd_belief.proofs.OpenCore.{believes_parts}
 use Rattle.sd_belief.proofs.OpensLaw.{IsOpenThen, open_then}
-use Rattle.sd_belief.proofs.Places.{get_contains, set_count, set_other, set_same}
+use Rattle.sd_belief.proofs.Places.{get_contains, has_too, set_count, set_other, set_same}
 use Rattle.sd_belief.proofs.WorkStays.{IsMakingNumber}
 
 -- ---- the dump whose gate is being opened
@@ -312,6 +316,83 @@ module _ (quiet : QuietSteps) (gates : GateSteps) (making : MakingLaws) (keeps :
       (low_number old.base history old.grows old.memory old.phases asked bodies last b.store b.beliefs b.dump running u.job))
       catalog_then k.repeats.slot.spared s.rest.makes
 
+  -- ---- it is a copy of its source
+
+  has_in : (n : ℕ) (j : Image) → HasImage b.beliefs n j → Contains b.beliefs (Kept j) ⊎ Contains b.beliefs (Closing j)
+  has_in n j has = elim has [
+    | inl kept ↦ inl (get_contains b.beliefs n (Kept j) kept)
+    | inr closing_it ↦ inr (get_contains b.beliefs n (Closing j) closing_it)
+  ]
+
+  at_slot : (j : Image) → Contains b.store.catalog j → (n : ℕ) × HasImage b.beliefs n j
+  at_slot j member = elim ((b.has.slots.catalog j).0 member) [
+    | inl kept ↦ (let it = contains_at b.beliefs (Kept j) kept in (it.0, inl it.1))
+    | inr closing_it ↦ (let it = contains_at b.beliefs (Closing j) closing_it in (it.0, inr it.1))
+  ]
+
+  images_before : AreImagesOf old.catalog b.store.catalog
+  images_before = record {
+    image = λ serial o has. (let it = u.catalog.image serial o has in (it.0, (b.has.slots.catalog it.0).1 (has_in o.slot it.0 it.2), it.1));
+    opened = λ j member. (let n = at_slot j member in let o = u.catalog.opened n.0 j n.1 in (o.0, o.1, o.2));
+  }
+
+  its_own : StandsIn new.catalog new.phases bodies_now i
+  its_own =
+      let o = catalog_then.opened target i (inl kept_now) in
+      record {
+        opened = o.0;
+        there = ap (λ all. place_of all i.header.serial) s.its_catalog ∙ o.1;
+        whole = ap (slice_get new.phases) o.3 ∙ ap (λ all. slice_get all target) s.outcome.phases ∙ phase_then;
+        spelled = subst (λ n. IsImage (gate ∷ file_at bodies_now n) i) (sym o.3) (subst (λ text. IsImage (gate ∷ text) i) (sym body_then) filed.spelled);
+      }
+
+  module _ (needed_of : SourceReachesNeeded) (files_of : FileLaws) (free : (slot : ℕ) → IsSpared running slot → IsFree (slice_set old.outs 1 None) slot) where
+    -- what the source reaches is kept in a slot that nobody fills
+    kept_at : (j : Image) → Reaches b.store.catalog j source → (n : ℕ) × (slice_get b.beliefs n ≡ Some (Kept j)) × IsSpared running n × (n ≢ target)
+    kept_at j way = elim (needed_of b.store source j b.has.sound k.repeats.source.is way) [
+      | inl same ↦ (let x = k.repeats.source in (x.slot, x.kept ∙ ap (λ (y : Image). Some (Kept y)) (sym same), x.spared, x.apart))
+      | inr needed ↦ needed_at needed
+    ]
+      where
+        needed_at : IsNeededIn b.store j → (n : ℕ) × (slice_get b.beliefs n ≡ Some (Kept j)) × IsSpared running n × (n ≢ target)
+        needed_at needed =
+            let it = contains_at b.beliefs (Kept j) (b.has.slots.needed j needed) in
+            let has : image_at b.beliefs it.0 ≡ Some j = ap (λ o. option_and_then image_in o) it.1 in
+            (it.0, it.1, needed_spared old asked bodies files b it.0 j has needed running u.job, λ its. k.repeats.slot.unneeded j (ap (image_at b.beliefs) (sym its) ∙ has) needed)
+
+    stands_there : (j : Image) → Reaches b.store.catalog j source → StandsIn new.catalog new.phases bodies_now j
+    stands_there j way =
+        let r = kept_at j way in
+        let kept : slice_get beliefs_now r.0 ≡ Some (Kept j) = set_other b.beliefs target r.0 (Kept i) r.3 ∙ r.1 in
+        let o = catalog_then.opened r.0 j (inl kept) in
+        let p = has_too beliefs_now phases_now r.0 (Kept j) (sym has_now.believed.count) kept in
+        let whole = kept_whole p.0 (file_at bodies_now r.0) j
+        (use_now.exact r.0 p.0 (Kept j) p.1 kept (none_on old new call phase asked bodies files s.outcome at b r.0 (free r.0 r.2))) in
+        record {
+          opened = o.0;
+          there = ap (λ all. place_of all j.header.serial) s.its_catalog ∙ o.1;
+          whole = ap (slice_get new.phases) o.3 ∙ ap (λ all. slice_get all r.0) s.outcome.phases ∙ p.1 ∙ ap Some whole.0;
+          spelled = subst (λ n. IsImage (gate ∷ file_at bodies_now n) j) (sym o.3) whole.1;
+        }
+
+    pub is_copy : IsCopyThere merge.source.serial image.header.serial old.catalog new bodies_now
+    is_copy = record {
+      images = b.store.catalog;
+      are = images_before;
+      source = source;
+      its_serial = sym k.repeats.source.serial;
+      stand = stands_there;
+      copy = i;
+      own_serial = refl;
+      stands = its_own;
+      copies = files_of.merged b.store.catalog source c.pages made s.opens.plan image.header image.table s.opens.was c.files c.keeps
+          (record {
+            stands = ap (λ x. x.stands_for) k.order.0 ∙ k.repeats.source.stands;
+            checkpoint = ap (λ x. x.checkpoint) k.order.0 ∙ k.repeats.source.checkpoint;
+          })
+          b.has.sound.serials (λ j member. ((b.knows.merging s.rest.stands).spelled j member).1.table) there;
+    }
+
   -- ---- the list
 
   told : Tells places store_now.catalog
@@ -322,6 +403,19 @@ module _ (quiet : QuietSteps) (gates : GateSteps) (making : MakingLaws) (keeps :
 
   falls : ParentsFall places
   falls = so.fall.1 has_now.sound.fall
+
+  own_serial : (serial : ℕ) (o : Opened) → place_of places serial ≡ Some (Some o) → o.header.serial ≡ serial
+  own_serial serial o has = let it = so.at serial o has in ap (λ h. h.serial) (sym it.2.header) ∙ it.3
+
+  pub orderly : IsOrderly places
+  orderly = record {
+    falls = falls;
+    apart = λ one other x y has_x has_y same.
+        let in_x = catalog_then.image one x has_x in
+        let in_y = catalog_then.image other y has_y in
+        let equal : in_x.0 ≡ in_y.0 = same_Some in_x.0 in_y.0 (sym (image_of_has beliefs_now x.slot in_x.0 in_x.2) ∙ ap (image_at beliefs_now) same ∙ image_of_has beliefs_now y.slot in_y.0 in_y.2) in
+        sym (own_serial one x has_x) ∙ ap (λ h. h.serial) (sym in_x.1.header) ∙ ap (λ (z : Image). z.header.serial) equal ∙ ap (λ h. h.serial) in_y.1.header ∙ own_serial other y has_y;
+  }
 
   module _ (one : Retired) (m : MayRetire places old one) where
     its : (j : Image) × IsToldAs m.opened j × HasImage beliefs_now m.opened.slot j
@@ -416,6 +510,7 @@ module _ (quiet : QuietSteps) (gates : GateSteps) (making : MakingLaws) (keeps :
     there = r.there;
     closes = retired_begins plans phases_now asked_now bodies_now store_now beliefs_now running has_now.believed.count use_now.exact silent r.serial list 0 r.first
         (none_on old new call phase asked bodies files s.outcome at b r.first.slot (s.listed.each 0 r.first r.there).free) (listed r.first (s.listed.each 0 r.first r.there));
+    before = λ place other behind has. absurd (omega (arith, behind));
     later = λ place other behind has. listed other (s.listed.each place other has);
     apart = s.listed.apart;
   })
@@ -432,3 +527,20 @@ pub opens_lem : QuietSteps → GateSteps → MakingLaws → StepsKeep → StepsG
     → MergedOpens places old merge copy made phase image list done new → OutcomeIsBelieved old new made
 opens_lem quiet gates making keeps gives needs follows plans reached places tells reaches agrees old new merge copy made phase image list done s asked bodies files at reads b =
     opens_it quiet gates making keeps gives needs follows plans reached places tells reaches agrees old new merge copy made phase image list done s asked bodies files at b
+
+pub copies_lem : QuietSteps → GateSteps → MakingLaws → StepsKeep → StepsGive → NeedsNoMore → CatalogFollows → PlansLead → NeededIsReached → SourceReachesNeeded → FileLaws
+    → (places : Places) → CatalogInUseTells places → ToldReachesSo places → ((all : List Image) → Tells places all → Agrees places all)
+    → (old new : CoreView) (merge : merger.Running) (copy : Copying) (made : Made) (phase : Phase) (image : NewImage) (list : List Retired) (done : MergeProgress)
+    (asked : List (Option Asked)) (bodies files : List (List ℕ)) → MergedOpens places old merge copy made phase image list done new
+    → ((slot : ℕ) → IsSpared old.dumper.running slot → IsFree (slice_set old.outs 1 None) slot) → slice_get asked 1 ≡ Some (Some made.request) → Believes old asked bodies files
+    → IsCopyThere merge.source.serial image.header.serial old.catalog new (bodies_after bodies made.request.id made.request.bytes)
+copies_lem quiet gates making keeps gives needs follows plans reached needed_of files_of places tells reaches agrees old new merge copy made phase image list done asked bodies files s free at b =
+    is_copy quiet gates making keeps gives needs follows plans reached places tells reaches agrees old new merge copy made phase image list done s asked bodies files at b needed_of files_of free
+
+pub orderly_lem : QuietSteps → GateSteps → MakingLaws → StepsKeep → StepsGive → NeedsNoMore → CatalogFollows → PlansLead → NeededIsReached
+    → (places : Places) → CatalogInUseTells places → ToldReachesSo places → ((all : List Image) → Tells places all → Agrees places all)
+    → (old new : CoreView) (merge : merger.Running) (copy : Copying) (made : Made) (phase : Phase) (image : NewImage) (list : List Retired) (done : MergeProgress)
+    (asked : List (Option Asked)) (bodies files : List (List ℕ)) → MergedOpens places old merge copy made phase image list done new
+    → slice_get asked 1 ≡ Some (Some made.request) → Believes old asked bodies files → IsOrderly places
+orderly_lem quiet gates making keeps gives needs follows plans reached places tells reaches agrees old new merge copy made phase image list done asked bodies files s at b =
+    orderly quiet gates making keeps gives needs follows plans reached places tells reaches agrees old new merge copy made phase image list done s asked bodies files at b

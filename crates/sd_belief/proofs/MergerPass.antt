@@ -51,7 +51,7 @@ use Rattle.sd_belief.proofs.Places.{get_contains, has_too, ids_set, set_same}
 use Rattle.sd_belief.proofs.WritesLaw.{first_is}
 
 -- an image that a slot keeps stands in a whole file
-kept_whole : (phase : Phase) (body : List ℕ) (i : Image) → IsBelievedAs phase body (Kept i) → (phase ≡ Whole) × IsImage (gate ∷ body) i
+pub kept_whole : (phase : Phase) (body : List ℕ) (i : Image) → IsBelievedAs phase body (Kept i) → (phase ≡ Whole) × IsImage (gate ∷ body) i
 kept_whole Raw body i is = absurd (let no : Kept i ≡ Closed = is in cc)
 kept_whole RawClosing body i is = absurd (let no : Kept i ≡ Closed = is in cc)
 kept_whole Whole body i is = (refl, subst (IsImage (gate ∷ body)) (its is.0 is.1) is.2)

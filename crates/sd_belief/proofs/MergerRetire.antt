@@ -121,6 +121,7 @@ module _ (quiet : QuietSteps) (gates : GateSteps) (follows : CatalogFollows) (ma
       asked_at = λ out is. ap (λ (q : Asked). q.id.slot) (sym (same_Some request out is)) ∙ on;
       slot_is = slot_now;
     };
+    before = m.before;
     later = λ place other after at. (let l = m.later place other after at in record {
       image = l.image;
       has = ap (λ o. option_and_then image_in o) (changed.others other.slot (λ same. m.apart r.ended place m.one other after m.there at (sym same))) ∙ l.has;

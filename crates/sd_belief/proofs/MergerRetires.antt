@@ -1,6 +1,6 @@
 -- An outcome of a call on an image that the merger closes is handed in.
-use Rattle.std.proofs.Common.{◌≡◌, ◌≢◌, ℕ, ◌+◌, ◌<◌, true, List, [], ◌∷◌, length, Option, Some, None, option_and_then, slice_get, slice_set, refl, sym, ◌∙◌, ap, subst, inl, inr, arith}
-use Rattle.std.proofs.lemmas.Bool.{false≢true}
+use Rattle.std.proofs.Common.{◌≡◌, ◌≢◌, ℕ, zero, suc, ◌+◌, ◌<◌, true, List, [], ◌∷◌, length, Option, Some, None, option_and_then, slice_get, slice_set, refl, sym, ◌∙◌, ap, subst, inl, inr, arith}
+use Rattle.std.proofs.lemmas.Bool.{cases_eq, false≢true}
 use Rattle.std.proofs.lemmas.Option.{same_Some, slice_get_within}
 use Rattle.sd_disk.specs.Contents.{file_at}
 use Rattle.sd_image.specs.declared.header.Header.{Header}
@@ -11,7 +11,8 @@ use Rattle.sd_gate.specs.declared.phase.Phase.{Phase}
 use Rattle.sd_gate.specs.declared.phase.Phase.TheVariants.{Raw, RawClosing, Whole, Closing as ClosingPhase, Shut, ShutSynced, Bare, Writing, Ready, Opening as OpeningPhase, Doubt, DoubtSynced}
 use Rattle.sd_gate.specs.declared.slot_state.SlotState.TheVariants.{Open as OpenSlot}
 use Rattle.sd_gate.specs.Inspections.{nothing}
-use Rattle.sd_gate.specs.Laws.{PlansLead}
+use Rattle.sd_gate.specs.Calls.{is_done}
+use Rattle.sd_gate.specs.Laws.{Leads, PlansLead}
 use Rattle.sd_gate.specs.Phases.{after, body_after, may_close}
 use Rattle.sd_gate.specs.Plans.{Planned, begun, plan_after}
 use Rattle.sd_gate.specs.Requests.{Asked, Made}
@@ -19,7 +20,7 @@ use Rattle.sd_gate.specs.Sequences.{Calls, closing_calls}
 use Rattle.sd_merge.specs.declared.merge_progress.MergeProgress.{MergeProgress}
 use Rattle.sd_merge.specs.declared.merge_progress.MergeProgress.TheVariants as progress
 use Rattle.sd_merge.specs.declared.retired.Retired.{Retired}
-use Rattle.sd_merge.specs.Merger.{EndsOne, GoesOnWith, HandsClosing, Retiring, retiring}
+use Rattle.sd_merge.specs.Merger.{EndsOne, GoesOnWith, HandsClosing, IsLastOf, Retiring, retiring}
 use Rattle.sd_merge.specs.Merger as merger
 use Rattle.sd_rounds.specs.declared.image_order.ImageOrder.{ImageOrder}
 use Rattle.sd_rounds.specs.declared.stage.Stage.TheVariants.{Format, Close}
@@ -40,14 +41,15 @@ use Rattle.sd_belief.specs.DumperOutcomes.{closes_for_sure}
 use Rattle.sd_belief.specs.GateSteps.{GateSteps}
 use Rattle.sd_belief.specs.InUse.{AreExact, IsSlotFor, NoneAt}
 use Rattle.sd_belief.specs.MergerOutcomes.{OutcomeIsBelieved, RetiringGoesOn, goes_on_with}
-use Rattle.sd_belief.specs.Merges.{IsListedOn, IsMergeAt, IsMergeOn, IsRetiredOn, IsRetiringOn, IsUnmerged, order_of_slot}
+use Rattle.sd_belief.specs.Merges.{IsCutOn, IsListedOn, IsMergeAt, IsMergeOn, IsRetiredOn, IsRetiringOn, IsUnmerged, order_of_slot}
 use Rattle.sd_belief.specs.StoreSteps.{QuietSteps}
 use Rattle.sd_belief.specs.View.{CoreView}
 use Rattle.sd_belief.proofs.HandsImage.{SlotGoesOn, calls_of_done, hands_slot}
 use Rattle.sd_belief.proofs.HandsLaw.{file_set}
 use Rattle.sd_belief.proofs.HandsSlot.{belief_after}
+use Rattle.sd_belief.proofs.Leads.{leads_end, leads_head}
 use Rattle.sd_belief.proofs.MergerOutcome.{SlotHandedIn, asked_then, believes_handed, bodies_then, none_on, phases_then, slot_handed}
-use Rattle.sd_belief.proofs.Places.{has_too, set_same}
+use Rattle.sd_belief.proofs.Places.{has_too, set_other, set_same}
 
 -- ---- an image of the list begins to be closed
 
@@ -107,6 +109,13 @@ retired_begins plans phases asked bodies store beliefs running count exact silen
 still_formats : (plan next : Planned) (calls : Calls) → calls ≢ [] → stage_after Merged (Format plan) next calls ≡ Format next
 still_formats plan next [] some = absurd (some refl)
 still_formats plan next (c ∷ calls) some = refl
+
+-- behind the end of a list is nothing
+within_all : (list : List Retired) (end place : ℕ) (one : Retired) → slice_get list end ≡ None → slice_get list place ≡ Some one → place < end
+within_all [] end place one none there = absurd cc
+within_all (x ∷ list) zero place one none there = absurd (let no : Some x ≡ None = none in cc)
+within_all (x ∷ list) (suc end) zero one none there = omega arith
+within_all (x ∷ list) (suc end) (suc place) one none there = (let less = within_all list end place one none there in omega (arith, less))
 
 module _ (quiet : QuietSteps) (gates : GateSteps) (making : MakingLaws) (closing_retires : ClosingRetires) (keeps : StepsKeep) (gives : StepsGive) (needs : NeedsNoMore) (follows : CatalogFollows) (cut : CutHoldsTheSame)
     (plans : PlansLead) (old new : CoreView) (merge : merger.Running) (r next : Retiring) (made : Made) (phase : Phase) (done : MergeProgress) (s : RetiringGoesOn old merge r made phase done next new)
@@ -184,6 +193,15 @@ module _ (quiet : QuietSteps) (gates : GateSteps) (making : MakingLaws) (closing
         spared = l.spared;
       }
 
+  -- those that are closed, whose slots this is none of
+  cut_then : (place : ℕ) (other : Retired) → place < r.ended → slice_get r.list place ≡ Some other → IsCutOn (phases_then old made phase) running other
+  cut_then place other behind there =
+      let x = k.before place other behind there in
+      record {
+        bare = set_other old.phases made.request.id.slot other.slot (after phase made.request.id.call (is_done made.answer)) (λ same. k.apart place r.ended other one behind there k.there (same ∙ on)) ∙ x.bare;
+        spared = x.spared;
+      }
+
   phase_there : slice_get (phases_then old made phase) slot ≡ Some (after phase made.request.id.call true)
   phase_there = ap (slice_get (phases_then old made phase)) (sym on) ∙ ap (λ d. slice_get (slice_set old.phases made.request.id.slot (after phase made.request.id.call d)) made.request.id.slot) s.ok
       ∙ set_same old.phases made.request.id.slot phase (after phase made.request.id.call true) s.outcome.phase_is
@@ -220,25 +238,49 @@ module _ (quiet : QuietSteps) (gates : GateSteps) (making : MakingLaws) (closing
           (subst (λ stage. IsSlotFor stage order [] (after phase made.request.id.call true) (body_after (file_at bodies slot) made.request.id.call made.request.bytes) None belief_now None)
           (still_formats r.plan nplan nplan.calls g.left) slot_then.slot_is);
     };
+    before = cut_then;
     later = listed;
     apart = k.apart;
   })
 
   -- ---- the next one begins
 
-  ends_one : EndsOne r next → new.merger ≡ Some (record merge { doing = retiring next }) → Believes new (asked_then asked) (bodies_then bodies made) files
-  ends_one e is = believes_merge (Some (record merge { doing = retiring (begun_at r.serial r.list (r.ended + 1) e.next) })) (is ∙ ap (λ x. Some (record merge { doing = retiring x })) e.is) (record {
+  -- behind its last call its slot is closed, and its file one byte long
+  cut_now : IsLastOf r made → IsCutOn (phases_then old made phase) running one
+  cut_now l =
+      let led = leads_head phase Bare (file_at bodies slot) [] made.request.id.call made.request.bytes r.plan.calls slot_was.0.leads in
+      record {
+        bare = phase_there ∙ ap Some (leads_end (after phase made.request.id.call true) Bare (body_after (file_at bodies slot) made.request.id.call made.request.bytes) []
+            (subst (λ cs. Leads (after phase made.request.id.call true) (body_after (file_at bodies slot) made.request.id.call made.request.bytes) cs Bare []) (sym calls_same ∙ l.last) led.rest)).0;
+        spared = c.spared;
+      }
+
+  -- so are those up to it
+  cut_up_to : IsLastOf r made → (place : ℕ) (other : Retired) → place < r.ended + 1 → slice_get r.list place ≡ Some other → IsCutOn (phases_then old made phase) running other
+  cut_up_to l place other behind there = elim (cases_eq place r.ended) [
+    | inl its ↦ subst (IsCutOn (phases_then old made phase) running) (same_Some one other (sym k.there ∙ ap (slice_get r.list) (sym its) ∙ there)) (cut_now l)
+    | inr differs ↦ cut_then place other (omega (arith, behind, differs)) there
+  ]
+
+  ends_one : IsLastOf r made → EndsOne r next → new.merger ≡ Some (record merge { doing = retiring next }) → Believes new (asked_then asked) (bodies_then bodies made) files
+  ends_one l e is = believes_merge (Some (record merge { doing = retiring (begun_at r.serial r.list (r.ended + 1) e.next) })) (is ∙ ap (λ x. Some (record merge { doing = retiring x })) e.is) (record {
     alone = alone;
     one = e.next;
     there = e.there;
     closes = retired_begins plans (phases_then old made phase) (asked_then asked) (bodies_then bodies made) h.store h.later running h.has.believed.count h.in_use.exact silent
         r.serial r.list (r.ended + 1) e.next (none_on old new made phase asked bodies files s.outcome at b e.next.slot (s.free e.next e.there))
         (listed (r.ended + 1) e.next (omega arith) e.there);
+    before = cut_up_to l;
     later = λ place other behind there. listed place other (omega (arith, behind)) there;
     apart = k.apart;
   })
 
   -- ---- none is left
+
+  -- each image of the list is closed, and its file one byte long
+  pub all_cut : (serial : ℕ) → HandsClosing r made (progress.Merged serial) next → (place : ℕ) (other : Retired) → slice_get r.list place ≡ Some other → slice_get new.phases other.slot ≡ Some Bare
+  all_cut serial hands place other there =
+      ap (λ all. slice_get all other.slot) s.outcome.phases ∙ (cut_up_to hands.0 place other (within_all r.list (r.ended + 1) place other hands.1.over there) there).bare
 
   ends : new.merger ≡ None → Believes new (asked_then asked) (bodies_then bodies made) files
   ends is = believes_merge None is (alone, silent)
@@ -248,7 +290,7 @@ module _ (quiet : QuietSteps) (gates : GateSteps) (making : MakingLaws) (closing
   retires_by progress.Failed hands is = absurd (false≢true (sym hands.failed ∙ s.ok))
   retires_by progress.More hands is = elim hands [
     | inl more ↦ goes_on more.0 is
-    | inr last_one ↦ ends_one last_one.1 is
+    | inr last_one ↦ ends_one last_one.0 last_one.1 is
   ]
   retires_by (progress.Opened image) hands is = absurd hands
   retires_by (progress.Closed closed) hands is = goes_on hands.goes is
@@ -259,3 +301,11 @@ pub retires_lem : QuietSteps → GateSteps → MakingLaws → ClosingRetires →
     → RetiringGoesOn old merge r made phase done next new → new.merger ≡ goes_on_with merge done next → OutcomeIsBelieved old new made
 retires_lem quiet gates making closing_retires keeps gives needs follows cut plans old new merge r next made phase done s is asked bodies files at told b =
     retires_by quiet gates making closing_retires keeps gives needs follows cut plans old new merge r next made phase done s asked bodies files at b done s.hands is
+
+-- behind the last of them each image of the list is closed, and its file one byte long
+pub cuts_lem : QuietSteps → GateSteps → MakingLaws → ClosingRetires → StepsKeep → StepsGive → NeedsNoMore → CatalogFollows → CutHoldsTheSame → PlansLead
+    → (old new : CoreView) (merge : merger.Running) (r next : Retiring) (made : Made) (phase : Phase) (serial : ℕ) (place : ℕ) (one : Retired)
+    (asked : List (Option Asked)) (bodies files : List (List ℕ)) → RetiringGoesOn old merge r made phase (progress.Merged serial) next new
+    → slice_get asked 1 ≡ Some (Some made.request) → Believes old asked bodies files → slice_get r.list place ≡ Some one → slice_get new.phases one.slot ≡ Some Bare
+cuts_lem quiet gates making closing_retires keeps gives needs follows cut plans old new merge r next made phase serial place one asked bodies files s at b there =
+    all_cut quiet gates making closing_retires keeps gives needs follows cut plans old new merge r next made phase (progress.Merged serial) s asked bodies files at b serial s.hands place one there

@@ -427,7 +427,7 @@ module _ (asked : List (Option Asked)) (worker : ℕ) (request : Asked) (made : 
     merge_at_made target origin due m = (m.0, silent_made m.1)
     merge_at_made target origin (copying making) m = record { repeats = m.repeats; order = m.order; copy = copy_made target m.repeats.image making m.copy }
     merge_at_made target origin (opened serial) m = m
-    merge_at_made target origin (retiring r) m = record { alone = m.alone; one = m.one; there = m.there; closes = retired_made r m.one m.closes; later = m.later; apart = m.apart }
+    merge_at_made target origin (retiring r) m = record { alone = m.alone; one = m.one; there = m.there; closes = retired_made r m.one m.closes; before = m.before; later = m.later; apart = m.apart }
 
     merge_made : (merge : Option merger.Running) → IsMergeOn phases asked bodies last store beliefs running merge → IsMergeOn phases after bodies last store beliefs running merge
     merge_made None m = (m.0, silent_made m.1)

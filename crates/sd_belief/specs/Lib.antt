@@ -1,6 +1,7 @@
 pub mod Believes
 pub mod Calls
 pub mod CheckpointSteps
+pub mod Copies
 pub mod CoreSteps
 pub mod DumperOutcomes
 pub mod DumperSteps

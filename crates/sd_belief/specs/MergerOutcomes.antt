@@ -3,6 +3,7 @@ use Rattle.std.specs.Prelude.{◌≡◌, ◌≢◌, ℕ, ◌+◌, ◌<◌, true,
 use Rattle.sd_chain.specs.Catalog.{Changes, Opened, Places, place_of}
 use Rattle.sd_chain.specs.Reaches.{ParentsFall}
 use Rattle.sd_gate.specs.declared.phase.Phase.{Phase}
+use Rattle.sd_gate.specs.declared.phase.Phase.TheVariants.{Bare}
 use Rattle.sd_gate.specs.Calls.{is_done}
 use Rattle.sd_gate.specs.Phases.{bodies_after, phases_after}
 use Rattle.sd_gate.specs.Requests.{Asked, Made}
@@ -18,6 +19,7 @@ use Rattle.sd_belief.specs.declared.standing.Standing.TheVariants as standing
 use Rattle.sd_belief.specs.Believes.{Believes}
 use Rattle.sd_belief.specs.Calls.{IsFree, WasTold}
 use Rattle.sd_belief.specs.CheckpointSteps.{IsUnreached}
+use Rattle.sd_belief.specs.Copies.{IsCopyThere, IsOrderly}
 use Rattle.sd_belief.specs.DumperOutcomes.{LeavesCatalog, closes_for_sure}
 use Rattle.sd_belief.specs.MergerSteps.{IsUncalled, OnlyMerges}
 use Rattle.sd_belief.specs.Merges.{IsSpared}
@@ -117,5 +119,18 @@ pub record MergerOutcomes (places : Places) : Type 0 where
       → MergedGoesOn old merge copy made phase next new → OutcomeIsBelieved old new made
   pub opens : (old new : CoreView) (merge : merger.Running) (copy : Copying) (made : Made) (phase : Phase) (image : NewImage) (list : List Retired) (done : MergeProgress)
       → MergedOpens places old merge copy made phase image list done new → OutcomeIsBelieved old new made
+  -- the image that entered is a copy of its source, where no request but the merger's is out on slots that the checkpoint spares
+  pub copies : (old new : CoreView) (merge : merger.Running) (copy : Copying) (made : Made) (phase : Phase) (image : NewImage) (list : List Retired) (done : MergeProgress)
+      (asked : List (Option Asked)) (bodies files : List (List ℕ)) → MergedOpens places old merge copy made phase image list done new
+      → ((slot : ℕ) → IsSpared old.dumper.running slot → IsFree (slice_set old.outs 1 None) slot)
+      → slice_get asked 1 ≡ Some (Some made.request) → Believes old asked bodies files
+      → IsCopyThere merge.source.serial image.header.serial old.catalog new (bodies_after bodies made.request.id made.request.bytes)
+  pub orderly : (old new : CoreView) (merge : merger.Running) (copy : Copying) (made : Made) (phase : Phase) (image : NewImage) (list : List Retired) (done : MergeProgress)
+      (asked : List (Option Asked)) (bodies files : List (List ℕ)) → MergedOpens places old merge copy made phase image list done new
+      → slice_get asked 1 ≡ Some (Some made.request) → Believes old asked bodies files → IsOrderly places
   pub retires : (old new : CoreView) (merge : merger.Running) (r next : Retiring) (made : Made) (phase : Phase) (done : MergeProgress)
       → RetiringGoesOn old merge r made phase done next new → new.merger ≡ goes_on_with merge done next → OutcomeIsBelieved old new made
+  -- behind the last of these calls each image of the list is closed, and its file one byte long
+  pub cuts : (old new : CoreView) (merge : merger.Running) (r next : Retiring) (made : Made) (phase : Phase) (serial place : ℕ) (one : Retired)
+      (asked : List (Option Asked)) (bodies files : List (List ℕ)) → RetiringGoesOn old merge r made phase (progress.Merged serial) next new
+      → slice_get asked 1 ≡ Some (Some made.request) → Believes old asked bodies files → slice_get r.list place ≡ Some one → slice_get new.phases one.slot ≡ Some Bare

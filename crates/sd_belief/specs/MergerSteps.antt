@@ -7,7 +7,7 @@ use Rattle.sd_gate.specs.Phases.{state_of}
 use Rattle.sd_gate.specs.Requests.{Asked}
 use Rattle.sd_merge.specs.declared.merge_step.MergeStep.{MergeStep}
 use Rattle.sd_merge.specs.declared.merge_step.MergeStep.TheVariants.{Call, ReadCall, PageCall, TableCall, Zero}
-use Rattle.sd_merge.specs.Copying.{Copying, IsSoundCopying, Steps, begun_copy}
+use Rattle.sd_merge.specs.Copying.{Copying, IsLost, IsSoundCopying, Steps, begun_copy}
 use Rattle.sd_merge.specs.Merger.{IsRetiring, RetiresOn, Retiring, begun_merge, copying, due, retiring}
 use Rattle.sd_merge.specs.Merger as merger
 use Rattle.sd_merge.specs.Sources.{source_from}
@@ -132,6 +132,9 @@ pub record MergerSteps (places : Places) : Type 0 where
   pub spares : (old new : CoreView) (merge : merger.Running) (copy next : Copying) (ticket : ℕ) (request : Asked) (asked : List (Option Asked)) (bodies files : List (List ℕ))
       → old.catalog ≡ places → MergesOn old merge copy ticket (ReadCall request) next new → Believes old asked bodies files
       → (request.id.slot < length old.phases) × IsSpared old.dumper.running request.id.slot
+  -- the source is there to be read: no page of it is lost
+  pub finds : (core : CoreView) (merge : merger.Running) (copy : Copying) (asked : List (Option Asked)) (bodies files : List (List ℕ))
+      → core.catalog ≡ places → core.standing ≡ Open → core.merger ≡ Some merge → merge.doing ≡ copying copy → Believes core asked bodies files → IsLost places copy → ⊥
   -- the next call of a plan
   pub asks : AskingIsBelieved places Call
   -- the read of the source's next page, and the write of the page that was read

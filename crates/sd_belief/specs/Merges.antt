@@ -6,7 +6,7 @@ use Rattle.sd_image.specs.Image.{Image, IsImage, gate}
 use Rattle.sd_image.specs.Shows.{Holds, IsRestorable}
 use Rattle.sd_gate.specs.declared.call.Call.TheVariants.{Read}
 use Rattle.sd_gate.specs.declared.phase.Phase.{Phase}
-use Rattle.sd_gate.specs.declared.phase.Phase.TheVariants.{Whole}
+use Rattle.sd_gate.specs.declared.phase.Phase.TheVariants.{Bare, Whole}
 use Rattle.sd_gate.specs.declared.slot_state.SlotState.{SlotState}
 use Rattle.sd_gate.specs.declared.slot_state.SlotState.TheVariants.{Open as OpenSlot}
 use Rattle.sd_gate.specs.Requests.{Asked}
@@ -19,7 +19,7 @@ use Rattle.sd_merge.specs.Copying.{Copying}
 use Rattle.sd_merge.specs.Files.{FilesCopy}
 use Rattle.sd_merge.specs.Merger.{Doing, Retiring, due, copying, opened, retiring}
 use Rattle.sd_merge.specs.Merger as merger
-use Rattle.sd_merge.specs.Merging.{KeepsCopy}
+use Rattle.sd_merge.specs.Merging.{KeepsCopy, listed_places}
 use Rattle.sd_merge.specs.Sources.{few_pages, listed_count}
 use Rattle.sd_rounds.specs.declared.image_order.ImageOrder.{ImageOrder}
 use Rattle.sd_rounds.specs.declared.stage.Stage.{Stage}
@@ -59,7 +59,7 @@ pub record IsUnmerged (store : Store) : Type 0 where
 
 -- ---- what a merge needs: its source, and the slot of its image
 
--- The image that is merged stands in a slot that nobody fills, and is the one that the merge was begun with.
+-- The image that is merged stands in a slot that nobody fills, and is the one that the merge was begun with. It holds each page that it lists.
 pub record IsSourceOn (store : Store) (beliefs : List Belief) (running : Option Running) (target : ℕ) (source : Source) (image : Image) : Type 0 where
   pub is : store.source ≡ Some image
   pub work : store.work ≡ image.header.parent ∷ []
@@ -73,6 +73,7 @@ pub record IsSourceOn (store : Store) (beliefs : List Belief) (running : Option 
   pub kept : slice_get beliefs slot ≡ Some (Kept image)
   pub spared : IsSpared running slot
   pub apart : slot ≢ target
+  pub held : (at : Place) → Contains (listed_places image.spaces) at → (bytes : List ℕ) × Holds store.catalog at.0 at.1 bytes image
 
 -- nobody else fills the slot of the merged image, and nobody needs what stands in it
 pub record IsTargetOn (phases : List Phase) (store : Store) (beliefs : List Belief) (running : Option Running) (slot : ℕ) : Type 0 where
@@ -172,12 +173,18 @@ pub record IsRetiredOn (phases : List Phase) (asked : List (Option Asked)) (bodi
   pub asked_at : (out : Asked) → request ≡ Some out → out.id.slot ≡ one.slot
   pub slot_is : IsSlotFor (Format r.plan) (order_of_slot one.slot OpenSlot) [] phase (file_at bodies one.slot) request belief None
 
+-- one that is closed, and whose file was cut to one byte
+pub record IsCutOn (phases : List Phase) (running : Option Running) (one : Retired) : Type 0 where
+  pub bare : slice_get phases one.slot ≡ Some Bare
+  pub spared : IsSpared running one.slot
+
 pub record IsRetiringOn (phases : List Phase) (asked : List (Option Asked)) (bodies : List (List ℕ)) (store : Store) (beliefs : List Belief)
     (running : Option Running) (r : Retiring) : Type 0 where
   pub alone : IsUnmerged store
   pub one : Retired
   pub there : slice_get r.list r.ended ≡ Some one
   pub closes : IsRetiredOn phases asked bodies store beliefs running r one
+  pub before : (place : ℕ) (other : Retired) → place < r.ended → slice_get r.list place ≡ Some other → IsCutOn phases running other
   pub later : (place : ℕ) (other : Retired) → r.ended < place → slice_get r.list place ≡ Some other → IsListedOn store beliefs running other
   pub apart : (place other : ℕ) (a b : Retired) → place < other → slice_get r.list place ≡ Some a → slice_get r.list other ≡ Some b → a.slot ≢ b.slot
 

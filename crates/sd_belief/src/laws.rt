@@ -112,7 +112,7 @@ pub fn dumper_outcomes()
 
 /// Outcomes of a merger's calls, over the catalog of the store: one that failed, after which the store is down, one with
 /// which the merged image goes on, the last of it, with which it enters the catalog, and those of the calls that close the
-/// images that nobody needs any more.
+/// images that nobody needs any more. What entered is a copy of its source, and what was closed is one byte long.
 pub fn merger_outcomes(catalog: &Catalog)
     ensures { MergerOutcomes catalog.now }
 {
@@ -130,6 +130,7 @@ pub fn merger_outcomes(catalog: &Catalog)
     page_in_file();
     plans_lead();
     needed_is_reached();
+    source_reaches_needed();
     catalog_in_use_tells(catalog);
     told_reaches_so(catalog);
     catalog.agrees();

@@ -10,7 +10,7 @@ use Rattle.sd_merge.specs.declared.merge_step.MergeStep.{MergeStep}
 use Rattle.sd_merge.specs.declared.merge_step.MergeStep.TheVariants.{Call, ReadCall, PageCall, TableCall, Zero}
 use Rattle.sd_merge.specs.Copying.{Copying, IsSoundCopying, Steps}
 use Rattle.sd_merge.specs.Merger as merger
-use Rattle.sd_merge.specs.Merger.{AreRunning, CopiesOn, Doing, HasSoundCopy, HasSoundCopyIn, IsRetiring, IsRunningAt, RetiresOn, Retiring, due, copying, opened, retiring}
+use Rattle.sd_merge.specs.Merger.{AreRunning, CopiesOn, Doing, HasSoundCopy, HasSoundCopyIn, IsRetiring, IsRunningAt, Loses, LosesPage, RetiresOn, Retiring, due, copying, opened, retiring}
 use Rattle.sd_rounds.specs.Dumper.{HasSlot}
 use Rattle.sd_belief.specs.Believes.{Believes}
 use Rattle.sd_belief.specs.Calls.{IsFree}
@@ -276,3 +276,19 @@ goes_by_zeros places laws old new merge doing ticket asked bodies files here s s
     let i = on_image ticket old.catalog merge Zero doing (λ other is. let no : Zero ≡ Call other = is in cc) s.copied steps in
     laws.takes_zeros old new merge i.copy i.next ticket asked bodies files here
     (record { merges = merges_on old new merge doing i.copy i.next ticket Zero s i.was i.is i.sound i.steps; outs = outs }) b
+
+-- the source is there to be read: no page of it is lost
+pub never_lost : (places : Places) → MergerSteps places → (parts : Parts) (core : CoreView) → IsCore parts → core.merger ≡ parts.merger → core.standing ≡ parts.standing → core.catalog ≡ places
+    → Loses places parts.merger → (asked : List (Option Asked)) (bodies files : List (List ℕ)) → Believes core asked bodies files → ⊥
+never_lost places laws parts core sound merger_is stands here lost asked bodies files b = by parts.merger refl lost
+  where
+    by_doing : (merge : merger.Running) (doing : Doing) → parts.merger ≡ Some merge → merge.doing ≡ doing → LosesPage places doing → ⊥
+    by_doing merge due is was none = none
+    by_doing merge (copying copy) is was none =
+        laws.finds core merge copy asked bodies files here (stands ∙ (merger_works parts merge sound is).stands) (merger_is ∙ is) was b none
+    by_doing merge (opened serial) is was none = none
+    by_doing merge (retiring r) is was none = none
+
+    by : (merge : Option merger.Running) → parts.merger ≡ merge → Loses places merge → ⊥
+    by None is none = none
+    by (Some merge) is none = by_doing merge merge.doing is refl none

@@ -19,7 +19,7 @@ use Rattle.sd_merge.specs.Merger.{AreRunning, Doing, EndsAll, GoesOnWith, Hands,
 use Rattle.sd_rounds.specs.Dumper.{HasSlot, out_of_running}
 use Rattle.sd_belief.specs.Calls.{IsFree}
 use Rattle.sd_belief.specs.DumperOutcomes.{LeavesCatalog, closes_for_sure}
-use Rattle.sd_belief.specs.MergerOutcomes.{IsMergersOutcome, MergerOutcomes, OutcomeIsBelieved}
+use Rattle.sd_belief.specs.MergerOutcomes.{IsMergersOutcome, MergerOutcomes, OutcomeIsBelieved, RetiringGoesOn}
 use Rattle.sd_belief.specs.MergerSteps.{OnlyMerges}
 use Rattle.sd_belief.specs.declared.standing.Standing.TheVariants.{Open}
 use Rattle.sd_belief.specs.View.{CoreView}
@@ -304,9 +304,9 @@ ends_list merge made serial doing hands = by merge.doing refl hands
     by (opened number) was hands = absurd hands
     by (retiring r) was hands = record { r = r; was = was; next = hands.next; hands = hands.hands }
 
-pub merged_believed : (places : Places) → MergerOutcomes places → (old new : CoreView) (merge : merger.Running) (made : Made) (phase : Phase) (serial : ℕ) → HandsBeside old merge made phase new
-    → EndsList merge made serial → new.merger ≡ None → OutcomeIsBelieved old new made
-merged_believed places laws old new merge made phase serial h e is = laws.retires old new merge e.r e.next made phase (progress.Merged serial) (record {
+pub ended_goes_on : (old new : CoreView) (merge : merger.Running) (made : Made) (phase : Phase) (serial : ℕ) → HandsBeside old merge made phase new → (e : EndsList merge made serial)
+    → RetiringGoesOn old merge e.r made phase (progress.Merged serial) e.next new
+ended_goes_on old new merge made phase serial h e = record {
   outcome = h.outcome;
   rest = h.rest;
   serial = h.serial;
@@ -317,4 +317,9 @@ merged_believed places laws old new merge made phase serial h e is = laws.retire
   free = λ other at. h.free e.r e.was (e.r.ended + 1) other at;
   ok = e.hands.0.done.done;
   hands = e.hands;
-}) is
+}
+
+pub merged_believed : (places : Places) → MergerOutcomes places → (old new : CoreView) (merge : merger.Running) (made : Made) (phase : Phase) (serial : ℕ) → HandsBeside old merge made phase new
+    → EndsList merge made serial → new.merger ≡ None → OutcomeIsBelieved old new made
+merged_believed places laws old new merge made phase serial h e is =
+    laws.retires old new merge e.r e.next made phase (progress.Merged serial) (ended_goes_on old new merge made phase serial h e) is

@@ -19,7 +19,7 @@ use Rattle.sd_merge.specs.Merger.{AreRunning, BeginsList, Doing, HandsAt, HasSou
 use Rattle.sd_rounds.specs.declared.new_image.NewImage.{NewImage}
 use Rattle.sd_rounds.specs.Dumper.{Running}
 use Rattle.sd_rounds.specs.Making.{Making}
-use Rattle.sd_belief.specs.MergerOutcomes.{IsMergersOutcome, MayAllRetire, MayRetire, MergerOutcomes, OutcomeIsBelieved}
+use Rattle.sd_belief.specs.MergerOutcomes.{IsMergersOutcome, MayAllRetire, MayRetire, MergedOpens, MergerOutcomes, OutcomeIsBelieved}
 use Rattle.sd_belief.specs.MergerSteps.{IsUncalled, OnlyMerges}
 use Rattle.sd_belief.specs.Merges.{IsOtherImage, MakesOther}
 use Rattle.sd_belief.specs.View.{CoreView}
@@ -241,26 +241,32 @@ pub record OpensAs (core : Parts) (old : CoreView) (merge : merger.Running) (mad
   pub its_catalog : new.catalog ≡ places
   pub was : old.merger ≡ Some merge
 
+pub merged_opens : (places : Places) (core : Parts) (old new : CoreView) (merge : merger.Running) (made : Made) (phase : Phase) (image : NewImage) (doing : Doing)
+    (before : Option merger.Running) (ended : Option ℕ) (count : ℕ) → OpensAs core old merge made phase image places new → (o : OpensBeside core merge made image doing)
+    → before ≡ Some (record merge { doing = doing }) → IsSound places → Changes core.places places image.header.serial (Some (Some (image_of image)))
+    → (fixes : FixesList places core.dumper.running new.outs count before ended new.merger) → MergedOpens places old merge o.copy made phase image fixes.list (retires_as ended) new
+merged_opens places core old new merge made phase image doing before ended count a o before_is sound changes fixes = record {
+  outcome = a.outcome;
+  rest = a.rest;
+  serial = a.serial;
+  held = ap (λ all. place_of all o.copy.order.serial) a.old_places ∙ o.works.held;
+  catalog = subst (λ all. Changes all places o.copy.order.serial (Some (Some (image_of image)))) (sym a.old_places)
+      (subst (λ n. Changes core.places places n (Some (Some (image_of image)))) o.header.serial changes);
+  its_catalog = a.its_catalog;
+  was = a.was;
+  doing = o.was;
+  sound = o.sound;
+  opens = o.opens;
+  listed = may_all_retire places old new.outs merge image.header.serial count fixes.list sound
+      (subst (λ r. IsListOf places r (Some (record merge { doing = opened image.header.serial })) new.outs count fixes.list) (sym a.old_running)
+      (subst (λ k. IsListOf places core.dumper.running k new.outs count fixes.list) (before_is ∙ ap (λ k. Some (record merge { doing = k })) o.is) fixes.is)) a.outcome.outs;
+  retires = subst (λ k. Retires k fixes.list (retires_as ended) new.merger)
+      (before_is ∙ ap (λ k. Some (record merge { doing = k })) o.is ∙ ap (λ n. Some (record merge { doing = opened n })) o.header.serial) fixes.retires;
+}
+
 pub opened_believed : (places : Places) → MergerOutcomes places → (core : Parts) (old new : CoreView) (merge : merger.Running) (made : Made) (phase : Phase) (image : NewImage) (doing : Doing)
     (before : Option merger.Running) (ended : Option ℕ) (count : ℕ) → OpensAs core old merge made phase image places new → OpensBeside core merge made image doing
     → before ≡ Some (record merge { doing = doing }) → IsSound places → Changes core.places places image.header.serial (Some (Some (image_of image)))
     → FixesList places core.dumper.running new.outs count before ended new.merger → OutcomeIsBelieved old new made
 opened_believed places laws core old new merge made phase image doing before ended count a o before_is sound changes fixes =
-    laws.opens old new merge o.copy made phase image fixes.list (retires_as ended) (record {
-      outcome = a.outcome;
-      rest = a.rest;
-      serial = a.serial;
-      held = ap (λ all. place_of all o.copy.order.serial) a.old_places ∙ o.works.held;
-      catalog = subst (λ all. Changes all places o.copy.order.serial (Some (Some (image_of image)))) (sym a.old_places)
-          (subst (λ n. Changes core.places places n (Some (Some (image_of image)))) o.header.serial changes);
-      its_catalog = a.its_catalog;
-      was = a.was;
-      doing = o.was;
-      sound = o.sound;
-      opens = o.opens;
-      listed = may_all_retire places old new.outs merge image.header.serial count fixes.list sound
-          (subst (λ r. IsListOf places r (Some (record merge { doing = opened image.header.serial })) new.outs count fixes.list) (sym a.old_running)
-          (subst (λ k. IsListOf places core.dumper.running k new.outs count fixes.list) (before_is ∙ ap (λ k. Some (record merge { doing = k })) o.is) fixes.is)) a.outcome.outs;
-      retires = subst (λ k. Retires k fixes.list (retires_as ended) new.merger)
-          (before_is ∙ ap (λ k. Some (record merge { doing = k })) o.is ∙ ap (λ n. Some (record merge { doing = opened n })) o.header.serial) fixes.retires;
-    })
+    laws.opens old new merge o.copy made phase image fixes.list (retires_as ended) (merged_opens places core old new merge made phase image doing before ended count a o before_is sound changes fixes)

@@ -116,3 +116,14 @@ may_work core worker is =
     let one = first_no (not (is_resting core.outs worker)) refusal.Busy _ is in
     let two = first_no (is_idle core worker) refusal.Idle _ one.1 in
     record { busy = two.0; rests = rests_where (slice_get core.outs (index worker)) (not_false (is_resting core.outs worker) one.0) }
+
+-- ---- a worker that can't go on
+
+-- it isn't refused as damaged
+pub not_damaged : (core : CoreView) (worker : Worker) (why : Refusal) → work_refusal core worker ≡ Some why → why ≢ refusal.Damaged
+not_damaged core worker why is = by (not (is_resting core.outs worker)) (is_idle core worker) is
+  where
+    by : (busy idle : Bool) → first_of ((busy, refusal.Busy) ∷ (idle, refusal.Idle) ∷ []) ≡ Some why → why ≢ refusal.Damaged
+    by true idle first damaged = (let no : Some refusal.Busy ≡ Some refusal.Damaged = first ∙ ap Some damaged in cc)
+    by false true first damaged = (let no : Some refusal.Idle ≡ Some refusal.Damaged = first ∙ ap Some damaged in cc)
+    by false false first damaged = (let no : None ≡ Some why = first in cc)

@@ -1,6 +1,7 @@
 pub mod Answering
 pub mod Beginning
 pub mod Dumping
+pub mod Entering
 pub mod Images
 pub mod LittleWork
 pub mod Merging

@@ -1,13 +1,17 @@
 -- The merger of a core: when a merge is refused, how one begins, and what its steps and outcomes are.
-use Rattle.std.specs.Prelude.{◌≡◌, ℕ, ◌+◌, ◌<◌, ◌^◌, Bool, true, false, not, nat_le, is_some, List, [], ◌∷◌, map, Option, Some, None, slice_get}
+use Rattle.std.specs.Prelude.{◌≡◌, ◌↔◌, ℕ, ◌+◌, ◌<◌, ◌^◌, Bool, true, false, not, nat_le, is_some, List, [], ◌∷◌, length, map, Contains, Option, Some, None, slice_get}
 use Rattle.std.specs.List.{list_any}
 use Rattle.sd_chain.specs.Catalog.{IsTip, Opened, Places, images, place_of, serial_of}
 use Rattle.sd_command.specs.declared.refusal.Refusal.{Refusal}
 use Rattle.sd_command.specs.declared.refusal.Refusal.TheVariants as refusal
 use Rattle.sd_command.specs.declared.reply.Reply.{Reply}
 use Rattle.sd_command.specs.declared.reply.Reply.TheVariants as reply
+use Rattle.sd_gate.specs.declared.phase.Phase.{Phase}
+use Rattle.sd_gate.specs.declared.phase.Phase.TheVariants.{Bare}
 use Rattle.sd_gate.specs.declared.request_id.RequestId.{RequestId}
 use Rattle.sd_gate.specs.declared.slot_state.SlotState.{SlotState}
+use Rattle.sd_gate.specs.Fits.{IsClosed, Reads}
+use Rattle.sd_gate.specs.Phases.{bodies_after}
 use Rattle.sd_gate.specs.Requests.{Asked}
 use Rattle.sd_image.specs.declared.header.Kind.{Kind}
 use Rattle.sd_image.specs.declared.header.Kind.TheVariants.{PreDump, Dump, Merged}
@@ -19,12 +23,14 @@ use Rattle.sd_merge.specs.declared.merge_step.MergeStep.TheVariants.{Call}
 use Rattle.sd_merge.specs.declared.retired.Retired.{Retired}
 use Rattle.sd_merge.specs.Copying.{Copying, Steps, begun_copy}
 use Rattle.sd_merge.specs.Merger as merger
-use Rattle.sd_merge.specs.Merger.{CopiesOn, Retires, RetiresOn, Retiring, WorksAt, begun_merge, copying, due, retiring}
+use Rattle.sd_merge.specs.Merger.{CopiesOn, Retires, RetiresOn, Retiring, WorksAt, begun_merge, copying, due, list_of, opened, retiring}
 use Rattle.sd_merge.specs.Sources.{source_from}
 use Rattle.sd_rounds.specs.Dumper.{Running}
+use Rattle.sd_belief.specs.Believes.{Believes}
+use Rattle.sd_belief.specs.Copies.{IsCopyThere}
 use Rattle.sd_belief.specs.Merges.{IsSpared}
-use Rattle.sd_belief.specs.View.{CoreView}
-use Rattle.sd_slots.specs.Taken.{IsListOf}
+use Rattle.sd_belief.specs.View.{CoreView, index}
+use Rattle.sd_slots.specs.Taken.{IsLeftOver, IsListOf, IsNeededAt}
 use Rattle.sd_core.specs.Beginning.{FreeSlots, first_of, is_down, is_not_open}
 
 -- ---- refusals
@@ -136,6 +142,74 @@ pub record IsMerged (serial : ℕ) (old new : CoreView) : Type 0 where
   pub merge : merger.Running
   pub was : old.merger ≡ Some merge
   pub image : IsMergedImage merge new.catalog serial
+
+-- ---- the outcome with which the merged image enters the catalog
+
+-- the image that a merge makes was in the making, and is in the catalog under its serial
+pub record OpensMerged (merge : merger.Running) (serial : ℕ) (old new : CoreView) : Type 0 where
+  pub was : old.merger ≡ Some merge
+  pub copy : Copying
+  pub doing : merge.doing ≡ copying copy
+  pub own : serial ≡ copy.order.serial
+  pub image : Opened
+  pub there : place_of new.catalog serial ≡ Some (Some image)
+
+-- a merge whose image is open, and whose list is to come
+abbrev pub opened_merge : merger.Running → ℕ → merger.Running
+opened_merge merge serial = record merge { doing = opened serial }
+
+-- the list of such a merge is the one of the images that it is to close
+abbrev pub HasItsList : merger.Running → CoreView → Type 0
+HasItsList merge core = IsListOf core.catalog core.dumper.running (Some merge) core.outs (length core.phases) (list_of core.merger)
+
+-- the store is as it is believed to be, with these bodies behind the gates, and this request is out
+pub record IsAsBelieved (core : CoreView) (request : Asked) (bodies : List (List ℕ)) : Type 0 where
+  pub asked : List (Option Asked)
+  pub files : List (List ℕ)
+  pub out : slice_get asked (index request.id.worker) ≡ Some (Some request)
+  pub believes : Believes core asked bodies files
+
+-- An image that a merge is to close: it is in the catalog, and was as the merge began, in a slot of the store that no job has, and nobody needs it.
+pub record IsToRetire (merge : merger.Running) (core : CoreView) (one : Retired) : Type 0 where
+  pub within : one.slot < length core.phases
+  pub left_over : IsLeftOver core.catalog core.dumper.running (Some merge) core.outs one
+  pub unneeded : IsNeededAt core.catalog core.dumper.running (Some merge) one.slot → ⊥
+
+-- the list has exactly those images, and rises by slot
+pub record RetiresThese (merge : merger.Running) (core : CoreView) (list : List Retired) : Type 0 where
+  pub each : (one : Retired) → Contains list one ↔ IsToRetire merge core one
+  pub rises : (place other : ℕ) (a b : Retired) → place < other → slice_get list place ≡ Some a → slice_get list other ≡ Some b → a.slot < b.slot
+
+-- ---- what that outcome leaves
+
+-- the list of the images to close is fixed
+abbrev pub FixesItsList : CoreView → CoreView → Type 0
+FixesItsList old new = (merge : merger.Running) (serial : ℕ) → OpensMerged merge serial old new → HasItsList (opened_merge merge serial) new
+
+-- where the store is as it is believed to be, it is of exactly those that nobody needs any more
+abbrev pub ListsTheUnneeded : CoreView → Asked → CoreView → Type 0
+ListsTheUnneeded old request new = (merge : merger.Running) (serial : ℕ) (bodies : List (List ℕ)) → OpensMerged merge serial old new → IsAsBelieved old request bodies
+    → RetiresThese (opened_merge merge serial) new (list_of new.merger)
+
+-- and the image that entered is a copy of its source, with its areas: it holds at each page what the source then holds
+abbrev pub EntersAsCopy : CoreView → Asked → CoreView → Type 0
+EntersAsCopy old request new = (merge : merger.Running) (serial : ℕ) (bodies : List (List ℕ)) → OpensMerged merge serial old new → IsAsBelieved old request bodies
+    → IsCopyThere merge.source.serial serial old.catalog new (bodies_after bodies request.id request.bytes)
+
+-- ---- the end of a merge
+
+-- a slot is closed, and whatever is read of it in its phase is one byte
+pub record IsOneByte (phases : List Phase) (slot : ℕ) : Type 0 where
+  pub bare : slice_get phases slot ≡ Some Bare
+  pub reads : (body file : List ℕ) → Reads Bare body file → IsClosed file × (length file ≡ 1)
+
+-- so is the slot of each image that was on the list
+pub record AreCut (old new : CoreView) : Type 0 where
+  pub each : (one : Retired) → Contains (list_of old.merger) one → IsOneByte new.phases one.slot
+
+-- where the store is as it is believed to be
+abbrev pub EndsCut : CoreView → Asked → CoreView → Type 0
+EndsCut old request new = (bodies : List (List ℕ)) → IsAsBelieved old request bodies → AreCut old new
 
 -- ---- the entries of a checkpoint that ends with the merge's call
 

@@ -1,10 +1,11 @@
 -- What the steps and the outcomes of a worker leave: how the store stands, and what is left of its job.
-use Rattle.std.specs.Prelude.{◌≡◌, ◌⊎◌, ℕ, ◌<◌, true, false, Option, Some, None}
+use Rattle.std.specs.Prelude.{◌≡◌, ◌≢◌, ◌⊎◌, ℕ, ◌<◌, true, false, List, Option, Some, None}
 use Rattle.sd_command.specs.declared.refusal.Refusal.TheVariants.{Damaged, OutOfMemory, StoreDown}
 use Rattle.sd_command.specs.declared.reply.Reply.{Reply}
 use Rattle.sd_command.specs.declared.reply.Reply.TheVariants as reply
 use Rattle.sd_gate.specs.declared.worker.Worker.{Worker}
 use Rattle.sd_gate.specs.declared.worker.Worker.TheVariants.{Dumper, Merger, Opener}
+use Rattle.sd_gate.specs.Requests.{Asked}
 use Rattle.sd_merge.specs.Left as merger
 use Rattle.sd_opener.specs.Left.{looking_left}
 use Rattle.sd_opener.specs.Looking.{Looking}
@@ -12,6 +13,7 @@ use Rattle.sd_pagetable.specs.Contents.{plain_of}
 use Rattle.sd_rounds.specs.Left.{left_of}
 use Rattle.sd_belief.specs.declared.standing.Standing.{Standing}
 use Rattle.sd_belief.specs.declared.standing.Standing.TheVariants.{NotOpen, Open, Down}
+use Rattle.sd_belief.specs.Believes.{Believes}
 use Rattle.sd_belief.specs.View.{CoreView}
 use Rattle.sd_core.specs.declared.taken.Taken.{Taken}
 use Rattle.sd_core.specs.declared.taken.Taken.TheVariants.{Step, Call}
@@ -80,3 +82,7 @@ LeavesByOutcome old worker (reply.Acked n) new = HasEnded old.standing old worke
 LeavesByOutcome old worker (reply.Merged serial) new = (worker ≡ Merger) × HasEnded old.standing old worker new
 LeavesByOutcome old worker (reply.Refused StoreDown) new = HasFallen old worker new
 LeavesByOutcome old worker _ new = ⊥
+
+-- The source of a merge is there to be read, where the store is as it is believed to be: the step isn't refused as damaged.
+abbrev pub FindsSource : CoreView → Taken → Type 0
+FindsSource core made = (asked : List (Option Asked)) (bodies files : List (List ℕ)) → Believes core asked bodies files → made ≢ Step (reply.Refused Damaged)

@@ -1,9 +1,10 @@
 //! The merger of a core: its steps, and what it leaves.
-ghost use Rattle.std.specs.Prelude.{◌≡◌, ◌<◌, ◌≤◌, ◌↔◌, None, IsSome, IsTrue, Some, IfOk, OnErr, map};
+ghost use Rattle.std.specs.Prelude.{◌≡◌, ◌<◌, ◌≤◌, ◌↔◌, Err, None, IsSome, IsTrue, Some, IfOk, OnErr, map};
 ghost use Rattle.sd_chain.specs.Catalog.{images, serial_of};
 ghost use Rattle.sd_merge.specs.Left.{left_of};
-ghost use Rattle.sd_merge.specs.Merger.{awaited, begun_merge, out_of_merge, slot_before};
+ghost use Rattle.sd_merge.specs.Merger.{Loses, awaited, begun_merge, out_of_merge, slot_before};
 ghost use Rattle.sd_rounds.specs.Dumper.{idle};
+ghost use Rattle.sd_core.specs.declared.merging.StepFault.TheVariants.{Lost};
 ghost use Rattle.sd_core.specs.Merging.{BeginsCopy, EndsCheckpoint, FixesList, IsStepOf, MayRead};
 
 use sd_chain::Catalog;
@@ -80,6 +81,7 @@ pub(crate) fn step_merger(
     requires due { awaited merger.old ≡ None }
     ensures steps { IfOk result (λ step. IsStepOf ticket catalog.now merger.old step merger.new) }
     ensures lowers { IfOk result (λ step. left_of merger.new < left_of merger.old) }
+    ensures lost { result ≡ Err Lost → Loses catalog.now merger.old }
     ensures err { OnErr result (merger.new ≡ merger.old) }
 {
     // The image has its serial and its slot already.

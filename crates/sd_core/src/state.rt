@@ -9,6 +9,7 @@ ghost use Rattle.sd_command.specs.declared.reply.Reply.TheVariants as reply;
 ghost use Rattle.sd_image.specs.Shows.{Shows};
 ghost use Rattle.sd_gate.specs.Laws.{found_phase};
 ghost use Rattle.sd_gate.specs.Requests.{Asked};
+ghost use Rattle.sd_merge.specs.Merger.{Running as RunningMerge};
 ghost use Rattle.sd_journal.specs.History.{pending};
 ghost use Rattle.sd_journal.specs.Marked.{IsTracked};
 ghost use Rattle.sd_belief.specs.Believes.{Believes};
@@ -21,11 +22,12 @@ ghost use Rattle.sd_core.specs.Answering.{IsAnswered};
 ghost use Rattle.sd_core.specs.Beginning.{BeginsAs, FreeSlots, begin_refusal};
 ghost use Rattle.sd_core.specs.Images.{IsAcked};
 ghost use Rattle.sd_core.specs.LittleWork.{IsLittleDump, IsLittlePreDump, OpensPreDump};
-ghost use Rattle.sd_core.specs.Merging.{IsMerged, MergesAs, merge_refusal};
+ghost use Rattle.sd_core.specs.Entering.{EntersFirst};
+ghost use Rattle.sd_core.specs.Merging.{EndsCut, EntersAsCopy, FixesItsList, IsMerged, ListsTheUnneeded, MergesAs, OpensMerged, merge_refusal};
 ghost use Rattle.sd_core.specs.Orders.{BeginsToOpen, IsCancelled};
 ghost use Rattle.sd_core.specs.Refusals.{cancel_refusal, cant_cancel, has_checkpoint, is_idle, is_in_use, reopen_refusal, wants_entry, work_refusal};
 ghost use Rattle.sd_core.specs.Starts.{TakesUp, IsStart, shown_base};
-ghost use Rattle.sd_core.specs.Working.{Leaves, LeavesByOutcome, LeavesByStep, left_by};
+ghost use Rattle.sd_core.specs.Working.{FindsSource, Leaves, LeavesByOutcome, LeavesByStep, left_by};
 ghost use Rattle.sd_core.specs.declared.taken.Taken.TheVariants as taken;
 ghost use Rattle.sd_gate.specs.Calls.{is_done};
 ghost use Rattle.sd_opener.specs.Looking.{IsDoneAsAsked};
@@ -529,6 +531,7 @@ impl Core {
         ensures refused { (why : Why) → work_refusal self.old worker ≡ Some why
             → (result ≡ taken.Step (reply.Refused why)) × (self.new ≡ self.old) }
         ensures leaves { work_refusal self.old worker ≡ None → Leaves self.old worker result self.new }
+        ensures finds { worker ≡ its.Merger → FindsSource self.old result }
     {
         core_steps();
         match self.refusal_of_work(worker) {
@@ -682,6 +685,17 @@ impl Core {
             → IsLittlePreDump running self.old self.new }
         ensures merged { (serial : ℕ) → IsOut self.old outcome.request.id → result ≡ reply.Merged serial
             → IsMerged serial self.old self.new }
+        // By the outcome with which the merged image enters the catalog.
+        ensures opens { IsOut self.old outcome.request.id → outcome.request.id.worker ≡ its.Merger
+            → EntersFirst self.old result self.new }
+        ensures lists { IsOut self.old outcome.request.id → outcome.request.id.worker ≡ its.Merger
+            → FixesItsList self.old self.new }
+        ensures retires { IsOut self.old outcome.request.id → outcome.request.id.worker ≡ its.Merger
+            → ListsTheUnneeded self.old outcome.request self.new }
+        ensures copies { IsOut self.old outcome.request.id → outcome.request.id.worker ≡ its.Merger
+            → EntersAsCopy self.old outcome.request self.new }
+        ensures cuts { (serial : ℕ) → IsOut self.old outcome.request.id → result ≡ reply.Merged serial
+            → EndsCut self.old outcome.request self.new }
     {
         let id = outcome.id();
         if !is_out(&self.outs, &id) {
@@ -707,6 +721,8 @@ impl Core {
         ensures late { result ≡ reply.Refused StoreDown }
         ensures closed { outcome.request.id.worker ≢ its.Opener }
         ensures images { (running : Running) → OpensPreDump running self.old self.new → ⊥ }
+        ensures merges { outcome.request.id.worker ≡ its.Merger → (merge : RunningMerge) (serial : ℕ)
+            → OpensMerged merge serial self.old self.new → ⊥ }
     {
         dumper_outcomes();
         merger_outcomes(&self.catalog);

@@ -1,9 +1,7 @@
 pub mod AllowedLemmas
-pub mod CheckLemmas
 pub mod DueLemmas
 pub mod HistoryLemmas
 pub mod KeptLemmas
 pub mod LegalLemmas
 pub mod MarkedLemmas
 pub mod PlainLemmas
-pub mod ReceiptLemmas

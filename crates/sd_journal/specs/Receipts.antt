@@ -88,17 +88,3 @@ IsFault first journal receipts acks Acks =
     AllStand first journal receipts × AreRising receipts × (command_count journal ≡ length receipts)
     × (acked_numbers journal ≢ acks)
 IsFault first journal receipts acks fault = IsFaultAt first journal receipts fault
-
--- each command's seat is one of the 1,000
-abbrev pub SeatsFit : List Entry → Type 0
-SeatsFit journal = (k seat : ℕ) (command : Command) (reply : Reply)
-    → slice_get journal k ≡ Some (Applied seat command reply) → seat < 1000
-
--- of the receipts so far, the number of each seat's last one
-pub record AreLast (receipts : List Receipt) (last : List (Option ℕ)) : Type 0 where
-  pub room : length last ≡ 1000
-  -- a seat with a number has a receipt with it, and none with a greater one
-  pub has : (seat number : ℕ) → slice_get last seat ≡ Some (Some number)
-      → (k : ℕ) × (receipt : Receipt) × (slice_get receipts k ≡ Some receipt) × (receipt.seat ≡ seat) × (receipt.number ≡ number)
-  pub most : (k : ℕ) (receipt : Receipt) → slice_get receipts k ≡ Some receipt
-      → (number : ℕ) × (slice_get last receipt.seat ≡ Some (Some number)) × (receipt.number ≤ number)

@@ -10,7 +10,6 @@ mod placed_mark;
 mod plain_memory;
 mod plain_pages;
 mod receipt;
-mod receipts;
 
 pub use close_fault::CloseFault;
 pub use entry::Entry;
@@ -19,4 +18,3 @@ pub use laws::{due_laws, journal_laws, tracked_laws, worked_journals};
 pub use mark::Mark;
 pub use plain_memory::replay;
 pub use receipt::Receipt;
-pub use receipts::{SEAT_LIMIT, check_receipts};

@@ -3,7 +3,7 @@ use Rattle.std.proofs.Common.{◌≡◌, ℕ, Bool, true, false, cond, ◌||◌,
 use Rattle.sd_pagetable.specs.Page.{Page}
 use Rattle.sd_pagetable.specs.Contents.{Contents, page_at}
 use Rattle.sd_pagetable.specs.Tracking.{Event, touches, clears}
-use Rattle.sd_pagetable.specs.PageLaw.{IsChangedBy, ComesFrom, CleanLaw, clean_at, clean_bytes}
+use Rattle.sd_pagetable.specs.PageLaw.{ComesFrom, CleanLaw, clean_at, clean_bytes}
 use Rattle.sd_pagetable.proofs.LawEvents.{page_law}
 
 -- a page with clean bytes

@@ -1,12 +1,12 @@
 -- What a clear does to each page.
-use Rattle.std.proofs.Common.{◌≡◌, ℕ, Bool, true, false, ◌&&◌, nat_eq, cond, Option, Some, None, refl, sym, ◌∙◌, ap, subst, arith}
+use Rattle.std.proofs.Common.{◌≡◌, ℕ, true, false, ◌&&◌, nat_eq, Some, sym, ◌∙◌, ap, arith}
 use Rattle.std.specs.Option.{option_map}
 use Rattle.std.proofs.lemmas.Bool.{cond-false, cond-true}
 use Rattle.std.proofs.lemmas.Bool.Decides.{nat_tests}
-use Rattle.sd_pagetable.specs.Nested.{is_alive, value_at, put_at}
+use Rattle.sd_pagetable.specs.Nested.{is_alive}
 use Rattle.sd_pagetable.specs.Page.{Page, cleared_page}
 use Rattle.sd_pagetable.specs.Contents.{Contents, page_at, put_page}
-use Rattle.sd_pagetable.specs.Tracking.{Step, Cleared, is_page}
+use Rattle.sd_pagetable.specs.Tracking.{is_page}
 use Rattle.sd_pagetable.specs.Law.{IsClearedAt, ClearLaw}
 use Rattle.sd_pagetable.proofs.NestedLemmas.{value_at-put, alive-put_same, alive_at}
 

@@ -1,12 +1,10 @@
 -- The spaces have together no more pages than are mapped.
-use Rattle.std.proofs.Common.{◌≡◌, ◌≢◌, ℕ, zero, suc, ◌+◌, ◌≤◌, false, nat_eq, Option, Some, None, unwrap_or, refl, sym, ◌∙◌, ap, subst, arith}
+use Rattle.std.proofs.Common.{◌≡◌, ◌≢◌, ℕ, zero, suc, ◌≤◌, false, nat_eq, Option, Some, None, unwrap_or, refl, ◌∙◌, ap, arith}
 use Rattle.std.specs.Option.{option_map_or}
 use Rattle.std.specs.FinMap as finmap
 use Rattle.std.proofs.lemmas.Bool.{cond-false}
 use Rattle.std.proofs.lemmas.Bool.Decides.{nat_tests}
 use Rattle.sd_pagetable.specs.Nested.{Table, Nested, inside, total, total_within}
-use Rattle.sd_pagetable.specs.Page.{Page}
-use Rattle.sd_pagetable.specs.Contents.{Contents, page_count, IsSound}
 use Rattle.sd_pagetable.specs.Law.{pages_below, CountLaw}
 use Rattle.sd_pagetable.proofs.TableLemmas.{get_removed}
 use Rattle.sd_pagetable.proofs.TotalLemmas.{total-remove, total-empty}

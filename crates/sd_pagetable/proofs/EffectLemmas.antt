@@ -1,5 +1,5 @@
 -- What an event makes of the plain memory.
-use Rattle.std.proofs.Common.{◌≡◌, ℕ, List, Option, Some, None, refl, sym, ◌∙◌, ap}
+use Rattle.std.proofs.Common.{◌≡◌, ℕ, List, Option, Some, refl, sym, ◌∙◌, ap}
 use Rattle.std.specs.Option.{option_map, option_map_or}
 use Rattle.std.specs.FinMap as finmap
 use Rattle.sd_areas.specs.declared.prot.Prot.{Prot}
@@ -8,7 +8,7 @@ use Rattle.sd_pagetable.specs.Nested.{inside, put_at, set_within, remove_within,
 use Rattle.sd_pagetable.specs.Page.{Page, plain_page, fresh_page, protected_page, cleared_page, stored_page, writable_page, zeros}
 use Rattle.sd_pagetable.specs.Access.{stored_at}
 use Rattle.sd_pagetable.specs.Contents.{Contents, page_at, put_page, plain_of}
-use Rattle.sd_pagetable.specs.Tracking.{Event, Mapped, Unmapped, Protected, Forked, Exited, Faulted, Tried, Stored, Cleared, Passed, with_space}
+use Rattle.sd_pagetable.specs.Tracking.{Mapped, Unmapped, Protected, Forked, Exited, Faulted, Tried, Stored, Cleared, Passed, with_space}
 use Rattle.sd_pagetable.specs.EventEffects.{after_write, EffectLaw}
 use Rattle.sd_pagetable.proofs.PlainRanges.{map_set, map_remove, map_change, plain_with, plain_inside}
 use Rattle.sd_pagetable.proofs.MemoryLemmas.{plain_at, plain_put, plain_same, plain_made_writable}

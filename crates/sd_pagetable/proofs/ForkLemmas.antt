@@ -13,7 +13,7 @@ use Rattle.std.specs.FinMap.{get-empty, get-retain_keys, len-entries, nat_cmp-Is
 use Rattle.sd_pagetable.specs.Nested.{Table, map_entries, map_values, inside, value_at, is_alive, total}
 use Rattle.sd_pagetable.specs.Page.{Page, shared_page, inherited_page}
 use Rattle.sd_pagetable.specs.Contents.{Contents, page_at, put_page, page_count}
-use Rattle.sd_pagetable.specs.Firsts.{is_from, IsFirstFrom}
+use Rattle.sd_tables.specs.Firsts.{is_from, IsFirstFrom}
 use Rattle.sd_pagetable.specs.Ranges.{bare_page}
 use Rattle.sd_pagetable.specs.Tracking.{with_space}
 use Rattle.sd_pagetable.proofs.TableLemmas.{same_table, get_put, get-map_entries, entries-map_entries, get-map_values}

@@ -3,14 +3,14 @@ use Rattle.std.proofs.Common.{◌≡◌, ◌⊎◌, ℕ, zero, suc, ◌+◌, ◌
 use Rattle.std.proofs.lemmas.Bool.{cases_eq, eq-eqb, ne_eqb, lt-ltb, le-ltb, cond-true, cond-false, not_from_true, not_from_false, and_from, and_left, and_right}
 use Rattle.std.specs.List.{range_with_len}
 use Rattle.std.specs.Option.{option_map_or}
-use Rattle.sd_pagetable.specs.declared.entry.Entry.{Entry}
+use Rattle.sd_tables.specs.declared.entry.Entry.{Entry}
 use Rattle.sd_pagetable.specs.declared.access_error.AccessError.TheVariants.{Refused}
 use Rattle.sd_pagetable.specs.declared.memory_refusal.MemoryRefusal.TheVariants.{NoFrame}
 use Rattle.sd_pagetable.specs.Nested.{Nested, value_at, put_at}
 use Rattle.sd_pagetable.specs.Page.{writable_page}
 use Rattle.sd_pagetable.specs.Contents.{Contents, page_at, put_page, members, is_full, is_alone}
-use Rattle.sd_pagetable.specs.Frames.{Pool, Cell, cell_at, count_at, IsExhausted, HasFree}
-use Rattle.sd_pagetable.specs.View.{page_of_entry, frame_bytes, contents_of, IsKept}
+use Rattle.sd_frames.specs.Frames.{Pool, Cell, cell_at, count_at, IsExhausted, HasFree, frame_bytes}
+use Rattle.sd_pagetable.specs.View.{page_of_entry, contents_of, IsKept}
 use Rattle.sd_pagetable.specs.Owning.{is_own, OwnsFrame}
 use Rattle.sd_pagetable.specs.Tracking.{MakesWritable}
 use Rattle.sd_pagetable.specs.Due.{frame_due, needs_frame}

@@ -3,12 +3,12 @@ use Rattle.std.proofs.Common.{◌≡◌, ℕ, ◌+◌, ◌<◌, ◌≤◌, ◌^�
 use Rattle.std.proofs.lemmas.Bool.Decides.{nat_tests}
 use Rattle.std.proofs.lemmas.Bool.{cases_Bool, cases_eq, cond-false, ne_eqb}
 use Rattle.std.specs.Option.{option_map_or}
-use Rattle.sd_pagetable.specs.declared.entry.Entry.{Entry}
+use Rattle.sd_tables.specs.declared.entry.Entry.{Entry}
 use Rattle.sd_pagetable.specs.Nested.{Nested, value_at, is_alive, put_at, total}
 use Rattle.sd_pagetable.specs.Page.{Page, zeros}
 use Rattle.sd_pagetable.specs.Contents.{Contents, page_at, put_page, members, share_of, page_count, IsWritable, IsSound}
-use Rattle.sd_pagetable.specs.Frames.{Pool, Cell, cell_at, count_at, SetsCell}
-use Rattle.sd_pagetable.specs.View.{page_of_entry, frame_bytes, contents_of, IsKept}
+use Rattle.sd_frames.specs.Frames.{Pool, Cell, cell_at, count_at, SetsCell, frame_bytes}
+use Rattle.sd_pagetable.specs.View.{page_of_entry, contents_of, IsKept}
 use Rattle.sd_pagetable.proofs.NestedLemmas.{same_nested, value_at-put, alive-put_same, alive-map, alive_at}
 use Rattle.sd_pagetable.proofs.TotalLemmas.{total_within-put, total_within_ge}
 use Rattle.sd_pagetable.proofs.ViewLemmas.{view_put, same_pool, SameOthers, is_at, entry_there, alone_apart, alone_in, is_alone_in, sound_put, one_share}

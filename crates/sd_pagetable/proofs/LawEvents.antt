@@ -11,7 +11,7 @@ use Rattle.sd_pagetable.specs.Nested.{Table, Nested, map_values, inside, value_a
 use Rattle.sd_pagetable.specs.Page.{Page, fresh_page, protected_page, shared_page, inherited_page, writable_page}
 use Rattle.sd_pagetable.specs.Contents.{Contents, page_at, put_page}
 use Rattle.sd_pagetable.specs.Tracking.{Event, Mapped, Unmapped, Protected, Forked, Exited, Faulted, Tried, Stored, Cleared, Passed, Step, with_space, touches, clears, makes_writable, write_protects}
-use Rattle.sd_pagetable.specs.PageLaw.{IsChangedBy, IsMadeBy, ComesFrom, PageLaw}
+use Rattle.sd_pagetable.specs.PageLaw.{IsChangedBy, ComesFrom, PageLaw}
 use Rattle.sd_pagetable.proofs.TableLemmas.{get_removed, get-map_values, get-set_within, get-remove_within, get-change_within}
 use Rattle.sd_pagetable.proofs.NestedLemmas.{tests, value_at-insert, value_at-put}
 

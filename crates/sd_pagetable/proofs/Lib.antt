@@ -1,7 +1,6 @@
 pub mod TableLemmas
 pub mod NestedLemmas
 pub mod TotalLemmas
-pub mod FrameLemmas
 pub mod WholeLemmas
 pub mod LawTests
 pub mod LawEvents
@@ -32,11 +31,5 @@ pub mod FilledLemmas
 pub mod LoadedLemmas
 pub mod SnapshotLemmas
 pub mod LoadingLemmas
-pub mod UsedLemmas
-pub mod LevelLemmas
-pub mod TableOfLemmas
-pub mod LeafLemmas
-pub mod SlotLemmas
-pub mod RunLemmas
 pub mod RunKept
 pub mod RunSteps

@@ -4,11 +4,11 @@ use Rattle.std.proofs.lemmas.Bool.{cases_Bool, cases_eq, eqb-true, eq-eqb, lt-lt
 use Rattle.std.specs.List.{range_with_len}
 use Rattle.std.specs.Option.{option_map, option_map_or}
 use Rattle.sd_areas.specs.PlainMemory as plain
-use Rattle.sd_pagetable.specs.declared.entry.Entry.{Entry}
+use Rattle.sd_tables.specs.declared.entry.Entry.{Entry}
 use Rattle.sd_pagetable.specs.Nested.{Nested, value_at, put_at}
 use Rattle.sd_pagetable.specs.Page.{Page, zeros, fresh_page, plain_page}
 use Rattle.sd_pagetable.specs.Contents.{Contents, page_at, put_page, plain_of, members, share_of, classes, is_full}
-use Rattle.sd_pagetable.specs.Frames.{Pool, Cell, cell_at, count_at, SetsCell, HasFree}
+use Rattle.sd_frames.specs.Frames.{Pool, Cell, cell_at, count_at, SetsCell, HasFree}
 use Rattle.sd_pagetable.specs.View.{page_of_entry, contents_of, IsKept}
 use Rattle.sd_pagetable.specs.Loaded.{is_zero_page, frames_for, nonzero_pages, loaded_page, IsClassFor, Loads, GivesFrame, IsBegun}
 use Rattle.sd_pagetable.proofs.NestedLemmas.{alive_at, value_at-put}

@@ -2,12 +2,12 @@
 use Rattle.std.proofs.Common.{◌≡◌, ℕ, ◌+◌, ◌-◌, ◌<◌, ◌≤◌, false, cond, nat_eq, List, Option, Some, None, refl, sym, ◌∙◌, ap, subst, inl, inr, arith}
 use Rattle.std.proofs.lemmas.Bool.{cases_Bool, cases_eq}
 use Rattle.std.specs.Option.{option_map_or}
-use Rattle.sd_pagetable.specs.declared.entry.Entry.{Entry}
+use Rattle.sd_tables.specs.declared.entry.Entry.{Entry}
 use Rattle.sd_pagetable.specs.Nested.{Nested, value_at, put_at, remove_at}
 use Rattle.sd_pagetable.specs.Page.{Page, zeros}
 use Rattle.sd_pagetable.specs.Contents.{Contents, page_at, put_page, remove_page, members, share_of, page_count, IsSound}
-use Rattle.sd_pagetable.specs.Frames.{Pool, Cell, cell_at, count_at, bytes_at}
-use Rattle.sd_pagetable.specs.View.{page_of_entry, frame_bytes, contents_of, IsKept}
+use Rattle.sd_frames.specs.Frames.{Pool, Cell, cell_at, count_at, bytes_at, frame_bytes}
+use Rattle.sd_pagetable.specs.View.{page_of_entry, contents_of, IsKept}
 use Rattle.sd_pagetable.specs.Owning.{ReleasesFrame}
 use Rattle.sd_pagetable.proofs.NestedLemmas.{alive_at, alive-remove_same, value_at-remove}
 use Rattle.sd_pagetable.proofs.TotalLemmas.{total_within-remove}

@@ -3,19 +3,17 @@ use Rattle.std.proofs.Common.{◌≡◌, ℕ, zero, suc, ◌+◌, ◌-◌, ◌<�
 use Rattle.std.proofs.lemmas.Bool.{cases_lt, eq-eqb}
 use Rattle.std.proofs.lemmas.Bool.Decides.{nat_tests}
 use Rattle.std.specs.Option.{option_map, option_or}
-use Rattle.std.specs.Cmp.{nat_cmp_total}
 use Rattle.std.specs.FinMap as finmap
-use Rattle.std.specs.FinMap.{len-insert}
 use Rattle.sd_areas.specs.Pages.{is_within}
-use Rattle.sd_pagetable.specs.declared.entry.Entry.{Entry}
-use Rattle.sd_pagetable.specs.declared.run_change.RunChange.{RunChange}
-use Rattle.sd_pagetable.specs.declared.run_change.RunChange.TheVariants.{Renew, Protect}
+use Rattle.sd_tables.specs.declared.entry.Entry.{Entry}
+use Rattle.sd_tables.specs.declared.run_change.RunChange.{RunChange}
+use Rattle.sd_tables.specs.declared.run_change.RunChange.TheVariants.{Renew, Protect}
 use Rattle.sd_pagetable.specs.Nested.{Table, Nested, map_values, inside, value_at, is_alive, put_at, change_within, fill_within}
-use Rattle.sd_pagetable.specs.Page.{Page}
+use Rattle.sd_pagetable.specs.Page.{Page, changed_page}
 use Rattle.sd_pagetable.specs.Contents.{Contents, page_at}
-use Rattle.sd_pagetable.specs.Frames.{Pool}
+use Rattle.sd_frames.specs.Frames.{Pool}
 use Rattle.sd_pagetable.specs.Owning.{ReleasesFrame}
-use Rattle.sd_pagetable.specs.Runs.{takes, changed_entry, changed_page, ChangesRun, FillsRun}
+use Rattle.sd_tables.specs.Runs.{takes, changed_entry, ChangesRun, FillsRun}
 use Rattle.sd_pagetable.specs.Tracking.{with_space}
 use Rattle.sd_pagetable.specs.View.{page_of_entry, contents_of, IsKept}
 use Rattle.sd_pagetable.proofs.KeptLemmas.{kept_write_protected, kept_added}
@@ -147,6 +145,10 @@ view_count change pool tables s first count = same_contents _ _ refl (map_values
     (seen_run (page_of_entry pool) (changed_entry change) (changed_page change) (page_seen change pool) (inside tables s) first count
     ∙ ap (λ t. change_within (changed_page change) t first count) (sym (inside-map (page_of_entry pool) tables s))))
 
+-- the pages of a run were there
+pub changed_there : (change : RunChange) (a b : ℕ → Option Entry) (from to page : ℕ) → ChangesRun change a b from to → from ≤ page → page < to → IsSome (a page)
+changed_there change a b from to page run l m = (let t = run.taken page l m in ap is_some t.1)
+
 -- a page with an entry
 pub page_there : (pool : Pool) (tables : Nested Entry) (m : Contents) (s page : ℕ) → contents_of pool tables ≡ m → IsSome (value_at tables s page) → IsSome (page_at m s page)
 page_there pool tables m s page v there = ap (λ (n : Contents). is_some (page_at n s page)) (sym v) ∙ ap is_some (page_at-view pool tables s page) ∙ seen (value_at tables s page) ∙ there
@@ -229,17 +231,6 @@ module _ {X : Type 0} (t : Table X) (first : ℕ) (x : X) where
   fill_past : (count : ℕ) → finmap.get (fill_within t first count x) (first + count) ≡ finmap.get t (first + count)
   fill_past count = get-fill_within t first count x (first + count) ∙ ap (λ b. option_or (finmap.get t (first + count)) (cond b (Some x) None)) (beyond count) ∙ or_none (finmap.get t (first + count))
 
-  len_count : (count : ℕ) → ((page : ℕ) → first ≤ page → page < first + count → finmap.get t page ≡ None) → finmap.len (fill_within t first count x) ≡ finmap.len t + count
-  len_count zero holes = (let e : finmap.len (fill_within t first 0 x) ≡ finmap.len t = ap finmap.len fill_first in omega arith)
-  len_count (suc count) holes =
-      let none = holes (first + count) (omega arith) (omega arith) in
-      let was = len_count count (λ page l m. holes page l (omega arith)) in
-      let key : finmap.contains_key (fill_within t first count x) (first + count) ≡ false = ap is_some (fill_past count ∙ none) in
-      let grown : finmap.len (finmap.insert (fill_within t first count x) (first + count) x) ≡ finmap.len (fill_within t first count x) + 1 =
-      len-insert nat_cmp_total (fill_within t first count x) (first + count) x ∙ ap (λ b. cond b (finmap.len (fill_within t first count x)) (finmap.len (fill_within t first count x) + 1)) key in
-      let same : finmap.len (finmap.insert (fill_within t first count x) (first + count) x) ≡ finmap.len (fill_within t first (suc count) x) = ap finmap.len (fill_next count none) in
-      omega arith
-
 -- a table whose holes were filled
 module _ (entry : Entry) (old new : Table Entry) (first to : ℕ) (le : first ≤ to) (run : FillsRun entry (finmap.get old) (finmap.get new) first to) where
   left_out : (q : ℕ) → is_within first (to - first) q ≡ false → finmap.get new q ≡ finmap.get old q → finmap.get new q ≡ finmap.get (fill_within old first (to - first) entry) q
@@ -265,9 +256,6 @@ module _ (entry : Entry) (old new : Table Entry) (first to : ℕ) (le : first �
       | inr past ↦ left_out q (over q past) (run.others q (inr past))
     ]
   ])
-
-  pub len_filled : finmap.len new ≡ finmap.len old + (to - first)
-  len_filled = (let ends : first + (to - first) ≡ to = omega arith in ap finmap.len filled_table ∙ len_count old first entry (to - first) (λ page l m. run.holes page l (omega arith)))
 
 -- ---- what filling keeps
 kept_holes : (pool : Pool) (tables : Nested Entry) (n s first : ℕ) (e : Entry) → IsKept pool tables n → is_alive tables s ≡ true → e.frame ≡ None → e.writable ≡ false

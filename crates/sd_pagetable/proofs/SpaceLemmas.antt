@@ -5,11 +5,11 @@ use Rattle.std.specs.Option.{option_map_or}
 use Rattle.std.specs.Ordering.{nat_cmp}
 use Rattle.std.specs.FinMap as finmap
 use Rattle.std.specs.FinMap.{get-empty}
-use Rattle.sd_pagetable.specs.declared.entry.Entry.{Entry}
+use Rattle.sd_tables.specs.declared.entry.Entry.{Entry}
 use Rattle.sd_pagetable.specs.Nested.{Table, Nested, map_values, inside, value_at, is_alive, total, total_within}
 use Rattle.sd_pagetable.specs.Page.{Page}
 use Rattle.sd_pagetable.specs.Contents.{Contents, page_at, members, share_of, page_count, IsSound}
-use Rattle.sd_pagetable.specs.Frames.{Pool, Cell, cell_at}
+use Rattle.sd_frames.specs.Frames.{Pool, Cell, cell_at}
 use Rattle.sd_pagetable.specs.View.{page_of_entry, contents_of, IsKept}
 use Rattle.sd_pagetable.proofs.TableLemmas.{none_of, map_values-insert, map_values-empty, map_values-remove, get_removed}
 use Rattle.sd_pagetable.proofs.NestedLemmas.{value_at-insert, alive-insert, tests}

@@ -1,5 +1,5 @@
 -- Tables: what is at a page after a change.
-use Rattle.std.proofs.Common.{◌≡◌, ℕ, ◌≤◌, zero, suc, Bool, true, false, not, cond, nat_eq, ◌&&◌, ◌||◌, is_some, List, [], ◌∷◌, ◌++◌, map, length, Option, Some, None, unwrap_or, IsSome, refl, sym, ◌∙◌, ap, subst, inl, inr, arith, T}
+use Rattle.std.proofs.Common.{◌≡◌, ℕ, zero, suc, Bool, true, false, not, cond, nat_eq, ◌&&◌, ◌||◌, is_some, List, [], ◌∷◌, ◌++◌, map, length, Option, Some, None, unwrap_or, IsSome, refl, sym, ◌∙◌, ap, subst, inl, inr, arith, T}
 use Rattle.std.proofs.lemmas.Bool.Decides.{nat_tests}
 use Rattle.std.proofs.lemmas.Bool.{cases_Bool, cond-false}
 use Rattle.std.specs.Option.{option_map, option_or}
@@ -8,11 +8,6 @@ use Rattle.std.specs.Cmp.{nat_cmp_total}
 use Rattle.std.specs.FinMap as finmap
 use Rattle.std.specs.FinMap.{find, is_sorted, same_map, get-insert, get-remove, get-empty, get-from_entries, get-from_sorted, get-entries, get-retain_keys, entries_sorted, entries-from_sorted, len-entries, nat_cmp-IsAntisymmetric}
 use Rattle.std.specs.FinMap.Entries.{below_all}
-use Rattle.std.specs.Prelude.{Result, Ok, Err, OnOk, OnErr}
-use Rattle.std.specs.declared.ops.Bound.{Bound}
-use Rattle.std.specs.declared.ops.Bound.TheVariants.{Included, Excluded, Unbounded}
-use Rattle.std.specs.BTreeMap.Range.{IsFromStart, IsLeBy}
-use Rattle.sd_pagetable.specs.Firsts.{is_from}
 use Rattle.std.specs.List.{AllByRecursion}
 use Rattle.std.proofs.lemmas.List.{length-map}
 use Rattle.std.specs.List.Sorted.{IsStrictlySortedBy}
@@ -20,7 +15,7 @@ use Rattle.std.specs.declared.cmp.Ordering.TheVariants.{Less}
 use Rattle.std.specs.Map.{lookup}
 use Rattle.std.specs.BTreeMap.{is_at}
 use Rattle.sd_areas.specs.Pages.{pages_from, is_within}
-use Rattle.sd_pagetable.specs.Nested.{Table, Nested, inside, value_at, map_entries, map_values, set_within, remove_within, change_within, fill_within}
+use Rattle.sd_pagetable.specs.Nested.{Table, Nested, inside, map_entries, map_values, set_within, remove_within, change_within, fill_within}
 
 pub same_test : (a b : ℕ) → eq_by_cmp nat_cmp a b ≡ nat_eq a b
 same_test a b = grind (arith, nat_tests)
@@ -48,16 +43,6 @@ module _ {X : Type 0} where
 
   pub get_tree : (es : List (ℕ × X)) (q : ℕ) → finmap.get (finmap.from_entries {R = nat_cmp} es) q ≡ lookup (is_at (nat_cmp q)) es
   get_tree es q = get-from_entries nat_cmp_total es q ∙ find_lookup es q
-
-  -- one entry more, or a new value at a key
-  pub tree_put : (old new : List (ℕ × X)) (k : ℕ) (v : X) → ((q : ℕ) → lookup (is_at (nat_cmp q)) new ≡ cond (is_at (nat_cmp k) q) (Some v) (lookup (is_at (nat_cmp q)) old)) → finmap.from_entries {R = nat_cmp} new ≡ finmap.insert (finmap.from_entries old) k v
-  tree_put old new k v is = same_table _ _ (λ q. get_tree new q ∙ is q ∙ ap (λ b. cond b (Some v) (lookup (is_at (nat_cmp q)) old)) (turned_test k q)
-      ∙ ap (cond (nat_eq q k) (Some v)) (sym (get_tree old q)) ∙ sym (get_put (finmap.from_entries old) k v q))
-
-  -- an entry less
-  pub tree_removed : (old new : List (ℕ × X)) (k : ℕ) → ((q : ℕ) → lookup (is_at (nat_cmp q)) new ≡ cond (is_at (nat_cmp k) q) None (lookup (is_at (nat_cmp q)) old)) → finmap.from_entries {R = nat_cmp} new ≡ finmap.remove (finmap.from_entries old) k
-  tree_removed old new k is = same_table _ _ (λ q. get_tree new q ∙ is q ∙ ap (λ b. cond b None (lookup (is_at (nat_cmp q)) old)) (turned_test k q)
-      ∙ ap (cond (nat_eq q k) None) (sym (get_tree old q)) ∙ sym (get_removed (finmap.from_entries old) k q))
 
 module _ {X Y : Type 0} (f : ℕ → X → Y) where
   changed : ℕ × X → ℕ × Y
@@ -161,11 +146,6 @@ module _ {X : Type 0} where
   unfolding change_within
   get-change_within change m first count q = get-map_entries (λ page x. cond (is_within first count page) (change x) x) m q
 
--- an error that can't be
-pub must_ok : {A E : Type 0} (r : Result A E) (P Q : Type 0) → OnOk r P → OnErr r Q → (Q → ⊥) → P
-must_ok (Ok x) P Q p q never = p
-must_ok (Err e) P Q p q never = absurd (never q)
-
 pub not_none : {X : Type 0} (o : Option X) → o ≡ None → IsSome o → ⊥
 not_none None e s = (let f : false ≡ true = s in cc)
 not_none (Some x) e s = cc
@@ -178,32 +158,9 @@ pub none_of : {X : Type 0} (o : Option X) → is_some o ≡ false → o ≡ None
 none_of None e = refl
 none_of (Some x) e = absurd (let f : true ≡ false = e in cc)
 
--- ---- bounds
-pub from_start : (start : Bound ℕ) (q : ℕ) → is_from start q ≡ true → IsFromStart nat_cmp start q
-from_start (Included a) q e = grind (arith, nat_tests)
-from_start (Excluded a) q e = grind (arith, nat_tests)
-from_start Unbounded q e = tt
-
-pub is_from_start : (start : Bound ℕ) (q : ℕ) → IsFromStart nat_cmp start q → is_from start q ≡ true
-is_from_start (Included a) q e = grind (arith, nat_tests)
-is_from_start (Excluded a) q e = grind (arith, nat_tests)
-is_from_start Unbounded q e = refl
-
-pub le_by : (a b : ℕ) → IsLeBy nat_cmp a b → a ≤ b
-le_by a b h = grind (arith, nat_tests)
-
--- the table of a space, as the code finds it
-pub found_table : {X : Type 0} (es : List (ℕ × Table X)) (m : Nested X) (space : ℕ) (t : Table X) → finmap.from_entries {R = nat_cmp} es ≡ m → Some t ≡ lookup (is_at (nat_cmp space)) es → finmap.get m space ≡ Some t
-found_table es m space t v e = ap (λ n. finmap.get n space) (sym v) ∙ get_tree es space ∙ sym e
-
-pub no_table : {X : Type 0} (es : List (ℕ × Table X)) (m : Nested X) (space : ℕ) → finmap.from_entries {R = nat_cmp} es ≡ m → None ≡ lookup (is_at (nat_cmp space)) es → finmap.get m space ≡ None
-no_table es m space v e = ap (λ n. finmap.get n space) (sym v) ∙ get_tree es space ∙ sym e
-
+-- the table of a space
 pub inside_is : {X : Type 0} (m : Nested X) (space : ℕ) (t : Table X) → finmap.get m space ≡ Some t → inside m space ≡ t
 inside_is m space t e = ap (λ o. unwrap_or o finmap.empty) e
-
-pub none_inside : {X : Type 0} (m : Nested X) (space page : ℕ) → finmap.get m space ≡ None → value_at m space page ≡ None
-none_inside m space page e = ap (λ o. finmap.get (unwrap_or o finmap.empty) page) e ∙ get-empty nat_cmp page
 
 pub same_again : {X : Type 0} (m : Table X) (k : ℕ) (v : X) → finmap.get m k ≡ Some v → finmap.insert m k v ≡ m
 same_again m k v e = same_table _ _ (λ q. get_put m k v q ∙ at_key q)
@@ -213,11 +170,6 @@ same_again m k v e = same_table _ _ (λ q. get_put m k v q ∙ at_key q)
       | inl t ↦ ap (λ b. cond b (Some v) (finmap.get m q)) t ∙ sym (ap (finmap.get m) (let e : q ≡ k = grind (arith, nat_tests) in e) ∙ e)
       | inr f ↦ ap (λ b. cond b (Some v) (finmap.get m q)) f
     ]
-
--- a space's table was changed
-pub written : {X : Type 0} (old new : List (ℕ × Table X)) (m : Nested X) (space : ℕ) (t u : Table X) → finmap.from_entries {R = nat_cmp} old ≡ m → t ≡ u →
-    ((q : ℕ) → lookup (is_at (nat_cmp q)) new ≡ cond (is_at (nat_cmp space) q) (Some t) (lookup (is_at (nat_cmp q)) old)) → finmap.from_entries {R = nat_cmp} new ≡ finmap.insert m space u
-written old new m space t u v e is = tree_put old new space t is ∙ ap (λ n. finmap.insert n space t) v ∙ ap (finmap.insert m space) e
 
 -- ---- how many entries
 module _ {X : Type 0} where
@@ -229,12 +181,6 @@ module _ {X : Type 0} where
   unfolding IsStrictlySortedBy
   keys_sorted [] h = refl
   keys_sorted (e ∷ es) h = ap (λ b. b && is_sorted nat_cmp es) (keys_below e.0 es h.0) ∙ keys_sorted es h.1
-
-  pub len_tree : (es : List (ℕ × X)) → IsStrictlySortedBy nat_cmp (map (λ (e : ℕ × X). e.0) es) → finmap.len (finmap.from_entries {R = nat_cmp} es) ≡ length es
-  len_tree es h =
-      let sorted : T (is_sorted nat_cmp es) = subst T (sym (keys_sorted es h)) tt in
-      len-entries (finmap.from_entries es) ∙ ap length (ap finmap.entries (same_table (finmap.from_entries es) (finmap.from_sorted es) (λ q. get-from_entries nat_cmp_total es q ∙ sym (get-from_sorted nat_cmp es q sorted)))
-      ∙ entries-from_sorted nat_cmp es sorted)
 
 pub len-map_values : {X Y : Type 0} (f : X → Y) (m : Table X) → finmap.len (map_values f m) ≡ finmap.len m
 len-map_values f m = len-entries (map_values f m) ∙ ap length (entries-map_values f m) ∙ length-map (finmap.entries m) _ ∙ sym (len-entries m)

@@ -3,11 +3,11 @@ use Rattle.std.proofs.Common.{◌≡◌, ◌⊎◌, ℕ, ◌<◌, ◌≤◌, ◌
 use Rattle.std.proofs.lemmas.Bool.Decides.{nat_tests}
 use Rattle.std.proofs.lemmas.Bool.{cases_Bool, eqb-true, eq-eqb}
 use Rattle.std.specs.Option.{option_map, option_map_or}
-use Rattle.sd_pagetable.specs.declared.entry.Entry.{Entry}
+use Rattle.sd_tables.specs.declared.entry.Entry.{Entry}
 use Rattle.sd_pagetable.specs.Nested.{Nested, map_values, value_at, is_alive, put_at, remove_at}
 use Rattle.sd_pagetable.specs.Page.{Page}
 use Rattle.sd_pagetable.specs.Contents.{Contents, page_at, put_page, remove_page, members, share_of, is_alone, page_count, IsWritable, IsSound}
-use Rattle.sd_pagetable.specs.Frames.{Pool}
+use Rattle.sd_frames.specs.Frames.{Pool}
 use Rattle.sd_pagetable.specs.View.{page_of_entry, contents_of}
 use Rattle.sd_pagetable.proofs.TableLemmas.{turned_in, turned_out}
 use Rattle.sd_pagetable.proofs.NestedLemmas.{same_nested, value_at-put, value_at-remove, alive-put, alive-remove, alive-put_same, value_at-map, alive-map}

@@ -2,12 +2,12 @@
 use Rattle.std.proofs.Common.{◌≡◌, ℕ, ◌+◌, ◌<◌, ◌≤◌, Bool, true, false, cond, nat_eq, List, Option, Some, None, refl, sym, ◌∙◌, ap, subst, inl, inr, arith}
 use Rattle.std.proofs.lemmas.Bool.{cases_eq, eqb-true, eqb-false, eq-eqb}
 use Rattle.std.specs.Option.{option_map_or}
-use Rattle.sd_pagetable.specs.declared.entry.Entry.{Entry}
+use Rattle.sd_tables.specs.declared.entry.Entry.{Entry}
 use Rattle.sd_pagetable.specs.Nested.{Nested, value_at, put_at}
 use Rattle.sd_pagetable.specs.Page.{zeros, writable_page}
 use Rattle.sd_pagetable.specs.Contents.{Contents, put_page, members, share_of}
-use Rattle.sd_pagetable.specs.Frames.{Pool, Cell, cell_at, count_at}
-use Rattle.sd_pagetable.specs.View.{page_of_entry, frame_bytes, contents_of, IsKept}
+use Rattle.sd_frames.specs.Frames.{Pool, Cell, cell_at, count_at, frame_bytes}
+use Rattle.sd_pagetable.specs.View.{page_of_entry, contents_of, IsKept}
 use Rattle.sd_pagetable.specs.Owning.{is_own, TakesFrame}
 use Rattle.sd_pagetable.proofs.NestedLemmas.{alive_at}
 use Rattle.sd_pagetable.proofs.TotalLemmas.{total_within-put, total_within_ge}

@@ -1,16 +1,9 @@
--- Maps of maps: what each space has at each page.
-use Rattle.std.specs.Prelude.{ℕ, Bool, not, ◌++◌, map, Option, unwrap_or, sum_by, if◌then◌else◌}
-use Rattle.std.specs.Ordering.{nat_cmp}
+-- Maps of maps: what each space has at each page, changed page by page and by runs, and summed.
+use Rattle.std.specs.Prelude.{ℕ, not, ◌++◌, map, sum_by, if◌then◌else◌}
 use Rattle.std.specs.FinMap as finmap
 use Rattle.sd_areas.specs.Pages.{pages_from, is_within}
-
--- by page
-abbrev pub Table : Type 0 → Type 0
-Table X = finmap.FinMap nat_cmp X
-
--- by space, and then by page
-abbrev pub Nested : Type 0 → Type 0
-Nested X = Table (Table X)
+pub use Rattle.sd_tables.specs.Tables.{Table, Nested, inside, value_at, is_alive}
+unfoldable pub use Rattle.sd_tables.specs.Tables.{put_at, remove_at}
 
 -- each value changed, knowing its key
 unfoldable pub map_entries : {X Y : Type 0} → (ℕ → X → Y) → Table X → Table Y
@@ -19,26 +12,6 @@ map_entries f table = finmap.from_entries (map (λ e. (e.0, f e.0 e.1)) (finmap.
 -- each value changed
 unfoldable pub map_values : {X Y : Type 0} → (X → Y) → Table X → Table Y
 map_values f table = map_entries (λ _ x. f x) table
-
--- what a space has; nothing where it isn't alive
-abbrev pub inside : {X : Type 0} → Nested X → ℕ → Table X
-inside nested space = unwrap_or (finmap.get nested space) finmap.empty
-
--- what a space has at a page
-abbrev pub value_at : {X : Type 0} → Nested X → ℕ → ℕ → Option X
-value_at nested space page = finmap.get (inside nested space) page
-
--- whether a space is alive
-abbrev pub is_alive : {X : Type 0} → Nested X → ℕ → Bool
-is_alive nested space = finmap.contains_key nested space
-
--- a space has this at a page, and all else is as before
-unfoldable pub put_at : {X : Type 0} → Nested X → ℕ → ℕ → X → Nested X
-put_at nested space page x = finmap.insert nested space (finmap.insert (inside nested space) page x)
-
--- a space has nothing at a page, and all else is as before
-unfoldable pub remove_at : {X : Type 0} → Nested X → ℕ → ℕ → Nested X
-remove_at nested space page = finmap.insert nested space (finmap.remove (inside nested space) page)
 
 -- every page of a run has this, and every other page is as before
 unfoldable pub set_within : {X : Type 0} → Table X → ℕ → ℕ → X → Table X

@@ -5,8 +5,7 @@ use Rattle.sd_pagetable.specs.declared.memory_refusal.MemoryRefusal.TheVariants.
 use Rattle.sd_pagetable.specs.declared.access_error.AccessError.TheVariants.{Refused}
 use Rattle.sd_pagetable.specs.declared.memory_error.MemoryError.{MemoryError}
 use Rattle.sd_pagetable.specs.declared.memory_error.MemoryError.TheVariants.{Denied as DeniedError, OutOfMemory}
-use Rattle.sd_pagetable.specs.Frames.{Pool, Cell, cell_at, count_at, bytes_at, IsExhausted, HasFree}
-use Rattle.sd_pagetable.specs.View.{frame_bytes}
+use Rattle.sd_frames.specs.Frames.{Pool, Cell, cell_at, count_at, bytes_at, IsExhausted, HasFree, frame_bytes}
 
 -- no other entry has the frame
 abbrev pub is_own : Pool → Option ℕ → Bool

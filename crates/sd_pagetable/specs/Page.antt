@@ -1,13 +1,12 @@
 -- A mapped page, with what the page table knows of it.
-use Rattle.std.specs.Prelude.{ℕ, Bool, true, false, List, replicate, Option, Some, None, refl}
+use Rattle.std.specs.Prelude.{ℕ, Bool, true, false, List, Option, Some, None, refl}
 use Rattle.std.specs.Coded.{Coded, code_by, coded×, coded_bool, coded_ℕ, coded_list, coded_option}
 use Rattle.sd_areas.specs.declared.prot.Prot.{Prot}
 use Rattle.sd_areas.specs.Codes.{prot_code}
 use Rattle.sd_areas.specs.PlainMemory as plain
-
--- a page of zeros
-unfoldable pub zeros : List ℕ
-zeros = replicate 4096 0
+use Rattle.sd_tables.specs.declared.run_change.RunChange.{RunChange}
+use Rattle.sd_tables.specs.declared.run_change.RunChange.TheVariants.{Renew, Protect}
+unfoldable pub use Rattle.sd_frames.specs.Bytes.{zeros}
 
 -- its permissions, its bytes, the number of its frame class (none where no frame was needed yet), and the two bits of its entry
 pub record Page : Type 0 where
@@ -32,6 +31,11 @@ cleared_page page = record page { writable = false; soft_dirty = false }
 -- after `mprotect`
 abbrev pub protected_page : Prot → Page → Page
 protected_page prot page = record page { prot = prot; writable = false }
+
+-- a page of a run after a change
+abbrev pub changed_page : RunChange → Page → Page
+changed_page (Renew prot) page = fresh_page prot
+changed_page (Protect prot) page = protected_page prot page
 
 -- a page of the parent after `fork`
 abbrev pub shared_page : Page → Page

@@ -1,5 +1,5 @@
 -- Where a page comes from, by the event that led there, and what a clean page says of the memory before.
-use Rattle.std.specs.Prelude.{◌≡◌, ◌⊎◌, ℕ, Bool, true, false, ◌||◌, if◌then◌else◌, List, Option, Some, None}
+use Rattle.std.specs.Prelude.{◌≡◌, ◌⊎◌, ℕ, true, false, ◌||◌, if◌then◌else◌, List, Option, Some, None}
 use Rattle.sd_pagetable.specs.Page.{Page}
 use Rattle.sd_pagetable.specs.Contents.{Contents, page_at, IsSound}
 use Rattle.sd_pagetable.specs.Tracking.{Event, Step, touches, clears, makes_writable, write_protects}

@@ -1,22 +1,10 @@
 -- How frames and entries are seen as the contents of a memory.
-use Rattle.std.specs.Prelude.{◌≡◌, ℕ, ◌<◌, Bool, List, Option, Some, None, refl}
-use Rattle.std.specs.Coded.{Coded, code_by, coded×, coded_bool, coded_ℕ, coded_option}
-use Rattle.sd_areas.specs.declared.prot.Prot.{Prot}
-use Rattle.sd_areas.specs.Codes.{prot_code}
-use Rattle.sd_pagetable.specs.declared.entry.Entry.{Entry}
+use Rattle.std.specs.Prelude.{◌≡◌, ℕ, ◌<◌, Some}
+use Rattle.sd_tables.specs.declared.entry.Entry.{Entry}
 use Rattle.sd_pagetable.specs.Nested.{Nested, map_values}
-use Rattle.sd_pagetable.specs.Page.{Page, zeros}
-use Rattle.sd_pagetable.specs.Frames.{Pool, Cell, cell_at, count_at, bytes_at}
+use Rattle.sd_pagetable.specs.Page.{Page}
+use Rattle.sd_frames.specs.Frames.{Pool, Cell, cell_at, count_at, frame_bytes}
 use Rattle.sd_pagetable.specs.Contents.{Contents, members, IsSound, page_count}
-
-abbrev pub entry_code : Coded Entry
-entry_code = code_by (Prot × (Option ℕ × (Bool × Bool))) (coded× prot_code (coded× (coded_option coded_ℕ) (coded× coded_bool coded_bool)))
-    (λ e. (e.prot, (e.frame, (e.writable, e.soft_dirty)))) (λ t. record { prot = t.0; frame = t.1.0; writable = t.1.1.0; soft_dirty = t.1.1.1 }) (λ _. refl)
-
--- the bytes of a page with this frame; without one it reads as zeros
-abbrev pub frame_bytes : Pool → Option ℕ → List ℕ
-frame_bytes pool None = zeros
-frame_bytes pool (Some frame) = bytes_at pool frame
 
 -- an entry with its frame, as a page; the class is the frame's number
 abbrev pub page_of_entry : Pool → Entry → Page

@@ -3,31 +3,18 @@
 
 mod access;
 mod access_error;
-mod entry;
 mod fork_calls;
-mod frame;
-mod frame_cell;
-mod frames;
 mod law;
-mod leaf;
-mod leaf_entry;
-mod level;
 mod limits;
 mod loading;
 mod memory;
 mod memory_error;
 mod memory_refusal;
-mod node;
-mod page_table;
 mod paging;
 mod range_calls;
 mod ranges;
-mod run_change;
 mod segv;
-mod slot;
 mod store_outcome;
-mod tables;
-mod used_places;
 
 pub use access::Access;
 pub use access_error::AccessError;

@@ -9,8 +9,8 @@ ghost use Rattle.sd_pagetable.specs.Ranges.{bare_page, IsCleared};
 ghost use Rattle.sd_pagetable.specs.Tracking.{with_space};
 
 use crate::paging::Paging;
-use crate::run_change::RunChange;
 use sd_areas::{AreaMap, PageNo, Prot, SpaceId};
+use sd_tables::RunChange;
 use std::alloc::AllocError;
 use std::ops::Bound;
 

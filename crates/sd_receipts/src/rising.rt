@@ -3,7 +3,10 @@ ghost use Rattle.std.specs.Prelude.{◌≡◌, ◌∷◌, ◌++◌, [], ℕ, Lis
 ghost use Rattle.sd_journal.specs.declared.receipt.Receipt.{Receipt as Told};
 ghost use Rattle.sd_receipts.specs.Noted.{AreNoted, HasNotBelow, Rises};
 
-use sd_journal::{Receipt, SEAT_LIMIT};
+use sd_journal::Receipt;
+
+/// The seats that are handed out are below this number.
+const SEAT_LIMIT: usize = 1000;
 
 /// No seat has a number yet.
 pub(crate) fn no_numbers() -> [Option<u64>; SEAT_LIMIT]

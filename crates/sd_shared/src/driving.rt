@@ -12,6 +12,14 @@ pub(crate) fn drive<H: Hands>(rt: &impl Wait, hands: &mut H)
     ensures over { ends_job (H.last hands.new) ≡ true }
 {
     hands.begin();
+    go_on(rt, hands);
+}
+
+/// Goes on with a job to its end, or until it is refused. The last reply stays with the hands.
+pub(crate) fn go_on<H: Hands>(rt: &impl Wait, hands: &mut H)
+    ensures began { H.began hands.new ≡ H.began hands.old }
+    ensures over { ends_job (H.last hands.new) ≡ true }
+{
     for _ in rt.forever() {
         if ends_job(hands.last()) {
             return;

@@ -10,18 +10,38 @@ use std::sync::Wait;
 /// A worker's job over a shared core and disk. Each method takes one lock at a time, and calls the hold with none.
 #[derive(Drop)]
 pub(crate) struct Job<'a, R, D: Drop, H> {
-    pub(crate) rt: &'a R,
-    pub(crate) shared: &'a Shared<D>,
-    pub(crate) hold: &'a H,
-    pub(crate) worker: Worker,
-    pub(crate) rounds: u64,
-    pub(crate) calls: u64,
-    pub(crate) began: bool,
-    pub(crate) last: Reply,
+    rt: &'a R,
+    shared: &'a Shared<D>,
+    hold: &'a H,
+    worker: Worker,
+    rounds: u64,
+    calls: u64,
+    began: bool,
+    last: Reply,
 }
 
-impl<R: Wait, D: Disk + Drop, H: Hold> Job<'_, R, D, H> {
+impl<'a, R: Wait, D: Disk + Drop, H: Hold> Job<'a, R, D, H> {
     ghost use Rattle.std.specs.Prelude.{◌≡◌};
+
+    /// A job of which nothing was done yet.
+    pub(crate) fn new(
+        rt: &'a R,
+        shared: &'a Shared<D>,
+        hold: &'a H,
+        worker: Worker,
+        rounds: u64,
+    ) -> Self {
+        Job {
+            rt,
+            shared,
+            hold,
+            worker,
+            rounds,
+            calls: 0,
+            began: false,
+            last: Reply::Worked,
+        }
+    }
 
     /// Makes a device call, and hands its outcome in.
     fn call(&mut self, request: Request) -> Reply

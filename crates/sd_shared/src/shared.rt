@@ -6,7 +6,7 @@ ghost use Rattle.sd_journal.specs.Receipts.{Accounts, IsFault};
 ghost use Rattle.sd_world.specs.Opens.{HasNoFrame, IsFaultOf};
 ghost use Rattle.sd_shared.specs.Told.{ends_job, seats_from_0};
 
-use crate::driving::drive;
+use crate::driving::{drive, go_on};
 use crate::hands::Hands;
 use crate::hold::Hold;
 use crate::job::Job;
@@ -153,17 +153,38 @@ impl<D: Disk + Drop> Shared<D> {
     fn run<R: Wait, H: Hold>(&self, rt: &R, worker: Worker, rounds: u64, hold: &H) -> Reply
         ensures over { ends_job result ≡ true }
     {
-        let mut job = Job {
-            rt,
-            shared: self,
-            hold,
-            worker,
-            rounds,
-            calls: 0,
-            began: false,
-            last: Reply::Worked,
-        };
+        let mut job = Job::new(rt, self, hold, worker, rounds);
         drive(rt, &mut job);
+        job.into_last()
+    }
+
+    /// Goes on with a checkpoint that stands, as it does where `run_dumper` returned `OutOfMemory`. Returns the last reply:
+    /// `Idle` where none runs.
+    pub fn go_on_dumper<R: Wait>(&self, rt: &R, hold: &impl Hold) -> Reply
+        ensures over { ends_job result ≡ true }
+    {
+        self.go_on(rt, Worker::Dumper, hold)
+    }
+
+    /// Goes on with a merge that stands. Returns the last reply: `Idle` where none runs.
+    pub fn go_on_merger<R: Wait>(&self, rt: &R, hold: &impl Hold) -> Reply
+        ensures over { ends_job result ≡ true }
+    {
+        self.go_on(rt, Worker::Merger, hold)
+    }
+
+    /// Goes on with an opening that stands. Returns the last reply: `Idle` where none runs.
+    pub fn go_on_opener<R: Wait>(&self, rt: &R, hold: &impl Hold) -> Reply
+        ensures over { ends_job result ≡ true }
+    {
+        self.go_on(rt, Worker::Opener, hold)
+    }
+
+    fn go_on<R: Wait, H: Hold>(&self, rt: &R, worker: Worker, hold: &H) -> Reply
+        ensures over { ends_job result ≡ true }
+    {
+        let mut job = Job::new(rt, self, hold, worker, 0);
+        go_on(rt, &mut job);
         job.into_last()
     }
 

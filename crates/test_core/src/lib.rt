@@ -1,6 +1,9 @@
 //! Tests of a core that is driven by hand: what is refused and when, and what failures leave.
 #![tactic(auto)]
 
+#[cfg(test)]
+mod cases;
+#[cfg(test)]
 mod driving;
 #[cfg(test)]
 mod journal_limit;
@@ -10,3 +13,5 @@ mod orders;
 mod other_disk;
 #[cfg(test)]
 mod outcomes;
+#[cfg(test)]
+mod start;

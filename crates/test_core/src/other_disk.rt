@@ -1,36 +1,60 @@
 //! A store that isn't the run's own.
-use crate::driving::{fresh, open_again, save};
-use sd_command::{Refusal, Reply};
+use crate::cases::{Case, run};
+use crate::driving::{Answer, Order, obey};
+use crate::start::Store;
+use sd_command::Refusal;
 use sd_core::Core;
-use sd_disk::{Disk, Fused, MemDisk};
+use sd_disk::Disk;
 use std::process::Abort;
 use std::test::Fail;
 
+/// Which of three stores an order is for.
+#[derive(Clone, Copy, Debug)]
+enum Which {
+    Own,
+    Broken,
+    Empty,
+}
+
 /// A checkpoint is acknowledged on one disk, and the next one fails on a broken one. What is opened then is a third, empty
 /// one: the store stays down until its own is opened.
-fn other_stores_are_damage<D: Disk>(
+const ROWS: [(Which, Order, Answer); 7] = [
+    (Which::Own, Order::Open, Answer::Reopened(None)),
+    (Which::Own, Order::Save, Answer::Acked(1)),
+    (
+        Which::Broken,
+        Order::Save,
+        Answer::Refused(Refusal::StoreDown),
+    ),
+    (Which::Empty, Order::Open, Answer::Refused(Refusal::Damaged)),
+    (Which::Own, Order::Save, Answer::Refused(Refusal::StoreDown)),
+    (Which::Own, Order::Open, Answer::Reopened(Some(1))),
+    (Which::Own, Order::Save, Answer::Acked(3)),
+];
+
+/// What is no store of the core's run is damage.
+pub(crate) fn knows_its_own<D: Disk>(
     rt: &impl Abort,
     core: &mut Core,
     own: &mut D,
-    broken: &mut Fused<D>,
+    broken: &mut D,
     empty: &mut D,
-) -> Result<(), Fail> {
-    let down = Reply::Refused(Refusal::StoreDown);
-    assert_eq!(rt; open_again(core, own), Reply::Reopened(None));
-    assert_eq!(rt; save(core, own), Reply::Acked(1));
-    assert_eq!(rt; save(core, broken), down);
-    assert_eq!(rt; open_again(core, empty), Reply::Refused(Refusal::Damaged));
-    assert_eq!(rt; save(core, own), down);
-    assert_eq!(rt; open_again(core, own), Reply::Reopened(Some(1)));
-    assert_eq!(rt; save(core, own), Reply::Acked(3));
-    Ok(())
+) {
+    for (which, order, wanted) in ROWS {
+        let answer = match which {
+            Which::Own => obey(core, own, order),
+            Which::Broken => obey(core, broken, order),
+            Which::Empty => obey(core, empty, order),
+        };
+        assert_eq!(rt; answer, wanted, "{which:?} {order:?}");
+    }
 }
 
 #[test]
 fn another_store_is_damage(rt: HostRuntime) -> Result<(), Fail> {
-    let mut own = MemDisk::new(rt.alloc(), 4, 100_000, 100)?;
-    let mut broken = Fused::new(MemDisk::new(rt.alloc(), 4, 100_000, 100)?, 0);
-    let mut empty = MemDisk::new(rt.alloc(), 4, 100_000, 100)?;
-    let mut core = fresh(rt.alloc())?;
-    other_stores_are_damage(&rt, &mut core, &mut own, &mut broken, &mut empty)
+    let own = Store {
+        slots: 4,
+        calls: u64::MAX,
+    };
+    Ok(run(&rt, rt.alloc(), own, Case::Others)?)
 }

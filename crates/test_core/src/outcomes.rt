@@ -1,8 +1,10 @@
 //! Outcomes of calls that aren't out.
-use crate::driving::{finish, fresh};
+use crate::cases::{Case, run};
+use crate::driving::{Answer, finish};
+use crate::start::THREE;
 use sd_command::{Refusal, Reply};
 use sd_core::{Core, Taken};
-use sd_disk::{Disk, MemDisk};
+use sd_disk::Disk;
 use sd_gate::{Worker, perform};
 use std::process::Abort;
 use std::test::Fail;
@@ -21,26 +23,22 @@ fn hand_to_another<D: Disk>(from: &mut Core, to: &mut Core, disk: &mut D) -> Rep
 }
 
 /// The outcome of another core's request is refused and dropped; the core goes on.
-fn drops_the_outcome_of_another(
+pub(crate) fn drops_the_outcome_of_another<D: Disk>(
     rt: &impl Abort,
     core: &mut Core,
     other: &mut Core,
-    disk: &mut MemDisk,
-) -> Result<(), Fail> {
+    disk: &mut D,
+) {
     assert_eq!(rt; core.reopen(), Reply::Worked);
     assert_eq!(rt; other.reopen(), Reply::Worked);
     assert_eq!(rt;
         hand_to_another(other, core, disk),
         Reply::Refused(Refusal::Idle)
     );
-    assert_eq!(rt; finish(core, disk, Worker::Opener), Reply::Reopened(None));
-    Ok(())
+    assert_eq!(rt; finish(core, disk, Worker::Opener), Answer::Reopened(None));
 }
 
 #[test]
 fn a_strange_outcome_is_dropped(rt: HostRuntime) -> Result<(), Fail> {
-    let mut disk = MemDisk::new(rt.alloc(), 3, 100_000, 100)?;
-    let mut core = fresh(rt.alloc())?;
-    let mut other = fresh(rt.alloc())?;
-    drops_the_outcome_of_another(&rt, &mut core, &mut other, &mut disk)
+    Ok(run(&rt, rt.alloc(), THREE, Case::Strange)?)
 }

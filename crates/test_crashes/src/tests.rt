@@ -1,7 +1,8 @@
 //! Crashes behind each device call of runs, and runs of which each call fails.
+use std::alloc::Global;
 use std::process::Abort;
 use std::test::Fail;
-use world_trials::{Failing, Figures, Line, try_by_chance, try_lines};
+use world_trials::{Failing, Figures, Line, Trouble, try_by_chance, try_lines};
 
 /// More device calls than any of the runs makes.
 const MOST: u64 = 500;
@@ -69,86 +70,123 @@ const AGAIN: [Line; 6] = [
 
 /// Each crash of a run leaves what it may, and so many checkpoints are acknowledged.
 fn is_right(
-    rt: &(impl Abort + AllocGlobal),
+    rt: &impl Abort,
+    alloc: Global,
     before: &[Line],
     lines: &[Line],
     acked: u64,
-) -> Result<(), Fail> {
-    let figures = try_lines(rt.alloc(), before, lines, Failing::Nothing)?;
-    assert!(rt; figures.is_right(), "{figures:?}");
-    assert_eq!(rt; figures.acked, acked);
-    assert!(rt; figures.pending > 0 && figures.last > 0);
+) -> Result<(), Trouble> {
+    let figures = try_lines(alloc, before, lines, Failing::Nothing)?;
+    let crashed = figures.pending > 0 && figures.last > 0;
+    assert!(rt;
+        figures.is_right() && crashed && figures.acked == acked,
+        "{figures:?}"
+    );
     Ok(())
 }
 
-/// Each call of a run fails in turn, and is made or dropped: a crash behind it, and one at the end, leaves what it may, and
-/// a checkpoint is acknowledged at least.
-fn is_right_where_calls_fail(
-    rt: &(impl Abort + AllocGlobal),
+/// A call of a run fails: a crash behind it, and one at the end, leaves what it may, and a checkpoint is acknowledged at
+/// least. Returns whether a call failed.
+fn fails(
+    rt: &impl Abort,
+    alloc: Global,
     before: &[Line],
     lines: &[Line],
-) -> Result<(), Fail> {
+    failing: Failing,
+) -> Result<bool, Trouble> {
+    let figures = try_lines(alloc, before, lines, failing)?;
+    let acked = figures.events == 0 || figures.acked > 0;
+    assert!(rt; figures.is_right() && acked, "{figures:?}, {failing:?}");
+    Ok(figures.events == 0 || figures.failed > 0)
+}
+
+/// Each call of a run fails in turn, and is made or dropped. Returns whether a run came of which no call failed.
+fn each_fails(
+    rt: &impl Abort,
+    alloc: Global,
+    before: &[Line],
+    lines: &[Line],
+) -> Result<bool, Trouble> {
     for calls in 0..MOST {
-        let mut fails = false;
-        for failing in [Failing::Made(calls), Failing::Dropped(calls)] {
-            let figures = try_lines(rt.alloc(), before, lines, failing)?;
-            assert!(rt; figures.is_right(), "{figures:?}, {failing:?}");
-            assert!(rt; figures.events == 0 || figures.acked > 0, "{failing:?}");
-            fails |= figures.events == 0 || figures.failed > 0;
-        }
-        if !fails {
-            return Ok(());
+        let made = fails(rt, alloc, before, lines, Failing::Made(calls))?;
+        let dropped = fails(rt, alloc, before, lines, Failing::Dropped(calls))?;
+        if !made && !dropped {
+            return Ok(true);
         }
     }
-    Err(Fail::from("a run of which no call fails"))
+    Ok(false)
+}
+
+/// Each call of a run fails in turn, up to a run of which no call fails.
+fn is_right_where_calls_fail(
+    rt: &impl Abort,
+    alloc: Global,
+    before: &[Line],
+    lines: &[Line],
+) -> Result<(), Trouble> {
+    let ended = each_fails(rt, alloc, before, lines)?;
+    assert!(rt; ended, "no run of which no call fails");
+    Ok(())
 }
 
 /// A crash comes behind each call of two checkpoints.
 #[test]
 fn two_checkpoints(rt: HostRuntime) -> Result<(), Fail> {
-    is_right(&rt, &NONE, &TWO, 2)
+    Ok(is_right(&rt, rt.alloc(), &NONE, &TWO, 2)?)
 }
 
 /// A crash comes behind each call of a checkpoint of two pre-dumps, between whose steps bytes are stored.
 #[test]
 fn a_checkpoint_in_rounds(rt: HostRuntime) -> Result<(), Fail> {
-    is_right(&rt, &TWO, &ROUNDS, 2)
+    Ok(is_right(&rt, rt.alloc(), &TWO, &ROUNDS, 2)?)
 }
 
 /// A crash comes behind each call of a checkpoint that is cancelled, and of the next one.
 #[test]
 fn a_checkpoint_that_is_cancelled(rt: HostRuntime) -> Result<(), Fail> {
-    is_right(&rt, &TWO, &CANCEL, 2)
+    Ok(is_right(&rt, rt.alloc(), &TWO, &CANCEL, 2)?)
 }
 
 /// A crash comes behind each call of a store that is opened again, and of its checkpoints.
 #[test]
 fn a_store_that_is_opened_again(rt: HostRuntime) -> Result<(), Fail> {
-    is_right(&rt, &TWO, &AGAIN, 2)
+    Ok(is_right(&rt, rt.alloc(), &TWO, &AGAIN, 2)?)
 }
 
 /// Of two checkpoints each call fails in turn.
 #[test]
 fn two_checkpoints_of_which_calls_fail(rt: HostRuntime) -> Result<(), Fail> {
-    is_right_where_calls_fail(&rt, &NONE, &TWO)
+    Ok(is_right_where_calls_fail(&rt, rt.alloc(), &NONE, &TWO)?)
 }
 
 /// The same of a checkpoint in rounds.
 #[test]
 fn rounds_of_which_calls_fail(rt: HostRuntime) -> Result<(), Fail> {
-    is_right_where_calls_fail(&rt, &TWO, &ROUNDS)
+    Ok(is_right_where_calls_fail(&rt, rt.alloc(), &TWO, &ROUNDS)?)
 }
 
 /// The same of one that is cancelled.
 #[test]
 fn cancels_of_which_calls_fail(rt: HostRuntime) -> Result<(), Fail> {
-    is_right_where_calls_fail(&rt, &TWO, &CANCEL)
+    Ok(is_right_where_calls_fail(&rt, rt.alloc(), &TWO, &CANCEL)?)
 }
 
 /// The same of a store that is opened again.
 #[test]
 fn openings_of_which_calls_fail(rt: HostRuntime) -> Result<(), Fail> {
-    is_right_where_calls_fail(&rt, &TWO, &AGAIN)
+    Ok(is_right_where_calls_fail(&rt, rt.alloc(), &TWO, &AGAIN)?)
+}
+
+/// Runs a list of events by chance, whose crashes leave what they may.
+fn is_right_by_chance(
+    rt: &impl Abort,
+    alloc: Global,
+    seed: u64,
+    figures: &mut Figures,
+) -> Result<(), Trouble> {
+    try_by_chance(alloc, seed, figures)?;
+    assert!(rt; figures.is_right(), "{figures:?} at seed {seed}");
+    Ok(())
 }
 
 /// Lists of events by chance.
@@ -156,8 +194,7 @@ fn openings_of_which_calls_fail(rt: HostRuntime) -> Result<(), Fail> {
 fn lists_by_chance(rt: HostRuntime) -> Result<(), Fail> {
     let mut figures = Figures::default();
     for seed in 0..LISTS {
-        try_by_chance(rt.alloc(), seed, &mut figures)?;
-        assert!(rt; figures.is_right(), "{figures:?} at seed {seed}");
+        is_right_by_chance(&rt, rt.alloc(), seed, &mut figures)?;
     }
     assert_eq!(rt; figures.lists, LISTS);
     Ok(())

@@ -4,8 +4,6 @@
 #[cfg(test)]
 mod journals;
 #[cfg(test)]
-mod receipts;
-#[cfg(test)]
 mod replays;
 #[cfg(test)]
 mod rows;

@@ -2,8 +2,16 @@
 #![tactic(auto)]
 
 #[cfg(test)]
+mod deeds;
+#[cfg(test)]
 mod drive;
+#[cfg(test)]
+mod facts;
+#[cfg(test)]
+mod parts;
 #[cfg(test)]
 mod rows;
 #[cfg(test)]
 mod slots;
+#[cfg(test)]
+mod stop;

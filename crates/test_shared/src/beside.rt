@@ -1,7 +1,8 @@
 //! Mutators that store while a dumper's device call is held.
+use crate::cases::Store;
+use crate::jobs::Job;
 use crate::mutator::{Mutator, load, store};
 use sd_command::{Command, Refusal, Reply};
-use sd_disk::MemDisk;
 use sd_journal::Receipt;
 use sd_shared::{Hold, Seat, Shared, Thaw};
 use std::alloc::Global;
@@ -71,7 +72,7 @@ impl<R: Clock> Hold for Gate<'_, R> {
 /// Makes a command in one of the two ways.
 fn call<R: Wait>(
     rt: &R,
-    shared: &Shared<MemDisk>,
+    shared: &Shared<Store>,
     seat: &mut Seat,
     way: Way,
     command: Command,
@@ -86,7 +87,7 @@ fn call<R: Wait>(
 #[derive(Drop)]
 struct Place<'a, R> {
     rt: &'a R,
-    shared: &'a Shared<MemDisk>,
+    shared: &'a Shared<Store>,
     way: Way,
     alloc: Global,
     page: u64,
@@ -103,6 +104,7 @@ impl<R: Wait + Clock> Place<'_, R> {
 
     /// Tries a command once: whether it was done, and isn't to be tried again.
     fn try_once(&self, mutator: &mut Mutator<'_>, command: Command) -> Result<bool, Refusal> {
+        mutator.make_room()?;
         match call(self.rt, self.shared, mutator.seat, self.way, command) {
             Ok(receipt) => match mutator.keep(receipt)? {
                 None => Ok(true),
@@ -112,6 +114,7 @@ impl<R: Wait + Clock> Place<'_, R> {
                 },
                 Some(why) => Err(why),
             },
+            Err(Refusal::OutOfMemory) => Ok(false),
             Err(Refusal::LockBusy) => {
                 thread::sleep(self.rt, Duration::from_micros(10));
                 Ok(false)
@@ -120,7 +123,7 @@ impl<R: Wait + Clock> Place<'_, R> {
         }
     }
 
-    /// Makes a command, again after each thaw.
+    /// Makes a command, again after each thaw, and where memory was refused.
     fn make(&self, mutator: &mut Mutator<'_>, number: Option<u64>) -> Result<(), Refusal> {
         for _ in 0..TRIES {
             if self.try_once(mutator, self.command(number)?)? {
@@ -144,10 +147,18 @@ impl<R: Wait + Clock> Place<'_, R> {
     }
 }
 
+/// Makes a checkpoint of one round to its end. The mutators begin at the latest when the dumper was first answered.
+fn save<R: Wait + Clock>(rt: &R, shared: &Shared<Store>, gate: &Gate<'_, R>) -> Reply {
+    let job = Job::Saving(1);
+    let reply = job.run(rt, shared, gate);
+    gate.flags.begun.store(1, Ordering::SeqCst);
+    job.end(rt, shared, gate, reply)
+}
+
 /// A checkpoint of one round beside two mutators. Returns the dumper's reply and what the mutators ended with.
 fn run_beside<R: Threads + Wait + Clock + Sync>(
     rt: &R,
-    shared: &Shared<MemDisk>,
+    shared: &Shared<Store>,
     places: (&Place<'_, R>, &Place<'_, R>),
     mutators: (&mut Mutator<'_>, &mut Mutator<'_>),
     flags: &Flags,
@@ -156,7 +167,7 @@ fn run_beside<R: Threads + Wait + Clock + Sync>(
     let (first, last) = mutators;
     thread::join(
         rt,
-        || shared.run_dumper(rt, 1, &gate),
+        || save(rt, shared, &gate),
         || {
             thread::join(
                 rt,
@@ -172,7 +183,7 @@ fn run_beside<R: Threads + Wait + Clock + Sync>(
 pub(crate) fn save_beside<R: Threads + Wait + Clock + Abort + Sync>(
     rt: &R,
     alloc: Global,
-    shared: &Shared<MemDisk>,
+    shared: &Shared<Store>,
     mutators: (&mut Mutator<'_>, &mut Mutator<'_>),
     way: Way,
 ) {

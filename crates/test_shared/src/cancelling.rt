@@ -1,7 +1,7 @@
 //! A checkpoint that another thread cancels.
+use crate::cases::Store;
 use crate::holds::Free;
 use sd_command::{Refusal, Reply};
-use sd_disk::MemDisk;
 use sd_shared::Shared;
 use std::sync::Wait;
 use std::thread;
@@ -16,7 +16,7 @@ const TRIES: u64 = 100_000_000;
 /// Makes checkpoints until one is refused. Returns the refusal, and keeps the numbers that were acknowledged.
 fn save_until_refused<R: Wait>(
     rt: &R,
-    shared: &Shared<MemDisk>,
+    shared: &Shared<Store>,
     acks: &mut Vec<u64>,
 ) -> Option<Refusal> {
     for _ in 0..CHECKPOINTS {
@@ -34,7 +34,7 @@ fn save_until_refused<R: Wait>(
 }
 
 /// Tries to cancel until a checkpoint was cancelled. Returns whether one was.
-fn cancel_one<R: Wait>(rt: &R, shared: &Shared<MemDisk>) -> bool {
+fn cancel_one<R: Wait>(rt: &R, shared: &Shared<Store>) -> bool {
     for _ in 0..TRIES {
         if let Reply::Cancelled(_) = shared.cancel(rt) {
             return true;
@@ -46,7 +46,7 @@ fn cancel_one<R: Wait>(rt: &R, shared: &Shared<MemDisk>) -> bool {
 /// Cancels a checkpoint while it is made. Returns what its dumper was answered, and whether it was cancelled.
 pub(crate) fn cancel_beside<R: Threads + Wait + Sync>(
     rt: &R,
-    shared: &Shared<MemDisk>,
+    shared: &Shared<Store>,
     acks: &mut Vec<u64>,
 ) -> (Option<Refusal>, bool) {
     thread::join(

@@ -1,21 +1,33 @@
-//! A shared core over a store of eight slots, what is done with it, and its closing. Only this file owns one.
+//! A shared core over a store of eight slots, what is done with it, and its closing. Only this file owns one. Cores aren't
+//! dropped: the process of a test ends with them, and a drop of one takes the prover minutes.
 use crate::beside::{Way, save_beside};
 use crate::cancelling::cancel_beside;
+use crate::device::Device;
+use crate::falling::falls;
 use crate::holds::{Free, merges_in_13_calls};
+use crate::jobs::Job;
 use crate::mutator::Mutator;
 use crate::told::Told;
 use sd_command::{Refusal, Reply};
 use sd_core::Core;
-use sd_disk::MemDisk;
+use sd_disk::{Disk, Fused, MemDisk};
 use sd_journal::CloseFault;
+use sd_restore::Fault;
 use sd_shared::{Seat, Shared, Thaw};
-use sd_world::audit;
+use sd_world::{OpenFault, audit};
 use std::alloc::{AllocError, Global};
+use std::mem::forget;
 use std::process::Abort;
 use std::sync::Wait;
 use std::test::Fail;
 use std::thread::Threads;
 use std::time::Clock;
+
+/// The disk of these tests, of which a call may fail, or all may be dropped.
+pub(crate) type Store = Device<Fused<MemDisk>>;
+
+/// How many device calls come before the first page's write of a dump, in a store that was empty.
+const CALLS_BEFORE_A_PAGE: u64 = 43;
 
 /// What is done with a shared core.
 #[derive(Clone, Copy)]
@@ -32,24 +44,69 @@ enum Case {
     Beside(Way),
     /// A checkpoint that is cancelled.
     Cancelled,
+    /// The device fails while all is frozen.
+    Falls,
+    /// A checkpoint on a disk that drops what it is given.
+    Dropped,
 }
 
-fn store(alloc: Global) -> Result<MemDisk, AllocError> {
-    MemDisk::new(alloc, 8, 1_000_000, 10_000)
+impl Case {
+    /// After how many device calls one fails.
+    fn fuse(self) -> u64 {
+        match self {
+            Case::Falls => CALLS_BEFORE_A_PAGE,
+            _ => u64::MAX,
+        }
+    }
+
+    /// Whether the disk drops what it is given.
+    fn drops(self) -> bool {
+        matches!(self, Case::Dropped)
+    }
+
+    /// How many pages are mapped.
+    fn pages(self) -> u64 {
+        match self {
+            Case::Merged | Case::Falls => 1,
+            _ => 2,
+        }
+    }
 }
 
-/// Opens a store for two seats.
-fn open(alloc: Global) -> Result<(Shared<MemDisk>, Vec<Seat>), Fail> {
-    match Shared::open(alloc, store(alloc)?, 64, 2) {
+/// An empty disk, where memory is refused once at most.
+fn empty(alloc: Global) -> Result<MemDisk, AllocError> {
+    match MemDisk::new(alloc, 8, 1_000_000, 10_000) {
+        Ok(disk) => Ok(disk),
+        Err(_) => MemDisk::new(alloc, 8, 1_000_000, 10_000),
+    }
+}
+
+fn store(alloc: Global, case: Case) -> Result<Store, AllocError> {
+    Ok(Device {
+        disk: Fused::new(empty(alloc)?, case.fuse()),
+        drops: case.drops(),
+    })
+}
+
+/// Opens a store for two seats, again where memory is refused once.
+fn open(alloc: Global, case: Case) -> Result<(Shared<Store>, Vec<Seat>), Fail> {
+    let error = match Shared::open(alloc, store(alloc, case)?, 64, 2) {
+        Ok(opened) => return Ok(opened),
+        Err(error) => error,
+    };
+    if error.fault != OpenFault::OutOfMemory {
+        return Err(Fail::from("not opened"));
+    }
+    match Shared::open(alloc, error.disk, 64, 2) {
         Ok(opened) => Ok(opened),
-        Err(_) => Err(Fail::from("not opened")),
+        Err(_) => Err(Fail::from("not opened again")),
     }
 }
 
 /// Makes a checkpoint without pre-dumps.
 fn save(
     rt: &(impl Abort + Wait),
-    shared: &Shared<MemDisk>,
+    shared: &Shared<Store>,
     acks: &mut Vec<u64>,
 ) -> Result<(), AllocError> {
     assert_eq!(rt; shared.run_dumper(rt, 0, &Free), Reply::Acked(1));
@@ -61,13 +118,19 @@ fn save(
 fn act<R: Threads + Wait + Clock + Abort + Sync>(
     rt: &R,
     alloc: Global,
-    shared: &Shared<MemDisk>,
+    shared: &Shared<Store>,
     case: Case,
     mutators: (&mut Mutator<'_>, &mut Mutator<'_>),
     acks: &mut Vec<u64>,
 ) -> Result<(), AllocError> {
     match case {
-        Case::Saved | Case::LacksReceipt | Case::TellsMore => save(rt, shared, acks),
+        Case::Saved | Case::LacksReceipt | Case::TellsMore | Case::Dropped => {
+            save(rt, shared, acks)
+        }
+        Case::Falls => {
+            falls(rt, shared, mutators.0);
+            Ok(())
+        }
         Case::Merged => {
             save(rt, shared, acks)?;
             merges_in_13_calls(rt, shared);
@@ -75,6 +138,7 @@ fn act<R: Threads + Wait + Clock + Abort + Sync>(
         }
         Case::Beside(way) => {
             save_beside(rt, alloc, shared, mutators, way);
+            assert_eq!(rt; Job::Merging.make(rt, shared, &Free), Reply::Merged(3));
             acks.push(1)?;
             Ok(())
         }
@@ -94,6 +158,9 @@ fn told(case: Case, first: Mutator<'_>, last: Mutator<'_>, acks: Vec<u64>) -> Re
         acks,
         fault: None,
     };
+    if told.receipts.reserve(last.receipts.len()).is_err() {
+        told.receipts.reserve(last.receipts.len())?;
+    }
     for receipt in last.receipts {
         told.receipts.push(receipt)?;
     }
@@ -111,11 +178,19 @@ fn told(case: Case, first: Mutator<'_>, last: Mutator<'_>, acks: Vec<u64>) -> Re
     Ok(told)
 }
 
+/// Room for acknowledgements, where memory is refused once at most.
+fn room_for_acks(alloc: Global) -> Result<Vec<u64>, AllocError> {
+    match Vec::with_capacity(alloc, 4) {
+        Ok(room) => Ok(room),
+        Err(_) => Vec::with_capacity(alloc, 4),
+    }
+}
+
 /// Opens the store of a shared core, maps a page or two, and does what a case says.
 fn work<R: Threads + Wait + Clock + Abort + Sync>(
     rt: &R,
     alloc: Global,
-    shared: &Shared<MemDisk>,
+    shared: &Shared<Store>,
     seats: &mut [Seat],
     case: Case,
 ) -> Result<Told, Fail> {
@@ -133,42 +208,45 @@ fn work<R: Threads + Wait + Clock + Abort + Sync>(
         seat: last,
         receipts,
     };
-    let pages = match case {
-        Case::Merged => 1,
-        _ => 2,
-    };
-    let mut acks = Vec::new(alloc);
-    assert_eq!(rt; shared.run_opener(rt, &Free), Reply::Reopened(None));
-    assert_eq!(rt; first.prepare(rt, alloc, shared, pages), Ok(()));
+    let mut acks = room_for_acks(alloc)?;
+    assert_eq!(rt; Job::Opening.make(rt, shared, &Free), Reply::Reopened(None));
+    assert_eq!(rt; first.prepare(rt, alloc, shared, case.pages()), Ok(()));
     act(rt, alloc, shared, case, (&mut first, &mut last), &mut acks)?;
     told(case, first, last, acks)
 }
 
-/// The run's own disk shows what its journal allows, and an empty one only where nothing was acknowledged.
+/// What an audit returns, again where memory is refused once.
+fn audit_again<D: Disk>(alloc: Global, core: &Core, disk: &mut D) -> Result<bool, Fault> {
+    match audit(alloc, core, disk) {
+        Err(Fault::OutOfMemory) => audit(alloc, core, disk),
+        found => found,
+    }
+}
+
+/// The run's own disk shows what its journal allows, unless it dropped what it was given; and an empty one only where nothing
+/// was acknowledged.
 fn audits(
     rt: &impl Abort,
     alloc: Global,
     core: &Core,
-    disk: &mut MemDisk,
+    disk: &mut Store,
     acks: &[u64],
 ) -> Result<(), Fail> {
-    let mut other = store(alloc)?;
-    assert_eq!(rt; audit(alloc, core, disk), Ok(true));
-    assert_eq!(rt; audit(alloc, core, &mut other), Ok(acks.is_empty()));
+    let mut other = empty(alloc)?;
+    let is_kept = !disk.drops;
+    assert_eq!(rt; audit_again(alloc, core, disk), Ok(is_kept));
+    assert_eq!(rt; audit_again(alloc, core, &mut other), Ok(acks.is_empty()));
     Ok(())
 }
 
 /// Closes with what was told, which is answered as it says.
-fn closes(
-    rt: &impl Abort,
-    alloc: Global,
-    shared: Shared<MemDisk>,
-    told: &Told,
-) -> Result<(), Fail> {
+fn closes(rt: &impl Abort, alloc: Global, shared: Shared<Store>, told: &Told) -> Result<(), Fail> {
     match shared.close(&told.receipts, &told.acks) {
         Ok((core, mut disk)) => {
             assert_eq!(rt; told.fault, None);
-            audits(rt, alloc, &core, &mut disk, &told.acks)
+            let audited = audits(rt, alloc, &core, &mut disk, &told.acks);
+            forget(core);
+            audited
         }
         Err(fault) => {
             assert_eq!(rt; told.fault, Some(fault));
@@ -182,10 +260,13 @@ fn run<R: Threads + Wait + Clock + Abort + Sync>(
     alloc: Global,
     case: Case,
 ) -> Result<(), Fail> {
-    let (shared, mut seats) = open(alloc)?;
+    let (shared, mut seats) = open(alloc, case)?;
     match work(rt, alloc, &shared, &mut seats, case) {
         Ok(told) => closes(rt, alloc, shared, &told),
-        Err(fail) => Err(fail),
+        Err(fail) => {
+            forget(shared);
+            Err(fail)
+        }
     }
 }
 
@@ -223,4 +304,16 @@ fn threads_that_try(rt: HostRuntime) -> Result<(), Fail> {
 #[test]
 fn a_cancelled_dumper_is_idle(rt: HostRuntime) -> Result<(), Fail> {
     run(&rt, rt.alloc(), Case::Cancelled)
+}
+
+/// The device fails while all is frozen: whoever waits for the thaw is told that the store is down.
+#[test]
+fn a_store_that_falls_ends_a_wait(rt: HostRuntime) -> Result<(), Fail> {
+    run(&rt, rt.alloc(), Case::Falls)
+}
+
+/// A disk drops what it is given, and the audit isn't true.
+#[test]
+fn drops_device_calls(rt: HostRuntime) -> Result<(), Fail> {
+    run(&rt, rt.alloc(), Case::Dropped)
 }

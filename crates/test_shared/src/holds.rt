@@ -1,6 +1,7 @@
 //! Holds are told of each device call.
+use crate::cases::Store;
+use crate::jobs::Job;
 use sd_command::Reply;
-use sd_disk::MemDisk;
 use sd_shared::{Hold, Shared};
 use std::process::Abort;
 use std::sync::Wait;
@@ -28,9 +29,9 @@ impl Hold for Counting<'_> {
 }
 
 /// On a fresh store, after a checkpoint without rounds of which one page isn't all zeros, a merge makes 13 device calls.
-pub(crate) fn merges_in_13_calls(rt: &(impl Abort + Wait), shared: &Shared<MemDisk>) {
+pub(crate) fn merges_in_13_calls(rt: &(impl Abort + Wait), shared: &Shared<Store>) {
     let calls = AtomicU64::new(0);
     let hold = Counting { calls: &calls };
-    assert_eq!(rt; shared.run_merger(rt, &hold), Reply::Merged(2));
+    assert_eq!(rt; Job::Merging.run(rt, shared, &hold), Reply::Merged(2));
     assert_eq!(rt; calls.load(Ordering::SeqCst), 13);
 }

@@ -8,7 +8,13 @@ mod cancelling;
 #[cfg(test)]
 mod cases;
 #[cfg(test)]
+mod device;
+#[cfg(test)]
+mod falling;
+#[cfg(test)]
 mod holds;
+#[cfg(test)]
+mod jobs;
 #[cfg(test)]
 mod mutator;
 #[cfg(test)]

@@ -1,7 +1,7 @@
 //! A seat that makes commands, and keeps its receipts.
+use crate::cases::Store;
 use sd_areas::{Prot, SpaceId};
 use sd_command::{Bytes, Command, Refusal, Reply};
-use sd_disk::MemDisk;
 use sd_journal::Receipt;
 use sd_shared::{Seat, Shared};
 use std::alloc::{AllocError, Global};
@@ -18,6 +18,20 @@ pub(crate) struct Mutator<'a> {
 }
 
 impl Mutator<'_> {
+    /// Makes room for a receipt, where memory is refused once at most.
+    ///
+    /// # Errors
+    ///
+    /// `OutOfMemory` where it is refused again.
+    pub(crate) fn make_room(&mut self) -> Result<(), Refusal> {
+        for _ in 0..2 {
+            if self.receipts.reserve(1).is_ok() {
+                return Ok(());
+            }
+        }
+        Err(Refusal::OutOfMemory)
+    }
+
     /// Keeps a receipt, and returns its reply's refusal, if it is one.
     pub(crate) fn keep(&mut self, receipt: Receipt) -> Result<Option<Refusal>, Refusal> {
         let refused = match receipt.reply {
@@ -38,11 +52,31 @@ impl Mutator<'_> {
     pub(crate) fn make(
         &mut self,
         rt: &impl Wait,
-        shared: &Shared<MemDisk>,
+        shared: &Shared<Store>,
         command: Command,
     ) -> Result<Option<Refusal>, Refusal> {
+        self.make_room()?;
         let receipt = shared.call(rt, self.seat, command)?;
         self.keep(receipt)
+    }
+
+    /// Makes one of the first commands, again where memory is refused once.
+    fn make_first(
+        &mut self,
+        rt: &impl Wait,
+        alloc: Global,
+        shared: &Shared<Store>,
+        first: First,
+    ) -> Result<(), Refusal> {
+        for _ in 0..2 {
+            match self.make(rt, shared, first.command(alloc)?) {
+                Ok(None) => return Ok(()),
+                Ok(Some(why)) => return Err(why),
+                Err(Refusal::OutOfMemory) => {}
+                Err(why) => return Err(why),
+            }
+        }
+        Err(Refusal::OutOfMemory)
     }
 
     /// Maps so many pages, and stores a number into each.
@@ -50,14 +84,32 @@ impl Mutator<'_> {
         &mut self,
         rt: &impl Wait,
         alloc: Global,
-        shared: &Shared<MemDisk>,
+        shared: &Shared<Store>,
         pages: u64,
     ) -> Result<(), Refusal> {
-        self.make(rt, shared, mmap(pages))?;
+        self.make_first(rt, alloc, shared, First::Map(pages))?;
         for page in 0..pages {
-            self.make(rt, shared, store(alloc, page, 7)?)?;
+            self.make_first(rt, alloc, shared, First::Store(page))?;
         }
         Ok(())
+    }
+}
+
+/// The commands that come before a case.
+#[derive(Clone, Copy)]
+enum First {
+    /// So many pages are mapped.
+    Map(u64),
+    /// A number is stored into a page.
+    Store(u64),
+}
+
+impl First {
+    fn command(self, alloc: Global) -> Result<Command, Refusal> {
+        match self {
+            First::Map(pages) => Ok(mmap(pages)),
+            First::Store(page) => store(alloc, page, 7),
+        }
     }
 }
 
@@ -79,8 +131,16 @@ fn address_of(page: u64) -> u64 {
     FIRST.saturating_add(page.saturating_mul(4096))
 }
 
+/// Room for eight bytes, where memory is refused once at most.
+fn room_for_8(alloc: Global) -> Result<Vec<u8>, AllocError> {
+    match Vec::with_capacity(alloc, 8) {
+        Ok(room) => Ok(room),
+        Err(_) => Vec::with_capacity(alloc, 8),
+    }
+}
+
 fn bytes_of(alloc: Global, number: u64) -> Result<Bytes, AllocError> {
-    let mut bytes = Vec::new(alloc);
+    let mut bytes = room_for_8(alloc)?;
     for byte in number.to_le_bytes() {
         bytes.push(byte)?;
     }

@@ -1,10 +1,41 @@
 //! Builders of headers, tables, files and stores.
 use sd_areas::{Area, PAGE_SIZE, PageNo, Prot, SpaceId};
-use sd_disk::{Disk, MemDisk};
+use sd_disk::{DeviceError, Disk, MemDisk};
 use sd_image::{Header, Kind, Run, RunKind, SpaceTable, Table, encode_header, encode_table};
-use std::alloc::{AllocError, Global};
-use std::process::Abort;
-use std::test::Fail;
+use std::alloc::{AllocError, AllocFailed, Global};
+
+/// Why something isn't built, or isn't asked for.
+#[derive(Clone, Copy, Debug)]
+pub(crate) enum Unbuilt {
+    /// Memory ran out.
+    OutOfMemory,
+    /// A number is no page's.
+    NoPage,
+    /// There is no such slot, or no byte to write into it.
+    NoSlot,
+    /// A device call failed where none may.
+    Device,
+    /// Bytes that tests begin with aren't read as they should be.
+    Unread,
+}
+
+impl From<AllocError> for Unbuilt {
+    fn from(_error: AllocError) -> Unbuilt {
+        Unbuilt::OutOfMemory
+    }
+}
+
+impl<T: Drop> From<AllocFailed<T>> for Unbuilt {
+    fn from(_error: AllocFailed<T>) -> Unbuilt {
+        Unbuilt::OutOfMemory
+    }
+}
+
+impl From<DeviceError> for Unbuilt {
+    fn from(_error: DeviceError) -> Unbuilt {
+        Unbuilt::Device
+    }
+}
 
 /// The space of most tables.
 pub(crate) const SPACE: u64 = 1;
@@ -16,8 +47,11 @@ pub(crate) const READ_WRITE: Prot = Prot {
     execute: false,
 };
 
-pub(crate) fn page(number: u64) -> Result<PageNo, Fail> {
-    Ok(PageNo::new(number).ok_or("a page")?)
+pub(crate) fn page(number: u64) -> Result<PageNo, Unbuilt> {
+    match PageNo::new(number) {
+        Some(page) => Ok(page),
+        None => Err(Unbuilt::NoPage),
+    }
 }
 
 /// A dump that stands for itself.
@@ -50,7 +84,7 @@ pub(crate) fn merged(serial: u64, stands_for: u64, checkpoint: u64) -> Header {
 }
 
 /// Runs with these first pages, counts and kinds.
-pub(crate) fn runs(alloc: Global, rows: &[(u64, u64, RunKind)]) -> Result<Vec<Run>, Fail> {
+pub(crate) fn runs(alloc: Global, rows: &[(u64, u64, RunKind)]) -> Result<Vec<Run>, Unbuilt> {
     let mut runs = Vec::new(alloc);
     for (first, count, kind) in rows {
         runs.push(Run {
@@ -86,6 +120,17 @@ pub(crate) fn table(alloc: Global, spaces: u64, runs: &[Run]) -> Result<Table, A
     Ok(Table { spaces: tables })
 }
 
+/// Puts the file of an image with this table behind a file's gate.
+fn put_file(file: &mut Vec<u8>, header: &Header, text: &[u8], byte: u8) -> Result<(), AllocError> {
+    file.push(0xA5)?;
+    file.extend_from_slice(&encode_header(header))?;
+    for _ in 0..header.pages {
+        file.extend_from_slice(&[byte; PAGE_SIZE])?;
+    }
+    file.extend_from_slice(text)?;
+    Ok(())
+}
+
 /// The file of an image with this table, whose data pages are filled with a byte.
 pub(crate) fn file_of(
     alloc: Global,
@@ -93,34 +138,32 @@ pub(crate) fn file_of(
     table: &Table,
     pages: u64,
     byte: u8,
-) -> Result<Vec<u8>, Fail> {
+) -> Result<Vec<u8>, AllocError> {
     let text = encode_table(alloc, table)?;
     let header = Header {
         pages,
         table_len: text.len() as u64,
         ..header
     };
-    let mut file = vec![in alloc; 0xA5]?;
-    file.extend_from_slice(&encode_header(&header))?;
-    for _ in 0..pages {
-        file.extend_from_slice(&[byte; PAGE_SIZE])?;
-    }
-    file.extend_from_slice(&text)?;
+    let mut file = Vec::new(alloc);
+    put_file(&mut file, &header, &text, byte)?;
     Ok(file)
 }
 
+/// The table of one page 0x10 of space 1, of this kind.
+fn one_page(alloc: Global, kind: RunKind) -> Result<Table, Unbuilt> {
+    let runs = runs(alloc, &[(0x10, 1, kind)])?;
+    Ok(table(alloc, 1, &runs)?)
+}
+
 /// The file of an image with page 0x10 of space 1: a data page filled with this byte, or a page that its parent has.
-pub(crate) fn file(alloc: Global, header: Header, filled: Option<u8>) -> Result<Vec<u8>, Fail> {
-    match filled {
-        Some(byte) => {
-            let runs = runs(alloc, &[(0x10, 1, RunKind::Data)])?;
-            file_of(alloc, header, &table(alloc, 1, &runs)?, 1, byte)
-        }
-        None => {
-            let runs = runs(alloc, &[(0x10, 1, RunKind::Parent)])?;
-            file_of(alloc, header, &table(alloc, 1, &runs)?, 0, 0)
-        }
-    }
+pub(crate) fn file(alloc: Global, header: Header, filled: Option<u8>) -> Result<Vec<u8>, Unbuilt> {
+    let (kind, pages, byte) = match filled {
+        Some(byte) => (RunKind::Data, 1, byte),
+        None => (RunKind::Parent, 0, 0),
+    };
+    let table = one_page(alloc, kind)?;
+    Ok(file_of(alloc, header, &table, pages, byte)?)
 }
 
 /// An image with page 0x10 of space 1: its header, and what `file` takes.
@@ -161,39 +204,43 @@ pub(crate) const THIRD_MERGED: Image = (THIRD, Some(9));
 
 /// Writes some bytes into a slot's file.
 pub(crate) fn put<D: Disk>(
-    rt: &impl Abort,
     disk: &mut D,
     slot: usize,
     at: usize,
     bytes: &[u8],
-) -> Result<(), Fail> {
-    assert!(rt; slot < disk.slots() && !bytes.is_empty());
-    disk.write_at(slot, at, bytes)?;
-    Ok(())
+) -> Result<(), Unbuilt> {
+    if slot < disk.slots() && !bytes.is_empty() {
+        disk.write_at(slot, at, bytes)?;
+        Ok(())
+    } else {
+        Err(Unbuilt::NoSlot)
+    }
 }
 
-/// A disk of four slots, the first of them with this file.
-pub(crate) fn store(rt: &(impl Abort + AllocGlobal), file: &[u8]) -> Result<MemDisk, Fail> {
-    let mut disk = MemDisk::new(rt.alloc(), 4, 80_000, 64)?;
-    put(rt, &mut disk, 0, 0, file)?;
-    Ok(disk)
+/// Writes the file of an image into a slot.
+pub(crate) fn put_image(
+    alloc: Global,
+    disk: &mut MemDisk,
+    slot: usize,
+    image: Image,
+) -> Result<(), Unbuilt> {
+    let (header, filled) = image;
+    put(disk, slot, 0, &file(alloc, header, filled)?)
 }
 
-fn put_images(
-    rt: &impl Abort,
+/// Writes files of these images into the first slots.
+pub(crate) fn put_images(
     alloc: Global,
     disk: &mut MemDisk,
     images: &[Image],
-) -> Result<(), Fail> {
-    for (slot, (header, filled)) in images.iter().enumerate() {
-        put(rt, disk, slot, 0, &file(alloc, *header, *filled)?)?;
+) -> Result<(), Unbuilt> {
+    for (slot, image) in images.iter().enumerate() {
+        put_image(alloc, disk, slot, *image)?;
     }
     Ok(())
 }
 
-/// A disk of four slots, the first of them with files of these images.
-pub(crate) fn store_of(rt: &(impl Abort + AllocGlobal), images: &[Image]) -> Result<MemDisk, Fail> {
-    let mut disk = MemDisk::new(rt.alloc(), 4, 80_000, 64)?;
-    put_images(rt, rt.alloc(), &mut disk, images)?;
-    Ok(disk)
+/// A disk of four slots.
+pub(crate) fn four_slots(alloc: Global) -> Result<MemDisk, AllocError> {
+    MemDisk::new(alloc, 4, 80_000, 64)
 }

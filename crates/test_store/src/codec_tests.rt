@@ -1,47 +1,54 @@
 //! Headers and tables, written and read.
-use crate::builders::{dump, merged, page, pre_dump, runs, table};
+use crate::builders::{Unbuilt, dump, merged, page, pre_dump, runs, table};
 use crate::example::{HEADER, LEN, TABLE, example, first_bytes, hello_page};
 use sd_image::{
     Header, Reason, Run, RunKind, Table, TableError, decode_header, decode_table, encode_header,
     encode_table, push_page,
 };
-use std::alloc::Global;
-use std::process::Abort;
+use std::alloc::{AllocError, Global};
 use std::test::Fail;
 
 /// The table of the example file.
-fn example_table(alloc: Global) -> Result<Table, Fail> {
-    Ok(table(alloc, 1, &runs(alloc, &[(16, 1, RunKind::Data)])?)?)
+fn example_table(alloc: Global) -> Result<Table, Unbuilt> {
+    let runs = runs(alloc, &[(16, 1, RunKind::Data)])?;
+    Ok(table(alloc, 1, &runs)?)
 }
 
 #[test]
 fn the_header_is_read_and_written(rt: HostRuntime) {
     let bytes = first_bytes();
-    assert_eq!(rt; decode_header(&bytes, LEN), Ok(HEADER));
-    assert_eq!(rt; encode_header(&HEADER).as_slice(), &bytes[1..4096]);
+    assert!(rt; decode_header(&bytes, LEN) == Ok(HEADER));
+    assert!(rt; encode_header(&HEADER).as_slice() == &bytes[1..4096]);
 }
 
-fn write_example(written: &mut Vec<u8>, alloc: Global) -> Result<(), Fail> {
+fn write_example(written: &mut Vec<u8>, table: &[u8]) -> Result<(), AllocError> {
     written.push(0xa5)?;
     written.extend_from_slice(&encode_header(&HEADER))?;
     written.extend_from_slice(&hello_page())?;
-    written.extend_from_slice(&encode_table(alloc, &example_table(alloc)?)?)?;
+    written.extend_from_slice(table)?;
     Ok(())
 }
 
-fn is_the_example(rt: &impl Abort, alloc: Global, written: &[u8]) -> Result<(), Fail> {
-    assert_eq!(rt; written.len() as u64, LEN);
+/// What is written of the example's header, page and table.
+fn written_example(alloc: Global) -> Result<Vec<u8>, Unbuilt> {
+    let table = encode_table(alloc, &example_table(alloc)?)?;
+    let mut written = Vec::new(alloc);
+    write_example(&mut written, &table)?;
+    Ok(written)
+}
+
+/// Whether these are the example's bytes.
+fn is_the_example(alloc: Global, written: &[u8]) -> Result<bool, AllocError> {
     let file = example(alloc)?;
-    assert_eq!(rt; written, file.as_slice());
-    Ok(())
+    Ok(written.len() as u64 == LEN && written == file.as_slice())
 }
 
 /// The file of one page that begins with `hello`: what is written around the page is the file's, byte for byte.
 #[test]
 fn the_example_file_is_written(rt: HostRuntime) -> Result<(), Fail> {
-    let mut written = Vec::new(rt.alloc());
-    write_example(&mut written, rt.alloc())?;
-    is_the_example(&rt, rt.alloc(), &written)
+    let written = written_example(rt.alloc())?;
+    assert!(rt; is_the_example(rt.alloc(), &written)?);
+    Ok(())
 }
 
 /// Each kind, with the greatest numbers that fit.
@@ -81,39 +88,48 @@ fn read_again(alloc: Global) -> Result<Table, TableError> {
     }
 }
 
-fn is_written_again(rt: &impl Abort, alloc: Global, table: &Table) -> Result<(), Fail> {
-    let written = match encode_table(alloc, table) {
-        Ok(bytes) => bytes,
-        Err(_) => encode_table(alloc, table)?,
-    };
-    assert_eq!(rt; written.as_slice(), TABLE.as_slice());
-    Ok(())
+/// What is written of a table, where memory was refused at the second try.
+fn write_again(alloc: Global, table: &Table) -> Result<Vec<u8>, AllocError> {
+    match encode_table(alloc, table) {
+        Ok(bytes) => Ok(bytes),
+        Err(_) => encode_table(alloc, table),
+    }
+}
+
+/// Whether the example's table is read, and written as it was.
+fn is_written_again(alloc: Global) -> Result<bool, AllocError> {
+    match read_again(alloc) {
+        Ok(table) => Ok(write_again(alloc, &table)?.as_slice() == TABLE.as_slice()),
+        Err(_) => Ok(false),
+    }
+}
+
+/// Whether a table of fewer pages than the header's is refused, or memory is.
+fn is_refused(alloc: Global) -> bool {
+    let more = Header { pages: 2, ..HEADER };
+    matches!(
+        decode_table(alloc, &more, &TABLE),
+        Err(TableError::OutOfMemory) | Err(TableError::Damaged(Reason::Total))
+    )
 }
 
 /// Where memory is refused the call reports that, and the next one succeeds: no allocation that fails makes bytes
 /// damaged, or damaged bytes whole.
 #[test]
 fn refused_memory_is_reported(rt: HostRuntime) -> Result<(), Fail> {
-    let table = read_again(rt.alloc()).ok().ok_or("a table")?;
-    is_written_again(&rt, rt.alloc(), &table)?;
-    let more = Header { pages: 2, ..HEADER };
-    assert!(rt;
-        matches!(
-            decode_table(rt.alloc(), &more, &TABLE),
-            Err(TableError::OutOfMemory) | Err(TableError::Damaged(Reason::Total))
-        )
-    );
+    let written = is_written_again(rt.alloc())?;
+    assert!(rt; written && is_refused(rt.alloc()));
     Ok(())
 }
 
 /// The runs of these pages, each pushed with its kind.
-fn pushed(alloc: Global, rows: &[(u64, RunKind)]) -> Result<Vec<Run>, Fail> {
+fn pushed(alloc: Global, rows: &[(u64, RunKind)]) -> Result<Vec<Run>, Unbuilt> {
     let mut runs = Vec::new(alloc);
     let mut end = 0u64;
     for (number, kind) in rows {
         let page = page(*number)?;
         if page.number() < end {
-            return Err("the pages rise".into());
+            return Err(Unbuilt::NoPage);
         }
         push_page(&mut runs, page, *kind)?;
         end = page.number() + 1;
@@ -121,24 +137,34 @@ fn pushed(alloc: Global, rows: &[(u64, RunKind)]) -> Result<Vec<Run>, Fail> {
     Ok(runs)
 }
 
+/// Whether these pages become these runs.
+fn are_runs(
+    alloc: Global,
+    pages: &[(u64, RunKind)],
+    wanted: &[(u64, u64, RunKind)],
+) -> Result<bool, Unbuilt> {
+    let wanted = runs(alloc, wanted)?;
+    Ok(pushed(alloc, pages)?.as_slice() == wanted.as_slice())
+}
+
+const PAGES: [(u64, RunKind); 6] = [
+    (3, RunKind::Data),
+    (4, RunKind::Data),
+    (5, RunKind::Zero),
+    (6, RunKind::Parent),
+    (8, RunKind::Parent),
+    (9, RunKind::Parent),
+];
+
+const MAXIMAL: [(u64, u64, RunKind); 4] = [
+    (3, 2, RunKind::Data),
+    (5, 1, RunKind::Zero),
+    (6, 1, RunKind::Parent),
+    (8, 2, RunKind::Parent),
+];
+
 #[test]
 fn pushed_pages_become_maximal_runs(rt: HostRuntime) -> Result<(), Fail> {
-    let rows = [
-        (3, RunKind::Data),
-        (4, RunKind::Data),
-        (5, RunKind::Zero),
-        (6, RunKind::Parent),
-        (8, RunKind::Parent),
-        (9, RunKind::Parent),
-    ];
-    let wanted = [
-        (3, 2, RunKind::Data),
-        (5, 1, RunKind::Zero),
-        (6, 1, RunKind::Parent),
-        (8, 2, RunKind::Parent),
-    ];
-    let wanted = runs(rt.alloc(), &wanted)?;
-    let pushed = pushed(rt.alloc(), &rows)?;
-    assert!(rt; pushed.as_slice() == wanted.as_slice());
+    assert!(rt; are_runs(rt.alloc(), &PAGES, &MAXIMAL)?);
     Ok(())
 }

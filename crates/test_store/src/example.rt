@@ -1,7 +1,6 @@
 //! The file of a dump of one page that begins with `hello`, byte for byte.
 use sd_image::{Header, Kind};
-use std::alloc::Global;
-use std::test::Fail;
+use std::alloc::{AllocError, Global};
 
 /// Bytes 0 to 63 of the file; zeros follow up to byte 4,095.
 pub(crate) const HEAD: [u8; 64] = [
@@ -49,7 +48,7 @@ pub(crate) fn hello_page() -> [u8; 4096] {
 }
 
 /// The whole file.
-pub(crate) fn example(alloc: Global) -> Result<Vec<u8>, Fail> {
+pub(crate) fn example(alloc: Global) -> Result<Vec<u8>, AllocError> {
     let mut file = Vec::new(alloc);
     file.extend_from_slice(&first_bytes())?;
     file.extend_from_slice(&hello_page())?;

@@ -4,6 +4,8 @@
 #[cfg(test)]
 mod builders;
 #[cfg(test)]
+mod catalog_deeds;
+#[cfg(test)]
 mod catalog_tests;
 #[cfg(test)]
 mod codec_tests;
@@ -15,3 +17,5 @@ mod example;
 mod reason_tests;
 #[cfg(test)]
 mod restore_tests;
+#[cfg(test)]
+mod store_deeds;

@@ -6,11 +6,11 @@ use std::process::Abort;
 use std::test::Fail;
 
 /// Why bytes are no table, or none where they are one.
-fn reason_of(alloc: Global, header: &Header, table: &[u8]) -> Result<Option<Reason>, Fail> {
+fn reason_of(alloc: Global, header: &Header, table: &[u8]) -> Result<Option<Reason>, AllocError> {
     match decode_table(alloc, header, table) {
         Ok(_) => Ok(None),
         Err(TableError::Damaged(reason)) => Ok(Some(reason)),
-        Err(TableError::OutOfMemory) => Err("out of memory".into()),
+        Err(TableError::OutOfMemory) => Err(AllocError),
     }
 }
 
@@ -83,7 +83,7 @@ fn put_range(
     count: u64,
     what: u32,
     zero: u32,
-) -> Result<(), Fail> {
+) -> Result<(), AllocError> {
     bytes.extend_from_slice(&first.to_le_bytes())?;
     bytes.extend_from_slice(&count.to_le_bytes())?;
     bytes.extend_from_slice(&what.to_le_bytes())?;
@@ -91,24 +91,29 @@ fn put_range(
     Ok(())
 }
 
+/// Puts the bytes of an item behind the others.
+fn put_item(bytes: &mut Vec<u8>, item: Item) -> Result<(), AllocError> {
+    match item {
+        Item::Head(spaces, zero) => {
+            bytes.extend_from_slice(&spaces.to_le_bytes())?;
+            bytes.extend_from_slice(&zero.to_le_bytes())?;
+            Ok(())
+        }
+        Item::Space(number, areas, runs) => {
+            bytes.extend_from_slice(&number.to_le_bytes())?;
+            bytes.extend_from_slice(&areas.to_le_bytes())?;
+            bytes.extend_from_slice(&runs.to_le_bytes())?;
+            Ok(())
+        }
+        Item::Range(first, count, what, zero) => put_range(bytes, first, count, what, zero),
+    }
+}
+
 /// The bytes of these items, one behind the other.
-fn text(alloc: Global, items: &[Item]) -> Result<Vec<u8>, Fail> {
+fn text(alloc: Global, items: &[Item]) -> Result<Vec<u8>, AllocError> {
     let mut bytes = Vec::new(alloc);
     for item in items {
-        match *item {
-            Item::Head(spaces, zero) => {
-                bytes.extend_from_slice(&spaces.to_le_bytes())?;
-                bytes.extend_from_slice(&zero.to_le_bytes())?;
-            }
-            Item::Space(number, areas, runs) => {
-                bytes.extend_from_slice(&number.to_le_bytes())?;
-                bytes.extend_from_slice(&areas.to_le_bytes())?;
-                bytes.extend_from_slice(&runs.to_le_bytes())?;
-            }
-            Item::Range(first, count, what, zero) => {
-                put_range(&mut bytes, first, count, what, zero)?;
-            }
-        }
+        put_item(&mut bytes, *item)?;
     }
     Ok(bytes)
 }
@@ -145,27 +150,41 @@ const MERGED: Header = Header {
     ..WHOLE
 };
 
+/// The reason against the items, behind the header.
+fn reason_against(
+    alloc: Global,
+    header: &Header,
+    items: &[Item],
+) -> Result<Option<Reason>, AllocError> {
+    let table = text(alloc, items)?;
+    reason_of(alloc, header, &table)
+}
+
 /// Checks that the items, behind the header, have this reason against them.
 fn check(
     rt: &(impl Abort + AllocGlobal),
     header: &Header,
     items: &[Item],
     reason: Option<Reason>,
-) -> Result<(), Fail> {
-    let table = text(rt.alloc(), items)?;
-    assert_eq!(rt; reason_of(rt.alloc(), header, &table)?, reason);
+) -> Result<(), AllocError> {
+    assert_eq!(rt; reason_against(rt.alloc(), header, items)?, reason);
     Ok(())
+}
+
+/// The reason against the front of a table, where it has so many bytes.
+fn reason_of_front(alloc: Global, len: usize) -> Result<Option<Reason>, AllocError> {
+    match TABLE.get(..len) {
+        Some(front) => reason_of(alloc, &HEADER, front),
+        None => Ok(None),
+    }
 }
 
 /// Each proper front of a table goes past its end.
 #[test]
 fn a_front_of_a_table_goes_past_its_end(rt: HostRuntime) -> Result<(), Fail> {
+    let wanted = Some(Reason::PastEnd);
     for len in 0..72 {
-        let front = TABLE.get(..len).ok_or("a front")?;
-        assert_eq!(rt;
-            reason_of(rt.alloc(), &HEADER, front)?,
-            Some(Reason::PastEnd)
-        );
+        assert_eq!(rt; reason_of_front(rt.alloc(), len)?, wanted);
     }
     Ok(())
 }
@@ -335,7 +354,7 @@ const IN_PARENT: [Item; 4] = [
 fn a_parent_run_needs_a_parent(rt: HostRuntime) -> Result<(), Fail> {
     check(&rt, &WHOLE, &IN_PARENT, Some(Reason::Run))?;
     check(&rt, &MERGED, &IN_PARENT, Some(Reason::Run))?;
-    check(&rt, &DUMP, &IN_PARENT, None)
+    Ok(check(&rt, &DUMP, &IN_PARENT, None)?)
 }
 
 /// Two runs that are not the pages 16 to 19.
@@ -357,7 +376,7 @@ fn the_end_of_a_space_has_its_reason(rt: HostRuntime) -> Result<(), Fail> {
         check(&rt, &DUMP, &items, wrong)?;
         check(&rt, &MERGED, &items, wrong)?;
     }
-    check(&rt, &PRE_DUMP, &[Head(1, 0), Space(1, 0, 0)], wrong)
+    Ok(check(&rt, &PRE_DUMP, &[Head(1, 0), Space(1, 0, 0)], wrong)?)
 }
 
 /// Two areas side by side, and a run over both.
@@ -371,7 +390,7 @@ const OVER_A_BORDER: [Item; 5] = [
 
 #[test]
 fn a_run_may_go_over_a_border(rt: HostRuntime) -> Result<(), Fail> {
-    check(&rt, &DUMP, &OVER_A_BORDER, None)
+    Ok(check(&rt, &DUMP, &OVER_A_BORDER, None)?)
 }
 
 /// A table without spaces, and a byte behind it.
@@ -427,7 +446,7 @@ fn too_many_pages_have_their_reason(rt: HostRuntime) -> Result<(), Fail> {
         check(&rt, &DUMP, &items, reason)?;
         check(&rt, &MERGED, &items, reason)?;
     }
-    check(&rt, &PRE_DUMP, &ALL_PAGES, None)
+    Ok(check(&rt, &PRE_DUMP, &ALL_PAGES, None)?)
 }
 
 /// Items of which two are at fault, and the reason of the first.
@@ -499,7 +518,7 @@ fn the_limit_of_areas_is_taken(rt: HostRuntime) -> Result<(), Fail> {
     let mut items = Vec::new(rt.alloc());
     push_limit(&mut items)?;
     let header = Header { pages: 512, ..DUMP };
-    check(&rt, &header, &items, None)
+    Ok(check(&rt, &header, &items, None)?)
 }
 
 const EACH_KIND: [Item; 10] = [
@@ -515,18 +534,24 @@ const EACH_KIND: [Item; 10] = [
     Range(END - 1, 1, PARENT, 0),
 ];
 
-/// A table with two data pages is written as it was.
-fn is_written_again(rt: &impl Abort, alloc: Global, bytes: &[u8]) -> Result<(), Fail> {
+/// What is written of the table with two data pages that is read of some bytes.
+fn written_again(alloc: Global, bytes: &[u8]) -> Result<Vec<u8>, AllocError> {
     let header = Header { pages: 2, ..DUMP };
-    let table = decode_table(alloc, &header, bytes).ok().ok_or("a table")?;
-    let again = encode_table(alloc, &table)?;
-    assert_eq!(rt; again.as_slice(), bytes);
-    Ok(())
+    match decode_table(alloc, &header, bytes) {
+        Ok(table) => encode_table(alloc, &table),
+        Err(_) => Ok(Vec::new(alloc)),
+    }
+}
+
+/// Whether the bytes of these items are written as they were.
+fn is_written_again(alloc: Global, items: &[Item]) -> Result<bool, AllocError> {
+    let bytes = text(alloc, items)?;
+    Ok(written_again(alloc, &bytes)?.as_slice() == bytes.as_slice())
 }
 
 /// What is read of a table with every kind of run is written as it was.
 #[test]
 fn a_table_of_each_kind_of_run_is_read_back(rt: HostRuntime) -> Result<(), Fail> {
-    let bytes = text(rt.alloc(), &EACH_KIND)?;
-    is_written_again(&rt, rt.alloc(), &bytes)
+    assert!(rt; is_written_again(rt.alloc(), &EACH_KIND)?);
+    Ok(())
 }

@@ -1,15 +1,11 @@
 //! Stores that are scanned, restored and verified.
-use crate::builders::{
-    FIRST, Image, READ_WRITE, SECOND, SPACE, THIRD_MERGED, dump, file, file_of, page, put, runs,
-    store, store_of, table,
-};
+use crate::builders::{FIRST, Image, SECOND, THIRD_MERGED, Unbuilt};
 use crate::example::example;
-use sd_areas::{Snapshot, SpaceId};
-use sd_chain::{Catalog, Found};
-use sd_disk::{Disk, Fused, MemDisk};
-use sd_image::{Header, Reason, RunKind, decode_header};
-use sd_restore::{Fault, Report, Scanned, decode_slot, newest_checkpoint, restore, scan, verify};
-use std::alloc::Global;
+use crate::store_deeds::{Deed, Files, is_restored, restoring_fault, run, verifying_fault};
+use sd_chain::Found;
+use sd_image::{Header, Kind, Reason, decode_header};
+use sd_restore::{Fault, Scanned, decode_slot, newest_checkpoint};
+use std::alloc::{AllocError, Global};
 use std::process::Abort;
 use std::test::Fail;
 
@@ -18,302 +14,283 @@ const ALL: [Image; 3] = [FIRST, SECOND, THIRD_MERGED];
 
 const TWO: [Image; 2] = [FIRST, SECOND];
 
-/// The catalog of a store.
-fn scanned(alloc: Global, disk: &mut MemDisk) -> Result<Catalog, Fail> {
-    Ok(scan(alloc, disk).ok().ok_or("a catalog")?)
-}
+const IN_SLOT_0: Option<Found> = Some(Found::Data {
+    slot: 0,
+    offset: 4096,
+});
 
-/// The serial of the newest image, and where its chain has page 0x10.
-fn newest_in(catalog: &Catalog) -> Result<(u64, Option<Found>), Fail> {
-    let tip = catalog.tip().ok_or("an image")?.header().serial;
-    Ok((tip, catalog.resolve(tip, SpaceId::new(SPACE), page(0x10)?)))
-}
+const IN_SLOT_2: Option<Found> = Some(Found::Data {
+    slot: 2,
+    offset: 4096,
+});
 
-/// The same of a store of these images.
-fn newest(rt: &(impl Abort + AllocGlobal), images: &[Image]) -> Result<(u64, Option<Found>), Fail> {
-    let mut disk = store_of(rt, images)?;
-    newest_in(&scanned(rt.alloc(), &mut disk)?)
-}
+/// Stores, and what they show.
+type Rows = &'static [(&'static [Image], &'static [Deed<'static>])];
 
-#[test]
-fn a_chain_is_in_the_catalog(rt: HostRuntime) -> Result<(), Fail> {
-    let at = |slot: usize| Some(Found::Data { slot, offset: 4096 });
-    assert_eq!(rt; newest(&rt, &TWO)?, (2, at(0)));
-    assert_eq!(rt; newest(&rt, &ALL)?, (2, at(2)));
-    assert_eq!(rt; newest(&rt, &[SECOND])?, (2, None));
-    Ok(())
-}
-
-fn has_only_the_second(rt: &impl Abort, catalog: &Catalog) {
-    assert!(rt; catalog.image(1).is_none());
-    assert_eq!(rt; catalog.image(2).map(|image| image.slot()), Some(1));
-}
-
-fn is_closed(rt: &impl Abort, alloc: Global, disk: &mut MemDisk) -> Result<(), Fail> {
-    put(rt, disk, 0, 0, &[0])?;
-    has_only_the_second(rt, &scanned(alloc, disk)?);
-    Ok(())
-}
-
-#[test]
-fn closed_slots_have_no_image(rt: HostRuntime) -> Result<(), Fail> {
-    let mut disk = store_of(&rt, &TWO)?;
-    is_closed(&rt, rt.alloc(), &mut disk)
-}
-
-/// Scanning, restoring and verifying find one fault.
-fn faults(rt: &impl Abort, alloc: Global, disk: &mut MemDisk, fault: Fault) {
-    assert_eq!(rt; scan(alloc, disk).err(), Some(fault));
-    assert_eq!(rt; restore(alloc, disk).err(), Some(fault));
-    assert_eq!(rt; verify(alloc, disk).err(), Some(fault));
-}
-
-/// A serial stands twice in a store of these images: in this slot for the second time.
-fn is_double(rt: &(impl Abort + AllocGlobal), images: &[Image], slot: usize) -> Result<(), Fail> {
-    let mut disk = store_of(rt, images)?;
-    let reason = Reason::DoubleSerial;
-    faults(rt, rt.alloc(), &mut disk, Fault::Damaged { slot, reason });
-    Ok(())
-}
-
-/// The least slot whose serial stands in an earlier one is named, also where a chain is broken.
-#[test]
-fn a_serial_stands_once(rt: HostRuntime) -> Result<(), Fail> {
-    is_double(&rt, &[FIRST, SECOND, FIRST], 2)?;
-    is_double(&rt, &[FIRST, FIRST, FIRST], 1)?;
-    is_double(&rt, &[SECOND, SECOND], 1)
-}
-
-fn names_the_faulty_file(rt: &impl Abort, alloc: Global, disk: &mut MemDisk) -> Result<(), Fail> {
-    put(rt, disk, 2, 1, &[0])?;
-    let reason = Reason::Magic;
-    faults(rt, alloc, disk, Fault::Damaged { slot: 2, reason });
-    put(rt, disk, 0, 8192, &[0])?;
-    let reason = Reason::Total;
-    faults(rt, alloc, disk, Fault::Damaged { slot: 0, reason });
-    Ok(())
-}
-
-/// A slot with a faulty header or table comes before a serial that stands twice, also where its number is greater.
-#[test]
-fn a_faulty_file_comes_first(rt: HostRuntime) -> Result<(), Fail> {
-    let mut disk = store_of(&rt, &[FIRST, FIRST, SECOND])?;
-    names_the_faulty_file(&rt, rt.alloc(), &mut disk)
-}
-
-/// A space of a restored memory has page 0x10, filled with this byte, and no other page.
-fn space_has(rt: &impl Abort, snapshot: &Snapshot, space: SpaceId, byte: u8) -> Result<(), Fail> {
-    let pages = snapshot.spaces.get(&space).ok_or("the space")?;
-    assert_eq!(rt; pages.len(), 1);
-    let found = pages.get(&page(0x10)?).ok_or("the page")?;
-    assert_eq!(rt; found.prot, READ_WRITE);
-    assert!(rt; found.bytes.iter().all(|b| *b == byte));
-    Ok(())
-}
-
-/// A restored memory has so many spaces, and page 0x10 in each of them.
-fn has(rt: &impl Abort, snapshot: &Snapshot, spaces: u64, byte: u8) -> Result<(), Fail> {
-    assert_eq!(rt; snapshot.spaces.len() as u64, spaces);
-    for space in 1..spaces.saturating_add(1) {
-        space_has(rt, snapshot, SpaceId::new(space), byte)?;
+/// Each store of these images shows what its deeds say.
+fn show(rt: &impl Abort, alloc: Global, rows: Rows) -> Result<(), Unbuilt> {
+    for (images, deeds) in rows {
+        run(rt, alloc, Files::Images(images), deeds)?;
     }
     Ok(())
 }
 
-/// A memory is restored that shows this checkpoint, with page 0x10 in each of so many spaces.
-fn restores<D: Disk>(
-    rt: &impl Abort,
-    alloc: Global,
-    disk: &mut D,
-    checkpoint: u64,
-    spaces: u64,
-    byte: u8,
-) -> Result<(), Fail> {
-    let snapshot = restore(alloc, disk).ok().ok_or("a memory")?;
-    assert_eq!(rt; snapshot.checkpoint, checkpoint);
-    has(rt, &snapshot, spaces, byte)
+/// The serial of the newest image, and where its chain has page 0x10.
+const NEWEST: Rows = &[
+    (&TWO, &[Deed::Newest(2, IN_SLOT_0)]),
+    (&ALL, &[Deed::Newest(2, IN_SLOT_2)]),
+    (&[SECOND], &[Deed::Newest(2, None)]),
+];
+
+#[test]
+fn a_chain_is_in_the_catalog(rt: HostRuntime) -> Result<(), Fail> {
+    Ok(show(&rt, rt.alloc(), NEWEST)?)
 }
 
-/// A store is in order, with this checkpoint and so many images.
-fn is_in_order(
-    rt: &impl Abort,
-    alloc: Global,
-    disk: &mut MemDisk,
-    checkpoint: Option<u64>,
-    images: usize,
-) -> Result<(), Fail> {
-    let report = verify(alloc, disk).ok().ok_or("a report")?;
-    assert_eq!(rt; report, Report { checkpoint, images });
-    Ok(())
+const CLOSED: Rows = &[(&TWO, &[Deed::Put(0, 0, 0), Deed::OnlyTheSecond])];
+
+#[test]
+fn closed_slots_have_no_image(rt: HostRuntime) -> Result<(), Fail> {
+    Ok(show(&rt, rt.alloc(), CLOSED)?)
 }
 
-/// A store of these images shows this checkpoint, with a page filled with this byte.
-fn shows(
-    rt: &(impl Abort + AllocGlobal),
-    images: &[Image],
-    checkpoint: u64,
-    byte: u8,
-) -> Result<(), Fail> {
-    let mut disk = store_of(rt, images)?;
-    restores(rt, rt.alloc(), &mut disk, checkpoint, 1, byte)?;
-    is_in_order(rt, rt.alloc(), &mut disk, Some(checkpoint), images.len())
+/// A serial stands twice, in this slot for the second time.
+const DOUBLE_IN_1: Deed<'static> = Deed::Faults(Fault::Damaged {
+    slot: 1,
+    reason: Reason::DoubleSerial,
+});
+
+const DOUBLE_IN_2: Deed<'static> = Deed::Faults(Fault::Damaged {
+    slot: 2,
+    reason: Reason::DoubleSerial,
+});
+
+const DOUBLE: Rows = &[
+    (&[FIRST, SECOND, FIRST], &[DOUBLE_IN_2]),
+    (&[FIRST, FIRST, FIRST], &[DOUBLE_IN_1]),
+    (&[SECOND, SECOND], &[DOUBLE_IN_1]),
+];
+
+/// The least slot whose serial stands in an earlier one is named, also where a chain is broken.
+#[test]
+fn a_serial_stands_once(rt: HostRuntime) -> Result<(), Fail> {
+    Ok(show(&rt, rt.alloc(), DOUBLE)?)
 }
+
+const MAGIC_IN_2: Deed<'static> = Deed::Faults(Fault::Damaged {
+    slot: 2,
+    reason: Reason::Magic,
+});
+
+const TOTAL_IN_0: Deed<'static> = Deed::Faults(Fault::Damaged {
+    slot: 0,
+    reason: Reason::Total,
+});
+
+const FAULTY: Rows = &[(
+    &[FIRST, FIRST, SECOND],
+    &[
+        Deed::Put(2, 1, 0),
+        MAGIC_IN_2,
+        Deed::Put(0, 8192, 0),
+        TOTAL_IN_0,
+    ],
+)];
+
+/// A slot with a faulty header or table comes before a serial that stands twice, also where its number is greater.
+#[test]
+fn a_faulty_file_comes_first(rt: HostRuntime) -> Result<(), Fail> {
+    Ok(show(&rt, rt.alloc(), FAULTY)?)
+}
+
+const IN_PARENT: Rows = &[
+    (
+        &[FIRST],
+        &[Deed::Restores(1, 1, 7), Deed::InOrder(Some(1), 1)],
+    ),
+    (&TWO, &[Deed::Restores(2, 1, 7), Deed::InOrder(Some(2), 2)]),
+    (&ALL, &[Deed::Restores(2, 1, 9), Deed::InOrder(Some(2), 3)]),
+];
 
 /// The second dump has its page in the first, or in the merged image that stands for the first.
 #[test]
 fn second_checkpoint_is_parent_run(rt: HostRuntime) -> Result<(), Fail> {
-    shows(&rt, &[FIRST], 1, 7)?;
-    shows(&rt, &TWO, 2, 7)?;
-    shows(&rt, &ALL, 2, 9)
+    Ok(show(&rt, rt.alloc(), IN_PARENT)?)
 }
+
+const OLDER: Header = Header {
+    kind: Kind::Dump,
+    serial: 1007,
+    stands_for: 1007,
+    parent: 0,
+    checkpoint: 5,
+    pages: 0,
+    table_len: 0,
+};
+
+const NEWER: Header = Header {
+    serial: 1003,
+    stands_for: 1003,
+    checkpoint: 6,
+    ..OLDER
+};
+
+const AGAIN: Header = Header {
+    serial: 1009,
+    stands_for: 1009,
+    ..NEWER
+};
+
+const NEWEST_RESTORED: Rows = &[
+    (
+        &[(OLDER, Some(3)), (NEWER, Some(4))],
+        &[Deed::Restores(6, 1, 4), Deed::InOrder(Some(6), 2)],
+    ),
+    (
+        &[(OLDER, Some(3)), (NEWER, Some(4)), (AGAIN, Some(5))],
+        &[Deed::Restores(6, 1, 5), Deed::InOrder(Some(6), 3)],
+    ),
+];
 
 /// Of two dumps of one checkpoint the one with the greater serial is restored; of two serials the one with the greater
 /// checkpoint.
 #[test]
 fn the_newest_is_restored(rt: HostRuntime) -> Result<(), Fail> {
-    let older = (dump(1007, 5, 0), Some(3));
-    let newer = (dump(1003, 6, 0), Some(4));
-    let again = (dump(1009, 6, 0), Some(5));
-    shows(&rt, &[older, newer], 6, 4)?;
-    shows(&rt, &[older, newer, again], 6, 5)
+    Ok(show(&rt, rt.alloc(), NEWEST_RESTORED)?)
 }
 
 /// A store of one dump of sixteen spaces.
-fn sixteen_spaces(rt: &(impl Abort + AllocGlobal)) -> Result<MemDisk, Fail> {
-    let alloc: Global = rt.alloc();
-    let runs = runs(alloc, &[(0x10, 1, RunKind::Data)])?;
-    let table = table(alloc, 16, &runs)?;
-    let file = file_of(alloc, dump(1001, 4, 0), &table, 16, 6)?;
-    store(rt, &file)
-}
-
 #[test]
 fn sixteen_spaces_are_restored(rt: HostRuntime) -> Result<(), Fail> {
-    let mut disk = sixteen_spaces(&rt)?;
-    restores(&rt, rt.alloc(), &mut disk, 4, 16, 6)
+    let deeds = [Deed::Restores(4, 16, 6)];
+    Ok(run(&rt, rt.alloc(), Files::SixteenSpaces, &deeds)?)
 }
 
-/// Takes in an image in slot 0, and slot 1 without one.
-fn take_in_slots(
-    rt: &impl Abort,
+/// Takes in an image in slot 0, and slot 1 without one. Returns whether the image was decoded.
+fn are_taken_in(
     alloc: Global,
     scanned: &mut Scanned,
     header: Header,
     table: &[u8],
-) -> Result<(), Fail> {
-    assert!(rt; scanned.images < 16);
-    let decoded = decode_slot(alloc, 0, header, table).ok().ok_or("an image")?;
-    scanned.take_in(alloc, 0, Some(decoded))?;
-    assert!(rt; scanned.images < 16);
-    scanned.take_in(alloc, 1, None)?;
-    Ok(())
+) -> Result<bool, AllocError> {
+    let Ok(decoded) = decode_slot(alloc, 0, header, table) else {
+        return Ok(false);
+    };
+    if scanned.images < 16 {
+        scanned.take_in(alloc, 0, Some(decoded))?;
+    }
+    if scanned.images < 16 {
+        scanned.take_in(alloc, 1, None)?;
+    }
+    Ok(true)
 }
 
-fn has_one_image(rt: &impl Abort, scanned: &Scanned) {
-    assert!(rt; scanned.check().is_ok());
-    assert_eq!(rt; scanned.images, 1);
-    assert_eq!(rt; newest_checkpoint(&scanned.catalog), Some(1));
+/// Whether one image of checkpoint 1 was taken in.
+fn has_one_image(scanned: &Scanned) -> bool {
+    scanned.check().is_ok() && scanned.images == 1 && newest_checkpoint(&scanned.catalog) == Some(1)
 }
 
-/// An image of the example file is taken in, and one with another number of pages is damaged.
+/// The fault of a slot 5 with this header and table.
+fn fault_of(alloc: Global, header: Header, table: &[u8]) -> Option<Fault> {
+    decode_slot(alloc, 5, header, table).err()
+}
+
+/// Whether an image with this header and table is taken in, and one with another number of pages is damaged.
 fn takes_in(
-    rt: &impl Abort,
     alloc: Global,
     scanned: &mut Scanned,
-    file: &[u8],
-) -> Result<(), Fail> {
-    let first = file.get(..4096).ok_or("a header")?;
-    let header = decode_header(first, file.len() as u64).map_err(|_| "a header")?;
-    let table = file.get(8192..).ok_or("a table")?;
-    take_in_slots(rt, alloc, scanned, header, table)?;
-    has_one_image(rt, scanned);
-    let reason = Reason::Total;
+    header: Header,
+    table: &[u8],
+) -> Result<bool, AllocError> {
+    let taken = are_taken_in(alloc, scanned, header, table)?;
     let more = Header { pages: 2, ..header };
-    let fault = decode_slot(alloc, 5, more, table).err();
-    assert_eq!(rt; fault, Some(Fault::Damaged { slot: 5, reason }));
-    Ok(())
+    let fault = Fault::Damaged {
+        slot: 5,
+        reason: Reason::Total,
+    };
+    Ok(taken && has_one_image(scanned) && fault_of(alloc, more, table) == Some(fault))
+}
+
+/// The header of a file.
+fn header_of(file: &[u8]) -> Result<Header, Unbuilt> {
+    let Some(first) = file.get(..4096) else {
+        return Err(Unbuilt::Unread);
+    };
+    match decode_header(first, file.len() as u64) {
+        Ok(header) => Ok(header),
+        Err(_) => Err(Unbuilt::Unread),
+    }
+}
+
+/// Whether the image of a file is taken in.
+fn is_taken_in(alloc: Global, scanned: &mut Scanned, file: &[u8]) -> Result<bool, Unbuilt> {
+    let header = header_of(file)?;
+    match file.get(8192..) {
+        Some(table) => Ok(takes_in(alloc, scanned, header, table)?),
+        None => Err(Unbuilt::Unread),
+    }
 }
 
 /// Slot by slot, as an opener reads them: each slot is decoded from bytes that were read already.
 #[test]
 fn slots_are_taken_in_one_by_one(rt: HostRuntime) -> Result<(), Fail> {
     let file = example(rt.alloc())?;
-    takes_in(&rt, rt.alloc(), &mut Scanned::new(rt.alloc()), &file)
+    let taken = is_taken_in(rt.alloc(), &mut Scanned::new(rt.alloc()), &file)?;
+    assert!(rt; taken);
+    Ok(())
 }
+
+const THIRD: Header = Header {
+    kind: Kind::Dump,
+    serial: 3,
+    stands_for: 3,
+    parent: 2,
+    checkpoint: 3,
+    pages: 0,
+    table_len: 0,
+};
+
+/// The third dump has the page in the second, and that one in an image that isn't there.
+const BROKEN: Rows = &[(&[(THIRD, None), SECOND], &[Deed::Breaks(1)])];
 
 /// A chain that breaks is no fault of a scan.
-fn breaks(rt: &impl Abort, alloc: Global, disk: &mut MemDisk, slot: usize) {
-    let reason = Reason::Chain;
-    let fault = Some(Fault::Damaged { slot, reason });
-    assert!(rt; scan(alloc, disk).is_ok());
-    assert_eq!(rt; restore(alloc, disk).err(), fault);
-    assert_eq!(rt; verify(alloc, disk).err(), fault);
-}
-
-/// A store whose slot 0 is closed, with the second dump in slot 1.
-fn without_the_first(rt: &(impl Abort + AllocGlobal)) -> Result<MemDisk, Fail> {
-    let mut disk = store(rt, &[0])?;
-    let (header, filled) = SECOND;
-    put(rt, &mut disk, 1, 0, &file(rt.alloc(), header, filled)?)?;
-    Ok(disk)
-}
-
 #[test]
 fn a_broken_chain_is_named(rt: HostRuntime) -> Result<(), Fail> {
-    breaks(&rt, rt.alloc(), &mut without_the_first(&rt)?, 1);
-    // The third dump has the page in the second, and that one in an image that isn't there.
-    let third = (dump(3, 3, 2), None);
-    breaks(&rt, rt.alloc(), &mut store_of(&rt, &[third, SECOND])?, 1);
-    Ok(())
+    // Slot 0 is closed, and the second dump is in slot 1.
+    let deeds = [Deed::PutImage(1, SECOND), Deed::Breaks(1)];
+    run(&rt, rt.alloc(), Files::Bytes(&[0]), &deeds)?;
+    Ok(show(&rt, rt.alloc(), BROKEN)?)
 }
 
 #[test]
 fn an_empty_store_is_in_order(rt: HostRuntime) -> Result<(), Fail> {
-    let mut disk = MemDisk::new(rt.alloc(), 64, 20_000, 64)?;
-    assert_eq!(rt;
-        restore(rt.alloc(), &mut disk).err(),
-        Some(Fault::EmptyChain)
-    );
-    is_in_order(&rt, rt.alloc(), &mut disk, None, 0)
+    let deeds = [
+        Deed::RestoreFaults(Fault::EmptyChain),
+        Deed::InOrder(None, 0),
+    ];
+    Ok(run(&rt, rt.alloc(), Files::Nothing, &deeds)?)
 }
 
 /// A file of one byte is closed, also where that is an open gate.
 #[test]
 fn boundaries(rt: HostRuntime) -> Result<(), Fail> {
-    let mut disk = store(&rt, &[0xA5])?;
-    assert_eq!(rt;
-        restore(rt.alloc(), &mut disk).err(),
-        Some(Fault::EmptyChain)
-    );
-    Ok(())
-}
-
-fn reads_once(rt: &impl Abort, alloc: Global, disk: &mut MemDisk) {
-    assert!(rt; restore(alloc, disk).is_ok());
-    assert_eq!(rt; disk.reads(), 7);
-    assert!(rt; verify(alloc, disk).is_ok());
-    assert_eq!(rt; disk.reads(), 13);
+    let deeds = [Deed::RestoreFaults(Fault::EmptyChain)];
+    Ok(run(&rt, rt.alloc(), Files::Bytes(&[0xA5]), &deeds)?)
 }
 
 /// Two reads for each of three open slots, and for a restore one more for its page.
 #[test]
 fn each_page_is_read_once(rt: HostRuntime) -> Result<(), Fail> {
-    let mut disk = store_of(&rt, &ALL)?;
-    reads_once(&rt, rt.alloc(), &mut disk);
-    Ok(())
+    let deeds = [Deed::Reads(7, 13)];
+    Ok(run(&rt, rt.alloc(), Files::Images(&ALL), &deeds)?)
 }
 
-/// A store of two images, whose device fails behind so many calls.
-fn fused(rt: &(impl Abort + AllocGlobal), calls: u64) -> Result<Fused<MemDisk>, Fail> {
-    Ok(Fused::new(store_of(rt, &TWO)?, calls))
-}
-
-fn restoring_fault(rt: &(impl Abort + AllocGlobal), calls: u64) -> Result<Option<Fault>, Fail> {
-    Ok(restore(rt.alloc(), &mut fused(rt, calls)?).err())
-}
-
-fn verifying_fault(rt: &(impl Abort + AllocGlobal), calls: u64) -> Result<Option<Fault>, Fail> {
-    Ok(verify(rt.alloc(), &mut fused(rt, calls)?).err())
+/// Whether restoring and verifying fail as they should, where the device fails behind so many calls.
+fn fail_so(alloc: Global, calls: u64) -> Result<bool, Unbuilt> {
+    let device = Some(Fault::Device);
+    let verified = if calls < 8 { device } else { None };
+    let restored = restoring_fault(alloc, &TWO, calls)? == device;
+    Ok(restored && verifying_fault(alloc, &TWO, calls)? == verified)
 }
 
 /// Two open slots of four are asked with four lengths and four reads, and a restore reads a page besides. Whichever of
@@ -321,31 +298,38 @@ fn verifying_fault(rt: &(impl Abort + AllocGlobal), calls: u64) -> Result<Option
 #[test]
 fn a_call_that_fails_ends_it(rt: HostRuntime) -> Result<(), Fail> {
     for passed in 0..9u64 {
-        assert_eq!(rt; restoring_fault(&rt, passed)?, Some(Fault::Device));
-        let fault = if passed < 8 {
-            Some(Fault::Device)
-        } else {
-            None
-        };
-        assert_eq!(rt; verifying_fault(&rt, passed)?, fault);
+        assert!(rt; fail_so(rt.alloc(), passed)?, "behind {passed}");
     }
-    restores(&rt, rt.alloc(), &mut fused(&rt, 9)?, 2, 1, 7)
+    assert!(rt; is_restored(rt.alloc(), &TWO, 9)?);
+    Ok(())
+}
+
+/// Faults, with their numbers and their texts.
+const PRINTED: [(Fault, u8, &str); 4] = [
+    (Fault::EmptyChain, 20, "empty chain"),
+    (
+        Fault::Damaged {
+            slot: 1,
+            reason: Reason::Chain,
+        },
+        21,
+        "damaged 001 18",
+    ),
+    (Fault::Device, 22, "device"),
+    (Fault::OutOfMemory, 23, "out-of-memory"),
+];
+
+/// Whether a fault is printed so.
+fn prints(alloc: Global, fault: Fault, text: &str) -> Result<bool, AllocError> {
+    Ok(format!(in alloc; "{fault}")?.as_str() == text)
 }
 
 #[test]
 fn faults_are_printed(rt: HostRuntime) -> Result<(), Fail> {
-    let alloc = rt.alloc();
-    let reason = Reason::Chain;
-    let rows = [
-        (Fault::EmptyChain, 20, "empty chain"),
-        (Fault::Damaged { slot: 1, reason }, 21, "damaged 001 18"),
-        (Fault::Device, 22, "device"),
-        (Fault::OutOfMemory, 23, "out-of-memory"),
-    ];
-    assert_eq!(rt; reason.number(), 18);
-    for (fault, number, text) in &rows {
-        assert_eq!(rt; fault.number(), *number);
-        assert_eq!(rt; format!(in alloc; "{fault}")?.as_str(), *text);
+    assert_eq!(rt; Reason::Chain.number(), 18);
+    for (fault, number, text) in &PRINTED {
+        let printed = prints(rt.alloc(), *fault, text)?;
+        assert!(rt; printed && fault.number() == *number, "{fault}");
     }
     Ok(())
 }

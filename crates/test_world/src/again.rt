@@ -1,86 +1,60 @@
 //! Stores that are opened again.
-use crate::driver::{answers, open, runs};
-use sd_command::{Refusal, Reply};
-use sd_disk::{Disk, Fused, MemDisk};
-use sd_gate::Worker;
-use sd_world::{Event, World};
-use std::process::Abort;
+use crate::runs::{Part, asks};
+use crate::store::{Store, TWO};
 use std::test::Fail;
 
+/// An opener begins.
+const BEGINS: &str = "\
+reopen = worked
+reopen = refused 11 busy";
+
 /// An opener's device call: it is asked for, isn't asked for again, is made, and its outcome is taken.
-fn makes_a_call<D: Disk>(rt: &impl Abort, world: &mut World<D>) {
-    let opener = Worker::Opener;
-    answers(rt, world, Event::Work(opener), Reply::Worked);
-    answers(
-        rt,
-        world,
-        Event::Work(opener),
-        Reply::Refused(Refusal::Busy),
-    );
-    answers(rt, world, Event::Perform(opener), Reply::Worked);
-    answers(rt, world, Event::Work(opener), Reply::Worked);
-}
+const CALL: &str = "\
+work-opener = worked
+work-opener = refused 11 busy
+perform-opener = worked
+work-opener = worked";
+
+/// An opener's last step. Then it is idle, and the store isn't opened again.
+const ENDS: &str = "\
+work-opener = reopened none
+work-opener = refused 14 idle
+reopen = refused 11 busy";
 
 /// Opens an empty store of two slots again: of each a sync and a length, three events a call, and a last step.
-fn is_opened_again<D: Disk>(rt: &impl Abort, world: &mut World<D>) {
-    let opener = Worker::Opener;
-    answers(rt, world, Event::Reopen, Reply::Worked);
-    answers(rt, world, Event::Reopen, Reply::Refused(Refusal::Busy));
-    for _ in 0..4 {
-        makes_a_call(rt, world);
-    }
-    answers(rt, world, Event::Work(opener), Reply::Reopened(None));
-    answers(
-        rt,
-        world,
-        Event::Work(opener),
-        Reply::Refused(Refusal::Idle),
-    );
-    answers(rt, world, Event::Reopen, Reply::Refused(Refusal::Busy));
-}
+const OPENED_AGAIN: [Part<'static>; 6] = [
+    Part::Lines(BEGINS),
+    Part::Lines(CALL),
+    Part::Lines(CALL),
+    Part::Lines(CALL),
+    Part::Lines(CALL),
+    Part::Lines(ENDS),
+];
 
 #[test]
 fn an_empty_store_is_opened_again(rt: HostRuntime) -> Result<(), Fail> {
-    let disk = MemDisk::new(rt.alloc(), 2, 10_000, 100)?;
-    let mut world = open(rt.alloc(), disk)?;
-    is_opened_again(&rt, &mut world);
-    Ok(())
+    Ok(asks(&rt, rt.alloc(), TWO, &OPENED_AGAIN)?)
 }
 
 /// The opener's second call fails: the opener ends, and the store can be opened again.
-fn ends_with_its_failure<D: Disk>(rt: &impl Abort, world: &mut World<D>) -> Result<(), Fail> {
-    let opener = Worker::Opener;
-    let events = [
-        Event::Reopen,
-        Event::Work(opener),
-        Event::Perform(opener),
-        Event::Work(opener),
-        Event::Work(opener),
-        Event::Perform(opener),
-        Event::Work(opener),
-        Event::Work(opener),
-        Event::Begin(0),
-        Event::Reopen,
-    ];
-    let wanted = [
-        Reply::Worked,
-        Reply::Worked,
-        Reply::Worked,
-        Reply::Worked,
-        Reply::Worked,
-        Reply::Refused(Refusal::Device),
-        Reply::Refused(Refusal::StoreDown),
-        Reply::Refused(Refusal::Idle),
-        Reply::Refused(Refusal::NotOpen),
-        Reply::Worked,
-    ];
-    runs(rt, world, &events, &wanted)
-}
+const ENDS_WITH_ITS_FAILURE: &str = "\
+reopen = worked
+work-opener = worked
+perform-opener = worked
+work-opener = worked
+work-opener = worked
+perform-opener = refused 22 device
+work-opener = refused 13 store-down
+work-opener = refused 14 idle
+begin 0 = refused 10 not-open
+reopen = worked";
+
+/// The opening of the world makes 6 calls; the opener's second call is the one that fails.
+const FAILING: Store = Store { calls: 7, ..TWO };
+
+const FAILS: [Part<'static>; 1] = [Part::AtOnce(ENDS_WITH_ITS_FAILURE)];
 
 #[test]
 fn an_opener_ends_with_its_failure(rt: HostRuntime) -> Result<(), Fail> {
-    // The opening of the world makes 6 calls; the opener's second call is the one that fails.
-    let disk = Fused::new(MemDisk::new(rt.alloc(), 2, 10_000, 100)?, 7);
-    let mut world = open(rt.alloc(), disk)?;
-    ends_with_its_failure(&rt, &mut world)
+    Ok(asks(&rt, rt.alloc(), FAILING, &FAILS)?)
 }

@@ -1,43 +1,9 @@
 //! Checkpoints through a world.
-use crate::driver::{Driver, dropping_store, failing_store, store};
-use crate::lines::play;
-use sd_disk::{Fused, MemDisk};
-use std::alloc::Global;
+use crate::runs::{Part, asks, asks_again};
+use crate::store::{EIGHT, FOUR, Store, TWO};
+use std::alloc::{AllocError, Global};
 use std::process::Abort;
 use std::test::Fail;
-
-/// The slots of the stores of most tests.
-const SLOTS: usize = 8;
-
-/// Plays a script over a store in memory.
-fn plays(
-    rt: &impl Abort,
-    alloc: Global,
-    disk: Fused<MemDisk>,
-    script: &str,
-) -> Result<Driver, Fail> {
-    let mut driver = Driver::new(alloc, disk)?;
-    play(rt, alloc, &mut driver, script)?;
-    Ok(driver)
-}
-
-/// Plays a script over a store, and goes on with another one.
-fn plays_on(
-    rt: &impl Abort,
-    alloc: Global,
-    disk: Fused<MemDisk>,
-    first: &str,
-    second: &str,
-) -> Result<(), Fail> {
-    let mut driver = plays(rt, alloc, disk, first)?;
-    play(rt, alloc, &mut driver, second)
-}
-
-/// Plays a script in a second run, over what a first one left.
-fn plays_again(rt: &impl Abort, alloc: Global, first: Driver, second: &str) -> Result<(), Fail> {
-    let mut again = first.run_again(alloc)?;
-    play(rt, alloc, &mut again, second)
-}
 
 /// The first checkpoint of one page takes 37 events: the freeze is the tenth, and until then commands are answered.
 const STEPS: &str = "\
@@ -140,11 +106,15 @@ cancel = refused 11 busy
 begin 0 = refused 13 store-down
 merge = refused 13 store-down";
 
+/// The sync behind the gate fails.
+const SYNC_FAILS: Store = Store { calls: 56, ..EIGHT };
+
+const FOUND_PARTS: [Part<'static>; 2] = [Part::Lines(DOUBTFUL), Part::Lines(FOUND)];
+
 /// The sync behind the gate fails: the opener finds the checkpoint.
 #[test]
 fn doubtful_commit_is_found(rt: HostRuntime) -> Result<(), Fail> {
-    let disk = failing_store(rt.alloc(), SLOTS, 56)?;
-    plays_on(&rt, rt.alloc(), disk, DOUBTFUL, FOUND)
+    Ok(asks(&rt, rt.alloc(), SYNC_FAILS, &FOUND_PARTS)?)
 }
 
 const FOUND: &str = "\
@@ -154,11 +124,19 @@ load = bytes 01
 begin 0 = begun 3
 finish = acked 3";
 
+/// The write of the gate fails, and isn't made.
+const WRITE_FAILS: Store = Store {
+    calls: 55,
+    drops: true,
+    ..EIGHT
+};
+
+const NOT_FOUND_PARTS: [Part<'static>; 2] = [Part::Lines(DOUBTFUL), Part::Lines(NOT_FOUND)];
+
 /// The write of the gate fails, and isn't made: the opener finds the checkpoint before.
 #[test]
 fn doubtful_commit_is_not_found(rt: HostRuntime) -> Result<(), Fail> {
-    let disk = dropping_store(rt.alloc(), SLOTS, 55)?;
-    plays_on(&rt, rt.alloc(), disk, DOUBTFUL, NOT_FOUND)
+    Ok(asks(&rt, rt.alloc(), WRITE_FAILS, &NOT_FOUND_PARTS)?)
 }
 
 const NOT_FOUND: &str = "\
@@ -188,30 +166,32 @@ begin 0 = begun 1
 finish = acked 1
 begin 0 = refused 12 no-slot";
 
-/// Scripts, and how many slots their stores have.
-const PLAYED: [(usize, &str); 4] = [
-    (SLOTS, STEPS),
-    (SLOTS, CANCELLED),
-    (4, REFUSED),
-    (2, TWO_SLOTS),
+/// Stores, and the scripts that are played over them.
+const PLAYED: [(Store, [Part<'static>; 1]); 4] = [
+    (EIGHT, [Part::Lines(STEPS)]),
+    (EIGHT, [Part::Lines(CANCELLED)]),
+    (FOUR, [Part::Lines(REFUSED)]),
+    (TWO, [Part::Lines(TWO_SLOTS)]),
 ];
 
 #[test]
 fn scripts_are_answered(rt: HostRuntime) -> Result<(), Fail> {
-    for (slots, script) in PLAYED {
-        plays(&rt, rt.alloc(), store(rt.alloc(), slots)?, script)?;
+    for (store, parts) in &PLAYED {
+        asks(&rt, rt.alloc(), *store, parts)?;
     }
     Ok(())
 }
 
 /// Scripts of a first run, and of a second one over what it left.
-const PLAYED_AGAIN: [(&str, &str); 2] = [(FIRST, SECOND), (STALE, "load = bytes 02")];
+const PLAYED_AGAIN: [([Part<'static>; 1], [Part<'static>; 1]); 2] = [
+    ([Part::Lines(FIRST)], [Part::Lines(SECOND)]),
+    ([Part::Lines(STALE)], [Part::Lines("load = bytes 02")]),
+];
 
 #[test]
 fn second_runs(rt: HostRuntime) -> Result<(), Fail> {
-    for (first, second) in PLAYED_AGAIN {
-        let driver = plays(&rt, rt.alloc(), store(rt.alloc(), SLOTS)?, first)?;
-        plays_again(&rt, rt.alloc(), driver, second)?;
+    for (first, second) in &PLAYED_AGAIN {
+        asks_again(&rt, rt.alloc(), EIGHT, first, second)?;
     }
     Ok(())
 }
@@ -230,16 +210,17 @@ cancel-or-finish = done
 begin 0 = begun 2
 finish = acked 2";
 
-/// Cancels it behind so many of its events, and goes on.
-fn cancel(rt: &impl Abort, alloc: Global, driver: &mut Driver, count: u64) -> Result<(), Fail> {
-    driver.steps(count);
-    play(rt, alloc, driver, CANCEL_ENDS)
-}
+/// What a second run finds.
+const STORED: [Part<'static>; 1] = [Part::Lines("load = bytes 01")];
 
-fn cancelled_behind(rt: &impl Abort, alloc: Global, count: u64) -> Result<(), Fail> {
-    let mut driver = plays(rt, alloc, store(alloc, SLOTS)?, CANCEL_BEGINS)?;
-    cancel(rt, alloc, &mut driver, count)?;
-    plays_again(rt, alloc, driver, "load = bytes 01")
+/// Cancels it behind so many of its events, and goes on; a second run finds what was stored.
+fn cancelled_behind(rt: &impl Abort, alloc: Global, count: u64) -> Result<(), AllocError> {
+    let first = [
+        Part::Lines(CANCEL_BEGINS),
+        Part::Steps(count),
+        Part::Lines(CANCEL_ENDS),
+    ];
+    asks_again(rt, alloc, EIGHT, &first, &STORED)
 }
 
 /// Behind each of its 62 events a checkpoint is cancelled, and a second run finds what was stored.

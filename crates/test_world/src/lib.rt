@@ -15,3 +15,7 @@ mod lines;
 mod opening;
 #[cfg(test)]
 mod reopening;
+#[cfg(test)]
+mod runs;
+#[cfg(test)]
+mod store;

@@ -2,67 +2,82 @@
 use sd_disk::{Disk, MemDisk};
 use sd_gate::{Phase, Request, perform};
 use sd_opener::{Opened, Opener, OpenerProgress, OpenerStep};
-use std::alloc::Global;
+use std::alloc::{AllocError, Global};
 use std::process::Abort;
 use std::test::Fail;
 
+/// What a step of the opener came to.
+#[derive(Clone, Copy, Debug, PartialEq, Eq)]
+enum Stepped {
+    /// A device call was made.
+    Call,
+    /// Every slot was read.
+    AllRead,
+    /// Anything else.
+    Other,
+}
+
 /// Makes a device call of the opener.
-fn call<D: Disk>(opener: &mut Opener, disk: &mut D, request: Request) -> Result<(), Fail> {
+fn call<D: Disk>(opener: &mut Opener, disk: &mut D, request: Request) -> Stepped {
     if request.id().slot >= disk.slots() {
-        return Err(Fail::from("no such slot"));
+        return Stepped::Other;
     }
     match opener.hand_in(perform(disk, request)) {
-        OpenerProgress::More => Ok(()),
-        _ => Err(Fail::from("a call failed")),
+        OpenerProgress::More => Stepped::Call,
+        _ => Stepped::Other,
     }
 }
 
-/// Makes a step of the opener, with its device call. Returns whether every slot was read.
-fn step<D: Disk>(opener: &mut Opener, disk: &mut D, calls: u64) -> Result<bool, Fail> {
+/// Makes a step of the opener, with its device call.
+fn step<D: Disk>(opener: &mut Opener, disk: &mut D, calls: u64) -> Stepped {
     match opener.work(calls) {
-        Ok(OpenerStep::AllRead) => Ok(true),
-        Ok(OpenerStep::Call(request)) => {
-            call(opener, disk, request)?;
-            Ok(false)
-        }
-        Ok(_) => Err(Fail::from("an image")),
-        Err(_) => Err(Fail::from("out of memory")),
+        Ok(OpenerStep::AllRead) => Stepped::AllRead,
+        Ok(OpenerStep::Call(request)) => call(opener, disk, request),
+        _ => Stepped::Other,
     }
 }
 
-/// Makes the opener's steps and the device calls that it asks for, until every slot was read. Returns how many calls were
-/// made.
-fn read_all<D: Disk>(opener: &mut Opener, disk: &mut D) -> Result<u64, Fail> {
-    for calls in 0..100 {
-        if step(opener, disk, calls)? {
-            return Ok(calls);
-        }
+/// Each of so many steps of the opener makes a device call, and the one behind them tells that every slot was read.
+fn reads_all<D: Disk>(rt: &impl Abort, opener: &mut Opener, disk: &mut D, most: u64) {
+    for calls in 0..most {
+        assert_eq!(rt; step(opener, disk, calls), Stepped::Call);
     }
-    Err(Fail::from("too many calls"))
+    assert_eq!(rt; step(opener, disk, most), Stepped::AllRead);
 }
 
-/// An opener that read three slots, each synced and asked for its length.
-fn opener_behind(rt: &impl Abort, alloc: Global) -> Result<Opener, Fail> {
+/// An opener reads three slots, each synced and asked for its length.
+fn reads_three_slots(
+    rt: &impl Abort,
+    alloc: Global,
+    opener: &mut Opener,
+) -> Result<(), AllocError> {
     let mut disk = MemDisk::new(alloc, 3, 10_000, 100)?;
-    let mut opener = Opener::new(alloc, 3)?;
-    assert_eq!(rt; read_all(&mut opener, &mut disk)?, 6);
-    Ok(opener)
+    reads_all(rt, opener, &mut disk, 6);
+    Ok(())
 }
 
-/// An empty store of three slots was found.
-fn is_empty(rt: &impl Abort, opened: &Opened) {
+/// An opener that is done found an empty store of three slots.
+fn finds_nothing(rt: &impl Abort, opened: &Opened) {
     let raw = [Phase::Raw, Phase::Raw, Phase::Raw];
     assert_eq!(rt; opened.phases.as_slice(), raw.as_slice());
     assert!(rt; opened.catalog.tip().is_none());
 }
 
+/// Finishes the opener. Returns whether it wasn't damaged.
+fn finishes(rt: &impl Abort, opener: Opener) -> bool {
+    match opener.finish() {
+        Ok(opened) => {
+            finds_nothing(rt, &opened);
+            true
+        }
+        Err(_) => false,
+    }
+}
+
 #[test]
 fn an_empty_store_is_read(rt: HostRuntime) -> Result<(), Fail> {
-    match opener_behind(&rt, rt.alloc())?.finish() {
-        Ok(opened) => {
-            is_empty(&rt, &opened);
-            Ok(())
-        }
-        Err(_) => Err(Fail::from("damaged")),
-    }
+    let mut opener = Opener::new(rt.alloc(), 3)?;
+    let read = reads_three_slots(&rt, rt.alloc(), &mut opener).is_ok();
+    assert!(rt; finishes(&rt, opener) && read);
+    Ok(())
 }

@@ -1,7 +1,7 @@
 //! What a journal allows a store to show, kept beside a run.
 use crate::plain::Plain;
 use sd_areas::Snapshot;
-use sd_command::{Refusal, Reply};
+use sd_command::{Command, Refusal, Reply};
 use sd_gate::Worker;
 use sd_world::Event;
 use std::alloc::{AllocError, Global};
@@ -98,22 +98,58 @@ impl Account {
 
     /// Takes an event and its reply. Returns whether the reply may be.
     pub(crate) fn take(&mut self, event: &Event, reply: &Reply) -> Result<bool, AllocError> {
-        match (event, reply) {
-            (Event::Command { .. }, Reply::Refused(Refusal::Frozen)) => self.freeze(),
-            (Event::Command { command, .. }, reply) => {
-                self.may_freeze = false;
-                Ok(self.pending.is_none() && self.memory.apply(command, reply)?)
+        match event {
+            Event::Command { command, .. } => self.take_command(command, reply),
+            Event::Begin(_) => Ok(self.take_begin(reply)),
+            Event::Work(Worker::Dumper) => Ok(self.take_dump(reply)),
+            Event::Work(Worker::Opener) => Ok(self.take_opening(reply)),
+            Event::Cancel => Ok(self.take_cancel(reply)),
+            Event::Work(Worker::Merger) | Event::Perform(_) | Event::Merge | Event::Reopen => {
+                Ok(is_plain(reply))
             }
-            (Event::Begin(_), Reply::Begun(number)) => Ok(self.begin(*number)),
-            (Event::Work(Worker::Dumper), Reply::Worked) => {
+        }
+    }
+
+    fn take_command(&mut self, command: &Command, reply: &Reply) -> Result<bool, AllocError> {
+        if let Reply::Refused(Refusal::Frozen) = reply {
+            return self.freeze();
+        }
+        self.may_freeze = false;
+        if self.pending.is_some() {
+            return Ok(false);
+        }
+        self.memory.apply(command, reply)
+    }
+
+    fn take_begin(&mut self, reply: &Reply) -> bool {
+        match reply {
+            Reply::Begun(number) => self.begin(*number),
+            _ => is_plain(reply),
+        }
+    }
+
+    fn take_dump(&mut self, reply: &Reply) -> bool {
+        match reply {
+            Reply::Worked => {
                 self.may_freeze = true;
-                Ok(true)
+                true
             }
-            (Event::Work(Worker::Dumper), Reply::Acked(number)) => Ok(self.acknowledge(*number)),
-            (Event::Cancel, Reply::Cancelled(number)) => Ok(self.cancel(*number)),
-            (Event::Work(Worker::Opener), Reply::Reopened(found)) => Ok(self.reopen(*found)),
-            (_, Reply::Worked | Reply::Refused(_)) => Ok(true),
-            _ => Ok(false),
+            Reply::Acked(number) => self.acknowledge(*number),
+            _ => is_plain(reply),
+        }
+    }
+
+    fn take_opening(&mut self, reply: &Reply) -> bool {
+        match reply {
+            Reply::Reopened(found) => self.reopen(*found),
+            _ => is_plain(reply),
+        }
+    }
+
+    fn take_cancel(&mut self, reply: &Reply) -> bool {
+        match reply {
+            Reply::Cancelled(number) => self.cancel(*number),
+            _ => is_plain(reply),
         }
     }
 
@@ -159,6 +195,11 @@ impl Account {
         }
         is_number(&self.last, number)
     }
+}
+
+/// Whether a reply ends nothing.
+fn is_plain(reply: &Reply) -> bool {
+    matches!(reply, Reply::Worked | Reply::Refused(_))
 }
 
 /// The memory of a checkpoint; without one that of a run over an empty store.

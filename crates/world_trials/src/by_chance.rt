@@ -179,8 +179,12 @@ fn run(
     figures.run();
     match Course::start(alloc, start, failing(chance))? {
         Ok(mut course) => {
-            go_on(alloc, &mut course, chance, figures)?;
-            Ok(course.into_record())
+            let gone_on = go_on(alloc, &mut course, chance, figures);
+            let record = course.into_record();
+            match gone_on {
+                Ok(()) => Ok(record),
+                Err(trouble) => Err(trouble),
+            }
         }
         Err(record) => Ok(record),
     }

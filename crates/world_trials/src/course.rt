@@ -27,8 +27,7 @@ pub(crate) enum Job {
     Full,
 }
 
-/// A world, the steps that it made so far, and what its replies say.
-#[derive(Drop)]
+/// A world, the steps that it made so far, and what its replies say. It ends as the record of them.
 pub(crate) struct Course {
     record: Record,
     lab: Lab,
@@ -36,27 +35,74 @@ pub(crate) struct Course {
     job: Job,
 }
 
-/// How a run goes on behind an event.
-fn job_after(job: Job, event: &Event, reply: &Reply) -> Job {
-    match (event, reply) {
-        (_, Reply::Begun(_)) | (Event::Begin(_), Reply::Refused(Refusal::Busy)) => Job::Dumping,
-        (_, Reply::Acked(_) | Reply::Reopened(_) | Reply::Cancelled(_)) => Job::Resting,
-        (Event::Reopen, Reply::Worked | Reply::Refused(Refusal::Busy)) => Job::Opening,
-        (Event::Begin(0), Reply::Refused(Refusal::NoSlot)) => Job::Full,
-        (Event::Work(_), Reply::Refused(Refusal::StoreDown | Refusal::Damaged)) => Job::Closed,
-        (Event::Begin(_), Reply::Refused(Refusal::StoreDown | Refusal::NotOpen)) => match job {
+/// How a run goes on behind an order to begin that is refused.
+fn job_after_begin(job: Job, rounds: u64, why: Refusal) -> Job {
+    match why {
+        Refusal::Busy => Job::Dumping,
+        Refusal::NoSlot if rounds == 0 => Job::Full,
+        Refusal::StoreDown | Refusal::NotOpen => match job {
             Job::Opening => Job::Opening,
             _ => Job::Closed,
         },
-        (Event::Work(Worker::Dumper), Reply::Refused(Refusal::Idle)) => match job {
-            Job::Dumping => Job::Resting,
-            _ => job,
-        },
-        (Event::Work(Worker::Opener), Reply::Refused(Refusal::Idle)) => match job {
-            Job::Opening => Job::Resting,
+        _ => job,
+    }
+}
+
+/// How it goes on behind a worker's step that is refused.
+fn job_after_work(job: Job, worker: Worker, why: Refusal) -> Job {
+    match why {
+        Refusal::StoreDown | Refusal::Damaged => Job::Closed,
+        Refusal::Idle => match (worker, job) {
+            (Worker::Dumper, Job::Dumping) | (Worker::Opener, Job::Opening) => Job::Resting,
             _ => job,
         },
         _ => job,
+    }
+}
+
+/// How it goes on behind an event that is refused.
+fn job_after_refusal(job: Job, event: &Event, why: Refusal) -> Job {
+    match event {
+        Event::Begin(rounds) => job_after_begin(job, *rounds, why),
+        Event::Work(worker) => job_after_work(job, *worker, why),
+        Event::Reopen if why == Refusal::Busy => Job::Opening,
+        _ => job,
+    }
+}
+
+/// How a run goes on behind an event.
+fn job_after(job: Job, event: &Event, reply: &Reply) -> Job {
+    match reply {
+        Reply::Begun(_) => Job::Dumping,
+        Reply::Acked(_) | Reply::Reopened(_) | Reply::Cancelled(_) => Job::Resting,
+        Reply::Worked => match event {
+            Event::Reopen => Job::Opening,
+            _ => job,
+        },
+        Reply::Refused(why) => job_after_refusal(job, event, *why),
+        _ => job,
+    }
+}
+
+/// A byte is loaded.
+fn load_event() -> Event {
+    let command = Command::Load {
+        space: SpaceId::new(1),
+        address: 0x10000,
+        count: 1,
+    };
+    Event::Command { seat: 0, command }
+}
+
+/// What the replies of a run say before its first event, and the world that makes it, where the store is opened.
+fn opened(record: &Record) -> Result<Option<(Account, Lab)>, Trouble> {
+    let account = record.account()?;
+    match record.open()? {
+        Ok(lab) => Ok(Some((account, lab))),
+        Err(start) => {
+            drop(start);
+            Ok(None)
+        }
     }
 }
 
@@ -72,24 +118,28 @@ impl Course {
         failing: Failing,
     ) -> Result<Result<Course, Record>, Trouble> {
         let record = Record::new(alloc, start, failing);
-        let account = record.account()?;
-        match record.open()? {
-            Ok(lab) => Ok(Ok(Course {
+        match opened(&record)? {
+            Some((account, lab)) => Ok(Ok(Course {
                 record,
                 lab,
                 account,
                 job: Job::Closed,
             })),
-            Err(disk) => {
-                drop(disk);
-                Ok(Err(record))
-            }
+            None => Ok(Err(record)),
         }
     }
 
     /// The run as it was written down.
     pub(crate) fn into_record(self) -> Record {
-        self.record
+        let Course {
+            record,
+            lab,
+            account,
+            job: _,
+        } = self;
+        drop(account);
+        drop(lab.close());
+        record
     }
 
     /// What it does next.
@@ -106,28 +156,18 @@ impl Course {
     pub(crate) fn step(&mut self, event: Event, figures: &mut Figures) -> Result<(), Trouble> {
         self.make(event, figures)?;
         if self.account.asks() {
-            let command = Command::Load {
-                space: SpaceId::new(1),
-                address: 0x10000,
-                count: 1,
-            };
-            self.make(Event::Command { seat: 0, command }, figures)?;
+            self.make(load_event(), figures)
+        } else {
+            Ok(())
         }
-        Ok(())
     }
 
     fn make(&mut self, event: Event, figures: &mut Figures) -> Result<(), Trouble> {
-        let reply = self.answer(&event, figures)?;
-        self.record.push(Step { event, reply })?;
-        Ok(())
-    }
-
-    fn answer(&mut self, event: &Event, figures: &mut Figures) -> Result<Reply, Trouble> {
-        let reply = self.lab.step(event);
-        let fits = self.account.take(event, &reply)?;
-        figures.event(event, &reply, fits);
-        self.job = job_after(self.job, event, &reply);
-        Ok(reply)
+        let reply = self.lab.step(&event);
+        let fits = self.account.take(&event, &reply)?;
+        figures.event(&event, &reply, fits);
+        self.job = job_after(self.job, &event, &reply);
+        Ok(self.record.push(Step { event, reply })?)
     }
 
     /// A worker's next event: the device call that it asked for is made, or else it works.

@@ -20,8 +20,7 @@ pub enum Failing {
     Dropped(u64),
 }
 
-/// A world over such a disk.
-#[derive(Drop)]
+/// A world over such a disk. It isn't dropped but closed: a drop of a core takes the prover minutes.
 pub(crate) struct Lab {
     world: World<Fused<MemDisk>>,
 }
@@ -58,14 +57,17 @@ impl Lab {
         self.world.is_out(worker)
     }
 
-    /// Restores what a crash left of the world's store.
-    pub(crate) fn restored(&self, left: &mut MemDisk) -> Result<Snapshot, Fault> {
+    /// Restores what a crash left of the world's store, and closes the world.
+    pub(crate) fn restored(self, left: &mut MemDisk) -> Result<Snapshot, Fault> {
         self.world.sound();
-        self.world.restore_crashed(left)
+        let restored = self.world.restore_crashed(left);
+        drop(self.close());
+        restored
     }
 
     /// The disk.
     pub(crate) fn close(self) -> MemDisk {
-        self.world.close().into_inner()
+        let Lab { world } = self;
+        world.close().into_inner()
     }
 }

@@ -131,8 +131,12 @@ fn play(
 ) -> Result<Record, Trouble> {
     match Course::start(alloc, start, failing)? {
         Ok(mut course) => {
-            make_all(alloc, &mut course, lines, figures)?;
-            Ok(course.into_record())
+            let made = make_all(alloc, &mut course, lines, figures);
+            let record = course.into_record();
+            match made {
+                Ok(()) => Ok(record),
+                Err(trouble) => Err(trouble),
+            }
         }
         Err(record) => Ok(record),
     }

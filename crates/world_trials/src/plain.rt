@@ -78,12 +78,8 @@ impl Plain {
         own: &BTreeMap<PageNo, SnapshotPage>,
     ) -> Result<(), AllocError> {
         for (page, found) in own {
-            self.pages.push(PlainPage {
-                space,
-                page: *page,
-                prot: found.prot,
-                bytes: found.bytes.to_vec(self.alloc)?,
-            })?;
+            let copy = PlainPage::of(self.alloc, space, *page, found)?;
+            self.pages.push(copy)?;
         }
         Ok(())
     }
@@ -113,56 +109,70 @@ impl Plain {
 
     /// Does what a command does that is answered so. Returns whether a load read what stands there.
     pub(crate) fn apply(&mut self, command: &Command, reply: &Reply) -> Result<bool, AllocError> {
-        match (command, reply) {
-            (
-                Command::Mmap {
-                    space,
-                    address,
-                    length,
-                    prot,
-                },
-                Reply::Done,
-            ) => self.map(*space, *address, *length, *prot)?,
-            (
-                Command::Munmap {
-                    space,
-                    address,
-                    length,
-                },
-                Reply::Done,
-            ) => self.unmap(*space, *address, *length),
-            (
-                Command::Mprotect {
-                    space,
-                    address,
-                    length,
-                    prot,
-                },
-                Reply::Done,
-            ) => self.protect(*space, *address, *length, *prot),
-            (Command::Fork { space }, Reply::Child(child)) => self.fork(*space, *child)?,
-            (Command::Exit { space }, Reply::Done) => self.exit(*space),
-            (
-                Command::TryStore {
-                    space,
-                    address,
-                    bytes,
-                }
-                | Command::Store {
-                    space,
-                    address,
-                    bytes,
-                },
-                Reply::Done,
-            ) => self.store(*space, *address, bytes.as_slice()),
-            (Command::Load { space, address, .. }, Reply::Bytes(bytes)) => return Ok(self.reads(
-                *space,
-                *address,
-                bytes.as_slice(),
-            )),
-            _ => {}
+        match reply {
+            Reply::Done => {
+                self.carry_out(command)?;
+                Ok(true)
+            }
+            Reply::Child(child) => {
+                self.have_child(command, *child)?;
+                Ok(true)
+            }
+            Reply::Bytes(bytes) => Ok(self.has_read(command, bytes.as_slice())),
+            _ => Ok(true),
         }
-        Ok(true)
+    }
+
+    /// Does what a command does that was carried out.
+    fn carry_out(&mut self, command: &Command) -> Result<(), AllocError> {
+        match command {
+            Command::Mmap {
+                space,
+                address,
+                length,
+                prot,
+            } => return self.map(*space, *address, *length, *prot),
+            Command::Munmap {
+                space,
+                address,
+                length,
+            } => self.unmap(*space, *address, *length),
+            Command::Mprotect {
+                space,
+                address,
+                length,
+                prot,
+            } => self.protect(*space, *address, *length, *prot),
+            Command::Exit { space } => self.exit(*space),
+            Command::TryStore {
+                space,
+                address,
+                bytes,
+            }
+            | Command::Store {
+                space,
+                address,
+                bytes,
+            } => self.store(*space, *address, bytes.as_slice()),
+            Command::Fork { .. } | Command::Fault { .. } | Command::Load { .. } => {}
+        }
+        Ok(())
+    }
+
+    /// Has a child of the space that a fork names.
+    fn have_child(&mut self, command: &Command, child: SpaceId) -> Result<(), AllocError> {
+        match command {
+            Command::Fork { space } => self.fork(*space, child),
+            _ => Ok(()),
+        }
+    }
+
+    /// Whether a load read what stands there.
+    fn has_read(&self, command: &Command, bytes: &[u8]) -> bool {
+        match command {
+            Command::Load { space, address, .. } => self.reads(*space, *address, bytes),
+            _ => true,
+        }
     }
 
     fn map(
@@ -203,21 +213,25 @@ impl Plain {
 
     fn fork(&mut self, space: SpaceId, child: SpaceId) -> Result<(), AllocError> {
         self.spaces.push(child)?;
-        for copy in self.copies(space, child)? {
-            self.pages.push(copy)?;
+        for index in 0..self.pages.len() {
+            if let Some(copy) = self.copy_at(index, space, child)? {
+                self.pages.push(copy)?;
+            }
         }
         Ok(())
     }
 
-    /// The pages of a space, for its child.
-    fn copies(&self, space: SpaceId, child: SpaceId) -> Result<Vec<PlainPage>, AllocError> {
-        let mut copies = Vec::new(self.alloc);
-        for own in &self.pages {
-            if own.space == space {
-                copies.push(own.copy_in(self.alloc, child)?)?;
-            }
+    /// The page at an index, for a child of its space, where that is this one.
+    fn copy_at(
+        &self,
+        index: usize,
+        space: SpaceId,
+        child: SpaceId,
+    ) -> Result<Option<PlainPage>, AllocError> {
+        match self.pages.get(index) {
+            Some(own) if own.space == space => Ok(Some(own.copy_in(self.alloc, child)?)),
+            _ => Ok(None),
         }
-        Ok(copies)
     }
 
     fn exit(&mut self, space: SpaceId) {
@@ -227,12 +241,9 @@ impl Plain {
 
     fn store(&mut self, space: SpaceId, address: u64, bytes: &[u8]) {
         let range = Pages::of(address, 1);
-        let first = (address % PAGE_BYTES) as usize;
         for own in self.pages.iter_mut() {
             if range.has(own, space) {
-                for (place, byte) in own.bytes.iter_mut().skip(first).zip(bytes) {
-                    *place = *byte;
-                }
+                put(&mut own.bytes, place_of(address), bytes);
             }
         }
     }
@@ -240,22 +251,54 @@ impl Plain {
     /// Whether these bytes stand at an address.
     fn reads(&self, space: SpaceId, address: u64, bytes: &[u8]) -> bool {
         let range = Pages::of(address, 1);
-        let first = (address % PAGE_BYTES) as usize;
         for own in &self.pages {
             if range.has(own, space) {
-                for (place, byte) in own.bytes.iter().skip(first).zip(bytes) {
-                    if place != byte {
-                        return false;
-                    }
-                }
-                return true;
+                return stand(&own.bytes, place_of(address), bytes);
             }
         }
         false
     }
 }
 
+/// The place of an address in its page.
+fn place_of(address: u64) -> usize {
+    (address % PAGE_BYTES) as usize
+}
+
+/// Puts bytes at a place of a page.
+fn put(own: &mut [u8], first: usize, bytes: &[u8]) {
+    for (place, byte) in own.iter_mut().skip(first).zip(bytes) {
+        *place = *byte;
+    }
+}
+
+/// Whether these bytes stand at a place of a page.
+fn stand(own: &[u8], first: usize, bytes: &[u8]) -> bool {
+    for (place, byte) in own.iter().skip(first).zip(bytes) {
+        if place != byte {
+            return false;
+        }
+    }
+    true
+}
+
 impl PlainPage {
+    /// What a snapshot has of a page.
+    fn of(
+        alloc: Global,
+        space: SpaceId,
+        page: PageNo,
+        found: &SnapshotPage,
+    ) -> Result<PlainPage, AllocError> {
+        let bytes = found.bytes.to_vec(alloc)?;
+        Ok(PlainPage {
+            space,
+            page,
+            prot: found.prot,
+            bytes,
+        })
+    }
+
     /// The same page in a space.
     fn copy_in(&self, alloc: Global, space: SpaceId) -> Result<PlainPage, AllocError> {
         Ok(PlainPage {

@@ -75,7 +75,10 @@ impl Record {
     fn restored(&self, disk: &mut MemDisk) -> Result<Result<Snapshot, Fault>, AllocError> {
         match self.open()? {
             Ok(lab) => Ok(lab.restored(disk)),
-            Err(_) => Ok(restore_left(self.alloc, disk)),
+            Err(start) => {
+                drop(start);
+                Ok(restore_left(self.alloc, disk))
+            }
         }
     }
 
@@ -90,22 +93,27 @@ impl Record {
         self.steps.len()
     }
 
-    /// Makes so many steps again.
-    fn make_again(&self, lab: &mut Lab, count: usize) -> Result<(), Trouble> {
+    /// Makes so many steps again. Returns whether they are answered as they were.
+    fn is_made_again(&self, lab: &mut Lab, count: usize) -> bool {
         for step in self.steps.iter().take(count) {
             if lab.step(&step.event) != step.reply {
-                return Err(Trouble::Differs);
+                return false;
             }
         }
-        Ok(())
+        true
     }
 
     /// The disk behind so many steps, which are made again.
     pub(crate) fn disk_behind(&self, count: usize) -> Result<MemDisk, Trouble> {
         match self.open()? {
             Ok(mut lab) => {
-                self.make_again(&mut lab, count)?;
-                Ok(lab.close())
+                let same = self.is_made_again(&mut lab, count);
+                let disk = lab.close();
+                if same {
+                    Ok(disk)
+                } else {
+                    Err(Trouble::Differs)
+                }
             }
             Err(disk) => Ok(disk),
         }

@@ -7,10 +7,11 @@ ghost use Rattle.sd_gate.specs.declared.worker.Worker.TheVariants as its;
 ghost use Rattle.sd_merge.specs.Merger.{slot_before};
 ghost use Rattle.sd_belief.specs.Calls.{AddsByOrder, HandedIn, IsOut, Stays};
 ghost use Rattle.sd_belief.specs.View.{history_of};
-ghost use Rattle.sd_core.specs.Merging.{IsMerged, MergesAs, merge_refusal};
+ghost use Rattle.sd_core.specs.Entering.{EntersFirst};
+ghost use Rattle.sd_core.specs.Merging.{EndsCut, EntersAsCopy, FixesItsList, IsMerged, ListsTheUnneeded, MergesAs, merge_refusal};
 ghost use Rattle.sd_core.specs.Refusals.{is_idle, work_refusal};
 ghost use Rattle.sd_core.specs.Starts.{TakesUp};
-ghost use Rattle.sd_core.specs.Working.{Leaves, LeavesByOutcome};
+ghost use Rattle.sd_core.specs.Working.{FindsSource, Leaves, LeavesByOutcome};
 
 use super::Core;
 use crate::beginning::{first_of, has_tip, is_down, is_not_open};
@@ -83,6 +84,7 @@ impl Core {
         requires { work_refusal self.old its.Merger ≡ None }
         ensures takes { TakesUp self.old its.Merger result self.new }
         ensures leaves { Leaves self.old its.Merger result self.new }
+        ensures finds { FindsSource self.old result }
     {
         match self.merger.next_slot() {
             Some(slot) => self.begin_merged(slot),
@@ -99,6 +101,7 @@ impl Core {
         requires next { slot_before self.old.merger ≡ Some slot }
         ensures takes { TakesUp self.old its.Merger result self.new }
         ensures leaves { Leaves self.old its.Merger result self.new }
+        ensures finds { FindsSource self.old result }
     {
         core_steps();
         self.merger.sound();
@@ -130,6 +133,7 @@ impl Core {
         requires rests { slice_get self.old.outs 1 ≡ Some None }
         ensures takes { TakesUp self.old its.Merger result self.new }
         ensures leaves { Leaves self.old its.Merger result self.new }
+        ensures finds { FindsSource self.old result }
     {
         core_steps();
         merger_steps(&self.catalog);
@@ -172,6 +176,11 @@ impl Core {
         ensures failed { is_done outcome.answer ≡ false ↔ result ≡ reply.Refused StoreDown }
         ensures leaves { LeavesByOutcome self.old its.Merger result self.new }
         ensures merged { (serial : ℕ) → result ≡ reply.Merged serial → IsMerged serial self.old self.new }
+        ensures opens { EntersFirst self.old result self.new }
+        ensures lists { FixesItsList self.old self.new }
+        ensures retires { ListsTheUnneeded self.old outcome.request self.new }
+        ensures copies { EntersAsCopy self.old outcome.request self.new }
+        ensures cuts { (serial : ℕ) → result ≡ reply.Merged serial → EndsCut self.old outcome.request self.new }
     {
         self.merger.sound();
         self.dumper.sound();

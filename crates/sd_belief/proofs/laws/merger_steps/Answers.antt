@@ -1,5 +1,6 @@
 use Rattle.sd_belief.proofs.BeginsMerge.{begins_merged_lem}
 use Rattle.sd_belief.proofs.MergerAsks.{merger_asks_lem}
+use Rattle.sd_belief.proofs.MergerFinds.{finds_lem}
 use Rattle.sd_belief.proofs.MergerPass.{reads_lem, spares_lem, takes_zeros_lem, writes_page_lem, writes_table_lem}
 use Rattle.sd_belief.proofs.MergerRetire.{merger_retires_lem}
 use Rattle.sd_belief.proofs.MergerSource.{KnowsCatalog}
@@ -16,6 +17,7 @@ returns c =
     } in
     record {
       begins_image = begins_merged_lem c.merge_law.ensures c.making_law.ensures c.plans_lead.ensures;
+      finds = finds_lem c.merge_law.ensures places knows;
       asks = λ old new merge copy next ticket request asked bodies files its s b.
           merger_asks_lem c.quiet_steps.ensures c.gate_steps.ensures c.merged_file_law.ensures c.merged_repeats.ensures c.catalog_follows.ensures c.making_law.ensures
           old new merge copy next ticket request asked bodies files s b;

@@ -1,15 +1,16 @@
-use Rattle.std.proofs.Common.{◌≡◌, length, true, false, Some, slice_get, slice_set, refl, sym, ◌∙◌, ap, subst, inl}
+use Rattle.std.proofs.Common.{◌≡◌, length, true, false, Err, Some, slice_get, slice_set, refl, sym, ◌∙◌, ap, subst, inl}
 use Rattle.sd_gate.specs.declared.request_id.RequestId.{RequestId}
 use Rattle.sd_gate.specs.declared.worker.Worker.TheVariants as its
 use Rattle.sd_command.specs.declared.refusal.Refusal.TheVariants.{Damaged}
 use Rattle.sd_command.specs.declared.reply.Reply.TheVariants as reply
 use Rattle.sd_merge.specs.Merger.{AreRunning, HasSoundCopy}
+use Rattle.sd_belief.specs.Believes.{Believes}
 use Rattle.sd_belief.specs.View.{CoreView}
 use Rattle.sd_core.specs.contracts.state.Core.{the_view}
 use Rattle.sd_core.specs.Merging.{MayRead, StepsAt}
 use Rattle.sd_core.proofs.ApplyLemmas.{same_phases}
 use Rattle.sd_core.proofs.BesideLemmas.{core_asks, free_asked, leaves_same, merger_works}
-use Rattle.sd_core.proofs.MergerCalls.{IsCallOf, asks_beside, goes_by_call, goes_by_read, goes_by_zeros, may_read_by, reads_beside}
+use Rattle.sd_core.proofs.MergerCalls.{IsCallOf, asks_beside, goes_by_call, goes_by_read, goes_by_zeros, may_read_by, never_lost, reads_beside}
 use Rattle.sd_core.proofs.OpeningLemmas.{hands_seen, step_seen}
 use Rattle.sd_core.proofs.OwnLemmas.{makes_in}
 use Rattle.sd_core.proofs.WorkLemmas.{SameNumbers, counted_same}
@@ -163,3 +164,41 @@ returns-in-Call-clause-takes c =
         copied = copied;
       }) call w.steps rests free outs b;
     })
+
+pub returns-then-not-may_read-clause-finds : goal.returns-then-not-may_read-clause-finds
+returns-then-not-may_read-clause-finds c =
+    let w = c.in-Ok.ensures.steps in
+    let m = merger_works _ w.merge c.self.invariant w.was in
+    let steps = subst (λ made. StepsAt c.self.inside.numbers.ticket c.self.inside.catalog w.merge w.merge.doing made w.doing) c.in-ReadCall.is w.steps in
+    let mid : CoreView = record (the_view c.self.inside) { merger = c.step_merger.new.merger } in
+    λ asked bodies files b is.
+    let may = may_read_by c.self.inside.catalog c.merger_steps.ensures (the_view c.self.inside) mid w.merge w.doing c.self.inside.numbers.ticket c.in-ReadCall.request asked bodies files refl (record {
+      rest = record { stands = m.stands; base = refl; history = refl; memory = refl; closed = m.closed; grows = refl; committing = refl; dumper = refl; makes = makes_in c.self.inside.dumper.since_freeze c.self.inside.dumper.running c.sound-2.ensures.running };
+      phases = refl;
+      serial = refl;
+      catalog = refl;
+      was = w.was;
+      is = w.is;
+      running = subst AreRunning w.was c.sound.ensures.running;
+      copied = subst HasSoundCopy w.was c.sound.ensures.copy;
+    }) steps (subst (λ (old : CoreView). Believes old asked bodies files) (sym c.self.view_is) b) in
+    let no : false ≡ true = (c.if-not-may_read.ensures.1 (subst (λ (i : RequestId). MayRead c.self.inside.dumper.running c.len.result i.slot) (sym c.id.ensures)
+    (subst (λ n. MayRead c.self.inside.dumper.running n c.in-ReadCall.request.id.slot) (sym (c.len.ensures ∙ c.self.inside.phases.ok.0)) may))) in cc
+
+pub returns-in-Err-Lost-clause-takes : goal.returns-in-Err-Lost-clause-takes
+returns-in-Err-Lost-clause-takes c =
+    let lost = c.step_merger.ensures.lost (c.in-Err-Lost.is ∙ ap Err c.in-Err-Lost.field-0-is) in
+    step_seen its.Merger (reply.Refused Damaged) _ _ _ c.self.view_is (record {
+      keeps = inl (record {
+        base = refl;
+        outs = refl;
+        phases = same_phases c.self.inside.outs c.self.inside.phases.items;
+        goes_on = λ asked bodies files b. absurd (never_lost c.self.inside.catalog c.merger_steps.ensures _ (the_view c.self.inside) c.self.invariant refl refl refl lost asked bodies files b);
+      });
+      adds = refl;
+    })
+
+pub returns-in-Err-Lost-clause-finds : goal.returns-in-Err-Lost-clause-finds
+returns-in-Err-Lost-clause-finds c = λ asked bodies files b is.
+    never_lost c.self.inside.catalog c.merger_steps.ensures _ (the_view c.self.inside) c.self.invariant refl refl refl (c.step_merger.ensures.lost (c.in-Err-Lost.is ∙ ap Err c.in-Err-Lost.field-0-is))
+    asked bodies files (subst (λ (old : CoreView). Believes old asked bodies files) (sym c.self.view_is) b)

@@ -16,6 +16,7 @@ use Rattle.sd_core.proofs.CoreLemmas.{after_count}
 use Rattle.sd_core.proofs.FallenLemmas.{fallen_core, free_after}
 use Rattle.sd_core.proofs.HandedLemmas.{handed_late, idle_one, is_late}
 use Rattle.sd_core.proofs.MergeLemmas.{none_merges}
+use Rattle.sd_core.proofs.ListLemmas.{late_opens}
 use Rattle.sd_core.proofs.OpeningLemmas.{handed_seen}
 use Rattle.sd_core.proofs.WorkLemmas.{none_closed}
 use Rattle.sd_core.proofs.state.Core.hand_in_late.Goals as goal
@@ -70,3 +71,6 @@ returns-clause-handed c =
       phases = follows phase phase_is;
       count = count;
     }))
+
+pub returns-clause-merges : goal.returns-clause-merges
+returns-clause-merges c = λ whose merge serial opens. late_opens _ _ _ c.requires.idle whose merge serial opens

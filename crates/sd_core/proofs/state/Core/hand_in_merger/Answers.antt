@@ -3,7 +3,7 @@ use Rattle.std.proofs.lemmas.Option.{slice_get-get_or}
 use Rattle.sd_gate.specs.declared.phase.Phase.{Phase}
 use Rattle.sd_gate.specs.declared.request_id.RequestId.{RequestId}
 use Rattle.sd_gate.specs.Calls.{is_done}
-use Rattle.sd_gate.specs.Phases.{phases_after}
+use Rattle.sd_gate.specs.Phases.{bodies_after, phases_after}
 use Rattle.sd_command.specs.declared.refusal.Refusal.TheVariants.{StoreDown}
 use Rattle.sd_command.specs.declared.reply.Reply.TheVariants as reply
 use Rattle.sd_journal.specs.Marked.{entries_of}
@@ -19,9 +19,11 @@ use Rattle.sd_core.proofs.BesideLemmas.{merger_works}
 use Rattle.sd_core.proofs.CoreLemmas.{after_count}
 use Rattle.sd_core.proofs.FallenLemmas.{fallen_core, free_after, let_go_all}
 use Rattle.sd_core.proofs.HandedLemmas.{handed_merger, sync_of}
+use Rattle.sd_core.proofs.ListLemmas.{believed_seen, copies_seen, cut_seen, ended_cut, none_cut, not_copying, not_opened, opened_copies, opened_list, opened_now, opened_retires, opens_seen, still_copies}
 use Rattle.sd_core.proofs.MergerHands.{IsMore, core_goes_on, handed_on, its_out, list_free, core_merged, ends_list, goes_on_believed, goes_rests, merged_believed}
 use Rattle.sd_core.proofs.OpenedLemmas.{core_opened, opened_believed, opens_beside}
 use Rattle.sd_core.proofs.OpeningLemmas.{handed_seen}
+use Rattle.sd_core.proofs.OutcomeLemmas.{left_held}
 use Rattle.sd_core.proofs.OwnLemmas.{makes_in}
 use Rattle.sd_core.proofs.state.Core.hand_in_merger.Goals.{in-None, in-Some}
 use Rattle.sd_core.proofs.state.Core.hand_in_merger.Goals as goal
@@ -269,3 +271,307 @@ returns-after-fix_list-clause-handed c =
       | in-Some w ↦ handed_seen made c.match-fix_list.result _ _ _ c.self.view_is (handed_merger _ _ made phase c.match-fix_list.result outcome refl c.requires.merger count believed
           (subst (λ a. AddsByOutcome id.worker a (entries_of c.self.inside.journal.items) (entries_of c.self.inside.journal.items)) (sym w.result-is) refl))
     ]
+
+pub returns-in-Failed-clause-lists : goal.returns-in-Failed-clause-lists
+returns-in-Failed-clause-lists c =
+    λ merge serial o. absurd (not_opened _ merge serial _ _ c.self.invariant (sym (ap (λ (v : CoreView). v.merger) c.self.view_is)) (λ n held. held) o)
+
+pub returns-in-Failed-clause-retires : goal.returns-in-Failed-clause-retires
+returns-in-Failed-clause-retires c =
+    λ merge serial bodies o b. absurd (not_opened _ merge serial _ _ c.self.invariant (sym (ap (λ (v : CoreView). v.merger) c.self.view_is)) (λ n held. held) o)
+
+pub returns-in-Failed-clause-copies : goal.returns-in-Failed-clause-copies
+returns-in-Failed-clause-copies c =
+    λ merge serial bodies o b. absurd (not_opened _ merge serial _ _ c.self.invariant (sym (ap (λ (v : CoreView). v.merger) c.self.view_is)) (λ n held. held) o)
+
+pub returns-in-More-clause-lists : goal.returns-in-More-clause-lists
+returns-in-More-clause-lists c =
+    let made = c.args.outcome in
+    let id = made.request.id in
+    let phases = c.self.inside.phases.items in
+    let phase = slice_index_or phases id.slot c.index.result.now in
+    let closed = c.closes_for_sure-closed.ensures ∙ ap (λ p. closes_for_sure p c.id-id.result.call) (c.index.ensures ∙ ap (λ (i : RequestId). slice_index_or phases i.slot c.index.result.now) c.id-id.ensures)
+    ∙ ap (λ (i : RequestId). closes_for_sure phase i.call) c.id-id.ensures in
+    let leaves : LeavesCatalog (closes_for_sure phase id.call) id.slot c.self.inside.catalog c.leave_catalog.new.catalog =
+    subst (λ b. LeavesCatalog b id.slot c.self.inside.catalog c.leave_catalog.new.catalog) closed
+    (subst (λ (i : RequestId). LeavesCatalog c.closes_for_sure-closed.result i.slot c.self.inside.catalog c.leave_catalog.new.catalog) c.id-id.ensures c.leave_catalog.ensures) in
+    λ merge serial o. absurd (not_opened _ merge serial _ _ c.self.invariant (sym (ap (λ (v : CoreView). v.merger) c.self.view_is)) (λ n held. left_held (closes_for_sure phase id.call) id.slot c.self.inside.catalog c.leave_catalog.new.catalog n leaves held) o)
+
+pub returns-in-More-clause-retires : goal.returns-in-More-clause-retires
+returns-in-More-clause-retires c =
+    let made = c.args.outcome in
+    let id = made.request.id in
+    let phases = c.self.inside.phases.items in
+    let phase = slice_index_or phases id.slot c.index.result.now in
+    let closed = c.closes_for_sure-closed.ensures ∙ ap (λ p. closes_for_sure p c.id-id.result.call) (c.index.ensures ∙ ap (λ (i : RequestId). slice_index_or phases i.slot c.index.result.now) c.id-id.ensures)
+    ∙ ap (λ (i : RequestId). closes_for_sure phase i.call) c.id-id.ensures in
+    let leaves : LeavesCatalog (closes_for_sure phase id.call) id.slot c.self.inside.catalog c.leave_catalog.new.catalog =
+    subst (λ b. LeavesCatalog b id.slot c.self.inside.catalog c.leave_catalog.new.catalog) closed
+    (subst (λ (i : RequestId). LeavesCatalog c.closes_for_sure-closed.result i.slot c.self.inside.catalog c.leave_catalog.new.catalog) c.id-id.ensures c.leave_catalog.ensures) in
+    λ merge serial bodies o b. absurd (not_opened _ merge serial _ _ c.self.invariant (sym (ap (λ (v : CoreView). v.merger) c.self.view_is)) (λ n held. left_held (closes_for_sure phase id.call) id.slot c.self.inside.catalog c.leave_catalog.new.catalog n leaves held) o)
+
+pub returns-in-More-clause-copies : goal.returns-in-More-clause-copies
+returns-in-More-clause-copies c =
+    let made = c.args.outcome in
+    let id = made.request.id in
+    let phases = c.self.inside.phases.items in
+    let phase = slice_index_or phases id.slot c.index.result.now in
+    let closed = c.closes_for_sure-closed.ensures ∙ ap (λ p. closes_for_sure p c.id-id.result.call) (c.index.ensures ∙ ap (λ (i : RequestId). slice_index_or phases i.slot c.index.result.now) c.id-id.ensures)
+    ∙ ap (λ (i : RequestId). closes_for_sure phase i.call) c.id-id.ensures in
+    let leaves : LeavesCatalog (closes_for_sure phase id.call) id.slot c.self.inside.catalog c.leave_catalog.new.catalog =
+    subst (λ b. LeavesCatalog b id.slot c.self.inside.catalog c.leave_catalog.new.catalog) closed
+    (subst (λ (i : RequestId). LeavesCatalog c.closes_for_sure-closed.result i.slot c.self.inside.catalog c.leave_catalog.new.catalog) c.id-id.ensures c.leave_catalog.ensures) in
+    λ merge serial bodies o b. absurd (not_opened _ merge serial _ _ c.self.invariant (sym (ap (λ (v : CoreView). v.merger) c.self.view_is)) (λ n held. left_held (closes_for_sure phase id.call) id.slot c.self.inside.catalog c.leave_catalog.new.catalog n leaves held) o)
+
+pub returns-in-Merged-clause-lists : goal.returns-in-Merged-clause-lists
+returns-in-Merged-clause-lists c =
+    let made = c.args.outcome in
+    let id = made.request.id in
+    let phases = c.self.inside.phases.items in
+    let phase = slice_index_or phases id.slot c.index.result.now in
+    let closed = c.closes_for_sure-closed.ensures ∙ ap (λ p. closes_for_sure p c.id-id.result.call) (c.index.ensures ∙ ap (λ (i : RequestId). slice_index_or phases i.slot c.index.result.now) c.id-id.ensures)
+    ∙ ap (λ (i : RequestId). closes_for_sure phase i.call) c.id-id.ensures in
+    let leaves : LeavesCatalog (closes_for_sure phase id.call) id.slot c.self.inside.catalog c.leave_catalog-in-Merged.new.catalog =
+    subst (λ b. LeavesCatalog b id.slot c.self.inside.catalog c.leave_catalog-in-Merged.new.catalog) closed
+    (subst (λ (i : RequestId). LeavesCatalog c.closes_for_sure-closed.result i.slot c.self.inside.catalog c.leave_catalog-in-Merged.new.catalog) c.id-id.ensures c.leave_catalog-in-Merged.ensures) in
+    λ merge serial o. absurd (not_opened _ merge serial _ _ c.self.invariant (sym (ap (λ (v : CoreView). v.merger) c.self.view_is)) (λ n held. left_held (closes_for_sure phase id.call) id.slot c.self.inside.catalog c.leave_catalog-in-Merged.new.catalog n leaves held) o)
+
+pub returns-in-Merged-clause-retires : goal.returns-in-Merged-clause-retires
+returns-in-Merged-clause-retires c =
+    let made = c.args.outcome in
+    let id = made.request.id in
+    let phases = c.self.inside.phases.items in
+    let phase = slice_index_or phases id.slot c.index.result.now in
+    let closed = c.closes_for_sure-closed.ensures ∙ ap (λ p. closes_for_sure p c.id-id.result.call) (c.index.ensures ∙ ap (λ (i : RequestId). slice_index_or phases i.slot c.index.result.now) c.id-id.ensures)
+    ∙ ap (λ (i : RequestId). closes_for_sure phase i.call) c.id-id.ensures in
+    let leaves : LeavesCatalog (closes_for_sure phase id.call) id.slot c.self.inside.catalog c.leave_catalog-in-Merged.new.catalog =
+    subst (λ b. LeavesCatalog b id.slot c.self.inside.catalog c.leave_catalog-in-Merged.new.catalog) closed
+    (subst (λ (i : RequestId). LeavesCatalog c.closes_for_sure-closed.result i.slot c.self.inside.catalog c.leave_catalog-in-Merged.new.catalog) c.id-id.ensures c.leave_catalog-in-Merged.ensures) in
+    λ merge serial bodies o b. absurd (not_opened _ merge serial _ _ c.self.invariant (sym (ap (λ (v : CoreView). v.merger) c.self.view_is)) (λ n held. left_held (closes_for_sure phase id.call) id.slot c.self.inside.catalog c.leave_catalog-in-Merged.new.catalog n leaves held) o)
+
+pub returns-in-Merged-clause-copies : goal.returns-in-Merged-clause-copies
+returns-in-Merged-clause-copies c =
+    let made = c.args.outcome in
+    let id = made.request.id in
+    let phases = c.self.inside.phases.items in
+    let phase = slice_index_or phases id.slot c.index.result.now in
+    let closed = c.closes_for_sure-closed.ensures ∙ ap (λ p. closes_for_sure p c.id-id.result.call) (c.index.ensures ∙ ap (λ (i : RequestId). slice_index_or phases i.slot c.index.result.now) c.id-id.ensures)
+    ∙ ap (λ (i : RequestId). closes_for_sure phase i.call) c.id-id.ensures in
+    let leaves : LeavesCatalog (closes_for_sure phase id.call) id.slot c.self.inside.catalog c.leave_catalog-in-Merged.new.catalog =
+    subst (λ b. LeavesCatalog b id.slot c.self.inside.catalog c.leave_catalog-in-Merged.new.catalog) closed
+    (subst (λ (i : RequestId). LeavesCatalog c.closes_for_sure-closed.result i.slot c.self.inside.catalog c.leave_catalog-in-Merged.new.catalog) c.id-id.ensures c.leave_catalog-in-Merged.ensures) in
+    λ merge serial bodies o b. absurd (not_opened _ merge serial _ _ c.self.invariant (sym (ap (λ (v : CoreView). v.merger) c.self.view_is)) (λ n held. left_held (closes_for_sure phase id.call) id.slot c.self.inside.catalog c.leave_catalog-in-Merged.new.catalog n leaves held) o)
+
+pub returns-in-Merged-clause-cuts : goal.returns-in-Merged-clause-cuts
+returns-in-Merged-clause-cuts c =
+    let made = c.args.outcome in
+    let id = made.request.id in
+    let phases = c.self.inside.phases.items in
+    let own : slice_get c.self.inside.outs 1 ≡ Some (Some id) = ap (λ w. slice_get c.self.inside.outs (index w)) (sym c.requires.merger)
+    ∙ ap (λ (v : CoreView). slice_get v.outs (index id.worker)) c.self.view_is ∙ c.requires.out in
+    let within = c.self.invariant.outs_are.within 1 id own in
+    let follows : (phase : Phase) → slice_get phases id.slot ≡ Some phase → c.follow_call.new.phases.items ≡ phases_after phases id phase (is_done made.answer) =
+    (λ phase is. c.follow_call.ensures phase (ap (λ (i : RequestId). slice_get phases i.slot) c.id-id.ensures ∙ is)
+    ∙ ap (λ i. phases_after phases i phase c.is_done-done.result) c.id-id.ensures
+    ∙ ap (phases_after phases id phase) (c.is_done-done.ensures ∙ ap is_done c.answer.ensures)) in
+    let count = after_count phases c.follow_call.new.phases.items id (is_done made.answer) within follows in
+    let phase = slice_index_or phases id.slot c.index.result.now in
+    let phase_is = slice_get-get_or phases id.slot c.index.result.now within in
+    let closed = c.closes_for_sure-closed.ensures ∙ ap (λ p. closes_for_sure p c.id-id.result.call) (c.index.ensures ∙ ap (λ (i : RequestId). slice_index_or phases i.slot c.index.result.now) c.id-id.ensures)
+    ∙ ap (λ (i : RequestId). closes_for_sure phase i.call) c.id-id.ensures in
+    let leaves : LeavesCatalog (closes_for_sure phase id.call) id.slot c.self.inside.catalog c.leave_catalog-in-Merged.new.catalog =
+    subst (λ b. LeavesCatalog b id.slot c.self.inside.catalog c.leave_catalog-in-Merged.new.catalog) closed
+    (subst (λ (i : RequestId). LeavesCatalog c.closes_for_sure-closed.result i.slot c.self.inside.catalog c.leave_catalog-in-Merged.new.catalog) c.id-id.ensures c.leave_catalog-in-Merged.ensures) in
+    let h = subst (λ p. Hands c.self.inside.merger made p c.hand_in-progress.new.self) c.in-Merged.is c.hand_in-progress.ensures in
+    let m = merger_works _ h.running c.self.invariant h.was in
+    let outcome : IsMergersOutcome _ made phase _ = record {
+      out = own;
+      outs = c.put_out.ensures;
+      apart = free_after _ c.self.inside.outs _ _ _ _ 1 id c.self.invariant.outs_are own;
+      phase_is = phase_is;
+      phases = follows phase phase_is;
+    } in
+    λ serial is bodies b. cut_seen _ _ _ c.self.view_is (ended_cut _ c.merger_outcomes.ensures _ _ h.running made phase c.in-Merged.serial bodies (record {
+      outcome = outcome;
+      rest = record { stands = m.stands; base = refl; history = refl; memory = refl; closed = m.closed; grows = refl; committing = refl; dumper = refl; makes = makes_in c.self.inside.dumper.since_freeze c.self.inside.dumper.running c.sound-2.ensures.running };
+      serial = refl;
+      catalog = leaves;
+      was = h.was;
+      running = subst AreRunning h.was c.sound.ensures.running;
+      copied = subst HasSoundCopy h.was c.sound.ensures.copy;
+      free = list_free _ h.running c.self.invariant h.was;
+    }) (ends_list h.running made c.in-Merged.serial _ h.hands.hands) (ap index c.requires.merger) (believed_seen made.request bodies _ _ c.self.view_is b))
+
+pub returns-after-fix_list-clause-lists : goal.returns-after-fix_list-clause-lists
+returns-after-fix_list-clause-lists c =
+    let made = c.args.outcome in
+    let id = made.request.id in
+    let phases = c.self.inside.phases.items in
+    let own : slice_get c.self.inside.outs 1 ≡ Some (Some id) = ap (λ w. slice_get c.self.inside.outs (index w)) (sym c.requires.merger)
+    ∙ ap (λ (v : CoreView). slice_get v.outs (index id.worker)) c.self.view_is ∙ c.requires.out in
+    let within = c.self.invariant.outs_are.within 1 id own in
+    let follows : (phase : Phase) → slice_get phases id.slot ≡ Some phase → c.follow_call.new.phases.items ≡ phases_after phases id phase (is_done made.answer) =
+    (λ phase is. c.follow_call.ensures phase (ap (λ (i : RequestId). slice_get phases i.slot) c.id-id.ensures ∙ is)
+    ∙ ap (λ i. phases_after phases i phase c.is_done-done.result) c.id-id.ensures
+    ∙ ap (phases_after phases id phase) (c.is_done-done.ensures ∙ ap is_done c.answer.ensures)) in
+    let count = after_count phases c.follow_call.new.phases.items id (is_done made.answer) within follows in
+    let phase = slice_index_or phases id.slot c.index.result.now in
+    let phase_is = slice_get-get_or phases id.slot c.index.result.now within in
+    let h = subst (λ p. Hands c.self.inside.merger made p c.hand_in-progress.new.self) c.in-Opened.is c.hand_in-progress.ensures in
+    let m = merger_works _ h.running c.self.invariant h.was in
+    let o = opens_beside _ h.running made c.in-Opened.image h.next.doing c.self.invariant h.was (subst AreRunning h.was c.sound.ensures.running) (subst HasSoundCopy h.was c.sound.ensures.copy) h.hands.hands in
+    let outcome : IsMergersOutcome _ made phase _ = record {
+      out = own;
+      outs = c.put_out.ensures;
+      apart = free_after _ c.self.inside.outs _ _ _ _ 1 id c.self.invariant.outs_are own;
+      phase_is = phase_is;
+      phases = follows phase phase_is;
+    } in
+    λ merge serial opens. opened_list _ c.merger_outcomes-in-Opened.ensures _ (the_view c.self.inside) _ h.running made phase c.in-Opened.image h.next.doing c.hand_in-progress.new.self c.fix_list.result c.self.invariant h.was (record {
+      outcome = outcome;
+      rest = record { stands = m.stands; base = refl; history = refl; memory = refl; closed = m.closed; grows = refl; committing = refl; dumper = refl; makes = makes_in c.self.inside.dumper.since_freeze c.self.inside.dumper.running c.sound-2.ensures.running };
+      serial = refl;
+      old_places = refl;
+      old_running = refl;
+      its_catalog = refl;
+      was = h.was;
+    }) o (h.is ∙ ap Some h.hands.is) c.sound-in-Opened.ensures c.enter_catalog.ensures
+    (subst (λ n. FixesList c.enter_catalog.new.catalog c.self.inside.dumper.running c.put_out.new.outs n c.hand_in-progress.new.self c.fix_list.result c.fix_list.new.merger) c.take_room-room.ensures c.fix_list.ensures.fixes)
+    refl (ap index c.requires.merger) refl count merge serial (opens_seen merge serial _ _ _ c.self.view_is opens)
+
+pub returns-after-fix_list-clause-retires : goal.returns-after-fix_list-clause-retires
+returns-after-fix_list-clause-retires c =
+    let made = c.args.outcome in
+    let id = made.request.id in
+    let phases = c.self.inside.phases.items in
+    let own : slice_get c.self.inside.outs 1 ≡ Some (Some id) = ap (λ w. slice_get c.self.inside.outs (index w)) (sym c.requires.merger)
+    ∙ ap (λ (v : CoreView). slice_get v.outs (index id.worker)) c.self.view_is ∙ c.requires.out in
+    let within = c.self.invariant.outs_are.within 1 id own in
+    let follows : (phase : Phase) → slice_get phases id.slot ≡ Some phase → c.follow_call.new.phases.items ≡ phases_after phases id phase (is_done made.answer) =
+    (λ phase is. c.follow_call.ensures phase (ap (λ (i : RequestId). slice_get phases i.slot) c.id-id.ensures ∙ is)
+    ∙ ap (λ i. phases_after phases i phase c.is_done-done.result) c.id-id.ensures
+    ∙ ap (phases_after phases id phase) (c.is_done-done.ensures ∙ ap is_done c.answer.ensures)) in
+    let count = after_count phases c.follow_call.new.phases.items id (is_done made.answer) within follows in
+    let phase = slice_index_or phases id.slot c.index.result.now in
+    let phase_is = slice_get-get_or phases id.slot c.index.result.now within in
+    let h = subst (λ p. Hands c.self.inside.merger made p c.hand_in-progress.new.self) c.in-Opened.is c.hand_in-progress.ensures in
+    let m = merger_works _ h.running c.self.invariant h.was in
+    let o = opens_beside _ h.running made c.in-Opened.image h.next.doing c.self.invariant h.was (subst AreRunning h.was c.sound.ensures.running) (subst HasSoundCopy h.was c.sound.ensures.copy) h.hands.hands in
+    let outcome : IsMergersOutcome _ made phase _ = record {
+      out = own;
+      outs = c.put_out.ensures;
+      apart = free_after _ c.self.inside.outs _ _ _ _ 1 id c.self.invariant.outs_are own;
+      phase_is = phase_is;
+      phases = follows phase phase_is;
+    } in
+    λ merge serial bodies opens b. opened_retires _ c.merger_outcomes-in-Opened.ensures _ (the_view c.self.inside) _ h.running made phase c.in-Opened.image h.next.doing c.hand_in-progress.new.self c.fix_list.result c.self.invariant h.was (record {
+      outcome = outcome;
+      rest = record { stands = m.stands; base = refl; history = refl; memory = refl; closed = m.closed; grows = refl; committing = refl; dumper = refl; makes = makes_in c.self.inside.dumper.since_freeze c.self.inside.dumper.running c.sound-2.ensures.running };
+      serial = refl;
+      old_places = refl;
+      old_running = refl;
+      its_catalog = refl;
+      was = h.was;
+    }) o (h.is ∙ ap Some h.hands.is) c.sound-in-Opened.ensures c.enter_catalog.ensures
+    (subst (λ n. FixesList c.enter_catalog.new.catalog c.self.inside.dumper.running c.put_out.new.outs n c.hand_in-progress.new.self c.fix_list.result c.fix_list.new.merger) c.take_room-room.ensures c.fix_list.ensures.fixes)
+    refl (ap index c.requires.merger) refl count merge serial bodies (opens_seen merge serial _ _ _ c.self.view_is opens) (believed_seen made.request bodies _ _ c.self.view_is b)
+
+pub returns-after-fix_list-clause-copies : goal.returns-after-fix_list-clause-copies
+returns-after-fix_list-clause-copies c =
+    let made = c.args.outcome in
+    let id = made.request.id in
+    let phases = c.self.inside.phases.items in
+    let own : slice_get c.self.inside.outs 1 ≡ Some (Some id) = ap (λ w. slice_get c.self.inside.outs (index w)) (sym c.requires.merger)
+    ∙ ap (λ (v : CoreView). slice_get v.outs (index id.worker)) c.self.view_is ∙ c.requires.out in
+    let within = c.self.invariant.outs_are.within 1 id own in
+    let follows : (phase : Phase) → slice_get phases id.slot ≡ Some phase → c.follow_call.new.phases.items ≡ phases_after phases id phase (is_done made.answer) =
+    (λ phase is. c.follow_call.ensures phase (ap (λ (i : RequestId). slice_get phases i.slot) c.id-id.ensures ∙ is)
+    ∙ ap (λ i. phases_after phases i phase c.is_done-done.result) c.id-id.ensures
+    ∙ ap (phases_after phases id phase) (c.is_done-done.ensures ∙ ap is_done c.answer.ensures)) in
+    let count = after_count phases c.follow_call.new.phases.items id (is_done made.answer) within follows in
+    let phase = slice_index_or phases id.slot c.index.result.now in
+    let phase_is = slice_get-get_or phases id.slot c.index.result.now within in
+    let h = subst (λ p. Hands c.self.inside.merger made p c.hand_in-progress.new.self) c.in-Opened.is c.hand_in-progress.ensures in
+    let m = merger_works _ h.running c.self.invariant h.was in
+    let o = opens_beside _ h.running made c.in-Opened.image h.next.doing c.self.invariant h.was (subst AreRunning h.was c.sound.ensures.running) (subst HasSoundCopy h.was c.sound.ensures.copy) h.hands.hands in
+    let outcome : IsMergersOutcome _ made phase _ = record {
+      out = own;
+      outs = c.put_out.ensures;
+      apart = free_after _ c.self.inside.outs _ _ _ _ 1 id c.self.invariant.outs_are own;
+      phase_is = phase_is;
+      phases = follows phase phase_is;
+    } in
+    λ merge serial bodies opens b. copies_seen merge.source.serial serial (bodies_after bodies id made.request.bytes) _ _ _ c.self.view_is
+    (opened_copies _ c.merger_outcomes-in-Opened.ensures _ (the_view c.self.inside) _ h.running made phase c.in-Opened.image h.next.doing c.hand_in-progress.new.self c.fix_list.result c.self.invariant h.was (record {
+      outcome = outcome;
+      rest = record { stands = m.stands; base = refl; history = refl; memory = refl; closed = m.closed; grows = refl; committing = refl; dumper = refl; makes = makes_in c.self.inside.dumper.since_freeze c.self.inside.dumper.running c.sound-2.ensures.running };
+      serial = refl;
+      old_places = refl;
+      old_running = refl;
+      its_catalog = refl;
+      was = h.was;
+    }) o (h.is ∙ ap Some h.hands.is) c.sound-in-Opened.ensures c.enter_catalog.ensures
+    (subst (λ n. FixesList c.enter_catalog.new.catalog c.self.inside.dumper.running c.put_out.new.outs n c.hand_in-progress.new.self c.fix_list.result c.fix_list.new.merger) c.take_room-room.ensures c.fix_list.ensures.fixes)
+    refl (ap index c.requires.merger) refl count merge serial bodies (opens_seen merge serial _ _ _ c.self.view_is opens) (believed_seen made.request bodies _ _ c.self.view_is b))
+
+pub returns-after-fix_list-clause-cuts : goal.returns-after-fix_list-clause-cuts
+returns-after-fix_list-clause-cuts c =
+    let made = c.args.outcome in
+    let h = subst (λ p. Hands c.self.inside.merger made p c.hand_in-progress.new.self) c.in-Opened.is c.hand_in-progress.ensures in
+    let o = opens_beside _ h.running made c.in-Opened.image h.next.doing c.self.invariant h.was (subst AreRunning h.was c.sound.ensures.running) (subst HasSoundCopy h.was c.sound.ensures.copy) h.hands.hands in
+    λ serial is bodies b. cut_seen _ _ _ c.self.view_is (none_cut (the_view c.self.inside) _ h.running o.copy h.was o.was)
+
+pub returns-in-Failed-clause-opens : goal.returns-in-Failed-clause-opens
+returns-in-Failed-clause-opens c = λ merge copy was copies none other. absurd (other refl)
+
+pub returns-in-More-clause-opens : goal.returns-in-More-clause-opens
+returns-in-More-clause-opens c =
+    let more : IsMore c.hand_in-progress.result = c.in-More.is in
+    let h = handed_on c.self.inside.merger c.args.outcome c.hand_in-progress.result c.hand_in-progress.new.self more c.hand_in-progress.ensures in
+    λ merge copy was copies none other. absurd (still_copies c.self.inside.merger c.hand_in-progress.new.self merge copy c.args.outcome c.hand_in-progress.result more h
+    (ap (λ (v : CoreView). v.merger) c.self.view_is ∙ was) copies none)
+
+pub returns-in-Merged-clause-opens : goal.returns-in-Merged-clause-opens
+returns-in-Merged-clause-opens c =
+    let made = c.args.outcome in
+    let h = subst (λ p. Hands c.self.inside.merger made p c.hand_in-progress.new.self) c.in-Merged.is c.hand_in-progress.ensures in
+    let e = ends_list h.running made c.in-Merged.serial _ h.hands.hands in
+    λ merge copy was copies none other. absurd (not_copying c.self.inside.merger h.running merge e.r copy h.was e.was (ap (λ (v : CoreView). v.merger) c.self.view_is ∙ was) copies)
+
+pub returns-after-fix_list-clause-opens : goal.returns-after-fix_list-clause-opens
+returns-after-fix_list-clause-opens c =
+    let made = c.args.outcome in
+    let id = made.request.id in
+    let phases = c.self.inside.phases.items in
+    let own : slice_get c.self.inside.outs 1 ≡ Some (Some id) = ap (λ w. slice_get c.self.inside.outs (index w)) (sym c.requires.merger)
+    ∙ ap (λ (v : CoreView). slice_get v.outs (index id.worker)) c.self.view_is ∙ c.requires.out in
+    let within = c.self.invariant.outs_are.within 1 id own in
+    let follows : (phase : Phase) → slice_get phases id.slot ≡ Some phase → c.follow_call.new.phases.items ≡ phases_after phases id phase (is_done made.answer) =
+    (λ phase is. c.follow_call.ensures phase (ap (λ (i : RequestId). slice_get phases i.slot) c.id-id.ensures ∙ is)
+    ∙ ap (λ i. phases_after phases i phase c.is_done-done.result) c.id-id.ensures
+    ∙ ap (phases_after phases id phase) (c.is_done-done.ensures ∙ ap is_done c.answer.ensures)) in
+    let count = after_count phases c.follow_call.new.phases.items id (is_done made.answer) within follows in
+    let phase = slice_index_or phases id.slot c.index.result.now in
+    let phase_is = slice_get-get_or phases id.slot c.index.result.now within in
+    let h = subst (λ p. Hands c.self.inside.merger made p c.hand_in-progress.new.self) c.in-Opened.is c.hand_in-progress.ensures in
+    let m = merger_works _ h.running c.self.invariant h.was in
+    let o = opens_beside _ h.running made c.in-Opened.image h.next.doing c.self.invariant h.was (subst AreRunning h.was c.sound.ensures.running) (subst HasSoundCopy h.was c.sound.ensures.copy) h.hands.hands in
+    let outcome : IsMergersOutcome _ made phase _ = record {
+      out = own;
+      outs = c.put_out.ensures;
+      apart = free_after _ c.self.inside.outs _ _ _ _ 1 id c.self.invariant.outs_are own;
+      phase_is = phase_is;
+      phases = follows phase phase_is;
+    } in
+    λ merge copy was copies none other. opens_seen merge copy.order.serial _ _ _ (sym c.self.view_is)
+    (opened_now _ c.merger_outcomes-in-Opened.ensures _ (the_view c.self.inside) _ h.running made phase c.in-Opened.image h.next.doing c.hand_in-progress.new.self c.fix_list.result c.self.invariant h.was (record {
+      outcome = outcome;
+      rest = record { stands = m.stands; base = refl; history = refl; memory = refl; closed = m.closed; grows = refl; committing = refl; dumper = refl; makes = makes_in c.self.inside.dumper.since_freeze c.self.inside.dumper.running c.sound-2.ensures.running };
+      serial = refl;
+      old_places = refl;
+      old_running = refl;
+      its_catalog = refl;
+      was = h.was;
+    }) o (h.is ∙ ap Some h.hands.is) c.sound-in-Opened.ensures c.enter_catalog.ensures
+    (subst (λ n. FixesList c.enter_catalog.new.catalog c.self.inside.dumper.running c.put_out.new.outs n c.hand_in-progress.new.self c.fix_list.result c.fix_list.new.merger) c.take_room-room.ensures c.fix_list.ensures.fixes)
+    refl (ap index c.requires.merger) refl count merge copy (ap (λ (v : CoreView). v.merger) c.self.view_is ∙ was) copies)

@@ -5,7 +5,7 @@ use Rattle.sd_pagetable.specs.Nested.{value_at}
 use Rattle.sd_pagetable.specs.Contents.{Contents, page_at, plain_of}
 use Rattle.sd_pagetable.specs.Access.{allows}
 use Rattle.sd_pagetable.specs.Due.{page_due}
-use Rattle.sd_pagetable.specs.declared.entry.Entry.{Entry}
+use Rattle.sd_tables.specs.declared.entry.Entry.{Entry}
 use Rattle.sd_pagetable.proofs.MemoryLemmas.{page_of_seen, due_none, due_some}
 use Rattle.sd_pagetable.proofs.memory.Memory.permitted.Goals as goal
 

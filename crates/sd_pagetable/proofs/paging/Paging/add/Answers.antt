@@ -1,9 +1,9 @@
 use Rattle.std.proofs.Common.{◌≡◌, ℕ, ◌<◌, ◌^◌, ap, ◌∙◌, sym, subst, refl, arith}
-use Rattle.sd_pagetable.specs.declared.entry.Entry.{Entry}
+use Rattle.sd_tables.specs.declared.entry.Entry.{Entry}
 use Rattle.sd_pagetable.specs.Nested.{Nested, is_alive}
 use Rattle.sd_pagetable.specs.Page.{fresh_page}
 use Rattle.sd_pagetable.specs.Contents.{Contents, page_at, put_page, page_count}
-use Rattle.sd_pagetable.specs.Frames.{Pool}
+use Rattle.sd_frames.specs.Frames.{Pool}
 use Rattle.sd_pagetable.specs.View.{page_of_entry, contents_of, IsKept}
 use Rattle.sd_pagetable.proofs.NestedLemmas.{alive-map}
 use Rattle.sd_pagetable.proofs.ViewLemmas.{view_put, same_pool}

@@ -2,7 +2,7 @@ use Rattle.std.proofs.Common.{◌≡◌, ap, ◌∙◌, sym, subst}
 use Rattle.std.specs.Prelude.{Result, Ok, Err, OnOk, OnErr}
 use Rattle.std.specs.declared.alloc.AllocError.{AllocError}
 use Rattle.std.specs.FinMap as finmap
-use Rattle.sd_pagetable.specs.declared.entry.Entry.{Entry}
+use Rattle.sd_tables.specs.declared.entry.Entry.{Entry}
 use Rattle.sd_pagetable.specs.Nested.{Nested, is_alive}
 use Rattle.sd_pagetable.specs.Contents.{Contents}
 use Rattle.sd_pagetable.specs.View.{contents_of, IsKept}

@@ -1,9 +1,9 @@
 use Rattle.std.proofs.Common.{◌≡◌, ap, ◌∙◌, sym, subst, Option, Some, None, refl}
 use Rattle.std.specs.Option.{option_map}
-use Rattle.sd_pagetable.specs.declared.entry.Entry.{Entry}
+use Rattle.sd_tables.specs.declared.entry.Entry.{Entry}
 use Rattle.sd_pagetable.specs.Contents.{page_at, IsSound}
 use Rattle.sd_pagetable.specs.Nested.{value_at}
-use Rattle.sd_pagetable.specs.Frames.{Pool}
+use Rattle.sd_frames.specs.Frames.{Pool}
 use Rattle.sd_pagetable.specs.View.{page_of_entry, entry_of}
 use Rattle.sd_pagetable.proofs.ViewLemmas.{page_at-view}
 use Rattle.sd_pagetable.proofs.paging.Paging.entry.Goals as goal

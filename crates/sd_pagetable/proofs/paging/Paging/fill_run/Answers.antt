@@ -1,5 +1,5 @@
 use Rattle.std.proofs.Common.{◌≡◌, ◌+◌, ◌-◌, ap, ◌∙◌, sym, subst, arith}
-use Rattle.sd_pagetable.specs.declared.entry.Entry.{Entry}
+use Rattle.sd_tables.specs.declared.entry.Entry.{Entry}
 use Rattle.sd_pagetable.specs.Nested.{is_alive}
 use Rattle.sd_pagetable.specs.Page.{fresh_page}
 use Rattle.sd_pagetable.specs.Contents.{Contents, page_count}

@@ -1,12 +1,12 @@
 use Rattle.std.proofs.Common.{◌≡◌, ℕ, ap, ◌∙◌, sym, subst, refl, is_some, Option, Some, None}
 use Rattle.std.specs.Option.{option_map}
 use Rattle.std.specs.FinMap as finmap
-use Rattle.sd_pagetable.specs.declared.entry.Entry.{Entry}
+use Rattle.sd_tables.specs.declared.entry.Entry.{Entry}
 use Rattle.sd_pagetable.specs.Nested.{Table, inside, value_at}
 use Rattle.sd_pagetable.specs.Page.{Page}
 use Rattle.sd_pagetable.specs.Contents.{Contents}
 use Rattle.std.specs.declared.ops.Bound.{Bound}
-use Rattle.sd_pagetable.specs.Firsts.{IsFirstFrom}
+use Rattle.sd_tables.specs.Firsts.{IsFirstFrom}
 use Rattle.sd_pagetable.specs.View.{page_of_entry, contents_of}
 use Rattle.sd_pagetable.proofs.NestedLemmas.{value_at-map}
 use Rattle.sd_pagetable.proofs.paging.Paging.first_from.Goals as goal

@@ -1,16 +1,16 @@
-use Rattle.std.proofs.Common.{◌≡◌, ℕ, ap, ◌∙◌, sym, subst, Option, Some, true, false}
+use Rattle.std.proofs.Common.{◌≡◌, ℕ, ap, ◌∙◌, sym, subst, Option, Some, true}
 use Rattle.std.specs.Option.{IfSome}
-use Rattle.sd_pagetable.specs.declared.entry.Entry.{Entry}
+use Rattle.sd_tables.specs.declared.entry.Entry.{Entry}
 use Rattle.sd_pagetable.specs.Nested.{Nested, value_at, put_at}
 use Rattle.sd_pagetable.specs.Page.{Page}
 use Rattle.sd_pagetable.specs.Contents.{Contents, page_at}
-use Rattle.sd_pagetable.specs.Frames.{Pool}
+use Rattle.sd_frames.specs.Frames.{Pool, IsExhausted, HasFree}
 use Rattle.sd_pagetable.specs.View.{contents_of, IsKept}
 use Rattle.sd_pagetable.proofs.TableLemmas.{not_none}
 use Rattle.sd_pagetable.proofs.ViewLemmas.{entry_there, none_there}
 use Rattle.sd_pagetable.proofs.KeptLemmas.{frame_counted}
 use Rattle.std.specs.Prelude.{Result, Err}
-use Rattle.std.proofs.Common.{◌⊎◌, inl, inr}
+use Rattle.std.proofs.Common.{inl, inr}
 use Rattle.std.proofs.lemmas.Result.{err_from_is_err_and}
 use Rattle.sd_pagetable.specs.declared.memory_error.MemoryError.{MemoryError}
 use Rattle.sd_pagetable.specs.declared.memory_error.MemoryError.TheVariants.{Denied as DeniedError, OutOfMemory}
@@ -18,7 +18,6 @@ use Rattle.sd_pagetable.specs.declared.access_error.AccessError.{AccessError}
 use Rattle.sd_pagetable.specs.declared.access_error.AccessError.TheVariants.{Refused}
 use Rattle.sd_pagetable.specs.declared.memory_refusal.MemoryRefusal.TheVariants.{NoFrame}
 use Rattle.sd_pagetable.specs.Due.{Answers}
-use Rattle.sd_pagetable.specs.Frames.{IsExhausted, HasFree}
 use Rattle.sd_pagetable.specs.Owning.{FailsToTake}
 use Rattle.sd_pagetable.specs.Tracking.{MakesWritable}
 use Rattle.sd_pagetable.proofs.FullLemmas.{due_room, due_full, needs_is, makes_page_writable}

@@ -1,6 +1,6 @@
 use Rattle.std.proofs.Common.{ap, ◌∙◌}
 use Rattle.sd_pagetable.specs.Nested.{map_values}
-use Rattle.sd_pagetable.specs.Frames.{Pool}
+use Rattle.sd_frames.specs.Frames.{Pool}
 use Rattle.sd_pagetable.specs.View.{page_of_entry}
 use Rattle.sd_pagetable.proofs.TableLemmas.{map_values-empty}
 use Rattle.sd_pagetable.proofs.ViewLemmas.{same_contents}

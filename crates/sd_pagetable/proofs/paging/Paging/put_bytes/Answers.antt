@@ -1,10 +1,10 @@
 use Rattle.std.proofs.Common.{◌≡◌, ℕ, ◌<◌, ap, ◌∙◌, sym, subst, Some, None, false, List}
 use Rattle.std.specs.Option.{IfSome}
-use Rattle.sd_pagetable.specs.declared.entry.Entry.{Entry}
+use Rattle.sd_tables.specs.declared.entry.Entry.{Entry}
 use Rattle.sd_pagetable.specs.Nested.{Nested, value_at, put_at}
 use Rattle.sd_pagetable.specs.Page.{Page}
 use Rattle.sd_pagetable.specs.Contents.{Contents, page_at, put_page, members, is_full}
-use Rattle.sd_pagetable.specs.Frames.{Pool, Cell, cell_at, SetsCell}
+use Rattle.sd_frames.specs.Frames.{Pool, Cell, cell_at, SetsCell}
 use Rattle.sd_pagetable.specs.View.{page_of_entry, contents_of, IsKept}
 use Rattle.sd_pagetable.specs.Loaded.{GivesFrame}
 use Rattle.sd_pagetable.proofs.TableLemmas.{not_none}

@@ -1,12 +1,12 @@
 use Rattle.std.proofs.Common.{◌≡◌, ℕ, ap, ◌∙◌, sym, subst, Option, Some, None, true, List}
 use Rattle.std.specs.Option.{IfSome}
-use Rattle.sd_pagetable.specs.declared.entry.Entry.{Entry}
+use Rattle.sd_tables.specs.declared.entry.Entry.{Entry}
 use Rattle.sd_pagetable.specs.Nested.{Nested, value_at}
 use Rattle.sd_pagetable.specs.Page.{Page, stored_page}
 use Rattle.sd_pagetable.specs.Contents.{Contents, page_at, put_page}
 use Rattle.sd_pagetable.specs.Access.{stored_at}
-use Rattle.sd_pagetable.specs.Frames.{Pool}
-use Rattle.sd_pagetable.specs.View.{page_of_entry, frame_bytes, contents_of}
+use Rattle.sd_frames.specs.Frames.{Pool, frame_bytes}
+use Rattle.sd_pagetable.specs.View.{page_of_entry, contents_of}
 use Rattle.sd_pagetable.proofs.TableLemmas.{not_none}
 use Rattle.sd_pagetable.proofs.ViewLemmas.{entry_there, none_there, alone_in}
 use Rattle.sd_pagetable.proofs.KeptLemmas.{frame_used, kept_written}

@@ -1,6 +1,0 @@
-use Rattle.std.proofs.Common.{arith}
-use Rattle.sd_pagetable.proofs.LeafLemmas.{leaf_put}
-use Rattle.sd_pagetable.proofs.leaf.Leaf.put.Goals as goal
-
-pub returns : goal.returns
-returns c = leaf_put c.args.self.now.used.words c.add.new.self.words c.args.self.now.entries c.args.place (omega arith) c.of.result c.add.ensures c.args.entry c.of.ensures

@@ -1,7 +1,0 @@
-use Rattle.sd_pagetable.specs.Radix.{leaf_at}
-use Rattle.sd_pagetable.specs.Runs.{FillsRun}
-use Rattle.sd_pagetable.proofs.leaf.LeafNode.fill_run.Given as goal
-
--- the pages so far are filled
-abbrev pub invariant-loop-page : goal.invariant-loop-page
-invariant-loop-page l = FillsRun l.entry (leaf_at l.fn.self.used.words l.fn.self.entries) (leaf_at l.self.used.words l.self.entries) l.from l.page

@@ -1,7 +1,0 @@
-use Rattle.std.proofs.Common.{ap, ◌∙◌, sym, is_some}
-use Rattle.sd_pagetable.specs.Nested.{is_alive}
-use Rattle.sd_pagetable.proofs.TableLemmas.{get_tree}
-use Rattle.sd_pagetable.proofs.tables.Tables.is_alive.Goals as goal
-
-pub returns : goal.returns
-returns c = c.contains_key.ensures ∙ ap is_some (sym (get_tree c.self.inside.spaces.entries c.args.space)) ∙ ap (λ m. is_alive m c.args.space) c.self.view_is

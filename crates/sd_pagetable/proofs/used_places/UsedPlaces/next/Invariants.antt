@@ -1,6 +1,0 @@
-use Rattle.std.proofs.Common.{◌≡◌, ℕ, ◌/◌, ◌<◌, ◌≤◌, false}
-use Rattle.sd_pagetable.specs.Radix.{is_used}
-use Rattle.sd_pagetable.proofs.used_places.UsedPlaces.next.Given as goal
-
-abbrev pub invariant-loop-word : goal.invariant-loop-word
-invariant-loop-word l = (place : ℕ) → l.from ≤ place → place / 64 < l.word → is_used l.self.words place ≡ false

@@ -1,8 +1,0 @@
-use Rattle.sd_pagetable.proofs.UsedLemmas.{in_word_none, in_word_some}
-use Rattle.sd_pagetable.proofs.used_places.UsedPlaces.next_in_word.Goals as goal
-
-pub returns-in_err-bit : goal.returns-in_err-bit
-returns-in_err-bit c = rw c.from_residual.ensures (in_word_none c.args.self.now.words c.args.word c.args.from c.first_bit_of-low.result c.first_bit_of-low.ensures.first c.in_err-bit.ensures)
-
-pub returns : goal.returns
-returns c = in_word_some c.args.self.now.words c.args.word c.args.from c.first_bit_of-low.result c.first_bit_of-low.ensures.first c.in_ok-bit.bit c.in_ok-bit.ensures

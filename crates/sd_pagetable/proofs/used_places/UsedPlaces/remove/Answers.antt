@@ -1,6 +1,0 @@
-use Rattle.std.proofs.Common.{◌/◌, ◌<◌, length, arith}
-use Rattle.sd_pagetable.proofs.UsedLemmas.{used_removed}
-use Rattle.sd_pagetable.proofs.used_places.UsedPlaces.remove.Goals as goal
-
-pub returns : goal.returns
-returns c = λ other. used_removed c.args.self.now.words c.args.place other (omega arith)

@@ -1,0 +1,20 @@
+-- A place for a table, after a change.
+use Rattle.std.proofs.Common.{◌≡◌, ℕ, ◌<◌, cond, nat_eq, IsSome, Option, Some, refl, sym, ◌∙◌, subst}
+use Rattle.std.specs.Prelude.{Result, Ok, Err, IfOk, OnErr}
+use Rattle.std.proofs.lemmas.Bool.{eq-eqb, cond-true}
+use Rattle.sd_tables.specs.declared.entry.Entry.{Entry}
+use Rattle.sd_tables.specs.Radix.{HasPage}
+
+-- a page that was put is there
+pub has_put : (span : ℕ) (before after : ℕ → Option Entry) (page : ℕ) (entry : Entry) → page < span → ((other : ℕ) → after other ≡ cond (nat_eq other page) (Some entry) (before other)) → HasPage span after
+has_put span before after page entry l is = (
+  page,
+  l,
+  subst (λ (o : Option Entry). IsSome o) (sym (is page ∙ cond-true (nat_eq page page) (Some entry) (before page) (eq-eqb page page refl))) refl,
+)
+
+-- and where it couldn't be put, those that were there are there
+pub has_after : {E : Type 0} (span : ℕ) (before after : ℕ → Option Entry) (page : ℕ) (entry : Entry) (r : Result (Option Entry) E) → page < span → HasPage span before
+    → IfOk r (λ _. (other : ℕ) → after other ≡ cond (nat_eq other page) (Some entry) (before other)) → OnErr r ((other : ℕ) → after other ≡ before other) → HasPage span after
+has_after span before after page entry (Ok x) l has ok err = has_put span before after page entry l ok
+has_after span before after page entry (Err e) l has ok err = (has.0, has.1, subst (λ (o : Option Entry). IsSome o) (sym (err has.0)) has.2)

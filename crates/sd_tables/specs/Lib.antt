@@ -1,0 +1,5 @@
+pub mod Tables
+pub mod Firsts
+pub mod Entries
+pub mod Runs
+pub mod Radix

@@ -1,0 +1,205 @@
+ghost use Rattle.std.specs.Prelude.{◌≡◌, ◌<◌, ◌≤◌, ◌^◌, true, false, None, IsSome, OnOk, OnErr, IfOk};
+ghost use Rattle.std.specs.FinMap as finmap;
+ghost use Rattle.sd_tables.specs.Tables.{inside, value_at, is_alive, put_at, remove_at};
+ghost use Rattle.sd_tables.specs.Firsts.{IsFirstFrom};
+ghost use Rattle.sd_tables.specs.Runs.{AreMapped, ChangesRun, FillsRun};
+
+use crate::entry::Entry;
+use crate::page_table::PageTable;
+use crate::run_change::RunChange;
+use sd_areas::{PageNo, SpaceId};
+use std::alloc::{AllocError, Global};
+use std::collections::BTreeMap;
+use std::marker::Model;
+use std::ops::Bound;
+
+/// The page tables of the living spaces.
+#[derive(Drop)]
+pub struct Tables {
+    alloc: Global,
+    spaces: BTreeMap<SpaceId, PageTable>,
+}
+
+impl Model for Tables {
+    ghost use Rattle.std.specs.FinMap as finmap;
+    ghost use Rattle.std.specs.Coded.{coded_ℕ};
+    ghost use Rattle.sd_tables.specs.Tables.{Nested};
+    ghost use Rattle.sd_tables.specs.Entries.{entry_code};
+    ghost use Rattle.sd_tables.specs.declared.entry.Entry.{Entry};
+
+    ghost Value = { Nested Entry };
+
+    ghost coded = { finmap.code coded_ℕ (finmap.code coded_ℕ entry_code) };
+
+    ghost view = { λ t. finmap.from_entries t.spaces.entries };
+}
+
+impl Tables {
+    /// No space.
+    pub fn new(alloc: Global) -> Self
+        ensures { result ≡ finmap.empty }
+    {
+        Tables {
+            alloc,
+            spaces: BTreeMap::new(alloc),
+        }
+    }
+
+    /// Whether a space is alive.
+    pub fn is_alive(&self, space: SpaceId) -> bool
+        ensures { result ≡ is_alive self.now space }
+    {
+        self.spaces.contains_key(&space)
+    }
+
+    /// How many spaces are alive.
+    pub fn len(&self) -> usize
+        ensures { result ≡ finmap.len self.now }
+    {
+        self.spaces.len()
+    }
+
+    /// The entry of a page, if it is mapped.
+    pub fn get(&self, space: SpaceId, page: PageNo) -> Option<Entry>
+        ensures { result ≡ value_at self.now space page }
+    {
+        self.spaces.get(&space)?.get(page)
+    }
+
+    /// How many pages a space has.
+    pub fn pages_in(&self, space: SpaceId) -> usize
+        ensures { result ≡ finmap.len (inside self.now space) }
+    {
+        match self.spaces.get(&space) {
+            Some(table) => table.len(),
+            None => 0,
+        }
+    }
+
+    /// The first page of a space from a bound on.
+    pub fn first_from(&self, space: SpaceId, start: Bound<PageNo>) -> Option<PageNo>
+        ensures { IsFirstFrom (inside self.now space) start result }
+    {
+        self.spaces.get(&space)?.first_from(start)
+    }
+
+    /// The page up to which those of a space from one on are mapped, at most an end.
+    pub fn mapped_to(&self, space: SpaceId, first: PageNo, end: u64) -> u64
+        requires ordered { first ≤ end }
+        requires within { end ≤ 2 ^ 35 }
+        ensures reached { first ≤ result }
+        ensures end { result ≤ end }
+        ensures mapped { AreMapped (value_at self.now space) first result }
+    {
+        match self.spaces.get(&space) {
+            Some(table) => table.mapped_to(first, end),
+            None => first.number(),
+        }
+    }
+
+    /// Puts an entry at the pages of a space from one on, up to an end or one that is mapped. It returns
+    /// the page that it came to.
+    ///
+    /// # Errors
+    ///
+    /// Out of memory where the table can't grow: nothing changes.
+    pub fn fill_run(
+        &mut self,
+        space: SpaceId,
+        first: PageNo,
+        end: u64,
+        entry: Entry,
+    ) -> Result<u64, AllocError>
+        requires alive { is_alive self.old space ≡ true }
+        requires some { first < end }
+        requires within { end ≤ 2 ^ 35 }
+        ensures reached { IfOk result (λ to. first ≤ to) }
+        ensures more { IfOk result (λ to. value_at self.old space first ≡ None → first < to) }
+        ensures end { IfOk result (λ to. to ≤ end) }
+        ensures run { IfOk result
+            (λ to. FillsRun entry (value_at self.old space) (value_at self.new space) first to) }
+        ensures others { OnOk result
+            (self.new ≡ finmap.insert self.old space (inside self.new space)) }
+        ensures err { OnErr result (self.new ≡ self.old) }
+    {
+        let Some(table) = self.spaces.get_mut(&space) else {
+            return Ok(first.number());
+        };
+        table.fill_run(first, end, entry)
+    }
+
+    /// Changes the pages of a space from one on, up to an end or one that isn't mapped or would give
+    /// up its frame. It returns the page that it came to.
+    pub fn change_run(&mut self, space: SpaceId, first: PageNo, end: u64, change: RunChange) -> u64
+        requires alive { is_alive self.old space ≡ true }
+        requires ordered { first ≤ end }
+        requires within { end ≤ 2 ^ 35 }
+        ensures reached { first ≤ result }
+        ensures end { result ≤ end }
+        ensures run { ChangesRun change (value_at self.old space) (value_at self.new space) first result }
+        ensures others { self.new ≡ finmap.insert self.old space (inside self.new space) }
+    {
+        let Some(table) = self.spaces.get_mut(&space) else {
+            return first.number();
+        };
+        table.change_run(first, end, change)
+    }
+
+    /// Adds a space without pages.
+    ///
+    /// # Errors
+    ///
+    /// Out of memory where there is no room for it: nothing changes.
+    pub fn add_space(&mut self, space: SpaceId) -> Result<(), AllocError>
+        ensures ok { OnOk result (self.new ≡ finmap.insert self.old space finmap.empty) }
+        ensures err { OnErr result (self.new ≡ self.old) }
+    {
+        self.spaces.insert(space, PageTable::new(self.alloc))?;
+        Ok(())
+    }
+
+    /// Takes a space away.
+    pub fn remove_space(&mut self, space: SpaceId)
+        ensures { self.new ≡ finmap.remove self.old space }
+    {
+        self.spaces.remove(&space);
+    }
+
+    /// Puts the entry of a page.
+    ///
+    /// # Errors
+    ///
+    /// Out of memory where the table can't grow: nothing changes.
+    pub fn insert(&mut self, space: SpaceId, page: PageNo, entry: Entry) -> Result<(), AllocError>
+        requires { is_alive self.old space ≡ true }
+        ensures ok { OnOk result (self.new ≡ put_at self.old space page entry) }
+        ensures err { OnErr result (self.new ≡ self.old) }
+    {
+        let Some(table) = self.spaces.get_mut(&space) else {
+            return Ok(());
+        };
+        table.insert(page, entry)
+    }
+
+    /// Replaces the entry of a mapped page. It takes no memory.
+    pub fn replace(&mut self, space: SpaceId, page: PageNo, entry: Entry)
+        requires { IsSome (value_at self.old space page) }
+        ensures { self.new ≡ put_at self.old space page entry }
+    {
+        let Some(table) = self.spaces.get_mut(&space) else {
+            return;
+        };
+        table.replace(page, entry);
+    }
+
+    /// Takes the entry of a page out.
+    pub fn remove(&mut self, space: SpaceId, page: PageNo)
+        requires { is_alive self.old space ≡ true }
+        ensures { self.new ≡ remove_at self.old space page }
+    {
+        let Some(table) = self.spaces.get_mut(&space) else {
+            return;
+        };
+        table.remove(page);
+    }
+}

@@ -1,0 +1,37 @@
+# Memory that is refused, growth by growth, to tests that were built beside the program (crates/test_failures and
+# crates/test_shared): they give what was refused once more, and pass all the same.
+
+# Makes the library that refuses a growth.
+growths_can_be_refused() {
+  command -v cc > /dev/null || { echo "no C compiler"; return 77; }
+  cc -O2 -shared -fPIC -o refuse.so "$here/refuse_growth.c"
+}
+
+# Runs a test once for each growth, or once for so many of them, which is refused. Growths are counted from 1.
+pass_without() {  # pass_without CRATE TEST STEP
+  local program=$here/../crates/$1/out/$1_tests number=1
+  [ -x "$program" ] || { echo "$1 isn't built"; return 77; }
+  while REFUSED=$number LD_PRELOAD=./refuse.so "$program" "$2" > out 2> err; do
+    grep -q '^growth refused$' err || return 0
+    number=$((number + $3))
+  done
+  echo "$2, growth $number"
+  cat out err
+  return 1
+}
+
+memory_is_refused_to_worlds() {
+  growths_can_be_refused || return
+  local name
+  for name in two_checkpoints a_merge stale_bits a_merge_beside_a_round; do
+    pass_without test_failures "tests::${name}_under_refused_memory" 1 || return
+  done
+}
+
+memory_is_refused_to_threads() {
+  growths_can_be_refused || return
+  pass_without test_shared cases::threads 97
+}
+
+try memory_is_refused_to_worlds
+try memory_is_refused_to_threads
