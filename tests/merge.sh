@@ -39,7 +39,7 @@ a_store_that_cannot_be_merged_is_told() {
   same "the status without a folder" "$(ends "$ckpt" merge file)" 1 || return 1
   same "without a folder" "$(cat out)" "cannot open DIR" || return 1
   has "the cause" "$(cat err)" "ckpt: file: " || return 1
-  prints 1 "cannot open DIR" "" "$ckpt" merge --quiet file
+  ends_with 1 "cannot open DIR" "" "$ckpt" merge --quiet file
 }
 
 closed_output_harms_no_merge() {

@@ -43,7 +43,7 @@ help_of_run_has_the_language() {
 
 quiet_tells_no_cause() {
   printf 'mmap 1 0x10000 4096 wr\n' > script
-  prints 2 "script line 1" "" "$ckpt" run --quiet store script || return 1
+  ends_with 2 "script line 1" "" "$ckpt" run --quiet store script || return 1
   same "the status of a missing script" "$(ends "$ckpt" run --quiet store missing)" 1 || return 1
   same "its cause" "$(cat err)" ""
 }

@@ -13,7 +13,13 @@ const CHECKPOINTS: u64 = 1_000;
 /// How often a cancel is tried.
 const TRIES: u64 = 100_000_000;
 
-/// Makes checkpoints until one is refused. Returns the refusal, and keeps the numbers that were acknowledged.
+/// Merges the chain that fills the store. Returns whether it was merged.
+fn make_room<R: Wait>(rt: &R, shared: &Shared<Store>) -> bool {
+    matches!(shared.run_merger(rt, &Free), Reply::Merged(_))
+}
+
+/// Makes checkpoints until one is refused, not for want of a slot alone. Returns the refusal, and keeps the numbers that were
+/// acknowledged.
 fn save_until_refused<R: Wait>(
     rt: &R,
     shared: &Shared<Store>,
@@ -23,6 +29,11 @@ fn save_until_refused<R: Wait>(
         match shared.run_dumper(rt, 2, &Free) {
             Reply::Acked(number) => {
                 if acks.push(number).is_err() {
+                    return None;
+                }
+            }
+            Reply::Refused(Refusal::NoSlot) => {
+                if !make_room(rt, shared) {
                     return None;
                 }
             }
