@@ -16,7 +16,7 @@ const BELLO: &[u8] = b"bello";
 const ZEROS: &[u8] = &[0; 5];
 
 /// A checkpoint, and a second one of two pre-dumps, in which behind so many events a merge is made.
-fn cut_in(first: &'static [u8], events: u64) -> [Line; 12] {
+fn cut_in(first: &'static [u8], events: u64) -> [Line; 11] {
     [
         Line::Open,
         Line::Map,
@@ -29,7 +29,6 @@ fn cut_in(first: &'static [u8], events: u64) -> [Line; 12] {
         Line::Merge,
         Line::Finish(Worker::Merger),
         Line::Finish(Worker::Dumper),
-        Line::Cancel,
     ]
 }
 
