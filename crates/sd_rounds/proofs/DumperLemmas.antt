@@ -19,7 +19,7 @@ use Rattle.sd_rounds.specs.declared.image_step.ImageStep.TheVariants.{Call, Page
 use Rattle.sd_rounds.specs.declared.progress.Progress.{Progress}
 use Rattle.sd_rounds.specs.declared.progress.Progress.TheVariants.{Strange, Failed as HasFailed, More as GoesOnWith, PreDump as PreDumpOpen, Dump as DumpOpen}
 use Rattle.sd_rounds.specs.declared.stage.Stage.{Stage}
-use Rattle.sd_rounds.specs.declared.work_error.WorkError.{WorkError}
+use Rattle.std.specs.declared.alloc.AllocError.{AllocError}
 use Rattle.sd_rounds.specs.declared.stage.Stage.TheVariants.{Format, Freeze, Pass as PassStage, Close}
 use Rattle.sd_rounds.specs.Dumper.{AreRunning, AreCounted, Dumping, Hands, HandsTo, IsHanded, HasCounted, IsCounted, IsItsImage, IsRunning, Running, WorksOn, counted, ends, freezes, image_from, is_frozen_image, is_strange, order_of, running_of}
 use Rattle.sd_rounds.specs.Making.{GoesOn, IsWritten, Making, Steps, closing, is_frozen, is_past_freeze, outcomes_left, outcomes_of, plan_of, stage_after, stage_behind, with_plan}
@@ -365,7 +365,7 @@ freeze_counts (Some image) e =
     not_past (Close plan header tables) e = absurd (both_ways false refl e)
 
 -- a step, or none where it was refused
-pub worked : (since now serial : ℕ) (state : SlotState) (ticket : ℕ) (old : Option Checkpoint) (checkpoint : Checkpoint) (new : Running) (before after : Contents) (result : Result ImageStep WorkError)
+pub worked : (since now serial : ℕ) (state : SlotState) (ticket : ℕ) (old : Option Checkpoint) (checkpoint : Checkpoint) (new : Running) (before after : Contents) (result : Result ImageStep AllocError)
     → AreRunning since (option_map running_of old) → old ≡ Some checkpoint → now ≡ (if is_to_freeze (running_of checkpoint).image then 0 else since)
     → IfOk result (λ step. WorksOn serial state ticket (running_of checkpoint) before step new after)
     → OnErr result (new ≡ running_of checkpoint) → IsRunning now new
