@@ -28,7 +28,7 @@ use Rattle.sd_pagetable.specs.Contents.{Contents}
 use Rattle.sd_rounds.specs.declared.image_order.ImageOrder.{ImageOrder}
 use Rattle.sd_rounds.specs.declared.new_image.NewImage.{NewImage}
 use Rattle.sd_rounds.specs.declared.stage.Stage.{Stage}
-use Rattle.sd_rounds.specs.declared.stage.Stage.TheVariants.{Format, Freeze, Pass as PassStage, PageWrite, Close}
+use Rattle.sd_rounds.specs.declared.stage.Stage.TheVariants.{Format, Freeze, Pass as PassStage, Close}
 use Rattle.sd_rounds.specs.Dumper.{Running}
 use Rattle.sd_rounds.specs.Files.{IsFiledIn as IsDumpFiledIn}
 use Rattle.sd_rounds.specs.Making.{Making}
@@ -82,7 +82,6 @@ pending_serial : (stage : Stage) (order : ImageOrder) (pass : Pass) (pages : Pag
 pending_serial (Format plan) order pass pages phase body request belief d files s = absurd (let no : Some d ≡ None = s.1 in cc)
 pending_serial Freeze order pass pages phase body request belief d files s = absurd (let no : Some d ≡ None = s.2 in cc)
 pending_serial PassStage order pass pages phase body request belief d files s = absurd (let no : Some d ≡ None = s.2 in cc)
-pending_serial (PageWrite plan) order pass pages phase body request belief d files s = absurd (let no : Some d ≡ None = s.1 in cc)
 pending_serial (Close plan header tables) order pass pages phase body request belief d files s = elim (cases_Bool (is_opening_at s.place request)) [
   | inl opens ↦ ap (λ (x : Image). x.header.serial) (sym (dump_is order.kind (image_of header pages tables) d (sym (s.opening opens).1))) ∙ ap (λ h. h.serial) files.numbers
   | inr shut ↦ absurd (let no : Some d ≡ None = (s.shut shut).1 in cc)

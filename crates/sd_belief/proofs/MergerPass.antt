@@ -35,8 +35,7 @@ use Rattle.sd_store_laws.specs.Needs.{IsNeededIn}
 use Rattle.sd_store_laws.specs.Stays.{SourceReachesNeeded}
 use Rattle.sd_belief.specs.Believes.{Believes, HasStore}
 use Rattle.sd_belief.specs.Calls.{IsFree}
-use Rattle.sd_belief.specs.Knows.{ids_of}
-use Rattle.sd_belief.specs.InUse.{IsAtWork, IsFilled, IsInUseOn, IsSlotFor, call_of}
+use Rattle.sd_belief.specs.InUse.{IsAtWork, IsFilled, IsInUseOn, IsSlotFor, call_of, ids_of}
 use Rattle.sd_belief.specs.MergerSteps.{AsksForMerged, MergesOn, TakesZeros}
 use Rattle.sd_belief.specs.Merges.{IsAskedIn, IsCopyOn, IsCopying, IsMergeAt, IsMergeOn, IsSpared, MakesOther, order_of_slot, request_in_slot, stage_in_slot}
 use Rattle.sd_belief.specs.StoreSteps.{IsQuiet, QuietSteps}

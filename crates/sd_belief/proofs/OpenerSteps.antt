@@ -23,7 +23,8 @@ use Rattle.sd_opener.specs.Sees.{IsToldOf, Sees, SeesSlot}
 use Rattle.sd_belief.specs.declared.standing.Standing.TheVariants as standing
 use Rattle.sd_belief.specs.Believes.{Believes, HasStore}
 use Rattle.sd_belief.specs.Calls.{NoneOut, WasTold}
-use Rattle.sd_belief.specs.Knows.{AreLooks, HasSynced, IsPastSync, IsRefound, Knows, SeesStore, ids_of}
+use Rattle.sd_belief.specs.InUse.{ids_of}
+use Rattle.sd_belief.specs.Knows.{AreLooks, HasSynced, IsPastSync, IsRefound, Knows, SeesStore}
 use Rattle.sd_belief.specs.OpenerSteps.{Decodes, GivesUpOpening, IsHandedIn, IsTaught, LooksOn, OnlyOpens, OpenerSteps, Reopens, opener_alone}
 use Rattle.sd_belief.specs.StoreSteps.{IsOutcomeOf, MayAsk, QuietSteps}
 use Rattle.sd_belief.specs.View.{CoreView, history_of}

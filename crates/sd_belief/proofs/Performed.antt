@@ -216,7 +216,6 @@ module _ (asked : List (Option Asked)) (worker : ℕ) (request : Asked) (made : 
   )
   slot_made Freeze order pages phase body belief dump s = absurd (let no : Some request ≡ None = s.1 in cc)
   slot_made PassStage order pages phase body belief dump s = absurd (let no : Some request ≡ None = s.1 in cc)
-  slot_made (PageWrite plan) order pages phase body belief dump s = (
     record {
       place = s.0.place;
       on = s.0.on;
