@@ -10,7 +10,7 @@ use Rattle.sd_gate.specs.declared.phase.Phase.{Phase}
 use Rattle.sd_gate.specs.declared.phase.Phase.TheVariants.{Raw, RawClosing, Whole, Closing as ClosingPhase, Shut, ShutSynced, Bare, Writing, Ready, Opening as OpeningPhase, Doubt, DoubtSynced}
 use Rattle.sd_gate.specs.declared.slot_state.SlotState.{SlotState}
 use Rattle.sd_gate.specs.declared.slot_state.SlotState.TheVariants as slot_state
-use Rattle.sd_gate.specs.Laws.{Leads, pages_body}
+use Rattle.sd_gate.specs.Laws.{Leads}
 use Rattle.sd_gate.specs.Phases.{after, body_after, closing, is_ready, may_close}
 use Rattle.sd_gate.specs.Plans.{Gives, Planned}
 use Rattle.sd_gate.specs.Requests.{Asked}

@@ -3,7 +3,7 @@ use Rattle.std.proofs.Common.{◌≡◌, ◌≢◌, ℕ, zero, suc, ◌<◌, ◌
 use Rattle.std.proofs.lemmas.List.Elements.{Contains-append_cases, Contains-append_right}
 use Rattle.sd_image.specs.Image.{Image}
 use Rattle.sd_image.specs.Shows.{IsTip}
-use Rattle.sd_chain.specs.Catalog.{Opened, Places, place_of}
+use Rattle.sd_chain.specs.Catalog.{Opened, Places}
 use Rattle.sd_chain.specs.Catalog as catalog
 use Rattle.sd_chain.specs.Reaches.{ReachesSerial}
 use Rattle.sd_chain.specs.Tells.{Agrees, IsToldAs, Tells}

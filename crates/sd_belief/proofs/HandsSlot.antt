@@ -10,7 +10,7 @@ use Rattle.sd_gate.specs.declared.phase.Phase.{Phase}
 use Rattle.sd_gate.specs.declared.phase.Phase.TheVariants.{Raw, RawClosing, Whole, Closing as ClosingPhase, Shut, ShutSynced, Bare, Writing, Ready, Opening as OpeningPhase, Doubt, DoubtSynced}
 use Rattle.sd_gate.specs.declared.slot_state.SlotState.{SlotState}
 use Rattle.sd_gate.specs.declared.slot_state.SlotState.TheVariants as slot_state
-use Rattle.sd_gate.specs.Laws.{Leads, pages_body}
+use Rattle.sd_gate.specs.Laws.{Leads}
 use Rattle.sd_gate.specs.Phases.{after, body_after, filled, is_ready, may_write, synced}
 use Rattle.sd_gate.specs.Plans.{Planned}
 use Rattle.sd_gate.specs.Requests.{Asked}
@@ -26,7 +26,7 @@ use Rattle.sd_belief.specs.DumperOutcomes.{closes_for_sure, is_closing, is_sync}
 use Rattle.sd_belief.specs.InUse.{IsClosing, IsFilled, IsFormatting, IsSlotFor, call_of, is_opening_at, pending_dump}
 use Rattle.sd_belief.proofs.Leads.{leads_end, leads_head}
 
-and_false : (b : Bool) → (b && false) ≡ false
+pub and_false : (b : Bool) → (b && false) ≡ false
 and_false true = refl
 and_false false = refl
 

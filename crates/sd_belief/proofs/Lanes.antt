@@ -1,11 +1,10 @@
 -- The writes of data pages that are out: one more, and one less, and what they make of a body.
-use Rattle.std.proofs.Common.{◌≡◌, ◌≢◌, ◌⊎◌, ℕ, zero, suc, ◌+◌, ◌<◌, true, false, List, [], ◌∷◌, drop, length, Option, Some, None, slice_get, slice_set, refl, sym, ◌∙◌, ap, subst, inl, inr, arith}
+use Rattle.std.proofs.Common.{◌≡◌, ◌≢◌, ◌⊎◌, ℕ, zero, suc, ◌<◌, true, false, List, [], ◌∷◌, drop, Option, Some, None, slice_get, slice_set, refl, sym, ◌∙◌, ap, subst, inl, inr, arith}
 use Rattle.std.proofs.lemmas.Bool.{both_ways}
 use Rattle.std.proofs.lemmas.Option.{same_Some}
-use Rattle.sd_gate.specs.declared.call.Call.{Call}
 use Rattle.sd_gate.specs.declared.call.Call.TheVariants.{Write}
 use Rattle.sd_gate.specs.declared.request_id.RequestId.{RequestId}
-use Rattle.sd_gate.specs.Laws.{AreApart, WritesCommute}
+use Rattle.sd_gate.specs.Laws.{WritesCommute}
 use Rattle.sd_gate.specs.Phases.{body_after}
 use Rattle.sd_gate.specs.Requests.{Asked}
 use Rattle.sd_gate.specs.Sequences.{data_place}
@@ -16,7 +15,6 @@ use Rattle.sd_rounds.specs.Making.{is_passing, plan_of}
 use Rattle.sd_rounds.specs.Writes.{is_any_out, no_writes}
 use Rattle.sd_belief.specs.InUse.{ArePagesOf, IsPageOf, body_written, ids_of, lanes_of}
 use Rattle.sd_belief.specs.View.{page_lane}
-use Rattle.sd_belief.proofs.Places.{set_other, set_same}
 
 -- ---- lanes of pages among all lanes
 
@@ -39,6 +37,13 @@ set_far (a ∷ b ∷ c ∷ asked) lane x = refl
 far : (lane : ℕ) → page_lane lane ≡ suc (suc (suc lane))
 far lane = omega arith
 
+-- a lane of a worker, or one of pages
+pub lane_cases : (lane : ℕ) → (lane < 3) ⊎ ((k : ℕ) × (lane ≡ page_lane k))
+lane_cases zero = inl (omega arith)
+lane_cases (suc zero) = inl (omega arith)
+lane_cases (suc (suc zero)) = inl (omega arith)
+lane_cases (suc (suc (suc k))) = inr (k, omega arith)
+
 pub lanes_set : (asked : List (Option Asked)) (lane : ℕ) (x : Option Asked) → lanes_of (slice_set asked (page_lane lane) x) ≡ slice_set (lanes_of asked) lane x
 lanes_set asked lane x = ap (λ k. lanes_of (slice_set asked k x)) (far lane) ∙ set_far asked lane x
 
@@ -58,6 +63,12 @@ lanes_ids (a ∷ b ∷ []) = refl
 lanes_ids (a ∷ b ∷ c ∷ asked) = refl
 
 -- ---- no write is out
+
+pub nobody_writes : (writes : List (Option RequestId)) (lane : ℕ) (id : RequestId) → is_any_out writes ≡ false → slice_get writes lane ≡ Some (Some id) → ⊥
+nobody_writes [] lane id none is = let no : None ≡ Some (Some id) = is in cc
+nobody_writes (None ∷ writes) zero id none is = let no : Some None ≡ Some (Some id) = is in cc
+nobody_writes (None ∷ writes) (suc lane) id none is = nobody_writes writes lane id none is
+nobody_writes (Some out ∷ writes) lane id none is = both_ways true none refl
 
 none_out : (body : List ℕ) (lanes : List (Option Asked)) → is_any_out (ids_of lanes) ≡ false → body_written body lanes ≡ body
 none_out body [] none = refl
@@ -142,7 +153,7 @@ written_less law slot body (Some first ∷ lanes) (suc lane) request are is =
 
 -- ---- the lanes then
 
-put_cases : (lanes : List (Option Asked)) (lane other : ℕ) (x : Option Asked) (r : Asked) → slice_get (slice_set lanes lane x) other ≡ Some (Some r)
+pub put_cases : (lanes : List (Option Asked)) (lane other : ℕ) (x : Option Asked) (r : Asked) → slice_get (slice_set lanes lane x) other ≡ Some (Some r)
     → ((other ≢ lane) × (slice_get lanes other ≡ Some (Some r))) ⊎ ((other ≡ lane) × (x ≡ Some r))
 put_cases [] lane other x r is = absurd (let no : None ≡ Some (Some r) = is in cc)
 put_cases (a ∷ lanes) zero zero x r is = inr (refl, same_Some x (Some r) is)

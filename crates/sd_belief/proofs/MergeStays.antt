@@ -174,7 +174,7 @@ module _ (last : ℕ) (store : Store) (running : Option Running) (old : Slots) (
         stored = a.stored;
         holds = still.holds a.at.0 a.at.1 a.bytes a.holds;
       }
-  asked_in_then target source still (copy.PageWrite plan) page None a = tt
+  asked_in_then target source still (copy.PageWrite plan) page None a = absurd a
   asked_in_then target source still (copy.PageWrite plan) page (Some request) a = a
   asked_in_then target source still (copy.Close plan header tables) page None a = tt
   asked_in_then target source still (copy.Close plan header tables) page (Some request) a = a

@@ -87,7 +87,7 @@ module _ (old new : CoreView) (made : Made) (phase : Phase) (asked : List (Optio
       let same : covered.phase ≡ phase = same_Some covered.phase phase (sym covered.waits.is ∙ o.phase_is) in
       subst (λ p. HasStore old.base (history_of old) (phases_then old made p) (asked_then asked) (bodies_then bodies made) b.store b.dump b.beliefs) same
       (quiet.handed old.base (history_of old) old.phases asked bodies b.store b.dump b.beliefs 1 made
-      (record { out = at; alone = none_other; phase = covered.phase; waits = covered.waits }) b.has)
+      (record { out = at; others = λ other request differs is same. absurd (differs (none_other other request is same)); phase = covered.phase; waits = covered.waits }) b.has)
 
   pub ids_handed : ids_of (asked_then asked) ≡ new.outs
   ids_handed = ids_set asked 1 None ∙ ap (λ ids. slice_set ids 1 None) b.knows.out ∙ sym o.outs

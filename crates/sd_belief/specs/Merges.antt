@@ -4,11 +4,12 @@ use Rattle.sd_disk.specs.Contents.{file_at}
 use Rattle.sd_image.specs.declared.header.Kind.TheVariants.{Merged}
 use Rattle.sd_image.specs.Image.{Image, IsImage, gate}
 use Rattle.sd_image.specs.Shows.{Holds, IsRestorable}
-use Rattle.sd_gate.specs.declared.call.Call.TheVariants.{Read}
+use Rattle.sd_gate.specs.declared.call.Call.TheVariants.{Read, Write}
 use Rattle.sd_gate.specs.declared.phase.Phase.{Phase}
 use Rattle.sd_gate.specs.declared.phase.Phase.TheVariants.{Bare, Whole}
 use Rattle.sd_gate.specs.declared.slot_state.SlotState.{SlotState}
 use Rattle.sd_gate.specs.declared.slot_state.SlotState.TheVariants.{Open as OpenSlot}
+use Rattle.sd_gate.specs.Plans.{Planned}
 use Rattle.sd_gate.specs.Requests.{Asked}
 use Rattle.sd_gate.specs.Sequences.{data_place}
 use Rattle.sd_merge.specs.declared.retired.Retired.{Retired}
@@ -91,7 +92,7 @@ stage_in_slot (copy.PageRead plan) = PassStage
 stage_in_slot (copy.PageWrite plan) = PassStage
 stage_in_slot (copy.Close plan header tables) = Close plan header tables
 
--- the request of its plan that is out on its slot, and the write of a page that is
+-- the request of its plan that is out on its slot
 abbrev pub request_in_slot : CopyStage → Option Asked → Option Asked
 request_in_slot (copy.Format plan) request = request
 request_in_slot copy.Pass request = request
@@ -99,6 +100,7 @@ request_in_slot (copy.PageRead plan) request = None
 request_in_slot (copy.PageWrite plan) request = None
 request_in_slot (copy.Close plan header tables) request = request
 
+-- the write of a page that is out on its slot
 abbrev pub lanes_in_slot : CopyStage → Option Asked → List (Option Asked)
 lanes_in_slot (copy.Format plan) request = []
 lanes_in_slot copy.Pass request = []
@@ -129,11 +131,20 @@ pub record IsReadOn (phases : List Phase) (bodies : List (List ℕ)) (store : St
   pub stored : slice_get image.pages place ≡ Some bytes
   pub holds : Holds store.catalog at.0 at.1 bytes source
 
+-- A page is written behind the gate of its slot: nothing is left of the plan.
+pub record IsWriteOn (target : ℕ) (plan : Planned) (request : Asked) : Type 0 where
+  pub on : request.id.slot ≡ target
+  pub last : plan.calls ≡ []
+  pub place : ℕ
+  pub call : request.id.call ≡ Write (data_place place)
+
 -- which request of the merger is out
 abbrev pub IsAskedIn : CopyStage → List Phase → List (List ℕ) → Store → List Belief → Option Running → ℕ → Image → Option Place → Option Asked → Type 0
 IsAskedIn (copy.PageRead plan) phases bodies store beliefs running target source page None = ⊥
 IsAskedIn (copy.PageRead plan) phases bodies store beliefs running target source page (Some request) =
     IsReadOn phases bodies store beliefs running target source page request
+IsAskedIn (copy.PageWrite plan) phases bodies store beliefs running target source page None = ⊥
+IsAskedIn (copy.PageWrite plan) phases bodies store beliefs running target source page (Some request) = IsWriteOn target plan request
 IsAskedIn _ phases bodies store beliefs running target source page None = Unit {0}
 IsAskedIn _ phases bodies store beliefs running target source page (Some request) = request.id.slot ≡ target
 
