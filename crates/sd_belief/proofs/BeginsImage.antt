@@ -134,15 +134,15 @@ begun_on making plans old running phase asked bodies store dump beliefs at free 
       writing = no_pages (slot_of running) (lanes_of asked) empty;
       slot_is = subst (λ body. IsFormatting order (begun order.slot (format_calls order.state) nothing) phase body None found.0 × (dump ≡ None))
           (sym (body_still (file_at bodies (slot_of running)) (lanes_of asked) empty)) (
-        record {
-          place = 0;
-          on = refl;
-          left = refl;
-          leads = plans.format phase (file_at bodies (slot_of running));
-          formatted = u.exact (slot_of running) phase found.0 at found.1 free;
-        },
-        between.alone,
-      );
+            record {
+              place = 0;
+              on = refl;
+              left = refl;
+              leads = plans.format phase (file_at bodies (slot_of running));
+              formatted = u.exact (slot_of running) phase found.0 at found.1 free;
+            },
+            between.alone,
+          );
     }
 
 between_of : (old : CoreView) (running : Running) (asked : List (Option Asked)) (bodies : List (List ℕ)) (store : Store) (dump : Option Image) (beliefs : List Belief) (image : Option Making) → image ≡ None

@@ -98,7 +98,7 @@ commute law slot body a b one other apart =
     ap (λ c. body_after (body_after body c a.bytes) b.id.call b.bytes) one.call
     ∙ ap (λ c. body_after (body_after body (Write (data_place one.place)) a.bytes) c b.bytes) other.call
     ∙ law.apart body (data_place one.place) (data_place other.place) a.bytes b.bytes (omega arith) (omega arith)
-        (law.pages one.place other.place a.bytes b.bytes (λ same. apart (one.call ∙ ap (λ n. Write (data_place n)) same ∙ sym other.call)) one.whole other.whole)
+    (law.pages one.place other.place a.bytes b.bytes (λ same. apart (one.call ∙ ap (λ n. Write (data_place n)) same ∙ sym other.call)) one.whole other.whole)
     ∙ sym (ap (λ c. body_after (body_after body c b.bytes) a.id.call a.bytes) other.call
     ∙ ap (λ c. body_after (body_after body (Write (data_place other.place)) b.bytes) c a.bytes) one.call)
 

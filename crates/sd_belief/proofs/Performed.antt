@@ -278,10 +278,10 @@ module _ (asked : List (Option Asked)) (worker : ℕ) (request : Asked) (made : 
   pages_in_lane slot lanes lane out are = record {
     each = λ k r now. (let before = in_lane lanes lane k r out now in before.3 slot (are.each k before.0 before.1));
     apart = λ one two a b first second same. (
-      let a_was = in_lane lanes lane one a out first in
-      let b_was = in_lane lanes lane two b out second in
-      are.apart one two a_was.0 b_was.0 a_was.1 b_was.1 (ap (λ (id : RequestId). id.call) (sym a_was.2) ∙ same ∙ ap (λ (id : RequestId). id.call) b_was.2)
-    );
+        let a_was = in_lane lanes lane one a out first in
+        let b_was = in_lane lanes lane two b out second in
+        are.apart one two a_was.0 b_was.0 a_was.1 b_was.1 (ap (λ (id : RequestId). id.call) (sym a_was.2) ∙ same ∙ ap (λ (id : RequestId). id.call) b_was.2)
+        );
   }
 
   lanes_made : (slot : ℕ) (body : List ℕ) → ArePagesOf slot (lanes_of asked)
