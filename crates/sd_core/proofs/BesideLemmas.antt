@@ -64,6 +64,14 @@ free_asked core slot sound stands rests spared worker id at same =
       | inr b ↦ (let no : Some None ≡ Some (Some id) = sym rests ∙ ap (λ all. slice_get all 1) (jobs_out core sound stands) ∙ ap Some b.1 in cc)
     ]
 
+-- none is out on a spared slot, where the merger's is on another
+pub free_on : (core : Parts) (slot : ℕ) → IsCore core → core.standing ≡ Open → IsSpared core.dumper.running slot → ((id : RequestId) → merger.out_of_merge core.merger ≡ Some id → id.slot ≢ slot) → IsFree core.outs slot
+free_on core slot sound stands spared other worker id at same =
+    elim (two_at (out_of_running core.dumper.running) (merger.out_of_merge core.merger) worker id (ap (λ all. slice_get all worker) (sym (jobs_out core sound stands)) ∙ at)) [
+      | inl a ↦ dumper_on core id slot sound a.1 spared same
+      | inr b ↦ other id b.1 same
+    ]
+
 -- ---- the requests that are out, once the merger's is another
 
 pub beside_outs : (core : Parts) (outs : List (Option RequestId)) (phases : List Phase) (merge : Option merger.Running) → IsCore core → core.standing ≡ Open → core.opener ≡ None

@@ -11,6 +11,7 @@ mod GiveUp
 mod HandedLemmas
 mod ImageLemmas
 mod JournalLemmas
+mod LastingLemmas
 mod ListLemmas
 mod LittleLemmas
 mod MergeBegin

@@ -3,6 +3,7 @@ pub mod Beginning
 pub mod Dumping
 pub mod Entering
 pub mod Images
+pub mod Lasting
 pub mod LittleWork
 pub mod Merging
 pub mod Opening

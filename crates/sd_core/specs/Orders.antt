@@ -14,7 +14,7 @@ use Rattle.sd_core.specs.Refusals.{is_idle}
 abbrev pub IsUnderWay : CoreView → ℕ → Type 0
 IsUnderWay core n = (running_number core.dumper.running ≡ Some n) ⊎ (pending (history_of core) ≡ Some n)
 
--- no checkpoint runs, no entry is held, and the next one takes every page
+-- no checkpoint runs, no entry is held, and the next one takes every page; a merge goes on
 pub record IsCancelled (old : CoreView) (answer : Reply) (new : CoreView) : Type 0 where
   pub number : ℕ
   pub answered : answer ≡ reply.Cancelled number
@@ -23,12 +23,14 @@ pub record IsCancelled (old : CoreView) (answer : Reply) (new : CoreView) : Type
   pub idle : new.dumper.running ≡ None
   pub held : new.held ≡ 0
   pub whole : new.grows ≡ false
+  pub merger : new.merger ≡ old.merger
 
 -- an opener runs, and the job of each slot was given up
 pub record HasOpener (old new : CoreView) : Type 0 where
   pub stands : new.standing ≡ old.standing
   pub runs : is_idle new Opener ≡ false
   pub phases : new.phases ≡ map given_up old.phases
+  pub merger : new.merger ≡ old.merger
 
 abbrev pub BeginsToOpen : CoreView → Reply → CoreView → Type 0
 BeginsToOpen old reply.Worked new = HasOpener old new

@@ -23,6 +23,7 @@ ghost use Rattle.sd_core.specs.Beginning.{BeginsAs, FreeSlots, begin_refusal};
 ghost use Rattle.sd_core.specs.Images.{IsAcked};
 ghost use Rattle.sd_core.specs.LittleWork.{IsLittleDump, IsLittlePreDump, OpensPreDump};
 ghost use Rattle.sd_core.specs.Entering.{EntersFirst};
+ghost use Rattle.sd_core.specs.Lasting.{LeavesMerged, MergeLasts};
 ghost use Rattle.sd_core.specs.Merging.{EndsCut, EntersAsCopy, FixesItsList, IsMerged, ListsTheUnneeded, MergesAs, OpensMerged, merge_refusal};
 ghost use Rattle.sd_core.specs.Orders.{BeginsToOpen, IsCancelled};
 ghost use Rattle.sd_core.specs.Refusals.{cancel_refusal, cant_cancel, has_checkpoint, is_idle, is_in_use, reopen_refusal, wants_entry, work_refusal};
@@ -206,6 +207,13 @@ impl Core {
         let _memory = &self.memory;
     }
 
+    /// A law: while a merge closes images, its own image stands in its slot, and no device call is out on that slot.
+    pub fn merged_stands(&self)
+        ensures { LeavesMerged self.now }
+    {
+        let _merger = &self.merger;
+    }
+
     /// Applies a command of a seat, and journals it with its reply. Returns the entry's number, and the reply. While a
     /// checkpoint is pending a command is refused as frozen, which is a reply too.
     ///
@@ -219,6 +227,7 @@ impl Core {
             ↔ length (history_of self.old) + self.old.held ≡ self.old.limit }
         ensures stands { self.new.standing ≡ self.old.standing }
         ensures job { self.new.dumper ≡ self.old.dumper }
+        ensures merge { self.new.merger ≡ self.old.merger }
         ensures answered { IfOk result (λ told. IsAnswered (is_some (pending (history_of self.old)))
             command.now told.1 self.old.memory self.new.memory) }
         ensures keeps { Stays self.old self.new }
@@ -531,6 +540,7 @@ impl Core {
         ensures refused { (why : Why) → work_refusal self.old worker ≡ Some why
             → (result ≡ taken.Step (reply.Refused why)) × (self.new ≡ self.old) }
         ensures leaves { work_refusal self.old worker ≡ None → Leaves self.old worker result self.new }
+        ensures lasts { MergeLasts self.old self.new }
         ensures finds { worker ≡ its.Merger → FindsSource self.old result }
     {
         core_steps();
@@ -549,6 +559,7 @@ impl Core {
         requires { work_refusal self.old its.Dumper ≡ None }
         ensures takes { TakesUp self.old its.Dumper result self.new }
         ensures leaves { Leaves self.old its.Dumper result self.new }
+        ensures merger { self.new.merger ≡ self.old.merger }
     {
         match self.dumper.next_slot() {
             Some(slot) => self.begin_image(slot),
@@ -565,6 +576,7 @@ impl Core {
         requires next { next_slot self.old.dumper.running ≡ Some slot }
         ensures takes { TakesUp self.old its.Dumper result self.new }
         ensures leaves { Leaves self.old its.Dumper result self.new }
+        ensures merger { self.new.merger ≡ self.old.merger }
     {
         core_steps();
         dumper_steps();
@@ -608,6 +620,7 @@ impl Core {
         requires rests { slice_get self.old.outs 0 ≡ Some None }
         ensures takes { TakesUp self.old its.Dumper result self.new }
         ensures leaves { Leaves self.old its.Dumper result self.new }
+        ensures merger { self.new.merger ≡ self.old.merger }
     {
         core_steps();
         dumper_steps();
@@ -676,6 +689,7 @@ impl Core {
             → IsDoneAsAsked outcome → result ≡ reply.Worked }
         ensures leaves { IsOut self.old outcome.request.id
             → LeavesByOutcome self.old outcome.request.id.worker result self.new }
+        ensures lasts { MergeLasts self.old self.new }
         ensures acked { (n : ℕ) → IsOut self.old outcome.request.id → result ≡ reply.Acked n
             → IsAcked n self.old self.new }
         ensures little { (n : ℕ) → IsOut self.old outcome.request.id → result ≡ reply.Acked n
@@ -718,6 +732,7 @@ impl Core {
         requires idle { is_idle self.old outcome.request.id.worker ≡ true }
         ensures handed { HandedIn self.old outcome result self.new }
         ensures leaves { LeavesByOutcome self.old outcome.request.id.worker result self.new }
+        ensures merger { self.new.merger ≡ self.old.merger }
         ensures late { result ≡ reply.Refused StoreDown }
         ensures closed { outcome.request.id.worker ≢ its.Opener }
         ensures images { (running : Running) → OpensPreDump running self.old self.new → ⊥ }
@@ -742,6 +757,7 @@ impl Core {
         ensures handed { HandedIn self.old outcome result self.new }
         ensures failed { is_done outcome.answer ≡ false ↔ result ≡ reply.Refused StoreDown }
         ensures leaves { LeavesByOutcome self.old its.Dumper result self.new }
+        ensures lasts { MergeLasts self.old self.new }
         ensures acked { (n : ℕ) → result ≡ reply.Acked n → IsAcked n self.old self.new }
         ensures little { (n : ℕ) → result ≡ reply.Acked n → IsLittleDump n self.old self.new }
         ensures round { (running : Running) → OpensPreDump running self.old self.new

@@ -1,8 +1,8 @@
 //! A command of a seat, on the core that its lock gives.
-ghost use Rattle.std.specs.Prelude.{◌≡◌, ◌↔◌, ◌+◌, length, is_some, Err, IfOk};
+ghost use Rattle.std.specs.Prelude.{◌≡◌, ◌↔◌, ◌+◌, length, is_some, Err, IfOk, IfErr};
 ghost use Rattle.sd_command.specs.declared.refusal.Refusal.TheVariants.{JournalFull};
 ghost use Rattle.sd_journal.specs.History.{pending};
-ghost use Rattle.sd_belief.specs.Calls.{Applies, Stays};
+ghost use Rattle.sd_belief.specs.Calls.{Applies, IsUnjournaled, Stays};
 ghost use Rattle.sd_belief.specs.View.{history_of};
 ghost use Rattle.sd_core.specs.Answering.{IsAnswered};
 ghost use Rattle.sd_shared.specs.Told.{told};
@@ -21,6 +21,7 @@ pub(crate) fn make(core: &mut Core, seat: usize, command: Command) -> Result<Rec
     ensures command { IfOk result (λ receipt. receipt.command ≡ command) }
     ensures number { IfOk result (λ receipt. receipt.number ≡ length (history_of core.old)) }
     ensures applies { Applies seat command (told result) core.old core.new }
+    ensures refuses { IfErr result IsUnjournaled }
     ensures full { result ≡ Err JournalFull
         ↔ length (history_of core.old) + core.old.held ≡ core.old.limit }
     ensures answered { IfOk result (λ receipt. IsAnswered (is_some (pending (history_of core.old)))

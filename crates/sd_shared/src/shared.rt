@@ -1,10 +1,11 @@
 //! A core and its disk, shared by threads.
 ghost use Rattle.std.specs.Prelude.{◌≡◌, ◌≤◌, true, reverse, IfOk, IfErr};
+ghost use Rattle.sd_belief.specs.Calls.{IsUnjournaled};
 ghost use Rattle.sd_belief.specs.View.{CoreView, history_of};
 ghost use Rattle.sd_disk.specs.Reads.{OnlyReads};
 ghost use Rattle.sd_journal.specs.Receipts.{Accounts, IsFault};
 ghost use Rattle.sd_world.specs.Opens.{HasNoFrame, IsFaultOf};
-ghost use Rattle.sd_shared.specs.Told.{ends_job, seats_from_0};
+ghost use Rattle.sd_shared.specs.Told.{IsRefusedAtOnce, ends_job, seats_from_0};
 
 use crate::driving::{drive, go_on};
 use crate::hands::Hands;
@@ -96,6 +97,7 @@ impl<D: Disk + Drop> Shared<D> {
     ) -> Result<Receipt, Refusal>
         ensures seat { IfOk result (λ receipt. receipt.seat ≡ seat.old.number) }
         ensures command { IfOk result (λ receipt. receipt.command ≡ command) }
+        ensures refuses { IfErr result IsUnjournaled }
         ensures same { seat.new.number ≡ seat.old.number }
     {
         make(&mut self.core.lock(rt), seat.number, command)
@@ -109,6 +111,7 @@ impl<D: Disk + Drop> Shared<D> {
     pub fn try_call(&self, seat: &mut Seat, command: Command) -> Result<Receipt, Refusal>
         ensures seat { IfOk result (λ receipt. receipt.seat ≡ seat.old.number) }
         ensures command { IfOk result (λ receipt. receipt.command ≡ command) }
+        ensures refuses { IfErr result IsRefusedAtOnce }
         ensures same { seat.new.number ≡ seat.old.number }
     {
         match self.core.try_lock() {

@@ -8,6 +8,7 @@ ghost use Rattle.sd_merge.specs.Merger.{slot_before};
 ghost use Rattle.sd_belief.specs.Calls.{AddsByOrder, HandedIn, IsOut, Stays};
 ghost use Rattle.sd_belief.specs.View.{history_of};
 ghost use Rattle.sd_core.specs.Entering.{EntersFirst};
+ghost use Rattle.sd_core.specs.Lasting.{MergeLasts};
 ghost use Rattle.sd_core.specs.Merging.{EndsCut, EntersAsCopy, FixesItsList, IsMerged, ListsTheUnneeded, MergesAs, merge_refusal};
 ghost use Rattle.sd_core.specs.Refusals.{is_idle, work_refusal};
 ghost use Rattle.sd_core.specs.Starts.{TakesUp};
@@ -84,6 +85,7 @@ impl Core {
         requires { work_refusal self.old its.Merger ≡ None }
         ensures takes { TakesUp self.old its.Merger result self.new }
         ensures leaves { Leaves self.old its.Merger result self.new }
+        ensures lasts { MergeLasts self.old self.new }
         ensures finds { FindsSource self.old result }
     {
         match self.merger.next_slot() {
@@ -101,6 +103,7 @@ impl Core {
         requires next { slot_before self.old.merger ≡ Some slot }
         ensures takes { TakesUp self.old its.Merger result self.new }
         ensures leaves { Leaves self.old its.Merger result self.new }
+        ensures lasts { MergeLasts self.old self.new }
         ensures finds { FindsSource self.old result }
     {
         core_steps();
@@ -133,6 +136,7 @@ impl Core {
         requires rests { slice_get self.old.outs 1 ≡ Some None }
         ensures takes { TakesUp self.old its.Merger result self.new }
         ensures leaves { Leaves self.old its.Merger result self.new }
+        ensures lasts { MergeLasts self.old self.new }
         ensures finds { FindsSource self.old result }
     {
         core_steps();
@@ -175,6 +179,7 @@ impl Core {
         ensures handed { HandedIn self.old outcome result self.new }
         ensures failed { is_done outcome.answer ≡ false ↔ result ≡ reply.Refused StoreDown }
         ensures leaves { LeavesByOutcome self.old its.Merger result self.new }
+        ensures lasts { MergeLasts self.old self.new }
         ensures merged { (serial : ℕ) → result ≡ reply.Merged serial → IsMerged serial self.old self.new }
         ensures opens { EntersFirst self.old result self.new }
         ensures lists { FixesItsList self.old self.new }

@@ -28,6 +28,7 @@ impl Core {
         requires { work_refusal self.old its.Opener ≡ None }
         ensures takes { TakesUp self.old its.Opener result self.new }
         ensures leaves { Leaves self.old its.Opener result self.new }
+        ensures merger { self.new.merger ≡ self.old.merger }
     {
         opener_steps();
         let Ok(step) = step_opener(&mut self.opener, self.numbers.ticket) else {
@@ -57,6 +58,7 @@ impl Core {
         requires { IsAllRead self.old.opener }
         ensures takes { MakesStep self.old its.Opener result self.new }
         ensures leaves { LeavesByStep self.old its.Opener result self.new }
+        ensures merger { self.new.merger ≡ self.old.merger }
     {
         reopened_law();
         opener_steps();
@@ -90,6 +92,7 @@ impl Core {
         ensures failed { is_done outcome.answer ≡ false → result ≡ reply.Refused StoreDown }
         ensures goes_on { IsDoneAsAsked outcome → result ≡ reply.Worked }
         ensures leaves { LeavesByOutcome self.old its.Opener result self.new }
+        ensures merger { self.new.merger ≡ self.old.merger }
     {
         opener_steps();
         let id = outcome.id();
