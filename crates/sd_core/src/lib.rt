@@ -6,6 +6,7 @@ mod answering;
 mod beginning;
 mod copies;
 mod dumping;
+mod lanes;
 mod merging;
 mod numbers;
 mod opening;

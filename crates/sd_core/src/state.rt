@@ -18,6 +18,7 @@ ghost use Rattle.sd_belief.specs.View.{CoreView, history_of};
 ghost use Rattle.sd_gate.specs.declared.worker.Worker.TheVariants as its;
 ghost use Rattle.sd_command.specs.declared.refusal.Refusal.{Refusal as Why};
 ghost use Rattle.sd_rounds.specs.Dumper.{Running, next_slot, pages_of};
+ghost use Rattle.sd_rounds.specs.Waits.{dumper_must_wait};
 ghost use Rattle.sd_core.specs.Answering.{IsAnswered};
 ghost use Rattle.sd_core.specs.Beginning.{BeginsAs, FreeSlots, begin_refusal};
 ghost use Rattle.sd_core.specs.Images.{IsAcked};
@@ -26,8 +27,8 @@ ghost use Rattle.sd_core.specs.Entering.{EntersFirst};
 ghost use Rattle.sd_core.specs.Lasting.{LeavesMerged, MergeLasts};
 ghost use Rattle.sd_core.specs.Merging.{EndsCut, EntersAsCopy, FixesItsList, IsMerged, ListsTheUnneeded, MergesAs, OpensMerged, merge_refusal};
 ghost use Rattle.sd_core.specs.Orders.{BeginsToOpen, IsCancelled};
-ghost use Rattle.sd_core.specs.Refusals.{cancel_refusal, cant_cancel, has_checkpoint, is_idle, is_in_use, reopen_refusal, wants_entry, work_refusal};
-ghost use Rattle.sd_core.specs.Starts.{TakesUp, IsStart, shown_base};
+ghost use Rattle.sd_core.specs.Refusals.{cancel_refusal, cant_cancel, has_checkpoint, is_idle, is_in_use, must_wait, must_wait_for_pages, reopen_refusal, wants_entry, work_refusal};
+ghost use Rattle.sd_core.specs.Starts.{TakesUp, IsStart, nothing_asked, shown_base};
 ghost use Rattle.sd_core.specs.Working.{FindsSource, Leaves, LeavesByOutcome, LeavesByStep, left_by};
 ghost use Rattle.sd_core.specs.declared.taken.Taken.TheVariants as taken;
 ghost use Rattle.sd_gate.specs.Calls.{is_done};
@@ -40,11 +41,11 @@ use crate::dumping::{
     begin_checkpoint, begin_next, closes_for_sure, enter_catalog, is_committing, leave_catalog,
     release_place, release_unfrozen, step_on,
 };
-use crate::numbers::Numbers;
-use crate::opening::{
-    follow_call, fresh_opener, give_up_all, is_nobody_out, is_open, is_out, is_resting,
-    left_of_opener, put_opener, put_out,
+use crate::lanes::{
+    DUMPER, LANES, is_nobody_out, is_page_out, is_resting, lane_of, page_lane, put_out,
 };
+use crate::numbers::Numbers;
+use crate::opening::{follow_call, fresh_opener, give_up_all, is_open, left_of_opener, put_opener};
 use crate::start::Start;
 use crate::taken::Taken;
 use sd_areas::Snapshot;
@@ -59,7 +60,9 @@ use sd_journal::{Entry, Journal, Mark, due_laws, tracked_laws};
 use sd_merge::Merger;
 use sd_opener::Opener;
 use sd_pagetable::{Memory, plain_law};
-use sd_rounds::{Dumper, ImageStep, NextImage, Progress, little_law, rises_law};
+use sd_rounds::{
+    Dumper, ImageStep, NextImage, PageBuffers, Progress, left_law, little_law, rises_law,
+};
 use sd_slots::{ListRoom, free_in, free_law};
 use std::alloc::{AllocError, Global};
 use std::marker::Model;
@@ -80,7 +83,7 @@ pub struct Core {
     last: Option<u64>,
     standing: Standing,
     phases: Vec<Phase>,
-    outs: [Option<RequestId>; 3],
+    outs: [Option<RequestId>; LANES],
     catalog: Catalog,
     dumper: Dumper,
     merger: Merger,
@@ -148,7 +151,7 @@ impl Core {
         // Where each slot is in the phase that its file tells, and the files show the base, the core believes so.
         ensures believes { (files : List (List ℕ)) → start.phases.items ≡ map found_phase files
             → Shows files (shown_base start.number (memory_of start.base))
-            → Believes result (None ∷ None ∷ None ∷ []) (map (drop 1) files) files }
+            → Believes result nothing_asked (map (drop 1) files) files }
     {
         found_law();
         let Start {
@@ -167,7 +170,7 @@ impl Core {
             last: number,
             standing: Standing::NotOpen,
             phases,
-            outs: [None; 3],
+            outs: [None; LANES],
             catalog: Catalog::new(alloc),
             dumper: Dumper::new(alloc),
             merger: Merger::new(alloc),
@@ -321,12 +324,15 @@ impl Core {
         let Some(slots) = reserve_slots(free, rounds) else {
             return Reply::Refused(Refusal::NoSlot);
         };
+        let Ok(buffers) = PageBuffers::reserve(self.alloc) else {
+            return Reply::Refused(Refusal::OutOfMemory);
+        };
         let Ok(()) = self.journal.hold(2) else {
             return Reply::Refused(Refusal::OutOfMemory);
         };
         let parent = first_parent(&self.catalog, self.grows);
         let number = self.numbers.begin();
-        begin_checkpoint(&mut self.dumper, number, slots, parent);
+        begin_checkpoint(&mut self.dumper, number, slots, parent, buffers);
         Reply::Begun(number)
     }
 
@@ -381,7 +387,10 @@ impl Core {
     fn cant_cancel(&self) -> bool
         ensures { result ≡ cant_cancel self.now }
     {
-        self.opener.is_some() || !is_resting(&self.outs, Worker::Dumper) || self.committing
+        self.opener.is_some()
+            || !is_resting(&self.outs, Worker::Dumper)
+            || is_page_out(&self.outs)
+            || self.committing
     }
 
     /// Why nothing can be cancelled.
@@ -507,12 +516,34 @@ impl Core {
         Reply::Worked
     }
 
+    /// Whether the outcome of the write of a data page is awaited: eight are out, or some where no page is left. A
+    /// checkpoint that has ended waits for all of them.
+    fn must_wait_for_pages(&self) -> bool
+        ensures { result ≡ must_wait_for_pages self.now }
+    {
+        if self.dumper.is_idle() {
+            is_page_out(&self.outs)
+        } else {
+            self.dumper.must_wait(&self.memory)
+        }
+    }
+
+    /// Whether an outcome of a worker is awaited before it goes on.
+    fn must_wait(&self, worker: Worker) -> bool
+        ensures { result ≡ must_wait self.now worker }
+    {
+        match worker {
+            Worker::Dumper => !is_resting(&self.outs, worker) || self.must_wait_for_pages(),
+            Worker::Merger | Worker::Opener => !is_resting(&self.outs, worker),
+        }
+    }
+
     /// Why a worker can't go on.
     fn refusal_of_work(&self, worker: Worker) -> Option<Refusal>
         ensures { result ≡ work_refusal self.now worker }
     {
         first_of(&[
-            (!is_resting(&self.outs, worker), Refusal::Busy),
+            (self.must_wait(worker), Refusal::Busy),
             (self.is_idle(worker), Refusal::Idle),
         ])
     }
@@ -532,8 +563,8 @@ impl Core {
     ///
     /// # Errors
     ///
-    /// `Busy` where a request of the worker is out, else `Idle` where it has no job; `OutOfMemory` where a growth was
-    /// refused. `Damaged` of the opener, which then has ended: where the store can't be read, or shows neither the last
+    /// `Busy` where a request of the worker is out, but for up to seven writes of data pages while pages are left, else
+    /// `Idle` where it has no job; `OutOfMemory` where a growth was refused. `Damaged` of the opener, which then has ended: where the store can't be read, or shows neither the last
     /// checkpoint nor the pending one. `Damaged` of the merger, where its source isn't there to be read.
     pub fn take_up(&mut self, worker: Worker) -> Taken
         ensures takes { TakesUp self.old worker result self.new }
@@ -601,10 +632,11 @@ impl Core {
             image,
             self.numbers.ticket,
         );
+        self.dumper.sound();
         self.numbers.give();
         self.numbers.tick();
         self.journal.note(Mark::Start(serial));
-        put_out(&mut self.outs, Worker::Dumper, Some(request.id()));
+        put_out(&mut self.outs, DUMPER, Some(request.id()));
         self.committing = is_committing(self.committing, &self.dumper, request.id().call);
         Taken::Call(request)
     }
@@ -618,6 +650,7 @@ impl Core {
         requires begun { next_slot self.old.dumper.running ≡ None }
         requires runs { IsSome self.old.dumper.running }
         requires rests { slice_get self.old.outs 0 ≡ Some None }
+        requires goes { dumper_must_wait self.old.dumper.running (plain_of self.old.memory) ≡ false }
         ensures takes { TakesUp self.old its.Dumper result self.new }
         ensures leaves { Leaves self.old its.Dumper result self.new }
         ensures merger { self.new.merger ≡ self.old.merger }
@@ -634,20 +667,26 @@ impl Core {
         let Ok(step) = step_on(&mut self.dumper, &mut self.memory, self.numbers.ticket) else {
             return Taken::Step(Reply::Refused(Refusal::OutOfMemory));
         };
+        self.dumper.sound();
         let Some(serial) = self.dumper.serial() else {
             unreachable!();
         };
         match step {
-            ImageStep::Call(request) | ImageStep::PageCall(request) => {
+            ImageStep::PageCall { lane, request } => {
                 self.numbers.tick();
-                put_out(&mut self.outs, Worker::Dumper, Some(request.id()));
+                put_out(&mut self.outs, page_lane(lane), Some(request.id()));
+                Taken::Call(request)
+            }
+            ImageStep::Call(request) => {
+                self.numbers.tick();
+                put_out(&mut self.outs, DUMPER, Some(request.id()));
                 self.committing = is_committing(self.committing, &self.dumper, request.id().call);
                 Taken::Call(request)
             }
             ImageStep::TableCall(request) => {
                 self.journal.note(Mark::Table(serial));
                 self.numbers.tick();
-                put_out(&mut self.outs, Worker::Dumper, Some(request.id()));
+                put_out(&mut self.outs, DUMPER, Some(request.id()));
                 self.committing = is_committing(self.committing, &self.dumper, request.id().call);
                 Taken::Call(request)
             }
@@ -676,7 +715,8 @@ impl Core {
     pub fn hand_in(&mut self, outcome: Outcome) -> Reply
         ensures strange { (IsOut self.old outcome.request.id → ⊥)
             → (result ≡ reply.Refused Idle) × (self.new ≡ self.old) }
-        ensures handed { IsOut self.old outcome.request.id → HandedIn self.old outcome result self.new }
+        ensures handed { (out : IsOut self.old outcome.request.id)
+            → HandedIn self.old out.lane outcome result self.new }
         ensures failed { IsOut self.old outcome.request.id → is_done outcome.answer ≡ false
             → result ≡ reply.Refused StoreDown }
         ensures down { IsOut self.old outcome.request.id → outcome.request.id.worker ≢ its.Opener
@@ -712,25 +752,25 @@ impl Core {
             → EndsCut self.old outcome.request self.new }
     {
         let id = outcome.id();
-        if !is_out(&self.outs, &id) {
+        let Some(lane) = lane_of(&self.outs, &id) else {
             drop(outcome);
             return Reply::Refused(Refusal::Idle);
-        }
+        };
         if self.is_idle(id.worker) {
-            return self.hand_in_late(outcome);
+            return self.hand_in_late(lane, outcome);
         }
         match id.worker {
-            Worker::Dumper => self.hand_in_dumper(outcome),
+            Worker::Dumper => self.hand_in_dumper(lane, outcome),
             Worker::Merger => self.hand_in_merger(outcome),
             Worker::Opener => self.hand_in_opener(outcome),
         }
     }
 
     /// Takes the outcome of a call whose job has ended, since the store went down.
-    fn hand_in_late(&mut self, outcome: Outcome) -> Reply
-        requires out { IsOut self.old outcome.request.id }
+    fn hand_in_late(&mut self, lane: usize, outcome: Outcome) -> Reply
+        requires out { slice_get self.old.outs lane ≡ Some (Some outcome.request.id) }
         requires idle { is_idle self.old outcome.request.id.worker ≡ true }
-        ensures handed { HandedIn self.old outcome result self.new }
+        ensures handed { HandedIn self.old lane outcome result self.new }
         ensures leaves { LeavesByOutcome self.old outcome.request.id.worker result self.new }
         ensures merger { self.new.merger ≡ self.old.merger }
         ensures late { result ≡ reply.Refused StoreDown }
@@ -744,17 +784,17 @@ impl Core {
         let id = outcome.id();
         let done = outcome.answer().is_done();
         follow_call(&mut self.phases, &id, done);
-        put_out(&mut self.outs, id.worker, None);
+        put_out(&mut self.outs, lane, None);
         drop(outcome);
         Reply::Refused(Refusal::StoreDown)
     }
 
     /// Takes the outcome of the dumper's call.
-    fn hand_in_dumper(&mut self, outcome: Outcome) -> Reply
-        requires out { IsOut self.old outcome.request.id }
+    fn hand_in_dumper(&mut self, lane: usize, outcome: Outcome) -> Reply
+        requires out { slice_get self.old.outs lane ≡ Some (Some outcome.request.id) }
         requires dumper { outcome.request.id.worker ≡ its.Dumper }
         requires runs { is_idle self.old its.Dumper ≡ false }
-        ensures handed { HandedIn self.old outcome result self.new }
+        ensures handed { HandedIn self.old lane outcome result self.new }
         ensures failed { is_done outcome.answer ≡ false ↔ result ≡ reply.Refused StoreDown }
         ensures leaves { LeavesByOutcome self.old its.Dumper result self.new }
         ensures lasts { MergeLasts self.old self.new }
@@ -767,13 +807,14 @@ impl Core {
         tracked_laws();
         due_laws();
         little_law();
+        left_law();
         plain_law();
         self.dumper.sound();
         let id = outcome.id();
         let done = outcome.answer().is_done();
         let closed = closes_for_sure(self.phases[id.slot], id.call);
         follow_call(&mut self.phases, &id, done);
-        put_out(&mut self.outs, Worker::Dumper, None);
+        put_out(&mut self.outs, lane, None);
         match self.dumper.hand_in(outcome) {
             Progress::Strange => unreachable!(),
             Progress::Failed => {
@@ -783,6 +824,7 @@ impl Core {
                 Reply::Refused(Refusal::StoreDown)
             }
             Progress::More => {
+                self.dumper.sound();
                 leave_catalog(&mut self.catalog, id.slot, closed);
                 Reply::Worked
             }
