@@ -1,5 +1,5 @@
 -- What is so of every core.
-use Rattle.std.specs.Prelude.{◌≡◌, ◌≢◌, ◌⊎◌, ℕ, zero, suc, ◌+◌, ◌<◌, ◌≤◌, ◌^◌, false, if◌then◌else◌, List, [], ◌∷◌, length, Option, Some, None, IfSome, slice_get}
+use Rattle.std.specs.Prelude.{◌≡◌, ◌≢◌, ◌⊎◌, ℕ, zero, suc, ◌+◌, ◌<◌, ◌≤◌, ◌^◌, false, if◌then◌else◌, List, ◌∷◌, length, Option, Some, None, IfSome, slice_get}
 use Rattle.std.specs.List.{list_any}
 use Rattle.sd_chain.specs.Catalog.{IsHeld, Opened, Places, place_of}
 use Rattle.sd_gate.specs.declared.phase.Phase.{Phase}

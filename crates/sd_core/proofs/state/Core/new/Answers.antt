@@ -1,4 +1,4 @@
-use Rattle.std.proofs.Common.{◌≡◌, None, Some, ◌∷◌, [], ◌∙◌, ap, sym, refl, subst}
+use Rattle.std.proofs.Common.{◌≡◌, None, Some, ◌∙◌, ap, sym, refl, subst}
 use Rattle.sd_areas.specs.Memory.{memory_of}
 use Rattle.sd_journal.specs.Allowed.{IsLastPair}
 use Rattle.sd_journal.specs.Marked.{entries_of}
