@@ -22,6 +22,7 @@ use Rattle.sd_journal.specs.declared.entry.Entry.TheVariants.{Applied, Freeze, A
 use Rattle.sd_journal.specs.History.{History}
 use Rattle.sd_rounds.specs.Dumper.{Running}
 use Rattle.sd_belief.specs.Believes.{Believes}
+use Rattle.sd_belief.specs.InUse.{IsPageOf}
 use Rattle.sd_belief.specs.Knows.{IsRefound}
 use Rattle.sd_belief.specs.View.{CoreView, history_of}
 
@@ -143,7 +144,8 @@ Applies seat command (Err why) old new = IsUnjournaled why × (new ≡ old)
 
 -- ---- requests and outcomes
 
--- a request of a worker is handed out in a free lane; what is out on its slot writes other data pages
+-- A request of a worker is handed out in a free lane. What is out on its slot writes other data pages, and each of them, and this request,
+-- is in a lane of pages then, where whole data pages are written.
 pub record HandsOut (old : CoreView) (worker : Worker) (request : Asked) (new : CoreView) : Type 0 where
   pub lane : ℕ
   pub free : slice_get old.outs lane ≡ Some None
@@ -154,6 +156,9 @@ pub record HandsOut (old : CoreView) (worker : Worker) (request : Asked) (new : 
   pub whose : request.id.worker ≡ worker
   pub slot : request.id.slot < length old.phases
   pub apart : IsApart old.outs request.id
+  pub pages : 2 < lane → IsPageOf request.id.slot request
+  pub beside : (other_lane : ℕ) (other : RequestId) → slice_get old.outs other_lane ≡ Some (Some other) → other.slot ≡ request.id.slot
+      → (2 < lane) × (2 < other_lane)
   pub goes_on : (asked : List (Option Asked)) → GoesOn old asked new (slice_set asked lane (Some request))
 
 -- a step that makes no request

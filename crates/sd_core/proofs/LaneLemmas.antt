@@ -186,6 +186,19 @@ module _ (running : Running) (image next : Making) (merge : Option RequestId) (o
   pub lane_free : (lane : ℕ) → slice_get image.writes lane ≡ Some None → slice_get outs (page_lane lane) ≡ Some None
   lane_free lane free = ap (slice_get outs) (far lane) ∙ ap (λ all. slice_get all (suc (suc (suc lane)))) image_outs ∙ free
 
+-- what is out on the slot of a page that is to be written is in a lane of pages
+pub page_beside : (core : Parts) (running : Running) (image next : Making) (lane : ℕ) (request : Asked) → IsCore core → core.dumper.running ≡ Some running → running.image ≡ Some image
+    → core.outs ≡ None ∷ merger.out_of_merge core.merger ∷ None ∷ writes_of_running (Some running) → image.order.slot ≡ slot_of running → WritesPage image lane request next
+    → (other_lane : ℕ) (other : RequestId) → slice_get core.outs other_lane ≡ Some (Some other) → other.slot ≡ request.id.slot → 2 < other_lane
+page_beside core running image next lane request sound is making are own writes at id out same =
+    elim (lane_at None (merger.out_of_merge core.merger) image.writes at id (ap (λ all. slice_get all at) (sym (image_outs running image next (merger.out_of_merge core.merger) core.outs are making)) ∙ out)) [
+      | inl a ↦ absurd (let no : None ≡ Some id = a.1 in cc)
+      | inr rest ↦ elim rest [
+        | inl b ↦ absurd (asks_apart core running request.id id sound is (writes.slot ∙ own) b.1 (sym same))
+        | inr page ↦ (let here = page.1 in omega (arith, here))
+      ]
+    ]
+
 -- what is out on the slot of a page that is to be written writes others
 pub page_apart : (core : Parts) (running : Running) (image next : Making) (lane : ℕ) (request : Asked) → IsCore core → core.dumper.running ≡ Some running → running.image ≡ Some image
     → core.outs ≡ None ∷ merger.out_of_merge core.merger ∷ None ∷ writes_of_running (Some running) → image.order.slot ≡ slot_of running → WritesPage image lane request next

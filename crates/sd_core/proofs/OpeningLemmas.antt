@@ -84,6 +84,8 @@ hands_out steps old new opener next number request l slots = record {
   whose = l.asked.worker;
   slot = (let slot = l.asked.slot in let within = l.asked.within in omega (arith, slot, within, slots));
   apart = λ lane id out same. absurd (free_of_nobody old.outs request.id.slot l.none lane id out same);
+  pages = λ few. absurd (omega (arith, few));
+  beside = λ lane id out same. absurd (free_of_nobody old.outs request.id.slot l.none lane id out same);
   goes_on = λ asked bodies files b. steps.looks old new opener next number request asked bodies files l b;
 }
 

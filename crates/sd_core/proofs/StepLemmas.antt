@@ -1,5 +1,6 @@
 -- The dumper's steps, as the calls of a core tell them.
-use Rattle.std.proofs.Common.{ℕ, ◌<◌, List, length, Option, Some, slice_get, slice_set, refl, sym, ◌∙◌, ap, subst, inl, inr}
+use Rattle.std.proofs.Common.{◌≡◌, ℕ, ◌<◌, List, length, Option, Some, slice_get, slice_set, refl, sym, ◌∙◌, ap, subst, inl, inr, arith}
+use Rattle.sd_gate.specs.declared.request_id.RequestId.{RequestId}
 use Rattle.sd_gate.specs.declared.phase.Phase.{Phase}
 use Rattle.sd_gate.specs.declared.worker.Worker.TheVariants.{Dumper}
 use Rattle.sd_gate.specs.Requests.{Asked}
@@ -9,6 +10,7 @@ use Rattle.sd_rounds.specs.declared.image_step.ImageStep.{ImageStep}
 use Rattle.sd_rounds.specs.declared.image_step.ImageStep.TheVariants.{Call}
 use Rattle.sd_rounds.specs.Dumper.{Running}
 use Rattle.sd_rounds.specs.Making.{IsAskedBy, Making}
+use Rattle.sd_rounds.specs.Pass.{data_pages}
 use Rattle.sd_belief.specs.Believes.{Believes}
 use Rattle.sd_belief.specs.Calls.{AreGivenUp, HandsOut, IsFree, MakesStep, running_number}
 use Rattle.sd_belief.specs.DumperSteps.{AsksFor, AsksToWrite, BeginsImage, DumperSteps, FreezesMemory, IsOnPages, WorksOnMemory}
@@ -31,13 +33,17 @@ hands_asked old new running image next number step request a whose slot goes = r
   whose = whose.worker;
   slot = slot;
   apart = λ lane other out same. absurd (a.apart lane other out same);
+  pages = λ few. absurd (omega (arith, few));
+  beside = λ lane other out same. absurd (a.apart lane other out same);
   goes_on = λ asked bodies files b. goes asked bodies files a b;
 }
 
 -- the write of a page
 pub hands_page : DumperSteps → (old new : CoreView) (running : Running) (image next : Making) (number lane : ℕ) (request : Asked)
-    → AsksToWrite old running image number lane request next new → IsAskedBy number request → request.id.slot < length old.phases → HandsOut old Dumper request new
-hands_page steps old new running image next number lane request a whose slot = record {
+    → AsksToWrite old running image number lane request next new → IsAskedBy number request → request.id.slot < length old.phases
+    → ((other_lane : ℕ) (other : RequestId) → slice_get old.outs other_lane ≡ Some (Some other) → other.slot ≡ request.id.slot → 2 < other_lane)
+    → HandsOut old Dumper request new
+hands_page steps old new running image next number lane request a whose slot beside = record {
   lane = page_lane lane;
   free = a.free;
   base = a.rest.base;
@@ -47,6 +53,8 @@ hands_page steps old new running image next number lane request a whose slot = r
   whose = whose.worker;
   slot = slot;
   apart = a.apart;
+  pages = λ some. record { on = refl; place = data_pages image.pass.entries; call = a.steps.0.call; whole = a.steps.0.taken.whole };
+  beside = λ other_lane other out same. (omega arith, beside other_lane other out same);
   goes_on = λ asked bodies files b. steps.writes_page old new running image next number lane request asked bodies files a b;
 }
 
@@ -90,6 +98,8 @@ begins_asking steps old mid new running phase image next number request b a whos
   whose = whose.worker;
   slot = slot;
   apart = λ lane other out same. absurd (subst (λ outs. IsFree outs request.id.slot) b.outs a.apart lane other out same);
+  pages = λ few. absurd (omega (arith, few));
+  beside = λ lane other out same. absurd (subst (λ outs. IsFree outs request.id.slot) b.outs a.apart lane other out same);
   goes_on = λ asked bodies files believed.
       steps.asks mid new (record running { image = Some image }) image next number request asked bodies files a
       (steps.begins_image old mid running phase asked bodies files b believed);

@@ -121,6 +121,8 @@ returns-clause-takes c =
       whose = w.steps.1.worker;
       slot = subst (λ s. s < length c.self.inside.phases.items) (sym own.slot) m.within;
       apart = λ lane other at same. absurd (subst (IsFree c.self.inside.outs) (sym own.slot) free lane other at same);
+      pages = λ few. absurd (omega (arith, few));
+      beside = λ lane other at same. absurd (subst (IsFree c.self.inside.outs) (sym own.slot) free lane other at same);
       goes_on = λ asked bodies files believed.
           c.merger_steps.ensures.asks mid _ begun (begun_copy order) w.copy c.self.inside.numbers.ticket request asked bodies files refl (record {
             merges = record {

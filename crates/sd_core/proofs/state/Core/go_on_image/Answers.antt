@@ -22,7 +22,7 @@ use Rattle.sd_core.specs.Images.{begun_as}
 use Rattle.sd_core.specs.LittleWork.{TakesLittle}
 use Rattle.sd_core.specs.Sound.{AreNumbers, IsImageOf, IsJournal, IsMerging, begun_images, due_serials, held_for}
 use Rattle.sd_core.proofs.ImageLemmas.{image_asked, image_frozen, image_page, image_table, image_visited, image_copied}
-use Rattle.sd_core.proofs.LaneLemmas.{lane_free, none_written, outs_asked, outs_kept, outs_resting, outs_writing, page_apart}
+use Rattle.sd_core.proofs.LaneLemmas.{lane_free, none_written, outs_asked, outs_kept, outs_resting, outs_writing, page_apart, page_beside}
 use Rattle.sd_core.proofs.LittleLemmas.{freeze_little, little_of, step_little, visit_more}
 use Rattle.sd_core.proofs.MarkLemmas.{before_freeze, freeze_journal, freeze_numbers, frozen_next, may_freeze, sound_image, table_journal, visit_journal}
 use Rattle.sd_core.proofs.OpeningLemmas.{hands_seen, step_seen}
@@ -495,7 +495,8 @@ returns-in-PageCall-clause-takes c =
       steps = w.steps;
       committing = refl;
       is = w.is;
-    }) w.steps.1 (subst (λ slot. slot < length c.self.inside.phases.items) (sym slot) within))
+    }) w.steps.1 (subst (λ slot. slot < length c.self.inside.phases.items) (sym slot) within)
+    (page_beside _ w.running w.image w.next c.in-PageCall.lane c.in-PageCall.request c.self.invariant w.was w.making out.1 own w.steps.0))
 
 pub page_lane-requires : goal.page_lane-requires
 page_lane-requires c =

@@ -1,4 +1,4 @@
-use Rattle.std.proofs.Common.{◌≡◌, length, true, false, Err, Some, slice_get, slice_set, refl, sym, ◌∙◌, ap, subst, inl}
+use Rattle.std.proofs.Common.{◌≡◌, length, true, false, Err, Some, slice_get, slice_set, refl, sym, ◌∙◌, ap, subst, inl, arith}
 use Rattle.sd_gate.specs.declared.request_id.RequestId.{RequestId}
 use Rattle.sd_gate.specs.declared.worker.Worker.TheVariants as its
 use Rattle.sd_command.specs.declared.refusal.Refusal.TheVariants.{Damaged}
@@ -121,6 +121,8 @@ returns-else-not-may_read-clause-takes c =
       whose = r.asks.worker;
       slot = r.asks.within;
       apart = λ lane other at same. absurd (free lane other at same);
+      pages = λ few. absurd (omega (arith, few));
+      beside = λ lane other at same. absurd (free lane other at same);
       goes_on = λ asked bodies files b. goes_by_read c.self.inside.catalog c.merger_steps.ensures (the_view c.self.inside) _ w.merge w.doing c.self.inside.numbers.ticket c.in-ReadCall.request asked bodies files refl (record {
         rest = record { stands = m.stands; base = refl; history = refl; memory = refl; closed = m.closed; grows = refl; committing = refl; dumper = refl; makes = makes_in c.self.inside.dumper.since_freeze c.self.inside.dumper.running c.sound-2.ensures.running };
         phases = refl;
@@ -155,6 +157,8 @@ returns-in-Call-clause-takes c =
       whose = a.worker;
       slot = a.within;
       apart = λ lane other at same. absurd (free lane other at same);
+      pages = λ few. absurd (omega (arith, few));
+      beside = λ lane other at same. absurd (free lane other at same);
       goes_on = λ asked bodies files b. goes_by_call _ c.merger_steps.ensures _ _ w.merge w.doing c.self.inside.numbers.ticket c.in-Ok.step c.in-Call.request asked bodies files refl (record {
         rest = record { stands = m.stands; base = refl; history = refl; memory = refl; closed = m.closed; grows = refl; committing = refl; dumper = refl; makes = makes_in c.self.inside.dumper.since_freeze c.self.inside.dumper.running c.sound-2.ensures.running };
         phases = refl;
