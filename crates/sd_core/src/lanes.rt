@@ -7,7 +7,7 @@ ghost use Rattle.sd_core.specs.Refusals.{are_resting, is_page_out, is_resting};
 use sd_gate::{RequestId, Worker};
 
 /// How many requests may be out at once: one of each worker, and the writes of data pages.
-pub(crate) const LANES: usize = 3 + sd_rounds::LANES;
+pub const LANES: usize = 3 + sd_rounds::LANES;
 
 /// The lanes of the three workers.
 pub(crate) const DUMPER: usize = 0;

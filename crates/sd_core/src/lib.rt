@@ -14,6 +14,7 @@ mod start;
 mod state;
 mod taken;
 
+pub use lanes::LANES;
 pub use start::Start;
 pub use state::Core;
 pub use taken::Taken;

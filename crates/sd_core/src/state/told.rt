@@ -1,13 +1,16 @@
 //! What a core tells of its run.
-ghost use Rattle.std.specs.Prelude.{◌≡◌, is_some};
+ghost use Rattle.std.specs.Prelude.{◌≡◌, ◌<◌, Some, IfSome, MatchOption, is_some, slice_get};
 ghost use Rattle.sd_areas.specs.Memory.{memory_of};
 ghost use Rattle.sd_journal.specs.History.{pending};
+ghost use Rattle.sd_rounds.specs.Writes.{IsInLane};
 ghost use Rattle.sd_belief.specs.View.{history_of};
 ghost use Rattle.sd_core.specs.Beginning.{is_down};
 
 use super::Core;
 use crate::beginning::is_down;
+use crate::lanes::lane_of;
 use sd_areas::Snapshot;
+use sd_gate::RequestId;
 use sd_journal::Journal;
 use sd_pagetable::Memory;
 
@@ -39,6 +42,15 @@ impl Core {
         ensures first { result.now.first ≡ 0 }
     {
         &self.journal
+    }
+
+    /// The lane in which the request with this id is out, below 11.
+    pub fn lane_of(&self, id: &RequestId) -> Option<usize>
+        ensures found { MatchOption result (IsInLane self.now.outs id.now → ⊥)
+            (λ lane. slice_get self.now.outs lane ≡ Some (Some id.now)) }
+        ensures within { IfSome result (λ lane. lane < 11) }
+    {
+        lane_of(&self.outs, id)
     }
 
     /// Whether a checkpoint is pending: commands are refused as frozen.
