@@ -14,11 +14,11 @@ pub enum Event {
     /// A worker makes its next step or asks for its next device call, whatever outcomes are kept.
     TakeUp(Worker),
     /// A worker hands in the kept outcome at this place, from 0 by rising ticket.
-    HandInAt(Worker, usize),
+    HandInAt(Worker, u64),
     /// The device call with the least ticket is made of those that a worker asked for.
     Perform(Worker),
     /// The device call at this place, from 0 by rising ticket, is made of those that a worker asked for.
-    PerformAt(Worker, usize),
+    PerformAt(Worker, u64),
     /// The order to begin a merge.
     Merge,
     /// The order to cancel the checkpoint that runs or is pending.

@@ -116,7 +116,7 @@ fn is_at(kept: &[Kept; LANES], state: CallState, worker: Worker, place: usize, l
     ensures { IsTrue result ↔ IsAt kept.now state worker place lane }
 {
     match id_in(&kept[lane], state) {
-        Some(id) => id.worker == worker && earlier(kept, state, worker, id.ticket) == place,
+        Some(id) => id.worker == worker && earlier(kept, state, worker, id.ticket) as u64 == place,
         None => false,
     }
 }
@@ -126,7 +126,7 @@ pub(crate) fn lane_at(
     kept: &[Kept; LANES],
     state: CallState,
     worker: Worker,
-    place: usize,
+    place: u64,
 ) -> Option<usize>
     ensures found { MatchOption result (IsNowhere kept.now state worker place)
         (IsAt kept.now state worker place) }

@@ -84,7 +84,7 @@ fn work(core: &mut Core, kept: &mut [Kept; LANES], worker: Worker) -> Reply
 }
 
 /// Hands in the outcome of a worker at this place. Refused as idle where there is none.
-fn hand_in_at(core: &mut Core, kept: &mut [Kept; LANES], worker: Worker, place: usize) -> Reply
+fn hand_in_at(core: &mut Core, kept: &mut [Kept; LANES], worker: Worker, place: u64) -> Reply
     ensures { HandsInIfAny worker place core.old kept.old result core.new kept.new }
 {
     match lane_at(kept, CallState::Made, worker, place) {
@@ -117,7 +117,7 @@ fn perform_at<D: Disk>(
     disk: &mut D,
     kept: &mut [Kept; LANES],
     worker: Worker,
-    place: usize,
+    place: u64,
 ) -> Reply
     requires { (lane : ℕ) (request : Asked) → slice_get kept.old lane ≡ Some (RequestKept request)
         → request.id.slot < length (D.contents disk.old) }
