@@ -1,5 +1,5 @@
 -- The first call of a worker that was asked for, and how its event is answered.
-use Rattle.std.proofs.Common.{◌≡◌, ◌⊎◌, ℕ, ◌+◌, ◌<◌, ◌==◌, ◌&&◌, ◌||◌, nat_lt, Bool, true, false, cond, List, [], ◌∷◌, Option, Some, None, slice_get, zero, suc, refl, sym, ◌∙◌, ap, subst, inl, inr, arith}
+use Rattle.std.proofs.Common.{◌≡◌, ◌⊎◌, ℕ, ◌+◌, ◌<◌, ◌==◌, ◌&&◌, ◌||◌, nat_lt, Bool, true, false, cond, List, [], ◌∷◌, Option, Some, None, slice_get, slice_set, zero, suc, refl, sym, ◌∙◌, ap, subst, inl, inr, arith}
 use Rattle.std.specs.List.{count_by, fold, list_any}
 use Rattle.std.proofs.lemmas.Bool.{false≢true}
 use Rattle.std.proofs.lemmas.Bool.Decides.{nat_tests}
@@ -14,12 +14,15 @@ use Rattle.sd_gate.specs.declared.request_id.RequestId.{RequestId}
 use Rattle.sd_gate.specs.declared.worker.Worker.{Worker}
 use Rattle.sd_gate.specs.declared.worker.Worker.TheVariants.{Dumper, Merger, Opener}
 use Rattle.sd_gate.specs.Calls.{HasCause}
+use Rattle.sd_gate.specs.Requests.{Asked}
 use Rattle.sd_belief.specs.View.{CoreView, index}
 use Rattle.sd_world.specs.declared.call_state.CallState.{CallState}
 use Rattle.sd_world.specs.declared.call_state.CallState.TheVariants as its
 use Rattle.sd_world.specs.declared.kept.Kept.{Kept}
+use Rattle.sd_world.specs.declared.kept.Kept.TheVariants.{Request, Outcome}
 use Rattle.sd_world.specs.Steps.{IsAnswered, IsPerform, Performs, reply_of}
-use Rattle.sd_world.specs.View.{IsAt, WorldView, asked_id, id_in, is_asked, is_before, is_of}
+use Rattle.sd_world.proofs.KeptLemmas.{asked_there, same_request}
+use Rattle.sd_world.specs.View.{IsAt, WorldView, asked_count, asked_id, id_in, is_asked, is_before, is_of}
 
 -- ---- tests of lists
 
@@ -57,6 +60,22 @@ count_from {X} test n (y ∷ xs) = by (test y) refl (count_from test n xs)
 count_has : {X : Type 0} (test : X → Bool) (xs : List X) → (count_by test xs ≡ 0) ⊎ ((i : ℕ) × (x : X) × (slice_get xs i ≡ Some x) × (test x ≡ true))
 count_has test xs = count_from test 0 xs
 
+-- one fewer passes where an element that did is replaced by one that doesn't
+count_shift : {X : Type 0} (test : X → Bool) (n : ℕ) (xs : List X)
+    → fold (λ a x. a + cond (test x) 1 0) (n + 1) xs ≡ fold (λ a x. a + cond (test x) 1 0) n xs + 1
+count_shift test n [] = refl
+count_shift test n (x ∷ xs) = ap (λ m. fold (λ a x. a + cond (test x) 1 0) m xs) (let c = cond (test x) 1 0 in let e : n + 1 + c ≡ n + c + 1 = omega arith in e)
+    ∙ count_shift test (n + cond (test x) 1 0) xs
+
+count_set : {X : Type 0} (test : X → Bool) (n : ℕ) (xs : List X) (i : ℕ) (x y : X) → slice_get xs i ≡ Some x → test x ≡ true → test y ≡ false
+    → fold (λ a x. a + cond (test x) 1 0) n (slice_set xs i y) + 1 ≡ fold (λ a x. a + cond (test x) 1 0) n xs
+count_set test n [] i x y at passes fails = absurd (let no : None ≡ Some x = at in cc)
+count_set test n (z ∷ xs) zero x y at passes fails =
+    ap (λ b. fold (λ a x. a + cond (test x) 1 0) (n + cond b 1 0) xs + 1) fails
+    ∙ ap (λ m. fold (λ a x. a + cond (test x) 1 0) m xs + 1) (let e : n + 0 ≡ n = omega arith in e)
+    ∙ sym (ap (λ b. fold (λ a x. a + cond (test x) 1 0) (n + cond b 1 0) xs) (ap test (same_Some z x at) ∙ passes) ∙ count_shift test n xs)
+count_set test n (z ∷ xs) (suc i) x y at passes fails = count_set test (n + cond (test z) 1 0) xs i x y at passes fails
+
 -- ---- a worker's calls
 
 same_worker : (a b : Worker) → index a ≡ index b → a ≡ b
@@ -69,6 +88,9 @@ same_worker Merger Opener e = absurd cc
 same_worker Opener Dumper e = absurd cc
 same_worker Opener Merger e = absurd cc
 same_worker Opener Opener e = refl
+
+same_number : (n : ℕ) → (n == n) ≡ true
+same_number n = grind (arith, nat_tests)
 
 same_index : (m n : ℕ) → (m == n) ≡ true → m ≡ n
 same_index m n is = grind (arith, nat_tests, is)
@@ -112,9 +134,6 @@ asked_first kept worker is =
 asked_any : (kept : List Kept) (worker : Worker) (place lane : ℕ) → IsAt kept its.Asked worker place lane → is_asked kept worker ≡ true
 asked_any kept worker place lane at = any_at (λ k. is_of worker (asked_id k)) kept lane at.there at.is
     (ap (is_of worker) at.id_is ∙ ap (λ w. index w == index worker) at.whose ∙ same_number (index worker))
-  where
-    same_number : (n : ℕ) → (n == n) ≡ true
-    same_number n = grind (arith, nat_tests)
 
 -- ---- how a device call is answered
 
@@ -143,6 +162,18 @@ module _ {D : Type 0} (g : Ghosts D) (old new : WorldView D) (worker : Worker) (
   device_by asked (Performs.performs it) = subst (IsAnswered (g.failed old.disk) (g.failed new.disk)) (sym it.keeps.replied)
       (answered it.keeps.made.answer (g.failed old.disk) (g.failed new.disk) it.keeps.performed.cause)
   device_by asked (Performs.none none idle) = absurd (let first = asked_first old.kept worker asked in none first.0 first.1)
+
+  made_by : is_asked old.kept worker ≡ true → Performs g worker 0 old.disk old.kept answer new.disk new.kept → asked_count new.kept worker < asked_count old.kept worker
+  made_by asked (Performs.performs it) =
+      let less = count_set (λ k. is_of worker (asked_id k)) 0 old.kept it.lane (Request it.request) (Outcome it.keeps.made) it.is
+          (let there = asked_there old.kept worker 0 it.lane it.at in
+          ap (λ (r : Asked). index r.id.worker == index worker) (same_request it.request there.0 (sym it.is ∙ there.1))
+          ∙ ap (λ w. index w == index worker) there.2 ∙ same_number (index worker)) refl in
+      subst (λ k. asked_count k worker < asked_count old.kept worker) (sym it.keeps.left) (omega (arith, less))
+  made_by asked (Performs.none none idle) = absurd (let first = asked_first old.kept worker asked in none first.0 first.1)
+
+  pub made_step : is_asked old.kept worker ≡ true → IsPerform g worker 0 old answer new → asked_count new.kept worker < asked_count old.kept worker
+  made_step asked it = made_by asked it.performs
 
   pub device_step : is_asked old.kept worker ≡ true → IsPerform g worker 0 old answer new → IsAnswered (g.failed old.disk) (g.failed new.disk) answer
   device_step asked it = device_by asked it.performs

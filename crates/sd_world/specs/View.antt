@@ -88,3 +88,7 @@ IsNowhere kept state worker place = (lane : ℕ) → IsAt kept state worker plac
 -- a device call of the worker is out that wasn't made yet
 abbrev pub is_asked : List Kept → Worker → Bool
 is_asked kept worker = list_any (λ k. is_of worker (asked_id k)) kept
+
+-- how many device calls of the worker are out that weren't made yet
+abbrev pub asked_count : List Kept → Worker → ℕ
+asked_count kept worker = count_by (λ k. is_of worker (asked_id k)) kept

@@ -111,7 +111,7 @@ fn earlier(kept: &[Kept; LANES], state: CallState, worker: Worker, ticket: u64) 
 }
 
 /// Whether the worker's device call at this place is in this lane.
-fn is_at(kept: &[Kept; LANES], state: CallState, worker: Worker, place: usize, lane: usize) -> bool
+fn is_at(kept: &[Kept; LANES], state: CallState, worker: Worker, place: u64, lane: usize) -> bool
     requires { lane < 11 }
     ensures { IsTrue result ↔ IsAt kept.now state worker place lane }
 {

@@ -1,5 +1,5 @@
 //! A world: a core, its disk, and what is kept of the workers between events.
-ghost use Rattle.std.specs.Prelude.{◌≡◌, ◌≢◌, ◌≤◌, [], ℕ, List, None, false, true, IfOk, IfErr};
+ghost use Rattle.std.specs.Prelude.{◌≡◌, ◌≢◌, ◌≤◌, ◌<◌, [], ℕ, List, None, false, true, IfOk, IfErr};
 ghost use Rattle.sd_command.specs.declared.refusal.Refusal.TheVariants.{Idle, OutOfMemory};
 ghost use Rattle.sd_command.specs.declared.reply.Reply.TheVariants as reply;
 ghost use Rattle.sd_disk.specs.Crash.{Within};
@@ -21,7 +21,7 @@ ghost use Rattle.sd_world.specs.Little.{DoesLittle};
 ghost use Rattle.sd_world.specs.Restored.{IsRestored};
 ghost use Rattle.sd_world.specs.Runs.{Runs, ShowsAllowedBetween, ShowsReply};
 ghost use Rattle.sd_world.specs.Steps.{Does, IsAnswered, LeavesLess};
-ghost use Rattle.sd_world.specs.View.{is_asked, nothing_kept};
+ghost use Rattle.sd_world.specs.View.{asked_count, is_asked, nothing_kept};
 
 use crate::event::Event;
 use crate::kept::{Kept, is_asked, nothing_kept};
@@ -186,6 +186,11 @@ impl<D: Disk> World<D> {
         ensures idle { (worker : WorkerKind) → event.now ≡ Perform worker
             → is_asked self.old.kept worker ≡ false
             → (result ≡ reply.Refused Idle) × (self.new ≡ self.old) }
+
+        // Behind a device call one fewer is out of its worker that wasn't made.
+        ensures made { (worker : WorkerKind) → event.now ≡ Perform worker
+            → is_asked self.old.kept worker ≡ true
+            → asked_count self.new.kept worker < asked_count self.old.kept worker }
 
         // A device call is answered by how it ended, and no other event touches the disk.
         ensures device { (worker : WorkerKind) → event.now ≡ Perform worker

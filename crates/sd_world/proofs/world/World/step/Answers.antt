@@ -8,7 +8,7 @@ use Rattle.sd_world.specs.Steps.{Does}
 use Rattle.sd_world.specs.View.{WorldView}
 use Rattle.sd_world.proofs.AddsLemmas.{step_adds, step_base, step_honest, step_span}
 use Rattle.sd_world.proofs.AllowedLemmas.{world_allows}
-use Rattle.sd_world.proofs.FirstLemmas.{device_step, idle_step}
+use Rattle.sd_world.proofs.FirstLemmas.{device_step, idle_step, made_step}
 use Rattle.sd_world.proofs.LittleLemmas.{step_little}
 use Rattle.sd_world.proofs.LowersLemmas.{hand_in_lowers, take_up_lowers, work_lowers}
 use Rattle.sd_world.proofs.ReplyLemmas.{marked_legal, says}
@@ -35,6 +35,12 @@ returns-clause-idle g c = λ worker is unasked.
     let new : WorldView g.row.D.Denot = record { core = c.make_step-answer.new.core; disk = c.make_step-answer.new.disk; kept = c.make_step-answer.new.kept } in
     let does = subst (λ w. Does g.D.Disk c.args.event.now w c.make_step-answer.result new) c.self.view_is c.make_step-answer.ensures in
     idle_step g.D.Disk c.args.self.now new worker c.make_step-answer.result unasked (subst (λ e. Does g.D.Disk e c.args.self.now c.make_step-answer.result new) is does)
+
+pub returns-clause-made : goal.returns-clause-made
+returns-clause-made g c = λ worker is asked.
+    let new : WorldView g.row.D.Denot = record { core = c.make_step-answer.new.core; disk = c.make_step-answer.new.disk; kept = c.make_step-answer.new.kept } in
+    let does = subst (λ w. Does g.D.Disk c.args.event.now w c.make_step-answer.result new) c.self.view_is c.make_step-answer.ensures in
+    made_step g.D.Disk c.args.self.now new worker c.make_step-answer.result asked (subst (λ e. Does g.D.Disk e c.args.self.now c.make_step-answer.result new) is does)
 
 pub returns-clause-device : goal.returns-clause-device
 returns-clause-device g c = λ worker is asked.
