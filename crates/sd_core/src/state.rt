@@ -11,7 +11,6 @@ ghost use Rattle.sd_gate.specs.Laws.{found_phase};
 ghost use Rattle.sd_gate.specs.Requests.{Asked};
 ghost use Rattle.sd_merge.specs.Merger.{Running as RunningMerge};
 ghost use Rattle.sd_journal.specs.History.{pending};
-ghost use Rattle.sd_journal.specs.Marked.{IsTracked};
 ghost use Rattle.sd_belief.specs.Believes.{Believes};
 ghost use Rattle.sd_belief.specs.Calls.{AddsByCancel, AddsByOrder, Applies, HandedIn, HandsOut, IsOut, Stays};
 ghost use Rattle.sd_belief.specs.View.{CoreView, history_of};
@@ -23,7 +22,7 @@ ghost use Rattle.sd_core.specs.Beginning.{BeginsAs, FreeSlots, begin_refusal};
 ghost use Rattle.sd_core.specs.Images.{IsAcked};
 ghost use Rattle.sd_core.specs.LittleWork.{IsLittleDump, IsLittlePreDump, OpensPreDump};
 ghost use Rattle.sd_core.specs.Entering.{EntersFirst};
-ghost use Rattle.sd_core.specs.Lasting.{LeavesMerged, MergeLasts};
+ghost use Rattle.sd_core.specs.Lasting.{MergeLasts};
 ghost use Rattle.sd_core.specs.Merging.{EndsCut, EntersAsCopy, FixesItsList, IsMerged, ListsTheUnneeded, MergesAs, OpensMerged, merge_refusal};
 ghost use Rattle.sd_core.specs.Orders.{BeginsToOpen, IsCancelled};
 ghost use Rattle.sd_core.specs.Refusals.{cancel_refusal, cant_cancel, has_checkpoint, is_idle, is_in_use, reopen_refusal, wants_entry, work_refusal};
@@ -197,21 +196,6 @@ impl Core {
         ensures { result ≡ pages_of self.now.dumper.running }
     {
         self.dumper.pages()
-    }
-
-    /// A law: the journal is legal, the memory is the one that it makes, and its bits are those that the commands and
-    /// visits give.
-    pub fn sound(&self)
-        ensures { IsTracked self.now.base self.now.items self.now.memory }
-    {
-        let _memory = &self.memory;
-    }
-
-    /// A law: while a merge closes images, its own image stands in its slot, and no device call is out on that slot.
-    pub fn merged_stands(&self)
-        ensures { LeavesMerged self.now }
-    {
-        let _merger = &self.merger;
     }
 
     /// Applies a command of a seat, and journals it with its reply. Returns the entry's number, and the reply. While a

@@ -1,9 +1,11 @@
-//! What a core tells of its run.
+//! What a core tells of its run, and what is so of every core.
 ghost use Rattle.std.specs.Prelude.{◌≡◌, is_some};
 ghost use Rattle.sd_areas.specs.Memory.{memory_of};
 ghost use Rattle.sd_journal.specs.History.{pending};
+ghost use Rattle.sd_journal.specs.Marked.{IsTracked};
 ghost use Rattle.sd_belief.specs.View.{history_of};
 ghost use Rattle.sd_core.specs.Beginning.{is_down};
+ghost use Rattle.sd_core.specs.Lasting.{LeavesMerged};
 
 use super::Core;
 use crate::beginning::is_down;
@@ -53,5 +55,20 @@ impl Core {
         ensures { result ≡ is_down self.now.standing }
     {
         is_down(self.standing)
+    }
+
+    /// A law: the journal is legal, the memory is the one that it makes, and its bits are those that the commands and
+    /// visits give.
+    pub fn sound(&self)
+        ensures { IsTracked self.now.base self.now.items self.now.memory }
+    {
+        let _memory = &self.memory;
+    }
+
+    /// A law: while a merge closes images, its own image stands in its slot, and no device call is out on that slot.
+    pub fn merged_stands(&self)
+        ensures { LeavesMerged self.now }
+    {
+        let _merger = &self.merger;
     }
 }
