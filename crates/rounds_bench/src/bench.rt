@@ -3,7 +3,7 @@ use sd_areas::{PAGE_BYTES, PAGE_SIZE, PageNo, Prot, SpaceId};
 use sd_disk::{DeviceError, Disk, MemDisk};
 use sd_gate::{Request, SlotState, perform};
 use sd_pagetable::{Memory, MemoryError, SECTOR_SIZE, SECTORS};
-use sd_rounds::{Dumper, ImageStep, NextImage, Progress, WorkError};
+use sd_rounds::{Dumper, ImageStep, NextImage, PageBuffers, Progress, WorkError};
 use std::alloc::{AllocError, Global};
 
 /// How many pages are mapped.
@@ -61,6 +61,7 @@ impl From<DeviceError> for BenchError {
 /// A memory of many clean pages, a disk, and a dumper between them.
 #[derive(Drop)]
 pub(crate) struct Bench {
+    alloc: Global,
     memory: Memory,
     disk: MemDisk,
     dumper: Dumper,
@@ -210,7 +211,7 @@ fn step(
     match dumper.work(memory, NextImage { serial, state }, 1) {
         Ok(ImageStep::Visited(_) | ImageStep::Copied(_) | ImageStep::Frozen) => Ok(false),
         Ok(ImageStep::Call(request))
-        | Ok(ImageStep::PageCall(request))
+        | Ok(ImageStep::PageCall { request, .. })
         | Ok(ImageStep::TableCall(request)) => call(disk, dumper, request),
         Err(error) => Err(BenchError::Work(error)),
     }
@@ -230,6 +231,7 @@ impl Bench {
         let buffer = Vec::with_capacity(alloc, PAGE_SIZE)?;
         let disk = MemDisk::new(alloc, 2, ROOM, usize::MAX)?;
         Ok(Bench {
+            alloc,
             memory: clean(alloc)?,
             disk,
             dumper: Dumper::new(alloc),
@@ -265,8 +267,9 @@ impl Bench {
     /// Makes a checkpoint with pre-dumps in these slots, above the image before it.
     pub(crate) fn dump(&mut self, pre_dumps: Vec<usize>) -> Result<(), BenchError> {
         self.checkpoint = self.checkpoint.saturating_add(1);
+        let buffers = PageBuffers::reserve(self.alloc)?;
         self.dumper
-            .begin(self.checkpoint, pre_dumps, SLOT, self.serial)?;
+            .begin(self.checkpoint, pre_dumps, SLOT, self.serial, buffers)?;
         self.go_on()
     }
 

@@ -12,7 +12,7 @@ use Rattle.sd_gate.specs.Requests.{Asked}
 use Rattle.sd_pagetable.specs.Contents.{Contents, plain_of}
 use Rattle.sd_rounds.specs.declared.image_order.ImageOrder.{ImageOrder}
 use Rattle.sd_rounds.specs.declared.stage.Stage.{Stage}
-use Rattle.sd_rounds.specs.declared.stage.Stage.TheVariants.{Format, Freeze, Pass as PassStage, PageWrite, Close}
+use Rattle.sd_rounds.specs.declared.stage.Stage.TheVariants.{Format, Freeze, Pass as PassStage, Close}
 use Rattle.sd_rounds.specs.Files.{FilesImage, HasAreas, HasAreasIn, IsFiled, IsFiledIn}
 use Rattle.sd_rounds.specs.Made.{MadeLaws, listed_pages}
 use Rattle.sd_rounds.specs.Making.{Making, is_past_freeze, plan_of, with_plan}
@@ -30,14 +30,12 @@ pub kept_with : (stage : Stage) (plan next : Planned) → plan_of stage ≡ Some
 kept_with (Format own) plan next was pages chain pass memory is = is
 kept_with Freeze plan next was pages chain pass memory is = is
 kept_with PassStage plan next was pages chain pass memory is = is
-kept_with (PageWrite own) plan next was pages chain pass memory is = is
 kept_with (Close own header tables) plan next was pages chain pass memory is = is
 
 pub files_with : (stage : Stage) (next : Planned) (order : ImageOrder) (pass : Pass) (pages : Pages) → IsFiledIn stage order pass pages → IsFiledIn (with_plan stage next) order pass pages
 files_with (Format own) next order pass pages is = is
 files_with Freeze next order pass pages is = is
 files_with PassStage next order pass pages is = is
-files_with (PageWrite own) next order pass pages is = is
 files_with (Close own header tables) next order pass pages is = is
 
 pub dumps_with : (stage : Stage) (next : Planned) (cut : Contents) (pages : Pages) (chain : Chain) (pass : Pass) (memory : Contents)
@@ -45,21 +43,18 @@ pub dumps_with : (stage : Stage) (next : Planned) (cut : Contents) (pages : Page
 dumps_with (Format own) next cut pages chain pass memory is = is
 dumps_with Freeze next cut pages chain pass memory is = is
 dumps_with PassStage next cut pages chain pass memory is = is
-dumps_with (PageWrite own) next cut pages chain pass memory is = is
 dumps_with (Close own header tables) next cut pages chain pass memory is = is
 
 pub areas_with : (stage : Stage) (next : Planned) (cut : Contents) → HasAreasIn stage cut → HasAreasIn (with_plan stage next) cut
 areas_with (Format own) next cut is = is
 areas_with Freeze next cut is = is
 areas_with PassStage next cut is = is
-areas_with (PageWrite own) next cut is = is
 areas_with (Close own header tables) next cut is = is
 
 pub past_with : (stage : Stage) (next : Planned) → is_past_freeze (with_plan stage next) ≡ is_past_freeze stage
 past_with (Format own) next = refl
 past_with Freeze next = refl
 past_with PassStage next = refl
-past_with (PageWrite own) next = refl
 past_with (Close own header tables) next = refl
 
 -- ---- a plan is on its slot
@@ -72,10 +67,6 @@ plan_on (Format own) order pages phase body request belief dump plan was s = ap 
     own_plan e = cc
 plan_on Freeze order pages phase body request belief dump plan was s = absurd (let no : None ≡ Some plan = was in cc)
 plan_on PassStage order pages phase body request belief dump plan was s = absurd (let no : None ≡ Some plan = was in cc)
-plan_on (PageWrite own) order pages phase body request belief dump plan was s = ap (λ (p : Planned). p.slot) (own_plan was) ∙ s.0.on
-  where
-    own_plan : Some own ≡ Some plan → plan ≡ own
-    own_plan e = cc
 plan_on (Close own header tables) order pages phase body request belief dump plan was s = ap (λ (p : Planned). p.slot) (own_plan was) ∙ s.on
   where
     own_plan : Some own ≡ Some plan → plan ≡ own

@@ -17,8 +17,8 @@ use Rattle.sd_journal.specs.History.{History}
 use Rattle.sd_pagetable.specs.Contents.{plain_of}
 use Rattle.sd_rounds.specs.declared.image_step.ImageStep.TheVariants.{Call}
 use Rattle.sd_rounds.specs.declared.stage.Stage.{Stage}
-use Rattle.sd_rounds.specs.declared.stage.Stage.TheVariants.{Format, Freeze, Pass as PassStage, PageWrite, Close}
-use Rattle.sd_rounds.specs.Dumper.{IsReserved, Running, is_last, slot_of}
+use Rattle.sd_rounds.specs.declared.stage.Stage.TheVariants.{Format, Freeze, Pass as PassStage, Close}
+use Rattle.sd_rounds.specs.Dumper.{IsReserved, Running, is_last, slot_of, writes_of_image}
 use Rattle.sd_rounds.specs.Files.{IsFiled, IsFiledIn}
 use Rattle.sd_rounds.specs.Made.{MadeLaws}
 use Rattle.sd_rounds.specs.Making.{Asks, Making, is_frozen, is_past_freeze, with_plan}
@@ -32,13 +32,14 @@ use Rattle.sd_store_laws.specs.Store.{IsFresh, IsNext, IsNextDump, jobs}
 use Rattle.sd_belief.specs.Believes.{Believes, HasStore}
 use Rattle.sd_belief.specs.DumperSteps.{AsksFor, commits, opens_gate}
 use Rattle.sd_belief.specs.GateSteps.{GateSteps}
-use Rattle.sd_belief.specs.InUse.{IsFrozenAs, IsImageOn, IsInUseOn, IsMakingOn, IsRunningOn, IsSlotFor, chain_of, pending_dump}
+use Rattle.sd_belief.specs.InUse.{IsFrozenAs, IsImageOn, IsInUseOn, IsMakingOn, IsRunningOn, IsSlotFor, body_written, chain_of, lanes_of, pending_dump}
 use Rattle.sd_belief.specs.StoreSteps.{MayAsk, MayOpen, QuietSteps}
 use Rattle.sd_belief.specs.View.{CoreView, history_of}
 use Rattle.sd_belief.proofs.Asks.{HasIt, IsChangedAt, changed_by, in_use_then, unchanged_at}
 use Rattle.sd_belief.proofs.AsksImage.{dump_has, plan_on}
 use Rattle.sd_belief.proofs.AsksSlot.{AsksOn, AsksQuietly, AsksToClose, AsksToOpen, asks_on, image_in_stage}
 use Rattle.sd_belief.proofs.BeginsImage.{none_at}
+use Rattle.sd_belief.proofs.Lanes.{body_still, plan_outside}
 use Rattle.sd_belief.proofs.MergeStays.{ChangesAt, below_checkpoint, fresh_of, holds_same, leaves_at, merge_then, merging_of, needed_there, own_beside, slots_at, source_there, spares_on}
 use Rattle.sd_belief.proofs.OpenCore.{believes_parts}
 use Rattle.sd_belief.proofs.Places.{free_there, ids_set}
@@ -53,7 +54,6 @@ its_stage : (stage : Stage) (p : Planned) (pages : List (List ℕ)) (i : Image) 
 its_stage (Format own) p pages i is = absurd (let no : None ≡ Some i = is in cc)
 its_stage Freeze p pages i is = absurd (let no : None ≡ Some i = is in cc)
 its_stage PassStage p pages i is = absurd (let no : None ≡ Some i = is in cc)
-its_stage (PageWrite own) p pages i is = absurd (let no : None ≡ Some i = is in cc)
 its_stage (Close own header tables) p pages i is = (header, tables, own, refl, sym (same_Some (image_of header pages tables) i is))
 
 module _ (quiet : QuietSteps) (gates : GateSteps) (made : MadeLaws) (follows : CatalogFollows) (shows : DumpShows)
@@ -87,7 +87,9 @@ module _ (quiet : QuietSteps) (gates : GateSteps) (made : MadeLaws) (follows : C
   none = same_Some m.request None (sym m.own ∙ free)
 
   slot_is : IsSlotFor image.stage image.order m.pages m.phase (file_at bodies slot) None m.belief b.dump
-  slot_is = subst (λ r. IsSlotFor image.stage image.order m.pages m.phase (file_at bodies slot) r m.belief b.dump) none m.slot_is
+  slot_is = subst (λ body. IsSlotFor image.stage image.order m.pages m.phase body None m.belief b.dump)
+      (body_still (file_at bodies slot) (lanes_of asked) (u.writes ∙ ap writes_of_image s.making ∙ m.rests (plan_outside image.stage asks.plan asks.was)))
+      (subst (λ r. IsSlotFor image.stage image.order m.pages m.phase (body_written (file_at bodies slot) (lanes_of asked)) r m.belief b.dump) none m.slot_is)
 
   on : request.id.slot ≡ slot
   on = asks.gives.slot ∙ plan_on image.stage image.order m.pages m.phase (file_at bodies slot) None m.belief b.dump asks.plan asks.was slot_is
@@ -99,7 +101,6 @@ module _ (quiet : QuietSteps) (gates : GateSteps) (made : MadeLaws) (follows : C
   abbrev may : MayAsk old.phases asked 0 request
   may = record {
     free = free;
-    none = none_at asked old request.id.slot b.knows.out s.apart;
     phase = m.phase;
     waits = record { is = ap (slice_get old.phases) on ∙ m.phase_is; ready = asked_on.0 };
   }
@@ -183,7 +184,7 @@ module _ (quiet : QuietSteps) (gates : GateSteps) (made : MadeLaws) (follows : C
   quietly q = believes_with b.dump b.beliefs sure_still
       (quiet.asks old.base history old.phases asked bodies b.store b.dump b.beliefs 0 request may (record { opens = q.opens; closes = q.closes }) b.has)
       (in_use_then follows old.base history old.catalog old.grows old.memory old.phases asked bodies old.numbers.serial b.store b.dump b.dump b.beliefs b.beliefs running image request m.belief
-      u m free on (unchanged_at b.beliefs slot m.belief m.belief_is) (λ i. (λ has. has, λ has. has)) few_of unneeded_of asks.plan asks.next asks.was q.slot_is)
+      u m free on (unchanged_at b.beliefs slot m.belief m.belief_is) (λ i. (λ has. has, λ has. has)) few_of s.making unneeded_of asks.plan asks.next asks.was q.slot_is)
       (changes_to m.belief b.beliefs (unchanged_at b.beliefs slot m.belief m.belief_is) (λ j has. inl has) (λ j opens. inl opens))
 
   -- ---- the gate of an image that nobody needs is closed
@@ -197,6 +198,7 @@ module _ (quiet : QuietSteps) (gates : GateSteps) (made : MadeLaws) (follows : C
       (subst (λ k. HasStore old.base history old.phases asked_now bodies b.store b.dump (with_belief b.beliefs k (Closing i))) on
       ((gates old.base history old.phases asked bodies).closes b.store b.dump b.beliefs 0 request i (record {
         may = may;
+        none = none_at asked old request.id.slot b.knows.out s.apart;
         call = q.call;
         phase = q.whole;
         belief = ap (slice_get b.beliefs) on ∙ kept;
@@ -205,7 +207,7 @@ module _ (quiet : QuietSteps) (gates : GateSteps) (made : MadeLaws) (follows : C
       (in_use_then follows old.base history old.catalog old.grows old.memory old.phases asked bodies old.numbers.serial b.store b.dump b.dump b.beliefs (with_belief b.beliefs slot (Closing i)) running image request (Closing i)
       u m free on (changed_by b.beliefs slot m.belief (Closing i) m.belief_is)
       (λ j. (λ has. to_closing j has, λ has. to_kept j has))
-      (λ j has. few_of j (has_i ∙ has)) (λ j r has. unneeded_of j r (has_i ∙ has)) asks.plan asks.next asks.was q.slot_is)
+      (λ j has. few_of j (has_i ∙ has)) s.making (λ j r has. unneeded_of j r (has_i ∙ has)) asks.plan asks.next asks.was q.slot_is)
       (changes_to (Closing i) (with_belief b.beliefs slot (Closing i)) (changed_by b.beliefs slot m.belief (Closing i) m.belief_is)
       (λ j has. inl (has_i ∙ has)) (λ j opens. absurd (let no : Closing i ≡ Opening j = opens in cc)))
     where
@@ -262,6 +264,7 @@ module _ (quiet : QuietSteps) (gates : GateSteps) (made : MadeLaws) (follows : C
     may_open : MayOpen old.phases asked bodies b.beliefs 0 request i
     may_open = record {
       may = may;
+      none = none_at asked old request.id.slot b.knows.out s.apart;
       call = q.call;
       image = ap_image;
       belief = ap (slice_get b.beliefs) on ∙ closed_at;
@@ -325,7 +328,7 @@ module _ (quiet : QuietSteps) (gates : GateSteps) (made : MadeLaws) (follows : C
         (in_use_then follows old.base history old.catalog old.grows old.memory old.phases asked bodies old.numbers.serial b.store b.dump (pending_dump image.order.kind i) b.beliefs (with_belief b.beliefs slot (Opening i)) running image request (Opening i)
         u m free on (changed_by b.beliefs slot m.belief (Opening i) m.belief_is)
         (λ j. (λ has. was_closed j has, λ has. is_opening j has))
-        (λ j has. (let same : i ≡ j = same_Some i j has in let serial = serial_is in let last = m.serial in let its = ap (λ (x : Image). x.header.serial) same in omega (arith, serial, last, its)))
+        (λ j has. (let same : i ≡ j = same_Some i j has in let serial = serial_is in let last = m.serial in let its = ap (λ (x : Image). x.header.serial) same in omega (arith, serial, last, its))) s.making
         (λ j r has needed. not_needed j (same_Some i j has) needed) asks.plan asks.next asks.was q.slot_is)
         (changes_to (Opening i) (with_belief b.beliefs slot (Opening i)) (changed_by b.beliefs slot m.belief (Opening i) m.belief_is)
         (λ j has. inr (ap (λ (x : Image). x.header.serial) (sym (same_Some i j has)) ∙ serial_is))

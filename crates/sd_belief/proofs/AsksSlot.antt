@@ -10,19 +10,19 @@ use Rattle.sd_gate.specs.declared.phase.Phase.{Phase}
 use Rattle.sd_gate.specs.declared.phase.Phase.TheVariants.{Raw, RawClosing, Whole, Closing as ClosingPhase, Shut, ShutSynced, Bare, Writing, Ready, Opening as OpeningPhase, Doubt, DoubtSynced}
 use Rattle.sd_gate.specs.declared.slot_state.SlotState.{SlotState}
 use Rattle.sd_gate.specs.declared.slot_state.SlotState.TheVariants as slot_state
-use Rattle.sd_gate.specs.Laws.{Leads, pages_body}
+use Rattle.sd_gate.specs.Laws.{Leads}
 use Rattle.sd_gate.specs.Phases.{after, body_after, closing, is_ready, may_close}
 use Rattle.sd_gate.specs.Plans.{Gives, Planned}
 use Rattle.sd_gate.specs.Requests.{Asked}
 use Rattle.sd_gate.specs.Sequences.{Calls, body_calls, format_calls, table_place}
 use Rattle.sd_rounds.specs.declared.image_order.ImageOrder.{ImageOrder}
 use Rattle.sd_rounds.specs.declared.stage.Stage.{Stage}
-use Rattle.sd_rounds.specs.declared.stage.Stage.TheVariants.{Format, Freeze, Pass as PassStage, PageWrite, Close}
+use Rattle.sd_rounds.specs.declared.stage.Stage.TheVariants.{Format, Freeze, Pass as PassStage, Close}
 use Rattle.sd_rounds.specs.Making.{plan_of, with_plan}
 use Rattle.sd_rounds.specs.MakingLaws.{Pages, image_of}
 use Rattle.sd_store_laws.specs.Beliefs.{Belief, Closed, Kept, Closing, Opening}
 use Rattle.sd_store_laws.specs.Gates.{IsBelievedAs}
-use Rattle.sd_belief.specs.InUse.{AreLeft, IsClosing, IsFilling, IsFormatted, IsFormatting, IsSlotFor, call_of, calls_left, is_opening_at, pending_dump}
+use Rattle.sd_belief.specs.InUse.{AreLeft, IsClosing, IsFormatted, IsFormatting, IsSlotFor, call_of, calls_left, is_opening_at, pending_dump}
 use Rattle.sd_belief.proofs.Leads.{is_whole, leads_end, leads_head}
 
 -- the image that a stage writes into its slot
@@ -30,7 +30,6 @@ abbrev pub image_in_stage : Stage → Pages → Option Image
 image_in_stage (Format plan) pages = None
 image_in_stage Freeze pages = None
 image_in_stage PassStage pages = None
-image_in_stage (PageWrite plan) pages = None
 image_in_stage (Close plan header tables) pages = Some (image_of header pages tables)
 
 -- a call that changes no belief
@@ -181,31 +180,10 @@ module _ (order : ImageOrder) (pages : Pages) (phase : Phase) (body : List ℕ) 
   pub formats_on : AsksOn (Format next) order pages phase body request belief dump
   formats_on = formats_by order.state f.place its_names
 
--- ---- writing a page, and closing a body
+-- ---- closing a body
 
 module _ (order : ImageOrder) (pages : Pages) (phase : Phase) (body : List ℕ) (belief : Belief) (dump : Option Image) (plan next : Planned) (request : Asked)
     (gives : Gives plan next request) where
-  pub fills_on : IsFilling order pages plan phase body None belief → dump ≡ None → AsksOn (PageWrite next) order pages phase body request belief dump
-  fills_on f alone =
-      let same = first_name request.id.call (Write f.place) (map call_of next.calls) [] (left_then ((Write f.place, []) ∷ []) 0 plan next request gives f.left) in
-      inl (record {
-        opens = λ is. (let no : Write f.place ≡ Open = sym same ∙ is in cc);
-        closes = λ is. absurd (let no : Write f.place ≡ CloseCall = sym same ∙ is in cc);
-        slot_is = (
-          record {
-            place = f.place;
-            on = gives.same_slot ∙ f.on;
-            left = left_then ((Write f.place, []) ∷ []) 0 plan next request gives f.left;
-            last = f.last;
-            leads = leads_then phase f.last body (pages_body pages) plan next request gives f.leads;
-            writes = f.writes;
-            fills = f.fills;
-            closed = f.closed;
-          },
-          alone,
-        );
-      })
-
   module _ (header : Header) (tables : List Listed)
       (c : IsClosing order (image_of header pages tables) plan phase body None belief dump) where
     abbrev i : Image
@@ -307,12 +285,6 @@ asks_on (Format own) order pages phase body belief dump plan next request was gi
     own_plan e = cc
 asks_on Freeze order pages phase body belief dump plan next request was gives s = absurd (let no : None ≡ Some plan = was in cc)
 asks_on PassStage order pages phase body belief dump plan next request was gives s = absurd (let no : None ≡ Some plan = was in cc)
-asks_on (PageWrite own) order pages phase body belief dump plan next request was gives s =
-    let mine : Gives own next request = subst (λ p. Gives p next request) (own_plan was) gives in
-    (asked_ready phase s.0.last body (pages_body pages) own next request mine s.0.leads, fills_on order pages phase body belief dump own next request mine s.0 s.1)
-  where
-    own_plan : Some own ≡ Some plan → plan ≡ own
-    own_plan e = cc
 asks_on (Close own header tables) order pages phase body belief dump plan next request was gives s =
     let mine : Gives own next request = subst (λ p. Gives p next request) (own_plan was) gives in
     (asked_ready phase Whole body (image_text (image_of header pages tables)) own next request mine s.leads, closes_on order pages phase body belief dump own next request mine header tables s)

@@ -103,7 +103,7 @@ module _ (places : Places) (store : Store) (beliefs : List Belief) (in_use : IsC
       stored = a.stored;
       holds = a.holds;
     }
-    asked_beside source image serial there unread target (copy.PageWrite plan) page None a = tt
+    asked_beside source image serial there unread target (copy.PageWrite plan) page None a = absurd a
     asked_beside source image serial there unread target (copy.PageWrite plan) page (Some request) a = a
     asked_beside source image serial there unread target (copy.Close plan header tables) page None a = tt
     asked_beside source image serial there unread target (copy.Close plan header tables) page (Some request) a = a

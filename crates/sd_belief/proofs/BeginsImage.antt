@@ -9,7 +9,7 @@ use Rattle.sd_gate.specs.declared.phase.Phase.{Phase}
 use Rattle.sd_gate.specs.Laws.{PlansLead}
 use Rattle.sd_gate.specs.Phases.{state_of}
 use Rattle.sd_gate.specs.Requests.{Asked}
-use Rattle.sd_rounds.specs.Dumper.{Running, order_of, slot_of}
+use Rattle.sd_rounds.specs.Dumper.{Running, order_of, slot_of, writes_of_image}
 use Rattle.sd_rounds.specs.Making.{Making, begun_image}
 use Rattle.sd_rounds.specs.MakingLaws.{MakingLaws}
 use Rattle.sd_store_laws.specs.Beliefs.{Belief, image_at, image_in}
@@ -19,12 +19,16 @@ use Rattle.sd_store_laws.specs.Store.{Store, jobs}
 use Rattle.sd_belief.specs.Believes.{Believes}
 use Rattle.sd_belief.specs.Calls.{IsFree}
 use Rattle.sd_belief.specs.DumperSteps.{BeginsImage}
-use Rattle.sd_belief.specs.InUse.{AreUsed, IsBetween, IsImageOn, IsInUseOn, IsMakingOn, IsNewNumber, IsRunningOn, NoneAt, chain_of}
-use Rattle.sd_belief.specs.Knows.{ids_of}
+use Rattle.sd_belief.specs.InUse.{AreUsed, IsBetween, IsImageOn, IsInUseOn, IsMakingOn, IsNewNumber, IsRunningOn, NoneAt, chain_of, ids_of, IsFormatting, lanes_of}
 use Rattle.sd_belief.specs.View.{CoreView, history_of}
 use Rattle.sd_belief.proofs.MergeStays.{merge_beside, spares_with}
 use Rattle.sd_belief.proofs.OpenCore.{believes_parts}
 use Rattle.sd_belief.proofs.Places.{has_too, id_there}
+use Rattle.sd_belief.proofs.Lanes.{body_still, no_pages}
+use Rattle.sd_rounds.specs.Writes.{no_writes}
+use Rattle.sd_gate.specs.Plans.{begun}
+use Rattle.sd_gate.specs.Sequences.{format_calls}
+use Rattle.sd_gate.specs.Inspections.{nothing}
 
 -- ---- numbers
 
@@ -104,10 +108,10 @@ never_frozen false is = false≢true is
 begun_on : MakingLaws → PlansLead → (old : CoreView) (running : Running) (phase : Phase) (asked : List (Option Asked)) (bodies : List (List ℕ)) (store : Store) (dump : Option Image) (beliefs : List Belief)
     → slice_get old.phases (slot_of running) ≡ Some phase → NoneAt asked (slot_of running) → length beliefs ≡ length old.phases
     → IsInUseOn old.base (history_of old) old.catalog old.grows old.memory old.phases asked bodies old.numbers.serial store dump beliefs (Some running)
-    → IsBetween old.memory asked store dump running.parent → Contains (jobs store) running.parent
+    → ids_of (lanes_of asked) ≡ no_writes → IsBetween old.memory asked store dump running.parent → Contains (jobs store) running.parent
     → IsMakingOn old.base (history_of old) old.memory old.phases asked bodies (old.numbers.serial + 1) store dump beliefs running.parent running.number
     (begun_image (order_of running (old.numbers.serial + 1) (state_of phase)))
-begun_on making plans old running phase asked bodies store dump beliefs at free count u between chained =
+begun_on making plans old running phase asked bodies store dump beliefs at free count u empty between chained =
     let order = order_of running (old.numbers.serial + 1) (state_of phase) in
     let found = has_too old.phases beliefs (slot_of running) phase count at in
     record {
@@ -126,16 +130,19 @@ begun_on making plans old running phase asked bodies store dump beliefs at free 
       request = None;
       own = between.none;
       asked_at = tt;
-      slot_is = (
-        record {
-          place = 0;
-          on = refl;
-          left = refl;
-          leads = plans.format phase (file_at bodies (slot_of running));
-          formatted = u.exact (slot_of running) phase found.0 at found.1 free;
-        },
-        between.alone,
-      );
+      rests = λ outside. refl;
+      writing = no_pages (slot_of running) (lanes_of asked) empty;
+      slot_is = subst (λ body. IsFormatting order (begun order.slot (format_calls order.state) nothing) phase body None found.0 × (dump ≡ None))
+          (sym (body_still (file_at bodies (slot_of running)) (lanes_of asked) empty)) (
+            record {
+              place = 0;
+              on = refl;
+              left = refl;
+              leads = plans.format phase (file_at bodies (slot_of running));
+              formatted = u.exact (slot_of running) phase found.0 at found.1 free;
+            },
+            between.alone,
+          );
     }
 
 between_of : (old : CoreView) (running : Running) (asked : List (Option Asked)) (bodies : List (List ℕ)) (store : Store) (dump : Option Image) (beliefs : List Belief) (image : Option Making) → image ≡ None
@@ -161,6 +168,7 @@ begins_image_lem making plans old new running phase asked bodies files s b =
       grows_is = u.grows_is;
       used = used_more old.numbers.serial b.store b.beliefs u.used;
       exact = u.exact;
+      writes = u.writes ∙ ap writes_of_image s.none;
       job = record {
         some = w.some;
         chain = w.chain;
@@ -168,7 +176,7 @@ begins_image_lem making plans old new running phase asked bodies files s b =
         within = λ slot r. w.within slot (record { place = r.place; from = r.from; is = r.is });
         unneeded = λ slot i r. w.unneeded slot i (record { place = r.place; from = r.from; is = r.is });
         apart = w.apart;
-        image = begun_on making plans old running phase asked bodies b.store b.dump b.beliefs s.phase_is free b.has.believed.count u between
+        image = begun_on making plans old running phase asked bodies b.store b.dump b.beliefs s.phase_is free b.has.believed.count u (u.writes ∙ ap writes_of_image s.none) between
             (in_front b.store.chain b.store.work running.parent w.chain);
       };
     })

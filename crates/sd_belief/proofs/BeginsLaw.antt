@@ -3,13 +3,13 @@ use Rattle.std.proofs.Common.{◌≡◌, ◌≢◌, ℕ, zero, suc, ◌<◌, ◌
 use Rattle.std.proofs.lemmas.List.Elements.{Contains-append_cases, Contains-append_right}
 use Rattle.sd_image.specs.Image.{Image}
 use Rattle.sd_image.specs.Shows.{IsTip}
-use Rattle.sd_chain.specs.Catalog.{Opened, Places, place_of}
+use Rattle.sd_chain.specs.Catalog.{Opened, Places}
 use Rattle.sd_chain.specs.Catalog as catalog
 use Rattle.sd_chain.specs.Reaches.{ReachesSerial}
 use Rattle.sd_chain.specs.Tells.{Agrees, IsToldAs, Tells}
 use Rattle.sd_gate.specs.Requests.{Asked}
 use Rattle.sd_journal.specs.History.{History}
-use Rattle.sd_rounds.specs.Dumper.{IsReserved, Running}
+use Rattle.sd_rounds.specs.Dumper.{IsReserved, Running, writes_of_image}
 use Rattle.sd_rounds.specs.Keeps.{Rests}
 use Rattle.sd_rounds.specs.Making.{Making}
 use Rattle.sd_store_laws.specs.Beliefs.{Belief, Kept, image_at, image_in}
@@ -197,6 +197,7 @@ module _ (gates : GateSteps) (needs : NeedsNoMore) (reached : NeededIsReached) (
         grows_is = u.grows_is;
         used = record { above = above_then; slots = u.used.slots };
         exact = u.exact;
+        writes = u.writes ∙ ap writes_of_image (sym s.fresh.0);
         job = record {
           some = s.some;
           chain = refl;

@@ -132,7 +132,8 @@ begins_merged_lem merge_laws making plans old new merge phase asked bodies files
       grows_is = u.grows_is;
       used = used_more last b.store b.beliefs u.used;
       exact = u.exact;
-      job = work_beside making old.base (history_of old) old.memory b.store (slots_at old.phases bodies b.beliefs) last (last + 1) b.store (slots_at old.phases bodies b.beliefs) b.dump asked asked refl
+      writes = u.writes;
+      job = work_beside making old.base (history_of old) old.memory b.store (slots_at old.phases bodies b.beliefs) last (last + 1) b.store (slots_at old.phases bodies b.beliefs) b.dump asked asked refl refl
           old.grows old.dumper.running u.grows_is s.rest.makes leaves u.job;
     })
     (record { spelled = (b.knows.merging s.rest.stands).spelled; is = copies })
@@ -332,7 +333,8 @@ module _ (gates : GateSteps) (needs : NeedsNoMore) (making : MakingLaws) (reache
         grows_is = u.grows_is;
         used = record { above = above_then; slots = u.used.slots };
         exact = u.exact;
-        job = work_beside making old.base history old.memory b.store (slots_at old.phases bodies b.beliefs) last last store_now (slots_at old.phases bodies b.beliefs) b.dump asked asked refl
+        writes = u.writes;
+        job = work_beside making old.base history old.memory b.store (slots_at old.phases bodies b.beliefs) last last store_now (slots_at old.phases bodies b.beliefs) b.dump asked asked refl refl
             old.grows running u.grows_is s.rest.makes leaves u.job;
       })
       (record { spelled = (b.knows.merging s.rest.stands).spelled; is = (repeats, m.1) })

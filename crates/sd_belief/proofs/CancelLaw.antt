@@ -96,6 +96,7 @@ module _ (quiet : QuietSteps) (gates : GateSteps) (needs : NeedsNoMore) (old new
             grows_is = refl;
             used = record { above = above_idle b.store (old.numbers.serial + 1) u.used.above; slots = u.used.slots };
             exact = u.exact;
+            writes = u.writes ∙ s.written;
             job = record {
               gives = λ grows. absurd (let no : false ≡ true = grows in cc);
               none = free_there asked 0 (ap (λ ids. slice_get ids 0) b.knows.out ∙ s.free);

@@ -123,6 +123,8 @@ module _ (keeps : KeepsLaws) (making : MakingLaws) (base : Base) (history : Hist
       request = m.request;
       own = m.own;
       asked_at = m.asked_at;
+      rests = m.rests;
+      writing = m.writing;
       slot_is = m.slot_is;
     }
 
@@ -165,6 +167,8 @@ module _ (keeps : KeepsLaws) (making : MakingLaws) (base : Base) (history : Hist
     request = m.request;
     own = m.own;
     asked_at = m.asked_at;
+    rests = m.rests;
+    writing = m.writing;
     slot_is = m.slot_is;
   }
 
@@ -206,6 +210,7 @@ applied_lem quiet keeps making old new seat command told asked bodies files a b 
             grows_is = u.grows_is;
             used = u.used;
             exact = u.exact;
+            writes = u.writes;
             job = work_on keeps making old.base (history_of old) seat command told old.memory new.memory old.phases asked bodies old.numbers.serial b.store b.dump b.beliefs
                 (pending (history_of old)) refl a.memory old.grows old.dumper.running u.job;
           })) b.knows;

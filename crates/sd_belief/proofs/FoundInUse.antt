@@ -14,12 +14,12 @@ use Rattle.sd_store_laws.specs.InUse.{CatalogIsFound, IsCatalogInUse}
 use Rattle.sd_store_laws.specs.SlotSteps.{IsFoundAs}
 use Rattle.sd_store_laws.specs.Steps.{opened}
 use Rattle.sd_belief.specs.Calls.{NoneOut}
-use Rattle.sd_belief.specs.InUse.{IsInUseOn}
-use Rattle.sd_belief.specs.Knows.{ids_of}
+use Rattle.sd_belief.specs.InUse.{IsInUseOn, ids_of}
 use Rattle.sd_belief.specs.Laws.{IsOpenAs}
 use Rattle.sd_belief.specs.Merges.{IsMergeInUse, IsMergeOn}
 use Rattle.sd_belief.specs.View.{CoreView, history_of}
 use Rattle.sd_belief.proofs.Places.{free_there}
+use Rattle.sd_belief.proofs.Lanes.{lanes_ids}
 
 -- the file of a slot that was found
 file_of : (beliefs : List Belief) (files : List (List ℕ)) → AllZip IsFoundAs beliefs files → (slot : ℕ) (belief : Belief) → slice_get beliefs slot ≡ Some belief
@@ -101,6 +101,7 @@ found_in_use exact catalog_is core asked files images beliefs phases none out is
         slots = λ slot i has. slot_serial core files is beliefs found in_use slot i (slice_get beliefs slot) refl has;
       };
       exact = λ slot phase belief at of free_slot. exact files beliefs found slot phase belief (ap (λ p. slice_get p slot) (sym phases) ∙ at) of;
+      writes = lanes_ids asked ∙ ap (drop 3) (out ∙ is.outs);
       job = record {
         gives = λ grows. absurd (let no : true ≡ false = sym grows ∙ is.grows in cc);
         none = free;

@@ -150,7 +150,7 @@ module _ (laws : StoreLaws) (base : Base) (history : History) (phases : List Pha
     believed = rebelieved phases bodies beliefs request.id.slot (Opening i) Closed may.belief laws.changes has.stored may.may.phase may.may.waits.is has.believed
         (opening_may beliefs worker request i may);
     stored = has.stored;
-    waiting = one_more phases bodies beliefs request.id.slot (Opening i) Closed may.belief asked worker request may.may.free may.may.none
+    waiting = one_more phases bodies beliefs request.id.slot (Opening i) Closed may.belief asked worker request may.may.free may.none
         (opening_covered beliefs worker request i may) has.waiting;
     last = has.last;
     next = next;
@@ -198,7 +198,7 @@ module _ (laws : StoreLaws) (base : Base) (history : History) (phases : List Pha
         believed = rebelieved phases bodies beliefs request.id.slot (Closing i) (Kept i) may.belief laws.changes has.stored Whole (may.may.waits.is ∙ ap Some may.phase) has.believed
             (laws.follow.closes (file_at bodies request.id.slot) request.bytes true i whole).0;
         stored = has.stored;
-        waiting = one_more phases bodies beliefs request.id.slot (Closing i) (Kept i) may.belief asked worker request may.may.free may.may.none
+        waiting = one_more phases bodies beliefs request.id.slot (Closing i) (Kept i) may.belief asked worker request may.may.free may.none
             (closing_covered beliefs store worker request i may whole) has.waiting;
         last = has.last;
         next = has.next;

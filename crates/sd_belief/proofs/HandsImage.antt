@@ -18,7 +18,7 @@ use Rattle.sd_gate.specs.Sequences.{Calls}
 use Rattle.sd_pagetable.specs.Contents.{Contents}
 use Rattle.sd_rounds.specs.declared.image_order.ImageOrder.{ImageOrder}
 use Rattle.sd_rounds.specs.declared.stage.Stage.{Stage}
-use Rattle.sd_rounds.specs.declared.stage.Stage.TheVariants.{Format, Freeze, Pass as PassStage, PageWrite, Close}
+use Rattle.sd_rounds.specs.declared.stage.Stage.TheVariants.{Format, Freeze, Pass as PassStage, Close}
 use Rattle.sd_rounds.specs.Files.{HasAreasIn, IsFiledIn}
 use Rattle.sd_rounds.specs.Making.{is_past_freeze, plan_of, stage_after, stage_behind}
 use Rattle.sd_rounds.specs.MakingLaws.{Pages, image_of}
@@ -27,7 +27,7 @@ use Rattle.sd_store_laws.specs.Beliefs.{Belief, Closed}
 use Rattle.sd_store_laws.specs.Gates.{IsBelievedAs}
 use Rattle.sd_belief.specs.DumperOutcomes.{closes_for_sure}
 use Rattle.sd_belief.specs.InUse.{IsFilled, IsSlotFor}
-use Rattle.sd_belief.proofs.HandsSlot.{belief_after, closes_more, fills_last, formats_last, formats_more, formatted_then}
+use Rattle.sd_belief.proofs.HandsSlot.{belief_after, closes_more, formats_last, formats_more, formatted_then}
 
 -- ---- the plan
 
@@ -51,12 +51,10 @@ files_after PreDump (Format own) plan [] order pass pages is = tt
 files_after Merged (Format own) plan [] order pass pages is = tt
 files_after kind Freeze plan [] order pass pages is = tt
 files_after kind PassStage plan [] order pass pages is = tt
-files_after kind (PageWrite own) plan [] order pass pages is = tt
 files_after kind (Close own header tables) plan [] order pass pages is = tt
 files_after kind (Format own) plan (c ∷ calls) order pass pages is = tt
 files_after kind Freeze plan (c ∷ calls) order pass pages is = tt
 files_after kind PassStage plan (c ∷ calls) order pass pages is = tt
-files_after kind (PageWrite own) plan (c ∷ calls) order pass pages is = tt
 files_after kind (Close own header tables) plan (c ∷ calls) order pass pages is = is
 
 pub areas_after : (kind : Kind) (stage : Stage) (plan : Planned) (calls : Calls) (cut : Contents) → HasAreasIn stage cut → HasAreasIn (stage_after kind stage plan calls) cut
@@ -65,12 +63,10 @@ areas_after PreDump (Format own) plan [] cut is = tt
 areas_after Merged (Format own) plan [] cut is = tt
 areas_after kind Freeze plan [] cut is = tt
 areas_after kind PassStage plan [] cut is = tt
-areas_after kind (PageWrite own) plan [] cut is = tt
 areas_after kind (Close own header tables) plan [] cut is = tt
 areas_after kind (Format own) plan (c ∷ calls) cut is = tt
 areas_after kind Freeze plan (c ∷ calls) cut is = tt
 areas_after kind PassStage plan (c ∷ calls) cut is = tt
-areas_after kind (PageWrite own) plan (c ∷ calls) cut is = tt
 areas_after kind (Close own header tables) plan (c ∷ calls) cut is = is
 
 -- a dump that is frozen now was frozen before
@@ -81,14 +77,12 @@ was_frozen PreDump (Format o) plan own [] was is = absurd (false≢true is)
 was_frozen Merged (Format o) plan own [] was is = absurd (false≢true is)
 was_frozen kind Freeze plan own [] was is = absurd (let no : None ≡ Some own = was in cc)
 was_frozen kind PassStage plan own [] was is = refl
-was_frozen kind (PageWrite o) plan own [] was is = refl
 was_frozen kind (Close o header tables) plan own [] was is = refl
 was_frozen Dump (Format o) plan own (c ∷ calls) was is = absurd (false≢true is)
 was_frozen PreDump (Format o) plan own (c ∷ calls) was is = absurd (false≢true is)
 was_frozen Merged (Format o) plan own (c ∷ calls) was is = absurd (false≢true is)
 was_frozen kind Freeze plan own (c ∷ calls) was is = absurd (let no : None ≡ Some own = was in cc)
 was_frozen kind PassStage plan own (c ∷ calls) was is = refl
-was_frozen kind (PageWrite o) plan own (c ∷ calls) was is = refl
 was_frozen kind (Close o header tables) plan own (c ∷ calls) was is = refl
 
 -- ---- its slot
@@ -134,19 +128,6 @@ module _ (order : ImageOrder) (pages : Pages) (phase : Phase) (body : List ℕ) 
     exact = inr (formatted_then order own next phase body request belief s.0 same on);
   }
 
-  page_goes_on : (own : Planned) (calls : Calls) → next.calls ≡ calls → next.calls ≡ own.calls
-      → IsSlotFor (PageWrite own) order pages phase body (Some request) belief dump → SlotGoesOn (stage_after order.kind (PageWrite own) next calls) order pages phase body request belief dump
-  page_goes_on own [] none same s =
-      let last = fills_last order pages own phase body request belief s.0 in
-      let stays : belief ≡ then_belief = sym (ap (λ b. belief_after b belief) last.2) in
-      record {
-        slot_is = (subst (λ b. IsFilled pages then_phase then_body b) stays last.1, refl, s.1);
-        exact = inl (sym stays ∙ s.0.closed);
-      }
-  page_goes_on own (c ∷ calls) some same s =
-      let last = fills_last order pages own phase body request belief s.0 in
-      absurd (let no : suc (length calls) ≡ 0 = ap length (sym some ∙ same ∙ last.0) in omega (arith, no))
-
   close_goes_on : (own : Planned) (header : Header) (tables : List Listed) (calls : Calls) → next.calls ≡ calls → next.calls ≡ own.calls → next.slot ≡ own.slot → own.calls ≢ []
       → IsImage (gate ∷ image_text (image_of header pages tables)) (image_of header pages tables)
       → IsSlotFor (Close own header tables) order pages phase body (Some request) belief dump
@@ -178,11 +159,6 @@ hands_slot (Format own) order pages phase body request belief dump plan next was
     own_plan e = cc
 hands_slot Freeze order pages phase body request belief dump plan next was calls on empty closes s = absurd (let no : None ≡ Some plan = was in cc)
 hands_slot PassStage order pages phase body request belief dump plan next was calls on empty closes s = absurd (let no : None ≡ Some plan = was in cc)
-hands_slot (PageWrite own) order pages phase body request belief dump plan next was calls on empty closes s =
-    page_goes_on order pages phase body request belief dump next own next.calls refl (calls ∙ ap (λ (p : Planned). p.calls) (own_plan was)) s
-  where
-    own_plan : Some own ≡ Some plan → plan ≡ own
-    own_plan e = cc
 hands_slot (Close own header tables) order pages phase body request belief dump plan next was calls on empty closes s =
     let its = closes own header tables refl in
     close_goes_on order pages phase body request belief dump next own header tables next.calls refl (calls ∙ ap (λ (p : Planned). p.calls) (own_plan was)) (on ∙ ap (λ (p : Planned). p.slot) (own_plan was))

@@ -20,13 +20,14 @@ use Rattle.sd_gate.specs.Requests.{Asked, Made}
 use Rattle.sd_journal.specs.History.{History}
 use Rattle.sd_rounds.specs.declared.image_order.ImageOrder.{ImageOrder}
 use Rattle.sd_rounds.specs.declared.stage.Stage.{Stage}
-use Rattle.sd_rounds.specs.declared.stage.Stage.TheVariants.{Format, Freeze, Pass as PassStage, PageWrite, Close}
-use Rattle.sd_rounds.specs.Dumper.{Running}
+use Rattle.sd_rounds.specs.declared.stage.Stage.TheVariants.{Format, Freeze, Pass as PassStage, Close}
+use Rattle.sd_rounds.specs.Dumper.{Running, writes_of_image}
 use Rattle.sd_rounds.specs.Files.{IsFiledIn}
 use Rattle.sd_rounds.specs.Keeps.{Within}
 use Rattle.sd_rounds.specs.Making.{GoesOn, IsReadyFor, Making, closing, is_frozen, is_past_freeze, plan_of, stage_after}
 use Rattle.sd_rounds.specs.MakingLaws.{DumpsImage, KeepsImage, MakingLaws, Pages, image_of}
 use Rattle.sd_rounds.specs.Pass.{Pass, data_pages}
+use Rattle.sd_rounds.specs.Writes.{no_writes}
 use Rattle.sd_store_laws.specs.Beliefs.{Belief, Closed, Kept, Closing, Opening, image_at, image_in}
 use Rattle.sd_store_laws.specs.Below.{StepsGive}
 use Rattle.sd_store_laws.specs.Cut.{CutHoldsTheSame}
@@ -39,71 +40,65 @@ use Rattle.sd_store_laws.specs.SlotSteps.{ClosingRetires, with_belief}
 use Rattle.sd_store_laws.specs.Steps.{retired}
 use Rattle.sd_store_laws.specs.Store.{Store, jobs}
 use Rattle.sd_belief.specs.Believes.{Believes, HasStore}
-use Rattle.sd_belief.specs.Calls.{IsFree}
+use Rattle.sd_belief.specs.Calls.{IsApart, WritesPage}
 use Rattle.sd_belief.specs.DumperOutcomes.{GoesDown, ImageGoesOn, IsDumpersOutcome, LeavesCatalog, closes_for_sure}
 use Rattle.sd_belief.specs.GateSteps.{GateSteps}
-use Rattle.sd_belief.specs.InUse.{IsFrozenAs, IsImageOn, IsInUseOn, IsMakingOn, IsNewNumber, IsRunningOn, IsSlotFor, NoneAt, chain_of}
-use Rattle.sd_belief.specs.Knows.{SeesStore, ids_of}
+use Rattle.sd_belief.specs.InUse.{IsFrozenAs, IsImageOn, IsInUseOn, IsMakingOn, IsNewNumber, IsRunningOn, IsSlotFor, NoneAt, ArePagesOf, body_written, chain_of, ids_of, lanes_of}
+use Rattle.sd_belief.specs.Knows.{SeesStore}
 use Rattle.sd_belief.specs.declared.standing.Standing.TheVariants as standing
-use Rattle.sd_belief.specs.StoreSteps.{IsOutcomeOf, IsShut, QuietSteps}
+use Rattle.sd_belief.specs.StoreSteps.{IsShut, QuietSteps}
 use Rattle.sd_belief.specs.View.{CoreView, history_of}
 use Rattle.sd_belief.proofs.HandsImage.{SlotGoesOn, areas_after, calls_of_done, files_after, hands_slot, was_frozen}
 use Rattle.sd_belief.proofs.HandsSlot.{belief_after, closed_exact, closing_in_doubt, syncs_closing}
+use Rattle.sd_belief.proofs.Lanes.{body_still, lanes_beside, no_pages as no_pages_of, plan_outside}
 use Rattle.sd_belief.proofs.MergeStays.{ChangesAt, HoldsStill, holds_same, leaves_at, merge_then, merging_of, own_beside, retires_still, slots_at, spares_on}
 use Rattle.sd_belief.proofs.OpenCore.{believes_parts}
 use Rattle.sd_belief.proofs.Places.{body_other, id_there, ids_set, set_count, set_other, set_same}
 
 -- ---- an outcome of the dumper's
 
-none_other : (asked : List (Option Asked)) (outs : List (Option RequestId)) (made : Made) → ids_of asked ≡ outs → IsFree (slice_set outs 0 None) made.request.id.slot
-    → (other : ℕ) (request : Asked) → slice_get asked other ≡ Some (Some request) → request.id.slot ≡ made.request.id.slot → other ≡ 0
-none_other asked outs made out apart other request is same = elim (cases_eq other 0) [
-  | inl its ↦ its
-  | inr differs ↦ absurd (apart other request.id
-      (set_other outs 0 other None differs ∙ ap (λ ids. slice_get ids other) (sym out) ∙ id_there asked other request is) same)
-]
+-- what else is out on its slot writes data pages, as it does
+others_of : (asked : List (Option Asked)) (outs : List (Option RequestId)) (lane : ℕ) (made : Made) → ids_of asked ≡ outs → IsApart (slice_set outs lane None) made.request.id
+    → (other : ℕ) (request : Asked) → other ≢ lane → slice_get asked other ≡ Some (Some request) → request.id.slot ≡ made.request.id.slot → WritesPage made.request.id × WritesPage request.id
+others_of asked outs lane made out apart other request differs is same =
+    let pages = apart other request.id (set_other outs lane other None differs ∙ ap (λ ids. slice_get ids other) (sym out) ∙ id_there asked other request is) same in
+    (pages.one, pages.another)
 
-outcome_of : (old new : CoreView) (made : Made) (phase : Phase) (asked : List (Option Asked)) (bodies files : List (List ℕ)) → IsDumpersOutcome old made phase new
-    → slice_get asked 0 ≡ Some (Some made.request) → (b : Believes old asked bodies files) → IsOutcomeOf old.phases asked 0 made
-outcome_of old new made phase asked bodies files o at b =
-    let covered = b.has.waiting 0 made.request at in
-    record { out = at; alone = none_other asked old.outs made b.knows.out o.apart; phase = covered.phase; waits = covered.waits }
-
-pub has_then : QuietSteps → (old new : CoreView) (made : Made) (phase : Phase) (asked : List (Option Asked)) (bodies files : List (List ℕ)) → IsDumpersOutcome old made phase new
-    → slice_get asked 0 ≡ Some (Some made.request) → (b : Believes old asked bodies files)
-    → HasStore old.base (history_of old) (phases_after old.phases made.request.id phase (is_done made.answer)) (slice_set asked 0 None) (bodies_after bodies made.request.id made.request.bytes) b.store b.dump b.beliefs
-has_then quiet old new made phase asked bodies files o at b =
-    let covered = b.has.waiting 0 made.request at in
+pub has_then : QuietSteps → (old new : CoreView) (lane : ℕ) (made : Made) (phase : Phase) (asked : List (Option Asked)) (bodies files : List (List ℕ)) → IsDumpersOutcome old lane made phase new
+    → slice_get asked lane ≡ Some (Some made.request) → (b : Believes old asked bodies files)
+    → HasStore old.base (history_of old) (phases_after old.phases made.request.id phase (is_done made.answer)) (slice_set asked lane None) (bodies_after bodies made.request.id made.request.bytes) b.store b.dump b.beliefs
+has_then quiet old new lane made phase asked bodies files o at b =
+    let covered = b.has.waiting lane made.request at in
     let same : covered.phase ≡ phase = same_Some covered.phase phase (sym covered.waits.is ∙ o.phase_is) in
-    subst (λ p. HasStore old.base (history_of old) (phases_after old.phases made.request.id p (is_done made.answer)) (slice_set asked 0 None) (bodies_after bodies made.request.id made.request.bytes) b.store b.dump b.beliefs) same
-    (quiet.handed old.base (history_of old) old.phases asked bodies b.store b.dump b.beliefs 0 made
-    (record { out = at; alone = none_other asked old.outs made b.knows.out o.apart; phase = covered.phase; waits = covered.waits }) b.has)
+    subst (λ p. HasStore old.base (history_of old) (phases_after old.phases made.request.id p (is_done made.answer)) (slice_set asked lane None) (bodies_after bodies made.request.id made.request.bytes) b.store b.dump b.beliefs) same
+    (quiet.handed old.base (history_of old) old.phases asked bodies b.store b.dump b.beliefs lane made
+    (record { out = at; others = others_of asked old.outs lane made b.knows.out o.apart; phase = covered.phase; waits = covered.waits }) b.has)
 
-pub ids_then : (old new : CoreView) (made : Made) (phase : Phase) (asked : List (Option Asked)) (bodies files : List (List ℕ)) → IsDumpersOutcome old made phase new → Believes old asked bodies files
-    → ids_of (slice_set asked 0 None) ≡ new.outs
-ids_then old new made phase asked bodies files o b = ids_set asked 0 None ∙ ap (λ ids. slice_set ids 0 None) b.knows.out ∙ sym o.outs
+pub ids_then : (old new : CoreView) (lane : ℕ) (made : Made) (phase : Phase) (asked : List (Option Asked)) (bodies files : List (List ℕ)) → IsDumpersOutcome old lane made phase new → Believes old asked bodies files
+    → ids_of (slice_set asked lane None) ≡ new.outs
+ids_then old new lane made phase asked bodies files o b = ids_set asked lane None ∙ ap (λ ids. slice_set ids lane None) b.knows.out ∙ sym o.outs
 
-pub count_then : (old new : CoreView) (made : Made) (phase : Phase) (asked : List (Option Asked)) (bodies files : List (List ℕ)) → IsDumpersOutcome old made phase new → Believes old asked bodies files
+pub count_then : (old new : CoreView) (lane : ℕ) (made : Made) (phase : Phase) (asked : List (Option Asked)) (bodies files : List (List ℕ)) → IsDumpersOutcome old lane made phase new → Believes old asked bodies files
     → length files ≡ length (phases_after old.phases made.request.id phase (is_done made.answer))
-count_then old new made phase asked bodies files o b = b.knows.count ∙ sym (set_count old.phases made.request.id.slot (after phase made.request.id.call (is_done made.answer)))
+count_then old new lane made phase asked bodies files o b = b.knows.count ∙ sym (set_count old.phases made.request.id.slot (after phase made.request.id.call (is_done made.answer)))
 
 -- ---- it failed
 
-pub fails_lem : QuietSteps → (old new : CoreView) (made : Made) (phase : Phase) (asked : List (Option Asked)) (bodies files : List (List ℕ))
-    → GoesDown old made phase new → slice_get asked 0 ≡ Some (Some made.request) → Believes old asked bodies files
-    → Believes new (slice_set asked 0 None) (bodies_after bodies made.request.id made.request.bytes) files
-fails_lem quiet old new made phase asked bodies files g at b = record {
+pub fails_lem : QuietSteps → (old new : CoreView) (lane : ℕ) (made : Made) (phase : Phase) (asked : List (Option Asked)) (bodies files : List (List ℕ))
+    → GoesDown old lane made phase new → slice_get asked lane ≡ Some (Some made.request) → Believes old asked bodies files
+    → Believes new (slice_set asked lane None) (bodies_after bodies made.request.id made.request.bytes) files
+fails_lem quiet old new lane made phase asked bodies files g at b = record {
   store = b.store;
   dump = b.dump;
   beliefs = b.beliefs;
-  has = subst (λ x. HasStore x (history_of new) new.phases (slice_set asked 0 None) (bodies_after bodies made.request.id made.request.bytes) b.store b.dump b.beliefs) (sym g.outcome.base)
-      (subst (λ h. HasStore old.base h new.phases (slice_set asked 0 None) (bodies_after bodies made.request.id made.request.bytes) b.store b.dump b.beliefs) (sym g.history)
-      (subst (λ p. HasStore old.base (history_of old) p (slice_set asked 0 None) (bodies_after bodies made.request.id made.request.bytes) b.store b.dump b.beliefs) (sym g.outcome.phases)
-      (has_then quiet old new made phase asked bodies files g.outcome at b)));
+  has = subst (λ x. HasStore x (history_of new) new.phases (slice_set asked lane None) (bodies_after bodies made.request.id made.request.bytes) b.store b.dump b.beliefs) (sym g.outcome.base)
+      (subst (λ h. HasStore old.base h new.phases (slice_set asked lane None) (bodies_after bodies made.request.id made.request.bytes) b.store b.dump b.beliefs) (sym g.history)
+      (subst (λ p. HasStore old.base (history_of old) p (slice_set asked lane None) (bodies_after bodies made.request.id made.request.bytes) b.store b.dump b.beliefs) (sym g.outcome.phases)
+      (has_then quiet old new lane made phase asked bodies files g.outcome at b)));
   knows = record {
-    count = count_then old new made phase asked bodies files g.outcome b ∙ ap length (sym g.outcome.phases);
-    out = ids_then old new made phase asked bodies files g.outcome b;
-    sees = subst (λ o. IfSome o (SeesStore files new.phases (slice_set asked 0 None))) (sym g.outcome.closed) tt;
+    count = count_then old new lane made phase asked bodies files g.outcome b ∙ ap length (sym g.outcome.phases);
+    out = ids_then old new lane made phase asked bodies files g.outcome b;
+    sees = subst (λ o. IfSome o (SeesStore files new.phases (slice_set asked lane None))) (sym g.outcome.closed) tt;
     sure = λ is. b.knows.sure (sym g.committing ∙ is);
     in_use = λ stands. absurd (let no : standing.Down ≡ standing.Open = sym g.down ∙ stands in cc);
     merging = λ stands. absurd (let no : standing.Down ≡ standing.Open = sym g.down ∙ stands in cc);
@@ -130,7 +125,6 @@ pub known_plan : (order : ImageOrder) (pass : Pass) (stage : Stage) (plan : Plan
 known_plan order pass (Format own) plan was ready = ap (λ (p : Planned). p.awaits) (sym (same_Some own plan was)) ∙ ready.1.known
 known_plan order pass Freeze plan was ready = absurd (let no : None ≡ Some plan = was in cc)
 known_plan order pass PassStage plan was ready = absurd (let no : None ≡ Some plan = was in cc)
-known_plan order pass (PageWrite own) plan was ready = ap (λ (p : Planned). p.awaits) (sym (same_Some own plan was)) ∙ ready.1.known
 known_plan order pass (Close own header tables) plan was ready = ap (λ (p : Planned). p.awaits) (sym (same_Some own plan was)) ∙ ready.1.known
 
 no_pages : (pages : Pages) → length pages ≡ 0 → pages ≡ []
@@ -232,9 +226,20 @@ module _ (making : MakingLaws) (old new : CoreView) (running : Running) (image n
   abbrev nplan : Planned
   nplan = plan_after go.plan made
 
+  -- no data page is being written
+  none_writing : image.writes ≡ no_writes
+  none_writing = m.rests (plan_outside image.stage go.plan go.awaited.was)
+
+  lanes_empty : ids_of (lanes_of asked) ≡ no_writes
+  lanes_empty = u.writes ∙ ap writes_of_image s.making ∙ none_writing
+
+  lanes_same : lanes_of asked_now ≡ lanes_of asked
+  lanes_same = lanes_beside asked 0 None (omega arith)
+
   slot_was : IsSlotFor image.stage image.order m.pages phase (file_at bodies slot) (Some made.request) m.belief b.dump
   slot_was = subst (λ p. IsSlotFor image.stage image.order m.pages p (file_at bodies slot) (Some made.request) m.belief b.dump) phase_same
-      (subst (λ r. IsSlotFor image.stage image.order m.pages m.phase (file_at bodies slot) r m.belief b.dump) out_is m.slot_is)
+      (subst (λ body. IsSlotFor image.stage image.order m.pages m.phase body (Some made.request) m.belief b.dump) (body_still (file_at bodies slot) (lanes_of asked) lanes_empty)
+      (subst (λ r. IsSlotFor image.stage image.order m.pages m.phase (body_written (file_at bodies slot) (lanes_of asked)) r m.belief b.dump) out_is m.slot_is))
 
   calls_same : nplan.calls ≡ go.plan.calls
   calls_same = calls_of_done go.plan made (known_plan image.order image.pass image.stage go.plan go.awaited.was s.sound.ready) go.done
@@ -332,7 +337,7 @@ module _ (making : MakingLaws) (old new : CoreView) (running : Running) (image n
     keeps_then : KeepsImage m.pages (chain_of store running.parent) later_image old.memory
     keeps_then = subst (λ x. KeepsImage m.pages (chain_of store running.parent) x old.memory) go.is
         (making.agrees m.pages (chain_of b.store running.parent) (chain_of store running.parent) next old.memory f.gives
-        (making.hands m.pages (chain_of b.store running.parent) image next old.memory made s.hands m.keeps))
+        (making.hands m.pages (chain_of b.store running.parent) image next old.memory made (inl s.hands) m.keeps))
 
     frozen_then : is_frozen later_image ≡ true → IsFrozenAs old.base history running.number old.memory m.pages (chain_of store running.parent) later_image
     frozen_then is =
@@ -345,7 +350,7 @@ module _ (making : MakingLaws) (old new : CoreView) (running : Running) (image n
           still = before.still;
           dumps = subst (λ x. DumpsImage before.cut m.pages (chain_of store running.parent) x old.memory) go.is
               (making.agrees_dump before.cut m.pages (chain_of b.store running.parent) (chain_of store running.parent) next old.memory f.gives
-              (making.hands_dump before.cut m.pages (chain_of b.store running.parent) image next old.memory made s.hands past before.dumps));
+              (making.hands_dump before.cut m.pages (chain_of b.store running.parent) image next old.memory made (inl s.hands) past before.dumps));
           areas = areas_after image.order.kind image.stage nplan nplan.calls before.cut before.areas;
         }
       where
@@ -373,7 +378,10 @@ module _ (making : MakingLaws) (old new : CoreView) (running : Running) (image n
       request = None;
       own = own_then;
       asked_at = tt;
-      slot_is = subst (λ body. IsSlotFor later_image.stage image.order m.pages (after phase made.request.id.call true) body None belief_then b.dump) (sym body_then) slot_then.slot_is;
+      rests = λ outside. none_writing;
+      writing = subst (ArePagesOf slot) (sym lanes_same) (no_pages_of slot (lanes_of asked) lanes_empty);
+      slot_is = subst (λ body. IsSlotFor later_image.stage image.order m.pages (after phase made.request.id.call true) body None belief_then b.dump)
+          (sym (ap (body_written (file_at bodies_now slot)) lanes_same ∙ body_still (file_at bodies_now slot) (lanes_of asked) lanes_empty ∙ body_then)) slot_then.slot_is;
     }
 
     changes : ChangesAt old.numbers.serial b.store running (slots_at old.phases bodies b.beliefs) store (Some (record running { image = Some later_image })) (slots_at phases_now bodies_now later) slot
@@ -408,12 +416,13 @@ module _ (making : MakingLaws) (old new : CoreView) (running : Running) (image n
           merger_is = s.rest.merger;
           closed = s.rest.closed;
         })
-        asked_now bodies_now files store b.dump later (λ is. b.knows.sure (sym s.committing ∙ is)) (count_then old new made phase asked bodies files s.outcome b) (ids_then old new made phase asked bodies files s.outcome b) has
+        asked_now bodies_now files store b.dump later (λ is. b.knows.sure (sym s.committing ∙ is)) (count_then old new 0 made phase asked bodies files s.outcome b) (ids_then old new 0 made phase asked bodies files s.outcome b) has
         (record {
           catalog = in_use;
           grows_is = f.grows ∙ u.grows_is;
           used = record { above = above_then (old.numbers.serial + 1) u.used.above; slots = λ k i there. u.used.slots k i (f.images k i there) };
           exact = exact_then;
+          writes = ap ids_of lanes_same ∙ u.writes ∙ ap writes_of_image s.making;
           job = record {
             some = w.some;
             chain = f.chain ∙ w.chain;
@@ -444,7 +453,7 @@ module _ (making : MakingLaws) (old new : CoreView) (running : Running) (image n
     needs = λ i needed. needed;
     gives = λ place bytes below. below;
     still = λ source is. holds_same b.store.catalog source;
-  }) u.catalog (has_then quiet old new made phase asked bodies files s.outcome at b) catalog
+  }) u.catalog (has_then quiet old new 0 made phase asked bodies files s.outcome at b) catalog
 
   -- ---- the image that stood in the slot is gone for sure
 
@@ -452,7 +461,7 @@ module _ (making : MakingLaws) (old new : CoreView) (running : Running) (image n
       (is : closes_for_sure phase made.request.id.call ≡ true)
       (leaves : (serial : ℕ) → place_of new.catalog serial ≡ without_slot slot (place_of old.catalog serial)) where
     has_one : HasStore old.base history phases_now asked_now bodies_now b.store b.dump b.beliefs
-    has_one = has_then quiet old new made phase asked bodies files s.outcome at b
+    has_one = has_then quiet old new 0 made phase asked bodies files s.outcome at b
 
     belief_closed : belief_after (closes_for_sure phase made.request.id.call) m.belief ≡ Closed
     belief_closed = ap (λ c. belief_after c m.belief) is
@@ -460,7 +469,7 @@ module _ (making : MakingLaws) (old new : CoreView) (running : Running) (image n
     shut : IsShut phases_now asked_now slot
     shut = record {
       phase = phase_then ∙ ap Some (ap (λ c. after phase c true) both.1 ∙ ap synced both.0);
-      none = λ worker r out same. s.outcome.apart worker r.id (ap (λ ids. slice_get ids worker) (sym (ids_set asked 0 None ∙ ap (λ ids. slice_set ids 0 None) b.knows.out)) ∙ id_there asked_now worker r out)
+      none = λ worker r out same. s.alone worker r.id (ap (λ ids. slice_get ids worker) (sym (ids_set asked 0 None ∙ ap (λ ids. slice_set ids 0 None) b.knows.out)) ∙ id_there asked_now worker r out)
           (same ∙ sym on);
     }
       where

@@ -10,23 +10,23 @@ use Rattle.sd_gate.specs.declared.phase.Phase.{Phase}
 use Rattle.sd_gate.specs.declared.phase.Phase.TheVariants.{Raw, RawClosing, Whole, Closing as ClosingPhase, Shut, ShutSynced, Bare, Writing, Ready, Opening as OpeningPhase, Doubt, DoubtSynced}
 use Rattle.sd_gate.specs.declared.slot_state.SlotState.{SlotState}
 use Rattle.sd_gate.specs.declared.slot_state.SlotState.TheVariants as slot_state
-use Rattle.sd_gate.specs.Laws.{Leads, pages_body}
+use Rattle.sd_gate.specs.Laws.{Leads}
 use Rattle.sd_gate.specs.Phases.{after, body_after, filled, is_ready, may_write, synced}
 use Rattle.sd_gate.specs.Plans.{Planned}
 use Rattle.sd_gate.specs.Requests.{Asked}
 use Rattle.sd_gate.specs.Sequences.{Calls, body_calls, format_calls, table_place}
 use Rattle.sd_rounds.specs.declared.image_order.ImageOrder.{ImageOrder}
 use Rattle.sd_rounds.specs.declared.stage.Stage.{Stage}
-use Rattle.sd_rounds.specs.declared.stage.Stage.TheVariants.{Format, Freeze, Pass as PassStage, PageWrite, Close}
+use Rattle.sd_rounds.specs.declared.stage.Stage.TheVariants.{Format, Freeze, Pass as PassStage, Close}
 use Rattle.sd_rounds.specs.Making.{plan_of}
 use Rattle.sd_rounds.specs.MakingLaws.{Pages, image_of}
 use Rattle.sd_store_laws.specs.Beliefs.{Belief, Closed, Opening, FitsBelief}
 use Rattle.sd_store_laws.specs.Gates.{IsBelievedAs, IsInDoubt, MayBelieve}
 use Rattle.sd_belief.specs.DumperOutcomes.{closes_for_sure, is_closing, is_sync}
-use Rattle.sd_belief.specs.InUse.{IsClosing, IsFilled, IsFilling, IsFormatting, IsSlotFor, call_of, is_opening_at, pending_dump}
+use Rattle.sd_belief.specs.InUse.{IsClosing, IsFilled, IsFormatting, IsSlotFor, call_of, is_opening_at, pending_dump}
 use Rattle.sd_belief.proofs.Leads.{leads_end, leads_head}
 
-and_false : (b : Bool) → (b && false) ≡ false
+pub and_false : (b : Bool) → (b && false) ≡ false
 and_false true = refl
 and_false false = refl
 
@@ -230,27 +230,6 @@ module _ (order : ImageOrder) (plan next : Planned) (phase : Phase) (body : List
         closed = subst (λ p. IsBelievedAs p then_body then_belief) end.0 formatted_then;
       }
 
--- ---- one whose page was written
-
-pub fills_last : (order : ImageOrder) (pages : Pages) (plan : Planned) (phase : Phase) (body : List ℕ) (request : Asked) (belief : Belief) → IsFilling order pages plan phase body (Some request) belief
-    → (plan.calls ≡ []) × IsFilled pages (after phase request.id.call true) (body_after body request.id.call request.bytes) belief
-    × (closes_for_sure phase request.id.call ≡ false)
-fills_last order pages plan phase body request belief f =
-    let none = no_calls plan.calls (rest_is f.left) in
-    let led = (leads_head phase f.last body (pages_body pages) request.id.call request.bytes plan.calls f.leads).rest in
-    let end = leads_end (after phase request.id.call true) f.last (body_after body request.id.call request.bytes) (pages_body pages)
-    (subst (λ cs. Leads (after phase request.id.call true) (body_after body request.id.call request.bytes) cs f.last (pages_body pages)) none led) in (
-      none,
-      record { writes = ap may_write end.0 ∙ f.writes; fills = ap filled end.0 ∙ f.fills; spelled = end.1; closed = f.closed },
-      only_syncs phase request.id.call (λ is. (let no : Write f.place ≡ Sync = sym (first_is f.left) ∙ is in cc)),
-    )
-  where
-    rest_is : request.id.call ∷ map call_of plan.calls ≡ Write f.place ∷ [] → map call_of plan.calls ≡ []
-    rest_is e = cc
-
-    first_is : request.id.call ∷ map call_of plan.calls ≡ Write f.place ∷ [] → request.id.call ≡ Write f.place
-    first_is e = cc
-
 -- ---- one whose body is being closed
 
 not_closing : (phase : Phase) → is_ready (synced phase) Open ≡ true → is_closing phase ≡ false
@@ -402,8 +381,6 @@ closing_in_doubt (Format own) order pages phase body request belief dump plan wa
     subst (λ p. IsBelievedAs p body belief) both.0 (s.0.formatted.1 (λ closes. (let no : Sync ≡ CloseCall = sym both.1 ∙ closes in cc)))
 closing_in_doubt Freeze order pages phase body request belief dump plan was some s is = absurd (let no : Some request ≡ None = s.1 in cc)
 closing_in_doubt PassStage order pages phase body request belief dump plan was some s is = absurd (let no : Some request ≡ None = s.1 in cc)
-closing_in_doubt (PageWrite own) order pages phase body request belief dump plan was some s is =
-    absurd (false≢true (sym (fills_last order pages own phase body request belief s.0).2 ∙ is))
 closing_in_doubt (Close own header tables) order pages phase body request belief dump plan was some s is =
     absurd (false≢true (sym (closes_more order (image_of header pages tables) own own phase body request belief dump s (λ none. some own header tables refl (ap (λ (p : Planned). p.calls) (own_plan was) ∙ none)) refl refl).stays ∙ is))
   where

@@ -14,6 +14,7 @@ mod GateSteps
 mod HandsImage
 mod HandsLaw
 mod HandsSlot
+mod Lanes
 mod Leads
 mod MergeStays
 mod MergerAsks
@@ -31,6 +32,7 @@ mod NoClear
 mod OpenCore
 mod OpenerSteps
 mod OpensLaw
+mod PageLaw
 mod PageTold
 mod Performed
 mod Places

@@ -32,8 +32,8 @@ use Rattle.sd_store_laws.specs.Steps.{Adds, Retires}
 use Rattle.sd_store_laws.specs.Store.{IsFresh, IsMerged, IsSound, Store, jobs}
 use Rattle.sd_belief.specs.Believes.{Believes}
 use Rattle.sd_belief.specs.declared.standing.Standing.TheVariants.{Open}
-use Rattle.sd_belief.specs.InUse.{IsNewNumber, IsSlotFor}
-use Rattle.sd_belief.specs.Merges.{AreSpelled, IsAskedIn, IsCopyOn, IsCutOn, IsListedOn, IsMergeAt, IsMergeInUse, IsMergeOn, IsRepeating, IsRetiredOn, IsSpared, IsUnmerged, IsOtherImage, MakesOther, order_of_slot, request_in_slot, stage_in_slot}
+use Rattle.sd_belief.specs.InUse.{IsNewNumber, IsSlotFor, body_written}
+use Rattle.sd_belief.specs.Merges.{AreSpelled, IsAskedIn, IsCopyOn, IsCutOn, IsListedOn, IsMergeAt, IsMergeInUse, IsMergeOn, IsRepeating, IsRetiredOn, IsSpared, IsUnmerged, IsOtherImage, MakesOther, lanes_in_slot, order_of_slot, request_in_slot, stage_in_slot}
 use Rattle.sd_belief.specs.View.{CoreView}
 use Rattle.sd_belief.proofs.Places.{get_contains, set_other}
 
@@ -174,7 +174,7 @@ module _ (last : ℕ) (store : Store) (running : Option Running) (old : Slots) (
         stored = a.stored;
         holds = still.holds a.at.0 a.at.1 a.bytes a.holds;
       }
-  asked_in_then target source still (copy.PageWrite plan) page None a = tt
+  asked_in_then target source still (copy.PageWrite plan) page None a = absurd a
   asked_in_then target source still (copy.PageWrite plan) page (Some request) a = a
   asked_in_then target source still (copy.Close plan header tables) page None a = tt
   asked_in_then target source still (copy.Close plan header tables) page (Some request) a = a
@@ -203,7 +203,7 @@ module _ (last : ℕ) (store : Store) (running : Option Running) (old : Slots) (
         request = c.request;
         own = own_same ∙ c.own;
         asked_in = asked_in_then target source still made.stage made.taking c.request c.asked_in;
-        slot_is = subst (λ body. IsSlotFor (stage_in_slot made.stage) (order_of_slot target made.order.state) c.pages c.phase body (request_in_slot made.stage c.request) c.belief None)
+        slot_is = subst (λ body. IsSlotFor (stage_in_slot made.stage) (order_of_slot target made.order.state) c.pages c.phase (body_written body (lanes_in_slot made.stage c.request)) (request_in_slot made.stage c.request) c.belief None)
             (sym same.body) c.slot_is;
       }
 

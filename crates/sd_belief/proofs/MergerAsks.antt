@@ -36,9 +36,9 @@ use Rattle.sd_store_laws.specs.SlotSteps.{with_belief}
 use Rattle.sd_store_laws.specs.Store.{IsTwin, Store, jobs}
 use Rattle.sd_belief.specs.Believes.{Believes, HasStore}
 use Rattle.sd_belief.specs.GateSteps.{GateSteps}
-use Rattle.sd_belief.specs.InUse.{IsInUseOn, IsSlotFor}
+use Rattle.sd_belief.specs.InUse.{IsInUseOn, IsSlotFor, body_written}
 use Rattle.sd_belief.specs.MergerSteps.{AsksForMerged}
-use Rattle.sd_belief.specs.Merges.{IsAskedIn, IsCopyOn, IsCopying, IsMergeAt, IsMergeOn, MakesOther, order_of_slot, request_in_slot, stage_in_slot}
+use Rattle.sd_belief.specs.Merges.{IsAskedIn, IsCopyOn, IsCopying, IsMergeAt, IsMergeOn, MakesOther, lanes_in_slot, order_of_slot, request_in_slot, stage_in_slot}
 use Rattle.sd_belief.specs.StoreSteps.{MayAsk, QuietSteps}
 use Rattle.sd_belief.specs.View.{CoreView, history_of}
 use Rattle.sd_belief.proofs.Asks.{HasIt, IsChangedAt, changed_by, unchanged_at}
@@ -55,18 +55,19 @@ use Rattle.sd_belief.proofs.Places.{free_there, get_contains, ids_set, set_same}
 
 -- a plan that gives a call is on the image's own slot: a read gives none once it is out
 pub plan_in_slot : (stage : CopyStage) (entries : List Entry) (taking : Option Place) (read : Option (List ℕ)) (plan next : Planned) (request : Asked)
-    → IsReadyFor entries taking read stage → copy_plan stage ≡ Some plan → Gives plan next request
+    → IsReadyFor entries taking read stage → ((own : Planned) → stage ≡ copy.PageWrite own → ⊥) → copy_plan stage ≡ Some plan → Gives plan next request
     → (plan_of (stage_in_slot stage) ≡ Some plan) × (stage_in_slot (copy_with stage next) ≡ with_plan (stage_in_slot stage) next)
     × ((r : Option Asked) → request_in_slot (copy_with stage next) r ≡ r) × ((r : Option Asked) → request_in_slot stage r ≡ r)
-plan_in_slot (copy.Format own) entries taking read plan next request ready was gives = (was, refl, λ r. refl, λ r. refl)
-plan_in_slot copy.Pass entries taking read plan next request ready was gives = absurd (let no : None ≡ Some plan = was in cc)
-plan_in_slot (copy.PageRead own) entries taking read plan next request ready was gives =
+    × ((r : Option Asked) → lanes_in_slot (copy_with stage next) r ≡ []) × ((r : Option Asked) → lanes_in_slot stage r ≡ [])
+plan_in_slot (copy.Format own) entries taking read plan next request ready other was gives = (was, refl, λ r. refl, λ r. refl, λ r. refl, λ r. refl)
+plan_in_slot copy.Pass entries taking read plan next request ready other was gives = absurd (let no : None ≡ Some plan = was in cc)
+plan_in_slot (copy.PageRead own) entries taking read plan next request ready other was gives =
     absurd (none_given (sym (ready.2.last) ∙ ap (λ (p : Planned). p.calls) (same_Some own plan was) ∙ gives.next))
   where
     none_given : [] ≡ (request.id.call, request.bytes) ∷ next.calls → ⊥
     none_given same = cc
-plan_in_slot (copy.PageWrite own) entries taking read plan next request ready was gives = (was, refl, λ r. refl, λ r. refl)
-plan_in_slot (copy.Close own header tables) entries taking read plan next request ready was gives = (was, refl, λ r. refl, λ r. refl)
+plan_in_slot (copy.PageWrite own) entries taking read plan next request ready other was gives = absurd (other own refl)
+plan_in_slot (copy.Close own header tables) entries taking read plan next request ready other was gives = (was, refl, λ r. refl, λ r. refl, λ r. refl, λ r. refl)
 
 -- what is known of the copy stays
 over_with : (stage : CopyStage) (next : Planned) (rest : List Place) → IsOverIn stage rest → IsOverIn (copy_with stage next) rest
@@ -104,7 +105,8 @@ asked_with (copy.Format own) next plan request is phases bodies store beliefs ru
 asked_with copy.Pass next plan request is phases bodies store beliefs running target source page on = on
 asked_with (copy.PageRead own) next plan request is phases bodies store beliefs running target source page on =
     absurd (let no : None ≡ Some request = is (Some request) in cc)
-asked_with (copy.PageWrite own) next plan request is phases bodies store beliefs running target source page on = on
+asked_with (copy.PageWrite own) next plan request is phases bodies store beliefs running target source page on =
+    absurd (let no : None ≡ Some request = is (Some request) in cc)
 asked_with (copy.Close own header tables) next plan request is phases bodies store beliefs running target source page on = on
 
 -- the image that is opened
@@ -159,15 +161,22 @@ module _ (quiet : QuietSteps) (gates : GateSteps) (files_of : FileLaws) (repeats
   none : c.request ≡ None
   none = same_Some c.request None (sym c.own ∙ free)
 
+  -- no page is being written: that would be a request that is out
+  none_written : (own : Planned) → made.stage ≡ copy.PageWrite own → ⊥
+  none_written own is = subst (λ st. IsAskedIn st old.phases bodies b.store b.beliefs running target source made.taking None) is
+      (subst (IsAskedIn made.stage old.phases bodies b.store b.beliefs running target source made.taking) none c.asked_in)
+
   its : (plan_of (stage_in_slot made.stage) ≡ Some asks.plan) × (stage_in_slot (copy_with made.stage asks.next) ≡ with_plan (stage_in_slot made.stage) asks.next)
       × ((r : Option Asked) → request_in_slot (copy_with made.stage asks.next) r ≡ r) × ((r : Option Asked) → request_in_slot made.stage r ≡ r)
-  its = plan_in_slot made.stage made.entries made.taking made.read asks.plan asks.next request s.merges.sound.ready asks.was asks.gives
+      × ((r : Option Asked) → lanes_in_slot (copy_with made.stage asks.next) r ≡ []) × ((r : Option Asked) → lanes_in_slot made.stage r ≡ [])
+  its = plan_in_slot made.stage made.entries made.taking made.read asks.plan asks.next request s.merges.sound.ready none_written asks.was asks.gives
 
   abbrev order : ImageOrder
   order = order_of_slot target made.order.state
 
   slot_is : IsSlotFor (stage_in_slot made.stage) order c.pages c.phase (file_at bodies target) None c.belief None
-  slot_is = subst (λ r. IsSlotFor (stage_in_slot made.stage) order c.pages c.phase (file_at bodies target) r c.belief None) (its.3 c.request ∙ none) c.slot_is
+  slot_is = subst (λ r. IsSlotFor (stage_in_slot made.stage) order c.pages c.phase (file_at bodies target) r c.belief None) (its.3 c.request ∙ none)
+      (subst (λ lanes. IsSlotFor (stage_in_slot made.stage) order c.pages c.phase (body_written (file_at bodies target) lanes) (request_in_slot made.stage c.request) c.belief None) (its.5 c.request) c.slot_is)
 
   on : request.id.slot ≡ target
   on = asks.gives.slot ∙ plan_on (stage_in_slot made.stage) order c.pages c.phase (file_at bodies target) None c.belief None asks.plan its.0 slot_is
@@ -179,7 +188,6 @@ module _ (quiet : QuietSteps) (gates : GateSteps) (files_of : FileLaws) (repeats
   abbrev may : MayAsk old.phases asked 1 request
   may = record {
     free = free;
-    none = none_at asked old request.id.slot b.knows.out s.apart;
     phase = c.phase;
     waits = record { is = ap (slice_get old.phases) on ∙ c.phase_is; ready = asked_on.0 };
   }
@@ -230,8 +238,10 @@ module _ (quiet : QuietSteps) (gates : GateSteps) (files_of : FileLaws) (repeats
       request = Some request;
       own = set_same asked 1 None (Some request) free;
       asked_in = asked_with made.stage asks.next asks.plan request its.2 old.phases bodies b.store then running target source made.taking on;
-      slot_is = subst (λ r. IsSlotFor (stage_in_slot (copy_with made.stage asks.next)) order c.pages c.phase (file_at bodies target) r belief_now None) (sym (its.2 (Some request)))
-          (subst (λ st. IsSlotFor st order c.pages c.phase (file_at bodies target) (Some request) belief_now None) (sym its.1) slot_now);
+      slot_is = subst (λ lanes. IsSlotFor (stage_in_slot (copy_with made.stage asks.next)) order c.pages c.phase (body_written (file_at bodies target) lanes)
+          (request_in_slot (copy_with made.stage asks.next) (Some request)) belief_now None) (sym (its.4 (Some request)))
+          (subst (λ r. IsSlotFor (stage_in_slot (copy_with made.stage asks.next)) order c.pages c.phase (file_at bodies target) r belief_now None) (sym (its.2 (Some request)))
+          (subst (λ st. IsSlotFor st order c.pages c.phase (file_at bodies target) (Some request) belief_now None) (sym its.1) slot_now));
     };
   }
 
@@ -286,6 +296,7 @@ module _ (quiet : QuietSteps) (gates : GateSteps) (files_of : FileLaws) (repeats
       (subst (λ x. HasStore old.base history old.phases asked_now bodies b.store b.dump (with_belief b.beliefs x (Closing i))) on
       ((gates old.base history old.phases asked bodies).closes b.store b.dump b.beliefs 1 request i (record {
         may = may;
+        none = none_at asked old request.id.slot b.knows.out s.apart;
         call = q.call;
         phase = q.whole;
         belief = ap (slice_get b.beliefs) on ∙ kept;
@@ -370,6 +381,7 @@ module _ (quiet : QuietSteps) (gates : GateSteps) (files_of : FileLaws) (repeats
         (subst (λ x. HasStore old.base history old.phases asked_now bodies b.store b.dump (with_belief b.beliefs x (Opening i))) on
         ((gates old.base history old.phases asked bodies).opens b.store b.dump b.beliefs 1 request i (record {
           may = may;
+          none = none_at asked old request.id.slot b.knows.out s.apart;
           call = q.call;
           image = subst (λ text. IsImage (gate ∷ text) i) (sym q.spelled ∙ ap (file_at bodies) (sym on)) (subst (λ x. IsImage (gate ∷ image_text x) x) (sym staged.4) filed.spelled);
           belief = ap (slice_get b.beliefs) on ∙ closed_at;

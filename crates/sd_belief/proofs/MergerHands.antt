@@ -11,52 +11,52 @@ use Rattle.sd_image.specs.Table.{Listed}
 use Rattle.sd_gate.specs.declared.call.Call.{Call as GateCall}
 use Rattle.sd_gate.specs.declared.call.Call.TheVariants.{Read}
 use Rattle.sd_gate.specs.declared.phase.Phase.{Phase}
-use Rattle.sd_gate.specs.declared.phase.Phase.TheVariants.{Whole}
-use Rattle.sd_gate.specs.Calls.{is_done}
+use Rattle.sd_gate.specs.declared.phase.Phase.TheVariants.{Whole, Writing}
+use Rattle.sd_gate.specs.Calls.{IsLook, is_done}
 use Rattle.sd_gate.specs.Inspections.{nothing}
 use Rattle.sd_gate.specs.Fits.{Reads}
-use Rattle.sd_gate.specs.Phases.{after, body_after, is_ready}
+use Rattle.sd_gate.specs.Phases.{after, body_after, filled, is_ready}
 use Rattle.sd_gate.specs.Plans.{Planned, plan_after}
 use Rattle.sd_gate.specs.Requests.{Asked, Made}
 use Rattle.sd_gate.specs.Sequences.{Calls, data_place}
 use Rattle.sd_merge.specs.declared.stage.Stage.{Stage as CopyStage}
 use Rattle.sd_merge.specs.declared.stage.Stage.TheVariants as copy
-use Rattle.sd_merge.specs.Copying.{Copying, GoesOn, IsReadyFor, plan_of as copy_plan, stage_after as copy_after, with_plan as copy_with}
+use Rattle.sd_merge.specs.Copying.{Copying, GoesOn, IsReadyFor, plan_of as copy_plan, stage_after as copy_after}
 use Rattle.sd_merge.specs.Copying as copies_of
 use Rattle.sd_merge.specs.Files.{FileLaws, IsFiledIn}
 use Rattle.sd_merge.specs.Merger.{copying}
 use Rattle.sd_merge.specs.Merger as merger
 use Rattle.sd_merge.specs.Merging.{KeepsCopy, MergeLaws, TellsIn}
 use Rattle.sd_rounds.specs.declared.image_order.ImageOrder.{ImageOrder}
-use Rattle.sd_rounds.specs.declared.stage.Stage.TheVariants.{Format, Pass as PassStage, PageWrite, Close}
+use Rattle.sd_rounds.specs.declared.stage.Stage.TheVariants.{Format, Pass as PassStage, Close}
 use Rattle.sd_rounds.specs.Dumper.{Running}
 use Rattle.sd_rounds.specs.Making.{plan_of, stage_after}
 use Rattle.sd_rounds.specs.MakingLaws.{MakingLaws, Pages, image_of}
 use Rattle.sd_rounds.specs.Pass.{Entry, Place, data_pages}
 use Rattle.sd_image.specs.declared.header.Kind.TheVariants.{Merged}
-use Rattle.sd_store_laws.specs.Beliefs.{Belief, Kept, Opening}
+use Rattle.sd_store_laws.specs.Beliefs.{Belief, Closed, Kept, Opening}
 use Rattle.sd_store_laws.specs.Below.{StepsGive}
 use Rattle.sd_store_laws.specs.Cut.{CutHoldsTheSame}
 use Rattle.sd_store_laws.specs.InUse.{CatalogFollows, IsCatalogInUse}
-use Rattle.sd_store_laws.specs.Gates.{IsBelievedAs}
+use Rattle.sd_store_laws.specs.Gates.{IsBelievedAs, MayBelieve}
 use Rattle.sd_store_laws.specs.Needs.{NeedsNoMore}
 use Rattle.sd_store_laws.specs.SlotSteps.{ClosingRetires}
 use Rattle.sd_store_laws.specs.Steps.{StepsKeep}
 use Rattle.sd_store_laws.specs.Store.{Store}
 use Rattle.sd_belief.specs.Believes.{Believes, HasStore}
 use Rattle.sd_belief.specs.Calls.{WasTold}
-use Rattle.sd_belief.specs.DumperOutcomes.{LeavesCatalog, closes_for_sure}
+use Rattle.sd_belief.specs.DumperOutcomes.{LeavesCatalog, closes_for_sure, is_closing}
 use Rattle.sd_belief.specs.GateSteps.{GateSteps}
-use Rattle.sd_belief.specs.InUse.{IsInUseOn, IsSlotFor}
+use Rattle.sd_belief.specs.InUse.{IsFilled, IsInUseOn, IsSlotFor, body_written}
 use Rattle.sd_belief.specs.Knows.{SeesStore}
 use Rattle.sd_belief.specs.MergerOutcomes.{MergeGoesDown, MergedGoesOn, OutcomeIsBelieved}
-use Rattle.sd_belief.specs.Merges.{IsAskedIn, IsCopyOn, IsCopying, IsMergeAt, IsMergeOn, IsReadOn, order_of_slot, request_in_slot, stage_in_slot}
+use Rattle.sd_belief.specs.Merges.{IsAskedIn, IsCopyOn, IsCopying, IsMergeAt, IsMergeOn, IsReadOn, IsWriteOn, lanes_in_slot, order_of_slot, request_in_slot, stage_in_slot}
 use Rattle.sd_belief.specs.declared.standing.Standing.TheVariants as standing
 use Rattle.sd_belief.specs.StoreSteps.{QuietSteps}
 use Rattle.sd_belief.specs.View.{CoreView, history_of}
 use Rattle.sd_belief.proofs.HandsImage.{SlotGoesOn, calls_of_done, hands_slot}
 use Rattle.sd_belief.proofs.HandsLaw.{file_set, opening_before}
-use Rattle.sd_belief.proofs.HandsSlot.{belief_after}
+use Rattle.sd_belief.proofs.HandsSlot.{and_false, belief_after, closed_exact}
 use Rattle.sd_belief.proofs.MergeStays.{copy_stays, holds_same, slots_at}
 use Rattle.sd_belief.proofs.MergerOutcome.{SlotHandedIn, asked_then, believes_handed, bodies_then, count_handed, has_handed, ids_handed, others_handed, phases_then, slot_handed, store_same, use_handed}
 use Rattle.sd_belief.proofs.PageTold.{page_told}
@@ -85,38 +85,38 @@ fails_lem quiet old new made phase g asked bodies files at told b = record {
 
 -- ---- the stage in its slot
 
--- no page is read
+-- no page is read or written
 abbrev IsOwn : CopyStage → Type 0
 IsOwn (copy.Format plan) = Unit {0}
 IsOwn copy.Pass = Unit {0}
 IsOwn (copy.PageRead plan) = ⊥
-IsOwn (copy.PageWrite plan) = Unit {0}
+IsOwn (copy.PageWrite plan) = ⊥
 IsOwn (copy.Close plan header tables) = Unit {0}
 
 own_plan : (stage : CopyStage) (plan : Planned) → IsOwn stage → copy_plan stage ≡ Some plan → plan_of (stage_in_slot stage) ≡ Some plan
 own_plan (copy.Format p) plan own was = was
 own_plan copy.Pass plan own was = absurd (let no : None ≡ Some plan = was in cc)
 own_plan (copy.PageRead p) plan own was = absurd own
-own_plan (copy.PageWrite p) plan own was = was
+own_plan (copy.PageWrite p) plan own was = absurd own
 own_plan (copy.Close p header tables) plan own was = was
 
 own_after : (stage : CopyStage) (next : Planned) (calls : Calls) → IsOwn stage → stage_in_slot (copy_after stage next calls) ≡ stage_after Merged (stage_in_slot stage) next calls
 own_after (copy.Format p) next [] own = refl
 own_after copy.Pass next [] own = refl
 own_after (copy.PageRead p) next [] own = absurd own
-own_after (copy.PageWrite p) next [] own = refl
+own_after (copy.PageWrite p) next [] own = absurd own
 own_after (copy.Close p header tables) next [] own = refl
 own_after (copy.Format p) next (c ∷ calls) own = refl
 own_after copy.Pass next (c ∷ calls) own = refl
 own_after (copy.PageRead p) next (c ∷ calls) own = absurd own
-own_after (copy.PageWrite p) next (c ∷ calls) own = refl
+own_after (copy.PageWrite p) next (c ∷ calls) own = absurd own
 own_after (copy.Close p header tables) next (c ∷ calls) own = refl
 
 own_request : (stage : CopyStage) (r : Option Asked) → IsOwn stage → request_in_slot stage r ≡ r
 own_request (copy.Format p) r own = refl
 own_request copy.Pass r own = refl
 own_request (copy.PageRead p) r own = absurd own
-own_request (copy.PageWrite p) r own = refl
+own_request (copy.PageWrite p) r own = absurd own
 own_request (copy.Close p header tables) r own = refl
 
 no_request : (stage : CopyStage) → request_in_slot stage None ≡ None
@@ -126,12 +126,27 @@ no_request (copy.PageRead p) = refl
 no_request (copy.PageWrite p) = refl
 no_request (copy.Close p header tables) = refl
 
+own_lanes : (stage : CopyStage) (r : Option Asked) → IsOwn stage → lanes_in_slot stage r ≡ []
+own_lanes (copy.Format p) r own = refl
+own_lanes copy.Pass r own = refl
+own_lanes (copy.PageRead p) r own = absurd own
+own_lanes (copy.PageWrite p) r own = absurd own
+own_lanes (copy.Close p header tables) r own = refl
+
+-- a body is as it is where nothing is out
+none_written : (stage : CopyStage) (body : List ℕ) → body_written body (lanes_in_slot stage None) ≡ body
+none_written (copy.Format p) body = refl
+none_written copy.Pass body = refl
+none_written (copy.PageRead p) body = refl
+none_written (copy.PageWrite p) body = refl
+none_written (copy.Close p header tables) body = refl
+
 own_asked : (stage : CopyStage) (phases : List Phase) (bodies : List (List ℕ)) (store : Store) (beliefs : List Belief) (running : Option Running) (target : ℕ) (source : Image) (page : Option Place)
     (request : Asked) → IsOwn stage → IsAskedIn stage phases bodies store beliefs running target source page (Some request) → request.id.slot ≡ target
 own_asked (copy.Format p) phases bodies store beliefs running target source page request own is = is
 own_asked copy.Pass phases bodies store beliefs running target source page request own is = is
 own_asked (copy.PageRead p) phases bodies store beliefs running target source page request own is = absurd own
-own_asked (copy.PageWrite p) phases bodies store beliefs running target source page request own is = is
+own_asked (copy.PageWrite p) phases bodies store beliefs running target source page request own is = absurd own
 own_asked (copy.Close p header tables) phases bodies store beliefs running target source page request own is = is
 
 none_asked : (stage : CopyStage) (next : Planned) (calls : Calls) (phases : List Phase) (bodies : List (List ℕ)) (store : Store) (beliefs : List Belief) (running : Option Running) (target : ℕ)
@@ -144,7 +159,7 @@ none_asked (copy.Close p header tables) next [] phases bodies store beliefs runn
 none_asked (copy.Format p) next (c ∷ calls) phases bodies store beliefs running target source page own = tt
 none_asked copy.Pass next (c ∷ calls) phases bodies store beliefs running target source page own = tt
 none_asked (copy.PageRead p) next (c ∷ calls) phases bodies store beliefs running target source page own = absurd own
-none_asked (copy.PageWrite p) next (c ∷ calls) phases bodies store beliefs running target source page own = tt
+none_asked (copy.PageWrite p) next (c ∷ calls) phases bodies store beliefs running target source page own = absurd own
 none_asked (copy.Close p header tables) next (c ∷ calls) phases bodies store beliefs running target source page own = tt
 
 own_known : (stage : CopyStage) (entries : List Entry) (taking : Option Place) (read : Option (List ℕ)) (plan : Planned) → IsOwn stage → IsReadyFor entries taking read stage
@@ -152,7 +167,7 @@ own_known : (stage : CopyStage) (entries : List Entry) (taking : Option Place) (
 own_known (copy.Format p) entries taking read plan own ready was = ap (λ (x : Planned). x.awaits) (sym (same_Some p plan was)) ∙ ready.2.known
 own_known copy.Pass entries taking read plan own ready was = absurd (let no : None ≡ Some plan = was in cc)
 own_known (copy.PageRead p) entries taking read plan own ready was = absurd own
-own_known (copy.PageWrite p) entries taking read plan own ready was = ap (λ (x : Planned). x.awaits) (sym (same_Some p plan was)) ∙ ready.1.known
+own_known (copy.PageWrite p) entries taking read plan own ready was = absurd own
 own_known (copy.Close p header tables) entries taking read plan own ready was = ap (λ (x : Planned). x.awaits) (sym (same_Some p plan was)) ∙ ready.2.known
 
 -- a slot that is formatted has no pages yet
@@ -160,7 +175,7 @@ own_empty : (stage : CopyStage) (entries : List Entry) (taking : Option Place) (
 own_empty (copy.Format p) entries taking read own ready is = ready.0
 own_empty copy.Pass entries taking read own ready is = absurd (let no : PassStage ≡ Format own = is in cc)
 own_empty (copy.PageRead p) entries taking read own ready is = absurd (let no : PassStage ≡ Format own = is in cc)
-own_empty (copy.PageWrite p) entries taking read own ready is = absurd (let no : PageWrite p ≡ Format own = is in cc)
+own_empty (copy.PageWrite p) entries taking read own ready is = absurd (let no : PassStage ≡ Format own = is in cc)
 own_empty (copy.Close p header tables) entries taking read own ready is = absurd (let no : Close p header tables ≡ Format own = is in cc)
 
 -- a body that is closed
@@ -168,7 +183,7 @@ own_closes : (stage : CopyStage) (own : Planned) (header : Header) (tables : Lis
 own_closes (copy.Format p) own header tables is = absurd (let no : Format p ≡ Close own header tables = is in cc)
 own_closes copy.Pass own header tables is = absurd (let no : PassStage ≡ Close own header tables = is in cc)
 own_closes (copy.PageRead p) own header tables is = absurd (let no : PassStage ≡ Close own header tables = is in cc)
-own_closes (copy.PageWrite p) own header tables is = absurd (let no : PageWrite p ≡ Close own header tables = is in cc)
+own_closes (copy.PageWrite p) own header tables is = absurd (let no : PassStage ≡ Close own header tables = is in cc)
 own_closes (copy.Close p h t) own header tables is = same is
   where
     same : Close p h t ≡ Close own header tables → copy.Close p h t ≡ copy.Close own header tables
@@ -178,7 +193,7 @@ own_tells : (stage : CopyStage) (catalog : List Image) (source : Image) (taking 
 own_tells (copy.Format p) catalog source taking made own = tt
 own_tells copy.Pass catalog source taking made own = tt
 own_tells (copy.PageRead p) catalog source taking made own = absurd own
-own_tells (copy.PageWrite p) catalog source taking made own = tt
+own_tells (copy.PageWrite p) catalog source taking made own = absurd own
 own_tells (copy.Close p header tables) catalog source taking made own = tt
 
 no_pages : (pages : Pages) → length pages ≡ 0 → pages ≡ []
@@ -286,7 +301,9 @@ module _ (quiet : QuietSteps) (making : MakingLaws) (merges : MergeLaws) (files_
         request = None;
         own = set_same asked 1 (Some call.request) None at;
         asked_in = silent;
-        slot_is = subst (λ r. IsSlotFor (stage_in_slot stage_then) order c.pages phase_now (file_at (bodies_then bodies call) target) r belief_now None) (sym (no_request stage_then)) slot_now;
+        slot_is = subst (λ body. IsSlotFor (stage_in_slot stage_then) order c.pages phase_now body (request_in_slot stage_then None) belief_now None)
+            (sym (none_written stage_then (file_at (bodies_then bodies call) target)))
+            (subst (λ r. IsSlotFor (stage_in_slot stage_then) order c.pages phase_now (file_at (bodies_then bodies call) target) r belief_now None) (sym (no_request stage_then)) slot_now);
       };
     }
 
@@ -305,7 +322,9 @@ module _ (quiet : QuietSteps) (making : MakingLaws) (merges : MergeLaws) (files_
 
     slot_was : IsSlotFor (stage_in_slot made.stage) order c.pages phase (file_at bodies target) (Some call.request) c.belief None
     slot_was = subst (λ p. IsSlotFor (stage_in_slot made.stage) order c.pages p (file_at bodies target) (Some call.request) c.belief None) phase_same
-        (subst (λ r. IsSlotFor (stage_in_slot made.stage) order c.pages c.phase (file_at bodies target) r c.belief None) (own_request made.stage c.request own ∙ out_is) c.slot_is)
+        (subst (λ r. IsSlotFor (stage_in_slot made.stage) order c.pages c.phase (file_at bodies target) r c.belief None) (own_request made.stage c.request own ∙ out_is)
+        (subst (λ lanes. IsSlotFor (stage_in_slot made.stage) order c.pages c.phase (body_written (file_at bodies target) lanes) (request_in_slot made.stage c.request) c.belief None)
+        (own_lanes made.stage c.request own) c.slot_is))
 
     calls_same : nplan.calls ≡ go.plan.calls
     calls_same = calls_of_done go.plan call (own_known made.stage made.entries made.taking made.read go.plan own s.sound.ready go.awaited.was) go.done
@@ -417,7 +436,7 @@ module _ (quiet : QuietSteps) (making : MakingLaws) (merges : MergeLaws) (files_
     file_is : file_at files slot ≡ gate ∷ file_at bodies slot
     file_is =
         let ready : is_ready Whole call.request.id.call ≡ true = ap (is_ready Whole) r.call in
-        let reads = told.reads Whole (record { is = r.phase_is; ready = ready }) in
+        let reads = told.reads (subst IsLook (sym r.call) tt) Whole (record { is = r.phase_is; ready = ready }) in
         subst (λ p. Reads p (body_after (file_at bodies slot) call.request.id.call call.request.bytes) (file_at files slot)) (looked call.request.id.call r.call Whole refl (is_done call.answer)) reads
         ∙ ap (λ body. gate ∷ body) same_body
 
@@ -441,7 +460,7 @@ module _ (quiet : QuietSteps) (making : MakingLaws) (merges : MergeLaws) (files_
     passes = ap (copy_after made.stage nplan) none_left
 
     slot_filled : IsSlotFor PassStage order c.pages c.phase (file_at bodies target) None c.belief None
-    slot_filled = subst (λ stage. IsSlotFor (stage_in_slot stage) order c.pages c.phase (file_at bodies target) (request_in_slot stage c.request) c.belief None) is c.slot_is
+    slot_filled = subst (λ stage. IsSlotFor (stage_in_slot stage) order c.pages c.phase (body_written (file_at bodies target) (lanes_in_slot stage c.request)) (request_in_slot stage c.request) c.belief None) is c.slot_is
 
     goes_on_read : Believes new (asked_then asked) (bodies_then bodies call) files
     unfolding read_handed
@@ -452,6 +471,85 @@ module _ (quiet : QuietSteps) (making : MakingLaws) (merges : MergeLaws) (files_
         (subst (λ body. IsSlotFor PassStage order c.pages c.phase body None c.belief None)
         (sym (body_other bodies slot target (body_after (file_at bodies slot) call.request.id.call call.request.bytes) apart)) slot_filled))
 
+  -- ---- a page of the merged image was written
+
+  module _ (own : Planned) (is : made.stage ≡ copy.PageWrite own) where
+    write : IsWriteOn target own call.request
+    write = subst (λ stage. IsAskedIn stage old.phases bodies b.store b.beliefs running target source made.taking (Some call.request)) is asked_was
+
+    filled_was : IsFilled c.pages c.phase (body_after (file_at bodies target) call.request.id.call call.request.bytes) c.belief
+    filled_was = slot_full.0
+      where
+        slot_full : IsSlotFor PassStage order c.pages c.phase (body_after (file_at bodies target) call.request.id.call call.request.bytes) None c.belief None
+        slot_full = subst (λ stage. IsSlotFor (stage_in_slot stage) order c.pages c.phase (body_written (file_at bodies target) (lanes_in_slot stage (Some call.request)))
+            (request_in_slot stage (Some call.request)) c.belief None) is
+            (subst (λ r. IsSlotFor (stage_in_slot made.stage) order c.pages c.phase (body_written (file_at bodies target) (lanes_in_slot made.stage r)) (request_in_slot made.stage r) c.belief None) out_is c.slot_is)
+
+    same_phase : c.phase ≡ phase
+    same_phase = same_Some c.phase phase (sym c.phase_is ∙ ap (slice_get old.phases) (sym write.on) ∙ s.outcome.phase_is)
+
+    phase_written : slice_get (phases_then old call phase) target ≡ Some Writing
+    phase_written = ap (slice_get (phases_then old call phase)) (sym write.on)
+        ∙ set_same old.phases call.request.id.slot phase (after phase call.request.id.call (is_done call.answer)) s.outcome.phase_is
+        ∙ ap Some (ap (λ d. after phase call.request.id.call d) go.done ∙ ap (λ x. after phase x true) write.call ∙ ap filled (sym same_phase) ∙ filled_was.fills)
+
+    body_written_there : file_at (bodies_then bodies call) target ≡ body_after (file_at bodies target) call.request.id.call call.request.bytes
+    body_written_there =
+        let within : call.request.id.slot < length bodies = (let long = slice_get_within old.phases call.request.id.slot phase s.outcome.phase_is in let stored = b.has.stored in omega (arith, long, stored)) in
+        ap (file_at (bodies_then bodies call)) (sym write.on) ∙ file_set bodies call.request.id.slot (body_after (file_at bodies call.request.id.slot) call.request.id.call call.request.bytes) within
+        ∙ ap (λ x. body_after (file_at bodies x) call.request.id.call call.request.bytes) write.on
+
+    has_written : HasStore old.base (history_of old) (phases_then old call phase) (asked_then asked) (bodies_then bodies call) b.store b.dump b.beliefs
+    has_written = has_handed old new call phase asked bodies files s.outcome at b quiet
+
+    no_close : closes_for_sure phase call.request.id.call ≡ false
+    no_close = ap (λ x. closes_for_sure phase x) write.call ∙ and_false (is_closing phase)
+
+    catalog_still : new.catalog ≡ old.catalog
+    catalog_still = subst (λ sure. LeavesCatalog sure call.request.id.slot old.catalog new.catalog) no_close s.catalog
+
+    written_handed : SlotHandedIn old new call phase asked bodies files b target c.belief
+    written_handed = record {
+      store = b.store;
+      later = b.beliefs;
+      has = has_written;
+      in_use = use_handed making old.base (history_of old) old.catalog new.catalog old.grows old.memory last b.store b.store b.dump (slots_at old.phases bodies b.beliefs)
+          (slots_at (phases_then old call phase) (bodies_then bodies call) b.beliefs) running asked target call.request (b.knows.in_use s.rest.stands) at write.on (record {
+            count = set_count old.phases call.request.id.slot (after phase call.request.id.call (is_done call.answer));
+            others = λ at_slot differs. others_handed old new call phase asked bodies files s.outcome at b b.beliefs at_slot (λ same. differs (same ∙ write.on)) refl;
+            exact = λ p belief here of. (let closed : belief ≡ Closed = same_Some belief Closed (sym of ∙ c.belief_is ∙ ap Some filled_was.closed) in
+                subst (IsBelievedAs p (file_at (bodies_then bodies call) target)) (sym closed)
+                (closed_exact p (file_at (bodies_then bodies call) target) (subst (MayBelieve p (file_at (bodies_then bodies call) target)) closed (has_written.believed.each target p belief here of))));
+            images = λ at_slot i has. has;
+          }) (store_same old.memory last running b.beliefs b.store) (subst (λ places. IsCatalogInUse places b.beliefs) (sym catalog_still) (b.knows.in_use s.rest.stands).catalog) k.repeats.slot.spared s.rest.makes;
+      there = c.belief_is;
+      others = λ at_slot differs. refl;
+      images = λ at_slot i has. has;
+      within = λ i member. member;
+      source = refl;
+      work = refl;
+      needs = λ i needed. needed;
+      still = λ x source_is. holds_same b.store.catalog x;
+    }
+
+    over : stage_then ≡ copy.Pass
+    over =
+        let under_way = (subst (IsReadyFor made.entries made.taking made.read) is s.sound.ready).1 in
+        let same : own ≡ go.plan = same_Some own go.plan (sym (ap copy_plan is) ∙ go.awaited.was) in
+        ap (copy_after made.stage nplan) (calls_of_done go.plan call (ap (λ (p : Planned). p.awaits) (sym same) ∙ under_way.known) go.done ∙ ap (λ (p : Planned). p.calls) (sym same) ∙ write.last)
+
+    goes_on_written : Believes new (asked_then asked) (bodies_then bodies call) files
+    unfolding written_handed
+    goes_on_written = believes_copying target c.belief written_handed
+        (subst (λ stage. TellsIn stage b.store.catalog source made.taking call) (sym is) tt) refl (λ j opens. opens)
+        Writing phase_written c.belief c.belief_is
+        (subst (λ stage. IsAskedIn stage (phases_then old call phase) (bodies_then bodies call) b.store b.beliefs running target source made.taking None) (sym over) tt)
+        (subst (λ stage. IsSlotFor (stage_in_slot stage) order c.pages Writing (file_at (bodies_then bodies call) target) None c.belief None) (sym over) (
+          record { writes = refl; fills = refl; spelled = body_written_there ∙ filled_was.spelled; closed = filled_was.closed },
+          refl,
+          refl,
+        ))
+
   pub goes_on_by : GateSteps → ClosingRetires → StepsKeep → StepsGive → NeedsNoMore → CatalogFollows → CutHoldsTheSame → PageInFile
       → (stage : CopyStage) → made.stage ≡ stage → Believes new (asked_then asked) (bodies_then bodies call) files
   goes_on_by gates closing_retires keeps gives needs follows cut in_file (copy.Format own) is =
@@ -459,8 +557,7 @@ module _ (quiet : QuietSteps) (making : MakingLaws) (merges : MergeLaws) (files_
   goes_on_by gates closing_retires keeps gives needs follows cut in_file copy.Pass is =
       goes_on_in_slot (subst IsOwn (sym is) tt) gates closing_retires keeps gives needs follows cut
   goes_on_by gates closing_retires keeps gives needs follows cut in_file (copy.PageRead own) is = goes_on_read in_file own is
-  goes_on_by gates closing_retires keeps gives needs follows cut in_file (copy.PageWrite own) is =
-      goes_on_in_slot (subst IsOwn (sym is) tt) gates closing_retires keeps gives needs follows cut
+  goes_on_by gates closing_retires keeps gives needs follows cut in_file (copy.PageWrite own) is = goes_on_written own is
   goes_on_by gates closing_retires keeps gives needs follows cut in_file (copy.Close own header tables) is =
       goes_on_in_slot (subst IsOwn (sym is) tt) gates closing_retires keeps gives needs follows cut
 

@@ -22,13 +22,13 @@ use Rattle.sd_merge.specs.declared.merge_progress.MergeProgress.TheVariants as p
 use Rattle.sd_merge.specs.declared.retired.Retired.{Retired}
 use Rattle.sd_merge.specs.Copying.{Copying, IsReadyFor}
 use Rattle.sd_merge.specs.Files.{FileLaws, IsFiled, IsFiledIn}
-use Rattle.sd_merge.specs.Merger.{Retires, awaited, copying, opened, retiring}
+use Rattle.sd_merge.specs.Merger.{Retires, opened, retiring}
 use Rattle.sd_merge.specs.Merger as merger
 use Rattle.sd_pagetable.specs.Contents.{Contents}
 use Rattle.sd_rounds.specs.declared.image_order.ImageOrder.{ImageOrder}
 use Rattle.sd_rounds.specs.declared.new_image.NewImage.{NewImage}
 use Rattle.sd_rounds.specs.declared.stage.Stage.{Stage}
-use Rattle.sd_rounds.specs.declared.stage.Stage.TheVariants.{Format, Freeze, Pass as PassStage, PageWrite, Close}
+use Rattle.sd_rounds.specs.declared.stage.Stage.TheVariants.{Format, Freeze, Pass as PassStage, Close}
 use Rattle.sd_rounds.specs.Dumper.{Running}
 use Rattle.sd_rounds.specs.Files.{IsFiledIn as IsDumpFiledIn}
 use Rattle.sd_rounds.specs.Making.{Making}
@@ -49,10 +49,10 @@ use Rattle.sd_belief.specs.Believes.{Believes, HasStore}
 use Rattle.sd_belief.specs.Calls.{IsFree}
 use Rattle.sd_belief.specs.Copies.{AreImagesOf, IsCopyThere, IsOrderly, StandsIn}
 use Rattle.sd_belief.specs.GateSteps.{GateSteps, IsOnlyTwin}
-use Rattle.sd_belief.specs.InUse.{IsAtWork, IsClosing, IsImageOn, IsInUseOn, IsSlotFor, is_opening_at, pending_dump}
+use Rattle.sd_belief.specs.InUse.{IsAtWork, IsClosing, IsImageOn, IsInUseOn, IsSlotFor, body_written, is_opening_at, lanes_of, pending_dump}
 use Rattle.sd_belief.specs.MergerOutcomes.{MayRetire, MergedOpens, OutcomeIsBelieved}
 use Rattle.sd_belief.specs.MergerSteps.{IsUncalled}
-use Rattle.sd_belief.specs.Merges.{IsAskedIn, IsCopyOn, IsCopying, IsListedOn, IsMergeAt, IsMergeOn, IsOtherImage, IsSpared, IsUnmerged, MakesOther, order_of_slot, request_in_slot, stage_in_slot}
+use Rattle.sd_belief.specs.Merges.{IsAskedIn, IsCopyOn, IsCopying, IsListedOn, IsMergeAt, IsMergeOn, IsOtherImage, IsSpared, IsUnmerged, MakesOther, lanes_in_slot, order_of_slot, request_in_slot, stage_in_slot}
 use Rattle.sd_belief.specs.StoreSteps.{IsOpened, QuietSteps}
 use Rattle.sd_belief.specs.View.{CoreView, history_of}
 use Rattle.sd_belief.proofs.BeginsImage.{image_of_has}
@@ -82,7 +82,6 @@ pending_serial : (stage : Stage) (order : ImageOrder) (pass : Pass) (pages : Pag
 pending_serial (Format plan) order pass pages phase body request belief d files s = absurd (let no : Some d ≡ None = s.1 in cc)
 pending_serial Freeze order pass pages phase body request belief d files s = absurd (let no : Some d ≡ None = s.2 in cc)
 pending_serial PassStage order pass pages phase body request belief d files s = absurd (let no : Some d ≡ None = s.2 in cc)
-pending_serial (PageWrite plan) order pass pages phase body request belief d files s = absurd (let no : Some d ≡ None = s.1 in cc)
 pending_serial (Close plan header tables) order pass pages phase body request belief d files s = elim (cases_Bool (is_opening_at s.place request)) [
   | inl opens ↦ ap (λ (x : Image). x.header.serial) (sym (dump_is order.kind (image_of header pages tables) d (sym (s.opening opens).1))) ∙ ap (λ h. h.serial) files.numbers
   | inr shut ↦ absurd (let no : Some d ≡ None = (s.shut shut).1 in cc)
@@ -94,7 +93,7 @@ module _ (base : Base) (history : History) (grows : Bool) (memory : Contents) (p
       → IsImageOn base history memory phases asked bodies last store (Some d) beliefs parent number image → serial ≢ d.header.serial
   other_in_image d serial parent number None other m same = let no : Some d ≡ None = m.alone in cc
   other_in_image d serial parent number (Some image) other m same =
-      other (sym (pending_serial image.stage image.order image.pass m.pages m.phase (file_at bodies image.order.slot) m.request m.belief d m.files m.slot_is) ∙ sym same)
+      other (sym (pending_serial image.stage image.order image.pass m.pages m.phase (body_written (file_at bodies image.order.slot) (lanes_of asked)) m.request m.belief d m.files m.slot_is) ∙ sym same)
 
   -- so it isn't the merged image
   other_dump : (d : Image) (serial : ℕ) (running : Option Running) → MakesOther running serial → IsAtWork base history grows memory phases asked bodies last store (Some d) beliefs running
@@ -175,9 +174,9 @@ module _ (quiet : QuietSteps) (gates : GateSteps) (making : MakingLaws) (keeps :
   no_more = sym (calls_of_done s.opens.plan call (subst (IsReadyFor made.entries made.taking made.read) s.opens.was s.sound.ready).2.known s.opens.done) ∙ s.opens.last
 
   closing_was : IsClosing order i s.opens.plan phase (file_at bodies target) (Some call.request) c.belief None
-  closing_was = subst (λ stage. IsSlotFor (stage_in_slot stage) order c.pages phase (file_at bodies target) (request_in_slot stage (Some call.request)) c.belief None) s.opens.was
-      (subst (λ p. IsSlotFor (stage_in_slot made.stage) order c.pages p (file_at bodies target) (request_in_slot made.stage (Some call.request)) c.belief None) phase_same
-      (subst (λ r. IsSlotFor (stage_in_slot made.stage) order c.pages c.phase (file_at bodies target) (request_in_slot made.stage r) c.belief None) out_is c.slot_is))
+  closing_was = subst (λ stage. IsSlotFor (stage_in_slot stage) order c.pages phase (body_written (file_at bodies target) (lanes_in_slot stage (Some call.request))) (request_in_slot stage (Some call.request)) c.belief None) s.opens.was
+      (subst (λ p. IsSlotFor (stage_in_slot made.stage) order c.pages p (body_written (file_at bodies target) (lanes_in_slot made.stage (Some call.request))) (request_in_slot made.stage (Some call.request)) c.belief None) phase_same
+      (subst (λ r. IsSlotFor (stage_in_slot made.stage) order c.pages c.phase (body_written (file_at bodies target) (lanes_in_slot made.stage r)) (request_in_slot made.stage r) c.belief None) out_is c.slot_is))
 
   opened_then : IsOpenThen order i phase (file_at bodies target) call.request c.belief None
   opened_then = open_then order i s.opens.plan phase (file_at bodies target) call.request c.belief None closing_was no_more

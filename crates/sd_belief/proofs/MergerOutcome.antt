@@ -40,8 +40,7 @@ use Rattle.sd_belief.specs.Believes.{Believes, HasStore}
 use Rattle.sd_belief.specs.Calls.{IsFree}
 use Rattle.sd_belief.specs.DumperOutcomes.{LeavesCatalog, closes_for_sure}
 use Rattle.sd_belief.specs.GateSteps.{GateSteps}
-use Rattle.sd_belief.specs.InUse.{IsAtWork, IsInUseOn, IsNewNumber, IsSlotFor, NoneAt, chain_of}
-use Rattle.sd_belief.specs.Knows.{ids_of}
+use Rattle.sd_belief.specs.InUse.{IsAtWork, IsInUseOn, IsNewNumber, IsSlotFor, NoneAt, chain_of, ids_of}
 use Rattle.sd_belief.specs.MergerOutcomes.{IsMergersOutcome}
 use Rattle.sd_belief.specs.MergerSteps.{MakesInItsSlot, OnlyMerges}
 use Rattle.sd_belief.specs.Merges.{IsMergeOn, IsSpared}
@@ -55,6 +54,7 @@ use Rattle.sd_belief.proofs.MergerUse.{other_slot}
 use Rattle.sd_belief.proofs.OpenCore.{believes_parts}
 use Rattle.sd_belief.proofs.Places.{body_other, get_contains, id_there, ids_set, set_count, set_other, set_same}
 use Rattle.sd_belief.proofs.WorkStays.{IsMakingNumber, LeavesWork, work_beside}
+use Rattle.sd_belief.proofs.Lanes.{lanes_beside}
 
 -- ---- an outcome of the merger's
 
@@ -87,7 +87,7 @@ module _ (old new : CoreView) (made : Made) (phase : Phase) (asked : List (Optio
       let same : covered.phase ≡ phase = same_Some covered.phase phase (sym covered.waits.is ∙ o.phase_is) in
       subst (λ p. HasStore old.base (history_of old) (phases_then old made p) (asked_then asked) (bodies_then bodies made) b.store b.dump b.beliefs) same
       (quiet.handed old.base (history_of old) old.phases asked bodies b.store b.dump b.beliefs 1 made
-      (record { out = at; alone = none_other; phase = covered.phase; waits = covered.waits }) b.has)
+      (record { out = at; others = λ other request differs is same. absurd (differs (none_other other request is same)); phase = covered.phase; waits = covered.waits }) b.has)
 
   pub ids_handed : ids_of (asked_then asked) ≡ new.outs
   ids_handed = ids_set asked 1 None ∙ ap (λ ids. slice_set ids 1 None) b.knows.out ∙ sym o.outs
@@ -165,8 +165,9 @@ module _ (making : MakingLaws) (base : Base) (history : History) (places places_
       | inr differs ↦ subst (λ body. IsBelievedAs phase body belief) (sym (at.others k differs).body)
           (u.exact k phase belief (sym (at.others k differs).phase ∙ here) (sym (at.others k differs).belief ∙ of) (none_before k differs none))
     ];
+    writes = ap ids_of (lanes_beside asked 1 None (omega arith)) ∙ u.writes;
     job = work_beside making base history memory store old last last store_now new dump asked (asked_then asked)
-        (set_other asked 1 0 None (λ zero_is. (let no : 0 ≡ 1 = zero_is in omega (arith, no)))) grows running u.grows_is own leaves u.job;
+        (set_other asked 1 0 None (λ zero_is. (let no : 0 ≡ 1 = zero_is in omega (arith, no)))) (lanes_beside asked 1 None (omega arith)) grows running u.grows_is own leaves u.job;
   }
 
 -- the number that the running checkpoint asks for

@@ -13,7 +13,7 @@ use Rattle.sd_gate.specs.declared.phase.Phase.{Phase}
 use Rattle.sd_gate.specs.declared.phase.Phase.TheVariants.{Raw, RawClosing, Whole, Closing as ClosingPhase, Shut, ShutSynced, Bare, Writing, Ready, Opening as OpeningPhase, Doubt, DoubtSynced}
 use Rattle.sd_gate.specs.Laws.{BodiesFill, Leads, PlansLead, pages_body}
 use Rattle.sd_gate.specs.PlanRuns.{body_closed}
-use Rattle.sd_gate.specs.Phases.{body_after, filled, is_ready, may_write}
+use Rattle.sd_gate.specs.Phases.{body_after, is_ready}
 use Rattle.sd_gate.specs.Requests.{Asked}
 use Rattle.sd_gate.specs.Sequences.{body_calls, data_place}
 use Rattle.sd_journal.specs.History.{History}
@@ -35,10 +35,9 @@ use Rattle.sd_store_laws.specs.Needs.{IsNeededIn}
 use Rattle.sd_store_laws.specs.Stays.{SourceReachesNeeded}
 use Rattle.sd_belief.specs.Believes.{Believes, HasStore}
 use Rattle.sd_belief.specs.Calls.{IsFree}
-use Rattle.sd_belief.specs.Knows.{ids_of}
-use Rattle.sd_belief.specs.InUse.{IsAtWork, IsFilled, IsInUseOn, IsSlotFor, call_of}
+use Rattle.sd_belief.specs.InUse.{IsAtWork, IsFilled, IsInUseOn, IsSlotFor, body_written, call_of, ids_of}
 use Rattle.sd_belief.specs.MergerSteps.{AsksForMerged, MergesOn, TakesZeros}
-use Rattle.sd_belief.specs.Merges.{IsAskedIn, IsCopyOn, IsCopying, IsMergeAt, IsMergeOn, IsSpared, MakesOther, order_of_slot, request_in_slot, stage_in_slot}
+use Rattle.sd_belief.specs.Merges.{IsAskedIn, IsCopyOn, IsCopying, IsMergeAt, IsMergeOn, IsSpared, MakesOther, lanes_in_slot, order_of_slot, request_in_slot, stage_in_slot}
 use Rattle.sd_belief.specs.StoreSteps.{IsQuiet, QuietSteps}
 use Rattle.sd_belief.specs.View.{CoreView, history_of}
 use Rattle.sd_belief.proofs.Asks.{unchanged_at}
@@ -142,7 +141,7 @@ module _ (quiet : QuietSteps) (merge_laws : MergeLaws) (files_of : FileLaws) (ne
   -- the copy that the step leaves: its slot is believed to be as before
   copying_next : (pages : Pages) (asked_now : List (Option Asked)) (request : Option Asked) → next.order ≡ made.order → KeepsCopy b.store.catalog source pages next → FilesCopy source pages next
       → slice_get asked_now 1 ≡ Some request → IsAskedIn next.stage old.phases bodies b.store b.beliefs running target source next.taking request
-      → IsSlotFor (stage_in_slot next.stage) (order_of_slot target made.order.state) pages c.phase (file_at bodies target) (request_in_slot next.stage request) c.belief None
+      → IsSlotFor (stage_in_slot next.stage) (order_of_slot target made.order.state) pages c.phase (body_written (file_at bodies target) (lanes_in_slot next.stage request)) (request_in_slot next.stage request) c.belief None
       → IsCopying old.phases asked_now bodies last b.store b.beliefs running merge.slot merge.source next
   copying_next pages asked_now request same keeps filed own asked_in slot_is = record {
     repeats = k.repeats;
@@ -162,7 +161,7 @@ module _ (quiet : QuietSteps) (merge_laws : MergeLaws) (files_of : FileLaws) (ne
       request = request;
       own = own;
       asked_in = asked_in;
-      slot_is = subst (λ o. IsSlotFor (stage_in_slot next.stage) (order_of_slot target o.state) pages c.phase (file_at bodies target) (request_in_slot next.stage request) c.belief None) (sym same) slot_is;
+      slot_is = subst (λ o. IsSlotFor (stage_in_slot next.stage) (order_of_slot target o.state) pages c.phase (body_written (file_at bodies target) (lanes_in_slot next.stage request)) (request_in_slot next.stage request) c.belief None) (sym same) slot_is;
     };
   }
 
@@ -194,13 +193,13 @@ module _ (quiet : QuietSteps) (merge_laws : MergeLaws) (files_of : FileLaws) (ne
     none_out = ready.1
       where
         ready : IsFilled c.pages c.phase (file_at bodies target) c.belief × (c.request ≡ None) × (no_dump ≡ None)
-        ready = subst (λ st. IsSlotFor (stage_in_slot st) (order_of_slot target made.order.state) c.pages c.phase (file_at bodies target) (request_in_slot st c.request) c.belief None) stage c.slot_is
+        ready = subst (λ st. IsSlotFor (stage_in_slot st) (order_of_slot target made.order.state) c.pages c.phase (body_written (file_at bodies target) (lanes_in_slot st c.request)) (request_in_slot st c.request) c.belief None) stage c.slot_is
 
     filled_slot : IsFilled c.pages c.phase (file_at bodies target) c.belief
     filled_slot = ready.0
       where
         ready : IsFilled c.pages c.phase (file_at bodies target) c.belief × (c.request ≡ None) × (no_dump ≡ None)
-        ready = subst (λ st. IsSlotFor (stage_in_slot st) (order_of_slot target made.order.state) c.pages c.phase (file_at bodies target) (request_in_slot st c.request) c.belief None) stage c.slot_is
+        ready = subst (λ st. IsSlotFor (stage_in_slot st) (order_of_slot target made.order.state) c.pages c.phase (body_written (file_at bodies target) (lanes_in_slot st c.request)) (request_in_slot st c.request) c.belief None) stage c.slot_is
 
     own_none : slice_get asked 1 ≡ Some None
     own_none = c.own ∙ ap Some none_out
@@ -222,7 +221,7 @@ module _ (quiet : QuietSteps) (merge_laws : MergeLaws) (files_of : FileLaws) (ne
       asks_on_slot phase belief phase_is belief_is ready is_quiet spared copying_it =
           believes_next asked_now out_now
           (quiet.asks old.base history old.phases asked bodies b.store b.dump b.beliefs 1 request
-          (record { free = own_none; none = none_at asked old request.id.slot b.knows.out apart; phase = phase; waits = record { is = phase_is; ready = ready } }) is_quiet b.has)
+          (record { free = own_none; phase = phase; waits = record { is = phase_is; ready = ready } }) is_quiet b.has)
           (use_then follows making old.base history old.catalog old.grows old.memory old.phases asked bodies last b.store b.dump b.beliefs b.beliefs running request.id.slot belief belief request
           u own_none refl belief_is (unchanged_at b.beliefs request.id.slot belief belief_is) (λ i. (λ has. has, λ has. has))
           (λ i has. u.used.slots request.id.slot i (ap (λ o. option_and_then image_in o) belief_is ∙ has)) (λ i has. inl has) spared s.rest.makes)
@@ -251,7 +250,7 @@ module _ (quiet : QuietSteps) (merge_laws : MergeLaws) (files_of : FileLaws) (ne
       (subst (λ st. IsFiledIn st next.order source0 next.entries c0.pages) (sym stays) tt)
       (c0.own ∙ ap Some none0)
       (subst (λ st. IsAskedIn st old.phases bodies b.store b.beliefs old.dumper.running merge.slot source0 next.taking None) (sym stays) tt)
-      (subst (λ st. IsSlotFor (stage_in_slot st) (order_of_slot merge.slot made.order.state) c0.pages c0.phase (file_at bodies merge.slot) (request_in_slot st None) c0.belief None) (sym stays)
+      (subst (λ st. IsSlotFor (stage_in_slot st) (order_of_slot merge.slot made.order.state) c0.pages c0.phase (body_written (file_at bodies merge.slot) (lanes_in_slot st None)) (request_in_slot st None) c0.belief None) (sym stays)
       (filled0, refl, refl)))
 
   -- ---- where a read is
@@ -363,7 +362,7 @@ module _ (quiet : QuietSteps) (merge_laws : MergeLaws) (files_of : FileLaws) (ne
         stored = r.stored;
         holds = r.holds;
       }))
-      (subst (λ st. IsSlotFor (stage_in_slot st) (order_of_slot merge.slot made.order.state) c0.pages c0.phase (file_at bodies merge.slot) (request_in_slot st (Some request)) c0.belief None) (sym next_stage)
+      (subst (λ st. IsSlotFor (stage_in_slot st) (order_of_slot merge.slot made.order.state) c0.pages c0.phase (body_written (file_at bodies merge.slot) (lanes_in_slot st (Some request))) (request_in_slot st (Some request)) c0.belief None) (sym next_stage)
       (filled0, refl, refl)))
 
   -- ---- the write of a page that was read
@@ -386,7 +385,6 @@ module _ (quiet : QuietSteps) (merge_laws : MergeLaws) (files_of : FileLaws) (ne
       let place = data_place (data_pages made.entries) in
       let body = file_at bodies merge.slot in
       let on : request.id.slot ≡ merge.slot = writes.gives.slot ∙ k0.order.1 in
-      let led = plans.page c0.phase body place request.bytes filled0.writes in
       asks_on_slot quiet merge_laws files_of needed_of follows making plans bodies_fill places knows old new merge made next ticket (PageCall request) asked bodies files its_catalog s b stage
       request a.free a.apart a.outs c0.phase c0.belief (ap (slice_get old.phases) on ∙ c0.phase_is) (ap (slice_get b.beliefs) on ∙ c0.belief_is)
       (ap (is_ready c0.phase) (sym given.0) ∙ filled0.writes)
@@ -397,22 +395,18 @@ module _ (quiet : QuietSteps) (merge_laws : MergeLaws) (files_of : FileLaws) (ne
       (keeps_next quiet merge_laws files_of needed_of follows making plans bodies_fill places knows old new merge made next ticket (PageCall request) asked bodies files its_catalog s b)
       (subst (λ st. IsFiledIn st next.order k0.repeats.image next.entries pages) (sym next_stage) tt)
       (set_same asked 1 None (Some request) (c0.own ∙ ap Some none0))
-      (subst (λ st. IsAskedIn st old.phases bodies b.store b.beliefs old.dumper.running merge.slot k0.repeats.image next.taking (Some request)) (sym next_stage) on)
-      (subst (λ st. IsSlotFor (stage_in_slot st) (order_of_slot merge.slot made.order.state) pages c0.phase body (request_in_slot st (Some request)) c0.belief None) (sym next_stage) (
+      (subst (λ st. IsAskedIn st old.phases bodies b.store b.beliefs old.dumper.running merge.slot k0.repeats.image next.taking (Some request)) (sym next_stage)
+      (record { on = on; last = sym given.2; place = data_pages made.entries; call = sym given.0 }))
+      (subst (λ st. IsSlotFor (stage_in_slot st) (order_of_slot merge.slot made.order.state) pages c0.phase (body_written body (lanes_in_slot st (Some request))) (request_in_slot st (Some request)) c0.belief None)
+      (sym next_stage) (
         record {
-          place = place;
-          on = writes.gives.same_slot ∙ k0.order.1;
-          left = ap (λ call. call ∷ map call_of writes.next.calls) (sym given.0) ∙ ap (λ calls. Write place ∷ map call_of calls) (sym given.2);
-          last = filled c0.phase;
-          leads = subst (λ calls. Leads c0.phase body calls (filled c0.phase) (pages_body pages))
-              (ap (λ call. (call, request.bytes) ∷ []) given.0 ∙ ap (λ calls. (request.id.call, request.bytes) ∷ calls) given.2)
-              (subst (λ final. Leads c0.phase body ((Write place, request.bytes) ∷ []) (filled c0.phase) final)
-              (ap (λ x. body_after x (Write place) request.bytes) filled0.spelled ∙ ap (λ n. body_after (pages_body c0.pages) (Write (data_place n)) request.bytes) (sym count)
-              ∙ bodies_fill.page c0.pages request.bytes c0.keeps.whole) led);
-          writes = ap may_write filled0.fills;
-          fills = ap filled filled0.fills;
+          writes = filled0.writes;
+          fills = filled0.fills;
+          spelled = ap (λ call. body_after body call request.bytes) (sym given.0) ∙ ap (λ x. body_after x (Write place) request.bytes) filled0.spelled
+              ∙ ap (λ n. body_after (pages_body c0.pages) (Write (data_place n)) request.bytes) (sym count) ∙ bodies_fill.page c0.pages request.bytes c0.keeps.whole;
           closed = filled0.closed;
         },
+        refl,
         refl,
       )))
 
@@ -465,7 +459,7 @@ module _ (quiet : QuietSteps) (merge_laws : MergeLaws) (files_of : FileLaws) (ne
       filed
       (set_same asked 1 None (Some request) (c0.own ∙ ap Some none0))
       (subst (λ st. IsAskedIn st old.phases bodies b.store b.beliefs old.dumper.running merge.slot source0 next.taking (Some request)) (sym next_stage) on)
-      (subst (λ st. IsSlotFor (stage_in_slot st) (order_of_slot merge.slot made.order.state) c0.pages c0.phase body (request_in_slot st (Some request)) c0.belief None) (sym next_stage) (record {
+      (subst (λ st. IsSlotFor (stage_in_slot st) (order_of_slot merge.slot made.order.state) c0.pages c0.phase (body_written body (lanes_in_slot st (Some request))) (request_in_slot st (Some request)) c0.belief None) (sym next_stage) (record {
         place = 0;
         on = writes.gives.same_slot ∙ k0.order.1;
         left = ap (map call_of) (sym given);

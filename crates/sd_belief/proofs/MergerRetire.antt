@@ -9,7 +9,7 @@ use Rattle.sd_gate.specs.Plans.{Gives, Planned}
 use Rattle.sd_gate.specs.Requests.{Asked}
 use Rattle.sd_journal.specs.History.{History}
 use Rattle.sd_merge.specs.declared.merge_step.MergeStep.TheVariants.{Call}
-use Rattle.sd_merge.specs.Merger.{Doing, RetiresOn, Retiring, retiring}
+use Rattle.sd_merge.specs.Merger.{Retiring, retiring}
 use Rattle.sd_merge.specs.Merger as merger
 use Rattle.sd_rounds.specs.declared.image_order.ImageOrder.{ImageOrder}
 use Rattle.sd_rounds.specs.declared.stage.Stage.TheVariants.{Format}
@@ -95,7 +95,6 @@ module _ (quiet : QuietSteps) (gates : GateSteps) (follows : CatalogFollows) (ma
   abbrev may : MayAsk old.phases asked 1 request
   may = record {
     free = free;
-    none = none_at asked old request.id.slot b.knows.out s.apart;
     phase = c.phase;
     waits = record { is = ap (slice_get old.phases) on ∙ c.phase_is; ready = asked_on.0 };
   }
@@ -178,6 +177,7 @@ module _ (quiet : QuietSteps) (gates : GateSteps) (follows : CatalogFollows) (ma
       (subst (λ x. HasStore old.base history old.phases asked_now bodies b.store b.dump (with_belief b.beliefs x (Closing i))) on
       ((gates old.base history old.phases asked bodies).closes b.store b.dump b.beliefs 1 request i (record {
         may = may;
+        none = none_at asked old request.id.slot b.knows.out s.apart;
         call = q.call;
         phase = q.whole;
         belief = ap (slice_get b.beliefs) on ∙ kept;

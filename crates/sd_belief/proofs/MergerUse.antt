@@ -12,13 +12,14 @@ use Rattle.sd_rounds.specs.MakingLaws.{MakingLaws}
 use Rattle.sd_store_laws.specs.Beliefs.{Belief, image_at, image_in}
 use Rattle.sd_store_laws.specs.InUse.{CatalogFollows}
 use Rattle.sd_store_laws.specs.Store.{Store}
-use Rattle.sd_belief.specs.InUse.{IsInUseOn, NoneAt}
+use Rattle.sd_belief.specs.InUse.{IsInUseOn, NoneAt, ids_of}
 use Rattle.sd_belief.specs.MergerSteps.{MakesInItsSlot}
 use Rattle.sd_belief.specs.Merges.{IsSpared, MakesOther}
 use Rattle.sd_belief.proofs.Asks.{HasIt, IsChangedAt, same_images}
 use Rattle.sd_belief.proofs.MergeStays.{slots_at}
 use Rattle.sd_belief.proofs.Places.{set_other, set_same}
 use Rattle.sd_belief.proofs.WorkStays.{LeavesWork, work_beside}
+use Rattle.sd_belief.proofs.Lanes.{lanes_beside}
 
 -- a slot that the checkpoint spares is none of its slots
 pub other_slot : (running : Option Running) (slot k : ℕ) → IsSpared running slot → (one : Running) → running ≡ Some one → IsReserved one k → k ≢ slot
@@ -82,6 +83,7 @@ module _ (follows : CatalogFollows) (making : MakingLaws) (base : Base) (history
       ];
     };
     exact = λ k phase b here of none. u.exact k phase b here (sym (changed.others k (λ its. none 1 request own_now (on ∙ sym its))) ∙ of) (none_then k none);
+    writes = ap ids_of (lanes_beside asked 1 (Some request) (omega arith)) ∙ u.writes;
     job = work_beside making base history memory store (slots_at phases bodies beliefs) last last store (slots_at phases bodies then) dump asked asked_now
-        (set_other asked 1 0 (Some request) (λ zero_is. (let no : 0 ≡ 1 = zero_is in omega (arith, no)))) grows running u.grows_is own leaves u.job;
+        (set_other asked 1 0 (Some request) (λ zero_is. (let no : 0 ≡ 1 = zero_is in omega (arith, no)))) (lanes_beside asked 1 (Some request) (omega arith)) grows running u.grows_is own leaves u.job;
   }

@@ -11,8 +11,8 @@ use Rattle.sd_rounds.specs.Dumper.{Running}
 use Rattle.sd_store_laws.specs.Beliefs.{Belief}
 use Rattle.sd_store_laws.specs.Store.{Store}
 use Rattle.sd_belief.specs.Believes.{Believes, HasStore}
-use Rattle.sd_belief.specs.InUse.{IsInUseOn}
-use Rattle.sd_belief.specs.Knows.{SeesStore, ids_of}
+use Rattle.sd_belief.specs.InUse.{IsInUseOn, ids_of}
+use Rattle.sd_belief.specs.Knows.{SeesStore}
 use Rattle.sd_belief.specs.Merges.{IsMergeInUse}
 use Rattle.sd_belief.specs.View.{CoreView, history_of}
 

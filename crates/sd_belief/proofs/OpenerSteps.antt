@@ -23,10 +23,13 @@ use Rattle.sd_opener.specs.Sees.{IsToldOf, Sees, SeesSlot}
 use Rattle.sd_belief.specs.declared.standing.Standing.TheVariants as standing
 use Rattle.sd_belief.specs.Believes.{Believes, HasStore}
 use Rattle.sd_belief.specs.Calls.{NoneOut, WasTold}
-use Rattle.sd_belief.specs.Knows.{AreLooks, HasSynced, IsPastSync, IsRefound, Knows, SeesStore, ids_of}
+use Rattle.sd_belief.specs.InUse.{ids_of}
+use Rattle.sd_belief.specs.Knows.{AreLooks, HasSynced, IsPastSync, IsRefound, Knows, SeesStore}
 use Rattle.sd_belief.specs.OpenerSteps.{Decodes, GivesUpOpening, IsHandedIn, IsTaught, LooksOn, OnlyOpens, OpenerSteps, Reopens, opener_alone}
 use Rattle.sd_belief.specs.StoreSteps.{IsOutcomeOf, MayAsk, QuietSteps}
 use Rattle.sd_belief.specs.View.{CoreView, history_of}
+use Rattle.sd_rounds.specs.Writes.{no_writes}
+use Rattle.sd_belief.proofs.Lanes.{nobody_writes}
 use Rattle.sd_belief.proofs.Places.{free_there, id_there, ids_set, nobody_out, set_count, set_other, set_same}
 
 -- ---- phases
@@ -222,7 +225,6 @@ looks_lem quiet old new opener next number request asked bodies files l b =
     let phase = slice_index_or old.phases request.id.slot Raw in
     let may : MayAsk old.phases asked 2 request = record {
       free = free;
-      none = λ worker other is same. none worker other is;
       phase = phase;
       waits = record { is = slice_get-get_or old.phases request.id.slot Raw within; ready = look_is_ready phase request.id.call out.look };
     } in
@@ -321,10 +323,10 @@ module _ (old new : CoreView) (made : Made) (phase : Phase) (asked : List (Optio
       alone zero e = absurd (let no : Some None ≡ Some (Some request.id) = e in cc)
       alone (suc zero) e = absurd (let no : Some None ≡ Some (Some request.id) = e in cc)
       alone (suc (suc zero)) e = refl
-      alone (suc (suc (suc w))) e = absurd (let no : None ≡ Some (Some request.id) = e in cc)
+      alone (suc (suc (suc w))) e = absurd (nobody_writes no_writes w request.id refl e)
 
   abbrev handed_outcome : IsOutcomeOf old.phases asked 2 made
-  handed_outcome = record { out = at; alone = λ other request out same. only_two other request out; phase = phase; waits = h.waits }
+  handed_outcome = record { out = at; others = λ other request differs out same. absurd (differs (only_two other request out)); phase = phase; waits = h.waits }
 
   handed_ids : ids_of (slice_set asked 2 None) ≡ new.outs
   handed_ids = ids_set asked 2 None ∙ ap (λ ids. slice_set ids 2 None) (b.knows.out ∙ h.alone) ∙ sym h.outs

@@ -18,7 +18,7 @@ use Rattle.sd_gate.specs.Requests.{Asked}
 use Rattle.sd_gate.specs.Sequences.{body_calls}
 use Rattle.sd_rounds.specs.declared.image_order.ImageOrder.{ImageOrder}
 use Rattle.sd_store_laws.specs.Beliefs.{Belief, Kept, Opening, image_at, image_in}
-use Rattle.sd_belief.specs.InUse.{AreExact, IsClosing, IsImageOn, IsInUseOn, IsMakingOn, IsRunningOn, IsSlotFor, NoneAt, call_of, chain_of, is_opening_at, pending_dump}
+use Rattle.sd_belief.specs.InUse.{AreExact, IsClosing, IsImageOn, IsInUseOn, IsMakingOn, IsRunningOn, IsSlotFor, NoneAt, call_of, chain_of, is_opening_at, pending_dump, body_written, ids_of, lanes_of}
 use Rattle.sd_chain.specs.Catalog.{Changes, place_of}
 use Rattle.sd_gate.specs.Calls.{is_done}
 use Rattle.sd_gate.specs.Phases.{bodies_after, phases_after}
@@ -28,7 +28,7 @@ use Rattle.sd_journal.specs.History.{History, pending}
 use Rattle.sd_journal.specs.Legal.{IsLegal}
 use Rattle.sd_journal.specs.Marked.{Told, entries_of}
 use Rattle.sd_rounds.specs.declared.new_image.NewImage.{NewImage}
-use Rattle.sd_rounds.specs.Dumper.{IsReserved, Running, after_pre_dump, is_last, slot_of}
+use Rattle.sd_rounds.specs.Dumper.{IsReserved, Running, after_pre_dump, is_last, slot_of, writes_of_image}
 use Rattle.sd_rounds.specs.Files.{FileLaws, IsFiled, IsFiledIn}
 use Rattle.sd_rounds.specs.Keeps.{Rests}
 use Rattle.sd_rounds.specs.Making.{Making, is_past_freeze, plan_of}
@@ -58,6 +58,8 @@ use Rattle.sd_belief.proofs.Places.{body_other, id_there, ids_set, set_count, se
 use Rattle.sd_belief.proofs.MergeStays.{ChangesAt, HoldsStill, SparesAsMuch, adds_still, fresh_of, leaves_at, merge_then, merging_of, own_beside, slots_at}
 use Rattle.sd_belief.proofs.OpenCore.{believes_parts}
 use Rattle.sd_belief.proofs.Leads.{leads_end, leads_head}
+use Rattle.sd_belief.proofs.Lanes.{body_still, lanes_beside}
+use Rattle.sd_rounds.specs.Writes.{no_writes}
 
 -- the last sync of a body was out: the slot holds the image, whose gate was opened
 pub record IsOpenThen (order : ImageOrder) (i : Image) (phase : Phase) (body : List ℕ) (request : Asked) (belief : Belief) (dump : Option Image) : Type 0 where
@@ -139,6 +141,13 @@ module _ (quiet : QuietSteps) (gates : GateSteps) (file : FileLaws) (gives : Ste
   phase_same : m.phase ≡ phase
   phase_same = same_Some m.phase phase (sym m.phase_is ∙ ap (slice_get old.phases) (sym on) ∙ s.outcome.phase_is)
 
+  -- no data page is being written
+  lanes_empty : ids_of (lanes_of asked) ≡ no_writes
+  lanes_empty = u.writes ∙ ap writes_of_image s.making ∙ s.opens.rests
+
+  lanes_then : ids_of (lanes_of asked_now) ≡ no_writes
+  lanes_then = ap ids_of (lanes_beside asked 0 None (omega arith)) ∙ lanes_empty
+
   abbrev i : Image
   i = image_of opened.header m.pages opened.table
 
@@ -154,7 +163,8 @@ module _ (quiet : QuietSteps) (gates : GateSteps) (file : FileLaws) (gives : Ste
   closing_was : IsClosing image.order i s.opens.plan phase (file_at bodies slot) (Some made.request) m.belief b.dump
   closing_was = subst (λ st. IsSlotFor st image.order m.pages phase (file_at bodies slot) (Some made.request) m.belief b.dump) s.opens.was
       (subst (λ p. IsSlotFor image.stage image.order m.pages p (file_at bodies slot) (Some made.request) m.belief b.dump) phase_same
-      (subst (λ r. IsSlotFor image.stage image.order m.pages m.phase (file_at bodies slot) r m.belief b.dump) out_is m.slot_is))
+      (subst (λ body. IsSlotFor image.stage image.order m.pages m.phase body (Some made.request) m.belief b.dump) (body_still (file_at bodies slot) (lanes_of asked) lanes_empty)
+      (subst (λ r. IsSlotFor image.stage image.order m.pages m.phase (body_written (file_at bodies slot) (lanes_of asked)) r m.belief b.dump) out_is m.slot_is)))
 
   opened_then : IsOpenThen image.order i phase (file_at bodies slot) made.request m.belief b.dump
   opened_then = open_then image.order i s.opens.plan phase (file_at bodies slot) made.request m.belief b.dump closing_was no_more
@@ -197,14 +207,14 @@ module _ (quiet : QuietSteps) (gates : GateSteps) (file : FileLaws) (gives : Ste
       ∙ ap (λ k. body_after (file_at bodies k) made.request.id.call made.request.bytes) on ∙ opened_then.spelled
 
   none_then : NoneAt asked_now slot
-  none_then worker r out same = s.outcome.apart worker r.id (ap (λ ids. slice_get ids worker) (sym (ids_set asked 0 None ∙ ap (λ ids. slice_set ids 0 None) b.knows.out)) ∙ id_there asked_now worker r out)
+  none_then worker r out same = s.alone worker r.id (ap (λ ids. slice_get ids worker) (sym (ids_set asked 0 None ∙ ap (λ ids. slice_set ids 0 None) b.knows.out)) ∙ id_there asked_now worker r out)
       (same ∙ sym on)
 
   abbrev beliefs_now : List Belief
   beliefs_now = with_belief b.beliefs slot (Kept i)
 
   has_one : HasStore old.base history phases_now asked_now bodies_now b.store b.dump b.beliefs
-  has_one = has_then quiet old new made phase asked bodies files s.outcome at b
+  has_one = has_then quiet old new 0 made phase asked bodies files s.outcome at b
 
   opened_slot : IsOpened phases_now asked_now b.beliefs slot i
   opened_slot = record { belief = belief_at; phase = phase_then; none = none_then }
@@ -392,12 +402,13 @@ module _ (quiet : QuietSteps) (gates : GateSteps) (file : FileLaws) (gives : Ste
     pub pre_dump_lem : Believes new asked_now bodies_now files
     pre_dump_lem = believes_parts new old.base history new.catalog old.grows old.memory phases_now old.numbers.serial (Some (after_pre_dump running opened)) old.merger
         (record { base_is = s.outcome.base; history_is = same_history; places_is = refl; grows_is = same_grows; memory_is = s.outcome.memory; phases_is = s.outcome.phases; last_is = s.serial; running_is = is_then; merger_is = s.merger; closed = s.outcome.closed })
-        asked_now bodies_now files store_now None beliefs_now (λ is. refl) (count_then old new made phase asked bodies files s.outcome b) (ids_then old new made phase asked bodies files s.outcome b) has_now
+        asked_now bodies_now files store_now None beliefs_now (λ is. refl) (count_then old new 0 made phase asked bodies files s.outcome b) (ids_then old new 0 made phase asked bodies files s.outcome b) has_now
         (record {
           catalog = catalog_then;
           grows_is = u.grows_is;
           used = record { above = above_then (i.header.stands_for ∷ []) b.store.grows asks_serial; slots = slots_then };
           exact = exact_then;
+          writes = lanes_then;
           job = record {
             some = w.some;
             chain = ap (λ n. n ∷ []) (stands_is ∙ sym serial_is);
@@ -470,12 +481,13 @@ module _ (quiet : QuietSteps) (gates : GateSteps) (file : FileLaws) (gives : Ste
     pub dump_lem : Believes new asked_now bodies_now files
     dump_lem = believes_parts new old.base (Acked running.number ∷ history) new.catalog true old.memory phases_now old.numbers.serial None old.merger
         (record { base_is = s.outcome.base; history_is = ap entries_of items; places_is = refl; grows_is = grown; memory_is = s.outcome.memory; phases_is = s.outcome.phases; last_is = s.serial; running_is = is_then; merger_is = s.merger; closed = s.outcome.closed })
-        asked_now bodies_now files store_then None beliefs_now (λ is. refl) (count_then old new made phase asked bodies files s.outcome b) (ids_then old new made phase asked bodies files s.outcome b) has_dump
+        asked_now bodies_now files store_then None beliefs_now (λ is. refl) (count_then old new 0 made phase asked bodies files s.outcome b) (ids_then old new 0 made phase asked bodies files s.outcome b) has_dump
         (record {
           catalog = catalog_then;
           grows_is = refl;
           used = record { above = above_then [] true (λ asked_for member. absurd (let within = member.1 in omega (arith, within))); slots = slots_then };
           exact = exact_then;
+          writes = lanes_then;
           job = record {
             gives = λ grows tip is. subst (λ n. Rests (record { images = i ∷ b.store.catalog; number = n }) old.memory)
                 (serial_is ∙ sym stands_is ∙ ap (λ (x : Image). x.header.stands_for) (sym (tip_is tip is))) rests_then;

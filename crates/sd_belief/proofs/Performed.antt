@@ -1,5 +1,5 @@
 -- A device call that was made leaves what is believed.
-use Rattle.std.proofs.Common.{◌≡◌, ◌≢◌, ◌⊎◌, ℕ, Bool, true, List, [], ◌∷◌, length, map, Option, Some, None, IfSome, slice_get, slice_set, refl, sym, ◌∙◌, ap, subst, inl, inr}
+use Rattle.std.proofs.Common.{◌≡◌, ◌≢◌, ◌⊎◌, ℕ, zero, suc, Bool, true, List, [], ◌∷◌, drop, length, map, Option, Some, None, IfSome, slice_get, slice_set, refl, sym, ◌∙◌, ap, subst, inl, inr}
 use Rattle.std.proofs.lemmas.Bool.{cases_eq}
 use Rattle.std.proofs.lemmas.Option.{same_Some}
 use Rattle.sd_disk.specs.Contents.{file_at}
@@ -21,13 +21,13 @@ use Rattle.sd_image.specs.Table.{table_text}
 use Rattle.sd_image.specs.Image.{Image, IsImage, gate, image_text}
 use Rattle.sd_chain.specs.Catalog.{Places}
 use Rattle.sd_gate.specs.declared.phase.Phase.TheVariants.{Bare, Whole as WholePhase}
-use Rattle.sd_gate.specs.Laws.{Leads, one_call, pages_body}
+use Rattle.sd_gate.specs.Laws.{Leads, one_call}
 use Rattle.sd_gate.specs.Sequences.{Calls, body_calls, format_calls}
 use Rattle.sd_journal.specs.History.{Base, History}
 use Rattle.sd_pagetable.specs.Contents.{Contents}
 use Rattle.sd_rounds.specs.declared.image_order.ImageOrder.{ImageOrder}
 use Rattle.sd_rounds.specs.declared.stage.Stage.{Stage as RoundStage}
-use Rattle.sd_rounds.specs.declared.stage.Stage.TheVariants.{Format, Freeze, Pass as PassStage, PageWrite, Close as CloseStage}
+use Rattle.sd_rounds.specs.declared.stage.Stage.TheVariants.{Format, Freeze, Pass as PassStage, Close as CloseStage}
 use Rattle.sd_rounds.specs.Dumper.{Running}
 use Rattle.sd_rounds.specs.Making.{Making}
 use Rattle.sd_rounds.specs.MakingLaws.{Pages, image_of}
@@ -41,14 +41,15 @@ use Rattle.sd_merge.specs.declared.stage.Stage.TheVariants as copy
 use Rattle.sd_merge.specs.Copying.{Copying}
 use Rattle.sd_merge.specs.Merger.{Doing, Retiring, due, copying, opened, retiring}
 use Rattle.sd_merge.specs.Merger as merger
-use Rattle.sd_belief.specs.Merges.{IsAskedIn, IsCopyOn, IsMergeAt, IsMergeOn, IsReadOn, IsRetiredOn, IsSpared, order_of_slot, request_in_slot, stage_in_slot}
+use Rattle.sd_belief.specs.Merges.{IsAskedIn, IsCopyOn, IsMergeAt, IsMergeOn, IsReadOn, IsRetiredOn, IsSpared, lanes_in_slot, order_of_slot, request_in_slot, stage_in_slot}
 use Rattle.sd_store_laws.specs.Store.{Store}
-use Rattle.sd_belief.specs.InUse.{AreLeft, IsAtWork, IsImageOn, IsInUseOn, IsSlotFor, NoneAt, call_of, calls_left}
+use Rattle.sd_belief.specs.InUse.{AreLeft, ArePagesOf, IsAtWork, IsImageOn, IsInUseOn, IsPageOf, IsSlotFor, NoneAt, body_written, call_of, calls_left, lanes_of}
 use Rattle.sd_belief.specs.View.{CoreView, history_of}
 use Rattle.sd_opener.specs.declared.stage.Stage.{Stage}
 use Rattle.sd_opener.specs.declared.stage.Stage.TheVariants.{Asking, Read as ReadStage, Broken}
 use Rattle.sd_opener.specs.Looking.{Looking}
 use Rattle.sd_opener.specs.Sees.{Sees, SeesSlot}
+use Rattle.sd_belief.proofs.Lanes.{lane_cases, lanes_beside, lanes_get, lanes_ids, lanes_set, put_cases}
 use Rattle.sd_belief.proofs.Places.{ids_same, set_other, set_same}
 
 -- a body after a call is the same where the call kept its bytes
@@ -216,19 +217,6 @@ module _ (asked : List (Option Asked)) (worker : ℕ) (request : Asked) (made : 
   )
   slot_made Freeze order pages phase body belief dump s = absurd (let no : Some request ≡ None = s.1 in cc)
   slot_made PassStage order pages phase body belief dump s = absurd (let no : Some request ≡ None = s.1 in cc)
-  slot_made (PageWrite plan) order pages phase body belief dump s = (
-    record {
-      place = s.0.place;
-      on = s.0.on;
-      left = left_made ((Write s.0.place, []) ∷ []) 0 plan s.0.left;
-      last = s.0.last;
-      leads = leads_made phase s.0.last body (pages_body pages) plan s.0.leads;
-      writes = s.0.writes;
-      fills = s.0.fills;
-      closed = s.0.closed;
-    },
-    s.1,
-  )
   slot_made (CloseStage plan header tables) order pages phase body belief dump s = record {
     place = s.place;
     on = s.on;
@@ -252,12 +240,70 @@ module _ (asked : List (Option Asked)) (worker : ℕ) (request : Asked) (made : 
     | inr differs ↦ (r, set_other asked worker 0 (Some made.request) differs ∙ own, s, here)
   ]
 
+  -- ---- the writes of data pages
+
+  body_made : (body : List ℕ) → body_after body made.request.id.call made.request.bytes ≡ body_after body request.id.call request.bytes
+  body_made body = ap (λ (id : RequestId). body_after body id.call made.request.bytes) is.id ∙ kept_body body request.id.call request.bytes made.request.bytes is.bytes
+
+  page_made : (slot : ℕ) → IsPageOf slot request → IsPageOf slot made.request
+  page_made slot page = record {
+    on = ap (λ (id : RequestId). id.slot) is.id ∙ page.on;
+    place = page.place;
+    call = ap (λ (id : RequestId). id.call) is.id ∙ page.call;
+    whole = kept_length request.id.call request.bytes made.request.bytes is.bytes ∙ page.whole;
+  }
+
+  body_in_lane : (body : List ℕ) (lanes : List (Option Asked)) (lane : ℕ) → slice_get lanes lane ≡ Some (Some request)
+      → body_written body (slice_set lanes lane (Some made.request)) ≡ body_written body lanes
+  body_in_lane body [] lane out = absurd (let no : None ≡ Some (Some request) = out in cc)
+  body_in_lane body (None ∷ lanes) zero out = absurd (let no : Some None ≡ Some (Some request) = out in cc)
+  body_in_lane body (Some first ∷ lanes) zero out =
+      let own : first ≡ request = same_Some first request (same_Some (Some first) (Some request) out) in
+      ap (λ b. body_written b lanes) (body_made body) ∙ ap (λ (r : Asked). body_written (body_after body r.id.call r.bytes) lanes) (sym own)
+  body_in_lane body (None ∷ lanes) (suc lane) out = body_in_lane body lanes lane out
+  body_in_lane body (Some first ∷ lanes) (suc lane) out = body_in_lane (body_after body first.id.call first.bytes) lanes lane out
+
+  -- a request in a lane had that id before
+  in_lane : (lanes : List (Option Asked)) (lane other : ℕ) (r : Asked) → slice_get lanes lane ≡ Some (Some request) → slice_get (slice_set lanes lane (Some made.request)) other ≡ Some (Some r)
+      → (old : Asked) × (slice_get lanes other ≡ Some (Some old)) × (r.id ≡ old.id) × ((slot : ℕ) → IsPageOf slot old → IsPageOf slot r)
+  in_lane lanes lane other r out now = elim (put_cases lanes lane other (Some made.request) r now) [
+    | inl before ↦ (r, before.1, refl, λ slot page. page)
+    | inr here ↦
+        let own : made.request ≡ r = same_Some made.request r here.1 in
+        (request, ap (slice_get lanes) here.0 ∙ out, ap (λ (q : Asked). q.id) (sym own) ∙ is.id, λ slot page. subst (IsPageOf slot) own (page_made slot page))
+  ]
+
+  pages_in_lane : (slot : ℕ) (lanes : List (Option Asked)) (lane : ℕ) → slice_get lanes lane ≡ Some (Some request) → ArePagesOf slot lanes
+      → ArePagesOf slot (slice_set lanes lane (Some made.request))
+  pages_in_lane slot lanes lane out are = record {
+    each = λ k r now. (let before = in_lane lanes lane k r out now in before.3 slot (are.each k before.0 before.1));
+    apart = λ one two a b first second same. (
+        let a_was = in_lane lanes lane one a out first in
+        let b_was = in_lane lanes lane two b out second in
+        are.apart one two a_was.0 b_was.0 a_was.1 b_was.1 (ap (λ (id : RequestId). id.call) (sym a_was.2) ∙ same ∙ ap (λ (id : RequestId). id.call) b_was.2)
+        );
+  }
+
+  lanes_made : (slot : ℕ) (body : List ℕ) → ArePagesOf slot (lanes_of asked)
+      → ArePagesOf slot (lanes_of after) × (body_written body (lanes_of after) ≡ body_written body (lanes_of asked))
+  lanes_made slot body are = elim (lane_cases worker) [
+    | inl few ↦
+        let same : lanes_of after ≡ lanes_of asked = lanes_beside asked worker (Some made.request) few in
+        (subst (ArePagesOf slot) (sym same) are, ap (body_written body) same)
+    | inr in_page ↦
+        let same : lanes_of after ≡ slice_set (lanes_of asked) in_page.0 (Some made.request) =
+        ap (λ w. lanes_of (slice_set asked w (Some made.request))) in_page.1 ∙ lanes_set asked in_page.0 (Some made.request) in
+        let out : slice_get (lanes_of asked) in_page.0 ≡ Some (Some request) = lanes_get asked in_page.0 ∙ ap (slice_get asked) (sym in_page.1) ∙ at in
+        (subst (ArePagesOf slot) (sym same) (pages_in_lane slot (lanes_of asked) in_page.0 out are), ap (body_written body) same ∙ body_in_lane body (lanes_of asked) in_page.0 out)
+  ]
+
   module _ (base : Base) (history : History) (memory : Contents) (phases : List Phase) (bodies : List (List ℕ)) (last : ℕ) (store : Store) (dump : Option Image) (beliefs : List Belief) where
     image_made : (parent number : ℕ) (image : Option Making) → IsImageOn base history memory phases asked bodies last store dump beliefs parent number image
         → IsImageOn base history memory phases after bodies last store dump beliefs parent number image
     image_made parent number None m = record { rests = m.rests; none = still_free m.none; alone = m.alone }
     image_made parent number (Some image) m =
-        let own = own_made m.request m.own image.stage image.order m.pages m.phase (file_at bodies image.order.slot) m.belief dump m.slot_is m.asked_at in
+        let own = own_made m.request m.own image.stage image.order m.pages m.phase (body_written (file_at bodies image.order.slot) (lanes_of asked)) m.belief dump m.slot_is m.asked_at in
+        let lanes = lanes_made image.order.slot (file_at bodies image.order.slot) m.writing in
         record {
           pages = m.pages;
           keeps = m.keeps;
@@ -274,7 +320,9 @@ module _ (asked : List (Option Asked)) (worker : ℕ) (request : Asked) (made : 
           request = own.0;
           own = own.1;
           asked_at = own.3;
-          slot_is = own.2;
+          rests = m.rests;
+          writing = lanes.0;
+          slot_is = subst (λ body. IsSlotFor image.stage image.order m.pages m.phase body own.0 m.belief dump) (sym lanes.1) own.2;
         }
 
     work_made : (grows : Bool) (running : Option Running) → IsAtWork base history grows memory phases asked bodies last store dump beliefs running
@@ -297,6 +345,7 @@ module _ (asked : List (Option Asked)) (worker : ℕ) (request : Asked) (made : 
       grows_is = u.grows_is;
       used = u.used;
       exact = λ slot phase belief here of none. u.exact slot phase belief here of (none_before slot none);
+      writes = lanes_ids after ∙ ap (drop 3) (ids_same asked worker made.request request at is.id) ∙ sym (lanes_ids asked) ∙ u.writes;
       job = work_made grows running u.job;
     }
 
@@ -345,35 +394,36 @@ module _ (asked : List (Option Asked)) (worker : ℕ) (request : Asked) (made : 
     asked_made target source (copy.Format plan) page a = on_made target a
     asked_made target source copy.Pass page a = on_made target a
     asked_made target source (copy.PageRead plan) page a = read_made target source page a
-    asked_made target source (copy.PageWrite plan) page a = on_made target a
+    asked_made target source (copy.PageWrite plan) page a = record { on = on_made target a.on; last = a.last; place = a.place; call = ap (λ (id : RequestId). id.call) is.id ∙ a.call }
     asked_made target source (copy.Close plan header tables) page a = on_made target a
 
     slot_in_made : (target : ℕ) (state : SlotState) (stage : CopyStage) (pages : Pages) (phase : Phase) (body : List ℕ) (belief : Belief)
-        → IsSlotFor (stage_in_slot stage) (order_of_slot target state) pages phase body (request_in_slot stage (Some request)) belief None
-        → IsSlotFor (stage_in_slot stage) (order_of_slot target state) pages phase body (request_in_slot stage (Some made.request)) belief None
+        → IsSlotFor (stage_in_slot stage) (order_of_slot target state) pages phase (body_written body (lanes_in_slot stage (Some request))) (request_in_slot stage (Some request)) belief None
+        → IsSlotFor (stage_in_slot stage) (order_of_slot target state) pages phase (body_written body (lanes_in_slot stage (Some made.request))) (request_in_slot stage (Some made.request)) belief None
     slot_in_made target state (copy.Format plan) pages phase body belief s = slot_made (Format plan) (order_of_slot target state) pages phase body belief None s
     slot_in_made target state copy.Pass pages phase body belief s = slot_made PassStage (order_of_slot target state) pages phase body belief None s
     slot_in_made target state (copy.PageRead plan) pages phase body belief s = s
-    slot_in_made target state (copy.PageWrite plan) pages phase body belief s = slot_made (PageWrite plan) (order_of_slot target state) pages phase body belief None s
+    slot_in_made target state (copy.PageWrite plan) pages phase body belief s =
+        subst (λ x. IsSlotFor PassStage (order_of_slot target state) pages phase x None belief None) (sym (body_made body)) s
     slot_in_made target state (copy.Close plan header tables) pages phase body belief s = slot_made (CloseStage plan header tables) (order_of_slot target state) pages phase body belief None s
 
     copy_made : (target : ℕ) (source : Image) (making : Copying) → IsCopyOn phases asked bodies last store beliefs running target source making
         → IsCopyOn phases after bodies last store beliefs running target source making
     copy_made target source making c = elim own.2 [
       | inl same ↦ with_it (subst (λ q. IsAskedIn making.stage phases bodies store beliefs running target source making.taking q) (sym same) c.asked_in)
-          (subst (λ q. IsSlotFor (stage_in_slot making.stage) (order_of_slot target making.order.state) c.pages c.phase (file_at bodies target) (request_in_slot making.stage q) c.belief None) (sym same) c.slot_is)
+          (subst (λ q. IsSlotFor (stage_in_slot making.stage) (order_of_slot target making.order.state) c.pages c.phase (body_written (file_at bodies target) (lanes_in_slot making.stage q)) (request_in_slot making.stage q) c.belief None) (sym same) c.slot_is)
       | inr both ↦ with_it (subst (λ q. IsAskedIn making.stage phases bodies store beliefs running target source making.taking q) (sym both.1)
           (asked_made target source making.stage making.taking (subst (λ q. IsAskedIn making.stage phases bodies store beliefs running target source making.taking q) both.0 c.asked_in)))
-          (subst (λ q. IsSlotFor (stage_in_slot making.stage) (order_of_slot target making.order.state) c.pages c.phase (file_at bodies target) (request_in_slot making.stage q) c.belief None) (sym both.1)
+          (subst (λ q. IsSlotFor (stage_in_slot making.stage) (order_of_slot target making.order.state) c.pages c.phase (body_written (file_at bodies target) (lanes_in_slot making.stage q)) (request_in_slot making.stage q) c.belief None) (sym both.1)
           (slot_in_made target making.order.state making.stage c.pages c.phase (file_at bodies target) c.belief
-          (subst (λ q. IsSlotFor (stage_in_slot making.stage) (order_of_slot target making.order.state) c.pages c.phase (file_at bodies target) (request_in_slot making.stage q) c.belief None) both.0 c.slot_is)))
+          (subst (λ q. IsSlotFor (stage_in_slot making.stage) (order_of_slot target making.order.state) c.pages c.phase (body_written (file_at bodies target) (lanes_in_slot making.stage q)) (request_in_slot making.stage q) c.belief None) both.0 c.slot_is)))
     ]
       where
         own : (q : Option Asked) × (slice_get after 1 ≡ Some q) × ((q ≡ c.request) ⊎ ((c.request ≡ Some request) × (q ≡ Some made.request)))
         own = merger_made c.request c.own
 
         with_it : IsAskedIn making.stage phases bodies store beliefs running target source making.taking own.0
-            → IsSlotFor (stage_in_slot making.stage) (order_of_slot target making.order.state) c.pages c.phase (file_at bodies target) (request_in_slot making.stage own.0) c.belief None
+            → IsSlotFor (stage_in_slot making.stage) (order_of_slot target making.order.state) c.pages c.phase (body_written (file_at bodies target) (lanes_in_slot making.stage own.0)) (request_in_slot making.stage own.0) c.belief None
             → IsCopyOn phases after bodies last store beliefs running target source making
         with_it asked_in slot_is = record {
           pages = c.pages;

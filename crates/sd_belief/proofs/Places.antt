@@ -1,5 +1,6 @@
 -- Lists of which one place changes.
-use Rattle.std.proofs.Common.{◌≡◌, ◌≢◌, ◌⊎◌, ℕ, zero, suc, ◌<◌, List, [], ◌∷◌, length, Option, Some, None, slice_get, slice_index_or, slice_set, Contains, refl, sym, ◌∙◌, ap, inl, inr, arith}
+use Rattle.std.proofs.Common.{◌≡◌, ◌≢◌, ◌⊎◌, ℕ, zero, suc, ◌<◌, true, false, List, [], ◌∷◌, length, Option, Some, None, slice_get, slice_index_or, slice_set, Contains, refl, sym, ◌∙◌, ap, inl, inr, arith}
+use Rattle.std.proofs.lemmas.Bool.{both_ways}
 use Rattle.std.proofs.lemmas.Option.{slice_get_within}
 use Rattle.sd_disk.specs.Contents.{file_at}
 use Rattle.sd_gate.specs.declared.request_id.RequestId.{RequestId}
@@ -7,7 +8,9 @@ use Rattle.sd_gate.specs.Requests.{Asked}
 use Rattle.sd_image.specs.Image.{Image}
 use Rattle.sd_store_laws.specs.Steps.{Adds}
 use Rattle.sd_belief.specs.Calls.{NoneOut}
-use Rattle.sd_belief.specs.Knows.{id_of, ids_of}
+use Rattle.sd_rounds.specs.Writes.{is_any_out}
+use Rattle.sd_belief.specs.InUse.{id_of, ids_of}
+use Rattle.sd_belief.specs.OpenerSteps.{nobody}
 use Rattle.std.specs.Option.{option_map}
 
 -- lists of one length have values at the same places
@@ -111,14 +114,12 @@ free_there (None ∷ asked) zero is = refl
 free_there (Some r ∷ asked) zero is = absurd (let no : Some (Some r.id) ≡ Some None = is in cc)
 free_there (a ∷ asked) (suc at) is = free_there asked at is
 
-abbrev pub nobody : List (Option RequestId)
-nobody = None ∷ None ∷ None ∷ []
+-- no id is in a list of none
+none_in : (ids : List (Option RequestId)) (at : ℕ) (id : RequestId) → is_any_out ids ≡ false → slice_get ids at ≡ Some (Some id) → ⊥
+none_in [] at id none is = let no : None ≡ Some (Some id) = is in cc
+none_in (None ∷ ids) zero id none is = let no : Some None ≡ Some (Some id) = is in cc
+none_in (None ∷ ids) (suc at) id none is = none_in ids at id none is
+none_in (Some own ∷ ids) at id none is = both_ways true none refl
 
 pub nobody_out : (asked : List (Option Asked)) → ids_of asked ≡ nobody → NoneOut asked
-nobody_out asked is worker request out = none_at worker (ap (λ ids. slice_get ids worker) (sym is) ∙ id_there asked worker request out)
-  where
-    none_at : (w : ℕ) → slice_get nobody w ≡ Some (Some request.id) → ⊥
-    none_at zero e = cc
-    none_at (suc zero) e = cc
-    none_at (suc (suc zero)) e = cc
-    none_at (suc (suc (suc w))) e = cc
+nobody_out asked is worker request out = none_in nobody worker request.id refl (ap (λ ids. slice_get ids worker) (sym is) ∙ id_there asked worker request out)

@@ -1,25 +1,29 @@
 -- Steps that leave what is believed of the slots.
-use Rattle.std.proofs.Common.{◌≡◌, ◌≢◌, ◌⊎◌, ℕ, ◌<◌, List, ◌∷◌, if◌then◌else◌, Option, Some, None, IfSome, slice_get, slice_set, refl, sym, ◌∙◌, ap, subst, inl, inr, arith}
-use Rattle.std.proofs.lemmas.Bool.{cases_eq, ne_eqb}
+use Rattle.std.proofs.Common.{◌≡◌, ◌≢◌, ◌⊎◌, ℕ, ◌<◌, Bool, true, false, List, ◌∷◌, if◌then◌else◌, Option, Some, None, IfSome, slice_get, slice_set, refl, sym, ◌∙◌, ap, subst, inl, inr, arith}
+use Rattle.std.proofs.lemmas.Bool.{both_ways, cases_eq, ne_eqb}
 use Rattle.std.proofs.lemmas.Option.{same_Some, slice_get_within}
 use Rattle.sd_command.specs.declared.command.Command.{Command}
 use Rattle.sd_command.specs.declared.reply.Reply.{Reply}
 use Rattle.sd_disk.specs.Contents.{file_at}
+use Rattle.sd_gate.specs.declared.call.Call.TheVariants.{Write}
 use Rattle.sd_gate.specs.declared.phase.Phase.{Phase}
+use Rattle.sd_gate.specs.declared.phase.Phase.TheVariants.{Raw, RawClosing, Whole, Closing, Shut, ShutSynced, Bare, Writing, Ready, Opening, Doubt, DoubtSynced}
 use Rattle.sd_gate.specs.Calls.{is_done}
-use Rattle.sd_gate.specs.Phases.{after, body_after, bodies_after, phases_after}
+use Rattle.sd_gate.specs.Phases.{after, body_after, bodies_after, is_ready, may_write, phases_after}
 use Rattle.sd_gate.specs.Requests.{Asked, Made}
+use Rattle.sd_gate.specs.Sequences.{data_place}
 use Rattle.sd_image.specs.Image.{Image}
 use Rattle.sd_journal.specs.declared.entry.Entry.TheVariants.{Applied, Freeze, Cancelled}
 use Rattle.sd_journal.specs.Allowed.{Shown, IsLastPair, IsPendingPair}
 use Rattle.sd_journal.specs.History.{Base, History, at_freeze, memory_after, pending}
 use Rattle.sd_journal.specs.Laws.{JournalLaws}
 use Rattle.sd_journal.specs.Legal.{IsLegal}
-use Rattle.sd_store_laws.specs.Beliefs.{Belief}
-use Rattle.sd_store_laws.specs.Gates.{AreBelieved, MayBelieve}
+use Rattle.sd_store_laws.specs.Beliefs.{Belief, Closed}
+use Rattle.sd_store_laws.specs.Gates.{AreBelieved, IsBelievedAs, IsWeaker, MayBelieve}
 use Rattle.sd_store_laws.specs.GateSteps.{BeliefsFollowCalls, OneBeliefChanges}
 use Rattle.sd_store_laws.specs.Store.{Store}
 use Rattle.sd_belief.specs.Believes.{HasStore, IsCovered, ShowsPending}
+use Rattle.sd_belief.specs.Calls.{WritesPage}
 use Rattle.sd_belief.specs.StoreSteps.{AreGivenUp, IsOutcomeOf, IsQuiet, MayAsk, QuietSteps}
 use Rattle.sd_belief.proofs.Places.{body_other, has_too, set_again, set_count, set_other, set_same}
 
@@ -47,6 +51,76 @@ left_cases asked worker other was r at out = elim (cases_eq other worker) [
       (sym (set_same asked worker was None at) ∙ ap (slice_get (slice_set asked worker None)) (sym same) ∙ out) in cc)
   | inr differs ↦ (differs, sym (set_other asked worker other None differs) ∙ out)
 ]
+
+-- ---- a slot behind its gate is written by several requests
+
+-- behind one write it is ready for the next
+written_ready : (phase : Phase) (at : ℕ) (done : Bool) → may_write phase ≡ true → may_write (after phase (Write at) done) ≡ true
+written_ready Raw at done ready = absurd (both_ways false refl ready)
+written_ready RawClosing at done ready = absurd (both_ways false refl ready)
+written_ready Whole at done ready = absurd (both_ways false refl ready)
+written_ready Closing at done ready = absurd (both_ways false refl ready)
+written_ready Shut at true ready = refl
+written_ready Shut at false ready = refl
+written_ready ShutSynced at true ready = refl
+written_ready ShutSynced at false ready = refl
+written_ready Bare at true ready = refl
+written_ready Bare at false ready = refl
+written_ready Writing at true ready = refl
+written_ready Writing at false ready = refl
+written_ready Ready at true ready = refl
+written_ready Ready at false ready = refl
+written_ready Opening at done ready = absurd (both_ways false refl ready)
+written_ready Doubt at done ready = absurd (both_ways false refl ready)
+written_ready DoubtSynced at done ready = absurd (both_ways false refl ready)
+
+-- and is believed closed then, whatever its body
+closed_so : (phase : Phase) (body : List ℕ) (belief : Belief) → MayBelieve phase body belief → IsBelievedAs phase body Closed → ((strong : Belief) → IsBelievedAs phase body strong → strong ≡ Closed)
+    → IsWeaker Closed belief
+closed_so phase body belief may is only = subst (λ strong. IsWeaker strong belief) (only may.strong may.is) may.weaker
+
+written_closed : (phase : Phase) (at : ℕ) (body : List ℕ) (belief : Belief) (done : Bool) → may_write phase ≡ true → MayBelieve (after phase (Write at) done) body belief → IsWeaker Closed belief
+written_closed Raw at body belief done ready may = absurd (both_ways false refl ready)
+written_closed RawClosing at body belief done ready may = absurd (both_ways false refl ready)
+written_closed Whole at body belief done ready may = absurd (both_ways false refl ready)
+written_closed Closing at body belief done ready may = absurd (both_ways false refl ready)
+written_closed Shut at body belief true ready may = closed_so Shut body belief may refl (λ strong is. is)
+written_closed Shut at body belief false ready may = closed_so Shut body belief may refl (λ strong is. is)
+written_closed ShutSynced at body belief true ready may = closed_so Shut body belief may refl (λ strong is. is)
+written_closed ShutSynced at body belief false ready may = closed_so Shut body belief may refl (λ strong is. is)
+written_closed Bare at body belief true ready may = closed_so Writing body belief may refl (λ strong is. is)
+written_closed Bare at body belief false ready may = closed_so Shut body belief may refl (λ strong is. is)
+written_closed Writing at body belief true ready may = closed_so Writing body belief may refl (λ strong is. is)
+written_closed Writing at body belief false ready may = closed_so Shut body belief may refl (λ strong is. is)
+written_closed Ready at body belief true ready may = closed_so Writing body belief may refl (λ strong is. is)
+written_closed Ready at body belief false ready may = closed_so Shut body belief may refl (λ strong is. is)
+written_closed Opening at body belief done ready may = absurd (both_ways false refl ready)
+written_closed Doubt at body belief done ready may = absurd (both_ways false refl ready)
+written_closed DoubtSynced at body belief done ready may = absurd (both_ways false refl ready)
+
+still_closed : (phase : Phase) (at : ℕ) (body : List ℕ) (belief : Belief) (done : Bool) → may_write phase ≡ true → IsWeaker Closed belief → MayBelieve (after phase (Write at) done) body belief
+still_closed Raw at body belief done ready weaker = absurd (both_ways false refl ready)
+still_closed RawClosing at body belief done ready weaker = absurd (both_ways false refl ready)
+still_closed Whole at body belief done ready weaker = absurd (both_ways false refl ready)
+still_closed Closing at body belief done ready weaker = absurd (both_ways false refl ready)
+still_closed Shut at body belief true ready weaker = record { strong = Closed; is = refl; weaker = weaker }
+still_closed Shut at body belief false ready weaker = record { strong = Closed; is = refl; weaker = weaker }
+still_closed ShutSynced at body belief true ready weaker = record { strong = Closed; is = refl; weaker = weaker }
+still_closed ShutSynced at body belief false ready weaker = record { strong = Closed; is = refl; weaker = weaker }
+still_closed Bare at body belief true ready weaker = record { strong = Closed; is = refl; weaker = weaker }
+still_closed Bare at body belief false ready weaker = record { strong = Closed; is = refl; weaker = weaker }
+still_closed Writing at body belief true ready weaker = record { strong = Closed; is = refl; weaker = weaker }
+still_closed Writing at body belief false ready weaker = record { strong = Closed; is = refl; weaker = weaker }
+still_closed Ready at body belief true ready weaker = record { strong = Closed; is = refl; weaker = weaker }
+still_closed Ready at body belief false ready weaker = record { strong = Closed; is = refl; weaker = weaker }
+still_closed Opening at body belief done ready weaker = absurd (both_ways false refl ready)
+still_closed Doubt at body belief done ready weaker = absurd (both_ways false refl ready)
+still_closed DoubtSynced at body belief done ready weaker = absurd (both_ways false refl ready)
+
+written_believed : (phase : Phase) (at other : ℕ) (body later : List ℕ) (belief : Belief) (done later_done : Bool) → may_write phase ≡ true → MayBelieve (after phase (Write at) done) body belief
+    → MayBelieve (after (after phase (Write at) done) (Write other) later_done) later belief
+written_believed phase at other body later belief done later_done ready may =
+    still_closed (after phase (Write at) done) other later belief later_done (written_ready phase at done ready) (written_closed phase at body belief done ready may)
 
 module _ (base : Base) (history : History) (phases : List Phase) (asked : List (Option Asked)) (bodies : List (List ℕ))
     (store : Store) (dump : Option Image) (beliefs : List Belief) (has : HasStore base history phases asked bodies store dump beliefs) where
@@ -114,6 +188,29 @@ module _ (base : Base) (history : History) (phases : List Phase) (asked : List (
           (sym (body_other bodies slot r.id.slot (body_after (file_at bodies slot) made.request.id.call made.request.bytes) elsewhere)) (c.believed done);
     }
 
+    -- the write of another page of this slot is, too
+    page_covered : (r : Asked) → r.id.slot ≡ slot → WritesPage made.request.id → WritesPage r.id → IsCovered phases bodies beliefs r → IsCovered next_phases next_bodies beliefs r
+    page_covered r same one other c =
+        let here : slice_get next_phases slot ≡ Some (after o.phase made.request.id.call (is_done made.answer)) =
+        set_same phases slot o.phase (after o.phase made.request.id.call (is_done made.answer)) o.waits.is in
+        let ready : may_write o.phase ≡ true = ap (is_ready o.phase) (sym one.call) ∙ o.waits.ready in
+        let belief_is : own.belief ≡ c.belief = same_Some own.belief c.belief (sym own.is ∙ ap (slice_get beliefs) (sym same) ∙ c.is) in
+        record {
+          phase = after o.phase made.request.id.call (is_done made.answer);
+          waits = record {
+            is = ap (slice_get next_phases) same ∙ here;
+            ready = ap (is_ready (after o.phase made.request.id.call (is_done made.answer))) other.call
+                ∙ ap (λ call. may_write (after o.phase call (is_done made.answer))) one.call ∙ written_ready o.phase (data_place one.place) (is_done made.answer) ready;
+          };
+          belief = c.belief;
+          is = c.is;
+          believed = λ done. subst (MayBelieve (after (after o.phase made.request.id.call (is_done made.answer)) r.id.call done) (body_after (file_at next_bodies r.id.slot) r.id.call r.bytes)) belief_is
+              (subst (λ call. MayBelieve (after (after o.phase made.request.id.call (is_done made.answer)) call done) (body_after (file_at next_bodies r.id.slot) r.id.call r.bytes) own.belief) (sym other.call)
+              (subst (λ call. MayBelieve (after (after o.phase call (is_done made.answer)) (Write (data_place other.place)) done) (body_after (file_at next_bodies r.id.slot) r.id.call r.bytes) own.belief) (sym one.call)
+              (written_believed o.phase (data_place one.place) (data_place other.place) _ _ own.belief (is_done made.answer) done ready
+              (subst (λ call. MayBelieve (after o.phase call (is_done made.answer)) (body_after (file_at bodies slot) made.request.id.call made.request.bytes) own.belief) one.call own_may))));
+        }
+
     pub handed_lem : OneBeliefChanges → HasStore base history next_phases (slice_set asked worker None) next_bodies store dump beliefs
     handed_lem changes = record {
       sound = has.sound;
@@ -126,7 +223,10 @@ module _ (base : Base) (history : History) (phases : List Phase) (asked : List (
           ∙ sym (set_count phases slot (after o.phase made.request.id.call (is_done made.answer)));
       waiting = λ other r out.
           let old = left_cases asked worker other (Some made.request) r o.out out in
-          other_covered r (λ same. old.0 (o.alone other r old.1 same)) (has.waiting other r old.1);
+          elim (cases_eq r.id.slot slot) [
+            | inl same ↦ (let pages = o.others other r old.0 old.1 same in page_covered r same pages.0 pages.1 (has.waiting other r old.1))
+            | inr elsewhere ↦ other_covered r elsewhere (has.waiting other r old.1)
+          ];
       last = has.last;
       next = has.next;
     }

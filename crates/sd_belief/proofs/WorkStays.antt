@@ -12,10 +12,11 @@ use Rattle.sd_rounds.specs.MakingLaws.{MakingLaws}
 use Rattle.sd_store_laws.specs.Beliefs.{image_at, image_in}
 use Rattle.sd_store_laws.specs.Needs.{IsNeededIn}
 use Rattle.sd_store_laws.specs.Store.{Store}
-use Rattle.sd_belief.specs.InUse.{IsAtWork, IsFrozenAs, IsImageOn, IsMakingOn, IsNewNumber, IsRunningOn, IsSlotFor, chain_of}
+use Rattle.sd_belief.specs.InUse.{IsAtWork, IsFrozenAs, IsImageOn, IsMakingOn, IsNewNumber, IsRunningOn, IsSlotFor, chain_of, ArePagesOf, body_written, lanes_of}
 use Rattle.sd_belief.specs.MergerSteps.{MakesInItsSlot, MakesItInSlot}
 use Rattle.sd_belief.specs.Merges.{IsOtherImage, MakesOther}
 use Rattle.sd_belief.proofs.MergeStays.{IsSameSlot, Slots}
+use Rattle.sd_disk.specs.Contents.{file_at}
 
 -- the number of the image that the checkpoint makes
 abbrev pub IsMakingNumber : Option Running → ℕ → Type 0
@@ -37,7 +38,8 @@ pub record LeavesWork (store : Store) (running : Option Running) (memory : Conte
   pub images : (slot : ℕ) (j : Image) → image_at new.beliefs slot ≡ Some j → (image_at old.beliefs slot ≡ Some j) ⊎ MakesOther running j.header.serial
 
 module _ (making : MakingLaws) (base : Base) (history : History) (memory : Contents) (store : Store) (old : Slots) (last last_now : ℕ) (store_now : Store) (new : Slots)
-    (dump : Option Image) (asked asked_now : List (Option Asked)) (own_same : slice_get asked_now 0 ≡ slice_get asked 0) where
+    (dump : Option Image) (asked asked_now : List (Option Asked)) (own_same : slice_get asked_now 0 ≡ slice_get asked 0)
+    (lanes_same : lanes_of asked_now ≡ lanes_of asked) where
   module _ (running : Running) (leaves : LeavesWork store (Some running) memory old last last_now store_now new) where
     gives : Within (chain_of store running.parent) (chain_of store_now running.parent)
     gives = leaves.gives running refl
@@ -78,7 +80,10 @@ module _ (making : MakingLaws) (base : Base) (history : History) (memory : Conte
           request = m.request;
           own = own_same ∙ m.own;
           asked_at = m.asked_at;
-          slot_is = subst (λ body. IsSlotFor image.stage image.order m.pages m.phase body m.request m.belief dump) (sym same.body) m.slot_is;
+          rests = m.rests;
+          writing = subst (ArePagesOf image.order.slot) (sym lanes_same) m.writing;
+          slot_is = subst (λ body. IsSlotFor image.stage image.order m.pages m.phase body m.request m.belief dump)
+              (sym (ap (λ body. body_written body (lanes_of asked_now)) same.body ∙ ap (body_written (file_at old.bodies image.order.slot)) lanes_same)) m.slot_is;
         }
 
     image_beside : (image : Option Making) → running.image ≡ image → MakesItInSlot running image

@@ -13,7 +13,7 @@ use Rattle.sd_pagetable.specs.Contents.{Contents}
 use Rattle.sd_rounds.specs.declared.image_step.ImageStep.{ImageStep}
 use Rattle.sd_rounds.specs.declared.image_step.ImageStep.TheVariants.{Call, PageCall, TableCall, Frozen, Visited, Copied}
 use Rattle.sd_rounds.specs.declared.stage.Stage.TheVariants.{Freeze as FreezeStage, Pass as PassStage}
-use Rattle.sd_rounds.specs.Dumper.{Running}
+use Rattle.sd_rounds.specs.Dumper.{Running, writes_of_image}
 use Rattle.sd_rounds.specs.Files.{IsFiledIn}
 use Rattle.sd_rounds.specs.Making.{Making, Steps, is_frozen, is_past_freeze}
 use Rattle.sd_rounds.specs.MakingLaws.{DumpsImage, KeepsImage, MakingLaws, Pages, pages_after}
@@ -21,7 +21,7 @@ use Rattle.sd_store_laws.specs.Beliefs.{Belief}
 use Rattle.sd_store_laws.specs.Store.{Store}
 use Rattle.sd_belief.specs.Believes.{Believes}
 use Rattle.sd_belief.specs.DumperSteps.{FreezesMemory, IsOnPages, WorksOnMemory}
-use Rattle.sd_belief.specs.InUse.{IsImageOn, IsInUseOn, IsMakingOn, IsRunningOn, IsSlotFor, chain_of}
+use Rattle.sd_belief.specs.InUse.{IsImageOn, IsInUseOn, IsMakingOn, IsRunningOn, IsSlotFor, chain_of, body_written, lanes_of}
 use Rattle.sd_belief.specs.StoreSteps.{QuietSteps}
 use Rattle.sd_belief.specs.View.{CoreView, history_of}
 use Rattle.sd_belief.proofs.MergeStays.{merge_beside, spares_on}
@@ -48,7 +48,7 @@ running_with base history later memory after phases asked now bodies last store 
 in_pass : (number : ℕ) (old : Making) (before : Contents) (step : ImageStep) (new : Making) (after : Contents) → IsOnPages step → Steps number old before step new after
     → (old.stage ≡ PassStage) × (new ≡ record old { pass = new.pass })
 in_pass number old before (Call request) new after on steps = absurd on
-in_pass number old before (PageCall request) new after on steps = absurd on
+in_pass number old before (PageCall lane request) new after on steps = absurd on
 in_pass number old before (TableCall request) new after on steps = absurd on
 in_pass number old before Frozen new after on steps = absurd on
 in_pass number old before (Visited visit) new after on steps = steps.passes
@@ -56,7 +56,7 @@ in_pass number old before (Copied copied) new after on steps = steps.0.passes
 
 no_pages : (step : ImageStep) (pages : Pages) → IsOnPages step → pages_after step pages ≡ pages
 no_pages (Call request) pages on = absurd on
-no_pages (PageCall request) pages on = absurd on
+no_pages (PageCall lane request) pages on = absurd on
 no_pages (TableCall request) pages on = absurd on
 no_pages Frozen pages on = absurd on
 no_pages (Visited visit) pages on = refl
@@ -94,6 +94,7 @@ works_lem making old new running image next number step asked bodies files on s 
       grows_is = u.grows_is;
       used = u.used;
       exact = u.exact;
+      writes = u.writes ∙ ap writes_of_image s.making;
       job = running_with old.base (history_of old) (history_of old) old.memory new.memory old.phases asked asked bodies old.numbers.serial b.store b.dump b.beliefs running nxt w (record {
         pages = m.pages;
         keeps = keeps;
@@ -119,6 +120,8 @@ works_lem making old new running image next number step asked bodies files on s 
         request = m.request;
         own = m.own;
         asked_at = m.asked_at;
+        rests = m.rests;
+        writing = m.writing;
         slot_is = m.slot_is;
       });
     })
@@ -168,6 +171,7 @@ freezes_lem quiet making old new running image next number asked bodies files s 
       grows_is = u.grows_is;
       used = u.used;
       exact = u.exact;
+      writes = u.writes ∙ ap writes_of_image s.making;
       job = running_with old.base (history_of old) later old.memory old.memory old.phases asked asked bodies old.numbers.serial b.store b.dump b.beliefs running nxt w (record {
         pages = m.pages;
         keeps = keeps;
@@ -192,7 +196,9 @@ freezes_lem quiet making old new running image next number asked bodies files s 
         request = m.request;
         own = m.own;
         asked_at = m.asked_at;
-        slot_is = subst (λ st. IsSlotFor st image.order m.pages m.phase (file_at bodies image.order.slot) m.request m.belief b.dump) freezes.stage m.slot_is;
+        rests = λ outside. absurd (false≢true (sym outside));
+        writing = m.writing;
+        slot_is = subst (λ st. IsSlotFor st image.order m.pages m.phase (body_written (file_at bodies image.order.slot) (lanes_of asked)) m.request m.belief b.dump) freezes.stage m.slot_is;
       });
     })
     (merge_beside old asked asked bodies files running nxt old.numbers.serial s.rest.stands s.was refl (spares_on old.numbers.serial running image nxt s.making refl) b)

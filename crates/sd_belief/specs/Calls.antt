@@ -6,22 +6,25 @@ use Rattle.sd_command.specs.declared.refusal.Refusal.{Refusal}
 use Rattle.sd_command.specs.declared.refusal.Refusal.TheVariants.{JournalFull, OutOfMemory}
 use Rattle.sd_command.specs.declared.reply.Reply.{Reply}
 use Rattle.sd_command.specs.declared.reply.Reply.TheVariants as reply
+use Rattle.sd_gate.specs.declared.call.Call.TheVariants.{Write}
 use Rattle.sd_gate.specs.declared.phase.Phase.{Phase}
 use Rattle.sd_gate.specs.declared.request_id.RequestId.{RequestId}
 use Rattle.sd_gate.specs.declared.worker.Worker.{Worker}
 use Rattle.sd_gate.specs.declared.worker.Worker.TheVariants.{Dumper, Opener}
-use Rattle.sd_gate.specs.Calls.{is_done}
+use Rattle.sd_gate.specs.Calls.{IsLook, is_done}
 use Rattle.sd_gate.specs.Fits.{DiskLeaves, Reads}
 use Rattle.sd_gate.specs.Laws.{found_phase}
 use Rattle.sd_gate.specs.Looks.{IsTold}
 use Rattle.sd_gate.specs.Phases.{Waits, after, body_after, bodies_after, given_up, phases_after}
 use Rattle.sd_gate.specs.Requests.{Asked, Made}
+use Rattle.sd_gate.specs.Sequences.{data_place}
 use Rattle.sd_journal.specs.declared.entry.Entry.TheVariants.{Applied, Freeze, Acked, Cancelled, Reopened}
 use Rattle.sd_journal.specs.History.{History}
 use Rattle.sd_rounds.specs.Dumper.{Running}
 use Rattle.sd_belief.specs.Believes.{Believes}
+use Rattle.sd_belief.specs.InUse.{IsPageOf}
 use Rattle.sd_belief.specs.Knows.{IsRefound}
-use Rattle.sd_belief.specs.View.{CoreView, history_of, index}
+use Rattle.sd_belief.specs.View.{CoreView, history_of}
 
 -- the core believes as much as before, with these requests out
 abbrev pub GoesOn : CoreView → List (Option Asked) → CoreView → List (Option Asked) → Type 0
@@ -30,6 +33,21 @@ GoesOn old asked new now = (bodies files : List (List ℕ)) → Believes old ask
 -- no request is out on a slot
 abbrev pub IsFree : List (Option RequestId) → ℕ → Type 0
 IsFree outs slot = (worker : ℕ) (id : RequestId) → slice_get outs worker ≡ Some (Some id) → id.slot ≢ slot
+
+-- it writes a data page
+pub record WritesPage (id : RequestId) : Type 0 where
+  pub place : ℕ
+  pub call : id.call ≡ Write (data_place place)
+
+-- both write data pages, and not the same one
+pub record AreOtherPages (id other : RequestId) : Type 0 where
+  pub one : WritesPage id
+  pub another : WritesPage other
+  pub apart : id.call ≢ other.call
+
+-- each request that is out on the slot of this one writes a data page, as it does, and another one
+abbrev pub IsApart : List (Option RequestId) → RequestId → Type 0
+IsApart outs id = (lane : ℕ) (other : RequestId) → slice_get outs lane ≡ Some (Some other) → other.slot ≡ id.slot → AreOtherPages id other
 
 -- each slot's phase is as it was, or, where no request is out on it, that of a slot whose job was given up
 pub record AreGivenUp (outs : List (Option RequestId)) (phases new : List Phase) : Type 0 where
@@ -126,45 +144,52 @@ Applies seat command (Err why) old new = IsUnjournaled why × (new ≡ old)
 
 -- ---- requests and outcomes
 
--- a request of a worker is handed out, on a slot on which none is out
+-- A request of a worker is handed out in a free lane. What is out on its slot writes other data pages, and each of them, and this request,
+-- is in a lane of pages then, where whole data pages are written.
 pub record HandsOut (old : CoreView) (worker : Worker) (request : Asked) (new : CoreView) : Type 0 where
-  pub free : slice_get old.outs (index worker) ≡ Some None
+  pub lane : ℕ
+  pub free : slice_get old.outs lane ≡ Some None
   pub base : new.base ≡ old.base
   pub history : history_of new ≡ history_of old
   pub phases : new.phases ≡ old.phases
-  pub outs : new.outs ≡ slice_set old.outs (index worker) (Some request.id)
+  pub outs : new.outs ≡ slice_set old.outs lane (Some request.id)
   pub whose : request.id.worker ≡ worker
   pub slot : request.id.slot < length old.phases
-  pub alone : IsFree old.outs request.id.slot
-  pub goes_on : (asked : List (Option Asked)) → GoesOn old asked new (slice_set asked (index worker) (Some request))
+  pub apart : IsApart old.outs request.id
+  pub pages : 2 < lane → IsPageOf request.id.slot request
+  pub beside : (other_lane : ℕ) (other : RequestId) → slice_get old.outs other_lane ≡ Some (Some other) → other.slot ≡ request.id.slot
+      → (2 < lane) × (2 < other_lane)
+  pub goes_on : (asked : List (Option Asked)) → GoesOn old asked new (slice_set asked lane (Some request))
 
 -- a step that makes no request
 pub record MakesStep (old : CoreView) (worker : Worker) (answer : Reply) (new : CoreView) : Type 0 where
   pub keeps : Stays old new ⊎ StartsAnew old new
   pub adds : AddsByStep worker old answer (history_of old) (history_of new)
 
--- an outcome tells of its slot's file: what is read of the slot now, and where the call was done, what it read
+-- an outcome tells of its slot's file: behind a call that only looks, what is read of the slot now; and where the call was done, what it
+-- read
 pub record WasTold (phases : List Phase) (bodies files : List (List ℕ)) (made : Made) : Type 0 where
-  pub reads : (phase : Phase) → Waits phases made.request.id phase
+  pub reads : IsLook made.request.id.call → (phase : Phase) → Waits phases made.request.id phase
       → Reads (after phase made.request.id.call (is_done made.answer))
       (body_after (file_at bodies made.request.id.slot) made.request.id.call made.request.bytes)
       (file_at files made.request.id.slot)
   pub told : is_done made.answer ≡ true → IsTold (file_at files made.request.id.slot) made
 
--- The outcome of a request that is out is handed in.
-pub record HandedIn (old : CoreView) (made : Made) (answer : Reply) (new : CoreView) : Type 0 where
+-- The outcome of the request that is out in a lane is handed in.
+pub record HandedIn (old : CoreView) (lane : ℕ) (made : Made) (answer : Reply) (new : CoreView) : Type 0 where
   pub base : new.base ≡ old.base
-  pub outs : new.outs ≡ slice_set old.outs (index made.request.id.worker) None
+  pub outs : new.outs ≡ slice_set old.outs lane None
   pub count : length new.phases ≡ length old.phases
   pub phases : (phase : Phase) → Waits old.phases made.request.id phase
       → AreGivenUp new.outs (phases_after old.phases made.request.id phase (is_done made.answer)) new.phases
   pub goes_on : (asked : List (Option Asked)) (bodies files : List (List ℕ))
-      → slice_get asked (index made.request.id.worker) ≡ Some (Some made.request)
+      → slice_get asked lane ≡ Some (Some made.request)
       → WasTold old.phases bodies files made → Believes old asked bodies files
-      → Believes new (slice_set asked (index made.request.id.worker) None)
+      → Believes new (slice_set asked lane None)
       (bodies_after bodies made.request.id made.request.bytes) files
   pub adds : AddsByOutcome made.request.id.worker answer (history_of old) (history_of new)
 
--- the request with this id is out of its worker
-abbrev pub IsOut : CoreView → RequestId → Type 0
-IsOut core id = slice_get core.outs (index id.worker) ≡ Some (Some id)
+-- the request with this id is out
+pub record IsOut (core : CoreView) (id : RequestId) : Type 0 where
+  pub lane : ℕ
+  pub is : slice_get core.outs lane ≡ Some (Some id)

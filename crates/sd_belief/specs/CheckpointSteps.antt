@@ -9,7 +9,8 @@ use Rattle.sd_merge.specs.declared.retired.Retired.{Retired}
 use Rattle.sd_merge.specs.declared.source.Source.{Source}
 use Rattle.sd_merge.specs.Merger.{list_in, source_in}
 use Rattle.sd_merge.specs.Merger as merger
-use Rattle.sd_rounds.specs.Dumper.{IsReserved, Running, slot_of}
+use Rattle.sd_rounds.specs.Dumper.{IsReserved, Running, slot_of, writes_of_running}
+use Rattle.sd_rounds.specs.Writes.{no_writes}
 use Rattle.sd_belief.specs.Believes.{Believes}
 use Rattle.sd_belief.specs.DumperSteps.{OnlyDumps}
 use Rattle.sd_belief.specs.View.{CoreView, history_of}
@@ -77,6 +78,7 @@ pub record CancelsCheckpoint (old : CoreView) (n : ℕ) (new : CoreView) : Type 
   pub serial : new.numbers.serial ≡ old.numbers.serial
   pub closed : new.opener ≡ None
   pub free : slice_get old.outs 0 ≡ Some None
+  pub written : writes_of_running old.dumper.running ≡ no_writes
   pub sure : old.committing ≡ false
   pub merger : new.merger ≡ old.merger
   pub images : (serial : ℕ) (o : Opened) → place_of new.catalog serial ≡ Some (Some o) ↔ place_of old.catalog serial ≡ Some (Some o)

@@ -18,8 +18,8 @@ use Rattle.sd_rounds.specs.Rises.{IsRising}
 use Rattle.sd_rounds.specs.Making.{Making, Steps, begun_image}
 use Rattle.sd_belief.specs.declared.standing.Standing.TheVariants.{Open}
 use Rattle.sd_belief.specs.Believes.{Believes}
-use Rattle.sd_belief.specs.Calls.{IsFree}
-use Rattle.sd_belief.specs.View.{CoreView, history_of}
+use Rattle.sd_belief.specs.Calls.{IsApart, IsFree}
+use Rattle.sd_belief.specs.View.{CoreView, history_of, page_lane}
 
 -- the store is open, and no opener runs
 pub record OnlyDumps (old new : CoreView) : Type 0 where
@@ -58,7 +58,7 @@ opens_gate call.Sync = false
 abbrev pub commits : Running → DeviceCall → Bool
 commits running asked = is_last running && opens_gate asked
 
--- A step of an image asks for a device call.
+-- A step of an image asks for a device call that writes no data page.
 pub record AsksFor (old : CoreView) (running : Running) (image : Making) (number : ℕ) (step : ImageStep) (request : Asked) (next : Making) (new : CoreView) : Type 0 where
   pub rest : OnlyDumps old new
   pub history : history_of new ≡ history_of old
@@ -75,6 +75,25 @@ pub record AsksFor (old : CoreView) (running : Running) (image : Making) (number
   pub own : image.order ≡ order_of running image.order.serial image.order.state
   pub steps : Steps number image old.memory step next new.memory
   pub committing : new.committing ≡ (old.committing || commits running request.id.call)
+  pub is : new.dumper.running ≡ Some (record running { image = Some next })
+
+-- A step of an image asks for the write of a data page: what is out on its slot writes others.
+pub record AsksToWrite (old : CoreView) (running : Running) (image : Making) (number lane : ℕ) (request : Asked) (next : Making) (new : CoreView) : Type 0 where
+  pub rest : OnlyDumps old new
+  pub history : history_of new ≡ history_of old
+  pub catalog : new.catalog ≡ old.catalog
+  pub memory : new.memory ≡ old.memory
+  pub phases : new.phases ≡ old.phases
+  pub serial : new.numbers.serial ≡ old.numbers.serial
+  pub free : slice_get old.outs (page_lane lane) ≡ Some None
+  pub apart : IsApart old.outs request.id
+  pub outs : new.outs ≡ slice_set old.outs (page_lane lane) (Some request.id)
+  pub was : old.dumper.running ≡ Some running
+  pub making : running.image ≡ Some image
+  pub rising : IsRising image.pass
+  pub own : image.order ≡ order_of running image.order.serial image.order.state
+  pub steps : Steps number image old.memory (PageCall lane request) next new.memory
+  pub committing : new.committing ≡ old.committing
   pub is : new.dumper.running ≡ Some (record running { image = Some next })
 
 -- A step of an image works on the memory.
@@ -113,7 +132,7 @@ pub record FreezesMemory (old : CoreView) (running : Running) (image : Making) (
 -- a step that visits a page or copies a sector
 abbrev pub IsOnPages : ImageStep → Type 0
 IsOnPages (Call request) = ⊥
-IsOnPages (PageCall request) = ⊥
+IsOnPages (PageCall lane request) = ⊥
 IsOnPages (TableCall request) = ⊥
 IsOnPages Frozen = ⊥
 IsOnPages (Visited visit) = Unit {0}
@@ -127,9 +146,9 @@ pub record DumperSteps : Type 0 where
       → AsksFor old running image number (Call request) request next new → Believes old asked bodies files
       → Believes new (slice_set asked 0 (Some request)) bodies files
   -- the write of a page that was copied, and the first that writes the table
-  pub writes_page : (old new : CoreView) (running : Running) (image next : Making) (number : ℕ) (request : Asked) (asked : List (Option Asked)) (bodies files : List (List ℕ))
-      → AsksFor old running image number (PageCall request) request next new → Believes old asked bodies files
-      → Believes new (slice_set asked 0 (Some request)) bodies files
+  pub writes_page : (old new : CoreView) (running : Running) (image next : Making) (number lane : ℕ) (request : Asked) (asked : List (Option Asked)) (bodies files : List (List ℕ))
+      → AsksToWrite old running image number lane request next new → Believes old asked bodies files
+      → Believes new (slice_set asked (page_lane lane) (Some request)) bodies files
   pub writes_table : (old new : CoreView) (running : Running) (image next : Making) (number : ℕ) (request : Asked) (asked : List (Option Asked)) (bodies files : List (List ℕ))
       → AsksFor old running image number (TableCall request) request next new → Believes old asked bodies files
       → Believes new (slice_set asked 0 (Some request)) bodies files

@@ -16,12 +16,14 @@ use Rattle.sd_store_laws.specs.SlotSteps.{Lacks, with_belief}
 use Rattle.sd_store_laws.specs.Steps.{added, begun, cancelled, committed, merging, replaced, retired}
 use Rattle.sd_store_laws.specs.Store.{IsNextDump, IsNextPreDump, IsTwin, Store, jobs}
 use Rattle.sd_belief.specs.Believes.{HasStore, ShowsPending}
+use Rattle.sd_belief.specs.InUse.{NoneAt}
 use Rattle.sd_belief.specs.StoreSteps.{IsOpened, IsShut, MayAsk, MayOpen}
 
 -- a worker may ask for the gate of an image to be closed: its slot keeps it, and nobody needs it
 pub record MayClose (phases : List Phase) (asked : List (Option Asked)) (store : Store) (beliefs : List Belief)
     (worker : ℕ) (request : Asked) (i : Image) : Type 0 where
   pub may : MayAsk phases asked worker request
+  pub none : NoneAt asked request.id.slot
   pub call : request.id.call ≡ Close
   pub phase : may.phase ≡ Whole
   pub belief : slice_get beliefs request.id.slot ≡ Some (Kept i)

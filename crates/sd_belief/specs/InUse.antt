@@ -1,5 +1,6 @@
 -- What a core knows of a store that is open: of its catalog, of the numbers that were used, and of the checkpoint that runs.
 use Rattle.std.specs.Prelude.{◌≡◌, ◌≢◌, ℕ, ◌+◌, ◌<◌, ◌≤◌, Bool, true, false, ◌==◌, ◌&&◌, ◌||◌, nat_lt, is_some, List, [], ◌∷◌, drop, length, map, Option, Some, None, Contains, IfSome, slice_get}
+use Rattle.std.specs.Option.{option_map}
 use Rattle.sd_disk.specs.Contents.{file_at}
 use Rattle.sd_image.specs.declared.header.Kind.{Kind}
 use Rattle.sd_image.specs.declared.header.Kind.TheVariants.{PreDump, Dump, Merged}
@@ -10,22 +11,24 @@ use Rattle.sd_chain.specs.Catalog.{Places}
 use Rattle.sd_gate.specs.declared.call.Call.{Call}
 use Rattle.sd_gate.specs.declared.call.Call.TheVariants.{Write, Close as CloseCall}
 use Rattle.sd_gate.specs.declared.phase.Phase.{Phase}
+use Rattle.sd_gate.specs.declared.request_id.RequestId.{RequestId}
 use Rattle.sd_gate.specs.declared.phase.Phase.TheVariants.{Bare, Whole, Writing}
 use Rattle.sd_gate.specs.Laws.{Leads, pages_body}
-use Rattle.sd_gate.specs.Phases.{closing, filled, may_write}
+use Rattle.sd_gate.specs.Phases.{body_after, closing, filled, may_write}
 use Rattle.sd_gate.specs.Plans.{Planned}
 use Rattle.sd_gate.specs.Requests.{Asked}
-use Rattle.sd_gate.specs.Sequences.{Calls, body_calls, format_calls}
+use Rattle.sd_gate.specs.Sequences.{Calls, body_calls, data_place, format_calls}
 use Rattle.sd_journal.specs.History.{Base, History, at_freeze, pending}
 use Rattle.sd_pagetable.specs.Contents.{Contents, plain_of}
 use Rattle.sd_rounds.specs.declared.image_order.ImageOrder.{ImageOrder}
 use Rattle.sd_rounds.specs.declared.stage.Stage.{Stage}
-use Rattle.sd_rounds.specs.declared.stage.Stage.TheVariants.{Format, Freeze, Pass as PassStage, PageWrite, Close}
-use Rattle.sd_rounds.specs.Dumper.{IsReserved, Running, slot_of}
+use Rattle.sd_rounds.specs.declared.stage.Stage.TheVariants.{Format, Freeze, Pass as PassStage, Close}
+use Rattle.sd_rounds.specs.Dumper.{IsReserved, Running, slot_of, writes_of_running}
 use Rattle.sd_rounds.specs.Files.{FilesImage, HasAreas}
 use Rattle.sd_rounds.specs.Keeps.{Chain, Rests}
-use Rattle.sd_rounds.specs.Making.{Making, is_frozen}
+use Rattle.sd_rounds.specs.Making.{Making, is_frozen, is_passing}
 use Rattle.sd_rounds.specs.MakingLaws.{DumpsImage, KeepsImage, Pages, image_of}
+use Rattle.sd_rounds.specs.Writes.{no_writes}
 use Rattle.sd_store_laws.specs.Beliefs.{Belief, Closed, Opening, image_at}
 use Rattle.sd_store_laws.specs.Gates.{IsBelievedAs}
 use Rattle.sd_store_laws.specs.Harmless.{IsUnused}
@@ -37,6 +40,17 @@ use Rattle.sd_store_laws.specs.Store.{Store, jobs}
 -- the images of a store, below an image with this number as its parent
 abbrev pub chain_of : Store → ℕ → Chain
 chain_of store number = record { images = store.catalog; number = number }
+
+abbrev pub id_of : Asked → RequestId
+id_of request = request.id
+
+-- the ids of the requests that are out
+abbrev pub ids_of : List (Option Asked) → List (Option RequestId)
+ids_of = map (option_map id_of)
+
+-- the requests that are out in the lanes of the writes of data pages
+abbrev pub lanes_of : List (Option Asked) → List (Option Asked)
+lanes_of asked = drop 3 asked
 
 -- no request is out on a slot
 abbrev pub NoneAt : List (Option Asked) → ℕ → Type 0
@@ -76,6 +90,25 @@ IsFormatted phase body None belief = IsBelievedAs phase body belief
 IsFormatted phase body (Some request) belief = (request.id.call ≡ CloseCall → IsBelievedAs (closing phase) body belief)
     × (request.id.call ≢ CloseCall → IsBelievedAs phase body belief)
 
+-- the write of a data page of a slot
+pub record IsPageOf (slot : ℕ) (request : Asked) : Type 0 where
+  pub on : request.id.slot ≡ slot
+  pub place : ℕ
+  pub call : request.id.call ≡ Write (data_place place)
+  pub whole : length request.bytes ≡ 4096
+
+-- each lane has the write of a data page of a slot, or none; no two write the same page
+pub record ArePagesOf (slot : ℕ) (lanes : List (Option Asked)) : Type 0 where
+  pub each : (lane : ℕ) (request : Asked) → slice_get lanes lane ≡ Some (Some request) → IsPageOf slot request
+  pub apart : (one other : ℕ) (a b : Asked) → slice_get lanes one ≡ Some (Some a) → slice_get lanes other ≡ Some (Some b)
+      → a.id.call ≡ b.id.call → one ≡ other
+
+-- a body once the writes that are out are done
+abbrev pub body_written : List ℕ → List (Option Asked) → List ℕ
+body_written body [] = body
+body_written body (None ∷ lanes) = body_written body lanes
+body_written body (Some request ∷ lanes) = body_written (body_after body request.id.call request.bytes) lanes
+
 -- a slot that is closed for sure, and has these data pages behind the gate
 pub record IsFilled (pages : Pages) (phase : Phase) (body : List ℕ) (belief : Belief) : Type 0 where
   pub writes : may_write phase ≡ true
@@ -90,17 +123,6 @@ pub record IsFormatting (order : ImageOrder) (plan : Planned) (phase : Phase) (b
   pub left : AreLeft (format_calls order.state) place request plan
   pub leads : Leads phase body (calls_left request plan) Bare []
   pub formatted : IsFormatted phase body request belief
-
--- one that is filled once the write of its last data page is done
-pub record IsFilling (order : ImageOrder) (pages : Pages) (plan : Planned) (phase : Phase) (body : List ℕ) (request : Option Asked) (belief : Belief) : Type 0 where
-  pub place : ℕ
-  pub on : plan.slot ≡ order.slot
-  pub left : AreLeft ((Write place, []) ∷ []) 0 request plan
-  pub last : Phase
-  pub leads : Leads phase body (calls_left request plan) last (pages_body pages)
-  pub writes : may_write last ≡ true
-  pub fills : filled last ≡ Writing
-  pub closed : belief ≡ Closed
 
 -- the dump of a running checkpoint whose gate is being opened is the pending one
 abbrev pub pending_dump : Kind → Image → Option Image
@@ -121,11 +143,11 @@ pub record IsClosing (order : ImageOrder) (i : Image) (plan : Planned) (phase : 
   pub shut : is_opening_at place request ≡ false → (belief ≡ Closed) × (dump ≡ None)
   pub opening : is_opening_at place request ≡ true → (belief ≡ Opening i) × (dump ≡ pending_dump order.kind i)
 
+-- a slot with this body once the writes of data pages that are out are done
 abbrev pub IsSlotFor : Stage → ImageOrder → Pages → Phase → List ℕ → Option Asked → Belief → Option Image → Type 0
 IsSlotFor (Format plan) order pages phase body request belief dump = IsFormatting order plan phase body request belief × (dump ≡ None)
 IsSlotFor Freeze order pages phase body request belief dump = IsFilled pages phase body belief × (request ≡ None) × (dump ≡ None)
 IsSlotFor PassStage order pages phase body request belief dump = IsFilled pages phase body belief × (request ≡ None) × (dump ≡ None)
-IsSlotFor (PageWrite plan) order pages phase body request belief dump = IsFilling order pages plan phase body request belief × (dump ≡ None)
 IsSlotFor (Close plan header tables) order pages phase body request belief dump =
     IsClosing order (image_of header pages tables) plan phase body request belief dump
 
@@ -158,7 +180,9 @@ pub record IsMakingOn (base : Base) (history : History) (memory : Contents) (pha
   pub request : Option Asked
   pub own : slice_get asked 0 ≡ Some request
   pub asked_at : IfSome request (λ r. r.id.slot ≡ image.order.slot)
-  pub slot_is : IsSlotFor image.stage image.order pages phase (file_at bodies image.order.slot) request belief dump
+  pub rests : is_passing image.stage ≡ false → image.writes ≡ no_writes
+  pub writing : ArePagesOf image.order.slot (lanes_of asked)
+  pub slot_is : IsSlotFor image.stage image.order pages phase (body_written (file_at bodies image.order.slot) (lanes_of asked)) request belief dump
 
 -- between two images the parent's number gives each clean page
 pub record IsBetween (memory : Contents) (asked : List (Option Asked)) (store : Store) (dump : Option Image) (parent : ℕ) : Type 0 where
@@ -208,4 +232,5 @@ pub record IsInUseOn (base : Base) (history : History) (places : Places) (grows 
   pub grows_is : store.grows ≡ grows
   pub used : AreUsed last store beliefs
   pub exact : AreExact phases asked bodies beliefs
+  pub writes : ids_of (lanes_of asked) ≡ writes_of_running running
   pub job : IsAtWork base history grows memory phases asked bodies last store dump beliefs running

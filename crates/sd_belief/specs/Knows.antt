@@ -1,6 +1,5 @@
 -- What a core knows of the files beside what it believes of its slots: no layer above goes by this.
-use Rattle.std.specs.Prelude.{◌≡◌, ◌≢◌, ◌⊎◌, ℕ, ◌<◌, true, false, List, length, map, Option, Some, None, IfSome, slice_get}
-use Rattle.std.specs.Option.{option_map}
+use Rattle.std.specs.Prelude.{◌≡◌, ◌≢◌, ◌⊎◌, ℕ, ◌<◌, true, false, List, length, Option, Some, None, IfSome, slice_get}
 use Rattle.sd_gate.specs.declared.call.Call.TheVariants.{Sync}
 use Rattle.sd_gate.specs.declared.phase.Phase.{Phase}
 use Rattle.sd_gate.specs.declared.phase.Phase.TheVariants.{Raw}
@@ -19,16 +18,9 @@ use Rattle.sd_image.specs.Image.{Image}
 use Rattle.sd_store_laws.specs.Beliefs.{Belief}
 use Rattle.sd_store_laws.specs.Store.{Store}
 use Rattle.sd_belief.specs.declared.standing.Standing.TheVariants.{Open}
-use Rattle.sd_belief.specs.InUse.{IsInUseOn}
+use Rattle.sd_belief.specs.InUse.{IsInUseOn, ids_of}
 use Rattle.sd_belief.specs.Merges.{IsMergeInUse}
 use Rattle.sd_belief.specs.View.{CoreView, history_of}
-
-abbrev pub id_of : Asked → RequestId
-id_of request = request.id
-
--- the ids of the requests that are out
-abbrev pub ids_of : List (Option Asked) → List (Option RequestId)
-ids_of = map (option_map id_of)
 
 -- the calls that are out change no file
 abbrev pub AreLooks : List (Option Asked) → Type 0

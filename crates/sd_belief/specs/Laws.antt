@@ -1,5 +1,5 @@
 -- What a core goes on believing.
-use Rattle.std.specs.Prelude.{◌≡◌, ℕ, List, [], ◌∷◌, ◌≤◌, drop, false, length, map, Option, Some, None, slice_get, slice_set}
+use Rattle.std.specs.Prelude.{◌≡◌, ℕ, List, ◌∷◌, ◌≤◌, drop, false, length, map, Option, Some, None, slice_get, slice_set}
 use Rattle.sd_chain.specs.Catalog.{AreInOrder, Opened, place_of}
 use Rattle.sd_chain.specs.Store.{IsCatalogOf}
 use Rattle.sd_gate.specs.Calls.{AreKept, IsLook}
@@ -14,7 +14,8 @@ use Rattle.sd_journal.specs.Marked.{Told}
 use Rattle.sd_belief.specs.declared.standing.Standing.TheVariants.{Open}
 use Rattle.sd_belief.specs.Believes.{Believes}
 use Rattle.sd_belief.specs.Calls.{NoneOut}
-use Rattle.sd_belief.specs.Knows.{ids_of}
+use Rattle.sd_belief.specs.InUse.{ids_of}
+use Rattle.sd_belief.specs.OpenerSteps.{nobody}
 use Rattle.sd_belief.specs.Shown.{ShowsAllowed}
 use Rattle.sd_belief.specs.View.{CoreView, history_of}
 
@@ -40,7 +41,7 @@ pub record IsOpenAs (core : CoreView) (files : List (List ℕ)) : Type 0 where
   pub grows : core.grows ≡ false
   pub idle : core.dumper.running ≡ None
   pub unmerged : core.merger ≡ None
-  pub outs : core.outs ≡ None ∷ None ∷ None ∷ []
+  pub outs : core.outs ≡ nobody
 
 -- Files that show the last pair are believed, where each slot is in the phase that its file tells, nothing is out, and no
 -- opener runs: so a core begins, and so it is when a store was opened again.

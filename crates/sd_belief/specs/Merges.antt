@@ -4,11 +4,12 @@ use Rattle.sd_disk.specs.Contents.{file_at}
 use Rattle.sd_image.specs.declared.header.Kind.TheVariants.{Merged}
 use Rattle.sd_image.specs.Image.{Image, IsImage, gate}
 use Rattle.sd_image.specs.Shows.{Holds, IsRestorable}
-use Rattle.sd_gate.specs.declared.call.Call.TheVariants.{Read}
+use Rattle.sd_gate.specs.declared.call.Call.TheVariants.{Read, Write}
 use Rattle.sd_gate.specs.declared.phase.Phase.{Phase}
 use Rattle.sd_gate.specs.declared.phase.Phase.TheVariants.{Bare, Whole}
 use Rattle.sd_gate.specs.declared.slot_state.SlotState.{SlotState}
 use Rattle.sd_gate.specs.declared.slot_state.SlotState.TheVariants.{Open as OpenSlot}
+use Rattle.sd_gate.specs.Plans.{Planned}
 use Rattle.sd_gate.specs.Requests.{Asked}
 use Rattle.sd_gate.specs.Sequences.{data_place}
 use Rattle.sd_merge.specs.declared.retired.Retired.{Retired}
@@ -23,7 +24,7 @@ use Rattle.sd_merge.specs.Merging.{KeepsCopy, listed_places}
 use Rattle.sd_merge.specs.Sources.{few_pages, listed_count}
 use Rattle.sd_rounds.specs.declared.image_order.ImageOrder.{ImageOrder}
 use Rattle.sd_rounds.specs.declared.stage.Stage.{Stage}
-use Rattle.sd_rounds.specs.declared.stage.Stage.TheVariants.{Format, Pass as PassStage, PageWrite, Close}
+use Rattle.sd_rounds.specs.declared.stage.Stage.TheVariants.{Format, Pass as PassStage, Close}
 use Rattle.sd_rounds.specs.Dumper.{IsReserved, Running}
 use Rattle.sd_rounds.specs.Making.{Making}
 use Rattle.sd_rounds.specs.MakingLaws.{Pages}
@@ -32,7 +33,7 @@ use Rattle.sd_store_laws.specs.Beliefs.{Belief, Kept, Opening, image_at}
 use Rattle.sd_store_laws.specs.Needs.{IsNeededIn}
 use Rattle.sd_store_laws.specs.Reached.{Reaches}
 use Rattle.sd_store_laws.specs.Store.{Store}
-use Rattle.sd_belief.specs.InUse.{IsSlotFor}
+use Rattle.sd_belief.specs.InUse.{IsSlotFor, body_written}
 
 -- the checkpoint that runs, if one does, doesn't fill this slot
 abbrev pub IsSpared : Option Running → ℕ → Type 0
@@ -88,16 +89,24 @@ abbrev pub stage_in_slot : CopyStage → Stage
 stage_in_slot (copy.Format plan) = Format plan
 stage_in_slot copy.Pass = PassStage
 stage_in_slot (copy.PageRead plan) = PassStage
-stage_in_slot (copy.PageWrite plan) = PageWrite plan
+stage_in_slot (copy.PageWrite plan) = PassStage
 stage_in_slot (copy.Close plan header tables) = Close plan header tables
 
--- the request that is out on its slot
+-- the request of its plan that is out on its slot
 abbrev pub request_in_slot : CopyStage → Option Asked → Option Asked
 request_in_slot (copy.Format plan) request = request
 request_in_slot copy.Pass request = request
 request_in_slot (copy.PageRead plan) request = None
-request_in_slot (copy.PageWrite plan) request = request
+request_in_slot (copy.PageWrite plan) request = None
 request_in_slot (copy.Close plan header tables) request = request
+
+-- the write of a page that is out on its slot
+abbrev pub lanes_in_slot : CopyStage → Option Asked → List (Option Asked)
+lanes_in_slot (copy.Format plan) request = []
+lanes_in_slot copy.Pass request = []
+lanes_in_slot (copy.PageRead plan) request = []
+lanes_in_slot (copy.PageWrite plan) request = request ∷ []
+lanes_in_slot (copy.Close plan header tables) request = []
 
 -- a slot as that of an image which nobody acknowledges
 abbrev pub order_of_slot : ℕ → SlotState → ImageOrder
@@ -122,11 +131,20 @@ pub record IsReadOn (phases : List Phase) (bodies : List (List ℕ)) (store : St
   pub stored : slice_get image.pages place ≡ Some bytes
   pub holds : Holds store.catalog at.0 at.1 bytes source
 
+-- A page is written behind the gate of its slot: nothing is left of the plan.
+pub record IsWriteOn (target : ℕ) (plan : Planned) (request : Asked) : Type 0 where
+  pub on : request.id.slot ≡ target
+  pub last : plan.calls ≡ []
+  pub place : ℕ
+  pub call : request.id.call ≡ Write (data_place place)
+
 -- which request of the merger is out
 abbrev pub IsAskedIn : CopyStage → List Phase → List (List ℕ) → Store → List Belief → Option Running → ℕ → Image → Option Place → Option Asked → Type 0
 IsAskedIn (copy.PageRead plan) phases bodies store beliefs running target source page None = ⊥
 IsAskedIn (copy.PageRead plan) phases bodies store beliefs running target source page (Some request) =
     IsReadOn phases bodies store beliefs running target source page request
+IsAskedIn (copy.PageWrite plan) phases bodies store beliefs running target source page None = ⊥
+IsAskedIn (copy.PageWrite plan) phases bodies store beliefs running target source page (Some request) = IsWriteOn target plan request
 IsAskedIn _ phases bodies store beliefs running target source page None = Unit {0}
 IsAskedIn _ phases bodies store beliefs running target source page (Some request) = request.id.slot ≡ target
 
@@ -147,8 +165,8 @@ pub record IsCopyOn (phases : List Phase) (asked : List (Option Asked)) (bodies 
   pub request : Option Asked
   pub own : slice_get asked 1 ≡ Some request
   pub asked_in : IsAskedIn made.stage phases bodies store beliefs running target source made.taking request
-  pub slot_is : IsSlotFor (stage_in_slot made.stage) (order_of_slot target made.order.state) pages phase (file_at bodies target)
-      (request_in_slot made.stage request) belief None
+  pub slot_is : IsSlotFor (stage_in_slot made.stage) (order_of_slot target made.order.state) pages phase
+      (body_written (file_at bodies target) (lanes_in_slot made.stage request)) (request_in_slot made.stage request) belief None
 
 -- ---- the images that are closed
 

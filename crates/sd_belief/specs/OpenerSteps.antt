@@ -12,6 +12,7 @@ use Rattle.sd_gate.specs.Sequences.{first_looks}
 use Rattle.sd_opener.specs.declared.stage.Stage.TheVariants.{Asking}
 use Rattle.sd_opener.specs.Looking.{IsAskedBy, IsDecoded, Looking, MovesOn}
 use Rattle.sd_opener.specs.Sees.{IsToldOf, Sees}
+use Rattle.sd_rounds.specs.Writes.{no_writes}
 use Rattle.sd_belief.specs.declared.standing.Standing.TheVariants.{Open}
 use Rattle.sd_belief.specs.Believes.{Believes}
 use Rattle.sd_belief.specs.Calls.{NoneOut, WasTold}
@@ -20,10 +21,10 @@ use Rattle.sd_belief.specs.View.{CoreView}
 
 -- no worker has a request out; or the opener alone
 abbrev pub nobody : List (Option RequestId)
-nobody = None ∷ None ∷ None ∷ []
+nobody = None ∷ None ∷ None ∷ no_writes
 
 abbrev pub opener_alone : RequestId → List (Option RequestId)
-opener_alone id = None ∷ None ∷ Some id ∷ []
+opener_alone id = None ∷ None ∷ Some id ∷ no_writes
 
 -- the journal, the memory and what is known of the store's images are as before; the store isn't open
 pub record OnlyOpens (old new : CoreView) : Type 0 where

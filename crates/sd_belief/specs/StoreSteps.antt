@@ -17,12 +17,12 @@ use Rattle.sd_journal.specs.Legal.{IsLegal}
 use Rattle.sd_store_laws.specs.Beliefs.{Belief, Closed, Opening, image_at}
 use Rattle.sd_store_laws.specs.Store.{Store}
 use Rattle.sd_belief.specs.Believes.{HasStore}
+use Rattle.sd_belief.specs.Calls.{WritesPage}
 use Rattle.sd_belief.specs.InUse.{NoneAt}
 
--- a worker may ask for a call: it has none out, none is out on the slot, and the slot is ready for the call
-pub record MayAsk (phases : List Phase) (asked : List (Option Asked)) (worker : ℕ) (request : Asked) : Type 0 where
-  pub free : slice_get asked worker ≡ Some None
-  pub none : NoneAt asked request.id.slot
+-- a call may be asked for in a lane: none is out in it, and the slot is ready for the call
+pub record MayAsk (phases : List Phase) (asked : List (Option Asked)) (lane : ℕ) (request : Asked) : Type 0 where
+  pub free : slice_get asked lane ≡ Some None
   pub phase : Phase
   pub waits : Waits phases request.id phase
 
@@ -31,11 +31,11 @@ pub record IsQuiet (phase : Phase) (call : Call) : Type 0 where
   pub opens : call ≢ Open
   pub closes : call ≡ Close → phase ≢ Whole
 
--- an outcome of a worker's request that is out, with no other out on its slot
-pub record IsOutcomeOf (phases : List Phase) (asked : List (Option Asked)) (worker : ℕ) (made : Made) : Type 0 where
-  pub out : slice_get asked worker ≡ Some (Some made.request)
-  pub alone : (other : ℕ) (request : Asked) → slice_get asked other ≡ Some (Some request)
-      → request.id.slot ≡ made.request.id.slot → other ≡ worker
+-- an outcome of the request that is out in a lane; any other on its slot writes a data page, as it does
+pub record IsOutcomeOf (phases : List Phase) (asked : List (Option Asked)) (lane : ℕ) (made : Made) : Type 0 where
+  pub out : slice_get asked lane ≡ Some (Some made.request)
+  pub others : (other : ℕ) (request : Asked) → other ≢ lane → slice_get asked other ≡ Some (Some request)
+      → request.id.slot ≡ made.request.id.slot → WritesPage made.request.id × WritesPage request.id
   pub phase : Phase
   pub waits : Waits phases made.request.id phase
 
@@ -43,6 +43,7 @@ pub record IsOutcomeOf (phases : List Phase) (asked : List (Option Asked)) (work
 pub record MayOpen (phases : List Phase) (asked : List (Option Asked)) (bodies : List (List ℕ)) (beliefs : List Belief)
     (worker : ℕ) (request : Asked) (i : Image) : Type 0 where
   pub may : MayAsk phases asked worker request
+  pub none : NoneAt asked request.id.slot
   pub call : request.id.call ≡ Open
   pub image : IsImage (gate ∷ file_at bodies request.id.slot) i
   pub belief : slice_get beliefs request.id.slot ≡ Some Closed

@@ -1,5 +1,5 @@
 -- What is seen of a core.
-use Rattle.std.specs.Prelude.{ℕ, Bool, List, Option, refl}
+use Rattle.std.specs.Prelude.{ℕ, ◌+◌, Bool, List, Option, refl}
 use Rattle.std.specs.Coded.{Coded, code_by, coded×, coded_ℕ, coded_option}
 use Rattle.sd_areas.specs.Codes.{plain_memory_code}
 use Rattle.sd_areas.specs.PlainMemory.{PlainMemory}
@@ -37,7 +37,7 @@ pub record CoreView : Type 0 where
   pub standing : Standing
   -- the phase of each slot, by the calls whose outcomes were handed in
   pub phases : List Phase
-  -- the request that is out of each worker
+  -- the requests that are out: a lane for each worker, and then eight for the writes of the dumper's data pages
   pub outs : List (Option RequestId)
   pub catalog : Places
   pub dumper : Dumping
@@ -86,8 +86,12 @@ core_code rest = code_by (Base × (Contents × Rest)) (coded× base_code (coded�
 abbrev pub history_of : CoreView → History
 history_of core = entries_of core.items
 
--- the place of a worker among three
+-- the lane of a worker
 abbrev pub index : Worker → ℕ
 index Dumper = 0
 index Merger = 1
 index Opener = 2
+
+-- the lane of a write of a data page, behind those of the workers
+abbrev pub page_lane : ℕ → ℕ
+page_lane lane = 3 + lane

@@ -11,7 +11,7 @@ ghost use Rattle.sd_belief.specs.OpenerSteps.{OpenerSteps};
 ghost use Rattle.sd_belief.specs.StoreSteps.{QuietSteps};
 
 use sd_chain::Catalog;
-use sd_gate::{bodies_fill, plans_lead};
+use sd_gate::{bodies_fill, plans_lead, writes_commute};
 use sd_image::page_in_file;
 use sd_journal::journal_laws;
 use sd_merge::{merge_law, merged_file_law};
@@ -91,6 +91,7 @@ pub fn dumper_steps()
     file_law();
     plans_lead();
     bodies_fill();
+    writes_commute();
 }
 
 /// Outcomes of a dumper's calls: one that failed, after which the store is down, one with which the image goes on, and
@@ -98,6 +99,7 @@ pub fn dumper_steps()
 pub fn dumper_outcomes()
     ensures { DumperOutcomes }
 {
+    writes_commute();
     file_law();
     quiet_steps();
     gate_steps();

@@ -1,11 +1,12 @@
 -- A checkpoint begins beside a merge.
-use Rattle.std.proofs.Common.{◌≡◌, ℕ, ◌≤◌, List, [], ◌∷◌, Contains, Option, Some, None, IfSome, slice_get, refl, sym, ◌∙◌, ap, subst, inl, inr, arith}
+use Rattle.std.proofs.Common.{◌≡◌, ℕ, ◌≤◌, List, ◌∷◌, Contains, Option, Some, None, IfSome, slice_get, refl, sym, ◌∙◌, ap, subst, inl, inr, arith}
 use Rattle.std.specs.Option.{option_map}
 use Rattle.sd_gate.specs.declared.request_id.RequestId.{RequestId}
 use Rattle.sd_merge.specs.declared.retired.Retired.{Retired}
 use Rattle.sd_merge.specs.Merger as merger
 use Rattle.sd_merge.specs.Merger.{Doing, Retiring, due, copying, opened, retiring}
 use Rattle.sd_rounds.specs.Dumper.{begun_checkpoint}
+use Rattle.sd_rounds.specs.Writes.{no_writes}
 use Rattle.sd_belief.specs.View.{CoreView}
 use Rattle.sd_slots.specs.Taken.{FreeSlotsLaw, IsReservedBy}
 use Rattle.sd_core.specs.declared.numbers.Numbers.{Numbers}
@@ -24,7 +25,7 @@ few_due (Some merge) = by merge.doing
     by (retiring r) = omega arith
 
 pub begun_beside : FreeSlotsLaw → (core : CoreView) (old new : Numbers) (room rounds n : ℕ) (pre_dumps : List ℕ) (dump parent : ℕ) → AreReserved core rounds pre_dumps dump
-    → core.outs ≡ None ∷ merger.out_of_merge core.merger ∷ None ∷ [] → new.serial ≡ old.serial → new.given ≡ old.given → old.checkpoint ≤ new.checkpoint
+    → core.outs ≡ None ∷ merger.out_of_merge core.merger ∷ None ∷ no_writes → new.serial ≡ old.serial → new.given ≡ old.given → old.checkpoint ≤ new.checkpoint
     → IfSome core.merger (IsMerging core.standing core.phases core.catalog core.opener old room core.dumper.running)
     → IfSome core.merger (IsMerging core.standing core.phases core.catalog core.opener new room (Some (begun_checkpoint n pre_dumps dump parent)))
 begun_beside law core old new room rounds n pre_dumps dump parent r outs serial given checkpoint was = by core.merger refl was

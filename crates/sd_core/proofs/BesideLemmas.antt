@@ -1,9 +1,10 @@
 -- A core whose merger goes on, beside what its dumper does.
-use Rattle.std.proofs.Common.{◌≡◌, ◌≢◌, ℕ, ◌+◌, ◌<◌, ◌≤◌, ◌^◌, List, [], ◌∷◌, length, Option, Some, None, IfSome, slice_get, slice_set, refl, sym, ◌∙◌, ap, subst, inl, inr, arith}
+use Rattle.std.proofs.Common.{◌≡◌, ◌≢◌, ◌⊎◌, ℕ, ◌+◌, ◌<◌, ◌≤◌, ◌^◌, List, ◌∷◌, length, Option, Some, None, IfSome, slice_get, slice_set, refl, sym, ◌∙◌, ap, subst, inl, inr, arith}
 use Rattle.std.proofs.lemmas.Option.{same_Some}
 use Rattle.sd_chain.specs.Catalog.{IsHeld, Opened, Places, place_of}
 use Rattle.sd_gate.specs.declared.phase.Phase.{Phase}
 use Rattle.sd_gate.specs.declared.request_id.RequestId.{RequestId}
+use Rattle.sd_gate.specs.declared.worker.Worker.TheVariants.{Merger}
 use Rattle.sd_gate.specs.declared.call.Call.TheVariants.{Sync}
 use Rattle.sd_merge.specs.declared.retired.Retired.{Retired}
 use Rattle.sd_merge.specs.declared.copy_order.CopyOrder.{CopyOrder}
@@ -11,7 +12,7 @@ use Rattle.sd_merge.specs.declared.source.Source.{Source}
 use Rattle.sd_merge.specs.Copying.{Copying, out_of}
 use Rattle.sd_merge.specs.Merger as merger
 use Rattle.sd_merge.specs.Merger.{Retiring, due, copying, opened, retiring}
-use Rattle.sd_rounds.specs.Dumper.{HasSlot, Running, out_of_running, slot_of}
+use Rattle.sd_rounds.specs.Dumper.{HasSlot, Running, out_of_running, slot_of, writes_of_running}
 use Rattle.sd_rounds.specs.Making.{Making}
 use Rattle.sd_belief.specs.Calls.{IsFree}
 use Rattle.sd_belief.specs.Merges.{IsOtherImage, IsSpared, MakesOther}
@@ -21,9 +22,10 @@ use Rattle.sd_core.specs.Images.{begun_as}
 use Rattle.sd_core.specs.Merging.{IsMergedImage}
 use Rattle.sd_core.specs.Sound.{AreCounted, AreOuts, HasHeader, IsAtWork, IsCore, IsDoing, IsImageOf, IsMerging, IsOpening, Parts, begun_images, due_serials}
 use Rattle.sd_core.proofs.MergeLemmas.{image_stays}
+use Rattle.sd_core.proofs.OutsLemmas.{DumperOuts, IsOfDumper, dumper_none, dumper_outs, lane_at, no_write, on_slot, open_outs}
 use Rattle.sd_core.proofs.OwnLemmas.{own_has, spared_of}
 use Rattle.sd_core.proofs.PreDumpLemmas.{pre_dumps_stay}
-use Rattle.sd_core.proofs.WorkLemmas.{SameNumbers, at_work, image_of_work, open_outs, two_at}
+use Rattle.sd_core.proofs.WorkLemmas.{SameNumbers, at_work, image_of_work}
 
 -- ---- a merge that runs
 
@@ -33,57 +35,75 @@ merger_works core merge sound is =
     subst (λ m. IfSome m (IsMerging core.standing core.phases core.places core.opener core.numbers core.room core.dumper.running)) is sound.merging
 
 -- in an open store the requests that are out are those of the jobs
-pub jobs_out : (core : Parts) → IsCore core → core.standing ≡ Open → core.outs ≡ out_of_running core.dumper.running ∷ merger.out_of_merge core.merger ∷ None ∷ []
+pub jobs_out : (core : Parts) → IsCore core → core.standing ≡ Open → core.outs ≡ out_of_running core.dumper.running ∷ merger.out_of_merge core.merger ∷ None ∷ writes_of_running core.dumper.running
 jobs_out core sound stands = sound.outs_are.jobs stands
 
+-- what is out of the dumper is on slots of the store
+dumper_of : (core : Parts) (phases : List Phase) → IsCore core → length phases ≡ length core.phases → DumperOuts phases core.dumper.running
+dumper_of core phases sound count = by core.dumper.running refl
+  where
+    by : (running : Option Running) → core.dumper.running ≡ running → DumperOuts phases running
+    by None is = dumper_none phases
+    by (Some running) is =
+        let w = at_work core running sound is in
+        dumper_outs phases running (subst (λ n. slot_of running < n) (sym count) (w.within (slot_of running) (record { place = running.opened; from = omega arith; is = refl }))) w.asked w.whose w.writes
+
 -- a request of the dumper isn't on a slot that the checkpoint spares
-dumper_on : (core : Parts) (id : RequestId) (slot : ℕ) → IsCore core → out_of_running core.dumper.running ≡ Some id → IsSpared core.dumper.running slot → id.slot ≢ slot
+dumper_on : (core : Parts) (id : RequestId) (slot : ℕ) → IsCore core → IsOfDumper core.dumper.running id → IsSpared core.dumper.running slot → id.slot ≢ slot
 dumper_on core id slot sound out spared same = by core.dumper.running refl out spared
   where
-    by : (running : Option Running) → core.dumper.running ≡ running → out_of_running running ≡ Some id → IsSpared running slot → ⊥
-    by None is out spared = (let no : None ≡ Some id = out in cc)
-    by (Some running) is out spared = spared (record {
-      place = running.opened;
-      from = omega arith;
-      is = sym same ∙ subst (λ o. IfSome o (λ i. i.slot ≡ slot_of running)) out (at_work core running sound is).asked;
-    })
+    by : (running : Option Running) → core.dumper.running ≡ running → IsOfDumper running id → IsSpared running slot → ⊥
+    by None is out spared = elim out [ inl own ↦ (let no : None ≡ Some id = own in cc) | inr page ↦ no_write page.0 id page.1 ]
+    by (Some running) is out spared =
+        let w = at_work core running sound is in
+        spared (record { place = running.opened; from = omega arith; is = sym same ∙ on_slot running id w.asked w.writes out })
+
+-- one that is out in a lane of an open store is the dumper's, or the merger's
+out_of_jobs : (core : Parts) (merge : Option RequestId) (outs : List (Option RequestId)) (lane : ℕ) (id : RequestId) → outs ≡ out_of_running core.dumper.running ∷ merge ∷ None ∷ writes_of_running core.dumper.running
+    → slice_get outs lane ≡ Some (Some id) → IsOfDumper core.dumper.running id ⊎ (merge ≡ Some id)
+out_of_jobs core merge outs lane id are at = elim (lane_at (out_of_running core.dumper.running) merge (writes_of_running core.dumper.running) lane id (ap (λ all. slice_get all lane) (sym are) ∙ at)) [
+  | inl a ↦ inl (inl a.1)
+  | inr rest ↦ elim rest [
+    | inl b ↦ inr b.1
+    | inr page ↦ inl (inr (page.0, page.2))
+  ]
+]
 
 -- none is out on a spared slot, once the merger's is in
 pub free_spared : (core : Parts) (slot : ℕ) → IsCore core → core.standing ≡ Open → IsSpared core.dumper.running slot → IsFree (slice_set core.outs 1 None) slot
-free_spared core slot sound stands spared worker id at same =
-    elim (two_at (out_of_running core.dumper.running) None worker id (ap (λ all. slice_get (slice_set all 1 None) worker) (sym (jobs_out core sound stands)) ∙ at)) [
-      | inl a ↦ dumper_on core id slot sound a.1 spared same
-      | inr b ↦ (let no : None ≡ Some id = b.1 in cc)
+free_spared core slot sound stands spared lane id at same =
+    elim (out_of_jobs core None (slice_set core.outs 1 None) lane id (ap (λ all. slice_set all 1 None) (jobs_out core sound stands)) at) [
+      | inl its ↦ dumper_on core id slot sound its spared same
+      | inr b ↦ (let no : None ≡ Some id = b in cc)
     ]
 
 -- none is out on a spared slot, where the merger has none out
 pub free_asked : (core : Parts) (slot : ℕ) → IsCore core → core.standing ≡ Open → slice_get core.outs 1 ≡ Some None → IsSpared core.dumper.running slot → IsFree core.outs slot
-free_asked core slot sound stands rests spared worker id at same =
-    elim (two_at (out_of_running core.dumper.running) (merger.out_of_merge core.merger) worker id (ap (λ all. slice_get all worker) (sym (jobs_out core sound stands)) ∙ at)) [
-      | inl a ↦ dumper_on core id slot sound a.1 spared same
-      | inr b ↦ (let no : Some None ≡ Some (Some id) = sym rests ∙ ap (λ all. slice_get all 1) (jobs_out core sound stands) ∙ ap Some b.1 in cc)
+free_asked core slot sound stands rests spared lane id at same =
+    elim (out_of_jobs core (merger.out_of_merge core.merger) core.outs lane id (jobs_out core sound stands) at) [
+      | inl its ↦ dumper_on core id slot sound its spared same
+      | inr b ↦ (let no : Some None ≡ Some (Some id) = sym rests ∙ ap (λ all. slice_get all 1) (jobs_out core sound stands) ∙ ap Some b in cc)
     ]
 
 -- none is out on a spared slot, where the merger's is on another
 pub free_on : (core : Parts) (slot : ℕ) → IsCore core → core.standing ≡ Open → IsSpared core.dumper.running slot → ((id : RequestId) → merger.out_of_merge core.merger ≡ Some id → id.slot ≢ slot) → IsFree core.outs slot
-free_on core slot sound stands spared other worker id at same =
-    elim (two_at (out_of_running core.dumper.running) (merger.out_of_merge core.merger) worker id (ap (λ all. slice_get all worker) (sym (jobs_out core sound stands)) ∙ at)) [
-      | inl a ↦ dumper_on core id slot sound a.1 spared same
-      | inr b ↦ other id b.1 same
+free_on core slot sound stands spared other lane id at same =
+    elim (out_of_jobs core (merger.out_of_merge core.merger) core.outs lane id (jobs_out core sound stands) at) [
+      | inl its ↦ dumper_on core id slot sound its spared same
+      | inr b ↦ other id b same
     ]
 
 -- ---- the requests that are out, once the merger's is another
 
 pub beside_outs : (core : Parts) (outs : List (Option RequestId)) (phases : List Phase) (merge : Option merger.Running) → IsCore core → core.standing ≡ Open → core.opener ≡ None
-    → length phases ≡ length core.phases → outs ≡ out_of_running core.dumper.running ∷ merger.out_of_merge merge ∷ None ∷ []
-    → ((id : RequestId) → merger.out_of_merge merge ≡ Some id → id.slot < length phases)
+    → length phases ≡ length core.phases → outs ≡ out_of_running core.dumper.running ∷ merger.out_of_merge merge ∷ None ∷ writes_of_running core.dumper.running
+    → ((id : RequestId) → merger.out_of_merge merge ≡ Some id → (id.slot < length phases) × (id.worker ≡ Merger))
     → ((id : RequestId) → merger.out_of_merge merge ≡ Some id → IsSpared core.dumper.running id.slot)
     → AreOuts core.standing outs phases core.dumper.running merge core.opener
 beside_outs core outs phases merge sound stands closed count are within spared =
     subst (λ st. AreOuts st outs phases core.dumper.running merge core.opener) (sym stands)
     (subst (λ o. AreOuts Open outs phases core.dumper.running merge o) (sym closed)
-    (open_outs outs phases core.dumper.running merge (out_of_running core.dumper.running) (merger.out_of_merge merge) are refl refl
-    (λ id out. subst (λ n. id.slot < n) (sym count) (sound.outs_are.within 0 id (ap (λ all. slice_get all 0) (jobs_out core sound stands) ∙ ap Some out))) within
+    (open_outs outs phases core.dumper.running merge are (dumper_of core phases sound count) within
     (λ id other out its. dumper_on core id other.slot sound out (spared other its))))
 
 -- ---- the checkpoint that runs beside it
@@ -136,14 +156,16 @@ work_beside core phases places numbers merge sound count l = by core.dumper.runn
           pre_dumps = pre_dumps_stay (begun_as running) core.places places running.opened running.parent
               (λ place serial o below one. l.stay serial o one.is_in (subst (λ r. HasSlot r o.slot) (sym is) (subst (HasSlot (Some running)) (sym one.slot) (own_has running place)))) w.pre_dumps;
           asked = w.asked;
+          whose = w.whose;
+          writes = w.writes;
           image = image_beside core places numbers merge running running.image l is refl w.image;
         }
 
 -- the core, once its merger went on
 pub core_beside : (core : Parts) (outs : List (Option RequestId)) (phases : List Phase) (places : Places) (room : ℕ) (numbers : Numbers) (merge : Option merger.Running) → IsCore core
     → core.standing ≡ Open → core.opener ≡ None → length phases ≡ length core.phases → LeavesWork core places numbers merge → AreCounted numbers places
-    → outs ≡ out_of_running core.dumper.running ∷ merger.out_of_merge merge ∷ None ∷ []
-    → ((id : RequestId) → merger.out_of_merge merge ≡ Some id → id.slot < length phases)
+    → outs ≡ out_of_running core.dumper.running ∷ merger.out_of_merge merge ∷ None ∷ writes_of_running core.dumper.running
+    → ((id : RequestId) → merger.out_of_merge merge ≡ Some id → (id.slot < length phases) × (id.worker ≡ Merger))
     → ((id : RequestId) → merger.out_of_merge merge ≡ Some id → IsSpared core.dumper.running id.slot)
     → IfSome merge (IsMerging core.standing phases places core.opener numbers room core.dumper.running)
     → IsCore (record core { outs = outs; phases = phases; places = places; room = room; numbers = numbers; merger = merge })
@@ -176,9 +198,9 @@ core_beside core outs phases places room numbers merge sound stands closed count
 
 -- ---- the merger has no request out, and makes a step
 
-rests_now : (core : Parts) → IsCore core → core.standing ≡ Open → slice_get core.outs 1 ≡ Some None → core.outs ≡ out_of_running core.dumper.running ∷ None ∷ None ∷ []
+rests_now : (core : Parts) → IsCore core → core.standing ≡ Open → slice_get core.outs 1 ≡ Some None → core.outs ≡ out_of_running core.dumper.running ∷ None ∷ None ∷ writes_of_running core.dumper.running
 rests_now core sound stands rests = jobs_out core sound stands
-    ∙ ap (λ o. out_of_running core.dumper.running ∷ o ∷ None ∷ []) (none_of (merger.out_of_merge core.merger) (ap (λ all. slice_get all 1) (sym (jobs_out core sound stands)) ∙ rests))
+    ∙ ap (λ o. out_of_running core.dumper.running ∷ o ∷ None ∷ writes_of_running core.dumper.running) (none_of (merger.out_of_merge core.merger) (ap (λ all. slice_get all 1) (sym (jobs_out core sound stands)) ∙ rests))
   where
     none_of : (o : Option RequestId) → Some o ≡ Some None → o ≡ None
     none_of o e = cc
@@ -191,14 +213,14 @@ due_rests core merge sound is doing = ap (λ all. slice_get all 1) (jobs_out cor
 -- it asks for a call
 pub core_asks : (core : Parts) (outs : List (Option RequestId)) (places : Places) (numbers : Numbers) (next : merger.Running) (now : Option merger.Running) (id : RequestId) → IsCore core
     → core.standing ≡ Open → core.opener ≡ None → now ≡ Some next → slice_get core.outs 1 ≡ Some None → outs ≡ slice_set core.outs 1 (Some id) → merger.out_in next.doing ≡ Some id
-    → id.slot < length core.phases → IsSpared core.dumper.running id.slot → LeavesWork core places numbers (Some next) → AreCounted numbers places
+    → id.slot < length core.phases → id.worker ≡ Merger → IsSpared core.dumper.running id.slot → LeavesWork core places numbers (Some next) → AreCounted numbers places
     → IsMerging core.standing core.phases places core.opener numbers core.room core.dumper.running next
     → IsCore (record core { outs = outs; places = places; numbers = numbers; merger = now })
-core_asks core outs places numbers next now id sound stands closed is rests are out within spared l counted merging =
+core_asks core outs places numbers next now id sound stands closed is rests are out within whose spared l counted merging =
     subst (λ m. IsCore (record core { outs = outs; places = places; numbers = numbers; merger = m })) (sym is)
     (core_beside core outs core.phases places core.room numbers (Some next) sound stands closed refl l counted
-    (are ∙ ap (λ all. slice_set all 1 (Some id)) (rests_now core sound stands rests) ∙ ap (λ o. out_of_running core.dumper.running ∷ o ∷ None ∷ []) (sym out))
-    (λ other at. subst (λ (i : RequestId). i.slot < length core.phases) (same_Some id other (sym out ∙ at)) within)
+    (are ∙ ap (λ all. slice_set all 1 (Some id)) (rests_now core sound stands rests) ∙ ap (λ o. out_of_running core.dumper.running ∷ o ∷ None ∷ writes_of_running core.dumper.running) (sym out))
+    (λ other at. subst (λ (i : RequestId). (i.slot < length core.phases) × (i.worker ≡ Merger)) (same_Some id other (sym out ∙ at)) (within, whose))
     (λ other at. subst (λ (i : RequestId). IsSpared core.dumper.running i.slot) (same_Some id other (sym out ∙ at)) spared) merging)
 
 -- ---- serials

@@ -1,5 +1,5 @@
 -- A checkpoint is cancelled.
-use Rattle.std.proofs.Common.{◌≡◌, ◌≢◌, ◌⊎◌, ◌↔◌, ℕ, ◌==◌, Bool, true, false, if◌then◌else◌, [], ◌∷◌, Option, Some, None, IfSome, is_some, slice_get, refl, sym, ◌∙◌, ap, subst, inl, inr, arith}
+use Rattle.std.proofs.Common.{◌≡◌, ◌≢◌, ◌⊎◌, ◌↔◌, ℕ, ◌==◌, Bool, true, false, if◌then◌else◌, ◌∷◌, length, Option, Some, None, IfSome, is_some, slice_get, refl, sym, ◌∙◌, ap, subst, inl, inr, arith}
 use Rattle.std.proofs.lemmas.Bool.{eq-eqb}
 use Rattle.std.proofs.lemmas.Bool.Decides.{eqb_tells}
 use Rattle.sd_chain.specs.Catalog.{Changes, IsHeld, Opened, Places, place_of}
@@ -11,13 +11,16 @@ use Rattle.sd_journal.specs.Marked.{IsTracked, Marked, Told, entries_of}
 use Rattle.sd_journal.specs.TrackedLaws.{TrackedLaws}
 use Rattle.sd_gate.specs.declared.request_id.RequestId.{RequestId}
 use Rattle.sd_merge.specs.Merger as merger
-use Rattle.sd_rounds.specs.Dumper.{Dumping, HasSlot, Running, image_serial, out_of_running, serial_of}
+use Rattle.sd_rounds.specs.Dumper.{Dumping, HasSlot, Running, image_serial, out_of_running, serial_of, writes_of_running}
 use Rattle.sd_rounds.specs.Making.{Making}
+use Rattle.sd_rounds.specs.Writes.{no_writes}
 use Rattle.sd_belief.specs.Merges.{IsOtherImage, IsSpared, MakesOther}
 use Rattle.sd_core.specs.Dumping.{ReleasesPlace}
+use Rattle.sd_core.specs.Refusals.{is_page_out}
 use Rattle.sd_core.specs.declared.numbers.Numbers.{Numbers}
 use Rattle.sd_core.specs.Sound.{AreCounted, AreNumbers, AreOuts, IsCore, IsJournal, IsMerging, Parts}
 use Rattle.sd_core.proofs.MergeLemmas.{merging_stays}
+use Rattle.sd_core.proofs.OutsLemmas.{no_writes_of}
 use Rattle.sd_core.proofs.WorkLemmas.{at_work}
 
 -- ---- the entry
@@ -108,18 +111,35 @@ images_same (Some own) old new r s o = same_images old new own (record { release
 pub counted_released : (numbers : Numbers) (old new : Places) (own : Option ℕ) → ReleasesPlace own old new → AreCounted numbers old → AreCounted numbers new
 counted_released numbers old new own r was s o at = was s o ((images_same own old new r s o).0 at)
 
--- ---- no request of the dumper is out
+-- ---- no request of the dumper is out, and no write of a data page
+
+pub written_of : (core : Parts) → IsCore core → is_page_out core.outs ≡ false → writes_of_running core.dumper.running ≡ no_writes
+written_of core sound pages = by core.dumper.running refl
+  where
+    by : (running : Option Running) → core.dumper.running ≡ running → writes_of_running running ≡ no_writes
+    by None is = refl
+    by (Some running) is =
+        let are = sound.outs_are.jobs (at_work core running sound is).stands ∙ ap (λ r. out_of_running r ∷ merger.out_of_merge core.merger ∷ None ∷ writes_of_running r) is in
+        let eight = ap length are in
+        let many = sound.outs_are.count in
+        no_writes_of (writes_of_running (Some running)) (omega (arith, eight, many)) (ap is_page_out (sym are) ∙ pages)
 
 -- so the requests are those of a core without a checkpoint
-pub rests_cancelled : (core : Parts) (running : Option Running) → IsCore core → core.opener ≡ None → slice_get core.outs 0 ≡ Some None → running ≡ None
+pub rests_cancelled : (core : Parts) (running : Option Running) → IsCore core → core.opener ≡ None → slice_get core.outs 0 ≡ Some None → is_page_out core.outs ≡ false → running ≡ None
     → AreOuts core.standing core.outs core.phases running core.merger core.opener
-rests_cancelled core running sound closed at gone = record {
-  jobs = λ stands. sound.outs_are.jobs stands ∙ ap (λ o. o ∷ merger.out_of_merge core.merger ∷ None ∷ [])
-      (first (out_of_running core.dumper.running) (ap (λ outs. slice_get outs 0) (sym (sound.outs_are.jobs stands)) ∙ at) ∙ sym (ap out_of_running gone));
+rests_cancelled core running sound closed at pages gone = record {
+  count = sound.outs_are.count;
+  jobs = λ stands.
+      let are = sound.outs_are.jobs stands in
+      let own = first (out_of_running core.dumper.running) (ap (λ outs. slice_get outs 0) (sym are) ∙ at) in
+      let written = written_of core sound pages in
+      are ∙ ap (λ o. o ∷ merger.out_of_merge core.merger ∷ None ∷ writes_of_running core.dumper.running) (own ∙ sym (ap out_of_running gone))
+      ∙ ap (λ w. out_of_running running ∷ merger.out_of_merge core.merger ∷ None ∷ w) (written ∙ sym (ap writes_of_running gone));
   opening = sound.outs_are.opening;
   none = sound.outs_are.none;
   two = sound.outs_are.two;
   within = sound.outs_are.within;
+  whose = sound.outs_are.whose;
   apart = sound.outs_are.apart;
 }
   where

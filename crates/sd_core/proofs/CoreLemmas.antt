@@ -1,20 +1,23 @@
 -- What is so of every core, while its opener works.
-use Rattle.std.proofs.Common.{◌≡◌, ◌≢◌, ℕ, zero, suc, ◌<◌, Bool, true, false, List, [], ◌∷◌, length, Option, Some, None, IfSome, slice_get, slice_index_or, slice_set, refl, sym, ◌∙◌, ap, subst, arith}
+use Rattle.std.proofs.Common.{◌≡◌, ◌≢◌, ℕ, zero, suc, ◌<◌, Bool, true, false, List, [], ◌∷◌, length, Option, Some, None, IfSome, slice_get, slice_index_or, slice_set, refl, sym, ◌∙◌, ap, subst, inl, arith}
 use Rattle.std.proofs.lemmas.Option.{slice_get-get_or}
 use Rattle.sd_gate.specs.declared.phase.Phase.{Phase}
 use Rattle.sd_gate.specs.declared.phase.Phase.TheVariants.{Raw}
 use Rattle.sd_gate.specs.Phases.{after, phases_after}
 use Rattle.sd_gate.specs.Requests.{Made}
 use Rattle.sd_gate.specs.declared.request_id.RequestId.{RequestId}
+use Rattle.sd_gate.specs.declared.worker.Worker.TheVariants.{Opener}
 use Rattle.sd_journal.specs.Kept.{Kept}
 use Rattle.sd_merge.specs.Merger as merger
 use Rattle.sd_opener.specs.Looking.{IsDoneAsAsked, Looking}
-use Rattle.sd_rounds.specs.Dumper.{Running, out_of_running}
+use Rattle.sd_rounds.specs.Dumper.{Running, out_of_running, writes_of_running}
+use Rattle.sd_rounds.specs.Writes.{no_writes}
 use Rattle.sd_belief.specs.declared.standing.Standing.{Standing}
 use Rattle.sd_belief.specs.declared.standing.Standing.TheVariants.{Open}
 use Rattle.sd_belief.specs.OpenerSteps.{nobody, opener_alone}
 use Rattle.sd_core.specs.Opening.{GoesOn, LetsGo, TeachesOpener}
-use Rattle.sd_core.specs.Sound.{AreOuts, IsCore, IsOpening, Parts, held_for, out_of_opener}
+use Rattle.sd_core.specs.Sound.{AreOuts, IsCore, IsOpening, Parts, held_for, out_of_opener, worker_of}
+use Rattle.sd_core.proofs.OutsLemmas.{no_write, nobody_out}
 
 pub held_opening : (frozen : Option ℕ) (running : Option Running) (opener : Looking) → running ≡ None → held_for frozen running (Some opener) ≡ 1
 held_opening (Some n) running opener none = refl
@@ -45,7 +48,7 @@ any_is P (Some y) x is all = all
 -- an opener that runs and rests leaves nobody out
 pub nobody_is : (core : Parts) (looking : Looking) → IsCore core → core.opener ≡ Some looking → out_of_opener core.opener ≡ None → core.outs ≡ nobody
 nobody_is core looking sound is rests =
-    any_is (core.outs ≡ None ∷ None ∷ out_of_opener core.opener ∷ []) core.opener looking is sound.outs_are.opening ∙ ap (λ o. None ∷ None ∷ o ∷ []) rests
+    any_is (core.outs ≡ None ∷ None ∷ out_of_opener core.opener ∷ no_writes) core.opener looking is sound.outs_are.opening ∙ ap (λ o. None ∷ None ∷ o ∷ no_writes) rests
 
 -- a request of the opener that is out is the only one
 pub alone_is : (core : Parts) (id : RequestId) → IsCore core → slice_get core.outs 2 ≡ Some (Some id) → (out_of_opener core.opener ≡ Some id) × (core.outs ≡ opener_alone id)
@@ -57,46 +60,45 @@ alone_is core id sound out = by core.opener refl
     by : (opener : Option Looking) → core.opener ≡ opener → (out_of_opener core.opener ≡ Some id) × (core.outs ≡ opener_alone id)
     by None is = absurd (let two = (sound.outs_are.two is).are in let no : Some None ≡ Some (Some id) = ap (λ all. slice_get all 2) (sym two) ∙ out in cc)
     by (Some looking) is =
-        let are = any_is (core.outs ≡ None ∷ None ∷ out_of_opener core.opener ∷ []) core.opener looking is sound.outs_are.opening in
+        let are = any_is (core.outs ≡ None ∷ None ∷ out_of_opener core.opener ∷ no_writes) core.opener looking is sound.outs_are.opening in
         let own = last_of (out_of_opener core.opener) (ap (λ all. slice_get all 2) (sym are) ∙ out) in
-        (own, are ∙ ap (λ o. None ∷ None ∷ o ∷ []) own)
+        (own, are ∙ ap (λ o. None ∷ None ∷ o ∷ no_writes) own)
 
 -- no worker has a request out, and no job runs
 pub none_out : (stands : Standing) (outs : List (Option RequestId)) (phases : List Phase) (running : Option Running) (merge : Option merger.Running) (opener : Option Looking)
     → running ≡ None → merge ≡ None → out_of_opener opener ≡ None → outs ≡ nobody → AreOuts stands outs phases running merge opener
 none_out stands outs phases running merge opener none unmerged rests is = record {
-  jobs = λ stands_open. is ∙ ap (λ o. o ∷ None ∷ None ∷ []) (sym (ap out_of_running none)) ∙ ap (λ o. out_of_running running ∷ o ∷ None ∷ []) (sym (ap merger.out_of_merge unmerged));
-  opening = if_any (outs ≡ None ∷ None ∷ out_of_opener opener ∷ []) opener (is ∙ ap (λ o. None ∷ None ∷ o ∷ []) (sym rests));
+  count = ap length is;
+  jobs = λ stands_open. is ∙ ap (λ r. out_of_running r ∷ None ∷ None ∷ writes_of_running r) (sym none)
+      ∙ ap (λ m. out_of_running running ∷ merger.out_of_merge m ∷ None ∷ writes_of_running running) (sym unmerged);
+  opening = if_any (outs ≡ None ∷ None ∷ out_of_opener opener ∷ no_writes) opener (is ∙ ap (λ o. None ∷ None ∷ o ∷ no_writes) (sym rests));
   none = λ closed idle. is;
-  two = λ idle. record { dumper = None; merger = None; are = is };
-  within = λ worker id out. absurd (none_at id worker (ap (λ all. slice_get all worker) (sym is) ∙ out));
-  apart = λ one other a b out its same. absurd (none_at a one (ap (λ all. slice_get all one) (sym is) ∙ out));
+  two = λ idle. record { dumper = None; merger = None; pages = no_writes; are = is };
+  within = λ lane id out. absurd (nobody_out lane id (ap (λ all. slice_get all lane) (sym is) ∙ out));
+  whose = λ lane id out. absurd (nobody_out lane id (ap (λ all. slice_get all lane) (sym is) ∙ out));
+  apart = λ one other a b out its same. absurd (nobody_out one a (ap (λ all. slice_get all one) (sym is) ∙ out));
 }
-  where
-    none_at : (id : RequestId) (w : ℕ) → slice_get nobody w ≡ Some (Some id) → ⊥
-    none_at id zero e = cc
-    none_at id (suc zero) e = cc
-    none_at id (suc (suc zero)) e = cc
-    none_at id (suc (suc (suc w))) e = cc
 
 -- the opener's alone is
 pub one_out : (stands : Standing) (outs : List (Option RequestId)) (phases : List Phase) (running : Option Running) (merge : Option merger.Running) (opener : Option Looking)
     (looking : Looking) (id : RequestId) → stands ≢ Open → opener ≡ Some looking → out_of_opener opener ≡ Some id
-    → outs ≡ opener_alone id → id.slot < length phases → AreOuts stands outs phases running merge opener
-one_out stands outs phases running merge opener looking id closed runs own is within = record {
+    → outs ≡ opener_alone id → id.slot < length phases → id.worker ≡ Opener → AreOuts stands outs phases running merge opener
+one_out stands outs phases running merge opener looking id closed runs own is within whose = record {
+  count = ap length is;
   jobs = λ stands_open. absurd (closed stands_open);
-  opening = if_any (outs ≡ None ∷ None ∷ out_of_opener opener ∷ []) opener (is ∙ ap (λ o. None ∷ None ∷ o ∷ []) (sym own));
+  opening = if_any (outs ≡ None ∷ None ∷ out_of_opener opener ∷ no_writes) opener (is ∙ ap (λ o. None ∷ None ∷ o ∷ no_writes) (sym own));
   none = λ not_open idle. absurd (let no : None ≡ Some looking = sym idle ∙ runs in cc);
   two = λ idle. absurd (let no : None ≡ Some looking = sym idle ∙ runs in cc);
-  within = λ worker other out. subst (λ (i : RequestId). i.slot < length phases) (sym (its other worker (ap (λ all. slice_get all worker) (sym is) ∙ out)).1) within;
-  apart = λ one other a b out at same. (its a one (ap (λ all. slice_get all one) (sym is) ∙ out)).0 ∙ sym (its b other (ap (λ all. slice_get all other) (sym is) ∙ at)).0;
+  within = λ lane other out. subst (λ (i : RequestId). i.slot < length phases) (sym (its other lane (ap (λ all. slice_get all lane) (sym is) ∙ out)).1) within;
+  whose = λ lane other out. (let it = its other lane (ap (λ all. slice_get all lane) (sym is) ∙ out) in ap (λ (i : RequestId). i.worker) it.1 ∙ whose ∙ sym (ap worker_of it.0));
+  apart = λ one other a b out at same. inl ((its a one (ap (λ all. slice_get all one) (sym is) ∙ out)).0 ∙ sym (its b other (ap (λ all. slice_get all other) (sym is) ∙ at)).0);
 }
   where
-    its : (other : RequestId) (w : ℕ) → slice_get (opener_alone id) w ≡ Some (Some other) → (w ≡ 2) × (other ≡ id)
+    its : (other : RequestId) (lane : ℕ) → slice_get (opener_alone id) lane ≡ Some (Some other) → (lane ≡ 2) × (other ≡ id)
     its other zero e = absurd (let no : Some None ≡ Some (Some other) = e in cc)
     its other (suc zero) e = absurd (let no : Some None ≡ Some (Some other) = e in cc)
     its other (suc (suc zero)) e = (refl, cc)
-    its other (suc (suc (suc w))) e = absurd (let no : None ≡ Some (Some other) = e in cc)
+    its other (suc (suc (suc k))) e = absurd (no_write k other e)
 
 pub set_alone : (outs : List (Option RequestId)) (id : RequestId) → outs ≡ nobody → slice_set outs 2 (Some id) ≡ opener_alone id
 set_alone outs id none = ap (λ all. slice_set all 2 (Some id)) none

@@ -1,5 +1,5 @@
 -- The outcomes of a merger's calls, and of those that come late.
-use Rattle.std.proofs.Common.{◌≡◌, ◌≢◌, ◌⊎◌, ◌&&◌, Bool, true, false, [], ◌∷◌, length, is_none, Option, Some, None, IfSome, slice_get, slice_set, refl, sym, ◌∙◌, ap, subst, inl, inr}
+use Rattle.std.proofs.Common.{◌≡◌, ◌≢◌, ◌⊎◌, ℕ, zero, suc, ◌&&◌, Bool, true, false, ◌∷◌, length, is_none, Option, Some, None, IfSome, slice_get, slice_set, refl, sym, ◌∙◌, ap, subst, inl, inr, arith}
 use Rattle.std.proofs.lemmas.Option.{same_Some}
 use Rattle.sd_chain.specs.Catalog.{Places}
 use Rattle.sd_command.specs.declared.refusal.Refusal.TheVariants.{StoreDown}
@@ -12,44 +12,40 @@ use Rattle.sd_gate.specs.declared.request_id.RequestId.{RequestId}
 use Rattle.sd_gate.specs.declared.worker.Worker.{Worker}
 use Rattle.sd_gate.specs.declared.worker.Worker.TheVariants.{Dumper, Merger, Opener}
 use Rattle.sd_gate.specs.Calls.{is_done}
-use Rattle.sd_gate.specs.Phases.{bodies_after, phases_after}
+use Rattle.sd_gate.specs.Phases.{phases_after}
 use Rattle.sd_gate.specs.Requests.{Made}
 use Rattle.sd_merge.specs.Merger as merger
 use Rattle.sd_opener.specs.Looking.{Looking}
-use Rattle.sd_rounds.specs.Dumper.{Running, out_of_running}
+use Rattle.sd_rounds.specs.Dumper.{Running, out_of_running, writes_of_running}
+use Rattle.sd_rounds.specs.Writes.{no_writes}
 use Rattle.sd_belief.specs.declared.standing.Standing.{Standing}
 use Rattle.sd_belief.specs.declared.standing.Standing.TheVariants.{NotOpen, Open, Down}
-use Rattle.sd_belief.specs.Believes.{Believes}
-use Rattle.sd_belief.specs.Calls.{AddsByOutcome, AreGivenUp, HandedIn, IsFree}
+use Rattle.sd_belief.specs.Calls.{AddsByOutcome, AreGivenUp, HandedIn}
 use Rattle.sd_belief.specs.DumperOutcomes.{DumperOutcomes, IsDumpersOutcome, closes_for_sure, is_closing, is_sync}
 use Rattle.sd_belief.specs.MergerOutcomes.{IsMergersOutcome, MergerOutcomes, OutcomeIsBelieved}
-use Rattle.sd_belief.specs.View.{CoreView, history_of, index}
+use Rattle.sd_belief.specs.View.{CoreView, history_of}
 use Rattle.sd_core.specs.Refusals.{is_idle}
-use Rattle.sd_core.specs.Sound.{IsCore, Parts, out_of_opener}
+use Rattle.sd_core.specs.Sound.{AreInPages, IsCore, Parts, out_of_opener, worker_of}
 use Rattle.sd_core.proofs.ApplyLemmas.{same_phases}
 use Rattle.sd_core.proofs.OutcomeLemmas.{handed_dumper}
+use Rattle.sd_core.proofs.OutsLemmas.{lane_at, no_write, nobody_out}
 
 -- ---- the merger's
 
-pub handed_merger : (old new : CoreView) (made : Made) (phase : Phase) (answer : Reply) → IsMergersOutcome old made phase new → new.base ≡ old.base → made.request.id.worker ≡ Merger
-    → length new.phases ≡ length old.phases → OutcomeIsBelieved old new made → AddsByOutcome made.request.id.worker answer (history_of old) (history_of new) → HandedIn old made answer new
-handed_merger old new made phase answer o base whose count goes adds = record {
+pub handed_merger : (old new : CoreView) (made : Made) (phase : Phase) (answer : Reply) → IsMergersOutcome old made phase new → new.base ≡ old.base
+    → length new.phases ≡ length old.phases → OutcomeIsBelieved old new made → AddsByOutcome made.request.id.worker answer (history_of old) (history_of new) → HandedIn old 1 made answer new
+handed_merger old new made phase answer o base count goes adds = record {
   base = base;
-  outs = o.outs ∙ ap (λ w. slice_set old.outs w None) (sym place);
+  outs = o.outs;
   count = count;
   phases = λ other waits.
       let same : phase ≡ other = same_Some phase other (sym o.phase_is ∙ waits.is) in
       let now = o.phases ∙ ap (λ p. phases_after old.phases made.request.id p (is_done made.answer)) same in
       subst (λ p. AreGivenUp new.outs (phases_after old.phases made.request.id other (is_done made.answer)) p) (sym now)
       (same_phases new.outs (phases_after old.phases made.request.id other (is_done made.answer)));
-  goes_on = λ asked bodies files at told b.
-      subst (λ w. Believes new (slice_set asked w None) (bodies_after bodies made.request.id made.request.bytes) files) (sym place)
-      (goes asked bodies files (ap (slice_get asked) (sym place) ∙ at) told b);
+  goes_on = λ asked bodies files at told b. goes asked bodies files at told b;
   adds = adds;
 }
-  where
-    place : index made.request.id.worker ≡ 1
-    place = ap index whose
 
 -- a call that closes a slot for sure is a sync
 pub sync_of : (phase : Phase) (one : Call) → closes_for_sure phase one ≡ true → one ≡ call.Sync
@@ -76,48 +72,83 @@ pub record IsLate (core : Parts) (id : RequestId) : Type 0 where
   pub closed : core.opener ≡ None
   pub other : id.worker ≢ Opener
 
-pub is_late : (core : Parts) (running : Option Running) (merge : Option merger.Running) (opener : Option Looking) (id : RequestId) → IsCore core
-    → slice_get core.outs (index id.worker) ≡ Some (Some id) → core.dumper.running ≡ running → core.merger ≡ merge → core.opener ≡ opener
+pub is_late : (core : Parts) (running : Option Running) (merge : Option merger.Running) (opener : Option Looking) (lane : ℕ) (id : RequestId) → IsCore core
+    → slice_get core.outs lane ≡ Some (Some id) → core.dumper.running ≡ running → core.merger ≡ merge → core.opener ≡ opener
     → ((id.worker ≡ Dumper) × (running ≡ None)) ⊎ (((id.worker ≡ Merger) × (merge ≡ None)) ⊎ ((id.worker ≡ Opener) × (opener ≡ None))) → IsLate core id
-is_late core running merge opener id sound out is_running is_merge is_opener idle = record { down = stands core.standing refl; closed = none; other = other }
+is_late core running merge opener lane id sound out is_running is_merge is_opener idle = record { down = stands core.standing refl; closed = none; other = other }
   where
-    in_opening : (looking : Looking) → core.opener ≡ Some looking → core.outs ≡ None ∷ None ∷ out_of_opener core.opener ∷ []
-    in_opening looking is = subst (λ o. IfSome o (λ one. core.outs ≡ None ∷ None ∷ out_of_opener core.opener ∷ [])) is sound.outs_are.opening
+    whose : id.worker ≡ worker_of lane
+    whose = sound.outs_are.whose lane id out
+
+    not_dumper : id.worker ≡ Merger → id.worker ≡ Dumper → ⊥
+    not_dumper one other = (let no : Merger ≡ Dumper = sym one ∙ other in cc)
+
+    not_opener : id.worker ≡ Opener → id.worker ≡ Dumper → ⊥
+    not_opener one other = (let no : Opener ≡ Dumper = sym one ∙ other in cc)
+
+    opener_merger : id.worker ≡ Opener → id.worker ≡ Merger → ⊥
+    opener_merger one other = (let no : Opener ≡ Merger = sym one ∙ other in cc)
+
+    -- one that is out while an opener runs is its own
+    in_opener : (o : Option RequestId) (at : ℕ) → slice_get (None ∷ None ∷ o ∷ no_writes) at ≡ Some (Some id) → worker_of at ≡ Opener
+    in_opener o zero e = absurd (let no : Some None ≡ Some (Some id) = e in cc)
+    in_opener o (suc zero) e = absurd (let no : Some None ≡ Some (Some id) = e in cc)
+    in_opener o (suc (suc zero)) e = refl
+    in_opener o (suc (suc (suc k))) e = absurd (no_write k id e)
 
     no_opener : (o : Option Looking) → core.opener ≡ o → core.opener ≡ None
     no_opener None is = is
-    no_opener (Some looking) is = elim idle [
-      | inl d ↦ absurd (let no : Some None ≡ Some (Some id) = ap (λ all. slice_get all 0) (sym (in_opening looking is)) ∙ ap (λ w. slice_get core.outs (index w)) (sym d.0) ∙ out in cc)
-      | inr rest ↦ elim rest [
-        | inl m ↦ absurd (let no : Some None ≡ Some (Some id) = ap (λ all. slice_get all 1) (sym (in_opening looking is)) ∙ ap (λ w. slice_get core.outs (index w)) (sym m.0) ∙ out in cc)
-        | inr o ↦ is_opener ∙ o.1
-      ]
-    ]
+    no_opener (Some looking) is =
+        let are = subst (λ o. IfSome o (λ one. core.outs ≡ None ∷ None ∷ out_of_opener core.opener ∷ no_writes)) is sound.outs_are.opening in
+        let own = whose ∙ in_opener (out_of_opener core.opener) lane (ap (λ all. slice_get all lane) (sym are) ∙ out) in
+        elim idle [
+          | inl d ↦ absurd (not_opener own d.0)
+          | inr rest ↦ elim rest [
+            | inl m ↦ absurd (opener_merger own m.0)
+            | inr o ↦ is_opener ∙ o.1
+          ]
+        ]
 
     none : core.opener ≡ None
     none = no_opener core.opener refl
 
     other : id.worker ≢ Opener
-    other same = (let two = sound.outs_are.two none in let no : Some None ≡ Some (Some id) = ap (λ all. slice_get all 2) (sym two.are) ∙ ap (λ w. slice_get core.outs (index w)) (sym same) ∙ out in cc)
+    other same =
+        let two = sound.outs_are.two none in
+        elim (lane_at two.dumper two.merger two.pages lane id (ap (λ all. slice_get all lane) (sym two.are) ∙ out)) [
+          | inl a ↦ not_opener same (whose ∙ ap worker_of a.0)
+          | inr rest ↦ elim rest [
+            | inl b ↦ opener_merger same (whose ∙ ap worker_of b.0)
+            | inr page ↦ not_opener same (whose ∙ ap worker_of page.1)
+          ]
+        ]
 
     not_open : core.standing ≡ Open → ⊥
     not_open is =
         let jobs = sound.outs_are.jobs is in
+        let at = lane_at (out_of_running core.dumper.running) (merger.out_of_merge core.merger) (writes_of_running core.dumper.running) lane id (ap (λ all. slice_get all lane) (sym jobs) ∙ out) in
         elim idle [
-          | inl d ↦ (let no : Some None ≡ Some (Some id) = ap (λ r. Some (out_of_running r)) (sym (is_running ∙ d.1)) ∙ ap (λ all. slice_get all 0) (sym jobs) ∙ ap (λ w. slice_get core.outs (index w)) (sym d.0) ∙ out in cc)
-          | inr rest ↦ elim rest [
-            | inl m ↦ (let no : Some None ≡ Some (Some id) = ap (λ r. Some (merger.out_of_merge r)) (sym (is_merge ∙ m.1)) ∙ ap (λ all. slice_get all 1) (sym jobs) ∙ ap (λ w. slice_get core.outs (index w)) (sym m.0) ∙ out in cc)
+          | inl d ↦ elim at [
+            | inl a ↦ (let no : None ≡ Some id = ap out_of_running (sym (is_running ∙ d.1)) ∙ a.1 in cc)
+            | inr rest ↦ elim rest [
+              | inl b ↦ not_dumper (whose ∙ ap worker_of b.0) d.0
+              | inr page ↦ no_write page.0 id (ap (λ r. slice_get (writes_of_running r) page.0) (sym (is_running ∙ d.1)) ∙ page.2)
+            ]
+          ]
+          | inr others ↦ elim others [
+            | inl m ↦ elim at [
+              | inl a ↦ not_dumper m.0 (whose ∙ ap worker_of a.0)
+              | inr rest ↦ elim rest [
+                | inl b ↦ (let no : None ≡ Some id = ap merger.out_of_merge (sym (is_merge ∙ m.1)) ∙ b.1 in cc)
+                | inr page ↦ not_dumper m.0 (whose ∙ ap worker_of page.1)
+              ]
+            ]
             | inr o ↦ other o.0
           ]
         ]
 
     nobody : core.standing ≡ NotOpen → ⊥
-    nobody is = by id.worker (ap (λ all. slice_get all (index id.worker)) (sym (sound.outs_are.none is none)) ∙ out)
-      where
-        by : (worker : Worker) → slice_get (None ∷ None ∷ None ∷ []) (index worker) ≡ Some (Some id) → ⊥
-        by Dumper e = (let no : Some None ≡ Some (Some id) = e in cc)
-        by Merger e = (let no : Some None ≡ Some (Some id) = e in cc)
-        by Opener e = (let no : Some None ≡ Some (Some id) = e in cc)
+    nobody is = nobody_out lane id (ap (λ all. slice_get all lane) (sym (sound.outs_are.none is none)) ∙ out)
 
     stands : (st : Standing) → core.standing ≡ st → core.standing ≡ Down
     stands NotOpen is = absurd (nobody is)
@@ -136,7 +167,7 @@ idle_one core Merger is = inr (inl (refl, none_is core.merger is))
 idle_one core Opener is = inr (inr (refl, none_is core.opener is))
 
 -- nothing but the request and its slot's phase changes
-pub record IsHandedLate (old : CoreView) (made : Made) (phase : Phase) (new : CoreView) : Type 0 where
+pub record IsHandedLate (old : CoreView) (lane : ℕ) (made : Made) (phase : Phase) (new : CoreView) : Type 0 where
   pub base : new.base ≡ old.base
   pub history : history_of new ≡ history_of old
   pub memory : new.memory ≡ old.memory
@@ -144,39 +175,54 @@ pub record IsHandedLate (old : CoreView) (made : Made) (phase : Phase) (new : Co
   pub down : new.standing ≡ Down
   pub committing : new.committing ≡ old.committing
   pub other : made.request.id.worker ≢ Opener
-  pub out : slice_get old.outs (index made.request.id.worker) ≡ Some (Some made.request.id)
-  pub outs : new.outs ≡ slice_set old.outs (index made.request.id.worker) None
-  pub apart : IsFree (slice_set old.outs (index made.request.id.worker) None) made.request.id.slot
+  pub whose : made.request.id.worker ≡ worker_of lane
+  pub out : slice_get old.outs lane ≡ Some (Some made.request.id)
+  pub outs : new.outs ≡ slice_set old.outs lane None
+  pub apart : (at : ℕ) (id : RequestId) → slice_get (slice_set old.outs lane None) at ≡ Some (Some id) → id.slot ≡ made.request.id.slot → AreInPages lane at made.request.id id
   pub phase_is : slice_get old.phases made.request.id.slot ≡ Some phase
   pub phases : new.phases ≡ phases_after old.phases made.request.id phase (is_done made.answer)
   pub count : length new.phases ≡ length old.phases
 
-pub handed_late : DumperOutcomes → (places : Places) → MergerOutcomes places → (old new : CoreView) (made : Made) (phase : Phase) → IsHandedLate old made phase new
-    → HandedIn old made (reply.Refused StoreDown) new
-handed_late dumper places merges old new made phase l = by made.request.id.worker refl
+pub merger_lane : (lane : ℕ) → worker_of lane ≡ Merger → lane ≡ 1
+merger_lane zero is = absurd (let no : Dumper ≡ Merger = is in cc)
+merger_lane (suc zero) is = refl
+merger_lane (suc (suc zero)) is = absurd (let no : Opener ≡ Merger = is in cc)
+merger_lane (suc (suc (suc k))) is = absurd (let no : Dumper ≡ Merger = is in cc)
+
+pub opener_lane : (lane : ℕ) → worker_of lane ≡ Opener → lane ≡ 2
+opener_lane zero is = absurd (let no : Dumper ≡ Opener = is in cc)
+opener_lane (suc zero) is = absurd (let no : Merger ≡ Opener = is in cc)
+opener_lane (suc (suc zero)) is = refl
+opener_lane (suc (suc (suc k))) is = absurd (let no : Dumper ≡ Opener = is in cc)
+
+pub handed_late : DumperOutcomes → (places : Places) → MergerOutcomes places → (old new : CoreView) (lane : ℕ) (made : Made) (phase : Phase) → IsHandedLate old lane made phase new
+    → HandedIn old lane made (reply.Refused StoreDown) new
+handed_late dumper places merges old new lane made phase l = by made.request.id.worker refl
   where
-    by : (worker : Worker) → made.request.id.worker ≡ worker → HandedIn old made (reply.Refused StoreDown) new
+    by : (worker : Worker) → made.request.id.worker ≡ worker → HandedIn old lane made (reply.Refused StoreDown) new
     by Dumper is =
-        let outcome : IsDumpersOutcome old made phase new = record {
+        let outcome : IsDumpersOutcome old lane made phase new = record {
           base = l.base;
           closed = l.closed;
           memory = l.memory;
-          out = ap (λ w. slice_get old.outs (index w)) (sym is) ∙ l.out;
-          outs = l.outs ∙ ap (λ w. slice_set old.outs (index w) None) is;
-          apart = subst (λ w. IsFree (slice_set old.outs (index w) None) made.request.id.slot) is l.apart;
+          out = l.out;
+          outs = l.outs;
+          apart = λ at id out same. (l.apart at id out same).are;
           phase_is = l.phase_is;
           phases = l.phases;
         } in
-        handed_dumper old new made phase (reply.Refused StoreDown) outcome is l.count
-        (λ asked bodies files at b. dumper.fails old new made phase asked bodies files (record { outcome = outcome; history = l.history; down = l.down; committing = l.committing }) at b) l.history
+        handed_dumper old new lane made phase (reply.Refused StoreDown) outcome l.count
+        (λ asked bodies files at b. dumper.fails old new lane made phase asked bodies files (record { outcome = outcome; history = l.history; down = l.down; committing = l.committing }) at b) l.history
     by Merger is =
+        let one : lane ≡ 1 = merger_lane lane (sym l.whose ∙ is) in
         let outcome : IsMergersOutcome old made phase new = record {
-          out = ap (λ w. slice_get old.outs (index w)) (sym is) ∙ l.out;
-          outs = l.outs ∙ ap (λ w. slice_set old.outs (index w) None) is;
-          apart = subst (λ w. IsFree (slice_set old.outs (index w) None) made.request.id.slot) is l.apart;
+          out = ap (slice_get old.outs) (sym one) ∙ l.out;
+          outs = l.outs ∙ ap (λ k. slice_set old.outs k None) one;
+          apart = λ at id out same. (let far = (l.apart at id (ap (λ k. slice_get (slice_set old.outs k None) at) one ∙ out) same).first in omega (arith, far, one));
           phase_is = l.phase_is;
           phases = l.phases;
         } in
-        handed_merger old new made phase (reply.Refused StoreDown) outcome l.base is l.count
-        (merges.fails old new made phase (record { outcome = outcome; base = l.base; history = l.history; closed = l.closed; down = l.down; committing = l.committing })) l.history
+        subst (λ k. HandedIn old k made (reply.Refused StoreDown) new) (sym one)
+        (handed_merger old new made phase (reply.Refused StoreDown) outcome l.base l.count
+        (merges.fails old new made phase (record { outcome = outcome; base = l.base; history = l.history; closed = l.closed; down = l.down; committing = l.committing })) l.history)
     by Opener is = absurd (l.other is)

@@ -11,6 +11,7 @@ mod GiveUp
 mod HandedLemmas
 mod ImageLemmas
 mod JournalLemmas
+mod LaneLemmas
 mod LastingLemmas
 mod ListLemmas
 mod LittleLemmas
@@ -23,6 +24,7 @@ mod MergerSteps
 mod OpenedLemmas
 mod OpeningLemmas
 mod OutcomeLemmas
+mod OutsLemmas
 mod OwnLemmas
 mod PreDumpLemmas
 mod RefusalLemmas

@@ -21,7 +21,7 @@ use Rattle.sd_belief.specs.Calls.{IsFree}
 use Rattle.sd_belief.specs.Copies.{IsCopyThere, IsOrderly}
 use Rattle.sd_belief.specs.MergerOutcomes.{MergerOutcomes}
 use Rattle.sd_belief.specs.Merges.{IsSpared}
-use Rattle.sd_belief.specs.View.{CoreView, index}
+use Rattle.sd_belief.specs.View.{CoreView}
 use Rattle.sd_slots.specs.Taken.{IsListOf}
 use Rattle.sd_core.specs.Merging.{AreCut, FixesList, HasItsList, IsAsBelieved, IsMergedImage, IsOneByte, OpensMerged, RetiresThese, opened_merge, retires_as}
 use Rattle.sd_core.specs.Refusals.{is_idle}
@@ -97,7 +97,7 @@ retires_these merge core is o = record {
 module _ (places : Places) (laws : MergerOutcomes places) (core : Parts) (old new : CoreView) (merge : merger.Running) (made : Made) (phase : Phase) (image : NewImage) (doing : Doing)
     (before : Option merger.Running) (ended : Option ℕ) (sound : IsCore core) (runs : core.merger ≡ Some merge) (a : OpensAs core old merge made phase image places new) (o : OpensBeside core merge made image doing)
     (before_is : before ≡ Some (record merge { doing = doing })) (in_order : IsSound places) (changes : Changes core.places places image.header.serial (Some (Some (image_of image))))
-    (fixes : FixesList places core.dumper.running new.outs core.room before ended new.merger) (outs_are : old.outs ≡ core.outs) (whose : index made.request.id.worker ≡ 1)
+    (fixes : FixesList places core.dumper.running new.outs core.room before ended new.merger) (outs_are : old.outs ≡ core.outs)
     (running_is : new.dumper.running ≡ core.dumper.running) (count : length new.phases ≡ length core.phases) where
   abbrev serial_now : ℕ
   serial_now = image.header.serial
@@ -152,7 +152,7 @@ module _ (places : Places) (laws : MergerOutcomes places) (core : Parts) (old ne
       (subst IsOrderly (sym a.its_catalog)
       (laws.orderly old new merge o.copy made phase image fixes.list (retires_as ended) b.asked bodies b.files
       (merged_opens places core old new merge made phase image doing before ended core.room a o before_is in_order changes fixes)
-      (ap (slice_get b.asked) (sym whose) ∙ b.out) b.believes))
+      b.out b.believes))
 
   pub opened_copies : (other : merger.Running) (serial : ℕ) (bodies : List (List ℕ)) → OpensMerged other serial old new → IsAsBelieved old made.request bodies
       → IsCopyThere other.source.serial serial old.catalog new (bodies_after bodies made.request.id made.request.bytes)
@@ -163,7 +163,7 @@ module _ (places : Places) (laws : MergerOutcomes places) (core : Parts) (old ne
       (laws.copies old new merge o.copy made phase image fixes.list (retires_as ended) b.asked bodies b.files
       (merged_opens places core old new merge made phase image doing before ended core.room a o before_is in_order changes fixes)
       (λ slot spared. subst (λ all. IsFree (slice_set all 1 None) slot) (sym outs_are) (free_spared core slot sound (merger_works core merge sound runs).stands (subst (λ r. IsSpared r slot) a.old_running spared)))
-      (ap (slice_get b.asked) (sym whose) ∙ b.out) b.believes))
+      b.out b.believes))
 
 -- ---- the end
 
@@ -183,13 +183,13 @@ place_in (x ∷ list) one (suc k, within, is) = let rest = place_in list one (k,
 
 -- behind the last of its calls
 pub ended_cut : (places : Places) → MergerOutcomes places → (old new : CoreView) (merge : merger.Running) (made : Made) (phase : Phase) (serial : ℕ) (bodies : List (List ℕ))
-    → HandsBeside old merge made phase new → EndsList merge made serial → index made.request.id.worker ≡ 1 → IsAsBelieved old made.request bodies → AreCut old new
-ended_cut places laws old new merge made phase serial bodies h e whose b = record {
+    → HandsBeside old merge made phase new → EndsList merge made serial → IsAsBelieved old made.request bodies → AreCut old new
+ended_cut places laws old new merge made phase serial bodies h e b = record {
   each = λ one listed.
       let is : list_of old.merger ≡ e.r.list = ap list_of h.was ∙ ap list_in e.was in
       let at = place_in e.r.list one (subst (λ all. Contains all one) is listed) in
       one_byte new.phases one.slot (laws.cuts old new merge e.r e.next made phase serial at.0 one b.asked bodies b.files (ended_goes_on old new merge made phase serial h e)
-      (ap (slice_get b.asked) (sym whose) ∙ b.out) b.believes at.1);
+      b.out b.believes at.1);
 }
 
 -- a merge whose image isn't open has no list

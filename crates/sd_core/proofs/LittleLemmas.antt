@@ -1,5 +1,5 @@
 -- Which pages an image has, by the marked journal.
-use Rattle.std.proofs.Common.{◌≡◌, ◌↔◌, ◌⊎◌, ℕ, ◌==◌, ◌&&◌, ◌||◌, Bool, true, false, if◌then◌else◌, List, [], ◌∷◌, ◌++◌, Contains, Option, Some, None, IfSome, is_some, refl, sym, ◌∙◌, ap, subst, inl, inr}
+use Rattle.std.proofs.Common.{◌≡◌, ◌⊎◌, ◌↔◌, ℕ, ◌==◌, ◌&&◌, ◌||◌, Bool, true, false, if◌then◌else◌, [], ◌∷◌, ◌++◌, Contains, Option, Some, None, IfSome, is_some, refl, sym, ◌∙◌, ap, subst, inr, inl}
 use Rattle.std.specs.List.{list_any}
 use Rattle.std.specs.Option.{option_map}
 use Rattle.std.proofs.lemmas.Bool.{both_ways, eq-eqb}
@@ -32,7 +32,7 @@ use Rattle.sd_rounds.specs.Dump.{due, kind_of_bytes}
 use Rattle.sd_rounds.specs.Dumper.{Running, is_frozen_image, is_last, order_of}
 use Rattle.sd_rounds.specs.ImageVisits.{visits_after}
 use Rattle.sd_rounds.specs.LittleWork.{LittleLaws, TakesDue, TakesVisited, TookVisited}
-use Rattle.sd_rounds.specs.Making.{GoesOn, Making, Opens, Steps, Visits, begun_image, is_frozen, is_past_freeze}
+use Rattle.sd_rounds.specs.Making.{GoesOn, IsWritten, Making, Opens, Steps, Visits, begun_image, is_frozen, is_past_freeze}
 use Rattle.sd_rounds.specs.Pass.{Place}
 use Rattle.sd_rounds.specs.Rises.{IsRising}
 use Rattle.sd_rounds.specs.Sound.{IsSoundImage}
@@ -74,7 +74,7 @@ visit_more laws base items before after image next visit serial tracked v =
 
 same_order : (ticket : ℕ) (image next : Making) (before after : Contents) (step : ImageStep) → Steps ticket image before step next after → next.order ≡ image.order
 same_order ticket image next before after (Call request) s = ap (λ (m : Making). m.order) s.0.is
-same_order ticket image next before after (PageCall request) s = s.0.order
+same_order ticket image next before after (PageCall lane request) s = s.0.order
 same_order ticket image next before after (TableCall request) s = ap (λ (m : Making). m.order) s.0.is
 same_order ticket image next before after Frozen s = ap (λ (m : Making). m.order) s.0.is
 same_order ticket image next before after (Visited visit) s = ap (λ (m : Making). m.order) s.passes.1
@@ -109,11 +109,6 @@ step_little laws base items now before after number ticket image next step s ris
     order : next.order ≡ image.order
     order = same_order ticket image next before after step s
 
--- a call of a plan, or of a page's write, is no visit
-pub asks_no_visit : (step : ImageStep) (request : Asked) (all : List visits.Visit) → (step ≡ Call request) ⊎ (step ≡ PageCall request) → all ≡ visits_after step all
-asks_no_visit step request all (inl is) = subst (λ s. all ≡ visits_after s all) (sym is) refl
-asks_no_visit step request all (inr is) = subst (λ s. all ≡ visits_after s all) (sym is) refl
-
 -- the memory is frozen for it
 pub freeze_little : LittleLaws → (base : Base) (items : Marked) (before after : Contents) (number ticket : ℕ) (image next : Making)
     → Steps ticket image before Frozen next after → image.order.kind ≡ Dump → IsTracked base items before
@@ -147,7 +142,7 @@ begun_little laws base items before after number ticket order next request s fre
 
 -- an outcome with which it goes on
 pub more_little : LittleLaws → (base : Base) (items : Marked) (memory : Contents) (number : ℕ) (image next : Making) (made : Made)
-    → GoesOn image made next → is_frozen next ≡ is_frozen image → TakesLittle base items memory number image → TakesLittle base items memory number next
+    → GoesOn image made next ⊎ IsWritten image made next → is_frozen next ≡ is_frozen image → TakesLittle base items memory number image → TakesLittle base items memory number next
 more_little laws base items memory number image next made g still was = record {
   round = λ kind. subst (λ (o : ImageOrder). TakesVisited (visits_of items o.serial) next) (sym order)
       (laws.goes_on (visits_of items image.order.serial) image next made g (was.round (ap (λ (o : ImageOrder). o.kind) (sym order) ∙ kind)));
@@ -163,7 +158,7 @@ more_little laws base items memory number image next made g still was = record {
 }
   where
     order : next.order ≡ image.order
-    order = ap (λ (m : Making). m.order) g.is
+    order = elim g [ inl goes ↦ ap (λ (m : Making). m.order) goes.is | inr written ↦ ap (λ (m : Making). m.order) written.is ]
 
 -- ---- a command was journaled
 

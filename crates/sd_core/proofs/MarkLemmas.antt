@@ -1,5 +1,5 @@
 -- The marks of an image, and the freeze, in the journal.
-use Rattle.std.proofs.Common.{◌≡◌, ◌⊎◌, ℕ, ◌+◌, ◌≤◌, ◌==◌, ◌&&◌, ◌||◌, Bool, true, false, if◌then◌else◌, [], ◌∷◌, Option, Some, None, IfSome, refl, sym, ◌∙◌, ap, subst, inl, inr, arith}
+use Rattle.std.proofs.Common.{◌≡◌, ℕ, ◌+◌, ◌≤◌, ◌==◌, ◌&&◌, ◌||◌, Bool, true, false, if◌then◌else◌, [], ◌∷◌, Option, Some, None, IfSome, refl, sym, ◌∙◌, ap, subst, arith}
 use Rattle.std.specs.List.{list_any}
 use Rattle.std.proofs.lemmas.Bool.{eq-eqb}
 use Rattle.sd_chain.specs.Catalog.{Changes, IsHeld, Places, place_of}
@@ -15,32 +15,14 @@ use Rattle.sd_journal.specs.Marked.{IsTracked, Marked, Noted, Told, entries_of, 
 use Rattle.sd_journal.specs.TrackedLaws.{TrackedLaws}
 use Rattle.sd_pagetable.specs.Contents.{Contents}
 use Rattle.sd_pagetable.specs.Order.{IsNextPage}
-use Rattle.sd_rounds.specs.declared.image_step.ImageStep.{ImageStep}
-use Rattle.sd_rounds.specs.declared.image_step.ImageStep.TheVariants.{Call, PageCall}
 use Rattle.sd_rounds.specs.declared.stage.Stage.TheVariants.{Pass as PassStage}
 use Rattle.sd_rounds.specs.declared.visit.Visit.{Visit as PageVisit}
 use Rattle.sd_rounds.specs.Dumper.{Running, is_frozen_image, next_slot, slot_before, slot_of}
-use Rattle.sd_rounds.specs.Making.{Asks, Freezes, IsAskedBy, IsReadyFor, Making, Steps, Visits, WritesPage, WritesTable, is_frozen, is_past_freeze}
+use Rattle.sd_rounds.specs.Making.{Freezes, IsReadyFor, Making, Visits, WritesTable, is_frozen, is_past_freeze}
 use Rattle.sd_rounds.specs.Sound.{HasSoundImage, IsSoundImage, IsSoundMaking}
 use Rattle.sd_core.specs.declared.numbers.Numbers.{Numbers}
 use Rattle.sd_core.specs.Sound.{AreCounted, AreNumbers, IsCore, IsJournal, IsVisiting, IsVisitingIn, Parts, frozen_by}
 use Rattle.sd_core.proofs.WorkLemmas.{at_work, image_of_work, noted_journal, numbers_noted}
-
--- ---- what a step with a call of a plan, or of a page's write, is
-
-pub record AsksOrWrites (ticket : ℕ) (image : Making) (before : Contents) (request : Asked) (next : Making) (after : Contents) : Type 0 where
-  pub either : Asks image request next ⊎ WritesPage image request next
-  pub by : IsAskedBy ticket request
-  pub same : after ≡ before
-
-pub asks_or_writes : (ticket : ℕ) (image : Making) (before : Contents) (step : ImageStep) (request : Asked) (next : Making) (after : Contents)
-    → (step ≡ Call request) ⊎ (step ≡ PageCall request) → Steps ticket image before step next after → AsksOrWrites ticket image before request next after
-asks_or_writes ticket image before step request next after (inl is) steps =
-    let s = subst (λ s. Steps ticket image before s next after) is steps in
-    record { either = inl s.0; by = s.1; same = s.2 }
-asks_or_writes ticket image before step request next after (inr is) steps =
-    let s = subst (λ s. Steps ticket image before s next after) is steps in
-    record { either = inr s.0; by = s.1; same = s.2 }
 
 -- ---- two conditions
 

@@ -8,7 +8,7 @@ use Rattle.sd_command.specs.declared.refusal.Refusal.TheVariants as refusal
 use Rattle.sd_merge.specs.Merger as merger
 use Rattle.sd_merge.specs.Merger.{begun_merge}
 use Rattle.sd_merge.specs.Sources.{source_from}
-use Rattle.sd_rounds.specs.Dumper.{HasSlot, Running, out_of_running}
+use Rattle.sd_rounds.specs.Dumper.{HasSlot, Running, out_of_running, writes_of_running}
 use Rattle.sd_belief.specs.declared.standing.Standing.TheVariants as standing
 use Rattle.sd_belief.specs.MergerSteps.{IsUncalled}
 use Rattle.sd_belief.specs.View.{CoreView}
@@ -85,7 +85,7 @@ merge_begun core tip slot room before merge sound is stands closed idle serial w
       serials = λ running runs. omega (arith, serial);
       held = λ running image runs making held. held;
       stay = λ number o at has. at;
-    }) sound.counted (jobs_out core sound stands ∙ ap (λ m. out_of_running core.dumper.running ∷ merger.out_of_merge m ∷ None ∷ []) idle)
+    }) sound.counted (jobs_out core sound stands ∙ ap (λ m. out_of_running core.dumper.running ∷ merger.out_of_merge m ∷ None ∷ writes_of_running core.dumper.running) idle)
     (λ id out. absurd (let no : None ≡ Some id = out in cc)) (λ id out. absurd (let no : None ≡ Some id = out in cc)) (record {
       stands = stands;
       closed = closed;

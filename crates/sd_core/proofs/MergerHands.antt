@@ -15,8 +15,8 @@ use Rattle.sd_merge.specs.declared.stage.Stage.{Stage}
 use Rattle.sd_merge.specs.declared.stage.Stage.TheVariants.{Format, Pass as PassStage, PageRead, PageWrite, Close}
 use Rattle.sd_merge.specs.Copying.{Copying, GoesOn, IsSoundCopying, out_of, stage_after}
 use Rattle.sd_merge.specs.Merger as merger
-use Rattle.sd_merge.specs.Merger.{AreRunning, Doing, EndsAll, GoesOnWith, Hands, HandsAt, HandsClosing, HasSoundCopy, HasSoundCopyIn, IsLastOf, IsRetiring, IsRunningAt, Retiring, due, copying, opened, retiring}
-use Rattle.sd_rounds.specs.Dumper.{HasSlot, out_of_running}
+use Rattle.sd_merge.specs.Merger.{AreRunning, Doing, GoesOnWith, Hands, HandsAt, HandsClosing, HasSoundCopy, HasSoundCopyIn, IsRetiring, IsRunningAt, Retiring, due, copying, opened, retiring}
+use Rattle.sd_rounds.specs.Dumper.{HasSlot, out_of_running, writes_of_running}
 use Rattle.sd_belief.specs.Calls.{IsFree}
 use Rattle.sd_belief.specs.DumperOutcomes.{LeavesCatalog, closes_for_sure}
 use Rattle.sd_belief.specs.MergerOutcomes.{IsMergersOutcome, MergerOutcomes, OutcomeIsBelieved, RetiringGoesOn}
@@ -179,7 +179,7 @@ leaves_work core places merge now id closed sound is fewer leaves sync out = rec
         left_image true id.slot core.places places serial o leaves (λ same. m.syncs id out (sync is_closed) (subst (HasSlot core.dumper.running) same has)) there
     by false is_closed leaves serial o there has = ap (λ all. place_of all serial) leaves ∙ there
 
-pub outs_without : (core : Parts) → IsCore core → core.standing ≡ Open → slice_set core.outs 1 None ≡ out_of_running core.dumper.running ∷ None ∷ None ∷ []
+pub outs_without : (core : Parts) → IsCore core → core.standing ≡ Open → slice_set core.outs 1 None ≡ out_of_running core.dumper.running ∷ None ∷ None ∷ writes_of_running core.dumper.running
 outs_without core sound stands = ap (λ all. slice_set all 1 None) (jobs_out core sound stands)
 
 -- it goes on
@@ -193,7 +193,7 @@ core_goes_on core outs phases places merge doing now id closed sound is now_is r
     (core_beside core outs phases places core.room core.numbers (Some (record merge { doing = doing })) sound m.stands m.closed count
     (leaves_work core places merge (Some (record merge { doing = doing })) id closed sound is rests.fewer leaves sync out)
     (left_counted closed id.slot core.places places core.numbers leaves sound.counted)
-    (are ∙ outs_without core sound m.stands ∙ ap (λ o. out_of_running core.dumper.running ∷ o ∷ None ∷ []) (sym rests.rests))
+    (are ∙ outs_without core sound m.stands ∙ ap (λ o. out_of_running core.dumper.running ∷ o ∷ None ∷ writes_of_running core.dumper.running) (sym rests.rests))
     (λ other at. absurd (let no : None ≡ Some other = sym rests.rests ∙ at in cc)) (λ other at. absurd (let no : None ≡ Some other = sym rests.rests ∙ at in cc)) rests.merging)
 
 -- it has ended

@@ -6,7 +6,7 @@ use Rattle.sd_gate.specs.declared.worker.Worker.{Worker}
 use Rattle.sd_gate.specs.declared.worker.Worker.TheVariants.{Opener}
 use Rattle.sd_gate.specs.Calls.{is_done}
 use Rattle.sd_gate.specs.Laws.{found_phase}
-use Rattle.sd_gate.specs.Phases.{Waits, bodies_after, given_up, phases_after}
+use Rattle.sd_gate.specs.Phases.{Waits, given_up, phases_after}
 use Rattle.sd_gate.specs.Requests.{Asked, Made}
 use Rattle.sd_command.specs.declared.reply.Reply.{Reply}
 use Rattle.sd_command.specs.declared.reply.Reply.TheVariants as reply
@@ -18,24 +18,18 @@ use Rattle.sd_journal.specs.Marked.{Told, entries_of}
 use Rattle.sd_image.specs.Shows.{Shows}
 use Rattle.sd_opener.specs.Looking.{Looking}
 use Rattle.sd_opener.specs.Sees.{Sees}
-use Rattle.sd_belief.specs.Believes.{Believes}
 use Rattle.sd_belief.specs.Calls.{AreGivenUp, HandedIn, HandsOut, IsFree, MakesStep, Stays}
 use Rattle.sd_belief.specs.Laws.{IsOpenAs, ReopenedIsBelieved}
 use Rattle.sd_belief.specs.OpenerSteps.{Decodes, GivesUpOpening, IsHandedIn, IsTaught, LooksOn, OnlyOpens, OpenerSteps, Reopens, nobody, opener_alone}
-use Rattle.sd_belief.specs.View.{CoreView, history_of, index}
+use Rattle.sd_belief.specs.View.{CoreView, history_of}
 use Rattle.sd_rounds.specs.Dumper.{Running}
 use Rattle.sd_core.specs.Opening.{with_opening}
 use Rattle.sd_core.specs.Sound.{held_for}
 use Rattle.sd_core.proofs.ApplyLemmas.{same_phases}
+use Rattle.sd_core.proofs.OutsLemmas.{nobody_out}
 
 free_of_nobody : (outs : List (Option RequestId)) (slot : ℕ) → outs ≡ nobody → IsFree outs slot
-free_of_nobody outs slot is worker id out same = none_at worker (ap (λ all. slice_get all worker) (sym is) ∙ out)
-  where
-    none_at : (w : ℕ) → slice_get nobody w ≡ Some (Some id) → ⊥
-    none_at zero e = cc
-    none_at (suc zero) e = cc
-    none_at (suc (suc zero)) e = cc
-    none_at (suc (suc (suc w))) e = cc
+free_of_nobody outs slot is lane id out same = nobody_out lane id (ap (λ all. slice_get all lane) (sym is) ∙ out)
 
 pub given_count : (phases : List Phase) → length (map given_up phases) ≡ length phases
 given_count [] = refl
@@ -81,6 +75,7 @@ ends_refused steps old new why g = record { keeps = inl (stays_ended steps old n
 pub hands_out : OpenerSteps → (old new : CoreView) (opener next : Looking) (number : ℕ) (request : Asked) → LooksOn old opener number request next new
     → opener.slots ≡ length old.phases → HandsOut old Opener request new
 hands_out steps old new opener next number request l slots = record {
+  lane = 2;
   free = ap (λ outs. slice_get outs 2) l.none;
   base = l.rest.base;
   history = ap entries_of l.rest.items;
@@ -88,7 +83,9 @@ hands_out steps old new opener next number request l slots = record {
   outs = l.outs ∙ ap (λ outs. slice_set outs 2 (Some request.id)) (sym l.none);
   whose = l.asked.worker;
   slot = (let slot = l.asked.slot in let within = l.asked.within in omega (arith, slot, within, slots));
-  alone = free_of_nobody old.outs request.id.slot l.none;
+  apart = λ lane id out same. absurd (free_of_nobody old.outs request.id.slot l.none lane id out same);
+  pages = λ few. absurd (omega (arith, few));
+  beside = λ lane id out same. absurd (free_of_nobody old.outs request.id.slot l.none lane id out same);
   goes_on = λ asked bodies files b. steps.looks old new opener next number request asked bodies files l b;
 }
 
@@ -160,45 +157,37 @@ pub record IsAfter (old : CoreView) (made : Made) (new : CoreView) : Type 0 wher
   pub phases : (phase : Phase) → slice_get old.phases made.request.id.slot ≡ Some phase
       → new.phases ≡ phases_after old.phases made.request.id phase (is_done made.answer)
 
-at_opener : (id : RequestId) → id.worker ≡ Opener → index id.worker ≡ 2
-at_opener id is = ap index is
-
-outs_after : (id : RequestId) (outs now : List (Option RequestId)) → id.worker ≡ Opener → outs ≡ opener_alone id → now ≡ nobody
-    → now ≡ slice_set outs (index id.worker) None
-outs_after id outs now whose alone none = none ∙ sym (ap (λ w. slice_set outs w None) (at_opener id whose) ∙ ap (λ all. slice_set all 2 None) alone)
+outs_after : (id : RequestId) (outs now : List (Option RequestId)) → outs ≡ opener_alone id → now ≡ nobody → now ≡ slice_set outs 2 None
+outs_after id outs now alone none = none ∙ sym (ap (λ all. slice_set all 2 None) alone)
 
 handed_after : (old new : CoreView) (made : Made) → IsAfter old made new → (phase : Phase) → Waits old.phases made.request.id phase → IsHandedIn old made phase new
 handed_after old new made a phase waits = record { rest = a.rest; alone = a.alone; outs = a.outs; waits = waits; phases = a.phases phase waits.is }
 
 -- it goes on, or ends with a failure
 pub handed_on : OpenerSteps → (old new : CoreView) (made : Made) (opener next : Looking) → IsAfter old made new
-    → ((phase : Phase) → IsHandedIn old made phase new → IsTaught old opener made phase next new) → HandedIn old made reply.Worked new
+    → ((phase : Phase) → IsHandedIn old made phase new → IsTaught old opener made phase next new) → HandedIn old 2 made reply.Worked new
 handed_on steps old new made opener next a taught = record {
   base = a.rest.base;
-  outs = outs_after made.request.id old.outs new.outs a.whose a.alone a.outs;
+  outs = outs_after made.request.id old.outs new.outs a.alone a.outs;
   count = a.count;
   phases = λ phase waits. subst (λ p. AreGivenUp new.outs (phases_after old.phases made.request.id phase (is_done made.answer)) p)
       (sym (a.phases phase waits.is)) (same_phases new.outs (phases_after old.phases made.request.id phase (is_done made.answer)));
   goes_on = λ asked bodies files at told b.
-      let own = ap (slice_get asked) (sym (at_opener made.request.id a.whose)) ∙ at in
-      let covered = b.has.waiting (index made.request.id.worker) made.request at in
-      subst (λ w. Believes new (slice_set asked w None) (bodies_after bodies made.request.id made.request.bytes) files) (sym (at_opener made.request.id a.whose))
-      (steps.teaches old new opener next made covered.phase asked bodies files (taught covered.phase (handed_after old new made a covered.phase covered.waits)) own told b);
+      let covered = b.has.waiting 2 made.request at in
+      steps.teaches old new opener next made covered.phase asked bodies files (taught covered.phase (handed_after old new made a covered.phase covered.waits)) at told b;
   adds = ap entries_of a.rest.items;
 }
 
-pub handed_failed : OpenerSteps → (old new : CoreView) (made : Made) (why : Refusal) → IsAfter old made new → new.opener ≡ None → HandedIn old made (reply.Refused why) new
+pub handed_failed : OpenerSteps → (old new : CoreView) (made : Made) (why : Refusal) → IsAfter old made new → new.opener ≡ None → HandedIn old 2 made (reply.Refused why) new
 handed_failed steps old new made why a ended = record {
   base = a.rest.base;
-  outs = outs_after made.request.id old.outs new.outs a.whose a.alone a.outs;
+  outs = outs_after made.request.id old.outs new.outs a.alone a.outs;
   count = a.count;
   phases = λ phase waits. subst (λ p. AreGivenUp new.outs (phases_after old.phases made.request.id phase (is_done made.answer)) p)
       (sym (a.phases phase waits.is)) (same_phases new.outs (phases_after old.phases made.request.id phase (is_done made.answer)));
   goes_on = λ asked bodies files at told b.
-      let own = ap (slice_get asked) (sym (at_opener made.request.id a.whose)) ∙ at in
-      let covered = b.has.waiting (index made.request.id.worker) made.request at in
-      subst (λ w. Believes new (slice_set asked w None) (bodies_after bodies made.request.id made.request.bytes) files) (sym (at_opener made.request.id a.whose))
-      (steps.fails old new made covered.phase asked bodies files (handed_after old new made a covered.phase covered.waits) ended own b);
+      let covered = b.has.waiting 2 made.request at in
+      steps.fails old new made covered.phase asked bodies files (handed_after old new made a covered.phase covered.waits) ended at b;
   adds = ap entries_of a.rest.items;
 }
 
@@ -210,8 +199,8 @@ step_seen worker answer seen now new is makes = subst (λ old. MakesStep old wor
 pub hands_seen : (worker : Worker) (request : Asked) (seen now new : CoreView) → seen ≡ now → HandsOut seen worker request new → HandsOut now worker request new
 hands_seen worker request seen now new is hands = subst (λ old. HandsOut old worker request new) is hands
 
-pub handed_seen : (made : Made) (answer : Reply) (seen now new : CoreView) → seen ≡ now → HandedIn seen made answer new → HandedIn now made answer new
-handed_seen made answer seen now new is handed = subst (λ old. HandedIn old made answer new) is handed
+pub handed_seen : (lane : ℕ) (made : Made) (answer : Reply) (seen now new : CoreView) → seen ≡ now → HandedIn seen lane made answer new → HandedIn now lane made answer new
+handed_seen lane made answer seen now new is handed = subst (λ old. HandedIn old lane made answer new) is handed
 
 pub stays_seen : (seen now new : CoreView) → seen ≡ now → Stays seen new → Stays now new
 stays_seen seen now new is stays = subst (λ old. Stays old new) is stays

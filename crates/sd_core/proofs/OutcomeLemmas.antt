@@ -4,7 +4,6 @@ use Rattle.std.proofs.lemmas.Bool.{eq-eqb}
 use Rattle.std.proofs.lemmas.Option.{same_Some}
 use Rattle.sd_chain.specs.Catalog.{Changes, IsHeld, Opened, Places, is_elsewhere, place_of, without_slot}
 use Rattle.sd_gate.specs.declared.phase.Phase.{Phase}
-use Rattle.sd_gate.specs.declared.worker.Worker.TheVariants.{Dumper}
 use Rattle.sd_gate.specs.Calls.{is_done}
 use Rattle.sd_gate.specs.Phases.{bodies_after, phases_after}
 use Rattle.sd_gate.specs.Requests.{Asked, Made}
@@ -24,7 +23,7 @@ use Rattle.sd_rounds.specs.Making.{Making, Opens, is_past_freeze}
 use Rattle.sd_belief.specs.Believes.{Believes}
 use Rattle.sd_belief.specs.Calls.{AddsByOutcome, AreGivenUp, HandedIn}
 use Rattle.sd_belief.specs.DumperOutcomes.{IsDumpersOutcome, LeavesCatalog}
-use Rattle.sd_belief.specs.View.{CoreView, history_of, index}
+use Rattle.sd_belief.specs.View.{CoreView, history_of}
 use Rattle.sd_core.specs.declared.numbers.Numbers.{Numbers}
 use Rattle.sd_core.specs.Sound.{AreCounted, AreNumbers, IsCore, IsHeaderOf, IsImageOf, IsJournal, IsStageOf, Parts}
 use Rattle.sd_core.proofs.ApplyLemmas.{same_phases}
@@ -32,28 +31,23 @@ use Rattle.sd_core.proofs.WorkLemmas.{at_work, own_order}
 
 -- ---- as the calls of a core tell it
 
-pub handed_dumper : (old new : CoreView) (made : Made) (phase : Phase) (answer : Reply) → IsDumpersOutcome old made phase new → made.request.id.worker ≡ Dumper
+pub handed_dumper : (old new : CoreView) (lane : ℕ) (made : Made) (phase : Phase) (answer : Reply) → IsDumpersOutcome old lane made phase new
     → length new.phases ≡ length old.phases
-    → ((asked : List (Option Asked)) (bodies files : List (List ℕ)) → slice_get asked 0 ≡ Some (Some made.request) → Believes old asked bodies files
-    → Believes new (slice_set asked 0 None) (bodies_after bodies made.request.id made.request.bytes) files)
-    → AddsByOutcome made.request.id.worker answer (history_of old) (history_of new) → HandedIn old made answer new
-handed_dumper old new made phase answer o whose count goes adds = record {
+    → ((asked : List (Option Asked)) (bodies files : List (List ℕ)) → slice_get asked lane ≡ Some (Some made.request) → Believes old asked bodies files
+    → Believes new (slice_set asked lane None) (bodies_after bodies made.request.id made.request.bytes) files)
+    → AddsByOutcome made.request.id.worker answer (history_of old) (history_of new) → HandedIn old lane made answer new
+handed_dumper old new lane made phase answer o count goes adds = record {
   base = o.base;
-  outs = o.outs ∙ ap (λ w. slice_set old.outs w None) (sym place);
+  outs = o.outs;
   count = count;
   phases = λ other waits.
       let same : phase ≡ other = same_Some phase other (sym o.phase_is ∙ waits.is) in
       let now = o.phases ∙ ap (λ p. phases_after old.phases made.request.id p (is_done made.answer)) same in
       subst (λ p. AreGivenUp new.outs (phases_after old.phases made.request.id other (is_done made.answer)) p) (sym now)
       (same_phases new.outs (phases_after old.phases made.request.id other (is_done made.answer)));
-  goes_on = λ asked bodies files at told b.
-      subst (λ w. Believes new (slice_set asked w None) (bodies_after bodies made.request.id made.request.bytes) files) (sym place)
-      (goes asked bodies files (ap (slice_get asked) (sym place) ∙ at) b);
+  goes_on = λ asked bodies files at told b. goes asked bodies files at b;
   adds = adds;
 }
-  where
-    place : index made.request.id.worker ≡ 0
-    place = ap index whose
 
 -- ---- images that leave the catalog
 

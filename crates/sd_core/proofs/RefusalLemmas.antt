@@ -1,20 +1,24 @@
 -- What is so where a call isn't refused.
-use Rattle.std.proofs.Common.{◌≡◌, ◌≢◌, ◌<◌, ◌==◌, ◌&&◌, ◌||◌, Bool, true, false, not, is_none, is_some, [], ◌∷◌, Option, Some, None, IfSome, slice_get, refl, sym, ◌∙◌, ap, subst, inl, inr, arith}
+use Rattle.std.proofs.Common.{◌≡◌, ◌≢◌, ◌<◌, ◌==◌, ◌&&◌, ◌||◌, Bool, true, false, not, if◌then◌else◌, is_none, is_some, [], ◌∷◌, Option, Some, None, slice_get, refl, sym, ◌∙◌, ap, inl, inr, arith}
 use Rattle.std.proofs.lemmas.Bool.Decides.{eqb_tells}
 use Rattle.sd_command.specs.declared.refusal.Refusal.{Refusal}
 use Rattle.sd_command.specs.declared.refusal.Refusal.TheVariants as refusal
 use Rattle.sd_gate.specs.declared.request_id.RequestId.{RequestId}
 use Rattle.sd_gate.specs.declared.worker.Worker.{Worker}
-use Rattle.sd_gate.specs.declared.worker.Worker.TheVariants.{Dumper}
+use Rattle.sd_gate.specs.declared.worker.Worker.TheVariants.{Dumper, Merger, Opener}
 use Rattle.sd_journal.specs.History.{pending}
-use Rattle.sd_opener.specs.Looking.{Looking}
+use Rattle.sd_pagetable.specs.Contents.{plain_of}
+use Rattle.sd_rounds.specs.Dumper.{Running}
+use Rattle.sd_rounds.specs.Waits.{dumper_must_wait}
+use Rattle.sd_rounds.specs.Writes.{is_any_out}
 use Rattle.sd_belief.specs.declared.standing.Standing.TheVariants as standing
 use Rattle.sd_belief.specs.OpenerSteps.{nobody}
 use Rattle.sd_belief.specs.View.{CoreView, history_of, index}
 use Rattle.sd_core.specs.Beginning.{first_of, free_entries}
-use Rattle.sd_core.specs.Refusals.{are_resting, cancel_refusal, cant_cancel, has_checkpoint, is_idle, is_in_use, is_open, is_resting, none_at, reopen_refusal, wants_entry, work_refusal}
-use Rattle.sd_core.specs.Sound.{IsCore, Parts, out_of_opener}
+use Rattle.sd_core.specs.Refusals.{are_resting, cancel_refusal, cant_cancel, has_checkpoint, is_idle, is_in_use, is_open, is_page_out, is_resting, must_wait, must_wait_for_pages, none_at, reopen_refusal, wants_entry, work_refusal}
+use Rattle.sd_core.specs.Sound.{IsCore, Parts}
 use Rattle.sd_core.proofs.BeginLemmas.{first_no, neither, none_some}
+use Rattle.sd_core.proofs.OutsLemmas.{nobody_of}
 
 -- ---- Booleans
 
@@ -40,20 +44,12 @@ rests_where None is = absurd (let no : false ≡ true = is in cc)
 rests_where (Some None) is = refl
 rests_where (Some (Some id)) is = absurd (let no : false ≡ true = is in cc)
 
-pub nobody_rests : (core : Parts) → IsCore core → are_resting core.outs ≡ true → core.outs ≡ nobody
-nobody_rests core sound is = by core.opener refl
-  where
-    three : (one two last : Option RequestId) → are_resting (one ∷ two ∷ last ∷ []) ≡ true → one ∷ two ∷ last ∷ [] ≡ nobody
-    three None None None rest = refl
-    three None None (Some id) rest = absurd (let no : false ≡ true = rest in cc)
-    three None (Some id) last rest = absurd (let no : false ≡ true = rest in cc)
-    three (Some id) two last rest = absurd (let no : false ≡ true = rest in cc)
+not_true : (b : Bool) → not b ≡ true → b ≡ false
+not_true true is = absurd (let no : false ≡ true = is in cc)
+not_true false is = refl
 
-    by : (opener : Option Looking) → core.opener ≡ opener → core.outs ≡ nobody
-    by None none = (let two = sound.outs_are.two none in two.are ∙ three two.dumper two.merger None (ap are_resting (sym two.are) ∙ is))
-    by (Some looking) some =
-        let are : core.outs ≡ None ∷ None ∷ out_of_opener core.opener ∷ [] = subst (λ o. IfSome o (λ one. core.outs ≡ None ∷ None ∷ out_of_opener core.opener ∷ [])) some sound.outs_are.opening in
-        are ∙ three None None (out_of_opener core.opener) (ap are_resting (sym are) ∙ is)
+pub nobody_rests : (core : Parts) → IsCore core → are_resting core.outs ≡ true → core.outs ≡ nobody
+nobody_rests core sound is = nobody_of core.outs sound.outs_are.count (not_true (is_any_out core.outs) is)
 
 -- ---- a checkpoint that can be cancelled
 
@@ -61,20 +57,23 @@ pub record MayCancel (core : CoreView) : Type 0 where
   pub some : core.dumper.running ≡ None → pending (history_of core) ≡ None → ⊥
   pub closed : core.opener ≡ None
   pub rests : slice_get core.outs 0 ≡ Some None
+  pub pages : is_page_out core.outs ≡ false
   pub sure : core.committing ≡ false
 
 pub may_cancel_now : (core : CoreView) → cancel_refusal core ≡ None → MayCancel core
 may_cancel_now core is =
     let one = first_no (not (has_checkpoint core)) refusal.Idle _ is in
     let two = first_no (cant_cancel core) refusal.Busy _ one.1 in
-    let sure = neither (is_some core.opener || not (is_resting core.outs Dumper)) core.committing two.0 in
-    let rests = neither (is_some core.opener) (not (is_resting core.outs Dumper)) sure.0 in
+    let sure = neither (is_some core.opener || not (is_resting core.outs Dumper) || is_page_out core.outs) core.committing two.0 in
+    let pages = neither (is_some core.opener || not (is_resting core.outs Dumper)) (is_page_out core.outs) sure.0 in
+    let rests = neither (is_some core.opener) (not (is_resting core.outs Dumper)) pages.0 in
     let has = not_false (has_checkpoint core) one.0 in
     record {
       some = λ idle none.
           let no : false ≡ true = sym (ap (λ r. is_some r || is_some (pending (history_of core))) idle ∙ some_false (pending (history_of core)) none) ∙ has in cc;
       closed = none_some core.opener rests.0;
       rests = rests_where (slice_get core.outs 0) (not_false (is_resting core.outs Dumper) rests.1);
+      pages = pages.1;
       sure = sure.1;
     }
 
@@ -110,18 +109,34 @@ may_reopen core is =
 pub record MayWork (core : CoreView) (worker : Worker) : Type 0 where
   pub busy : is_idle core worker ≡ false
   pub rests : slice_get core.outs (index worker) ≡ Some None
+  pub goes : must_wait core worker ≡ false
 
 pub may_work : (core : CoreView) (worker : Worker) → work_refusal core worker ≡ None → MayWork core worker
 may_work core worker is =
-    let one = first_no (not (is_resting core.outs worker)) refusal.Busy _ is in
+    let one = first_no (must_wait core worker) refusal.Busy _ is in
     let two = first_no (is_idle core worker) refusal.Idle _ one.1 in
-    record { busy = two.0; rests = rests_where (slice_get core.outs (index worker)) (not_false (is_resting core.outs worker) one.0) }
+    record { busy = two.0; rests = rests_where (slice_get core.outs (index worker)) (rests_of worker one.0); goes = one.0 }
+  where
+    rests_of : (worker : Worker) → must_wait core worker ≡ false → is_resting core.outs worker ≡ true
+    rests_of Dumper none = not_false (is_resting core.outs Dumper) (neither (not (is_resting core.outs Dumper)) (must_wait_for_pages core) none).0
+    rests_of Merger none = not_false (is_resting core.outs Merger) none
+    rests_of Opener none = not_false (is_resting core.outs Opener) none
+
+-- the dumper's image may go on
+pub image_goes : (core : CoreView) (running : Running) → MayWork core Dumper → core.dumper.running ≡ Some running → dumper_must_wait core.dumper.running (plain_of core.memory) ≡ false
+image_goes core running may is =
+    let pages = (neither (not (is_resting core.outs Dumper)) (must_wait_for_pages core) may.goes).1 in
+    sym (ap (λ none. if none then is_page_out core.outs else dumper_must_wait core.dumper.running (plain_of core.memory)) (some_is core.dumper.running is)) ∙ pages
+  where
+    some_is : (r : Option Running) → r ≡ Some running → is_none r ≡ false
+    some_is None e = absurd (let no : None ≡ Some running = e in cc)
+    some_is (Some r) e = refl
 
 -- ---- a worker that can't go on
 
 -- it isn't refused as damaged
 pub not_damaged : (core : CoreView) (worker : Worker) (why : Refusal) → work_refusal core worker ≡ Some why → why ≢ refusal.Damaged
-not_damaged core worker why is = by (not (is_resting core.outs worker)) (is_idle core worker) is
+not_damaged core worker why is = by (must_wait core worker) (is_idle core worker) is
   where
     by : (busy idle : Bool) → first_of ((busy, refusal.Busy) ∷ (idle, refusal.Idle) ∷ []) ≡ Some why → why ≢ refusal.Damaged
     by true idle first damaged = (let no : Some refusal.Busy ≡ Some refusal.Damaged = first ∙ ap Some damaged in cc)

@@ -13,7 +13,7 @@ use Rattle.sd_rounds.specs.declared.copied.Copied.{Copied}
 use Rattle.sd_rounds.specs.declared.copied.Copied.TheVariants.{More, Zero, Gone}
 use Rattle.sd_rounds.specs.declared.image_order.ImageOrder.{ImageOrder}
 use Rattle.sd_rounds.specs.declared.stage.Stage.{Stage}
-use Rattle.sd_rounds.specs.declared.stage.Stage.TheVariants.{Format, Freeze, Pass as PassStage, PageWrite, Close}
+use Rattle.sd_rounds.specs.declared.stage.Stage.TheVariants.{Format, Freeze, Pass as PassStage, Close}
 use Rattle.sd_rounds.specs.Making.{closing, is_past_freeze, out_of, plan_of, stage_after, stage_behind, with_plan}
 use Rattle.sd_rounds.specs.Pass.{Pass, Place, begun_to_take, left_to_parent, visited}
 use Rattle.sd_rounds.specs.Rounds.{Copies}
@@ -35,10 +35,6 @@ asked_in order (Format p) plan next request was gives is = record { stage_is = o
     own slot same = same ∙ ap (λ (q : Planned). q.slot) (sym (same_Some p plan was)) ∙ is
 asked_in order Freeze plan next request was gives is = absurd (let no : None ≡ Some plan = was in cc)
 asked_in order PassStage plan next request was gives is = absurd (let no : None ≡ Some plan = was in cc)
-asked_in order (PageWrite p) plan next request was gives is = record { stage_is = own next.slot gives.same_slot; slot = own request.id.slot gives.slot; out = gives.out }
-  where
-    own : (slot : ℕ) → slot ≡ plan.slot → slot ≡ order.slot
-    own slot same = same ∙ ap (λ (q : Planned). q.slot) (sym (same_Some p plan was)) ∙ is
 asked_in order (Close p header tables) plan next request was gives is =
     record { stage_is = (own next.slot gives.same_slot, is.1); slot = own request.id.slot gives.slot; out = gives.out }
   where
@@ -50,14 +46,12 @@ pub visiting_asked : (items : Marked) (serial : ℕ) (pass : Pass) (stage : Stag
 visiting_asked items serial pass (Format p) next is = is
 visiting_asked items serial pass Freeze next is = is
 visiting_asked items serial pass PassStage next is = is
-visiting_asked items serial pass (PageWrite p) next is = is
 visiting_asked items serial pass (Close p header tables) next is = tt
 
 pub frozen_asked : (stage : Stage) (next : Planned) → is_past_freeze (with_plan stage next) ≡ is_past_freeze stage
 frozen_asked (Format p) next = refl
 frozen_asked Freeze next = refl
 frozen_asked PassStage next = refl
-frozen_asked (PageWrite p) next = refl
 frozen_asked (Close p header tables) next = refl
 
 -- ---- an outcome with which it goes on
@@ -94,14 +88,6 @@ behind items order pass (Format p) plan next (call ∷ calls) was same rests clo
     record { stage_is = slot_on p plan next order.slot was same; rests = rests; frozen = refl; visiting_in = λ v. v }
 behind items order pass Freeze plan next calls was same rests closes = absurd (let no : None ≡ Some plan = was in cc)
 behind items order pass PassStage plan next calls was same rests closes = absurd (let no : None ≡ Some plan = was in cc)
-behind items order pass (PageWrite p) plan next [] was same rests closes = page_behind order.kind
-  where
-    page_behind : (kind : Kind) → IsBehind items order pass (PageWrite p) (stage_behind kind (PageWrite p))
-    page_behind Dump = record { stage_is = λ at. tt; rests = refl; frozen = refl; visiting_in = λ v. v }
-    page_behind PreDump = record { stage_is = λ at. tt; rests = refl; frozen = refl; visiting_in = λ v. v }
-    page_behind Merged = record { stage_is = λ at. tt; rests = refl; frozen = refl; visiting_in = λ v. v }
-behind items order pass (PageWrite p) plan next (call ∷ calls) was same rests closes =
-    record { stage_is = slot_on p plan next order.slot was same; rests = rests; frozen = refl; visiting_in = λ v. v }
 behind items order pass (Close p header tables) plan next [] was same rests closes = absurd (closes (λ is. cc) refl)
 behind items order pass (Close p header tables) plan next (call ∷ calls) was same rests closes =
     record { stage_is = λ at. (slot_on p plan next order.slot was same at.0, at.1); rests = rests; frozen = refl; visiting_in = λ v. tt }

@@ -3,6 +3,9 @@ use Rattle.std.proofs.Common.{◌≡◌, ℕ, zero, suc, ◌<◌, ◌≤◌, Lis
 use Rattle.std.specs.List.{list_any}
 use Rattle.std.proofs.lemmas.Bool.{eq-eqb}
 use Rattle.sd_areas.specs.PlainMemory.{PlainMemory}
+use Rattle.std.specs.Option.{option_map}
+use Rattle.std.proofs.lemmas.Option.{same_Some}
+use Rattle.sd_gate.specs.Requests.{Asked}
 use Rattle.sd_journal.specs.Allowed.{IsLastPair}
 use Rattle.sd_journal.specs.History.{Base, last, pending}
 use Rattle.sd_journal.specs.Kept.{Kept}
@@ -12,17 +15,18 @@ use Rattle.sd_pagetable.specs.Contents.{Contents, plain_of}
 use Rattle.sd_pagetable.specs.Tracking.{IsBeginning}
 use Rattle.sd_core.specs.declared.numbers.Numbers.{Numbers}
 use Rattle.sd_core.specs.Sound.{AreNumbers, IsJournal}
-use Rattle.sd_core.specs.Starts.{shown_base}
+use Rattle.sd_belief.specs.InUse.{id_of, ids_of}
+use Rattle.sd_core.specs.Starts.{nothing_asked, shown_base}
+use Rattle.sd_core.proofs.OutsLemmas.{nobody_out}
 
--- three workers without a request
-abbrev pub nobody : {X : Type 0} → List (Option X)
-nobody = None ∷ None ∷ None ∷ []
-
-pub none_of : {X : Type 0} (worker : ℕ) (one : X) → slice_get nobody worker ≡ Some (Some one) → ⊥
-none_of zero one is = let no : Some None ≡ Some (Some one) = is in cc
-none_of (suc zero) one is = let no : Some None ≡ Some (Some one) = is in cc
-none_of (suc (suc zero)) one is = let no : Some None ≡ Some (Some one) = is in cc
-none_of (suc (suc (suc worker))) one is = let no : None ≡ Some (Some one) = is in cc
+-- in no lane was anything asked for
+pub none_of : (lane : ℕ) (one : Asked) → slice_get nothing_asked lane ≡ Some (Some one) → ⊥
+none_of lane one is = nobody_out lane one.id (id_there nothing_asked lane one is)
+  where
+    id_there : (asked : List (Option Asked)) (at : ℕ) (request : Asked) → slice_get asked at ≡ Some (Some request) → slice_get (ids_of asked) at ≡ Some (Some request.id)
+    id_there [] at request is = absurd (let no : None ≡ Some (Some request) = is in cc)
+    id_there (a ∷ asked) zero request is = ap (λ o. Some (option_map id_of o)) (same_Some a (Some request) is)
+    id_there (a ∷ asked) (suc at) request is = id_there asked at request is
 
 -- the base is the last pair of a journal without entries
 pub base_is_last : (number : Option ℕ) (base : PlainMemory) → IsLastPair (record { number = number; memory = base }) [] (shown_base number base)

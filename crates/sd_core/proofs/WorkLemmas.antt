@@ -1,11 +1,12 @@
 -- A core while its dumper works.
-use Rattle.std.proofs.Common.{◌≡◌, ◌≢◌, ◌⊎◌, ℕ, zero, suc, ◌+◌, ◌<◌, ◌≤◌, ◌^◌, ◌==◌, ◌||◌, Bool, true, false, if◌then◌else◌, List, [], ◌∷◌, length, Option, Some, None, IfSome, slice_get, refl, sym, ◌∙◌, ap, subst, inl, inr, arith}
+use Rattle.std.proofs.Common.{◌≡◌, ◌≢◌, ◌⊎◌, ℕ, ◌+◌, ◌<◌, ◌≤◌, ◌^◌, ◌==◌, ◌||◌, Bool, true, false, if◌then◌else◌, List, ◌∷◌, length, Option, Some, None, IfSome, slice_get, refl, sym, ◌∙◌, ap, subst, inl, inr, arith}
 use Rattle.std.specs.List.{list_any}
 use Rattle.std.proofs.lemmas.Bool.Decides.{eqb_tells}
 use Rattle.std.proofs.lemmas.Option.{same_Some}
 use Rattle.sd_chain.specs.Catalog.{Changes, IsHeld, Opened, Places, place_of}
 use Rattle.sd_gate.specs.declared.phase.Phase.{Phase}
 use Rattle.sd_gate.specs.declared.request_id.RequestId.{RequestId}
+use Rattle.sd_gate.specs.declared.worker.Worker.TheVariants.{Dumper, Merger}
 use Rattle.sd_command.specs.declared.command.Command.{Command}
 use Rattle.sd_command.specs.declared.reply.Reply.{Reply}
 use Rattle.sd_journal.specs.declared.entry.Entry.TheVariants.{Applied}
@@ -18,20 +19,24 @@ use Rattle.sd_merge.specs.Merger as merger
 use Rattle.sd_opener.specs.Looking.{Looking}
 use Rattle.sd_pagetable.specs.Contents.{Contents}
 use Rattle.sd_rounds.specs.declared.stage.Stage.{Stage}
-use Rattle.sd_rounds.specs.declared.stage.Stage.TheVariants.{Format, Freeze as FreezeStage, Pass as PassStage, PageWrite, Close}
-use Rattle.sd_rounds.specs.Dumper.{AreRunning, HasSlot, IsItsImage, Running, order_of, out_of_image, out_of_running, serial_of, slot_of}
+use Rattle.sd_rounds.specs.declared.stage.Stage.TheVariants.{Format, Freeze as FreezeStage, Pass as PassStage, Close}
+use Rattle.sd_rounds.specs.Dumper.{AreRunning, HasSlot, IsItsImage, Running, order_of, out_of_image, out_of_running, serial_of, slot_of, writes_of_image, writes_of_running}
 use Rattle.sd_rounds.specs.Making.{Making, is_frozen, out_of}
+use Rattle.sd_rounds.specs.Pass.{data_pages}
+use Rattle.sd_rounds.specs.Sound.{IsSoundImage}
+use Rattle.sd_rounds.specs.Writes.{AreWrites, no_writes}
 use Rattle.sd_belief.specs.Calls.{IsFree}
 use Rattle.sd_belief.specs.declared.standing.Standing.{Standing}
-use Rattle.sd_belief.specs.declared.standing.Standing.TheVariants.{NotOpen, Open}
+use Rattle.sd_belief.specs.declared.standing.Standing.TheVariants.{Open}
 use Rattle.sd_belief.specs.Merges.{IsOtherImage, IsSpared, MakesOther}
 use Rattle.sd_core.specs.declared.numbers.Numbers.{Numbers}
 use Rattle.sd_core.proofs.JournalLemmas.{same_journal}
 use Rattle.sd_core.proofs.MergeLemmas.{asks_apart, fills_same, merging_stays}
+use Rattle.sd_core.proofs.OutsLemmas.{dumper_outs, lane_at, no_write, on_slot, open_outs}
 use Rattle.sd_core.proofs.PreDumpLemmas.{TheyStay, pre_dumps_stay}
 use Rattle.sd_core.specs.Images.{begun_as}
 use Rattle.sd_core.specs.LittleWork.{HasLittle, TakesLittle}
-use Rattle.sd_core.specs.Sound.{AreCounted, AreNumbers, AreOuts, IsAtWork, IsCore, IsImageOf, IsJournal, IsMerging, IsOpening, IsVisiting, IsVisitingIn, Parts, begun_images, due_serials, frozen_by, held_for}
+use Rattle.sd_core.specs.Sound.{AreCounted, AreNumbers, AreOuts, HasWrites, IsAtWork, IsCore, IsImageOf, IsJournal, IsMerging, IsOpening, IsVisiting, IsVisitingIn, Parts, begun_images, due_serials, frozen_by, held_for}
 
 -- ---- where none runs
 
@@ -55,20 +60,20 @@ at_work core running sound is =
 
 -- what is out of the dumper
 pub out_at_work : (core : Parts) (running : Running) (out : Option RequestId) → IsCore core → core.dumper.running ≡ Some running → slice_get core.outs 0 ≡ Some out
-    → (out_of_running (Some running) ≡ out) × (core.outs ≡ out ∷ merger.out_of_merge core.merger ∷ None ∷ [])
+    → (out_of_running (Some running) ≡ out) × (core.outs ≡ out ∷ merger.out_of_merge core.merger ∷ None ∷ writes_of_running (Some running))
 out_at_work core running out sound is at = (own, all)
   where
     first : Some (out_of_running (Some running)) ≡ Some out → out_of_running (Some running) ≡ out
     first e = cc
 
-    are : core.outs ≡ out_of_running (Some running) ∷ merger.out_of_merge core.merger ∷ None ∷ []
-    are = sound.outs_are.jobs (at_work core running sound is).stands ∙ ap (λ r. out_of_running r ∷ merger.out_of_merge core.merger ∷ None ∷ []) is
+    are : core.outs ≡ out_of_running (Some running) ∷ merger.out_of_merge core.merger ∷ None ∷ writes_of_running (Some running)
+    are = sound.outs_are.jobs (at_work core running sound is).stands ∙ ap (λ r. out_of_running r ∷ merger.out_of_merge core.merger ∷ None ∷ writes_of_running r) is
 
     own : out_of_running (Some running) ≡ out
     own = first (ap (λ outs. slice_get outs 0) (sym are) ∙ at)
 
-    all : core.outs ≡ out ∷ merger.out_of_merge core.merger ∷ None ∷ []
-    all = are ∙ ap (λ o. o ∷ merger.out_of_merge core.merger ∷ None ∷ []) own
+    all : core.outs ≡ out ∷ merger.out_of_merge core.merger ∷ None ∷ writes_of_running (Some running)
+    all = are ∙ ap (λ o. o ∷ merger.out_of_merge core.merger ∷ None ∷ writes_of_running (Some running)) own
 
 -- a core whose dumper works
 pub record IsWorking (core : Parts) (running : Running) : Type 0 where
@@ -191,59 +196,22 @@ pub record Turns (old new : Parts) (running : Running) (image next : Making) : T
   pub journal_is : IsJournal new.base new.journal new.memory new.frozen new.newest
   pub numbers_are : AreNumbers new.base new.journal.items new.frozen new.newest new.numbers
   pub counted : AreCounted new.numbers new.places
-  pub outs : new.outs ≡ out_of next.stage ∷ merger.out_of_merge old.merger ∷ None ∷ []
-  pub slot : (id : RequestId) → out_of next.stage ≡ Some id → id.slot < length new.phases
+  pub outs : new.outs ≡ out_of next.stage ∷ merger.out_of_merge old.merger ∷ None ∷ next.writes
   pub stay : TheyStay (begun_as running) old.places new.places running.opened
   pub asked : IfSome (out_of next.stage) (λ id. id.slot ≡ slot_of running)
+  pub whose : IfSome (out_of next.stage) (λ id. id.worker ≡ Dumper)
+  pub writes : HasWrites running (Some next)
   pub image_is : IsImageOf new.journal.items new.places new.numbers next
   pub still : is_frozen next ≡ is_frozen image
   pub little : TakesLittle new.base new.journal.items new.memory running.number next
 
 -- ---- requests that are out while the store is open
 
-pub two_at : (one two : Option RequestId) (worker : ℕ) (id : RequestId) → slice_get (one ∷ two ∷ None ∷ []) worker ≡ Some (Some id)
-    → ((worker ≡ 0) × (one ≡ Some id)) ⊎ ((worker ≡ 1) × (two ≡ Some id))
-two_at one two zero id at = inl (refl, first_out one id at)
-  where
-    first_out : (o : Option RequestId) (i : RequestId) → Some o ≡ Some (Some i) → o ≡ Some i
-    first_out o i e = cc
-two_at one two (suc zero) id at = inr (refl, second_out two id at)
-  where
-    second_out : (o : Option RequestId) (i : RequestId) → Some o ≡ Some (Some i) → o ≡ Some i
-    second_out o i e = cc
-two_at one two (suc (suc zero)) id at = absurd (let no : Some None ≡ Some (Some id) = at in cc)
-two_at one two (suc (suc (suc w))) id at = absurd (let no : None ≡ Some (Some id) = at in cc)
-
--- the requests of the jobs of an open store
-pub open_outs : (outs : List (Option RequestId)) (phases : List Phase) (running : Option Running) (merge : Option merger.Running) (one two : Option RequestId)
-    → outs ≡ one ∷ two ∷ None ∷ [] → out_of_running running ≡ one → merger.out_of_merge merge ≡ two
-    → ((id : RequestId) → one ≡ Some id → id.slot < length phases) → ((id : RequestId) → two ≡ Some id → id.slot < length phases)
-    → ((id other : RequestId) → one ≡ Some id → two ≡ Some other → id.slot ≢ other.slot)
-    → AreOuts Open outs phases running merge None
-open_outs outs phases running merge one two are its_one its_two in_one in_two apart = record {
-  jobs = λ stands. are ∙ ap (λ o. o ∷ two ∷ None ∷ []) (sym its_one) ∙ ap (λ o. out_of_running running ∷ o ∷ None ∷ []) (sym its_two);
-  opening = tt;
-  none = λ closed. absurd (let no : Open ≡ NotOpen = closed in cc);
-  two = λ none. record { dumper = one; merger = two; are = are };
-  within = λ worker id at. elim (two_at one two worker id (ap (λ all. slice_get all worker) (sym are) ∙ at)) [
-    | inl a ↦ in_one id a.1
-    | inr b ↦ in_two id b.1
-  ];
-  apart = λ worker other id next at its same. elim (two_at one two worker id (ap (λ all. slice_get all worker) (sym are) ∙ at)) [
-    | inl a ↦ elim (two_at one two other next (ap (λ all. slice_get all other) (sym are) ∙ its)) [
-      | inl c ↦ a.0 ∙ sym c.0
-      | inr d ↦ absurd (apart id next a.1 d.1 same)
-    ]
-    | inr b ↦ elim (two_at one two other next (ap (λ all. slice_get all other) (sym are) ∙ its)) [
-      | inl c ↦ absurd (apart next id c.1 b.1 (sym same))
-      | inr d ↦ b.0 ∙ sym d.0
-    ]
-  ];
-}
-
 -- the merger's request that is out is on a slot of the store
-pub merger_within : (core : Parts) (id : RequestId) → IsCore core → core.standing ≡ Open → merger.out_of_merge core.merger ≡ Some id → id.slot < length core.phases
-merger_within core id sound stands out = sound.outs_are.within 1 id (ap (λ all. slice_get all 1) (sound.outs_are.jobs stands) ∙ ap Some out)
+pub merger_out : (core : Parts) (id : RequestId) → IsCore core → core.standing ≡ Open → merger.out_of_merge core.merger ≡ Some id → (id.slot < length core.phases) × (id.worker ≡ Merger)
+merger_out core id sound stands out =
+    let at = ap (λ all. slice_get all 1) (sound.outs_are.jobs stands) ∙ ap Some out in
+    (sound.outs_are.within 1 id at, sound.outs_are.whose 1 id at)
 
 pub held_same : (frozen : Option ℕ) (one other : Running) (opener : Option Looking) → held_for frozen (Some one) opener ≡ held_for frozen (Some other) opener
 held_same (Some n) one other opener = refl
@@ -305,9 +273,11 @@ turned old new running image next sound t =
       held = t.held ∙ held_at_work old running sound t.was ∙ ap (λ f. held_for f (Some running) None) (sym t.frozen)
           ∙ held_same new.frozen running (record running { image = Some next }) None;
       outs_are = subst (λ st. AreOuts st new.outs new.phases (Some (record running { image = Some next })) new.merger None) (sym (t.standing ∙ w.stands))
-          (open_outs new.outs new.phases (Some (record running { image = Some next })) new.merger (out_of next.stage) (merger.out_of_merge old.merger) t.outs refl (ap merger.out_of_merge t.merger_is)
-          t.slot (λ id out. subst (λ n. id.slot < n) (sym t.count) (merger_within old id sound w.stands out))
-          (λ id other one two. asks_apart old running id other sound t.was (subst (λ o. IfSome o (λ i. i.slot ≡ slot_of running)) one t.asked) two));
+          (open_outs new.outs new.phases (Some (record running { image = Some next })) new.merger (t.outs ∙ ap (λ m. out_of next.stage ∷ merger.out_of_merge m ∷ None ∷ next.writes) (sym t.merger_is))
+          (dumper_outs new.phases (record running { image = Some next })
+          (subst (λ k. slot_of running < k) (sym t.count) (w.within (slot_of running) (record { place = running.opened; from = omega arith; is = refl }))) t.asked t.whose t.writes)
+          (λ id out. (let its = merger_out old id sound w.stands (ap merger.out_of_merge (sym t.merger_is) ∙ out) in (subst (λ n. id.slot < n) (sym t.count) its.0, its.1)))
+          (λ id other one two. asks_apart old running id other sound t.was (on_slot (record running { image = Some next }) id t.asked t.writes one) (ap merger.out_of_merge (sym t.merger_is) ∙ two)));
       numbers_are = t.numbers_are;
       counted = t.counted;
       work = record {
@@ -324,6 +294,8 @@ turned old new running image next sound t =
         apart = w.apart;
         pre_dumps = pre_dumps_stay (begun_as running) old.places new.places running.opened running.parent t.stay w.pre_dumps;
         asked = t.asked;
+        whose = t.whose;
+        writes = t.writes;
         image = t.image_is;
       };
       little = t.little;
@@ -373,6 +345,10 @@ pub own_slot : (since : ℕ) (all : Option Running) (running : Running) (image :
     → image.order.slot ≡ slot_of running
 own_slot since all running image are was making = ap (λ o. o.slot) (own_order since all running image are was making)
 
+-- the writes that are out are on the slot of its image
+pub sound_writes : (running : Running) (image : Making) → image.order.slot ≡ slot_of running → IsSoundImage image → HasWrites running (Some image)
+sound_writes running image own sound = (subst (λ slot. AreWrites slot (data_pages image.pass.entries) image.writes) own sound.lanes, sound.rests)
+
 -- the request that is out then is on the slot of the checkpoint's image
 pub asked_on : (running : Running) (image next : Making) (out : Option RequestId) → out_of next.stage ≡ out → IfSome out (λ id. id.slot ≡ image.order.slot)
     → image.order.slot ≡ slot_of running → IfSome (out_of next.stage) (λ id. id.slot ≡ slot_of running)
@@ -394,17 +370,20 @@ image_within core since running image sound are was making =
     subst (λ slot. slot < length core.phases) (sym (ap (λ o. o.slot) (own_order since core.dumper.running running image are was making))) (slot_within core running sound was)
 
 -- between two images nothing of the dumper is out
-pub rests_before : (core : Parts) (running : Running) → IsCore core → core.dumper.running ≡ Some running → running.image ≡ None → core.outs ≡ None ∷ merger.out_of_merge core.merger ∷ None ∷ []
-rests_before core running sound was none = sound.outs_are.jobs (at_work core running sound was).stands ∙ ap (λ r. out_of_running r ∷ merger.out_of_merge core.merger ∷ None ∷ []) was
-    ∙ ap (λ i. out_of_image i ∷ merger.out_of_merge core.merger ∷ None ∷ []) none
+pub rests_before : (core : Parts) (running : Running) → IsCore core → core.dumper.running ≡ Some running → running.image ≡ None → core.outs ≡ None ∷ merger.out_of_merge core.merger ∷ None ∷ no_writes
+rests_before core running sound was none = sound.outs_are.jobs (at_work core running sound was).stands ∙ ap (λ r. out_of_running r ∷ merger.out_of_merge core.merger ∷ None ∷ writes_of_running r) was
+    ∙ ap (λ i. out_of_image i ∷ merger.out_of_merge core.merger ∷ None ∷ writes_of_image i) none
 
 -- no request is out on the slot of the checkpoint's image
-pub free_beside : (core : Parts) (running : Running) (slot : ℕ) → IsCore core → core.dumper.running ≡ Some running → core.outs ≡ None ∷ merger.out_of_merge core.merger ∷ None ∷ []
+pub free_beside : (core : Parts) (running : Running) (slot : ℕ) → IsCore core → core.dumper.running ≡ Some running → core.outs ≡ None ∷ merger.out_of_merge core.merger ∷ None ∷ no_writes
     → slot ≡ slot_of running → IsFree core.outs slot
 free_beside core running slot sound was outs own worker id at same =
-    elim (two_at None (merger.out_of_merge core.merger) worker id (ap (λ all. slice_get all worker) (sym outs) ∙ at)) [
+    elim (lane_at None (merger.out_of_merge core.merger) no_writes worker id (ap (λ all. slice_get all worker) (sym outs) ∙ at)) [
       | inl a ↦ (let no : None ≡ Some id = a.1 in cc)
-      | inr b ↦ by core.merger sound.merging b.1
+      | inr rest ↦ elim rest [
+        | inl b ↦ by core.merger sound.merging b.1
+        | inr page ↦ no_write page.0 id page.2
+      ]
     ]
   where
     by : (m : Option merger.Running) → IfSome m (IsMerging core.standing core.phases core.places core.opener core.numbers core.room core.dumper.running)
@@ -459,7 +438,6 @@ image_applied items places numbers image seat command reply is = record {
     by_stage (Format plan) v = same v
     by_stage FreezeStage v = same v
     by_stage PassStage v = same v
-    by_stage (PageWrite plan) v = same v
     by_stage (Close plan header tables) v = tt
 
 image_applied_some : (items : Marked) (places : Places) (numbers : Numbers) (image : Option Making) (seat : ℕ) (command : Command) (reply : Reply)
@@ -484,5 +462,7 @@ applied_work base items frozen stands phases places merge opener numbers (Some r
   apart = work.apart;
   pre_dumps = work.pre_dumps;
   asked = work.asked;
+  whose = work.whose;
+  writes = work.writes;
   image = image_applied_some items places numbers running.image seat command reply work.image;
 }

@@ -12,6 +12,7 @@ use Rattle.sd_gate.specs.declared.request_id.RequestId.{RequestId}
 use Rattle.sd_gate.specs.declared.slot_state.SlotState.{SlotState}
 use Rattle.sd_gate.specs.Fits.{IsClosed, Reads}
 use Rattle.sd_gate.specs.Phases.{bodies_after}
+use Rattle.sd_gate.specs.declared.worker.Worker.TheVariants.{Merger}
 use Rattle.sd_gate.specs.Requests.{Asked}
 use Rattle.sd_image.specs.declared.header.Kind.{Kind}
 use Rattle.sd_image.specs.declared.header.Kind.TheVariants.{PreDump, Dump, Merged}
@@ -23,7 +24,7 @@ use Rattle.sd_merge.specs.declared.merge_step.MergeStep.TheVariants.{Call}
 use Rattle.sd_merge.specs.declared.retired.Retired.{Retired}
 use Rattle.sd_merge.specs.Copying.{Copying, Steps, begun_copy}
 use Rattle.sd_merge.specs.Merger as merger
-use Rattle.sd_merge.specs.Merger.{CopiesOn, Retires, RetiresOn, Retiring, WorksAt, begun_merge, copying, due, list_of, opened, retiring}
+use Rattle.sd_merge.specs.Merger.{CopiesOn, Retires, RetiresOn, begun_merge, copying, due, list_of, opened, retiring}
 use Rattle.sd_merge.specs.Sources.{source_from}
 use Rattle.sd_rounds.specs.Dumper.{Running}
 use Rattle.sd_belief.specs.Believes.{Believes}
@@ -166,7 +167,7 @@ HasItsList merge core = IsListOf core.catalog core.dumper.running (Some merge) c
 pub record IsAsBelieved (core : CoreView) (request : Asked) (bodies : List (List ℕ)) : Type 0 where
   pub asked : List (Option Asked)
   pub files : List (List ℕ)
-  pub out : slice_get asked (index request.id.worker) ≡ Some (Some request)
+  pub out : slice_get asked (index Merger) ≡ Some (Some request)
   pub believes : Believes core asked bodies files
 
 -- An image that a merge is to close: it is in the catalog, and was as the merge began, in a slot of the store that no job has, and nobody needs it.

@@ -1,11 +1,14 @@
 -- When calls of a core are refused, by priority.
-use Rattle.std.specs.Prelude.{◌==◌, Bool, true, false, not, ◌&&◌, ◌||◌, is_none, is_some, List, [], ◌∷◌, slice_get, Option, Some, None}
+use Rattle.std.specs.Prelude.{◌≡◌, ◌==◌, ℕ, ◌<◌, Bool, true, false, not, ◌&&◌, ◌||◌, is_none, is_some, if◌then◌else◌, drop, List, [], ◌∷◌, slice_get, Option, Some, None}
 use Rattle.sd_command.specs.declared.refusal.Refusal.{Refusal}
 use Rattle.sd_command.specs.declared.refusal.Refusal.TheVariants as refusal
 use Rattle.sd_gate.specs.declared.request_id.RequestId.{RequestId}
 use Rattle.sd_gate.specs.declared.worker.Worker.{Worker}
 use Rattle.sd_gate.specs.declared.worker.Worker.TheVariants.{Dumper, Merger, Opener}
 use Rattle.sd_journal.specs.History.{pending}
+use Rattle.sd_pagetable.specs.Contents.{plain_of}
+use Rattle.sd_rounds.specs.Waits.{dumper_must_wait}
+use Rattle.sd_rounds.specs.Writes.{is_any_out}
 use Rattle.sd_belief.specs.declared.standing.Standing.{Standing}
 use Rattle.sd_belief.specs.declared.standing.Standing.TheVariants as standing
 use Rattle.sd_belief.specs.View.{CoreView, history_of, index}
@@ -20,9 +23,19 @@ none_at (Some (Some id)) = false
 abbrev pub is_resting : List (Option RequestId) → Worker → Bool
 is_resting outs worker = none_at (slice_get outs (index worker))
 
+-- the write of a data page is out
+abbrev pub is_page_out : List (Option RequestId) → Bool
+is_page_out outs = is_any_out (drop 3 outs)
+
+-- the request with this id is out, and writes a data page
+pub record IsPageOut (outs : List (Option RequestId)) (id : RequestId) : Type 0 where
+  pub lane : ℕ
+  pub behind : 2 < lane
+  pub is : slice_get outs lane ≡ Some (Some id)
+
 -- no request is out
 abbrev pub are_resting : List (Option RequestId) → Bool
-are_resting outs = is_resting outs Dumper && is_resting outs Merger && is_resting outs Opener
+are_resting outs = not (is_any_out outs)
 
 abbrev pub is_open : Standing → Bool
 is_open standing.NotOpen = false
@@ -35,7 +48,7 @@ has_checkpoint core = is_some core.dumper.running || is_some (pending (history_o
 
 -- an opener runs, a request of the dumper is out, or the opening of the dump's gate was taken up
 abbrev pub cant_cancel : CoreView → Bool
-cant_cancel core = is_some core.opener || not (is_resting core.outs Dumper) || core.committing
+cant_cancel core = is_some core.opener || not (is_resting core.outs Dumper) || is_page_out core.outs || core.committing
 
 -- why nothing can be cancelled
 abbrev pub cancel_refusal : CoreView → Option Refusal
@@ -59,6 +72,17 @@ is_idle core Dumper = is_none core.dumper.running
 is_idle core Merger = is_none core.merger
 is_idle core Opener = is_none core.opener
 
+-- The outcome of the write of a data page is awaited: eight are out, or some where no page is left. A checkpoint that has ended waits for
+-- all of them.
+abbrev pub must_wait_for_pages : CoreView → Bool
+must_wait_for_pages core = if is_none core.dumper.running then is_page_out core.outs else dumper_must_wait core.dumper.running (plain_of core.memory)
+
+-- an outcome of a worker is awaited before it goes on
+abbrev pub must_wait : CoreView → Worker → Bool
+must_wait core Dumper = not (is_resting core.outs Dumper) || must_wait_for_pages core
+must_wait core Merger = not (is_resting core.outs Merger)
+must_wait core Opener = not (is_resting core.outs Opener)
+
 -- why a worker can't go on: also one that is idle may have a request out, since its job may have ended before the outcome
 abbrev pub work_refusal : CoreView → Worker → Option Refusal
-work_refusal core worker = first_of ((not (is_resting core.outs worker), refusal.Busy) ∷ (is_idle core worker, refusal.Idle) ∷ [])
+work_refusal core worker = first_of ((must_wait core worker, refusal.Busy) ∷ (is_idle core worker, refusal.Idle) ∷ [])

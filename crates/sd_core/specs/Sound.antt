@@ -1,9 +1,11 @@
 -- What is so of every core.
-use Rattle.std.specs.Prelude.{◌≡◌, ◌≢◌, ℕ, ◌+◌, ◌<◌, ◌≤◌, ◌^◌, false, if◌then◌else◌, List, [], ◌∷◌, length, Option, Some, None, IfSome, slice_get}
+use Rattle.std.specs.Prelude.{◌≡◌, ◌≢◌, ◌⊎◌, ℕ, zero, suc, ◌+◌, ◌<◌, ◌≤◌, ◌^◌, false, if◌then◌else◌, List, ◌∷◌, length, Option, Some, None, IfSome, slice_get}
 use Rattle.std.specs.List.{list_any}
 use Rattle.sd_chain.specs.Catalog.{IsHeld, Opened, Places, place_of}
 use Rattle.sd_gate.specs.declared.phase.Phase.{Phase}
 use Rattle.sd_gate.specs.declared.request_id.RequestId.{RequestId}
+use Rattle.sd_gate.specs.declared.worker.Worker.{Worker}
+use Rattle.sd_gate.specs.declared.worker.Worker.TheVariants.{Dumper, Merger, Opener}
 use Rattle.sd_image.specs.declared.header.Header.{Header}
 use Rattle.sd_image.specs.declared.header.Kind.TheVariants.{Merged}
 use Rattle.sd_gate.specs.declared.call.Call.TheVariants.{Sync}
@@ -22,12 +24,14 @@ use Rattle.sd_opener.specs.Looking.{Looking, out_of}
 use Rattle.sd_pagetable.specs.Contents.{Contents}
 use Rattle.sd_rounds.specs.declared.image_order.ImageOrder.{ImageOrder}
 use Rattle.sd_rounds.specs.declared.stage.Stage.{Stage}
-use Rattle.sd_rounds.specs.declared.stage.Stage.TheVariants.{Format, Freeze, Pass as PassStage, PageWrite, Close}
-use Rattle.sd_rounds.specs.Dumper.{Dumping, HasSlot, IsReserved, Running, is_frozen_image, out_of_image, out_of_running, slot_of}
-use Rattle.sd_rounds.specs.Making.{Making}
-use Rattle.sd_rounds.specs.Pass.{Pass}
+use Rattle.sd_rounds.specs.declared.stage.Stage.TheVariants.{Format, Freeze, Pass as PassStage, Close}
+use Rattle.sd_rounds.specs.Dumper.{Dumping, HasSlot, IsReserved, Running, is_frozen_image, out_of_image, out_of_running, slot_of, writes_of_running}
+use Rattle.sd_rounds.specs.Making.{Making, is_passing}
+use Rattle.sd_rounds.specs.Pass.{Pass, data_pages}
+use Rattle.sd_rounds.specs.Writes.{AreWrites, no_writes}
 use Rattle.sd_belief.specs.declared.standing.Standing.{Standing}
 use Rattle.sd_belief.specs.declared.standing.Standing.TheVariants.{NotOpen, Open}
+use Rattle.sd_belief.specs.Calls.{AreOtherPages}
 use Rattle.sd_belief.specs.Merges.{IsSpared, MakesOther}
 use Rattle.sd_belief.specs.OpenerSteps.{nobody}
 use Rattle.sd_core.specs.declared.numbers.Numbers.{Numbers}
@@ -52,22 +56,40 @@ pub record IsOpening (standing : Standing) (phases : List Phase) (opener : Looki
   pub closed : standing ≢ Open
   pub slots : opener.slots ≡ length phases
 
+-- whose a lane is: the first three are the workers', and the others are those of the dumper's data pages
+abbrev pub worker_of : ℕ → Worker
+worker_of zero = Dumper
+worker_of (suc zero) = Merger
+worker_of (suc (suc zero)) = Opener
+worker_of (suc (suc (suc lane))) = Dumper
+
 -- the opener has no request out
 pub record AreTwo (outs : List (Option RequestId)) : Type 0 where
   pub dumper : Option RequestId
   pub merger : Option RequestId
-  pub are : outs ≡ dumper ∷ merger ∷ None ∷ []
+  pub pages : List (Option RequestId)
+  pub are : outs ≡ dumper ∷ merger ∷ None ∷ pages
 
--- The requests that are out are on different slots of the store. While it is open they are those of its jobs, and while an opener runs it
--- alone asks. Once it is down the calls of jobs that have ended are out until their outcomes come.
+-- they write different data pages, in lanes of pages
+pub record AreInPages (one other : ℕ) (a b : RequestId) : Type 0 where
+  pub first : 2 < one
+  pub second : 2 < other
+  pub are : AreOtherPages a b
+
+-- The requests that are out, in eleven lanes, are on different slots of the store, unless they write different data pages. While it is open
+-- they are those of its jobs, and while an opener runs it alone asks. Once it is down the calls of jobs that have ended are out until their
+-- outcomes come.
 pub record AreOuts (standing : Standing) (outs : List (Option RequestId)) (phases : List Phase) (running : Option Running) (merge : Option merger.Running)
     (opener : Option Looking) : Type 0 where
-  pub jobs : standing ≡ Open → outs ≡ out_of_running running ∷ merger.out_of_merge merge ∷ None ∷ []
-  pub opening : IfSome opener (λ one. outs ≡ None ∷ None ∷ out_of_opener opener ∷ [])
+  pub count : length outs ≡ 11
+  pub jobs : standing ≡ Open → outs ≡ out_of_running running ∷ merger.out_of_merge merge ∷ None ∷ writes_of_running running
+  pub opening : IfSome opener (λ one. outs ≡ None ∷ None ∷ out_of_opener opener ∷ no_writes)
   pub none : standing ≡ NotOpen → opener ≡ None → outs ≡ nobody
   pub two : opener ≡ None → AreTwo outs
-  pub within : (worker : ℕ) (id : RequestId) → slice_get outs worker ≡ Some (Some id) → id.slot < length phases
-  pub apart : (one other : ℕ) (a b : RequestId) → slice_get outs one ≡ Some (Some a) → slice_get outs other ≡ Some (Some b) → a.slot ≡ b.slot → one ≡ other
+  pub within : (lane : ℕ) (id : RequestId) → slice_get outs lane ≡ Some (Some id) → id.slot < length phases
+  pub whose : (lane : ℕ) (id : RequestId) → slice_get outs lane ≡ Some (Some id) → id.worker ≡ worker_of lane
+  pub apart : (one other : ℕ) (a b : RequestId) → slice_get outs one ≡ Some (Some a) → slice_get outs other ≡ Some (Some b) → a.slot ≡ b.slot
+      → (one ≡ other) ⊎ AreInPages one other a b
 
 -- its journal makes its memory, and tells what is pending and what is last
 pub record IsJournal (base : Base) (journal : Kept) (memory : Contents) (frozen newest : Option ℕ) : Type 0 where
@@ -107,7 +129,6 @@ abbrev pub IsStageOf : ImageOrder → Stage → Type 0
 IsStageOf order (Format plan) = plan.slot ≡ order.slot
 IsStageOf order Freeze = Unit {0}
 IsStageOf order PassStage = Unit {0}
-IsStageOf order (PageWrite plan) = plan.slot ≡ order.slot
 IsStageOf order (Close plan header tables) = (plan.slot ≡ order.slot) × IsHeaderOf order header
 
 -- up to its table the journal's marks tell which page it visited last
@@ -119,7 +140,6 @@ abbrev pub IsVisitingIn : Marked → ℕ → Pass → Stage → Type 0
 IsVisitingIn items serial pass (Format plan) = IsVisiting items serial pass
 IsVisitingIn items serial pass Freeze = IsVisiting items serial pass
 IsVisitingIn items serial pass PassStage = IsVisiting items serial pass
-IsVisitingIn items serial pass (PageWrite plan) = IsVisiting items serial pass
 IsVisitingIn items serial pass (Close plan header tables) = Unit {0}
 
 -- An image in the making has a serial that was given out, whose place in the catalog is held.
@@ -149,6 +169,11 @@ abbrev pub due_serials : Option merger.Running → ℕ
 due_serials None = 0
 due_serials (Some merge) = due_serials_in merge.doing
 
+-- the writes of data pages that are out are on its slot, and none is while a plan is made
+abbrev pub HasWrites : Running → Option Making → Type 0
+HasWrites running None = Unit {0}
+HasWrites running (Some image) = AreWrites (slot_of running) (data_pages image.pass.entries) image.writes × (is_passing image.stage ≡ false → image.writes ≡ no_writes)
+
 -- A checkpoint runs while the store is open, under the number that was begun last, in slots of the store, of which no two are one. The
 -- pre-dumps so far are in the catalog.
 pub record IsAtWork (base : Base) (items : Marked) (frozen : Option ℕ) (standing : Standing) (phases : List Phase) (places : Places)
@@ -165,6 +190,8 @@ pub record IsAtWork (base : Base) (items : Marked) (frozen : Option ℕ) (standi
   pub apart : AreApart running
   pub pre_dumps : HasPreDumps (begun_as running) places running.opened running.parent
   pub asked : IfSome (out_of_image running.image) (λ id. id.slot ≡ slot_of running)
+  pub whose : IfSome (out_of_image running.image) (λ id. id.worker ≡ Dumper)
+  pub writes : HasWrites running running.image
   pub image : IfSome running.image (IsImageOf items places numbers)
 
 -- ---- the merge that runs

@@ -1,13 +1,15 @@
 -- A core as it starts, and what a worker's step is.
-use Rattle.std.specs.Prelude.{◌≡◌, ℕ, List, [], ◌∷◌, Option, Some, None}
+use Rattle.std.specs.Prelude.{◌≡◌, ℕ, List, [], replicate, Option, Some, None}
 use Rattle.sd_areas.specs.PlainMemory.{PlainMemory}
 use Rattle.sd_gate.specs.declared.phase.Phase.{Phase}
 use Rattle.sd_gate.specs.declared.worker.Worker.{Worker}
+use Rattle.sd_gate.specs.Requests.{Asked}
 use Rattle.sd_journal.specs.Allowed.{Shown}
 use Rattle.sd_pagetable.specs.Contents.{Contents}
 use Rattle.sd_rounds.specs.Dumper.{idle}
 use Rattle.sd_belief.specs.declared.standing.Standing.TheVariants.{NotOpen}
 use Rattle.sd_belief.specs.Calls.{HandsOut, MakesStep}
+use Rattle.sd_belief.specs.OpenerSteps.{nobody}
 use Rattle.sd_belief.specs.View.{CoreView}
 use Rattle.sd_core.specs.declared.taken.Taken.{Taken}
 use Rattle.sd_core.specs.declared.taken.Taken.TheVariants.{Step, Call}
@@ -26,10 +28,14 @@ pub record IsStart (number : Option ℕ) (saved : PlainMemory) (loaded : Content
   pub memory : core.memory ≡ loaded
   pub standing : core.standing ≡ NotOpen
   pub phases : core.phases ≡ found
-  pub outs : core.outs ≡ None ∷ None ∷ None ∷ []
+  pub outs : core.outs ≡ nobody
   pub catalog : core.catalog ≡ []
   pub dumper : core.dumper ≡ idle 0
   pub opener : core.opener ≡ None
+
+-- nothing was asked for in any lane
+abbrev pub nothing_asked : List (Option Asked)
+nothing_asked = replicate 11 None
 
 -- a step that was made, or a request that is handed out
 abbrev pub TakesUp : CoreView → Worker → Taken → CoreView → Type 0

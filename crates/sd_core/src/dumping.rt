@@ -1,9 +1,10 @@
 //! The dumper of a core: its steps, and what it leaves.
-ghost use Rattle.std.specs.Prelude.{◌≡◌, ◌↔◌, ◌||◌, ◌&&◌, ◌<◌, ◌≤◌, None, Some, IsSome, IfOk, OnErr, is_none};
+ghost use Rattle.std.specs.Prelude.{◌≡◌, ◌||◌, ◌&&◌, ◌<◌, ◌≤◌, false, None, Some, IsSome, IfOk, OnErr, is_none};
 ghost use Rattle.sd_chain.specs.Catalog.{Changes, IsHeld};
 ghost use Rattle.sd_gate.specs.declared.call.Call.{Call};
 ghost use Rattle.sd_pagetable.specs.Contents.{plain_of};
-ghost use Rattle.sd_rounds.specs.Dumper.{begun_checkpoint, is_dumping, next_slot, out_of_running};
+ghost use Rattle.sd_rounds.specs.Dumper.{begun_checkpoint, is_dumping, next_slot};
+ghost use Rattle.sd_rounds.specs.Waits.{dumper_must_wait};
 ghost use Rattle.sd_rounds.specs.Left.{left_of};
 ghost use Rattle.sd_belief.specs.DumperSteps.{opens_gate};
 ghost use Rattle.sd_belief.specs.DumperOutcomes.{LeavesCatalog, closes_for_sure};
@@ -15,16 +16,22 @@ use sd_chain::Catalog;
 use sd_gate::{Call, Phase, Request, SlotState};
 use sd_journal::Journal;
 use sd_pagetable::Memory;
-use sd_rounds::{Dumper, ImageStep, NewImage, NextImage, WorkError, left_law};
+use sd_rounds::{Dumper, ImageStep, NewImage, NextImage, PageBuffers, WorkError, left_law};
 use std::alloc::AllocError;
 
 /// A checkpoint begins.
-pub(crate) fn begin_checkpoint(dumper: &mut Dumper, number: u64, slots: Slots, parent: u64)
+pub(crate) fn begin_checkpoint(
+    dumper: &mut Dumper,
+    number: u64,
+    slots: Slots,
+    parent: u64,
+    buffers: PageBuffers,
+)
     requires { dumper.old.running ≡ None }
     ensures { dumper.new.running ≡ Some (begun_checkpoint number slots.pre_dumps.items slots.dump parent) }
 {
     dumper
-        .begin(number, slots.pre_dumps, slots.dump, parent)
+        .begin(number, slots.pre_dumps, slots.dump, parent, buffers)
         .unwrap();
 }
 
@@ -48,7 +55,7 @@ pub(crate) fn begin_next(
     }
 }
 
-/// Makes the next step of the image in the making, which has no request out.
+/// Makes the next step of the image in the making, which awaits no outcome.
 ///
 /// # Errors
 ///
@@ -60,7 +67,7 @@ pub(crate) fn step_on(
 ) -> Result<ImageStep, AllocError>
     requires begun { next_slot dumper.old.running ≡ None }
     requires runs { IsSome dumper.old.running }
-    requires rests { out_of_running dumper.old.running ≡ None }
+    requires goes { dumper_must_wait dumper.old.running (plain_of memory.old) ≡ false }
     ensures steps { IfOk result (λ step. StepsOn ticket dumper.old memory.old step dumper.new memory.new) }
     ensures job { IfOk result (λ step. job_of dumper.new.running ≡ job_of dumper.old.running) }
     ensures lowers { IfOk result (λ step. left_of dumper.new.running (plain_of memory.new)

@@ -6,6 +6,7 @@ mod answering;
 mod beginning;
 mod copies;
 mod dumping;
+mod lanes;
 mod merging;
 mod numbers;
 mod opening;
@@ -13,6 +14,7 @@ mod start;
 mod state;
 mod taken;
 
+pub use lanes::LANES;
 pub use start::Start;
 pub use state::Core;
 pub use taken::Taken;

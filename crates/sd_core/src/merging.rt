@@ -112,7 +112,7 @@ pub(crate) fn fix_list(
     room: ListRoom,
     catalog: &Catalog,
     dumper: &Dumper,
-    outs: &[Option<RequestId>; 3],
+    outs: &[Option<RequestId>],
 ) -> Option<u64>
     requires { IsSome (awaited merger.old) }
     ensures fixes { FixesList catalog.now dumper.now.running outs.now room merger.old result merger.new }

@@ -1,82 +1,30 @@
 //! The opener of a core: its steps, and what it leaves.
-ghost use Rattle.std.specs.Prelude.{◌≡◌, ◌<◌, ◌≤◌, ◌+◌, ◌↔◌, ◌⊎◌, None, Some, Err, IsSome, IsErr, IfOk, IfSome, OnErr, length, map, true, IsTrue, List, ℕ};
+ghost use Rattle.std.specs.Prelude.{◌≡◌, ◌↔◌, ◌<◌, ◌≤◌, ◌+◌, None, Some, Err, IfOk, IfSome, OnErr, length, map, true, IsTrue, List, ℕ};
 ghost use Rattle.sd_chain.specs.Store.{IsCatalogOf};
 ghost use Rattle.sd_image.specs.Shows.{Shows};
 ghost use Rattle.sd_journal.specs.Allowed.{Shown, shown_number};
 ghost use Rattle.sd_gate.specs.Phases.{given_up, phases_after};
 ghost use Rattle.sd_gate.specs.declared.phase.Phase.{Phase};
-ghost use Rattle.sd_gate.specs.declared.request_id.RequestId.{RequestId};
-ghost use Rattle.sd_belief.specs.OpenerSteps.{nobody};
-ghost use Rattle.sd_belief.specs.View.{index};
-ghost use Rattle.std.specs.Prelude.{slice_get, slice_set};
+ghost use Rattle.std.specs.Prelude.{slice_get};
 ghost use Rattle.sd_journal.specs.Kept.{entry_count};
 ghost use Rattle.sd_core.specs.Opening.{HoldsForOpening, IsExpected, IsFresh, IsResting, LetsGo, OpensAnew, TeachesOpener, WorksOpener};
-ghost use Rattle.sd_core.specs.Refusals.{are_resting, is_open, is_resting};
+ghost use Rattle.sd_core.specs.Refusals.{is_open};
 ghost use Rattle.sd_core.specs.Working.{opener_left};
 
 use sd_belief::Standing;
 use sd_chain::Catalog;
-use sd_gate::{Outcome, Phase, RequestId, Worker};
+use sd_gate::{Outcome, Phase, RequestId};
 use sd_image::{one_store, tip_once};
 use sd_journal::Journal;
 use sd_opener::{OpenError, Opened, Opener, OpenerProgress, OpenerStep};
 use std::alloc::{AllocError, Global};
 use std::mem;
 
-/// The place of a worker among three.
-fn place(worker: Worker) -> usize
-    ensures place { result ≡ index worker }
-    ensures within { result < 3 }
-{
-    match worker {
-        Worker::Dumper => 0,
-        Worker::Merger => 1,
-        Worker::Opener => 2,
-    }
-}
-
-/// Notes which request of a worker is out.
-pub(crate) fn put_out(outs: &mut [Option<RequestId>; 3], worker: Worker, id: Option<RequestId>)
-    ensures { outs.new ≡ slice_set outs.old (index worker) id }
-{
-    outs[place(worker)] = id;
-}
-
-/// Whether this is the request that is out.
-fn is_this(out: &Option<RequestId>, id: &RequestId) -> bool
-    ensures { IsTrue result ↔ out.now ≡ Some id.now }
-{
-    *out == Some(*id)
-}
-
-/// Whether a worker has no request out.
-pub(crate) fn is_resting(outs: &[Option<RequestId>; 3], worker: Worker) -> bool
-    ensures none { IsTrue result ↔ slice_get outs.now (index worker) ≡ Some None }
-    ensures is { result ≡ is_resting outs.now worker }
-{
-    outs[place(worker)].is_none()
-}
-
-/// Whether the request with this id is out of its worker.
-pub(crate) fn is_out(outs: &[Option<RequestId>; 3], id: &RequestId) -> bool
-    ensures { IsTrue result ↔ slice_get outs.now (index id.now.worker) ≡ Some (Some id.now) }
-{
-    is_this(&outs[place(id.worker)], id)
-}
-
 /// Whether a store is open.
 pub(crate) fn is_open(standing: Standing) -> bool
     ensures { result ≡ is_open standing }
 {
     matches!(standing, Standing::Open)
-}
-
-/// Whether no request is out.
-pub(crate) fn is_nobody_out(outs: &[Option<RequestId>; 3]) -> bool
-    ensures nobody { result ≡ true ↔ outs.now ≡ nobody }
-    ensures is { result ≡ are_resting outs.now }
-{
-    outs[0].is_none() && outs[1].is_none() && outs[2].is_none()
 }
 
 /// Gives up the job of each slot.

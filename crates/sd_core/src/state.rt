@@ -1,22 +1,21 @@
 //! The state behind one lock.
-ghost use Rattle.std.specs.Prelude.{◌≡◌, ◌≢◌, ◌↔◌, ◌+◌, ℕ, true, false, List, [], ◌∷◌, length, map, drop, slice_get, Option, Some, None, IsSome, Err, is_some, IfOk};
+ghost use Rattle.std.specs.Prelude.{◌≡◌, ◌≢◌, ◌↔◌, ◌+◌, ℕ, true, false, List, length, map, drop, slice_get, Option, Some, None, IsSome, Err, is_some, IfOk};
 ghost use Rattle.sd_areas.specs.Memory.{memory_of};
-ghost use Rattle.sd_areas.specs.PlainMemory.{PlainMemory};
 ghost use Rattle.sd_pagetable.specs.Contents.{plain_of};
 ghost use Rattle.sd_pagetable.specs.Tracking.{IsBeginning};
 ghost use Rattle.sd_command.specs.declared.refusal.Refusal.TheVariants.{Idle, JournalFull, NoSlot, StoreDown};
 ghost use Rattle.sd_command.specs.declared.reply.Reply.TheVariants as reply;
 ghost use Rattle.sd_image.specs.Shows.{Shows};
 ghost use Rattle.sd_gate.specs.Laws.{found_phase};
-ghost use Rattle.sd_gate.specs.Requests.{Asked};
 ghost use Rattle.sd_merge.specs.Merger.{Running as RunningMerge};
 ghost use Rattle.sd_journal.specs.History.{pending};
 ghost use Rattle.sd_belief.specs.Believes.{Believes};
-ghost use Rattle.sd_belief.specs.Calls.{AddsByCancel, AddsByOrder, Applies, HandedIn, HandsOut, IsOut, Stays};
+ghost use Rattle.sd_belief.specs.Calls.{AddsByCancel, AddsByOrder, Applies, HandedIn, IsOut, Stays};
 ghost use Rattle.sd_belief.specs.View.{CoreView, history_of};
 ghost use Rattle.sd_gate.specs.declared.worker.Worker.TheVariants as its;
 ghost use Rattle.sd_command.specs.declared.refusal.Refusal.{Refusal as Why};
 ghost use Rattle.sd_rounds.specs.Dumper.{Running, next_slot, pages_of};
+ghost use Rattle.sd_rounds.specs.Waits.{dumper_must_wait};
 ghost use Rattle.sd_core.specs.Answering.{IsAnswered};
 ghost use Rattle.sd_core.specs.Beginning.{BeginsAs, FreeSlots, begin_refusal};
 ghost use Rattle.sd_core.specs.Images.{IsAcked};
@@ -25,9 +24,9 @@ ghost use Rattle.sd_core.specs.Entering.{EntersFirst};
 ghost use Rattle.sd_core.specs.Lasting.{MergeLasts};
 ghost use Rattle.sd_core.specs.Merging.{EndsCut, EntersAsCopy, FixesItsList, IsMerged, ListsTheUnneeded, MergesAs, OpensMerged, merge_refusal};
 ghost use Rattle.sd_core.specs.Orders.{BeginsToOpen, IsCancelled};
-ghost use Rattle.sd_core.specs.Refusals.{cancel_refusal, cant_cancel, has_checkpoint, is_idle, is_in_use, reopen_refusal, wants_entry, work_refusal};
-ghost use Rattle.sd_core.specs.Starts.{TakesUp, IsStart, shown_base};
-ghost use Rattle.sd_core.specs.Working.{FindsSource, Leaves, LeavesByOutcome, LeavesByStep, left_by};
+ghost use Rattle.sd_core.specs.Refusals.{cancel_refusal, is_idle, reopen_refusal, work_refusal};
+ghost use Rattle.sd_core.specs.Starts.{TakesUp, IsStart, nothing_asked, shown_base};
+ghost use Rattle.sd_core.specs.Working.{FindsSource, Leaves, LeavesByOutcome, left_by};
 ghost use Rattle.sd_core.specs.declared.taken.Taken.TheVariants as taken;
 ghost use Rattle.sd_gate.specs.Calls.{is_done};
 ghost use Rattle.sd_opener.specs.Looking.{IsDoneAsAsked};
@@ -39,11 +38,9 @@ use crate::dumping::{
     begin_checkpoint, begin_next, closes_for_sure, enter_catalog, is_committing, leave_catalog,
     release_place, release_unfrozen, step_on,
 };
+use crate::lanes::{DUMPER, LANES, lane_of, page_lane, put_out};
 use crate::numbers::Numbers;
-use crate::opening::{
-    follow_call, fresh_opener, give_up_all, is_nobody_out, is_open, is_out, is_resting,
-    left_of_opener, put_opener, put_out,
-};
+use crate::opening::{follow_call, fresh_opener, give_up_all, left_of_opener, put_opener};
 use crate::start::Start;
 use crate::taken::Taken;
 use sd_areas::Snapshot;
@@ -58,13 +55,16 @@ use sd_journal::{Entry, Journal, Mark, due_laws, tracked_laws};
 use sd_merge::Merger;
 use sd_opener::Opener;
 use sd_pagetable::{Memory, plain_law};
-use sd_rounds::{Dumper, ImageStep, NextImage, Progress, little_law, rises_law};
+use sd_rounds::{
+    Dumper, ImageStep, NextImage, PageBuffers, Progress, left_law, little_law, rises_law,
+};
 use sd_slots::{ListRoom, free_in, free_law};
 use std::alloc::{AllocError, Global};
 use std::marker::Model;
 
 mod merges;
 mod openings;
+mod refusing;
 mod told;
 
 /// The memory of a run, its journal, its workers, and what is known of its store.
@@ -79,7 +79,7 @@ pub struct Core {
     last: Option<u64>,
     standing: Standing,
     phases: Vec<Phase>,
-    outs: [Option<RequestId>; 3],
+    outs: [Option<RequestId>; LANES],
     catalog: Catalog,
     dumper: Dumper,
     merger: Merger,
@@ -147,7 +147,7 @@ impl Core {
         // Where each slot is in the phase that its file tells, and the files show the base, the core believes so.
         ensures believes { (files : List (List ℕ)) → start.phases.items ≡ map found_phase files
             → Shows files (shown_base start.number (memory_of start.base))
-            → Believes result (None ∷ None ∷ None ∷ []) (map (drop 1) files) files }
+            → Believes result nothing_asked (map (drop 1) files) files }
     {
         found_law();
         let Start {
@@ -166,7 +166,7 @@ impl Core {
             last: number,
             standing: Standing::NotOpen,
             phases,
-            outs: [None; 3],
+            outs: [None; LANES],
             catalog: Catalog::new(alloc),
             dumper: Dumper::new(alloc),
             merger: Merger::new(alloc),
@@ -305,12 +305,15 @@ impl Core {
         let Some(slots) = reserve_slots(free, rounds) else {
             return Reply::Refused(Refusal::NoSlot);
         };
+        let Ok(buffers) = PageBuffers::reserve(self.alloc) else {
+            return Reply::Refused(Refusal::OutOfMemory);
+        };
         let Ok(()) = self.journal.hold(2) else {
             return Reply::Refused(Refusal::OutOfMemory);
         };
         let parent = first_parent(&self.catalog, self.grows);
         let number = self.numbers.begin();
-        begin_checkpoint(&mut self.dumper, number, slots, parent);
+        begin_checkpoint(&mut self.dumper, number, slots, parent, buffers);
         Reply::Begun(number)
     }
 
@@ -354,30 +357,6 @@ impl Core {
         }
     }
 
-    /// Whether a checkpoint runs or is pending.
-    fn has_checkpoint(&self) -> bool
-        ensures { result ≡ has_checkpoint self.now }
-    {
-        !self.dumper.is_idle() || self.pending.is_some()
-    }
-
-    /// Whether an opener runs, a request of the dumper is out, or the opening of the dump's gate was taken up.
-    fn cant_cancel(&self) -> bool
-        ensures { result ≡ cant_cancel self.now }
-    {
-        self.opener.is_some() || !is_resting(&self.outs, Worker::Dumper) || self.committing
-    }
-
-    /// Why nothing can be cancelled.
-    fn refusal_of_cancel(&self) -> Option<Refusal>
-        ensures { result ≡ cancel_refusal self.now }
-    {
-        first_of(&[
-            (!self.has_checkpoint(), Refusal::Idle),
-            (self.cant_cancel(), Refusal::Busy),
-        ])
-    }
-
     /// Cancels the checkpoint that runs or is pending, also while the store is down. The next one takes every page. It takes
     /// no memory.
     ///
@@ -418,30 +397,6 @@ impl Core {
         self.dumper.cancel();
         self.grows = false;
         Reply::Cancelled(number)
-    }
-
-    /// Whether the store is open, an opener runs, or a request is out.
-    fn is_in_use(&self) -> bool
-        ensures { result ≡ is_in_use self.now }
-    {
-        is_open(self.standing) || self.opener.is_some() || !is_nobody_out(&self.outs)
-    }
-
-    /// Whether no entry is held for a pending checkpoint, and none is free.
-    fn wants_entry(&self) -> bool
-        ensures { result ≡ wants_entry self.now }
-    {
-        self.pending.is_none() && self.journal.free() == 0
-    }
-
-    /// Why the store can't be opened again.
-    fn refusal_of_reopen(&self) -> Option<Refusal>
-        ensures { result ≡ reopen_refusal self.now }
-    {
-        first_of(&[
-            (self.is_in_use(), Refusal::Busy),
-            (self.wants_entry(), Refusal::JournalFull),
-        ])
     }
 
     /// Begins to open the store again: each slot's job is given up, and an opener begins.
@@ -491,16 +446,6 @@ impl Core {
         Reply::Worked
     }
 
-    /// Why a worker can't go on.
-    fn refusal_of_work(&self, worker: Worker) -> Option<Refusal>
-        ensures { result ≡ work_refusal self.now worker }
-    {
-        first_of(&[
-            (!is_resting(&self.outs, worker), Refusal::Busy),
-            (self.is_idle(worker), Refusal::Idle),
-        ])
-    }
-
     /// Whether a worker has no job.
     pub fn is_idle(&self, worker: Worker) -> bool
         ensures { result ≡ is_idle self.now worker }
@@ -516,9 +461,10 @@ impl Core {
     ///
     /// # Errors
     ///
-    /// `Busy` where a request of the worker is out, else `Idle` where it has no job; `OutOfMemory` where a growth was
-    /// refused. `Damaged` of the opener, which then has ended: where the store can't be read, or shows neither the last
-    /// checkpoint nor the pending one. `Damaged` of the merger, where its source isn't there to be read.
+    /// `Busy` where a request of the worker is out, but for up to seven writes of data pages while pages are left; else
+    /// `Idle` where it has no job; `OutOfMemory` where a growth was refused. `Damaged` of the opener, which then has ended:
+    /// where the store can't be read, or shows neither the last checkpoint nor the pending one. `Damaged` of the merger,
+    /// where its source isn't there to be read.
     pub fn take_up(&mut self, worker: Worker) -> Taken
         ensures takes { TakesUp self.old worker result self.new }
         ensures refused { (why : Why) → work_refusal self.old worker ≡ Some why
@@ -585,10 +531,11 @@ impl Core {
             image,
             self.numbers.ticket,
         );
+        self.dumper.sound();
         self.numbers.give();
         self.numbers.tick();
         self.journal.note(Mark::Start(serial));
-        put_out(&mut self.outs, Worker::Dumper, Some(request.id()));
+        put_out(&mut self.outs, DUMPER, Some(request.id()));
         self.committing = is_committing(self.committing, &self.dumper, request.id().call);
         Taken::Call(request)
     }
@@ -602,6 +549,7 @@ impl Core {
         requires begun { next_slot self.old.dumper.running ≡ None }
         requires runs { IsSome self.old.dumper.running }
         requires rests { slice_get self.old.outs 0 ≡ Some None }
+        requires goes { dumper_must_wait self.old.dumper.running (plain_of self.old.memory) ≡ false }
         ensures takes { TakesUp self.old its.Dumper result self.new }
         ensures leaves { Leaves self.old its.Dumper result self.new }
         ensures merger { self.new.merger ≡ self.old.merger }
@@ -618,20 +566,26 @@ impl Core {
         let Ok(step) = step_on(&mut self.dumper, &mut self.memory, self.numbers.ticket) else {
             return Taken::Step(Reply::Refused(Refusal::OutOfMemory));
         };
+        self.dumper.sound();
         let Some(serial) = self.dumper.serial() else {
             unreachable!();
         };
         match step {
-            ImageStep::Call(request) | ImageStep::PageCall(request) => {
+            ImageStep::PageCall { lane, request } => {
                 self.numbers.tick();
-                put_out(&mut self.outs, Worker::Dumper, Some(request.id()));
+                put_out(&mut self.outs, page_lane(lane), Some(request.id()));
+                Taken::Call(request)
+            }
+            ImageStep::Call(request) => {
+                self.numbers.tick();
+                put_out(&mut self.outs, DUMPER, Some(request.id()));
                 self.committing = is_committing(self.committing, &self.dumper, request.id().call);
                 Taken::Call(request)
             }
             ImageStep::TableCall(request) => {
                 self.journal.note(Mark::Table(serial));
                 self.numbers.tick();
-                put_out(&mut self.outs, Worker::Dumper, Some(request.id()));
+                put_out(&mut self.outs, DUMPER, Some(request.id()));
                 self.committing = is_committing(self.committing, &self.dumper, request.id().call);
                 Taken::Call(request)
             }
@@ -660,7 +614,8 @@ impl Core {
     pub fn hand_in(&mut self, outcome: Outcome) -> Reply
         ensures strange { (IsOut self.old outcome.request.id → ⊥)
             → (result ≡ reply.Refused Idle) × (self.new ≡ self.old) }
-        ensures handed { IsOut self.old outcome.request.id → HandedIn self.old outcome result self.new }
+        ensures handed { (out : IsOut self.old outcome.request.id)
+            → HandedIn self.old out.lane outcome result self.new }
         ensures failed { IsOut self.old outcome.request.id → is_done outcome.answer ≡ false
             → result ≡ reply.Refused StoreDown }
         ensures down { IsOut self.old outcome.request.id → outcome.request.id.worker ≢ its.Opener
@@ -696,25 +651,25 @@ impl Core {
             → EndsCut self.old outcome.request self.new }
     {
         let id = outcome.id();
-        if !is_out(&self.outs, &id) {
+        let Some(lane) = lane_of(&self.outs, &id) else {
             drop(outcome);
             return Reply::Refused(Refusal::Idle);
-        }
+        };
         if self.is_idle(id.worker) {
-            return self.hand_in_late(outcome);
+            return self.hand_in_late(lane, outcome);
         }
         match id.worker {
-            Worker::Dumper => self.hand_in_dumper(outcome),
+            Worker::Dumper => self.hand_in_dumper(lane, outcome),
             Worker::Merger => self.hand_in_merger(outcome),
             Worker::Opener => self.hand_in_opener(outcome),
         }
     }
 
     /// Takes the outcome of a call whose job has ended, since the store went down.
-    fn hand_in_late(&mut self, outcome: Outcome) -> Reply
-        requires out { IsOut self.old outcome.request.id }
+    fn hand_in_late(&mut self, lane: usize, outcome: Outcome) -> Reply
+        requires out { slice_get self.old.outs lane ≡ Some (Some outcome.request.id) }
         requires idle { is_idle self.old outcome.request.id.worker ≡ true }
-        ensures handed { HandedIn self.old outcome result self.new }
+        ensures handed { HandedIn self.old lane outcome result self.new }
         ensures leaves { LeavesByOutcome self.old outcome.request.id.worker result self.new }
         ensures merger { self.new.merger ≡ self.old.merger }
         ensures late { result ≡ reply.Refused StoreDown }
@@ -728,17 +683,17 @@ impl Core {
         let id = outcome.id();
         let done = outcome.answer().is_done();
         follow_call(&mut self.phases, &id, done);
-        put_out(&mut self.outs, id.worker, None);
+        put_out(&mut self.outs, lane, None);
         drop(outcome);
         Reply::Refused(Refusal::StoreDown)
     }
 
     /// Takes the outcome of the dumper's call.
-    fn hand_in_dumper(&mut self, outcome: Outcome) -> Reply
-        requires out { IsOut self.old outcome.request.id }
+    fn hand_in_dumper(&mut self, lane: usize, outcome: Outcome) -> Reply
+        requires out { slice_get self.old.outs lane ≡ Some (Some outcome.request.id) }
         requires dumper { outcome.request.id.worker ≡ its.Dumper }
         requires runs { is_idle self.old its.Dumper ≡ false }
-        ensures handed { HandedIn self.old outcome result self.new }
+        ensures handed { HandedIn self.old lane outcome result self.new }
         ensures failed { is_done outcome.answer ≡ false ↔ result ≡ reply.Refused StoreDown }
         ensures leaves { LeavesByOutcome self.old its.Dumper result self.new }
         ensures lasts { MergeLasts self.old self.new }
@@ -751,13 +706,14 @@ impl Core {
         tracked_laws();
         due_laws();
         little_law();
+        left_law();
         plain_law();
         self.dumper.sound();
         let id = outcome.id();
         let done = outcome.answer().is_done();
         let closed = closes_for_sure(self.phases[id.slot], id.call);
         follow_call(&mut self.phases, &id, done);
-        put_out(&mut self.outs, Worker::Dumper, None);
+        put_out(&mut self.outs, lane, None);
         match self.dumper.hand_in(outcome) {
             Progress::Strange => unreachable!(),
             Progress::Failed => {
@@ -767,6 +723,7 @@ impl Core {
                 Reply::Refused(Refusal::StoreDown)
             }
             Progress::More => {
+                self.dumper.sound();
                 leave_catalog(&mut self.catalog, id.slot, closed);
                 Reply::Worked
             }

@@ -1,5 +1,7 @@
 //! One device call that was made.
 ghost use Rattle.std.specs.Prelude.{◌≡◌};
+ghost use Rattle.std.specs.Option.{option_map};
+ghost use Rattle.sd_gate.specs.Calls.{buffer_back};
 
 use crate::answer::Answer;
 use crate::request::Request;
@@ -35,5 +37,13 @@ impl Outcome {
         ensures { result ≡ self.now.answer }
     {
         self.answer
+    }
+
+    /// The buffer that the call wrote or filled, where it has one.
+    pub fn into_buffer(self) -> Option<Vec<u8>>
+        ensures { option_map (λ b. b.items) result
+            ≡ buffer_back self.request.id.call self.request.bytes }
+    {
+        self.request.into_buffer()
     }
 }

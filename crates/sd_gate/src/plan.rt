@@ -1,5 +1,5 @@
 //! Plans of device calls.
-ghost use Rattle.std.specs.Prelude.{◌≡◌, ◌≢◌, ◌⊎◌, ◌↔◌, ◌<◌, ◌≤◌, ◌^◌, [], ◌∷◌, true, None, Some, IsTrue, IsSome, IsErr, IfOk, MatchOption};
+ghost use Rattle.std.specs.Prelude.{◌≡◌, ◌≢◌, ◌⊎◌, ◌↔◌, ◌<◌, ◌≤◌, ◌^◌, [], ◌∷◌, true, None, Some, IsTrue, IsSome, IsErr, is_some, IfOk, MatchOption};
 ghost use Rattle.sd_gate.specs.declared.call.Call.TheVariants.{Read, Write};
 ghost use Rattle.sd_gate.specs.Calls.{is_done};
 ghost use Rattle.sd_gate.specs.Sequences.{format_calls, closing_calls, body_calls, data_place, first_looks, IsPage, IsBody};
@@ -212,6 +212,13 @@ impl Plan {
         ensures { IsTrue result ↔ self.now.out ≡ Some id.now }
     {
         self.out == Some(*id)
+    }
+
+    /// Whether a request is out.
+    pub fn is_waiting(&self) -> bool
+        ensures { result ≡ is_some self.now.out }
+    {
+        self.out.is_some()
     }
 
     /// How many takes and settles the plan has at most before it. Each that gives out a request, and each that isn't

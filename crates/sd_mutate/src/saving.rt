@@ -10,6 +10,9 @@ use std::thread::Threads;
 /// How many pre-dumps a checkpoint beside the mutators has.
 const ROUNDS: u64 = 2;
 
+/// How many threads write the pages of a checkpoint.
+const WRITERS: usize = 2;
+
 /// A hold that lets each call go on.
 pub(crate) struct Free;
 
@@ -36,7 +39,7 @@ impl Saved {
     }
 
     /// Makes a checkpoint of so many pre-dumps, unless one before it was refused.
-    pub(crate) fn save<R: Wait, D: Disk + Drop>(
+    pub(crate) fn save<R: Threads + Wait + Sync, D: Disk + Drop + Send>(
         &mut self,
         rt: &R,
         shared: &Shared<D>,
@@ -49,7 +52,7 @@ impl Saved {
             self.refused = Some(Refusal::OutOfMemory);
             return;
         };
-        match shared.run_dumper(rt, rounds, &Free) {
+        match shared.run_relay(rt, rounds, WRITERS, &Free) {
             Reply::Acked(number) => self.acks.push_reserved(number),
             Reply::Refused(why) => self.refused = Some(why),
             _ => {}

@@ -1,5 +1,5 @@
 -- What holds of every checkpoint that runs, from step to step.
-use Rattle.std.proofs.Common.{◌≡◌, ℕ, ◌+◌, ◌≤◌, Bool, true, false, nat_eq, nat_le, ◌&&◌, if◌then◌else◌, [], ◌∷◌, length, Option, Some, None, refl, sym, ◌∙◌, ap, subst, arith}
+use Rattle.std.proofs.Common.{◌≡◌, ◌⊎◌, ℕ, ◌+◌, ◌≤◌, Bool, true, false, nat_eq, nat_le, ◌&&◌, if◌then◌else◌, [], ◌∷◌, length, Option, Some, None, slice_set, refl, sym, ◌∙◌, ap, subst, inl, inr, arith}
 use Rattle.std.specs.Prelude.{Result, Ok, Err, IfOk, OnErr}
 use Rattle.std.specs.Option.{option_map}
 use Rattle.std.proofs.lemmas.Bool.{both_ways, and_parts}
@@ -19,13 +19,15 @@ use Rattle.sd_rounds.specs.declared.image_step.ImageStep.TheVariants.{Call, Page
 use Rattle.sd_rounds.specs.declared.progress.Progress.{Progress}
 use Rattle.sd_rounds.specs.declared.progress.Progress.TheVariants.{Strange, Failed as HasFailed, More as GoesOnWith, PreDump as PreDumpOpen, Dump as DumpOpen}
 use Rattle.sd_rounds.specs.declared.stage.Stage.{Stage}
-use Rattle.sd_rounds.specs.declared.work_error.WorkError.{WorkError}
-use Rattle.sd_rounds.specs.declared.stage.Stage.TheVariants.{Format, Freeze, Pass as PassStage, PageWrite, Close}
+use Rattle.std.specs.declared.alloc.AllocError.{AllocError}
+use Rattle.sd_rounds.specs.declared.stage.Stage.TheVariants.{Format, Freeze, Pass as PassStage, Close}
 use Rattle.sd_rounds.specs.Dumper.{AreRunning, AreCounted, Dumping, Hands, HandsTo, IsHanded, HasCounted, IsCounted, IsItsImage, IsRunning, Running, WorksOn, counted, ends, freezes, image_from, is_frozen_image, is_strange, order_of, running_of}
-use Rattle.sd_rounds.specs.Making.{GoesOn, Making, Steps, closing, is_frozen, is_past_freeze, outcomes_left, outcomes_of, plan_of, stage_after, stage_behind, with_plan}
+use Rattle.sd_rounds.specs.Making.{GoesOn, IsWritten, Making, Steps, closing, is_frozen, is_past_freeze, outcomes_left, outcomes_of, plan_of, stage_after, stage_behind, with_plan}
 use Rattle.sd_rounds.specs.Pass.{data_pages}
 use Rattle.sd_rounds.specs.PlanSteps.{is_freeze, is_to_freeze}
+use Rattle.sd_rounds.specs.Writes.{writes_out}
 use Rattle.sd_rounds.proofs.MakingLemmas.{copy_counts, take_counts, visit_counts}
+use Rattle.sd_rounds.proofs.WriteLemmas.{none_count, put_count, take_count}
 
 -- ---- a step
 
@@ -62,14 +64,12 @@ past_with : (stage : Stage) (plan : Planned) → is_past_freeze (with_plan stage
 past_with (Format old) plan = refl
 past_with Freeze plan = refl
 past_with PassStage plan = refl
-past_with (PageWrite old) plan = refl
 past_with (Close old header tables) plan = refl
 
 closing_with : (stage : Stage) (plan : Planned) → closing (with_plan stage plan) ≡ closing stage
 closing_with (Format old) plan = refl
 closing_with Freeze plan = refl
 closing_with PassStage plan = refl
-closing_with (PageWrite old) plan = refl
 closing_with (Close old header tables) plan = refl
 
 one_plan : (a b : Planned) → Some a ≡ Some b → a ≡ b
@@ -79,22 +79,20 @@ left_of : (stage : Stage) (plan : Planned) → plan_of stage ≡ Some plan → o
 left_of (Format old) plan e = ap outcomes_of (one_plan old plan e)
 left_of Freeze plan e = absurd (let f : None ≡ Some plan = e in cc)
 left_of PassStage plan e = absurd (let f : None ≡ Some plan = e in cc)
-left_of (PageWrite old) plan e = ap outcomes_of (one_plan old plan e)
 left_of (Close old header tables) plan e = ap outcomes_of (one_plan old plan e)
 
 left_with : (stage : Stage) (old plan : Planned) → plan_of stage ≡ Some old → outcomes_left (with_plan stage plan) ≡ outcomes_of plan
 left_with (Format o) old plan e = refl
 left_with Freeze old plan e = absurd (let f : None ≡ Some old = e in cc)
 left_with PassStage old plan e = absurd (let f : None ≡ Some old = e in cc)
-left_with (PageWrite o) old plan e = refl
 left_with (Close o header tables) old plan e = refl
 
 -- in the pass the counts are even
-pass_count : (since : ℕ) (image : Making) → image.stage ≡ PassStage → IsCounted since image → since ≡ data_pages image.pass.entries
+pass_count : (since : ℕ) (image : Making) → image.stage ≡ PassStage → IsCounted since image → since + writes_out image.writes ≡ data_pages image.pass.entries
 pass_count since image stage is =
     let left : outcomes_left image.stage ≡ 0 = ap outcomes_left stage in
     let none : closing image.stage ≡ 0 = ap closing stage in
-    let all : since + outcomes_left image.stage ≡ data_pages image.pass.entries + closing image.stage = is.count in
+    let all : since + outcomes_left image.stage + writes_out image.writes ≡ data_pages image.pass.entries + closing image.stage = is.count in
     omega arith
 
 frozen_pass : (image : Making) (order : ImageOrder) (stage : Stage) → image.stage ≡ PassStage → image.order ≡ order → is_past_freeze stage ≡ true
@@ -115,7 +113,7 @@ step_leaves since ticket old new before after (Call request) s was = record {
   counts = λ frozen. subst (λ (m : Making). IsCounted since m) (sym s.0.is) (record {
     count =
         let w = was (sym (ap (λ b. nat_eq (kind_number old.order.kind) 2 && b) (past_with old.stage s.0.next)) ∙ ap is_frozen (sym s.0.is) ∙ frozen) in
-        let all : since + outcomes_left old.stage ≡ data_pages old.pass.entries + closing old.stage = w.count in
+        let all : since + outcomes_left old.stage + writes_out old.writes ≡ data_pages old.pass.entries + closing old.stage = w.count in
         let left : outcomes_left old.stage ≡ outcomes_of s.0.plan = left_of old.stage s.0.plan s.0.was in
         let now : outcomes_left (with_plan old.stage s.0.next) ≡ outcomes_of s.0.next = left_with old.stage s.0.plan s.0.next s.0.was in
         let same : outcomes_of s.0.next ≡ outcomes_of s.0.plan = gives_same s.0.plan s.0.next request s.0.gives in
@@ -123,16 +121,16 @@ step_leaves since ticket old new before after (Call request) s was = record {
         omega arith;
   });
 }
-step_leaves since ticket old new before after (PageCall request) s was = record {
+step_leaves since ticket old new before after (PageCall lane request) s was = record {
   order = s.0.order;
   counts = λ frozen. record {
     count =
-        let w = was (frozen_pass old new.order new.stage s.0.stage (sym s.0.order) (ap is_past_freeze s.0.is) frozen) in
-        let all : since ≡ data_pages old.pass.entries = pass_count since old s.0.stage w in
-        let left : outcomes_left new.stage ≡ outcomes_of s.0.next = ap outcomes_left s.0.is in
-        let one : outcomes_of s.0.next ≡ 1 = gives_same _ s.0.next request s.0.gives in
-        let none : closing new.stage ≡ 0 = ap closing s.0.is in
-        let more : data_pages new.pass.entries ≡ data_pages old.pass.entries + 1 = take_counts old.pass s.0.bytes new.pass s.0.taken in
+        let w = was (frozen_pass old new.order new.stage s.0.stage (sym s.0.order) (ap is_past_freeze s.0.still) frozen) in
+        let all : since + writes_out old.writes ≡ data_pages old.pass.entries = pass_count since old s.0.stage w in
+        let left : outcomes_left new.stage ≡ 0 = ap outcomes_left s.0.still in
+        let none : closing new.stage ≡ 0 = ap closing s.0.still in
+        let out : writes_out new.writes ≡ writes_out old.writes + 1 = ap writes_out s.0.writes ∙ put_count old.writes lane request.id s.0.free in
+        let more : data_pages new.pass.entries ≡ data_pages old.pass.entries + 1 = take_counts old.pass request.bytes new.pass s.0.taken in
         omega arith;
   };
 }
@@ -141,7 +139,7 @@ step_leaves since ticket old new before after (TableCall request) s was = record
   counts = λ frozen. subst (λ (m : Making). IsCounted since m) (sym s.0.is) (record {
     count =
         let w = was (frozen_pass old old.order (Close s.0.next s.0.header s.0.tables) s.0.stage refl refl (ap is_frozen (sym s.0.is) ∙ frozen)) in
-        let all : since ≡ data_pages old.pass.entries = pass_count since old s.0.stage w in
+        let all : since + writes_out old.writes ≡ data_pages old.pass.entries = pass_count since old s.0.stage w in
         let five : outcomes_of s.0.next ≡ 5 = gives_same _ s.0.next request s.0.gives in
         omega arith;
   });
@@ -149,7 +147,10 @@ step_leaves since ticket old new before after (TableCall request) s was = record
 step_leaves since ticket old new before after Frozen s was = record {
   order = ap (λ (m : Making). m.order) s.0.is;
   counts = λ frozen. subst (λ (m : Making). IsCounted 0 m) (sym s.0.is) (record {
-    count = sym (ap (λ (p : _). data_pages p.entries + 0) s.0.fresh);
+    count =
+        let none : writes_out old.writes ≡ 0 = none_count old.writes s.0.rests in
+        let fresh : data_pages old.pass.entries ≡ 0 = ap (λ (p : _). data_pages p.entries) s.0.fresh in
+        omega arith;
   });
 }
 step_leaves since ticket old new before after (Visited visit) s was = record {
@@ -158,7 +159,8 @@ step_leaves since ticket old new before after (Visited visit) s was = record {
     count =
         let stage : new.stage ≡ PassStage = ap (λ (m : Making). m.stage) s.passes.1 ∙ s.passes.0 in
         let w = was (frozen_pass old new.order new.stage s.passes.0 (sym (ap (λ (m : Making). m.order) s.passes.1)) (ap is_past_freeze stage) frozen) in
-        let all : since ≡ data_pages old.pass.entries = pass_count since old s.passes.0 w in
+        let all : since + writes_out old.writes ≡ data_pages old.pass.entries = pass_count since old s.passes.0 w in
+        let out : writes_out new.writes ≡ writes_out old.writes = ap (λ (m : Making). writes_out m.writes) s.passes.1 in
         let left : outcomes_left new.stage ≡ 0 = ap outcomes_left stage in
         let none : closing new.stage ≡ 0 = ap closing stage in
         let same : data_pages new.pass.entries ≡ data_pages old.pass.entries = visit_counts old.pass before visit new.pass after s.tests in
@@ -171,7 +173,8 @@ step_leaves since ticket old new before after (Copied c) s was = record {
     count =
         let stage : new.stage ≡ PassStage = ap (λ (m : Making). m.stage) s.0.passes.1 ∙ s.0.passes.0 in
         let w = was (frozen_pass old new.order new.stage s.0.passes.0 (sym (ap (λ (m : Making). m.order) s.0.passes.1)) (ap is_past_freeze stage) frozen) in
-        let all : since ≡ data_pages old.pass.entries = pass_count since old s.0.passes.0 w in
+        let all : since + writes_out old.writes ≡ data_pages old.pass.entries = pass_count since old s.0.passes.0 w in
+        let out : writes_out new.writes ≡ writes_out old.writes = ap (λ (m : Making). writes_out m.writes) s.0.passes.1 in
         let left : outcomes_left new.stage ≡ 0 = ap outcomes_left stage in
         let none : closing new.stage ≡ 0 = ap closing stage in
         let same : data_pages new.pass.entries ≡ data_pages old.pass.entries = copy_counts old.pass before c new.pass s.0.copies in
@@ -206,10 +209,10 @@ hands_leaves since old new made g was frozen =
     one = g.one
 
     counted_more : (stage : Stage) → old.stage ≡ stage → is_past_freeze stage ≡ true → nat_eq (kind_number old.order.kind) 2 ≡ true
-        → (since + outcomes_left stage ≡ data_pages old.pass.entries + closing stage) × (◌≡◌ {A = ℕ} (if is_frozen old then since + 1 else since) (since + 1))
+        → (since + outcomes_left stage + writes_out old.writes ≡ data_pages old.pass.entries + closing stage) × (◌≡◌ {A = ℕ} (if is_frozen old then since + 1 else since) (since + 1))
     counted_more stage e past kind =
         let is : is_frozen old ≡ true = ap (λ b. b && is_past_freeze old.stage) kind ∙ ap is_past_freeze e ∙ past in (
-          subst (λ (s : Stage). since + outcomes_left s ≡ data_pages old.pass.entries + closing s) e (was is).count,
+          subst (λ (s : Stage). since + outcomes_left s + writes_out old.writes ≡ data_pages old.pass.entries + closing s) e (was is).count,
           ap (λ b. if b then since + 1 else since) is,
         )
 
@@ -235,26 +238,35 @@ hands_leaves since old new made g was frozen =
         cases (Format plan) e (call ∷ calls) f frozen = absurd (never (nat_eq (kind_number old.order.kind) 2) frozen)
         cases Freeze e calls f frozen = absurd (let n : None ≡ Some g.plan = ap plan_of (sym e) ∙ g.awaited.was in cc)
         cases PassStage e calls f frozen = absurd (let n : None ≡ Some g.plan = ap plan_of (sym e) ∙ g.awaited.was in cc)
-        cases (PageWrite plan) e [] f frozen =
-            let w = counted_more (PageWrite plan) e refl (and_parts (nat_eq (kind_number old.order.kind) 2) true frozen).0 in
-            let left : outcomes_of plan ≡ outcomes_of g.plan = left_of (PageWrite plan) g.plan (ap plan_of (sym e) ∙ g.awaited.was) in
-            let none : outcomes_of (plan_after g.plan made) ≡ 0 = ap (λ (c : Calls). length c + 0) f in
-            let all : since + outcomes_of plan ≡ data_pages old.pass.entries + 0 = w.0 in
-            let now : (if is_frozen old then since + 1 else since) ≡ since + 1 = w.1 in
-            record { count = omega arith }
-        cases (PageWrite plan) e (call ∷ calls) f frozen =
-            let w = counted_more (PageWrite plan) e refl (and_parts (nat_eq (kind_number old.order.kind) 2) true frozen).0 in
-            let left : outcomes_of plan ≡ outcomes_of g.plan = left_of (PageWrite plan) g.plan (ap plan_of (sym e) ∙ g.awaited.was) in
-            let all : since + outcomes_of plan ≡ data_pages old.pass.entries + 0 = w.0 in
-            let now : (if is_frozen old then since + 1 else since) ≡ since + 1 = w.1 in
-            record { count = omega arith }
         cases (Close plan header tables) e [] f frozen = absurd (g.closes (λ z. (let y : closing old.stage ≡ 5 = ap closing e in omega (arith, z, y))) f)
         cases (Close plan header tables) e (call ∷ calls) f frozen =
             let w = counted_more (Close plan header tables) e refl (and_parts (nat_eq (kind_number old.order.kind) 2) true frozen).0 in
             let left : outcomes_of plan ≡ outcomes_of g.plan = left_of (Close plan header tables) g.plan (ap plan_of (sym e) ∙ g.awaited.was) in
-            let all : since + outcomes_of plan ≡ data_pages old.pass.entries + 5 = w.0 in
+            let all : since + outcomes_of plan + writes_out old.writes ≡ data_pages old.pass.entries + 5 = w.0 in
             let now : (if is_frozen old then since + 1 else since) ≡ since + 1 = w.1 in
             record { count = omega arith }
+
+-- the write of a data page is counted too
+written_leaves : (since : ℕ) (old new : Making) (made : Made) → IsWritten old made new → (is_frozen old ≡ true → IsCounted since old)
+    → is_frozen new ≡ true → IsCounted (if is_frozen old then since + 1 else since) new
+written_leaves since old new made w was frozen =
+    subst (λ (m : Making). IsCounted (if is_frozen old then since + 1 else since) m) (sym w.is) (record {
+      count =
+          let is : is_frozen old ≡ true = ap is_frozen (sym w.is) ∙ frozen in
+          let all : since + outcomes_left old.stage + writes_out old.writes ≡ data_pages old.pass.entries + closing old.stage = (was is).count in
+          let now : (if is_frozen old then since + 1 else since) ≡ since + 1 = ap (λ b. if b then since + 1 else since) is in
+          let out : writes_out (slice_set old.writes w.lane None) + 1 ≡ writes_out old.writes = take_count old.writes w.lane made.request.id w.out in
+          omega arith;
+    })
+
+more_leaves : (since : ℕ) (old new : Making) (made : Made) → GoesOn old made new ⊎ IsWritten old made new → (is_frozen old ≡ true → IsCounted since old)
+    → is_frozen new ≡ true → IsCounted (if is_frozen old then since + 1 else since) new
+more_leaves since old new made (inl g) was frozen = hands_leaves since old new made g was frozen
+more_leaves since old new made (inr w) was frozen = written_leaves since old new made w was frozen
+
+more_order : (old new : Making) (made : Made) → GoesOn old made new ⊎ IsWritten old made new → new.order ≡ old.order
+more_order old new made (inl g) = ap (λ (m : Making). m.order) g.is
+more_order old new made (inr w) = ap (λ (m : Making). m.order) w.is
 
 image_counts : (since : ℕ) (running : Running) (image : Making) → running.image ≡ Some image → IsRunning since running → is_frozen image ≡ true → IsCounted since image
 image_counts since running image e is = subst (AreCounted since) e is.counts
@@ -271,12 +283,12 @@ pub hands_running : (since : ℕ) (old new : Running) (made : Made) (progress : 
 hands_running since old new made Strange is hands strange ended = absurd (both_ways true strange refl)
 hands_running since old new made HasFailed is hands strange ended = absurd (both_ways true ended refl)
 hands_running since old new made GoesOnWith is hands strange ended =
-    let same : hands.next.order ≡ hands.image.order = ap (λ (m : Making). m.order) hands.hands.is in
+    let same : hands.next.order ≡ hands.image.order = more_order hands.image hands.next made hands.hands in
     subst (λ (r : Running). IsRunning (counted old since) r) (sym hands.is) (record {
       few = is.few;
       own = same ∙ image_own since old hands.image hands.was is ∙ ap (λ (o : ImageOrder). order_of old o.serial o.state) (sym same);
       counts = λ frozen. subst (λ n. IsCounted n hands.next) (sym (counted_is since old hands.image hands.was))
-          (hands_leaves since hands.image hands.next made hands.hands (image_counts since old hands.image hands.was is) frozen);
+          (more_leaves since hands.image hands.next made hands.hands (image_counts since old hands.image hands.was is) frozen);
     })
 hands_running since old new made (PreDumpOpen opened) is hands strange ended =
     subst (λ (r : Running). IsRunning (counted old since) r) (sym hands.2) (record {
@@ -307,7 +319,8 @@ hands_counted since old new made (DumpOpen opened) is hands =
     let five : closing image.stage ≡ 5 = ap closing o.was in
     let none : outcomes_of (plan_after o.plan made) ≡ 0 = ap (λ (c : Calls). length c + 0) o.last in
     let one : outcomes_of (plan_after o.plan made) + 1 ≡ outcomes_of o.plan = o.one in
-    let all : since + outcomes_left image.stage ≡ data_pages image.pass.entries + closing image.stage = w.count in
+    let all : since + outcomes_left image.stage + writes_out image.writes ≡ data_pages image.pass.entries + closing image.stage = w.count in
+    let out : writes_out image.writes ≡ 0 = none_count image.writes o.rests in
     let pages : opened.header.pages ≡ data_pages image.pass.entries = o.pages in
     let now : counted old since ≡ since + 1 = counted_is since old image hands.0.was ∙ ap (λ b. if b then since + 1 else since) frozen in
     omega arith
@@ -328,9 +341,8 @@ freezes_is ticket old new before after (Call request) s = sym (has_plan old.stag
     has_plan (Format p) plan e = refl
     has_plan Freeze plan e = absurd (let f : None ≡ Some plan = e in cc)
     has_plan PassStage plan e = refl
-    has_plan (PageWrite p) plan e = refl
     has_plan (Close p header tables) plan e = refl
-freezes_is ticket old new before after (PageCall request) s = sym (ap is_freeze s.0.stage)
+freezes_is ticket old new before after (PageCall lane request) s = sym (ap is_freeze s.0.stage)
 freezes_is ticket old new before after (TableCall request) s = sym (ap is_freeze s.0.stage)
 freezes_is ticket old new before after Frozen s = sym (ap is_freeze s.0.stage)
 freezes_is ticket old new before after (Visited visit) s = sym (ap is_freeze s.passes.0)
@@ -350,11 +362,10 @@ freeze_counts (Some image) e =
     not_past (Format plan) e = refl
     not_past Freeze e = refl
     not_past PassStage e = absurd (both_ways false refl e)
-    not_past (PageWrite plan) e = absurd (both_ways false refl e)
     not_past (Close plan header tables) e = absurd (both_ways false refl e)
 
 -- a step, or none where it was refused
-pub worked : (since now serial : ℕ) (state : SlotState) (ticket : ℕ) (old : Option Checkpoint) (checkpoint : Checkpoint) (new : Running) (before after : Contents) (result : Result ImageStep WorkError)
+pub worked : (since now serial : ℕ) (state : SlotState) (ticket : ℕ) (old : Option Checkpoint) (checkpoint : Checkpoint) (new : Running) (before after : Contents) (result : Result ImageStep AllocError)
     → AreRunning since (option_map running_of old) → old ≡ Some checkpoint → now ≡ (if is_to_freeze (running_of checkpoint).image then 0 else since)
     → IfOk result (λ step. WorksOn serial state ticket (running_of checkpoint) before step new after)
     → OnErr result (new ≡ running_of checkpoint) → IsRunning now new

@@ -1,5 +1,5 @@
 -- The file of an image whose table is written.
-use Rattle.std.proofs.Common.{◌≡◌, ◌≢◌, ◌↔◌, Contains, List, ℕ, ◌<◌, Bool, [], ◌∷◌, Option, Some, None, is_some, refl, sym, ◌∙◌, ap, subst}
+use Rattle.std.proofs.Common.{◌≡◌, ◌≢◌, ◌↔◌, Contains, List, ℕ, ◌<◌, Bool, [], ◌∷◌, Option, Some, None, is_some, refl, sym, ◌∙◌, ap, subst, inl, inr}
 use Rattle.std.specs.Option.{option_map}
 use Rattle.sd_image.specs.declared.header.Header.{Header}
 use Rattle.sd_image.specs.declared.header.Kind.{Kind}
@@ -24,12 +24,12 @@ use Rattle.sd_rounds.specs.declared.image_progress.ImageProgress.TheVariants.{Mo
 use Rattle.sd_rounds.specs.declared.image_step.ImageStep.TheVariants.{Call, TableCall}
 use Rattle.sd_rounds.specs.declared.new_image.NewImage.{NewImage}
 use Rattle.sd_rounds.specs.declared.stage.Stage.{Stage}
-use Rattle.sd_rounds.specs.declared.stage.Stage.TheVariants.{Format, Freeze, Pass as PassStage, PageWrite, Close}
+use Rattle.sd_rounds.specs.declared.stage.Stage.TheVariants.{Format, Freeze, Pass as PassStage, Close}
 use Rattle.sd_rounds.specs.Dump.{IsDumped, due}
 use Rattle.sd_rounds.specs.Files.{FileLaws, FilesImage, HasAreas, HasAreasIn, IsFiled, IsFiledIn}
 use Rattle.sd_rounds.specs.Keeps.{Chain, Rests, Stored, Within}
 use Rattle.sd_rounds.specs.Made.{HasTheAreas, IsImageOf, MadeLaws, listed_pages}
-use Rattle.sd_rounds.specs.Making.{AreThePages, HandsIn, HasTable, Making, Opens, Steps, TablesEntries, TablesMemory, WritesTable, is_past_freeze, stage_after, stage_behind, with_plan}
+use Rattle.sd_rounds.specs.Making.{AreThePages, GoesOn, HandsIn, HasTable, Making, Opens, Steps, TablesEntries, TablesMemory, WritesTable, is_past_freeze, stage_after, stage_behind, with_plan}
 use Rattle.sd_rounds.specs.MakingLaws.{AreItsNumbers, DumpsImage, IsDumpedIn, IsKeptIn, KeepsImage, MakingLaws, Pages, image_of}
 use Rattle.sd_rounds.specs.Pass.{Pass, Place, pages_by}
 use Rattle.sd_rounds.specs.Rises.{IsRising, kind_at}
@@ -133,14 +133,12 @@ asked_files : (stage : Stage) (plan : Planned) (order : ImageOrder) (pass : Pass
 asked_files (Format old) plan order pass pages is = tt
 asked_files Freeze plan order pass pages is = tt
 asked_files PassStage plan order pass pages is = tt
-asked_files (PageWrite old) plan order pass pages is = tt
 asked_files (Close old header tables) plan order pass pages is = is
 
 asked_areas : (stage : Stage) (plan : Planned) (cut : Contents) → HasAreasIn stage cut → HasAreasIn (with_plan stage plan) cut
 asked_areas (Format old) plan cut is = tt
 asked_areas Freeze plan cut is = tt
 asked_areas PassStage plan cut is = tt
-asked_areas (PageWrite old) plan cut is = tt
 asked_areas (Close old header tables) plan cut is = is
 
 asks : (ticket : ℕ) (cut : Contents) (pages : Pages) (old new : Making) (before after : Contents) (request : Asked) → Steps ticket old before (Call request) new after
@@ -156,7 +154,6 @@ behind_files PreDump (Format plan) order pass pages = tt
 behind_files Merged (Format plan) order pass pages = tt
 behind_files kind Freeze order pass pages = tt
 behind_files kind PassStage order pass pages = tt
-behind_files kind (PageWrite plan) order pass pages = tt
 behind_files kind (Close plan header tables) order pass pages = tt
 
 behind_areas : (kind : Kind) (stage : Stage) (cut : Contents) → HasAreasIn (stage_behind kind stage) cut
@@ -165,12 +162,11 @@ behind_areas PreDump (Format plan) cut = tt
 behind_areas Merged (Format plan) cut = tt
 behind_areas kind Freeze cut = tt
 behind_areas kind PassStage cut = tt
-behind_areas kind (PageWrite plan) cut = tt
 behind_areas kind (Close plan header tables) cut = tt
 
-hands : (cut : Contents) (pages : Pages) (old new : Making) (made : Made) → HandsIn old made More new
+goes_on : (cut : Contents) (pages : Pages) (old new : Making) (made : Made) → GoesOn old made new
     → FilesImage pages old × HasAreas cut old → FilesImage pages new × HasAreas cut new
-hands cut pages old new made h was =
+goes_on cut pages old new made h was =
     subst (λ (m : Making). FilesImage pages m × HasAreas cut m) (sym h.is) (by (plan_after h.plan made).calls)
   where
     by : (calls : Calls)
@@ -178,6 +174,11 @@ hands cut pages old new made h was =
         × HasAreasIn (stage_after old.order.kind old.stage (plan_after h.plan made) calls) cut
     by [] = (behind_files old.order.kind old.stage old.order old.pass pages, behind_areas old.order.kind old.stage cut)
     by (call ∷ calls) = (asked_files old.stage (plan_after h.plan made) old.order old.pass pages was.0, asked_areas old.stage (plan_after h.plan made) cut was.1)
+
+hands : (cut : Contents) (pages : Pages) (old new : Making) (made : Made) → HandsIn old made More new
+    → FilesImage pages old × HasAreas cut old → FilesImage pages new × HasAreas cut new
+hands cut pages old new made (inl g) was = goes_on cut pages old new made g was
+hands cut pages old new made (inr w) was = subst (λ (m : Making). FilesImage pages m × HasAreas cut m) (sym w.is) was
 
 -- ---- the image is open
 

@@ -69,8 +69,8 @@ tests laws still visits old new before after visit t free mapped is swept =
 steps : VisitLaws → (still : Place → Bool) (ticket : ℕ) (visits : List Visit) (old new : Making) (before after : Contents) (step : ImageStep) → Steps ticket old before step new after
     → AreMapped still before → IsVisited still visits old → IsVisited still (visits_after step visits) new
 steps laws still ticket visits old new before after (Call request) s mapped was = same_pass still visits old new (ap (λ (m : Making). m.pass) s.0.is) was
-steps laws still ticket visits old new before after (PageCall request) s mapped was =
-    visited_as still visits new new.pass refl (takes laws still visits old.pass new.pass s.0.bytes s.0.taken was.pass was.swept)
+steps laws still ticket visits old new before after (PageCall lane request) s mapped was =
+    visited_as still visits new new.pass refl (takes laws still visits old.pass new.pass request.bytes s.0.taken was.pass was.swept)
 steps laws still ticket visits old new before after (TableCall request) s mapped was = same_pass still visits old new (ap (λ (m : Making). m.pass) s.0.is) was
 steps laws still ticket visits old new before after Frozen s mapped was = same_pass still visits old new (ap (λ (m : Making). m.pass) s.0.is) was
 steps laws still ticket visits old new before after (Visited visit) s mapped was =
@@ -80,7 +80,8 @@ steps laws still ticket visits old new before after (Copied c) s mapped was =
 
 hands : (still : Place → Bool) (visits : List Visit) (old new : Making) (made : Made) → HandsIn old made More new
     → IsVisited still visits old → IsVisited still visits new
-hands still visits old new made h was = same_pass still visits old new (ap (λ (m : Making). m.pass) h.is) was
+hands still visits old new made (inl g) was = same_pass still visits old new (ap (λ (m : Making). m.pass) g.is) was
+hands still visits old new made (inr w) was = same_pass still visits old new (ap (λ (m : Making). m.pass) w.is) was
 
 all : VisitLaws → (still : Place → Bool) (ticket : ℕ) (visits : List Visit) (old new : Making) (before after : Contents) (request : Asked) → Steps ticket old before (TableCall request) new after
     → AreMapped still before → IsVisited still visits old → (at : Place) → still at ≡ true → Contains (map visited_page visits) at

@@ -1,5 +1,5 @@
 -- Each step and each outcome leaves fewer before a checkpoint.
-use Rattle.std.proofs.Common.{◌≡◌, ◌≢◌, ◌↔◌, ℕ, ◌+◌, ◌-◌, ◌*◌, ◌/◌, ◌<◌, ◌≤◌, Bool, true, false, if◌then◌else◌, ◌||◌, nat_le, List, [], ◌∷◌, ◌++◌, length, Option, Some, None, refl, sym, ◌∙◌, ap, subst, arith}
+use Rattle.std.proofs.Common.{◌≡◌, ◌≢◌, ◌⊎◌, ◌↔◌, ℕ, ◌+◌, ◌-◌, ◌*◌, ◌/◌, ◌<◌, ◌≤◌, Bool, true, false, if◌then◌else◌, ◌||◌, nat_le, List, [], ◌∷◌, ◌++◌, length, Option, Some, None, slice_set, refl, sym, ◌∙◌, ap, subst, inl, inr, arith}
 use Rattle.std.proofs.lemmas.Bool.{both_ways}
 use Rattle.std.proofs.lemmas.Bool.Decides.{nat_tests}
 use Rattle.std.proofs.lemmas.List.{length-append, length-take-le, length-drop}
@@ -21,14 +21,16 @@ use Rattle.sd_rounds.specs.declared.new_image.NewImage.{NewImage}
 use Rattle.sd_rounds.specs.declared.progress.Progress.{Progress}
 use Rattle.sd_rounds.specs.declared.progress.Progress.TheVariants.{Strange, Failed as HasFailed, More as GoesOnWith, PreDump as PreDumpOpen, Dump as DumpOpen}
 use Rattle.sd_rounds.specs.declared.stage.Stage.{Stage}
-use Rattle.sd_rounds.specs.declared.stage.Stage.TheVariants.{Format, Freeze, Pass as PassStage, PageWrite, Close}
+use Rattle.sd_rounds.specs.declared.stage.Stage.TheVariants.{Format, Freeze, Pass as PassStage, Close}
 use Rattle.sd_rounds.specs.declared.visit.Visit.{Visit}
 use Rattle.sd_rounds.specs.Dumper.{Dumping, Hands, HandsTo, IsHanded, Running, Works, WorksOn, ends, image_from, is_strange}
 use Rattle.sd_rounds.specs.Left.{LeftLaws, image_left, left_of, making_left, next_left, pages_ahead, pass_left, plan_left, running_left, stage_left, taking_left}
-use Rattle.sd_rounds.specs.Making.{GoesOn, Making, Opens, Steps, closing, plan_of, stage_after, stage_behind, with_plan}
+use Rattle.sd_rounds.specs.Making.{GoesOn, IsWritten, Making, Opens, Steps, closing, is_passing, plan_of, stage_after, stage_behind, with_plan}
 use Rattle.sd_rounds.specs.Pass.{Pass, begun_to_take, left_to_parent, opened, sector_of, visited}
 use Rattle.sd_rounds.specs.Rounds.{Copies, Tests}
+use Rattle.sd_rounds.specs.Writes.{writes_out}
 use Rattle.sd_rounds.proofs.AheadLemmas.{next_ahead}
+use Rattle.sd_rounds.proofs.WriteLemmas.{put_count, take_count}
 
 -- ---- a step of an image
 
@@ -47,12 +49,11 @@ asked_fewer : (stage : Stage) (old new : Planned) (pass : ℕ) → plan_of stage
 asked_fewer (Format plan) old new pass is fewer = (let same : plan_left plan ≡ plan_left old = ap plan_left (one_plan plan old is) in omega arith)
 asked_fewer Freeze old new pass is fewer = absurd (let f : None ≡ Some old = is in cc)
 asked_fewer PassStage old new pass is fewer = absurd (let f : None ≡ Some old = is in cc)
-asked_fewer (PageWrite plan) old new pass is fewer = (let same : plan_left plan ≡ plan_left old = ap plan_left (one_plan plan old is) in omega arith)
 asked_fewer (Close plan header tables) old new pass is fewer = (let same : plan_left plan ≡ plan_left old = ap plan_left (one_plan plan old is) in omega arith)
 
 -- in the pass
-in_pass : (image : Making) (memory : PlainMemory) → image.stage ≡ PassStage → image_left image memory ≡ pass_left image.pass memory + 10
-in_pass image memory e = ap (λ (s : Stage). stage_left s (pass_left image.pass memory)) e
+in_pass : (image : Making) (memory : PlainMemory) → image.stage ≡ PassStage → image_left image memory ≡ pass_left image.pass memory + writes_out image.writes + 10
+in_pass image memory e = ap (λ (s : Stage). stage_left s (pass_left image.pass memory + writes_out image.writes)) e
 
 visit_fewer : PlainLaw → (old new : Pass) (before after : Contents) (visit : Visit) → Tests old before visit new after → old.taking ≡ None
     → pass_left new (plain_of after) < pass_left old (plain_of before)
@@ -105,7 +106,7 @@ copy_fewer old new memory Gone g =
 -- the memory keeps its pages through a step
 step_plain : (ticket : ℕ) (old new : Making) (before after : Contents) (step : ImageStep) → Steps ticket old before step new after → plain_of after ≡ plain_of before
 step_plain ticket old new before after (Call request) s = ap plain_of s.2
-step_plain ticket old new before after (PageCall request) s = ap plain_of s.2
+step_plain ticket old new before after (PageCall lane request) s = ap plain_of s.2
 step_plain ticket old new before after (TableCall request) s = ap plain_of s.2
 step_plain ticket old new before after Frozen s = ap plain_of s.1
 step_plain ticket old new before after (Visited visit) s = s.tests.plain
@@ -115,37 +116,40 @@ step_fewer : PlainLaw → (ticket : ℕ) (old new : Making) (before after : Cont
     → image_left new (plain_of before) < image_left old (plain_of before)
 step_fewer law ticket old new before after (Call request) s =
     subst (λ (m : Making). image_left m (plain_of before) < image_left old (plain_of before)) (sym s.0.is)
-    (asked_fewer old.stage s.0.plan s.0.next (pass_left old.pass (plain_of before)) s.0.was (gives_fewer s.0.plan s.0.next request s.0.gives))
-step_fewer law ticket old new before after (PageCall request) s =
+    (asked_fewer old.stage s.0.plan s.0.next (pass_left old.pass (plain_of before) + writes_out old.writes) s.0.was (gives_fewer s.0.plan s.0.next request s.0.gives))
+step_fewer law ticket old new before after (PageCall lane request) s =
     let w = s.0 in
-    let was : image_left old (plain_of before) ≡ pass_left old.pass (plain_of before) + 10 = in_pass old (plain_of before) w.stage in
-    let is : image_left new (plain_of before) ≡ plan_left w.next + pass_left new.pass (plain_of before) + 10 = ap (λ (g : Stage). stage_left g (pass_left new.pass (plain_of before))) w.is in
-    let one : plan_left w.next + 1 ≡ 2 = gives_fewer _ w.next request w.gives in
+    let was : image_left old (plain_of before) ≡ pass_left old.pass (plain_of before) + writes_out old.writes + 10 = in_pass old (plain_of before) w.stage in
+    let is : image_left new (plain_of before) ≡ pass_left new.pass (plain_of before) + writes_out new.writes + 10 = in_pass new (plain_of before) w.still in
+    let out : writes_out new.writes ≡ writes_out old.writes + 1 = ap writes_out w.writes ∙ put_count old.writes lane request.id w.free in
     let took : taking_left old.pass.taking ≡ taking_left (Some w.taken.taking) = ap taking_left w.taken.was in
     let none : taking_left new.pass.taking ≡ 0 = ap (λ (p : Pass). taking_left p.taking) w.taken.is in
     let same : pages_ahead new.pass.after (plain_of before) ≡ pages_ahead old.pass.after (plain_of before) = ap (λ (p : Pass). pages_ahead p.after (plain_of before)) w.taken.is in
     omega arith
 step_fewer law ticket old new before after (TableCall request) s =
     let w = s.0 in
-    let was : image_left old (plain_of before) ≡ pass_left old.pass (plain_of before) + 10 = in_pass old (plain_of before) w.stage in
+    let was : image_left old (plain_of before) ≡ pass_left old.pass (plain_of before) + writes_out old.writes + 10 = in_pass old (plain_of before) w.stage in
     let is : image_left new (plain_of before) ≡ plan_left w.next = ap (λ (m : Making). image_left m (plain_of before)) w.is in
     let ten : plan_left w.next + 1 ≡ 10 = gives_fewer _ w.next request w.gives in
     omega arith
 step_fewer law ticket old new before after Frozen s =
-    let was : image_left old (plain_of before) ≡ 1 + pass_left old.pass (plain_of before) + 10 = ap (λ (g : Stage). stage_left g (pass_left old.pass (plain_of before))) s.0.stage in
-    let is : image_left new (plain_of before) ≡ pass_left old.pass (plain_of before) + 10 = ap (λ (m : Making). image_left m (plain_of before)) s.0.is in
+    let was : image_left old (plain_of before) ≡ 1 + (pass_left old.pass (plain_of before) + writes_out old.writes) + 10 =
+    ap (λ (g : Stage). stage_left g (pass_left old.pass (plain_of before) + writes_out old.writes)) s.0.stage in
+    let is : image_left new (plain_of before) ≡ pass_left old.pass (plain_of before) + writes_out old.writes + 10 = ap (λ (m : Making). image_left m (plain_of before)) s.0.is in
     omega arith
 step_fewer law ticket old new before after (Visited visit) s =
-    let was : image_left old (plain_of before) ≡ pass_left old.pass (plain_of before) + 10 = in_pass old (plain_of before) s.passes.0 in
-    let is : image_left new (plain_of before) ≡ pass_left new.pass (plain_of before) + 10 =
+    let was : image_left old (plain_of before) ≡ pass_left old.pass (plain_of before) + writes_out old.writes + 10 = in_pass old (plain_of before) s.passes.0 in
+    let is : image_left new (plain_of before) ≡ pass_left new.pass (plain_of before) + writes_out new.writes + 10 =
     in_pass new (plain_of before) (ap (λ (m : Making). m.stage) s.passes.1 ∙ s.passes.0) in
+    let out : writes_out new.writes ≡ writes_out old.writes = ap (λ (m : Making). writes_out m.writes) s.passes.1 in
     let fewer : pass_left new.pass (plain_of after) < pass_left old.pass (plain_of before) = visit_fewer law old.pass new.pass before after visit s.tests s.free in
     let same : pass_left new.pass (plain_of after) ≡ pass_left new.pass (plain_of before) = ap (λ m. pass_left new.pass m) s.tests.plain in
     omega arith
 step_fewer law ticket old new before after (Copied c) s =
-    let was : image_left old (plain_of before) ≡ pass_left old.pass (plain_of before) + 10 = in_pass old (plain_of before) s.0.passes.0 in
-    let is : image_left new (plain_of before) ≡ pass_left new.pass (plain_of before) + 10 =
+    let was : image_left old (plain_of before) ≡ pass_left old.pass (plain_of before) + writes_out old.writes + 10 = in_pass old (plain_of before) s.0.passes.0 in
+    let is : image_left new (plain_of before) ≡ pass_left new.pass (plain_of before) + writes_out new.writes + 10 =
     in_pass new (plain_of before) (ap (λ (m : Making). m.stage) s.0.passes.1 ∙ s.0.passes.0) in
+    let out : writes_out new.writes ≡ writes_out old.writes = ap (λ (m : Making). writes_out m.writes) s.0.passes.1 in
     let fewer : pass_left new.pass (plain_of before) < pass_left old.pass (plain_of before) = copy_fewer old.pass new.pass before c s.0.copies in
     omega arith
 
@@ -193,23 +197,37 @@ goes_on_fewer old new made memory g =
     fewer : plan_left (plan_after g.plan made) + 1 ≡ plan_left g.plan
     fewer = settled_fewer g.plan made g.awaited.out g.one
 
-    ended : (kind : Kind) (stage : Stage) → plan_of stage ≡ Some g.plan → (closing stage ≢ 0 → ⊥) → stage_left (stage_behind kind stage) (pass_left old.pass memory) < stage_left stage (pass_left old.pass memory)
+    ended : (kind : Kind) (stage : Stage) → plan_of stage ≡ Some g.plan → (closing stage ≢ 0 → ⊥) → stage_left (stage_behind kind stage) (pass_left old.pass memory + writes_out old.writes) < stage_left stage (pass_left old.pass memory + writes_out old.writes)
     ended Dump (Format plan) is closes = (let same : plan_left plan ≡ plan_left g.plan = ap plan_left (one_plan plan g.plan is) in omega (arith, fewer))
     ended PreDump (Format plan) is closes = omega arith
     ended Merged (Format plan) is closes = omega arith
     ended kind Freeze is closes = absurd (let f : None ≡ Some g.plan = is in cc)
     ended kind PassStage is closes = absurd (let f : None ≡ Some g.plan = is in cc)
-    ended kind (PageWrite plan) is closes = (let same : plan_left plan ≡ plan_left g.plan = ap plan_left (one_plan plan g.plan is) in omega (arith, fewer))
     ended kind (Close plan header tables) is closes = absurd (closes (λ e. omega (arith, e)))
 
     by : (calls : Calls) → (plan_after g.plan made).calls ≡ calls
         → image_left (record old { stage = stage_after old.order.kind old.stage (plan_after g.plan made) calls }) memory < image_left old memory
     by [] e = ended old.order.kind old.stage g.awaited.was (λ more. g.closes more e)
-    by (call ∷ calls) e = asked_fewer old.stage g.plan (plan_after g.plan made) (pass_left old.pass memory) g.awaited.was fewer
+    by (call ∷ calls) e = asked_fewer old.stage g.plan (plan_after g.plan made) (pass_left old.pass memory + writes_out old.writes) g.awaited.was fewer
+
+written_fewer : (old new : Making) (made : Made) (memory : PlainMemory) → is_passing old.stage ≡ true → IsWritten old made new → image_left new memory < image_left old memory
+written_fewer old new made memory passing w =
+    subst (λ (m : Making). image_left m memory < image_left old memory) (sym w.is) (by old.stage passing)
+  where
+    by : (stage : Stage) → is_passing stage ≡ true
+        → stage_left stage (pass_left old.pass memory + writes_out (slice_set old.writes w.lane None)) < stage_left stage (pass_left old.pass memory + writes_out old.writes)
+    by (Format plan) is = absurd (both_ways false refl is)
+    by Freeze is = absurd (both_ways false refl is)
+    by PassStage is = omega (arith, take_count old.writes w.lane made.request.id w.out)
+    by (Close plan header tables) is = absurd (both_ways false refl is)
+
+more_fewer : (old new : Making) (made : Made) (memory : PlainMemory) → GoesOn old made new ⊎ IsWritten old made new → image_left new memory < image_left old memory
+more_fewer old new made memory (inl g) = goes_on_fewer old new made memory g
+more_fewer old new made memory (inr w) = written_fewer old new made memory w.passing w
 
 opens_some : (old : Making) (made : Made) (memory : PlainMemory) (image : NewImage) → Opens old made image → 0 < image_left old memory
 opens_some old made memory image o =
-    let is : image_left old memory ≡ plan_left o.plan = ap (λ (s : Stage). stage_left s (pass_left old.pass memory)) o.was in
+    let is : image_left old memory ≡ plan_left o.plan = ap (λ (s : Stage). stage_left s (pass_left old.pass memory + writes_out old.writes)) o.was in
     let one : is_one o.plan.out ≡ 1 = out_one o.plan made o.out in
     omega arith
 
@@ -224,7 +242,7 @@ hands_fewer : (old new : Running) (made : Made) (progress : Progress) (memory : 
 hands_fewer old new made Strange memory h strange = absurd (both_ways true strange refl)
 hands_fewer old new made HasFailed memory h strange = some_left old memory
 hands_fewer old new made GoesOnWith memory h strange =
-    let less : image_left h.next memory < image_left h.image memory = goes_on_fewer h.image h.next made memory h.hands in
+    let less : image_left h.next memory < image_left h.image memory = more_fewer h.image h.next made memory h.hands in
     let was : making_left old.image memory ≡ image_left h.image memory = ap (λ o. making_left o memory) h.was in
     plus _ _ _ ((length old.pre_dumps - old.opened) * next_left memory) _ less was (ap (λ (r : Running). running_left r memory) h.is)
   where

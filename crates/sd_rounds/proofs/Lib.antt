@@ -1,4 +1,5 @@
 pub mod Orders
+pub mod WriteLemmas
 pub mod Lists
 pub mod Clean
 pub mod ClearLemmas
@@ -21,6 +22,7 @@ pub mod PassStepLemmas
 pub mod PlanLemmas
 pub mod DumperLemmas
 pub mod AheadLemmas
+pub mod WaitLemmas
 pub mod LeftLemmas
 pub mod WayLemmas
 pub mod FileLemmas

@@ -1,5 +1,5 @@
 -- Which pages an image takes, whatever its file holds.
-use Rattle.std.proofs.Common.{◌≡◌, ◌↔◌, ℕ, ◌*◌, ◌<◌, Bool, true, false, cond, nat_eq, ◌||◌, List, [], ◌∷◌, ◌++◌, length, take, Contains, Some, None, refl, sym, ◌∙◌, ap, subst, arith}
+use Rattle.std.proofs.Common.{◌≡◌, ◌↔◌, ℕ, ◌*◌, ◌<◌, Bool, true, false, cond, nat_eq, ◌||◌, List, [], ◌∷◌, ◌++◌, length, take, Contains, Some, None, refl, sym, ◌∙◌, ap, subst, inl, inr, arith}
 use Rattle.std.proofs.lemmas.Bool.{both_ways}
 use Rattle.std.proofs.lemmas.List.{take_all}
 use Rattle.sd_image.specs.declared.header.Kind.{Kind}
@@ -22,12 +22,12 @@ use Rattle.sd_rounds.specs.declared.image_step.ImageStep.{ImageStep}
 use Rattle.sd_rounds.specs.declared.image_step.ImageStep.TheVariants.{Call, PageCall, TableCall, Frozen, Visited, Copied}
 use Rattle.sd_rounds.specs.declared.new_image.NewImage.{NewImage}
 use Rattle.sd_rounds.specs.declared.stage.Stage.{Stage}
-use Rattle.sd_rounds.specs.declared.stage.Stage.TheVariants.{Format, Freeze, Pass as PassStage, PageWrite, Close}
+use Rattle.sd_rounds.specs.declared.stage.Stage.TheVariants.{Format, Freeze, Pass as PassStage, Close}
 use Rattle.sd_rounds.specs.Dump.{DumpLaws, IsDumping, WasDue, due, kind_of_bytes}
 use Rattle.sd_rounds.specs.ImageVisits.{visits_after}
 use Rattle.sd_rounds.specs.LittleWork.{HasWays, IsFrontOf, IsTaking, ListsIn, LittleLaws, TakesDue, TakesDueIn, TakesVisited, TookVisited}
 use Rattle.sd_rounds.specs.Made.{Lists}
-use Rattle.sd_rounds.specs.Making.{HandsIn, HasTable, Making, Opens, Steps, WritesTable, begun_image, closing, is_past_freeze, stage_after, stage_behind, with_plan}
+use Rattle.sd_rounds.specs.Making.{GoesOn, HandsIn, HasTable, Making, Opens, Steps, WritesTable, begun_image, closing, is_past_freeze, stage_after, stage_behind, with_plan}
 use Rattle.sd_rounds.specs.Pass.{Entry, Pass, Place, Taking, begun_to_take, copied_more, left_to_parent, opened, pages_by, sector_of, taken_as_zero, with_entry}
 use Rattle.sd_rounds.specs.Rises.{IsRising, RisesLaws, kind_at}
 use Rattle.sd_rounds.specs.Rounds.{Copies, IsNextSector, TakesPage, Tests}
@@ -151,7 +151,6 @@ asked_due : (stage : Stage) (plan : Planned) (cut : Contents) (pass : Pass) (mem
 asked_due (Format old) plan cut pass memory is = is
 asked_due Freeze plan cut pass memory is = is
 asked_due PassStage plan cut pass memory is = is
-asked_due (PageWrite old) plan cut pass memory is = is
 asked_due (Close old header tables) plan cut pass memory is = is
 
 -- the table that is written has the entries
@@ -169,10 +168,10 @@ steps : PlainLaw → RisesLaws → DumpLaws → StepLaws → (ticket : ℕ) (cut
 steps law rises dumps laws ticket cut old new before after (Call request) s past rising was =
     subst (λ memory. TakesDue cut new memory) (sym s.2)
     (subst (λ (m : Making). TakesDue cut m before) (sym s.0.is) (asked_due old.stage s.0.next cut old.pass before was))
-steps law rises dumps laws ticket cut old new before after (PageCall request) s past rising was =
+steps law rises dumps laws ticket cut old new before after (PageCall lane request) s past rising was =
     subst (λ memory. TakesDue cut new memory) (sym s.2)
-    (subst (λ (g : Stage). TakesDueIn g cut new.pass before) (sym s.0.is)
-    (take_taking cut old.pass new.pass before s.0.bytes s.0.taken rising (pass_taking old.stage cut old.pass before s.0.stage was)))
+    (subst (λ (g : Stage). TakesDueIn g cut new.pass before) (sym s.0.still)
+    (take_taking cut old.pass new.pass before request.bytes s.0.taken rising (pass_taking old.stage cut old.pass before s.0.stage was)))
 steps law rises dumps laws ticket cut old new before after (TableCall request) s past rising was =
     subst (λ memory. TakesDue cut new memory) (sym s.2)
     (subst (λ (m : Making). TakesDue cut m before) (sym s.0.is) (ways, table_lists law cut old new before request s.0 is.dumping.plain ways))
@@ -199,17 +198,21 @@ behind_due : (kind : Kind) (stage : Stage) (cut : Contents) (pass : Pass) (memor
 behind_due kind (Format plan) cut pass memory none past is = absurd (both_ways false refl past)
 behind_due kind Freeze cut pass memory none past is = absurd (both_ways false refl past)
 behind_due kind PassStage cut pass memory none past is = is
-behind_due kind (PageWrite plan) cut pass memory none past is = is
 behind_due kind (Close plan header tables) cut pass memory none past is = absurd (omega arith)
 
-hands : (cut : Contents) (old new : Making) (memory : Contents) (made : Made) → HandsIn old made More new
+image_goes_on : (cut : Contents) (old new : Making) (memory : Contents) (made : Made) → GoesOn old made new
     → is_past_freeze old.stage ≡ true → TakesDue cut old memory → TakesDue cut new memory
-hands cut old new memory made h past was =
+image_goes_on cut old new memory made h past was =
     subst (λ (m : Making). TakesDue cut m memory) (sym h.is) (by (plan_after h.plan made).calls (none_closing old.stage (plan_after h.plan made).calls h.closes))
   where
     by : (calls : Calls) → (calls ≡ [] → closing old.stage ≡ 0) → TakesDueIn (stage_after old.order.kind old.stage (plan_after h.plan made) calls) cut old.pass memory
     by [] none = behind_due old.order.kind old.stage cut old.pass memory (none refl) past was
     by (call ∷ calls) none = asked_due old.stage (plan_after h.plan made) cut old.pass memory was
+
+hands : (cut : Contents) (old new : Making) (memory : Contents) (made : Made) → HandsIn old made More new
+    → is_past_freeze old.stage ≡ true → TakesDue cut old memory → TakesDue cut new memory
+hands cut old new memory made (inl g) past was = image_goes_on cut old new memory made g past was
+hands cut old new memory made (inr w) past was = subst (λ (m : Making). TakesDue cut m memory) (sym w.is) was
 
 opens : (cut : Contents) (old : Making) (made : Made) (opened : NewImage) (memory : Contents) → Opens old made opened → IsRising old.pass
     → TakesDue cut old memory → (kind : RunKind) (at : Place) → Contains (pages_of kind opened.table) at ↔ due old.pass.takes_all (page_at cut at.0 at.1) ≡ Some kind
@@ -233,7 +236,6 @@ asked_lists : (stage : Stage) (plan : Planned) (entries : List Entry) → ListsI
 asked_lists (Format old) plan entries is = is
 asked_lists Freeze plan entries is = is
 asked_lists PassStage plan entries is = is
-asked_lists (PageWrite old) plan entries is = is
 asked_lists (Close old header tables) plan entries is = is
 
 behind_lists : (kind : Kind) (stage : Stage) (entries : List Entry) → ListsIn (stage_behind kind stage) entries
@@ -242,7 +244,6 @@ behind_lists PreDump (Format plan) entries = tt
 behind_lists Merged (Format plan) entries = tt
 behind_lists kind Freeze entries = tt
 behind_lists kind PassStage entries = tt
-behind_lists kind (PageWrite plan) entries = tt
 behind_lists kind (Close plan header tables) entries = tt
 
 -- every page, for the laws that ask which were mapped all the time: none
@@ -264,9 +265,9 @@ visits_step laws ticket visits old new before after (Call request) s kind was = 
   pass = was.pass;
   lists = asked_lists old.stage s.0.next old.pass.entries was.lists;
 })
-visits_step laws ticket visits old new before after (PageCall request) s kind was =
-    at_pass visits new (PageWrite s.0.next) s.0.is tt
-    (takes laws never visits old.pass new.pass s.0.bytes s.0.taken was.pass (none_swept visits old.pass)).is
+visits_step laws ticket visits old new before after (PageCall lane request) s kind was =
+    at_pass visits new PassStage s.0.still tt
+    (takes laws never visits old.pass new.pass request.bytes s.0.taken was.pass (none_swept visits old.pass)).is
 visits_step laws ticket visits old new before after (TableCall request) s kind was = subst (λ (m : Making). TakesVisited visits m) (sym s.0.is) (record {
   pass = was.pass;
   lists = (subst (λ k. HasTable k before old.pass.entries s.0.header s.0.tables) kind s.0.table).lists;
@@ -280,12 +281,16 @@ visits_step laws ticket visits old new before after (Copied c) s kind was =
     at_pass visits new PassStage (ap (λ (m : Making). m.stage) s.0.passes.1 ∙ s.0.passes.0) tt
     (copies laws never visits old.pass new.pass before c s.0.copies was.pass (none_swept visits old.pass)).is
 
-goes_on : (visits : List Visit) (old new : Making) (made : Made) → HandsIn old made More new → TakesVisited visits old → TakesVisited visits new
-goes_on visits old new made h was = subst (λ (m : Making). TakesVisited visits m) (sym h.is) (record { pass = was.pass; lists = by (plan_after h.plan made).calls })
+visits_go_on : (visits : List Visit) (old new : Making) (made : Made) → GoesOn old made new → TakesVisited visits old → TakesVisited visits new
+visits_go_on visits old new made h was = subst (λ (m : Making). TakesVisited visits m) (sym h.is) (record { pass = was.pass; lists = by (plan_after h.plan made).calls })
   where
     by : (calls : Calls) → ListsIn (stage_after old.order.kind old.stage (plan_after h.plan made) calls) old.pass.entries
     by [] = behind_lists old.order.kind old.stage old.pass.entries
     by (call ∷ calls) = asked_lists old.stage (plan_after h.plan made) old.pass.entries was.lists
+
+goes_on : (visits : List Visit) (old new : Making) (made : Made) → HandsIn old made More new → TakesVisited visits old → TakesVisited visits new
+goes_on visits old new made (inl g) was = visits_go_on visits old new made g was
+goes_on visits old new made (inr w) was = subst (λ (m : Making). TakesVisited visits m) (sym w.is) (record { pass = was.pass; lists = was.lists })
 
 took : (visits : List Visit) (old : Making) (made : Made) (opened : NewImage) → Opens old made opened → TakesVisited visits old
     → TookVisited old.pass.takes_all visits opened.table

@@ -1,5 +1,5 @@
 -- What the steps of an image keep.
-use Rattle.std.proofs.Common.{◌≡◌, ◌≢◌, ℕ, ◌+◌, Bool, true, false, nat_eq, ◌||◌, if◌then◌else◌, List, [], ◌∷◌, ◌++◌, length, Some, refl, sym, ◌∙◌, ap, subst, arith}
+use Rattle.std.proofs.Common.{◌≡◌, ◌≢◌, ℕ, ◌+◌, Bool, true, false, nat_eq, ◌||◌, if◌then◌else◌, List, [], ◌∷◌, ◌++◌, length, Option, Some, None, slice_set, refl, sym, ◌∙◌, ap, subst, inl, inr, arith}
 use Rattle.std.specs.List.{AllByRecursion}
 use Rattle.std.proofs.lemmas.Bool.{both_ways}
 use Rattle.std.proofs.lemmas.List.{length-append}
@@ -7,6 +7,7 @@ use Rattle.sd_image.specs.declared.header.Kind.{Kind}
 use Rattle.sd_image.specs.declared.header.Kind.TheVariants.{Dump, Merged, PreDump}
 use Rattle.sd_image.specs.declared.run.RunKind.{RunKind}
 use Rattle.sd_image.specs.declared.run.RunKind.TheVariants.{Data, Parent, Zero}
+use Rattle.sd_gate.specs.declared.request_id.RequestId.{RequestId}
 use Rattle.sd_gate.specs.Plans.{Planned, plan_after}
 use Rattle.sd_gate.specs.Requests.{Made}
 use Rattle.sd_gate.specs.Sequences.{Calls}
@@ -20,11 +21,11 @@ use Rattle.sd_rounds.specs.declared.image_progress.ImageProgress.TheVariants.{Mo
 use Rattle.sd_rounds.specs.declared.image_step.ImageStep.{ImageStep}
 use Rattle.sd_rounds.specs.declared.image_step.ImageStep.TheVariants.{Call, PageCall, TableCall, Frozen, Visited, Copied}
 use Rattle.sd_rounds.specs.declared.stage.Stage.{Stage}
-use Rattle.sd_rounds.specs.declared.stage.Stage.TheVariants.{Format, Freeze, Pass as PassStage, PageWrite, Close}
+use Rattle.sd_rounds.specs.declared.stage.Stage.TheVariants.{Format, Freeze, Pass as PassStage, Close}
 use Rattle.sd_rounds.specs.Dump.{DumpLaws, IsDumping}
 use Rattle.sd_rounds.specs.Keeps.{Chain, IsCall, Keeps, KeepsLaws, Rests, Within}
 use Rattle.sd_rounds.specs.Made.{listed_pages}
-use Rattle.sd_rounds.specs.Making.{HandsIn, Making, Steps, WritesPage, WritesTable, begun_image, closing, is_past_freeze, stage_after, stage_behind, with_plan}
+use Rattle.sd_rounds.specs.Making.{GoesOn, HandsIn, Making, Steps, WritesTable, begun_image, closing, is_past_freeze, stage_after, stage_behind, with_plan}
 use Rattle.sd_rounds.specs.MakingLaws.{DumpsImage, IsDumpedIn, IsKeptIn, KeepsImage, MakingLaws, Pages, pages_after}
 use Rattle.sd_rounds.specs.Pass.{Pass, Place, begun_to_take, data_pages, left_to_parent, opened, pages_by, with_entry}
 use Rattle.sd_rounds.specs.Rises.{IsRising}
@@ -61,15 +62,10 @@ take_counts old bytes new t = ap (λ (p : Pass). data_pages p.entries) t.is ∙ 
 
 -- ---- what is kept
 
-abbrev first_bytes : Calls → List ℕ
-first_bytes [] = []
-first_bytes (call ∷ calls) = call.1
-
 asked_keeps : (stage : Stage) (plan : Planned) (pages : Pages) (chain : Chain) (pass : Pass) (memory : Contents) → IsKeptIn stage pages chain pass memory → IsKeptIn (with_plan stage plan) pages chain pass memory
 asked_keeps (Format old) plan pages chain pass memory kept = kept
 asked_keeps Freeze plan pages chain pass memory kept = kept
 asked_keeps PassStage plan pages chain pass memory kept = kept
-asked_keeps (PageWrite old) plan pages chain pass memory kept = kept
 asked_keeps (Close old header tables) plan pages chain pass memory kept = kept
 
 asked_dumps : (stage : Stage) (plan : Planned) (cut : Contents) (pages : Pages) (chain : Chain) (pass : Pass) (memory : Contents) → IsDumpedIn stage cut pages chain pass memory
@@ -77,7 +73,6 @@ asked_dumps : (stage : Stage) (plan : Planned) (cut : Contents) (pages : Pages) 
 asked_dumps (Format old) plan cut pages chain pass memory dumped = dumped
 asked_dumps Freeze plan cut pages chain pass memory dumped = dumped
 asked_dumps PassStage plan cut pages chain pass memory dumped = dumped
-asked_dumps (PageWrite old) plan cut pages chain pass memory dumped = dumped
 asked_dumps (Close old header tables) plan cut pages chain pass memory dumped = dumped
 
 -- in the pass
@@ -102,51 +97,42 @@ begins laws order chain memory rests = record {
     by false e = laws.opens (listed_pages []) chain memory (rests (apart order.parent e))
 
 -- the same image, in another stage
-moved : (pages more : Pages) (chain : Chain) (new : Making) (stage : Stage) (pass : Pass) (order : ImageOrder) (memory : Contents)
-    → new ≡ record { order = order; pass = pass; stage = stage } → length more ≡ data_pages pass.entries → AllByRecursion (λ page. length page ≡ 4096) more
+moved : (pages more : Pages) (chain : Chain) (new : Making) (stage : Stage) (pass : Pass) (order : ImageOrder) (writes : List (Option RequestId)) (memory : Contents)
+    → new ≡ record { order = order; pass = pass; stage = stage; writes = writes } → length more ≡ data_pages pass.entries → AllByRecursion (λ page. length page ≡ 4096) more
     → IsKeptIn stage more chain pass memory → KeepsImage more chain new memory
-moved pages more chain new stage pass order memory is count whole kept =
+moved pages more chain new stage pass order writes memory is count whole kept =
     subst (λ (m : Making). KeepsImage more chain m memory) (sym is) (record { count = count; whole = whole; kept = kept })
 
 steps : KeepsLaws → StepLaws → (ticket : ℕ) (pages : Pages) (chain : Chain) (old new : Making) (before after : Contents) (step : ImageStep) → Steps ticket old before step new after
     → KeepsImage pages chain old before → KeepsImage (pages_after step pages) chain new after
 steps keeps laws ticket pages chain old new before after (Call request) s was =
     subst (λ memory. KeepsImage pages chain new memory) (sym s.2)
-    (moved pages pages chain new (with_plan old.stage s.0.next) old.pass old.order before s.0.is was.count was.whole
+    (moved pages pages chain new (with_plan old.stage s.0.next) old.pass old.order old.writes before s.0.is was.count was.whole
     (asked_keeps old.stage s.0.next pages chain old.pass before was.kept))
-steps keeps laws ticket pages chain old new before after (PageCall request) s was =
-    subst (λ memory. KeepsImage (pages ++ request.bytes ∷ []) chain new memory) (sym s.2) (by s.0)
-  where
-    by : WritesPage old request new → KeepsImage (pages ++ request.bytes ∷ []) chain new before
-    by w =
-        let same : w.bytes ≡ request.bytes = same_bytes w in
-        record {
-          count = length-append pages (request.bytes ∷ []) ∙ ap (λ n. n + 1) was.count ∙ sym (take_counts old.pass w.bytes new.pass w.taken);
-          whole = all_put (λ page. length page ≡ 4096) pages request.bytes was.whole (ap (λ (b : List ℕ). length b) (sym same) ∙ w.taken.whole);
-          kept = subst (λ (s : Stage). IsKeptIn s (pages ++ request.bytes ∷ []) chain new.pass before) (sym w.is)
-              (subst (λ (b : List ℕ). Keeps (listed_pages (pages ++ b ∷ [])) chain new.pass before) same
-              (laws.take_keeps pages chain old.pass new.pass before w.bytes w.taken was.count (pass_kept old.stage pages chain old.pass before w.stage was.kept)));
-        }
-      where
-        same_bytes : (w : WritesPage old request new) → w.bytes ≡ request.bytes
-        same_bytes w = ap first_bytes w.gives.next
+steps keeps laws ticket pages chain old new before after (PageCall lane request) s was =
+    subst (λ memory. KeepsImage (pages ++ request.bytes ∷ []) chain new memory) (sym s.2) (record {
+      count = length-append pages (request.bytes ∷ []) ∙ ap (λ n. n + 1) was.count ∙ sym (take_counts old.pass request.bytes new.pass s.0.taken);
+      whole = all_put (λ page. length page ≡ 4096) pages request.bytes was.whole s.0.taken.whole;
+      kept = subst (λ (g : Stage). IsKeptIn g (pages ++ request.bytes ∷ []) chain new.pass before) (sym s.0.still)
+          (laws.take_keeps pages chain old.pass new.pass before request.bytes s.0.taken was.count (pass_kept old.stage pages chain old.pass before s.0.stage was.kept));
+    })
 steps keeps laws ticket pages chain old new before after (TableCall request) s was =
     subst (λ memory. KeepsImage pages chain new memory) (sym s.2) (by s.0)
   where
     by : WritesTable old before request new → KeepsImage pages chain new before
-    by w = moved pages pages chain new (Close w.next w.header w.tables) old.pass old.order before w.is was.count was.whole
+    by w = moved pages pages chain new (Close w.next w.header w.tables) old.pass old.order old.writes before w.is was.count was.whole
         (keeps.ends (listed_pages pages) chain old.pass before w.free w.over (pass_kept old.stage pages chain old.pass before w.stage was.kept))
 steps keeps laws ticket pages chain old new before after Frozen s was =
     subst (λ memory. KeepsImage pages chain new memory) (sym s.1)
-    (moved pages pages chain new PassStage old.pass old.order before s.0.is was.count was.whole
+    (moved pages pages chain new PassStage old.pass old.order old.writes before s.0.is was.count was.whole
     (subst (λ (s : Stage). IsKeptIn s pages chain old.pass before) s.0.stage was.kept))
 steps keeps laws ticket pages chain old new before after (Visited visit) s was =
-    moved pages pages chain new old.stage new.pass old.order after s.passes.1 (was.count ∙ sym (visit_counts old.pass before visit new.pass after s.tests)) was.whole
+    moved pages pages chain new old.stage new.pass old.order old.writes after s.passes.1 (was.count ∙ sym (visit_counts old.pass before visit new.pass after s.tests)) was.whole
     (subst (λ (g : Stage). IsKeptIn g pages chain new.pass after) (sym s.passes.0)
     (laws.visit_keeps (listed_pages pages) chain old.pass new.pass before after visit s.tests s.free (pass_kept old.stage pages chain old.pass before s.passes.0 was.kept)))
 steps keeps laws ticket pages chain old new before after (Copied c) s was =
     subst (λ memory. KeepsImage pages chain new memory) (sym s.1)
-    (moved pages pages chain new old.stage new.pass old.order before s.0.passes.1 (was.count ∙ sym (copy_counts old.pass before c new.pass s.0.copies)) was.whole
+    (moved pages pages chain new old.stage new.pass old.order old.writes before s.0.passes.1 (was.count ∙ sym (copy_counts old.pass before c new.pass s.0.copies)) was.whole
     (subst (λ (g : Stage). IsKeptIn g pages chain new.pass before) (sym s.0.passes.0)
     (laws.copy_keeps (listed_pages pages) chain old.pass new.pass before c s.0.copies (pass_kept old.stage pages chain old.pass before s.0.passes.0 was.kept))))
 
@@ -158,25 +144,29 @@ behind_keeps PreDump (Format plan) pages chain pass memory none kept = kept
 behind_keeps Merged (Format plan) pages chain pass memory none kept = kept
 behind_keeps kind Freeze pages chain pass memory none kept = kept
 behind_keeps kind PassStage pages chain pass memory none kept = kept
-behind_keeps kind (PageWrite plan) pages chain pass memory none kept = kept
 behind_keeps kind (Close plan header tables) pages chain pass memory none kept = absurd (omega arith)
 
 pub none_closing : (stage : Stage) (calls : Calls) → (closing stage ≢ 0 → calls ≢ []) → calls ≡ [] → closing stage ≡ 0
 none_closing (Format plan) calls closes none = refl
 none_closing Freeze calls closes none = refl
 none_closing PassStage calls closes none = refl
-none_closing (PageWrite plan) calls closes none = refl
 none_closing (Close plan header tables) calls closes none = absurd (closes (λ e. omega (arith, e)) none)
 
-hands : (pages : Pages) (chain : Chain) (old new : Making) (memory : Contents) (made : Made) → HandsIn old made More new
+goes_on : (pages : Pages) (chain : Chain) (old new : Making) (memory : Contents) (made : Made) → GoesOn old made new
     → KeepsImage pages chain old memory → KeepsImage pages chain new memory
-hands pages chain old new memory made h was =
-    moved pages pages chain new (stage_after old.order.kind old.stage (plan_after h.plan made) (plan_after h.plan made).calls) old.pass old.order memory h.is was.count was.whole
+goes_on pages chain old new memory made h was =
+    moved pages pages chain new (stage_after old.order.kind old.stage (plan_after h.plan made) (plan_after h.plan made).calls) old.pass old.order old.writes memory h.is was.count was.whole
     (by (plan_after h.plan made).calls (none_closing old.stage (plan_after h.plan made).calls h.closes))
   where
     by : (calls : Calls) → (calls ≡ [] → closing old.stage ≡ 0) → IsKeptIn (stage_after old.order.kind old.stage (plan_after h.plan made) calls) pages chain old.pass memory
     by [] none = behind_keeps old.order.kind old.stage pages chain old.pass memory (none refl) was.kept
     by (call ∷ calls) none = asked_keeps old.stage (plan_after h.plan made) pages chain old.pass memory was.kept
+
+hands : (pages : Pages) (chain : Chain) (old new : Making) (memory : Contents) (made : Made) → HandsIn old made More new
+    → KeepsImage pages chain old memory → KeepsImage pages chain new memory
+hands pages chain old new memory made (inl g) was = goes_on pages chain old new memory made g was
+hands pages chain old new memory made (inr w) was =
+    moved pages pages chain new old.stage old.pass old.order (slice_set old.writes w.lane None) memory w.is was.count was.whole was.kept
 
 calls : KeepsLaws → (pages : Pages) (one other : Chain) (making : Making) (old new : Contents) (event : Event) → IsSound old → Step old event new → IsCall event → Within one other
     → KeepsImage pages one making old → KeepsImage pages other making new
@@ -194,7 +184,6 @@ calls laws pages one other making old new event sound step call within was = rec
     by (Format plan) kept = passes kept
     by Freeze kept = passes kept
     by PassStage kept = passes kept
-    by (PageWrite plan) kept = passes kept
     by (Close plan header tables) kept =
         laws.still_gave (listed_pages pages) (listed_pages pages) one other making.pass.entries old new event sound step call (λ place few. refl) within kept
 
@@ -213,7 +202,6 @@ agrees laws pages one other making memory within was = record {
     by (Format plan) kept = passes kept
     by Freeze kept = passes kept
     by PassStage kept = passes kept
-    by (PageWrite plan) kept = passes kept
     by (Close plan header tables) kept = λ space number bytes clean.
         gives_agrees (listed_pages pages) (listed_pages pages) one other making.pass.entries (space, number) bytes (λ place few. refl) within (kept space number bytes clean)
 
@@ -225,7 +213,6 @@ agrees_dump cut pages one other making memory within was = by making.stage was
     by (Format plan) is = tt
     by Freeze is = tt
     by PassStage is = is
-    by (PageWrite plan) is = is
     by (Close plan header tables) is = record {
       kinds = is.kinds;
       bytes = λ at page there. gives_agrees (listed_pages pages) (listed_pages pages) one other making.pass.entries at page.bytes (λ place few. refl) within (is.bytes at page there);
@@ -245,10 +232,10 @@ dumps : DumpLaws → StepLaws → (ticket : ℕ) (cut : Contents) (pages : Pages
 dumps dump laws ticket cut pages chain old new before after (Call request) s past rising keeps was =
     subst (λ memory. DumpsImage cut pages chain new memory) (sym s.2)
     (subst (λ (m : Making). DumpsImage cut pages chain m before) (sym s.0.is) (asked_dumps old.stage s.0.next cut pages chain old.pass before was))
-dumps dump laws ticket cut pages chain old new before after (PageCall request) s past rising keeps was =
+dumps dump laws ticket cut pages chain old new before after (PageCall lane request) s past rising keeps was =
     subst (λ memory. DumpsImage cut (pages ++ request.bytes ∷ []) chain new memory) (sym s.2)
-    (subst (λ (g : Stage). IsDumpedIn g cut (pages ++ request.bytes ∷ []) chain new.pass before) (sym s.0.is)
-    (laws.take_dumps (listed_pages pages) chain cut old.pass new.pass before s.0.bytes s.0.taken rising
+    (subst (λ (g : Stage). IsDumpedIn g cut (pages ++ request.bytes ∷ []) chain new.pass before) (sym s.0.still)
+    (laws.take_dumps (listed_pages pages) chain cut old.pass new.pass before request.bytes s.0.taken rising
     (pass_kept old.stage pages chain old.pass before s.0.stage keeps.kept) (pass_dumped old.stage cut pages chain old.pass before s.0.stage was)))
 dumps dump laws ticket cut pages chain old new before after (TableCall request) s past rising keeps was =
     subst (λ memory. DumpsImage cut pages chain new memory) (sym s.2)
@@ -273,12 +260,11 @@ behind_dumps : (kind : Kind) (stage : Stage) (cut : Contents) (pages : Pages) (c
 behind_dumps kind (Format plan) cut pages chain pass memory none past dumped = absurd (both_ways false refl past)
 behind_dumps kind Freeze cut pages chain pass memory none past dumped = absurd (both_ways false refl past)
 behind_dumps kind PassStage cut pages chain pass memory none past dumped = dumped
-behind_dumps kind (PageWrite plan) cut pages chain pass memory none past dumped = dumped
 behind_dumps kind (Close plan header tables) cut pages chain pass memory none past dumped = absurd (omega arith)
 
-hands_dump : (cut : Contents) (pages : Pages) (chain : Chain) (old new : Making) (memory : Contents) (made : Made) → HandsIn old made More new
+goes_on_dump : (cut : Contents) (pages : Pages) (chain : Chain) (old new : Making) (memory : Contents) (made : Made) → GoesOn old made new
     → is_past_freeze old.stage ≡ true → DumpsImage cut pages chain old memory → DumpsImage cut pages chain new memory
-hands_dump cut pages chain old new memory made h past was =
+goes_on_dump cut pages chain old new memory made h past was =
     subst (λ (m : Making). DumpsImage cut pages chain m memory) (sym h.is)
     (by (plan_after h.plan made).calls (none_closing old.stage (plan_after h.plan made).calls h.closes))
   where
@@ -286,6 +272,11 @@ hands_dump cut pages chain old new memory made h past was =
         → IsDumpedIn (stage_after old.order.kind old.stage (plan_after h.plan made) calls) cut pages chain old.pass memory
     by [] none = behind_dumps old.order.kind old.stage cut pages chain old.pass memory (none refl) past was
     by (call ∷ calls) none = asked_dumps old.stage (plan_after h.plan made) cut pages chain old.pass memory was
+
+hands_dump : (cut : Contents) (pages : Pages) (chain : Chain) (old new : Making) (memory : Contents) (made : Made) → HandsIn old made More new
+    → is_past_freeze old.stage ≡ true → DumpsImage cut pages chain old memory → DumpsImage cut pages chain new memory
+hands_dump cut pages chain old new memory made (inl g) past was = goes_on_dump cut pages chain old new memory made g past was
+hands_dump cut pages chain old new memory made (inr w) past was = subst (λ (m : Making). DumpsImage cut pages chain m memory) (sym w.is) was
 
 pub making_laws : KeepsLaws → DumpLaws → StepLaws → MakingLaws
 making_laws keeps dump laws = record {

@@ -1,5 +1,5 @@
 -- The dumper, as it is seen: the images of a checkpoint, one after the other.
-use Rattle.std.specs.Prelude.{◌≡◌, ◌≢◌, ◌⊎◌, ℕ, ◌+◌, ◌≤◌, ◌^◌, Bool, true, false, if◌then◌else◌, nat_le, List, [], length, get_or, Contains, Option, Some, None}
+use Rattle.std.specs.Prelude.{◌≡◌, ◌⊎◌, ℕ, ◌+◌, ◌≤◌, ◌^◌, Bool, true, false, if◌then◌else◌, nat_le, List, [], length, get_or, Contains, Option, Some, None}
 use Rattle.sd_image.specs.declared.header.Kind.{Kind}
 use Rattle.sd_image.specs.declared.header.Kind.TheVariants.{PreDump, Dump}
 use Rattle.sd_gate.specs.declared.request_id.RequestId.{RequestId}
@@ -15,8 +15,9 @@ use Rattle.sd_rounds.specs.declared.image_step.ImageStep.TheVariants.{Call, Page
 use Rattle.sd_rounds.specs.declared.new_image.NewImage.{NewImage}
 use Rattle.sd_rounds.specs.declared.progress.Progress.{Progress}
 use Rattle.sd_rounds.specs.declared.progress.Progress.TheVariants.{Strange, Failed as HasFailed, More as GoesOn, PreDump as PreDumpOpen, Dump as DumpOpen}
-use Rattle.sd_rounds.specs.Making.{HandsIn, Making, Steps, begun_image, closing, is_frozen, out_of, outcomes_left}
+use Rattle.sd_rounds.specs.Making.{HandsIn, IsOutOf, Making, Steps, begun_image, closing, is_frozen, out_of, outcomes_left}
 use Rattle.sd_rounds.specs.Pass.{data_pages}
+use Rattle.sd_rounds.specs.Writes.{no_writes, writes_out}
 
 -- a checkpoint that runs: the slots of its pre-dumps and of its dump, the parent of its first image, how many images are open, the parent
 -- of the next, and the image that is being made
@@ -90,7 +91,7 @@ image_from running serial state (Some image) = image
 
 abbrev pub freezes : ImageStep → Bool
 freezes (Call request) = false
-freezes (PageCall request) = false
+freezes (PageCall lane request) = false
 freezes (TableCall request) = false
 freezes Frozen = true
 freezes (Visited visit) = false
@@ -112,7 +113,7 @@ pub record Works (serial : ℕ) (state : SlotState) (ticket : ℕ) (old : Dumpin
     since_freeze = if freezes step then 0 else old.since_freeze;
   }
 
--- the request that is out
+-- the request of its plan that is out
 abbrev pub out_of_image : Option Making → Option RequestId
 out_of_image None = None
 out_of_image (Some image) = out_of image.stage
@@ -120,6 +121,24 @@ out_of_image (Some image) = out_of image.stage
 abbrev pub out_of_running : Option Running → Option RequestId
 out_of_running None = None
 out_of_running (Some running) = out_of_image running.image
+
+-- the writes of data pages that are out
+abbrev pub writes_of_image : Option Making → List (Option RequestId)
+writes_of_image None = no_writes
+writes_of_image (Some image) = image.writes
+
+abbrev pub writes_of_running : Option Running → List (Option RequestId)
+writes_of_running None = no_writes
+writes_of_running (Some running) = writes_of_image running.image
+
+-- a request is out: one of its plan, or the write of a data page
+abbrev pub IsOutOfImage : Option Making → RequestId → Type 0
+IsOutOfImage None id = ⊥
+IsOutOfImage (Some image) id = IsOutOf image id
+
+abbrev pub IsOutOfRunning : Option Running → RequestId → Type 0
+IsOutOfRunning None id = ⊥
+IsOutOfRunning (Some running) id = IsOutOfImage running.image id
 
 -- the slot of the image that the next step begins, where it begins one
 abbrev pub slot_before : Running → Option Making → Option ℕ
@@ -196,7 +215,7 @@ after_pre_dump old image = record old { opened = old.opened + 1; parent = image.
 
 -- What an outcome does to a checkpoint. Behind a pre-dump the next image names it as its parent.
 abbrev pub HandsTo : Running → Made → Progress → Running → Type 0
-HandsTo old made Strange new = (out_of_image old.image ≢ Some made.request.id) × (new ≡ old)
+HandsTo old made Strange new = (IsOutOfImage old.image made.request.id → ⊥) × (new ≡ old)
 HandsTo old made HasFailed new = HandsOn old made Failed new
 HandsTo old made GoesOn new = HandsOn old made More new
 HandsTo old made (PreDumpOpen opened) new = HandsImage old made opened × (is_last old ≡ false)
@@ -235,7 +254,7 @@ pub record IsHanded (old : Dumping) (made : Made) (progress : Progress) (new : D
   pub is : new ≡ record { running = if ends progress then None else Some next; since_freeze = counted running old.since_freeze }
 
 pub record IsStrange (old : Dumping) (made : Made) (new : Dumping) : Type 0 where
-  pub other : out_of_running old.running ≢ Some made.request.id
+  pub other : IsOutOfRunning old.running made.request.id → ⊥
   pub same : new ≡ old
 
 abbrev pub Hands : Dumping → Made → Progress → Dumping → Type 0
@@ -276,7 +295,7 @@ pages_of (Some running) = pages_of_image running.image
 
 -- the dump of a frozen memory counts the outcomes since the freeze: one for each data page that is written, and five that close it
 pub record IsCounted (since : ℕ) (image : Making) : Type 0 where
-  pub count : since + outcomes_left image.stage ≡ data_pages image.pass.entries + closing image.stage
+  pub count : since + outcomes_left image.stage + writes_out image.writes ≡ data_pages image.pass.entries + closing image.stage
 
 abbrev pub AreCounted : ℕ → Option Making → Type 0
 AreCounted since None = Unit {0}

@@ -15,7 +15,7 @@ use Rattle.sd_rounds.specs.declared.image_progress.ImageProgress.TheVariants.{Mo
 use Rattle.sd_rounds.specs.declared.image_step.ImageStep.TheVariants.{Call, TableCall}
 use Rattle.sd_rounds.specs.declared.new_image.NewImage.{NewImage}
 use Rattle.sd_rounds.specs.declared.stage.Stage.{Stage}
-use Rattle.sd_rounds.specs.declared.stage.Stage.TheVariants.{Format, Freeze, Pass as PassStage, PageWrite, Close}
+use Rattle.sd_rounds.specs.declared.stage.Stage.TheVariants.{Format, Freeze, Pass as PassStage, Close}
 use Rattle.sd_rounds.specs.Dump.{IsDumped, due}
 use Rattle.sd_rounds.specs.Keeps.{Chain, Rests, Stored, Within}
 use Rattle.sd_rounds.specs.Made.{HasTheAreas, IsImageOf, Lists, listed_pages}
@@ -39,7 +39,6 @@ abbrev pub IsFiledIn : Stage → ImageOrder → Pass → Pages → Type 0
 IsFiledIn (Format plan) order pass pages = Unit {0}
 IsFiledIn Freeze order pass pages = Unit {0}
 IsFiledIn PassStage order pass pages = Unit {0}
-IsFiledIn (PageWrite plan) order pass pages = Unit {0}
 IsFiledIn (Close plan header tables) order pass pages = IsFiled order pass pages header tables
 
 abbrev pub FilesImage : Pages → Making → Type 0
@@ -50,7 +49,6 @@ abbrev pub HasAreasIn : Stage → Contents → Type 0
 HasAreasIn (Format plan) cut = Unit {0}
 HasAreasIn Freeze cut = Unit {0}
 HasAreasIn PassStage cut = Unit {0}
-HasAreasIn (PageWrite plan) cut = Unit {0}
 HasAreasIn (Close plan header tables) cut = HasTheAreas (plain_of cut) tables
 
 abbrev pub HasAreas : Contents → Making → Type 0

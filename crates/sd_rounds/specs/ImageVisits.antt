@@ -18,7 +18,7 @@ use Rattle.sd_rounds.specs.Visits.{AreMapped, IsPassOf, IsSwept, Visit, left_pag
 -- the visits of an image with those of a step
 abbrev pub visits_after : ImageStep → List Visit → List Visit
 visits_after (Call request) visits = visits
-visits_after (PageCall request) visits = visits
+visits_after (PageCall lane request) visits = visits
 visits_after (TableCall request) visits = visits
 visits_after Frozen visits = visits
 visits_after (Visited visit) visits = visits ++ (record { place = (visit.space, visit.page); soft_dirty = visit.soft_dirty }) ∷ []

@@ -11,10 +11,11 @@ use Rattle.sd_pagetable.specs.Order.{is_above}
 use Rattle.sd_rounds.specs.declared.image_step.ImageStep.{ImageStep}
 use Rattle.sd_rounds.specs.declared.progress.Progress.{Progress}
 use Rattle.sd_rounds.specs.declared.stage.Stage.{Stage}
-use Rattle.sd_rounds.specs.declared.stage.Stage.TheVariants.{Format, Freeze, Pass as PassStage, PageWrite, Close}
+use Rattle.sd_rounds.specs.declared.stage.Stage.TheVariants.{Format, Freeze, Pass as PassStage, Close}
 use Rattle.sd_rounds.specs.Dumper.{Dumping, Hands, Running, Works, is_strange}
 use Rattle.sd_rounds.specs.Making.{Making}
 use Rattle.sd_rounds.specs.Pass.{Pass, Place, Taking}
+use Rattle.sd_rounds.specs.Writes.{writes_out}
 
 -- the pages of a space
 abbrev pub pages_in : ℕ × Space → List Place
@@ -41,16 +42,16 @@ pass_left pass memory = 11 * pages_ahead pass.after memory + taking_left pass.ta
 abbrev pub plan_left : Planned → ℕ
 plan_left plan = 2 * length plan.calls + is_one plan.out
 
--- an image whose pass has so much before it: behind the format comes the freeze, and behind the pass five calls close the body
+-- an image whose pass, with the writes that are out, has so much before it: behind the format comes the freeze, and behind the pass
+-- five calls close the body
 abbrev pub stage_left : Stage → ℕ → ℕ
 stage_left (Format plan) pass = plan_left plan + 1 + pass + 10
 stage_left Freeze pass = 1 + pass + 10
 stage_left PassStage pass = pass + 10
-stage_left (PageWrite plan) pass = plan_left plan + pass + 10
 stage_left (Close plan header tables) pass = plan_left plan
 
 abbrev pub image_left : Making → PlainMemory → ℕ
-image_left image memory = stage_left image.stage (pass_left image.pass memory)
+image_left image memory = stage_left image.stage (pass_left image.pass memory + writes_out image.writes)
 
 -- an image that hasn't begun: three calls at most format its slot, and all pages are ahead
 abbrev pub next_left : PlainMemory → ℕ

@@ -7,6 +7,7 @@ pub mod Made
 pub mod Tables
 pub mod Rounds
 pub mod Steps
+pub mod Writes
 pub mod Making
 pub mod PlanSteps
 pub mod SpaceTables
@@ -14,6 +15,7 @@ pub mod Dumper
 pub mod Sound
 pub mod Room
 pub mod Left
+pub mod Waits
 pub mod MakingLaws
 pub mod Files
 pub mod ImageVisits

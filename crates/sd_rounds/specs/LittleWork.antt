@@ -14,7 +14,7 @@ use Rattle.sd_rounds.specs.declared.image_step.ImageStep.{ImageStep}
 use Rattle.sd_rounds.specs.declared.image_step.ImageStep.TheVariants.{Frozen}
 use Rattle.sd_rounds.specs.declared.new_image.NewImage.{NewImage}
 use Rattle.sd_rounds.specs.declared.stage.Stage.{Stage}
-use Rattle.sd_rounds.specs.declared.stage.Stage.TheVariants.{Format, Freeze, Pass as PassStage, PageWrite, Close}
+use Rattle.sd_rounds.specs.declared.stage.Stage.TheVariants.{Format, Freeze, Pass as PassStage, Close}
 use Rattle.sd_rounds.specs.Dump.{IsDumping, due}
 use Rattle.sd_rounds.specs.ImageVisits.{visits_after}
 use Rattle.sd_rounds.specs.Made.{Lists}
@@ -44,7 +44,6 @@ abbrev pub TakesDueIn : Stage → Contents → Pass → Contents → Type 0
 TakesDueIn (Format plan) cut pass memory = Unit {0}
 TakesDueIn Freeze cut pass memory = Unit {0}
 TakesDueIn PassStage cut pass memory = IsTaking cut pass memory
-TakesDueIn (PageWrite plan) cut pass memory = IsTaking cut pass memory
 TakesDueIn (Close plan header tables) cut pass memory = HasWays cut pass × Lists pass.entries tables
 
 -- the dump of a memory that was frozen as `cut` takes the pages that are due, and no other
@@ -57,7 +56,6 @@ abbrev pub ListsIn : Stage → List Entry → Type 0
 ListsIn (Format plan) entries = Unit {0}
 ListsIn Freeze entries = Unit {0}
 ListsIn PassStage entries = Unit {0}
-ListsIn (PageWrite plan) entries = Unit {0}
 ListsIn (Close plan header tables) entries = Lists entries tables
 
 -- an image leaves exactly the clean pages of its visits to its parent, and takes others of them alone

@@ -1,5 +1,5 @@
 -- An image in the making, as it is seen, and what its steps do.
-use Rattle.std.specs.Prelude.{◌≡◌, ◌≢◌, ℕ, ◌≤◌, ◌^◌, Bool, true, false, ◌==◌, ◌&&◌, ◌+◌, List, [], ◌∷◌, length, Option, Some, None, is_some}
+use Rattle.std.specs.Prelude.{◌≡◌, ◌≢◌, ◌⊎◌, ℕ, ◌≤◌, ◌^◌, Bool, true, false, ◌==◌, ◌&&◌, ◌+◌, List, [], ◌∷◌, length, Option, Some, None, is_some, slice_get, slice_set}
 use Rattle.sd_image.specs.declared.header.Header.{Header}
 use Rattle.sd_image.specs.declared.header.Kind.{Kind}
 use Rattle.sd_image.specs.declared.header.Kind.TheVariants.{PreDump, Dump, Merged}
@@ -26,29 +26,34 @@ use Rattle.sd_rounds.specs.declared.image_step.ImageStep.{ImageStep}
 use Rattle.sd_rounds.specs.declared.image_step.ImageStep.TheVariants.{Call, PageCall, TableCall, Frozen, Visited, Copied}
 use Rattle.sd_rounds.specs.declared.new_image.NewImage.{NewImage}
 use Rattle.sd_rounds.specs.declared.stage.Stage.{Stage}
-use Rattle.sd_rounds.specs.declared.stage.Stage.TheVariants.{Format, Freeze, Pass as PassStage, PageWrite, Close}
+use Rattle.sd_rounds.specs.declared.stage.Stage.TheVariants.{Format, Freeze, Pass as PassStage, Close}
 use Rattle.sd_rounds.specs.Made.{HasTheAreas, Lists}
 use Rattle.sd_rounds.specs.Pass.{Entry, Pass, data_pages, opened}
 use Rattle.sd_rounds.specs.Rises.{kind_at}
 use Rattle.sd_rounds.specs.Rounds.{Copies, TakesPage, Tests}
+use Rattle.sd_rounds.specs.Writes.{AreWrites, IsInLane, no_writes}
 
--- an image in the making: what is fixed of it, its pass, and how far it is
+-- an image in the making: what is fixed of it, its pass, how far it is, and the writes of its data pages that are out
 pub record Making : Type 0 where
   pub order : ImageOrder
   pub pass : Pass
   pub stage : Stage
+  pub writes : List (Option RequestId)
 
 -- it begins with the format of its slot; without a parent it takes every page
 abbrev pub begun_image : ImageOrder → Making
-begun_image order =
-    record { order = order; pass = opened (order.parent == 0); stage = Format (begun order.slot (format_calls order.state) nothing) }
+begun_image order = record {
+  order = order;
+  pass = opened (order.parent == 0);
+  stage = Format (begun order.slot (format_calls order.state) nothing);
+  writes = no_writes;
+}
 
 -- the plan whose calls are being made
 abbrev pub plan_of : Stage → Option Planned
 plan_of (Format plan) = Some plan
 plan_of Freeze = None
 plan_of PassStage = None
-plan_of (PageWrite plan) = Some plan
 plan_of (Close plan header tables) = Some plan
 
 -- the freeze is behind
@@ -56,7 +61,6 @@ abbrev pub is_past_freeze : Stage → Bool
 is_past_freeze (Format plan) = false
 is_past_freeze Freeze = false
 is_past_freeze PassStage = true
-is_past_freeze (PageWrite plan) = true
 is_past_freeze (Close plan header tables) = true
 
 -- the dump of a memory that is frozen
@@ -71,7 +75,6 @@ abbrev pub outcomes_left : Stage → ℕ
 outcomes_left (Format plan) = outcomes_of plan
 outcomes_left Freeze = 0
 outcomes_left PassStage = 0
-outcomes_left (PageWrite plan) = outcomes_of plan
 outcomes_left (Close plan header tables) = outcomes_of plan
 
 -- how many outcomes close the body, where that has begun
@@ -79,7 +82,6 @@ abbrev pub closing : Stage → ℕ
 closing (Format plan) = 0
 closing Freeze = 0
 closing PassStage = 0
-closing (PageWrite plan) = 0
 closing (Close plan header tables) = 5
 
 -- calls of the plan are left or out, and they only change the slot
@@ -88,35 +90,45 @@ pub record IsUnderWay (plan : Planned) : Type 0 where
   pub changes : AreChanges plan.calls
   pub some : plan.out ≡ None → plan.calls ≢ []
 
--- what holds of an image's pass in each stage: none was made before it is due, and no page is being taken while one is written
+-- what holds of an image's pass in each stage: none was made before it is due
 abbrev pub IsReadyFor : ImageOrder → Pass → Stage → Type 0
 IsReadyFor order pass (Format plan) = (pass ≡ opened (order.parent == 0)) × IsUnderWay plan
 IsReadyFor order pass Freeze = (pass ≡ opened (order.parent == 0)) × (order.kind ≡ Dump)
 IsReadyFor order pass PassStage = Unit {0}
-IsReadyFor order pass (PageWrite plan) = (pass.taking ≡ None) × IsUnderWay plan
 IsReadyFor order pass (Close plan header tables) = (header.pages ≡ data_pages pass.entries) × IsUnderWay plan
 
--- what holds of every image in the making, which counts its data pages
-pub record IsMaking (order : ImageOrder) (pass : Pass) (stored : ℕ) (stage : Stage) : Type 0 where
+-- pages are visited, copied and written
+abbrev pub is_passing : Stage → Bool
+is_passing (Format plan) = false
+is_passing Freeze = false
+is_passing PassStage = true
+is_passing (Close plan header tables) = false
+
+-- what holds of every image in the making, which counts its data pages, and writes them during its pass alone
+pub record IsMaking (order : ImageOrder) (pass : Pass) (stored : ℕ) (stage : Stage) (writes : List (Option RequestId)) : Type 0 where
   pub takes : pass.takes_all ≡ (order.parent == 0)
   pub counted : stored ≡ data_pages pass.entries
   pub few : stored ≤ 2 ^ 39
   pub ready : IsReadyFor order pass stage
+  pub lanes : AreWrites order.slot stored writes
+  pub rests : is_passing stage ≡ false → writes ≡ no_writes
 
 abbrev pub with_plan : Stage → Planned → Stage
 with_plan (Format old) plan = Format plan
 with_plan Freeze plan = Freeze
 with_plan PassStage plan = PassStage
-with_plan (PageWrite old) plan = PageWrite plan
 with_plan (Close old header tables) plan = Close plan header tables
 
--- the request that is out
+-- the request of its plan that is out
 abbrev pub out_of : Stage → Option RequestId
 out_of (Format plan) = plan.out
 out_of Freeze = None
 out_of PassStage = None
-out_of (PageWrite plan) = plan.out
 out_of (Close plan header tables) = plan.out
+
+-- a request of the image is out: one of its plan, or the write of a data page
+abbrev pub IsOutOf : Making → RequestId → Type 0
+IsOutOf making id = (out_of making.stage ≡ Some id) ⊎ IsInLane making.writes id
 
 -- the stage behind a plan whose calls are all done
 abbrev pub stage_behind : Kind → Stage → Stage
@@ -125,7 +137,6 @@ stage_behind PreDump (Format plan) = PassStage
 stage_behind Merged (Format plan) = PassStage
 stage_behind kind Freeze = PassStage
 stage_behind kind PassStage = PassStage
-stage_behind kind (PageWrite plan) = PassStage
 stage_behind kind (Close plan header tables) = PassStage
 
 -- ---- Steps
@@ -143,15 +154,16 @@ pub record Asks (old : Making) (request : Asked) (new : Making) : Type 0 where
   pub gives : Gives plan next request
   pub is : new ≡ record old { stage = with_plan old.stage next }
 
--- the page that was copied is taken as the next data page, and its write is asked for
-pub record WritesPage (old : Making) (request : Asked) (new : Making) : Type 0 where
+-- the page that was copied is taken as the next data page, and its write is asked for in a free lane
+pub record WritesPage (old : Making) (lane : ℕ) (request : Asked) (new : Making) : Type 0 where
   pub stage : old.stage ≡ PassStage
-  pub bytes : List ℕ
-  pub taken : TakesPage old.pass bytes new.pass
-  pub next : Planned
-  pub gives : Gives (begun old.order.slot ((Write (data_place (data_pages old.pass.entries)), bytes) ∷ []) nothing) next request
+  pub taken : TakesPage old.pass request.bytes new.pass
+  pub free : slice_get old.writes lane ≡ Some None
+  pub slot : request.id.slot ≡ old.order.slot
+  pub call : request.id.call ≡ Write (data_place (data_pages old.pass.entries))
   pub order : new.order ≡ old.order
-  pub is : new.stage ≡ PageWrite next
+  pub still : new.stage ≡ PassStage
+  pub writes : new.writes ≡ slice_set old.writes lane (Some request.id)
 
 -- the header of an image that stands for itself
 abbrev pub header_of : ImageOrder → ℕ → ℕ → Header
@@ -185,11 +197,12 @@ HasTable PreDump memory entries header tables = TablesEntries entries header tab
 HasTable Dump memory entries header tables = AreThePages entries memory → TablesMemory memory entries header tables
 HasTable Merged memory entries header tables = AreThePages entries memory → TablesMemory memory entries header tables
 
--- there is no further page: the table is made, and its write is asked for
+-- there is no further page, and all are written: the table is made, and its write is asked for
 pub record WritesTable (old : Making) (memory : Contents) (request : Asked) (new : Making) : Type 0 where
   pub stage : old.stage ≡ PassStage
   pub free : old.pass.taking ≡ None
   pub over : IsNextPage memory.spaces old.pass.after None
+  pub rests : old.writes ≡ no_writes
   pub tables : List Listed
   pub header : Header
   pub numbers : header ≡ header_of old.order (data_pages old.pass.entries) (length (table_text tables))
@@ -215,12 +228,13 @@ pub record CopiesSector (old : Making) (memory : Contents) (copied : copied.Copi
 pub record Freezes (old new : Making) : Type 0 where
   pub stage : old.stage ≡ Freeze
   pub fresh : old.pass ≡ opened (old.order.parent == 0)
+  pub rests : old.writes ≡ no_writes
   pub is : new ≡ record old { stage = PassStage }
 
 -- what a step does, with this ticket; only a visit changes the memory
 abbrev pub Steps : ℕ → Making → Contents → ImageStep → Making → Contents → Type 0
 Steps ticket old before (Call request) new after = Asks old request new × IsAskedBy ticket request × (after ≡ before)
-Steps ticket old before (PageCall request) new after = WritesPage old request new × IsAskedBy ticket request × (after ≡ before)
+Steps ticket old before (PageCall lane request) new after = WritesPage old lane request new × IsAskedBy ticket request × (after ≡ before)
 Steps ticket old before (TableCall request) new after = WritesTable old before request new × IsAskedBy ticket request × (after ≡ before)
 Steps ticket old before Frozen new after = Freezes old new × (after ≡ before)
 Steps ticket old before (Visited visit) new after = Visits old before visit new after
@@ -228,7 +242,7 @@ Steps ticket old before (Copied copied) new after = CopiesSector old before copi
 
 -- ---- Outcomes
 
--- an outcome of the request that is out
+-- an outcome of the plan's request that is out
 pub record IsAwaited (old : Making) (made : Made) (plan : Planned) : Type 0 where
   pub was : plan_of old.stage ≡ Some plan
   pub out : plan.out ≡ Some made.request.id
@@ -248,9 +262,16 @@ pub record GoesOn (old : Making) (made : Made) (new : Making) : Type 0 where
   pub closes : closing old.stage ≢ 0 → (plan_after plan made).calls ≢ []
   pub is : new ≡ record old { stage = stage_after old.order.kind old.stage (plan_after plan made) (plan_after plan made).calls }
 
+-- the write of a data page was done
+pub record IsWritten (old : Making) (made : Made) (new : Making) : Type 0 where
+  pub lane : ℕ
+  pub out : slice_get old.writes lane ≡ Some (Some made.request.id)
+  pub done : is_done made.answer ≡ true
+  pub passing : is_passing old.stage ≡ true
+  pub is : new ≡ record old { writes = slice_set old.writes lane None }
+
 pub record Fails (old : Making) (made : Made) (new : Making) : Type 0 where
-  pub plan : Planned
-  pub awaited : IsAwaited old made plan
+  pub out : IsOutOf old made.request.id
   pub failed : is_done made.answer ≡ false
   pub order : new.order ≡ old.order
   pub pass : new.pass ≡ old.pass
@@ -264,10 +285,11 @@ pub record Opens (old : Making) (made : Made) (image : NewImage) : Type 0 where
   pub one : outcomes_of (plan_after plan made) + 1 ≡ outcomes_of plan
   pub was : old.stage ≡ Close plan image.header image.table
   pub pages : image.header.pages ≡ data_pages old.pass.entries
+  pub rests : old.writes ≡ no_writes
   pub slot : image.slot ≡ old.order.slot
 
 abbrev pub HandsIn : Making → Made → ImageProgress → Making → Type 0
-HandsIn old made Strange new = (out_of old.stage ≢ Some made.request.id) × (new ≡ old)
+HandsIn old made Strange new = (IsOutOf old made.request.id → ⊥) × (new ≡ old)
 HandsIn old made Failed new = Fails old made new
-HandsIn old made More new = GoesOn old made new
+HandsIn old made More new = GoesOn old made new ⊎ IsWritten old made new
 HandsIn old made (Opened image) new = Opens old made image

@@ -12,7 +12,7 @@ use Rattle.sd_rounds.specs.declared.image_progress.ImageProgress.TheVariants.{Mo
 use Rattle.sd_rounds.specs.declared.image_step.ImageStep.{ImageStep}
 use Rattle.sd_rounds.specs.declared.image_step.ImageStep.TheVariants.{Call, PageCall, TableCall, Frozen, Visited, Copied}
 use Rattle.sd_rounds.specs.declared.stage.Stage.{Stage}
-use Rattle.sd_rounds.specs.declared.stage.Stage.TheVariants.{Format, Freeze, Pass as PassStage, PageWrite, Close}
+use Rattle.sd_rounds.specs.declared.stage.Stage.TheVariants.{Format, Freeze, Pass as PassStage, Close}
 use Rattle.sd_rounds.specs.Dump.{IsDumped, IsDumping}
 use Rattle.sd_rounds.specs.Keeps.{Chain, Gave, IsCall, Keeps, Rests, Within}
 use Rattle.sd_rounds.specs.Made.{listed_pages}
@@ -29,7 +29,6 @@ abbrev pub IsKeptIn : Stage → Pages → Chain → Pass → Contents → Type 0
 IsKeptIn (Format plan) pages chain pass memory = Keeps (listed_pages pages) chain pass memory
 IsKeptIn Freeze pages chain pass memory = Keeps (listed_pages pages) chain pass memory
 IsKeptIn PassStage pages chain pass memory = Keeps (listed_pages pages) chain pass memory
-IsKeptIn (PageWrite plan) pages chain pass memory = Keeps (listed_pages pages) chain pass memory
 IsKeptIn (Close plan header tables) pages chain pass memory = Gave (listed_pages pages) chain pass.entries memory
 
 pub record KeepsImage (pages : Pages) (chain : Chain) (making : Making) (memory : Contents) : Type 0 where
@@ -42,7 +41,6 @@ abbrev pub IsDumpedIn : Stage → Contents → Pages → Chain → Pass → Cont
 IsDumpedIn (Format plan) cut pages chain pass memory = Unit {0}
 IsDumpedIn Freeze cut pages chain pass memory = Unit {0}
 IsDumpedIn PassStage cut pages chain pass memory = IsDumping cut pass memory
-IsDumpedIn (PageWrite plan) cut pages chain pass memory = IsDumping cut pass memory
 IsDumpedIn (Close plan header tables) cut pages chain pass memory = IsDumped (listed_pages pages) chain cut pass
 
 abbrev pub DumpsImage : Contents → Pages → Chain → Making → Contents → Type 0
@@ -51,7 +49,7 @@ DumpsImage cut pages chain making memory = IsDumpedIn making.stage cut pages cha
 -- the page whose write a step asks for is one more
 abbrev pub pages_after : ImageStep → Pages → Pages
 pages_after (Call request) pages = pages
-pages_after (PageCall request) pages = pages ++ request.bytes ∷ []
+pages_after (PageCall lane request) pages = pages ++ request.bytes ∷ []
 pages_after (TableCall request) pages = pages
 pages_after Frozen pages = pages
 pages_after (Visited visit) pages = pages

@@ -1,5 +1,5 @@
 -- What the functions of an image in the making promise of its plans to one another.
-use Rattle.std.specs.Prelude.{◌≡◌, ◌≢◌, ◌+◌, Bool, true, false, [], Option, Some, None}
+use Rattle.std.specs.Prelude.{◌≡◌, ◌≢◌, ℕ, ◌+◌, Bool, true, false, [], Option, Some, None}
 use Rattle.sd_gate.specs.declared.settled.Settled.{Settled}
 use Rattle.sd_gate.specs.declared.settled.Settled.TheVariants.{More as PlanMore, Finished as PlanFinished, Failed as PlanFailed, Strange as PlanStrange}
 use Rattle.sd_gate.specs.Calls.{is_done}
@@ -8,7 +8,7 @@ use Rattle.sd_gate.specs.Requests.{Asked, Made}
 use Rattle.sd_rounds.specs.declared.image_step.ImageStep.{ImageStep}
 use Rattle.sd_rounds.specs.declared.image_step.ImageStep.TheVariants.{Call, PageCall, TableCall, Frozen, Visited, Copied}
 use Rattle.sd_rounds.specs.declared.stage.Stage.{Stage}
-use Rattle.sd_rounds.specs.declared.stage.Stage.TheVariants.{Format, Freeze, Pass as PassStage, PageWrite, Close}
+use Rattle.sd_rounds.specs.declared.stage.Stage.TheVariants.{Format, Freeze, Pass as PassStage, Close}
 use Rattle.sd_pagetable.specs.Contents.{Contents}
 use Rattle.sd_pagetable.specs.Order.{IsNextPage}
 use Rattle.sd_rounds.specs.declared.pass_step.PassStep.{PassStep}
@@ -29,16 +29,16 @@ at_stage making stage = record making { stage = stage }
 -- it is a call of a plan, and its request is such
 abbrev pub IsCallOf : (Asked → Type 0) → ImageStep → Type 0
 IsCallOf P (Call request) = P request
-IsCallOf P (PageCall request) = ⊥
+IsCallOf P (PageCall lane request) = ⊥
 IsCallOf P (TableCall request) = ⊥
 IsCallOf P Frozen = ⊥
 IsCallOf P (Visited visit) = ⊥
 IsCallOf P (Copied copied) = ⊥
 
 -- it is the write of a page
-abbrev pub IsPageCallOf : (Asked → Type 0) → ImageStep → Type 0
+abbrev pub IsPageCallOf : (ℕ → Asked → Type 0) → ImageStep → Type 0
 IsPageCallOf P (Call request) = ⊥
-IsPageCallOf P (PageCall request) = P request
+IsPageCallOf P (PageCall lane request) = P lane request
 IsPageCallOf P (TableCall request) = ⊥
 IsPageCallOf P Frozen = ⊥
 IsPageCallOf P (Visited visit) = ⊥
@@ -47,7 +47,7 @@ IsPageCallOf P (Copied copied) = ⊥
 -- it is the write of the table
 abbrev pub IsTableCallOf : (Asked → Type 0) → ImageStep → Type 0
 IsTableCallOf P (Call request) = ⊥
-IsTableCallOf P (PageCall request) = ⊥
+IsTableCallOf P (PageCall lane request) = ⊥
 IsTableCallOf P (TableCall request) = P request
 IsTableCallOf P Frozen = ⊥
 IsTableCallOf P (Visited visit) = ⊥
@@ -58,7 +58,6 @@ abbrev pub is_freeze : Stage → Bool
 is_freeze (Format plan) = false
 is_freeze Freeze = true
 is_freeze PassStage = false
-is_freeze (PageWrite plan) = false
 is_freeze (Close plan header tables) = false
 
 abbrev pub is_to_freeze : Option Making → Bool

@@ -1,14 +1,14 @@
 //! A checkpoint that is made: its images, one after the other.
-ghost use Rattle.std.specs.Prelude.{◌≡◌, ◌↔◌, ◌⊎◌, ℕ, Ok, Err, IsOk, IsErr, IsSome, IsTrue, IfOk, IfErr, MatchOption, None, Some, OnErr, true, false};
+ghost use Rattle.std.specs.Prelude.{◌≡◌, ◌↔◌, ℕ, Ok, IsErr, IsTrue, IfOk, MatchOption, None, Some, OnErr, true, false};
 ghost use Rattle.sd_rounds.specs.declared.progress.Progress.TheVariants.{Dump as DumpOpen, PreDump as PreDumpOpen};
 ghost use Rattle.sd_gate.specs.declared.slot_state.SlotState.{SlotState};
-ghost use Rattle.sd_rounds.specs.declared.work_error.WorkError.TheVariants.{Busy, OutOfMemory};
-ghost use Rattle.sd_pagetable.specs.Contents.{plain_of};
+ghost use Rattle.sd_pagetable.specs.Contents.{Contents, plain_of};
 ghost use Rattle.sd_rounds.specs.Left.{running_left};
 ghost use Rattle.sd_rounds.specs.PlanSteps.{HaveNoPage, image_step, is_to_freeze};
 ghost use Rattle.sd_rounds.specs.Room.{MakingWants};
 ghost use Rattle.sd_rounds.specs.Sound.{IsSoundMaking};
-ghost use Rattle.sd_rounds.specs.Dumper.{HandsTo, HasFewPages, IsReserved, WorksOn, after_pre_dump, is_frozen_image, is_last, kind_of, order_of, out_of_image, pages_of_image, running_of, serial_of, slot_of};
+ghost use Rattle.sd_rounds.specs.Waits.{image_must_wait};
+ghost use Rattle.sd_rounds.specs.Dumper.{HandsTo, HasFewPages, IsReserved, WorksOn, after_pre_dump, is_frozen_image, is_last, kind_of, order_of, pages_of_image, running_of, serial_of, slot_of};
 
 use crate::image_maker::ImageMaker;
 use crate::image_order::ImageOrder;
@@ -17,13 +17,14 @@ use crate::image_step::ImageStep;
 use crate::left::{CLOSE, END, FORMAT, FREEZE, PAGE_AHEAD, pages_ahead};
 use crate::new_image::NewImage;
 use crate::next_image::NextImage;
+use crate::page_buffers::PageBuffers;
 use crate::pass_step::PassStep;
 use crate::progress::Progress;
-use crate::work_error::WorkError;
 use sd_gate::{Outcome, SlotState};
 use sd_image::Kind;
 use sd_pagetable::Memory;
 use std::alloc::{AllocError, Global};
+use std::mem;
 
 /// The images of a checkpoint: its pre-dumps, and then its dump.
 #[derive(Debug, Drop)]
@@ -41,6 +42,8 @@ pub struct Checkpoint {
     pub(crate) parent: u64,
     /// The image that is being made.
     pub(crate) maker: Option<ImageMaker>,
+    /// Room for the pages that are copied and written.
+    pub(crate) buffers: PageBuffers,
 }
 
 impl Checkpoint {
@@ -118,7 +121,6 @@ impl Checkpoint {
             × (running_of self.new ≡ running_of self.old) × (memory.new ≡ memory.old))
             (λ step. (serial : ℕ) (state : SlotState) (ticket : ℕ) → WorksOn serial state ticket
             (running_of self.old) memory.old (image_step step) (running_of self.new) memory.new)) }
-        ensures busy { IsSome (out_of_image (running_of self.old).image) → result ≡ Ok None }
         ensures wanted { IsErr result → MakingWants (running_of self.old).image memory.old }
         ensures err { OnErr result (running_of self.new ≡ running_of self.old) }
         ensures err_memory { OnErr result (memory.new ≡ memory.old) }
@@ -131,6 +133,10 @@ impl Checkpoint {
 
     /// Makes the next step of the image that is being made, which visits no page and copies no sector, or begins the next
     /// image.
+    ///
+    /// # Errors
+    ///
+    /// Out of memory where a page's entry or the table finds no room. Nothing changed.
     #[inline(never)]
     pub(crate) fn work(
         &mut self,
@@ -138,40 +144,42 @@ impl Checkpoint {
         memory: &Memory,
         image: NextImage,
         ticket: u64,
-    ) -> Result<ImageStep, WorkError>
-        requires { HaveNoPage (running_of self.old).image memory.now }
+    ) -> Result<ImageStep, AllocError>
+        requires none { HaveNoPage (running_of self.old).image memory.now }
+        requires rests { image_must_wait (running_of self.old).image (plain_of memory.now) ≡ false }
         ensures works { IfOk result (λ step. WorksOn image.serial image.state ticket
             (running_of self.old) memory.now step (running_of self.new) memory.now) }
-        ensures busy { result ≡ Err Busy ↔ IsSome (out_of_image (running_of self.old).image) }
-        ensures wanted { result ≡ Err OutOfMemory → MakingWants (running_of self.old).image memory.now }
-        ensures errors { IfErr result (λ e. (e ≡ Busy) ⊎ (e ≡ OutOfMemory)) }
+        ensures wanted { IsErr result → MakingWants (running_of self.old).image memory.now }
         ensures err { OnErr result (running_of self.new ≡ running_of self.old) }
     {
         if let Some(maker) = &mut self.maker {
-            return maker.work(memory, ticket);
+            return maker.work(memory, ticket, &mut self.buffers);
         }
-        self.begin_image(alloc, memory, image, ticket)
+        Ok(self.begin_image(alloc, image, ticket))
     }
 
     /// Begins the next image, with its first step. It is apart from the other steps, which need no room for an image.
     #[inline(never)]
-    fn begin_image(
-        &mut self,
-        alloc: Global,
-        memory: &Memory,
-        image: NextImage,
-        ticket: u64,
-    ) -> Result<ImageStep, WorkError>
+    fn begin_image(&mut self, alloc: Global, image: NextImage, ticket: u64) -> ImageStep
         requires { (running_of self.old).image ≡ None }
-        ensures works { IfOk result (λ step. WorksOn image.serial image.state ticket
-            (running_of self.old) memory.now step (running_of self.new) memory.now) }
-        ensures ok { IsOk result }
+        ensures { (memory : Contents) → WorksOn image.serial image.state ticket
+            (running_of self.old) memory result (running_of self.new) memory }
     {
         let order = self.order(image.serial, image.state);
-        let mut maker = ImageMaker::new(alloc, order);
-        let step = maker.work(memory, ticket)?;
+        let mut maker = ImageMaker::new(alloc, order, self.buffers.take());
+        let step = maker.go_on(ticket);
         self.maker = Some(maker);
-        Ok(step)
+        step
+    }
+
+    /// Whether an outcome is awaited before the next step of the image that is being made.
+    pub(crate) fn must_wait(&self, memory: &Memory) -> bool
+        ensures { result ≡ image_must_wait (running_of self.now).image (plain_of memory.now) }
+    {
+        match &self.maker {
+            Some(maker) => maker.must_wait(memory),
+            None => false,
+        }
     }
 
     /// Whether the next step freezes the memory.
@@ -236,7 +244,7 @@ impl Checkpoint {
         let Some(maker) = &mut self.maker else {
             return Progress::Strange;
         };
-        match maker.hand_in(outcome) {
+        match maker.hand_in(outcome, &mut self.buffers) {
             ImageProgress::Strange => Progress::Strange,
             ImageProgress::Failed => Progress::Failed,
             ImageProgress::More => Progress::More,
@@ -255,7 +263,9 @@ impl Checkpoint {
         }
         self.parent = image.header.serial;
         self.opened += 1;
-        self.maker = None;
+        if let Some(maker) = mem::replace(&mut self.maker, None) {
+            self.buffers.give(maker.into_buffer());
+        }
         Progress::PreDump(image)
     }
 }

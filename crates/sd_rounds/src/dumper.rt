@@ -1,16 +1,18 @@
 //! The dumper: the images of a checkpoint, step by step.
-ghost use Rattle.std.specs.Prelude.{◌≡◌, ◌↔◌, ◌⊎◌, Err, None, Some, IsSome, IsTrue, IfOk, IfErr, OnOk, OnErr, is_none, if◌then◌else◌};
+ghost use Rattle.std.specs.Prelude.{◌≡◌, ◌↔◌, Err, None, Some, true, IsSome, IsTrue, IfOk, IfErr, OnOk, OnErr, is_none, if◌then◌else◌};
 ghost use Rattle.std.specs.Option.{option_map};
 ghost use Rattle.sd_rounds.specs.declared.work_error.WorkError.TheVariants.{Busy, Idle, OutOfMemory};
 ghost use Rattle.sd_pagetable.specs.Contents.{plain_of};
 ghost use Rattle.sd_rounds.specs.Left.{left_of};
 ghost use Rattle.sd_rounds.specs.Room.{StepWants};
 ghost use Rattle.sd_rounds.specs.Sound.{HasSoundImage};
-ghost use Rattle.sd_rounds.specs.Dumper.{AreRunning, Dumping, Fills, Hands, HasCounted, Works, begun_checkpoint, dump_slot, ends, idle, is_dumping, is_strange, next_slot, out_of_running, pages_of, parent_of, pre_dump_slots, serial_of};
+ghost use Rattle.sd_rounds.specs.Waits.{dumper_must_wait};
+ghost use Rattle.sd_rounds.specs.Dumper.{AreRunning, Dumping, Fills, Hands, HasCounted, Works, begun_checkpoint, dump_slot, ends, idle, is_dumping, is_strange, next_slot, pages_of, parent_of, pre_dump_slots, serial_of};
 
 use crate::checkpoint::Checkpoint;
 use crate::image_step::ImageStep;
 use crate::next_image::NextImage;
+use crate::page_buffers::PageBuffers;
 use crate::pass_step::PassStep;
 use crate::progress::Progress;
 use crate::work_error::WorkError;
@@ -100,7 +102,7 @@ impl Dumper {
     }
 
     /// Begins a checkpoint: a pre-dump in each of these slots, and then a dump. The first image names the parent with
-    /// this number; where it is 0, it takes every page.
+    /// this number; where it is 0, it takes every page. The buffers are room for the pages that are copied and written.
     ///
     /// # Errors
     ///
@@ -111,6 +113,7 @@ impl Dumper {
         pre_dumps: Vec<usize>,
         dump: usize,
         parent: u64,
+        buffers: PageBuffers,
     ) -> Result<(), WorkError>
         ensures begun { OnOk result (self.new ≡ record {
           running = Some (begun_checkpoint number pre_dumps.items dump parent);
@@ -131,6 +134,7 @@ impl Dumper {
             opened: 0,
             parent,
             maker: None,
+            buffers,
         });
         Ok(())
     }
@@ -197,8 +201,9 @@ impl Dumper {
     ///
     /// # Errors
     ///
-    /// Idle where no checkpoint runs, Busy where a request is out. Out of memory where an entry, a sector or the table
-    /// finds no room, and only where one is wanted. Nothing changed.
+    /// Idle where no checkpoint runs, Busy where an outcome is awaited: while a request is out that writes no data page, while
+    /// eight are out that do, or some where no page is left. Out of memory where an entry, a sector or the table finds no
+    /// room, and only where one is wanted. Nothing changed.
     pub fn work(
         &mut self,
         memory: &mut Memory,
@@ -208,7 +213,7 @@ impl Dumper {
         ensures works { IfOk result (λ step. Works image.serial image.state ticket self.old memory.old
             step self.new memory.new) }
         ensures idle { result ≡ Err Idle ↔ self.old.running ≡ None }
-        ensures busy { result ≡ Err Busy ↔ IsSome (out_of_running self.old.running) }
+        ensures busy { result ≡ Err Busy ↔ dumper_must_wait self.old.running (plain_of memory.old) ≡ true }
         ensures wanted { result ≡ Err OutOfMemory → StepWants self.old.running memory.old }
         ensures err { OnErr result (self.new ≡ self.old) }
         ensures err_memory { OnErr result (memory.new ≡ memory.old) }
@@ -216,17 +221,20 @@ impl Dumper {
         let Some(checkpoint) = &mut self.checkpoint else {
             return Err(WorkError::Idle);
         };
+        if checkpoint.must_wait(memory) {
+            return Err(WorkError::Busy);
+        }
         match checkpoint.pass_step(memory)? {
             Some(PassStep::Visited(visit)) => Ok(ImageStep::Visited(visit)),
             Some(PassStep::Copied(copied)) => Ok(ImageStep::Copied(copied)),
             None => {
                 self.since_freeze = counted(checkpoint.is_to_freeze(), self.since_freeze);
-                checkpoint.work(self.alloc, memory, image, ticket)
+                Ok(checkpoint.work(self.alloc, memory, image, ticket)?)
             }
         }
     }
 
-    /// Takes the outcome of the request that is out. After one that failed no checkpoint runs.
+    /// Takes the outcome of a request that is out. After one that failed no checkpoint runs.
     pub fn hand_in(&mut self, outcome: Outcome) -> Progress
         ensures hands { Hands self.old outcome result self.new }
         ensures pages { HasCounted result self.new.since_freeze }
@@ -246,6 +254,17 @@ impl Dumper {
             self.since_freeze += 1;
         }
         progress
+    }
+
+    /// Whether an outcome is awaited before the next step: while a request is out that writes no data page, while eight are
+    /// out that do, or some where no page is left to be visited or copied.
+    pub fn must_wait(&self, memory: &Memory) -> bool
+        ensures { result ≡ dumper_must_wait self.now.running (plain_of memory.now) }
+    {
+        match &self.checkpoint {
+            Some(checkpoint) => checkpoint.must_wait(memory),
+            None => false,
+        }
     }
 
     /// What holds of every dumper: how its checkpoint, the image that is being made and the count since the freeze go

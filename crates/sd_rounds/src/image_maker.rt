@@ -1,36 +1,39 @@
 //! One image in the making: its slot is formatted, the pages of a memory are passed, and its gate is opened.
-ghost use Rattle.std.specs.Prelude.{◌≡◌, ◌≢◌, ◌↔◌, ◌⊎◌, ℕ, ◌<◌, ◌≤◌, ◌^◌, ◌==◌, None, Some, Ok, Err, IsSome, IsTrue, IsErr, IfOk, IfErr, OnErr, MatchOption, length, map, []};
+ghost use Rattle.std.specs.Prelude.{◌≡◌, ◌≢◌, ◌↔◌, ℕ, ◌<◌, ◌≤◌, ◌^◌, ◌==◌, None, Some, Ok, Err, IsSome, IsTrue, IsErr, true, false, IfOk, OnErr, MatchOption, length, map, slice_get};
 ghost use Rattle.sd_image.specs.Header.{HasWords};
 ghost use Rattle.sd_image.specs.Table.{listing_of};
-ghost use Rattle.sd_gate.specs.PlanRuns.{AreChanges};
 ghost use Rattle.sd_gate.specs.Plans.{Gives};
-ghost use Rattle.sd_rounds.specs.declared.work_error.WorkError.TheVariants.{Busy, OutOfMemory};
-ghost use Rattle.sd_rounds.specs.declared.stage.Stage.TheVariants.{Close, Format, PageWrite, Pass as PassStage};
+ghost use Rattle.sd_gate.specs.Sequences.{data_place};
+ghost use Rattle.sd_gate.specs.declared.call.Call.TheVariants.{Write};
+ghost use Rattle.sd_rounds.specs.declared.stage.Stage.TheVariants.{Close, Format, Pass as PassStage};
 ghost use Rattle.sd_image.specs.declared.header.Header.{Header};
 ghost use Rattle.sd_pagetable.specs.Contents.{Contents, plain_of};
 ghost use Rattle.sd_pagetable.specs.Order.{IsNextPage};
 ghost use Rattle.sd_rounds.specs.Left.{image_left, plan_left};
 ghost use Rattle.sd_rounds.specs.Making.{HandsIn, HasTable, IsAskedBy, IsUnderWay, Steps, WritesPage, WritesTable, begun_image, header_of, is_frozen, out_of};
-ghost use Rattle.sd_rounds.specs.PlanSteps.{HasNoPage, IsCallOf, IsPageCallOf, IsTableCallOf, Settles, at_stage, image_step, is_freeze};
+ghost use Rattle.sd_rounds.specs.PlanSteps.{HasNoPage, IsPageCallOf, IsTableCallOf, Settles, at_stage, image_step, is_freeze};
 ghost use Rattle.sd_rounds.specs.Pass.{data_pages, opened};
-ghost use Rattle.sd_rounds.specs.Room.{ImageWants, PassWants};
+ghost use Rattle.sd_rounds.specs.Room.{ImageWants};
 ghost use Rattle.sd_rounds.specs.Rounds.{IsCopied};
 ghost use Rattle.sd_rounds.specs.Sound.{IsSoundImage};
+ghost use Rattle.sd_rounds.specs.Waits.{must_wait};
+ghost use Rattle.sd_rounds.specs.Writes.{no_writes};
 
 use crate::image_order::ImageOrder;
 use crate::image_progress::ImageProgress;
 use crate::image_step::ImageStep;
+use crate::lanes::{LANES, free_lane, is_any_out, lane_of, writes_out};
 use crate::laws::made_law;
 use crate::left::{CLOSE, FREEZE};
 use crate::new_image::NewImage;
+use crate::page_buffers::PageBuffers;
 use crate::pass_step::PassStep;
 use crate::round::Round;
 use crate::stage::Stage;
 use crate::standing::Standing;
 use crate::tables::{dump_table, pre_dump_table};
-use crate::work_error::WorkError;
 use sd_chain::PlacedTable;
-use sd_gate::{Found, Outcome, Plan, Request, RequestId, Settled, Worker};
+use sd_gate::{Outcome, Plan, Request, RequestId, Settled, Worker};
 use sd_image::{Header, Kind, Table, encode_table};
 use sd_pagetable::{Memory, plain_law};
 use std::alloc::{AllocError, Global};
@@ -45,6 +48,8 @@ pub struct ImageMaker {
     round: Round,
     stored: usize,
     stage: Stage,
+    /// The writes of its data pages that are out.
+    writes: [Option<RequestId>; LANES],
 }
 
 impl Model for ImageMaker {
@@ -52,9 +57,9 @@ impl Model for ImageMaker {
 
     ghost Value = { Making };
 
-    ghost view = { λ m. record { order = m.order; pass = m.round; stage = m.stage } };
+    ghost view = { λ m. record { order = m.order; pass = m.round; stage = m.stage; writes = m.writes } };
 
-    ghost invariant = { λ m. IsMaking m.order m.round m.stored m.stage };
+    ghost invariant = { λ m. IsMaking m.order m.round m.stored m.stage m.writes };
 }
 
 /// The next request of a plan that reads nothing, and so takes no memory. None where one is out.
@@ -69,20 +74,8 @@ fn next_request(plan: &mut Plan, ticket: u64) -> Option<Request>
     }
 }
 
-/// Asks for the next call of a plan.
-fn ask(plan: &mut Plan, ticket: u64) -> Result<ImageStep, WorkError>
-    requires { IsUnderWay plan.old }
-    ensures asked { IfOk result (IsCallOf (λ request. Gives plan.old plan.new request × IsAskedBy ticket request)) }
-    ensures busy { IfErr result (λ e. (e ≡ Busy) × IsSome plan.old.out × (plan.new ≡ plan.old)) }
-{
-    match next_request(plan, ticket) {
-        Some(request) => Ok(ImageStep::Call(request)),
-        None => Err(WorkError::Busy),
-    }
-}
-
-/// The first request of a plan that begins.
-fn first_request(plan: &mut Plan, ticket: u64) -> Request
+/// The next request of a plan of which none is out.
+fn ask(plan: &mut Plan, ticket: u64) -> Request
     requires under_way { IsUnderWay plan.old }
     requires begins { plan.old.out ≡ None }
     ensures gives { Gives plan.old plan.new result }
@@ -92,6 +85,19 @@ fn first_request(plan: &mut Plan, ticket: u64) -> Request
         Some(request) => request,
         None => unreachable!(),
     }
+}
+
+/// The request that writes a data page.
+fn page_request(slot: usize, place: usize, page: Vec<u8>, ticket: u64) -> Request
+    requires few { place < 2 ^ 39 }
+    requires whole { length page.items ≡ 4096 }
+    ensures slot { result.id.slot ≡ slot }
+    ensures call { result.id.call ≡ Write (data_place place) }
+    ensures bytes { result.bytes ≡ page.items }
+    ensures asked { IsAskedBy ticket result }
+{
+    let mut plan = Plan::write_page(slot, place, page);
+    ask(&mut plan, ticket)
 }
 
 /// The header of an image that stands for itself.
@@ -129,17 +135,26 @@ fn settle(plan: &mut Plan, outcome: Outcome) -> Settled
 }
 
 impl ImageMaker {
-    /// An image that begins.
-    pub(crate) fn new(alloc: Global, order: ImageOrder) -> Self
+    /// An image that begins, with room for the page that it copies.
+    pub(crate) fn new(alloc: Global, order: ImageOrder, buffer: Vec<u8>) -> Self
         ensures { result ≡ begun_image order }
     {
+        let mut round = Round::new(alloc, order.parent == 0);
+        round.give_back(buffer);
         ImageMaker {
             alloc,
             order,
-            round: Round::new(alloc, order.parent == 0),
+            round,
             stored: 0,
             stage: Stage::Format(Plan::format(order.slot, order.state)),
+            writes: [None; LANES],
         }
+    }
+
+    /// The room for the page that it copied.
+    pub(crate) fn into_buffer(self) -> Vec<u8> {
+        let ImageMaker { round, .. } = self;
+        round.into_buffer()
     }
 
     /// Visits the next page or copies the next sector, where that is the next step. None where another is, and nothing
@@ -153,7 +168,6 @@ impl ImageMaker {
         ensures steps { IfOk result (λ found. MatchOption found
             (HasNoPage self.old memory.old × (self.new ≡ self.old) × (memory.new ≡ memory.old))
             (λ step. (ticket : ℕ) → Steps ticket self.old memory.old (image_step step) self.new memory.new)) }
-        ensures busy { IsSome (out_of self.old.stage) → result ≡ Ok None }
         ensures wanted { IsErr result → ImageWants self.old memory.old }
         ensures err { OnErr result (self.new ≡ self.old) }
         ensures err_memory { OnErr result (memory.new ≡ memory.old) }
@@ -180,46 +194,63 @@ impl ImageMaker {
     ///
     /// # Errors
     ///
-    /// Busy where a request is out. Out of memory where a page's entry or the table finds no room, which is in the pass
-    /// alone. Nothing changed.
+    /// Out of memory where a page's entry or the table finds no room, which is in the pass alone. Nothing changed.
     #[inline(never)]
-    pub(crate) fn work(&mut self, memory: &Memory, ticket: u64) -> Result<ImageStep, WorkError>
-        requires { HasNoPage self.old memory.now }
+    pub(crate) fn work(
+        &mut self,
+        memory: &Memory,
+        ticket: u64,
+        buffers: &mut PageBuffers,
+    ) -> Result<ImageStep, AllocError>
+        requires none { HasNoPage self.old memory.now }
+        requires rests { must_wait self.old (plain_of memory.now) ≡ false }
         ensures steps { IfOk result (λ step. Steps ticket self.old memory.now step self.new memory.now) }
-        ensures busy { result ≡ Err Busy ↔ IsSome (out_of self.old.stage) }
-        ensures wanted { result ≡ Err OutOfMemory → ImageWants self.old memory.now }
-        ensures errors { IfErr result (λ e. (e ≡ Busy) ⊎ (e ≡ OutOfMemory)) }
+        ensures wanted { IsErr result → ImageWants self.old memory.now }
         ensures err { OnErr result (self.new ≡ self.old) }
     {
+        plain_law();
         let Stage::Pass = &self.stage else {
-            return self.go_on(ticket);
+            return Ok(self.go_on(ticket));
         };
         match self.round.standing() {
             Standing::Free => self.close(memory, ticket),
             Standing::Copying => unreachable!(),
-            Standing::Copied => self.write_page(ticket),
+            Standing::Copied => match free_lane(&self.writes) {
+                Some(lane) => self.write_page(lane, ticket, buffers),
+                None => unreachable!(),
+            },
+        }
+    }
+
+    /// Whether an outcome is awaited before the next step.
+    pub(crate) fn must_wait(&self, memory: &Memory) -> bool
+        ensures { result ≡ must_wait self.now (plain_of memory.now) }
+    {
+        match &self.stage {
+            Stage::Format(plan) | Stage::Close { plan, .. } => plan.is_waiting(),
+            Stage::Freeze => false,
+            Stage::Pass => {
+                free_lane(&self.writes).is_none()
+                    || is_any_out(&self.writes) && self.round.is_over(memory)
+            }
         }
     }
 
     /// Makes the next step outside the pass: the freeze, or a request for the next call of a plan.
     #[inline(never)]
-    fn go_on(&mut self, ticket: u64) -> Result<ImageStep, WorkError>
-        requires { self.old.stage ≢ PassStage }
-        ensures steps { (memory : Contents)
-            → IfOk result (λ step. Steps ticket self.old memory step self.new memory) }
-        ensures busy { result ≡ Err Busy ↔ IsSome (out_of self.old.stage) }
-        ensures errors { IfErr result (λ e. e ≡ Busy) }
-        ensures err { OnErr result (self.new ≡ self.old) }
+    pub(crate) fn go_on(&mut self, ticket: u64) -> ImageStep
+        requires outside { self.old.stage ≢ PassStage }
+        requires rests { out_of self.old.stage ≡ None }
+        ensures steps { (memory : Contents) → Steps ticket self.old memory result self.new memory }
     {
         match &mut self.stage {
             Stage::Freeze => {
                 self.stage = Stage::Pass;
-                Ok(ImageStep::Frozen)
+                ImageStep::Frozen
             }
             Stage::Pass => unreachable!(),
-            Stage::Format(plan) => ask(plan, ticket),
-            Stage::PageWrite(plan) => ask(plan, ticket),
-            Stage::Close { plan, .. } => ask(plan, ticket),
+            Stage::Format(plan) => ImageStep::Call(ask(plan, ticket)),
+            Stage::Close { plan, .. } => ImageStep::Call(ask(plan, ticket)),
         }
     }
 
@@ -231,34 +262,40 @@ impl ImageMaker {
         matches!(self.stage, Stage::Freeze)
     }
 
-    /// Takes the page that was copied, and asks for its write.
+    /// Takes the page that was copied, and asks for its write in a free lane.
     #[inline(never)]
-    fn write_page(&mut self, ticket: u64) -> Result<ImageStep, WorkError>
+    fn write_page(
+        &mut self,
+        lane: usize,
+        ticket: u64,
+        buffers: &mut PageBuffers,
+    ) -> Result<ImageStep, AllocError>
         requires stage { self.old.stage ≡ PassStage }
         requires copied { IsCopied self.old.pass }
-        ensures page { IfOk result (IsPageCallOf (λ request. WritesPage self.old request self.new
+        requires free { slice_get self.old.writes lane ≡ Some None }
+        requires within { lane < 8 }
+        ensures page { IfOk result (IsPageCallOf (λ used request. WritesPage self.old used request self.new
             × IsAskedBy ticket request)) }
-        ensures errors { IfErr result (λ e. e ≡ OutOfMemory) }
         ensures err { OnErr result (self.new ≡ self.old) }
     {
         self.round.has_room();
         let page = self.round.take_page()?;
-        let mut plan = Plan::write_page(self.order.slot, self.stored, page);
-        let request = first_request(&mut plan, ticket);
+        self.round.give_back(buffers.take());
+        let request = page_request(self.order.slot, self.stored, page, ticket);
         self.stored += 1;
-        self.stage = Stage::PageWrite(plan);
-        Ok(ImageStep::PageCall(request))
+        self.writes[lane] = Some(request.id());
+        Ok(ImageStep::PageCall { lane, request })
     }
 
     /// Makes the table, and asks for its write.
     #[inline(never)]
-    fn close(&mut self, memory: &Memory, ticket: u64) -> Result<ImageStep, WorkError>
+    fn close(&mut self, memory: &Memory, ticket: u64) -> Result<ImageStep, AllocError>
         requires stage { self.old.stage ≡ PassStage }
         requires free { self.old.pass.taking ≡ None }
         requires over { IsNextPage memory.now.spaces self.old.pass.after None }
+        requires rests { self.old.writes ≡ no_writes }
         ensures table { IfOk result (IsTableCallOf (λ request. WritesTable self.old memory.now request self.new
             × IsAskedBy ticket request)) }
-        ensures errors { IfErr result (λ e. e ≡ OutOfMemory) }
         ensures err { OnErr result (self.new ≡ self.old) }
     {
         let table = self.table(memory)?;
@@ -266,7 +303,7 @@ impl ImageMaker {
         let header = self.header(text.len() as u64);
         let table = PlacedTable::new(self.alloc, table)?;
         let mut plan = Plan::close_body(self.order.slot, header, text);
-        let request = first_request(&mut plan, ticket);
+        let request = ask(&mut plan, ticket);
         self.stage = Stage::Close {
             plan,
             header,
@@ -305,12 +342,11 @@ impl ImageMaker {
         ensures left { result ≡ image_left self.now (plain_of memory.now) }
         ensures few { result ≤ 2 ^ 65 }
     {
-        let pass = u128::from(self.round.left(memory));
+        let pass = u128::from(self.round.left(memory)) + writes_out(&self.writes) as u128;
         match &self.stage {
             Stage::Format(plan) => plan_left(plan) + FREEZE + pass + CLOSE,
             Stage::Freeze => FREEZE + pass + CLOSE,
             Stage::Pass => pass + CLOSE,
-            Stage::PageWrite(plan) => plan_left(plan) + pass + CLOSE,
             Stage::Close { plan, .. } => plan_left(plan),
         }
     }
@@ -336,7 +372,7 @@ impl ImageMaker {
     {
         let is_past = match self.stage {
             Stage::Format(_) | Stage::Freeze => false,
-            Stage::Pass | Stage::PageWrite(_) | Stage::Close { .. } => true,
+            Stage::Pass | Stage::Close { .. } => true,
         };
         self.order.kind == Kind::Dump && is_past
     }
@@ -348,28 +384,30 @@ impl ImageMaker {
         self.round.rising();
     }
 
-    /// Whether this is the request that is out.
+    /// Whether this is the request of its plan that is out.
     fn is_out(&self, id: &RequestId) -> bool
         ensures { IsTrue result ↔ out_of self.now.stage ≡ Some id.now }
     {
         match &self.stage {
             Stage::Format(plan) => plan.is_out(id),
-            Stage::PageWrite(plan) => plan.is_out(id),
             Stage::Close { plan, .. } => plan.is_out(id),
             Stage::Freeze | Stage::Pass => false,
         }
     }
 
-    /// Takes the outcome of the request that is out.
-    pub(crate) fn hand_in(&mut self, outcome: Outcome) -> ImageProgress
+    /// Takes the outcome of a request that is out. The buffer of a page that was written is spare again.
+    pub(crate) fn hand_in(&mut self, outcome: Outcome, buffers: &mut PageBuffers) -> ImageProgress
         ensures { HandsIn self.old outcome result self.new }
     {
-        if !self.is_out(&outcome.id()) {
+        let id = outcome.id();
+        if let Some(lane) = lane_of(&self.writes, &id) {
+            return self.end_page(lane, outcome, buffers);
+        }
+        if !self.is_out(&id) {
             return ImageProgress::Strange;
         }
         match mem::replace(&mut self.stage, Stage::Pass) {
             Stage::Format(plan) => self.end_format(plan, outcome),
-            Stage::PageWrite(plan) => self.end_page(plan, outcome),
             Stage::Close {
                 plan,
                 header,
@@ -383,6 +421,7 @@ impl ImageMaker {
     fn end_format(&mut self, mut plan: Plan, outcome: Outcome) -> ImageProgress
         requires stage { self.old.stage ≡ PassStage }
         requires fresh { self.old.pass ≡ opened (self.old.order.parent == 0) }
+        requires rests { self.old.writes ≡ no_writes }
         requires under_way { IsUnderWay plan }
         requires out { plan.out ≡ Some outcome.request.id }
         ensures { HandsIn (at_stage self.old (Format plan)) outcome result self.new }
@@ -402,27 +441,26 @@ impl ImageMaker {
         }
     }
 
-    /// Takes the outcome of a page's write, and keeps its buffer for the next.
-    fn end_page(&mut self, mut plan: Plan, outcome: Outcome) -> ImageProgress
-        requires stage { self.old.stage ≡ PassStage }
-        requires free { self.old.pass.taking ≡ None }
-        requires under_way { IsUnderWay plan }
-        requires out { plan.out ≡ Some outcome.request.id }
-        ensures { HandsIn (at_stage self.old (PageWrite plan)) outcome result self.new }
+    /// Takes the outcome of a page's write.
+    fn end_page(
+        &mut self,
+        lane: usize,
+        outcome: Outcome,
+        buffers: &mut PageBuffers,
+    ) -> ImageProgress
+        requires out { slice_get self.old.writes lane ≡ Some (Some outcome.request.id) }
+        requires within { lane < 8 }
+        ensures { HandsIn self.old outcome result self.new }
     {
-        match settle(&mut plan, outcome) {
-            Settled::Strange | Settled::Failed => ImageProgress::Failed,
-            Settled::More => {
-                self.stage = Stage::PageWrite(plan);
-                ImageProgress::More
-            }
-            Settled::Finished => {
-                let Found { first, .. } = plan.into_found();
-                if let Some(buffer) = first {
-                    self.round.give_back(buffer);
-                }
-                ImageProgress::More
-            }
+        self.writes[lane] = None;
+        let done = outcome.answer().is_done();
+        if let Some(buffer) = outcome.into_buffer() {
+            buffers.give(buffer);
+        }
+        if done {
+            ImageProgress::More
+        } else {
+            ImageProgress::Failed
         }
     }
 
@@ -436,6 +474,7 @@ impl ImageMaker {
     ) -> ImageProgress
         requires stage { self.old.stage ≡ PassStage }
         requires pages { header.pages ≡ data_pages self.old.pass.entries }
+        requires rests { self.old.writes ≡ no_writes }
         requires under_way { IsUnderWay plan }
         requires out { plan.out ≡ Some outcome.request.id }
         ensures { HandsIn (at_stage self.old (Close plan header table)) outcome result self.new }

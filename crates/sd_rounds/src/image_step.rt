@@ -7,8 +7,8 @@ use sd_gate::Request;
 pub enum ImageStep {
     /// The next device call of a plan is asked for.
     Call(Request),
-    /// The write of the page that was copied is asked for: it is the next data page.
-    PageCall(Request),
+    /// The write of the page that was copied is asked for, in this lane: it is the next data page.
+    PageCall { lane: usize, request: Request },
     /// The first call that writes the table is asked for: the pass is over.
     TableCall(Request),
     /// The memory is frozen from now on.

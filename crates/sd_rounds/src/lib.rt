@@ -9,10 +9,12 @@ mod image_maker;
 mod image_order;
 mod image_progress;
 mod image_step;
+mod lanes;
 mod laws;
 mod left;
 mod new_image;
 mod next_image;
+mod page_buffers;
 mod pass_step;
 mod progress;
 mod round;
@@ -25,12 +27,14 @@ mod work_error;
 pub use copied::Copied;
 pub use dumper::Dumper;
 pub use image_step::ImageStep;
+pub use lanes::LANES;
 pub use laws::{
     dump_law, file_law, image_visits_law, keeps_law, left_law, little_law, made_law, making_law,
     rises_law, step_law, visits_law,
 };
 pub use new_image::NewImage;
 pub use next_image::NextImage;
+pub use page_buffers::PageBuffers;
 pub use progress::Progress;
 pub use round::Round;
 pub use standing::Standing;

@@ -1,5 +1,5 @@
 //! A pass over the pages of a memory, which makes the entries of an image.
-ghost use Rattle.std.specs.Prelude.{◌≡◌, ◌≢◌, length, ◌||◌, ◌*◌, ◌<◌, ◌≤◌, ◌^◌, true, false, None, Some, IsTrue, IsSome, IsErr, ◌↔◌, IfOk, OnOk, OnErr, MatchOption, ◌==◌, ◌++◌};
+ghost use Rattle.std.specs.Prelude.{◌≡◌, ◌≢◌, length, ◌||◌, ◌*◌, ◌<◌, ◌≤◌, ◌^◌, true, false, None, Some, IsSome, IsErr, IfOk, OnOk, OnErr, MatchOption, ◌==◌, ◌++◌};
 ghost use Rattle.std.specs.List.{list_all};
 ghost use Rattle.sd_image.specs.declared.run.RunKind.TheVariants.{Parent};
 ghost use Rattle.sd_pagetable.specs.Contents.{page_at, plain_of};
@@ -12,6 +12,7 @@ ghost use Rattle.sd_rounds.specs.Rises.{IsRising};
 ghost use Rattle.sd_rounds.specs.Room.{LeavesNext};
 ghost use Rattle.sd_rounds.specs.Rounds.{Copies, IsCopied, IsCopying, IsOver, Stands, TakesPage, Tests, is_page_of_zeros, source};
 ghost use Rattle.sd_rounds.specs.Tables.{AreTables, entries_in, listed};
+ghost use Rattle.sd_rounds.specs.Waits.{is_over};
 
 use crate::copied::Copied;
 use crate::entries::push_entry;
@@ -20,7 +21,7 @@ use crate::standing::Standing;
 use crate::visit::Visit;
 use sd_areas::{PAGE_SIZE, PageNo, SpaceId};
 use sd_image::{RunKind, SpaceTable};
-use sd_pagetable::{Memory, SECTOR_SIZE, SECTORS};
+use sd_pagetable::{Memory, SECTOR_SIZE, SECTORS, plain_law};
 use std::alloc::{AllocError, Global};
 use std::marker::Model;
 use std::mem;
@@ -212,6 +213,20 @@ impl Round {
         ensures { self.new ≡ self.old }
     {
         self.buffer = buffer;
+    }
+
+    /// The buffer that pages are copied to.
+    pub(crate) fn into_buffer(self) -> Vec<u8> {
+        let Round { buffer, .. } = self;
+        buffer
+    }
+
+    /// Whether no page is left to be visited, and none is being taken.
+    pub(crate) fn is_over(&self, memory: &Memory) -> bool
+        ensures { result ≡ is_over self.now (plain_of memory.now) }
+    {
+        plain_law();
+        self.taking.is_none() && memory.next_page(self.after).is_none()
     }
 
     /// Whether the page that is being taken is whole with this sector, and all zeros.

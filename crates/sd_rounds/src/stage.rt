@@ -9,10 +9,8 @@ pub enum Stage {
     Format(Plan),
     /// The next step freezes the memory.
     Freeze,
-    /// Pages are visited and copied.
+    /// Pages are visited, copied and written.
     Pass,
-    /// A data page is written.
-    PageWrite(Plan),
     /// The table and the header are written, and the gate is opened.
     Close {
         plan: Plan,

@@ -1,5 +1,5 @@
 -- A worker's events, one more behind those so far.
-use Rattle.std.proofs.Common.{◌≡◌, ◌+◌, ◌<◌, ℕ, Bool, true, false, List, [], ◌∷◌, ◌++◌, if◌then◌else◌, length, refl, sym, ◌∙◌, ap, subst, arith}
+use Rattle.std.proofs.Common.{◌≡◌, ◌+◌, ◌<◌, ℕ, true, false, List, [], ◌∷◌, ◌++◌, if◌then◌else◌, length, refl, sym, ap, subst, arith}
 use Rattle.std.proofs.lemmas.List.{append_assoc}
 use Rattle.std.specs.List.{AllByRecursion}
 use Rattle.sd_command.specs.declared.reply.Reply.{Reply}
@@ -71,6 +71,28 @@ module _ {D : Type 0} (g : Ghosts D) (worker : Worker) where
         goes_on = none_ends_more so_far.before before so_far.goes_on goes;
         count_is = (let is = so_far.count_is in omega arith);
       }
+
+  -- the worker's events so far, none of which ended its job
+  pub record HasCalled (first last : WorldView D) : Type 0 where
+    pub before : List Reply
+    pub drives : Drives g worker first before last
+    pub goes_on : AllByRecursion (λ reply. is_end reply ≡ false) before
+
+  pub called_none : (first : WorldView D) → HasCalled first first
+  called_none first = record { before = []; drives = refl; goes_on = tt }
+
+  pub called_more : (first mid last : WorldView D) (answer : Reply) → HasCalled first mid → is_end answer ≡ false
+      → IsStep g (next_event mid.kept worker) mid answer last → HasCalled first last
+  called_more first mid last answer so_far goes step = record {
+    before = so_far.before ++ answer ∷ [];
+    drives = drives_more first mid last so_far.before answer so_far.drives step;
+    goes_on = none_ends_more so_far.before answer so_far.goes_on goes;
+  }
+
+  pub called_driven : (first mid last : WorldView D) (answer : Reply) → HasCalled first mid → IsStep g (next_event mid.kept worker) mid answer last
+      → AreDriven g worker first answer last
+  called_driven first mid last answer so_far step =
+      record { before = so_far.before; drives = drives_more first mid last so_far.before answer so_far.drives step; goes_on = so_far.goes_on }
 
   -- ---- one turn behind another
 

@@ -14,7 +14,7 @@ use Rattle.sd_belief.specs.Calls.{AddsByCancel, AddsByOrder}
 use Rattle.sd_belief.specs.Shown.{ShowsAllowed}
 use Rattle.sd_belief.specs.View.{CoreView, history_of}
 use Rattle.sd_world.specs.declared.event.Event.{Event}
-use Rattle.sd_world.specs.declared.event.Event.TheVariants.{Command, Begin, Work, Perform, Merge, Cancel, Reopen}
+use Rattle.sd_world.specs.declared.event.Event.TheVariants.{Command, Begin, Work, TakeUp, HandInAt, Perform, PerformAt, Merge, Cancel, Reopen}
 use Rattle.sd_world.specs.Adds.{Adds, AddsByPerform, AddsByWork}
 use Rattle.sd_world.specs.Runs.{IsStep, Runs, ShowsAllowedBetween}
 use Rattle.sd_world.specs.View.{WorldView}
@@ -92,7 +92,10 @@ adds_grow (Command seat command) answer old new adds = elim adds [
 ]
 adds_grow (Begin rounds) answer old new adds = by_order answer (history_of old) (history_of new) adds
 adds_grow (Work worker) answer old new adds = by_work worker old answer (history_of old) (history_of new) adds
+adds_grow (TakeUp worker) answer old new adds = by_work worker old answer (history_of old) (history_of new) adds
+adds_grow (HandInAt worker place) answer old new adds = by_work worker old answer (history_of old) (history_of new) adds
 adds_grow (Perform worker) answer old new adds = by_perform answer (history_of old) (history_of new) adds
+adds_grow (PerformAt worker place) answer old new adds = by_perform answer (history_of old) (history_of new) adds
 adds_grow Merge answer old new adds = by_order answer (history_of old) (history_of new) adds
 adds_grow Cancel answer old new adds = by_cancel answer (history_of old) (history_of new) adds
 adds_grow Reopen answer old new adds = by_order answer (history_of old) (history_of new) adds

@@ -7,7 +7,7 @@ use Rattle.sd_script.specs.declared.answer.Answer.{Answer}
 use Rattle.sd_script.specs.declared.answer.Answer.TheVariants as answer
 use Rattle.sd_script.specs.declared.line.Line.{Line}
 use Rattle.sd_script.specs.declared.line.Line.TheVariants as line
-use Rattle.sd_world.specs.declared.event.Event.TheVariants.{Command, Begin, Work, Perform, Merge, Cancel, Reopen}
+use Rattle.sd_world.specs.declared.event.Event.TheVariants.{Command, Begin, Work, Perform, PerformAt, Merge, Cancel, Reopen}
 use Rattle.sd_world.specs.Runs.{IsStep}
 use Rattle.sd_world.specs.View.{WorldView}
 use Rattle.sd_run.specs.Jobs.{IsDriven, IsFinished, IsJob}
@@ -31,6 +31,7 @@ AnswersLine g line.BeginMerge first given last = IsReplyOf (λ r. IsStep g Merge
 AnswersLine g line.Cancel first given last = IsReplyOf (λ r. IsStep g Cancel first r last) given
 AnswersLine g (line.Work worker) first given last = IsReplyOf (λ r. IsStep g (Work worker) first r last) given
 AnswersLine g (line.Perform worker) first given last = IsReplyOf (λ r. IsStep g (Perform worker) first r last) given
+AnswersLine g (line.PerformAt worker place) first given last = IsReplyOf (λ r. IsStep g (PerformAt worker place) first r last) given
 AnswersLine g (line.Step worker count) first given last = IsReplyOf (λ r. IsDriven g worker (max count 1) first r last) given
 AnswersLine g (line.Finish worker) first given last = IsReplyOf (λ r. IsFinished g worker first r last) given
 AnswersLine g (line.Checkpoint rounds) first given last = IsReplyOf (λ r. IsJob g (Begin rounds) Dumper first r last) given

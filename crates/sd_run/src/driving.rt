@@ -1,5 +1,5 @@
 //! A worker's events, one after the other, and its jobs.
-ghost use Rattle.std.specs.Prelude.{◌≡◌, ◌<◌, ◌≤◌, false};
+ghost use Rattle.std.specs.Prelude.{◌≡◌, ◌<◌, ◌≤◌, false, true};
 ghost use Rattle.sd_core.specs.Working.{left_by};
 ghost use Rattle.sd_gate.specs.declared.worker.Worker.{Worker as WorkerKind};
 ghost use Rattle.sd_run.specs.Goes.{GoesOn};
@@ -7,7 +7,7 @@ ghost use Rattle.sd_run.specs.Jobs.{AreDriven, IsDriven, IsFinished, IsJob, is_e
 ghost use Rattle.sd_world.specs.declared.event.Event.TheVariants.{Perform, Work};
 ghost use Rattle.sd_world.specs.Runs.{IsStep};
 ghost use Rattle.sd_world.specs.Steps.{LeavesLess};
-ghost use Rattle.sd_world.specs.View.{is_asked};
+ghost use Rattle.sd_world.specs.View.{asked_count, is_asked};
 
 use crate::watch::Watch;
 use sd_command::Reply;
@@ -42,8 +42,9 @@ pub(crate) fn make<D: Disk>(world: &mut World<D>, event: Event) -> Reply
     ensures goes_on { GoesOn D.Disk world.old world.new }
     ensures lowers { (worker : WorkerKind) → event ≡ Work worker
         → LeavesLess result (left_by world.old.core worker) (left_by world.new.core worker) }
-    ensures made { (worker : WorkerKind) → event ≡ Perform worker
-        → is_asked world.new.kept worker ≡ false }
+    ensures made { (worker : WorkerKind) → event ≡ Perform worker → is_asked world.old.kept worker ≡ true
+        → asked_count world.new.kept worker < asked_count world.old.kept worker }
+    ensures still { (worker : WorkerKind) → event ≡ Perform worker → world.new.core ≡ world.old.core }
 {
     world.step(&event)
 }
@@ -66,7 +67,7 @@ pub(crate) fn drive<D: Disk>(world: &mut World<D>, worker: Worker, count: u64) -
     answer
 }
 
-/// Makes a worker's device call, where one is out, and then its next step, unless the call failed. Returns the last reply.
+/// Makes a worker's device calls, while one is out, and then its next step, unless a call failed. Returns the last reply.
 /// Where that neither ends the job nor refuses, less of the job is left.
 fn turn<D: Disk>(world: &mut World<D>, worker: Worker) -> Reply
     ensures driven { AreDriven D.Disk worker world.old result world.new }
@@ -74,18 +75,18 @@ fn turn<D: Disk>(world: &mut World<D>, worker: Worker) -> Reply
     ensures lowers { is_end result ≡ false
         → left_by world.new.core worker < left_by world.old.core worker }
 {
-    if !world.is_out(worker) {
-        return make(world, Event::Work(worker));
-    }
-    let called = make(world, Event::Perform(worker));
-    if is_end(&called) {
-        return called;
+    world.sound();
+    while world.is_out(worker) {
+        let called = make(world, Event::Perform(worker));
+        if is_end(&called) {
+            return called;
+        }
     }
     make(world, Event::Work(worker))
 }
 
 /// Makes a worker's events up to the end of its job, or up to a refusal, while they are watched. Returns the last reply.
-/// There are at most two events for each step that was left, and two more.
+/// There are at most two events for each step that was left, and two more, beside the device calls that were out.
 fn follow<D: Disk, S: Watch>(world: &mut World<D>, worker: Worker, watch: &mut S) -> Reply
     ensures finished { IsFinished D.Disk worker world.old result world.new }
     ensures goes_on { GoesOn D.Disk world.old world.new }

@@ -1,5 +1,5 @@
 //! The lines of a script, answered by a world.
-ghost use Rattle.std.specs.Prelude.{◌≡◌, ◌∷◌, OnOk};
+ghost use Rattle.std.specs.Prelude.{◌∷◌, OnOk};
 ghost use Rattle.std.specs.Io.KnownBytes.{Appends};
 ghost use Rattle.sd_script.specs.declared.line.Line.TheVariants as asked;
 ghost use Rattle.sd_script.specs.Texts.{answer_line};
@@ -47,6 +47,7 @@ fn answer<D: Disk, S: Watch>(
         Line::Cancel => make(world, Event::Cancel),
         Line::Work(worker) => make(world, Event::Work(worker)),
         Line::Perform(worker) => make(world, Event::Perform(worker)),
+        Line::PerformAt { worker, place } => make(world, Event::PerformAt(worker, place)),
         Line::Step { worker, count } => drive(world, worker, count.max(1)),
         Line::Finish(worker) => finish(world, worker, watch),
         Line::Checkpoint(rounds) => do_job(world, Event::Begin(rounds), Worker::Dumper, watch),

@@ -4,7 +4,7 @@ use Rattle.std.specs.List.{slice_split, onto_first, position_or_len, before_firs
 use Rattle.std.proofs.lemmas.Bool.{cases_Bool}
 use Rattle.std.proofs.lemmas.List.{take_all, map-append}
 use Rattle.std.proofs.lemmas.List.Splits.{slice_split_first, slice_split-cons_no}
-use Rattle.sd_script.specs.Line.{mmap_of, munmap_of, mprotect_of, fork_of, exit_of, try_of, fault_of, words_of, store_of, load_of, begin_of, work_of, perform_of, step_of, finish_of, checkpoint_of, asked_by_word, asked_by_fields}
+use Rattle.sd_script.specs.Line.{mmap_of, munmap_of, mprotect_of, fork_of, exit_of, try_of, fault_of, words_of, store_of, load_of, begin_of, work_of, perform_of, perform_at_of, step_of, finish_of, checkpoint_of, asked_by_word, asked_by_fields}
 
 -- the texts of fields
 abbrev pub texts : List (Bor (List ℕ)) → List (List ℕ)
@@ -92,6 +92,12 @@ pub perform_of-other : (xs : List (Bor (List ℕ))) → length xs ≢ 1 → perf
 perform_of-other [] h = refl
 perform_of-other (a ∷ []) h = absurd (h refl)
 perform_of-other (a ∷ b ∷ more) h = refl
+
+pub perform_at_of-other : (xs : List (Bor (List ℕ))) → length xs ≢ 2 → perform_at_of (texts xs) ≡ None
+perform_at_of-other [] h = refl
+perform_at_of-other (a ∷ []) h = refl
+perform_at_of-other (a ∷ b ∷ []) h = absurd (h refl)
+perform_at_of-other (a ∷ b ∷ d ∷ more) h = refl
 
 pub step_of-other : (xs : List (Bor (List ℕ))) → length xs ≢ 2 → step_of (texts xs) ≡ None
 step_of-other [] h = refl

@@ -11,7 +11,7 @@ use Rattle.sd_command.specs.declared.command.Command.TheVariants.{Mmap, Munmap, 
 use Rattle.sd_gate.specs.declared.worker.Worker.{Worker}
 use Rattle.sd_gate.specs.declared.worker.Worker.TheVariants.{Dumper, Merger, Opener}
 use Rattle.sd_script.specs.declared.line.Line.{Line}
-use Rattle.sd_script.specs.declared.line.Line.TheVariants.{Command, Words, Begin, BeginMerge, Cancel, Work, Perform, Step, Finish, Checkpoint, Merge, Reopen}
+use Rattle.sd_script.specs.declared.line.Line.TheVariants.{Command, Words, Begin, BeginMerge, Cancel, Work, Perform, PerformAt, Step, Finish, Checkpoint, Merge, Reopen}
 use Rattle.sd_script.specs.declared.line_error.LineError.{LineError}
 use Rattle.sd_script.specs.declared.line_error.LineError.TheVariants.{Unfit, OutOfMemory}
 
@@ -195,6 +195,14 @@ perform_of (name ∷ []) = do
   Some (Perform w)
 perform_of _ = None
 
+-- `perform-at WORKER PLACE`, behind the word
+abbrev pub perform_at_of : List (List ℕ) → Option Line
+perform_at_of (name ∷ place ∷ []) = do
+  w ← worker_of name
+  k ← number_of place
+  Some (PerformAt w k)
+perform_at_of _ = None
+
 -- `step WORKER COUNT`, behind the word: one event at least
 abbrev pub step_of : List (List ℕ) → Option Line
 step_of (name ∷ count ∷ []) = do
@@ -246,6 +254,7 @@ asked_by_word word arguments =
     else if bytes_eq word (codes "cancel") then cancel_of arguments
     else if bytes_eq word (codes "work") then work_of arguments
     else if bytes_eq word (codes "perform") then perform_of arguments
+    else if bytes_eq word (codes "perform-at") then perform_at_of arguments
     else if bytes_eq word (codes "step") then step_of arguments
     else if bytes_eq word (codes "finish") then finish_of arguments
     else if bytes_eq word (codes "checkpoint") then checkpoint_of arguments

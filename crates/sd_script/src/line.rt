@@ -2,7 +2,7 @@
 
 ghost use Rattle.std.specs.Prelude.{◌≡◌, ◌==◌, ◌≤◌, map, OnOk};
 ghost use Rattle.std.specs.List.{slice_split};
-ghost use Rattle.sd_script.specs.Line.{Gives, GivesBytes, asked_by, asked_by_word, at_least_one, begin_of, begin_merge_of, cancel_of, checkpoint_of, exit_of, fault_of, finish_of, fork_of, hex_of, load_of, merge_of, mmap_of, mprotect_of, munmap_of, number_of, numeral_of, perform_of, prot_of, reopen_of, step_of, store_of, try_of, words_of, work_of, worker_of};
+ghost use Rattle.sd_script.specs.Line.{Gives, GivesBytes, asked_by, asked_by_word, at_least_one, begin_of, begin_merge_of, cancel_of, checkpoint_of, exit_of, fault_of, finish_of, fork_of, hex_of, load_of, merge_of, mmap_of, mprotect_of, munmap_of, number_of, numeral_of, perform_at_of, perform_of, prot_of, reopen_of, step_of, store_of, try_of, words_of, work_of, worker_of};
 
 use crate::digits::{decode_into, digit};
 use crate::line_error::LineError;
@@ -29,8 +29,13 @@ pub enum Line {
     Cancel,
     /// A worker's next step, or its next device call asked for or handed in.
     Work(Worker),
-    /// The device call that a worker asked for.
+    /// The device call with the least ticket of those that a worker asked for.
     Perform(Worker),
+    /// The device call at this place, from 0 by rising ticket, of those that a worker asked for.
+    PerformAt {
+        worker: Worker,
+        place: u64,
+    },
     /// So many events of a worker, at least one.
     Step {
         worker: Worker,
@@ -95,6 +100,7 @@ fn request(alloc: Global, word: &str, arguments: &[&str]) -> Result<Line, LineEr
         "cancel" => cancel(arguments).ok_or(LineError::Unfit),
         "work" => work(arguments).ok_or(LineError::Unfit),
         "perform" => perform(arguments).ok_or(LineError::Unfit),
+        "perform-at" => perform_at(arguments).ok_or(LineError::Unfit),
         "step" => step(arguments).ok_or(LineError::Unfit),
         "finish" => finish(arguments).ok_or(LineError::Unfit),
         "checkpoint" => checkpoint(arguments).ok_or(LineError::Unfit),
@@ -273,6 +279,18 @@ fn perform(arguments: &[&str]) -> Option<Line>
         return None;
     };
     Some(Line::Perform(worker_named(name)?))
+}
+
+fn perform_at(arguments: &[&str]) -> Option<Line>
+    ensures { result ≡ perform_at_of (map (λ field. field.now) arguments.now) }
+{
+    let [name, place] = arguments else {
+        return None;
+    };
+    Some(Line::PerformAt {
+        worker: worker_named(name)?,
+        place: number(place)?,
+    })
 }
 
 /// No step at all doesn't fit.

@@ -17,6 +17,7 @@ fn fields_behind(word: &str) -> Option<&'static [FieldKind]> {
         "fault" => Some(&[Number, Number]),
         "fork" | "exit" | "begin" | "checkpoint" => Some(&[Number]),
         "work" | "perform" | "finish" => Some(&[WorkerName]),
+        "perform-at" => Some(&[WorkerName, Number]),
         "step" => Some(&[WorkerName, Positive]),
         "begin-merge" | "cancel" | "merge" | "reopen" => Some(&[]),
         _ => None,

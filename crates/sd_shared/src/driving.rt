@@ -30,7 +30,7 @@ pub(crate) fn go_on<H: Hands>(rt: &impl Wait, hands: &mut H)
 }
 
 /// Whether a reply to a worker is the last one of its job.
-fn ends_job(reply: &Reply) -> bool
+pub(crate) fn ends_job(reply: &Reply) -> bool
     ensures { result ≡ ends_job reply.now }
 {
     matches!(

@@ -1,7 +1,7 @@
 use crate::hands::Hands;
 use crate::hold::Hold;
 use crate::shared::Shared;
-use sd_command::{Refusal, Reply};
+use sd_command::Reply;
 use sd_core::Taken;
 use sd_disk::Disk;
 use sd_gate::{Request, Worker};
@@ -48,11 +48,8 @@ impl<'a, R: Wait, D: Disk + Drop, H: Hold> Job<'a, R, D, H> {
         ensures { self.new.began ≡ self.old.began }
     {
         self.calls = self.calls.saturating_add(1);
-        self.hold.before(self.calls);
-        match self.shared.perform(self.rt, request) {
-            Some(outcome) => self.shared.hand_in(self.rt, outcome),
-            None => Reply::Refused(Refusal::Device),
-        }
+        self.shared
+            .call_device(self.rt, self.hold, self.calls, request)
     }
 }
 

@@ -2,11 +2,15 @@
 //! each what it was told.
 #![tactic(auto)]
 
+mod crew;
 mod driving;
 mod hands;
 mod hold;
 mod job;
 mod making;
+mod next;
+mod relayed_dump;
+mod reports;
 mod seat;
 mod settling;
 mod shared;

@@ -1,5 +1,7 @@
 //! A core and its disk, shared by threads.
-ghost use Rattle.std.specs.Prelude.{◌≡◌, ◌≤◌, true, reverse, IfOk, IfErr};
+ghost use Rattle.std.specs.Prelude.{◌≡◌, ◌≤◌, ◌<◌, ◌⊎◌, true, reverse, IfOk, IfErr};
+ghost use Rattle.sd_command.specs.declared.refusal.Refusal.TheVariants.{Einval};
+ghost use Rattle.sd_command.specs.declared.reply.Reply.TheVariants as reply;
 ghost use Rattle.sd_belief.specs.Calls.{IsUnjournaled};
 ghost use Rattle.sd_belief.specs.View.{CoreView, history_of};
 ghost use Rattle.sd_disk.specs.Reads.{OnlyReads};
@@ -7,11 +9,14 @@ ghost use Rattle.sd_journal.specs.Receipts.{Accounts, IsFault};
 ghost use Rattle.sd_world.specs.Opens.{HasNoFrame, IsFaultOf};
 ghost use Rattle.sd_shared.specs.Told.{IsRefusedAtOnce, ends_job, seats_from_0};
 
+use crate::crew::Crew;
 use crate::driving::{drive, go_on};
 use crate::hands::Hands;
 use crate::hold::Hold;
 use crate::job::Job;
 use crate::making::make;
+use crate::next::Next;
+use crate::relayed_dump::RelayedDump;
 use crate::seat::Seat;
 use crate::settling::settle;
 use crate::thaw::Thaw;
@@ -20,13 +25,19 @@ use sd_core::{Core, Taken};
 use sd_disk::Disk;
 use sd_gate::{Outcome, Request, Worker, perform};
 use sd_journal::{CloseFault, Receipt};
+use sd_relay::relay;
 use sd_world::{OpenError, OpenFault, World};
 use std::alloc::{AllocError, Global};
 use std::sync::{Condvar, Mutex, Wait};
+use std::thread::Threads;
+
+/// How many writers a checkpoint may have at most.
+const MOST_WRITERS: usize = 8;
 
 /// A core behind one lock and its disk behind another. No thread holds both.
 #[derive(Drop)]
 pub struct Shared<D: Drop> {
+    alloc: Global,
     core: Mutex<Core>,
     disk: Mutex<D>,
     thawed: Condvar,
@@ -46,6 +57,17 @@ fn seats_of(alloc: Global, count: usize) -> Result<Vec<Seat>, AllocError>
         seats.push(Seat { number })?;
     }
     Ok(seats)
+}
+
+/// The last reply of a checkpoint, of which an outcome may have been refused that a writer handed in.
+fn last_of(last: Reply, refused: Option<Refusal>) -> Reply
+    requires { ends_job last ≡ true }
+    ensures { ends_job result ≡ true }
+{
+    match (last, refused) {
+        (Reply::Refused(_), Some(why)) => Reply::Refused(why),
+        (last, _) => last,
+    }
 }
 
 impl<D: Disk + Drop> Shared<D> {
@@ -77,6 +99,7 @@ impl<D: Disk + Drop> Shared<D> {
             });
         };
         let shared = Shared {
+            alloc,
             core: Mutex::new(core),
             disk: Mutex::new(disk),
             thawed: Condvar::new(),
@@ -137,6 +160,40 @@ impl<D: Disk + Drop> Shared<D> {
         ensures over { ends_job result ≡ true }
     {
         self.run(rt, Worker::Dumper, rounds, hold)
+    }
+
+    /// Begins a checkpoint of so many rounds and makes it, beside the seats, as `run_dumper` does. Its writes of data pages
+    /// are made by so many writers, 1 to 8, each in a thread of its own, up to eight at once; this thread makes every other
+    /// device call, and all of them where no thread can be made. The hold is called before each device call with its number,
+    /// counted from 1 in the order in which they were taken up.
+    ///
+    /// Returns the last reply; or the refusal of an outcome that a writer handed in, where the checkpoint ended by it.
+    ///
+    /// # Errors
+    ///
+    /// `Einval` where there are no writers or over 8 of them, and `OutOfMemory` where the writers' channel finds no memory:
+    /// nothing was begun. Else as `run_dumper`.
+    pub fn run_relay<R: Threads + Wait + Sync, H: Hold + Sync>(
+        &self,
+        rt: &R,
+        rounds: u64,
+        writers: usize,
+        hold: &H,
+    ) -> Reply
+    where
+        D: Send,
+        ensures over { ends_job result ≡ true }
+        ensures refused { (writers ≡ 0) ⊎ (8 < writers) → result ≡ reply.Refused Einval }
+    {
+        if writers == 0 || MOST_WRITERS < writers {
+            return Reply::Refused(Refusal::Einval);
+        }
+        let crew = Crew::new(rt, self, hold);
+        let mut dump = RelayedDump::new(&crew, rounds);
+        match relay(rt, self.alloc, writers, &mut dump, &crew) {
+            Ok(_) => last_of(dump.into_last(), crew.into_refused()),
+            Err(_) => Reply::Refused(Refusal::OutOfMemory),
+        }
     }
 
     /// Begins a merge and makes it. Returns the last reply.
@@ -224,9 +281,36 @@ impl<D: Disk + Drop> Shared<D> {
         taken
     }
 
+    /// What is next of the checkpoint that runs.
+    pub(crate) fn take_up_dumper(&self, rt: &impl Wait) -> Next {
+        let mut core = self.core.lock(rt);
+        let taken = core.take_up(Worker::Dumper);
+        self.wake(&core);
+        match taken {
+            Taken::Step(reply) => Next::Step(reply),
+            Taken::Call(request) if core.is_page_write(&request.id()) => Next::PageWrite(request),
+            Taken::Call(request) => Next::Call(request),
+        }
+    }
+
+    /// Makes a device call and hands its outcome in. The hold is called before it, with its number and without a lock.
+    pub(crate) fn call_device(
+        &self,
+        rt: &impl Wait,
+        hold: &impl Hold,
+        number: u64,
+        request: Request,
+    ) -> Reply {
+        hold.before(number);
+        match self.perform(rt, request) {
+            Some(outcome) => self.hand_in(rt, outcome),
+            None => Reply::Refused(Refusal::Device),
+        }
+    }
+
     /// Makes a device call, where its slot is one of the disk's. The core asks for no other, which no clause can say of a
     /// core behind a lock.
-    pub(crate) fn perform(&self, rt: &impl Wait, request: Request) -> Option<Outcome> {
+    fn perform(&self, rt: &impl Wait, request: Request) -> Option<Outcome> {
         let mut disk = self.disk.lock(rt);
         if request.id().slot < disk.slots() {
             Some(perform(&mut *disk, request))
@@ -236,7 +320,7 @@ impl<D: Disk + Drop> Shared<D> {
     }
 
     /// Hands an outcome in. It may end a freeze, or put the store down.
-    pub(crate) fn hand_in(&self, rt: &impl Wait, outcome: Outcome) -> Reply {
+    fn hand_in(&self, rt: &impl Wait, outcome: Outcome) -> Reply {
         let mut core = self.core.lock(rt);
         let reply = core.hand_in(outcome);
         self.wake(&core);
@@ -255,11 +339,7 @@ impl<D: Disk + Drop> Shared<D> {
         ensures fault { IfErr result (λ fault. (core : CoreView)
             × IsFault 0 (reverse (history_of core)) receipts.now acks.now fault) }
     {
-        let Shared {
-            core,
-            disk,
-            thawed: _,
-        } = self;
+        let Shared { core, disk, .. } = self;
         settle(core.into_inner(), disk.into_inner(), receipts, acks)
     }
 }

@@ -127,7 +127,7 @@ impl ListRoom {
         catalog: &Catalog,
         dumper: &Dumper,
         merger: &Merger,
-        outs: &[Option<RequestId>; 3],
+        outs: &[Option<RequestId>],
     ) -> Vec<Retired>
         ensures { IsListOf catalog.now dumper.now.running merger.now outs.now self result.items }
     {

@@ -61,7 +61,7 @@ fn slot_of(out: &Option<RequestId>) -> Option<usize>
 }
 
 /// Marks the slots on which requests are out.
-fn take_outs(marks: &mut Vec<bool>, outs: &[Option<RequestId>; 3])
+fn take_outs(marks: &mut Vec<bool>, outs: &[Option<RequestId>])
     ensures { Takes (IsOutAt outs.now) marks.old.items marks.new.items }
 {
     for out in outs {
@@ -70,7 +70,7 @@ fn take_outs(marks: &mut Vec<bool>, outs: &[Option<RequestId>; 3])
 }
 
 /// Marks the slots of jobs, and those on which requests are out.
-fn take_jobs(marks: &mut Vec<bool>, dumper: &Dumper, merger: &Merger, outs: &[Option<RequestId>; 3])
+fn take_jobs(marks: &mut Vec<bool>, dumper: &Dumper, merger: &Merger, outs: &[Option<RequestId>])
     ensures { Takes (IsReservedBy dumper.now.running merger.now outs.now) marks.old.items marks.new.items }
 {
     take_all(marks, dumper.pre_dump_slots());
@@ -86,7 +86,7 @@ pub(crate) fn mark_taken(
     catalog: &Catalog,
     dumper: &Dumper,
     merger: &Merger,
-    outs: &[Option<RequestId>; 3],
+    outs: &[Option<RequestId>],
 )
     requires { IsUnmarked marks.old.items }
     ensures { AreTaken catalog.now dumper.now.running merger.now outs.now (length marks.old.items) marks.new.items }
@@ -107,7 +107,7 @@ pub fn free_in(
     catalog: &Catalog,
     dumper: &Dumper,
     merger: &Merger,
-    outs: &[Option<RequestId>; 3],
+    outs: &[Option<RequestId>],
 ) -> Result<Vec<usize>, AllocError>
     ensures { IfOk result (λ slots. AreFree catalog.now dumper.now.running merger.now outs.now count slots.items) }
 {

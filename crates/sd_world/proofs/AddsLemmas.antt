@@ -1,5 +1,5 @@
 -- What each event adds to the journal, and where it leaves the disk.
-use Rattle.std.proofs.Common.{◌≡◌, ℕ, List, Some, slice_get, refl, sym, ◌∙◌, ap, subst, inl, inr}
+use Rattle.std.proofs.Common.{◌≡◌, ℕ, List, Some, slice_get, sym, ◌∙◌, ap, subst, inl, inr}
 use Rattle.sd_command.specs.declared.reply.Reply.{Reply}
 use Rattle.sd_command.specs.declared.reply.Reply.TheVariants as reply
 use Rattle.sd_disk.specs.Crash.{Within}
@@ -8,31 +8,19 @@ use Rattle.sd_disk.specs.declared.disk.Disk.{Ghosts}
 use Rattle.sd_gate.specs.declared.answer.Answer.{Answer}
 use Rattle.sd_gate.specs.declared.answer.Answer.TheVariants.{Done, Len, Failed}
 use Rattle.sd_gate.specs.declared.worker.Worker.{Worker}
-use Rattle.sd_gate.specs.declared.worker.Worker.TheVariants.{Dumper, Merger, Opener}
 use Rattle.sd_gate.specs.Requests.{Made}
 use Rattle.sd_journal.specs.History.{History}
 use Rattle.sd_belief.specs.Calls.{AddsByOutcome, AddsByStep, IsOut}
-use Rattle.sd_belief.specs.View.{CoreView, history_of, index}
+use Rattle.sd_belief.specs.View.{CoreView, history_of}
 use Rattle.sd_world.specs.declared.event.Event.{Event}
-use Rattle.sd_world.specs.declared.event.Event.TheVariants.{Command, Begin, Work, Perform, Merge, Cancel, Reopen}
-use Rattle.sd_world.specs.declared.kept.Kept.{Kept}
-use Rattle.sd_world.specs.declared.kept.Kept.TheVariants.{Nothing, Request, Outcome}
+use Rattle.sd_world.specs.declared.event.Event.TheVariants.{Command, Begin, Work, TakeUp, HandInAt, Perform, PerformAt, Merge, Cancel, Reopen}
+use Rattle.sd_world.specs.declared.kept.Kept.TheVariants.{Outcome}
 use Rattle.sd_world.specs.Adds.{Adds, AddsByPerform, AddsByWork}
 use Rattle.sd_world.specs.Consistent.{IsWorld}
-use Rattle.sd_world.specs.Steps.{Does, Performs, TakesUp, Works, reply_of}
+use Rattle.sd_world.specs.Steps.{Does, HandsInAt, HandsInIfAny, Performs, TakesUp, Works, reply_of}
 use Rattle.sd_world.specs.View.{WorldView, id_of}
+use Rattle.sd_world.proofs.KeptLemmas.{whose}
 use Rattle.sd_world.proofs.Lists.{get_map}
-
-pub same_worker : (a b : Worker) → index a ≡ index b → a ≡ b
-same_worker Dumper Dumper e = refl
-same_worker Dumper Merger e = absurd cc
-same_worker Dumper Opener e = absurd cc
-same_worker Merger Dumper e = absurd cc
-same_worker Merger Merger e = refl
-same_worker Merger Opener e = absurd cc
-same_worker Opener Dumper e = absurd cc
-same_worker Opener Merger e = absurd cc
-same_worker Opener Opener e = refl
 
 adds_by_step : (worker : Worker) (core : CoreView) (answer : Reply) (old new : History) → AddsByStep worker core answer old new
     → AddsByWork worker core answer old new
@@ -70,12 +58,9 @@ adds_by_perform (Len len) old new same = same
 adds_by_perform Failed old new same = same
 
 module _ {D : Type 0} (g : Ghosts D) (old new : WorldView D) (world : IsWorld g old) where
-  pub own_worker : (worker : Worker) (made : Made) → slice_get old.kept (index worker) ≡ Some (Outcome made) → index made.request.id.worker ≡ index worker
-  own_worker worker made at = world.places.own (index worker) (Outcome made) made.request.id at refl
-
-  pub is_out : (worker : Worker) (made : Made) → slice_get old.kept (index worker) ≡ Some (Outcome made) → IsOut old.core made.request.id
-  is_out worker made at = ap (slice_get old.core.outs) (own_worker worker made at) ∙ ap (λ outs. slice_get outs (index worker)) world.outs
-      ∙ get_map id_of old.kept (index worker) (Outcome made) at
+  -- the outcome that is kept in a lane is out in it
+  pub is_out : (lane : ℕ) (made : Made) → slice_get old.kept lane ≡ Some (Outcome made) → IsOut old.core made.request.id
+  is_out lane made at = record { lane = lane; is = ap (λ outs. slice_get outs lane) world.outs ∙ get_map id_of old.kept lane (Outcome made) at }
 
   -- ---- the journal
 
@@ -85,30 +70,39 @@ module _ {D : Type 0} (g : Ghosts D) (old new : WorldView D) (world : IsWorld g 
   taken_adds worker answer (TakesUp.call request hands job left worked) =
       subst (λ a. AddsByWork worker old.core a (history_of old.core) (history_of new.core)) (sym worked) (inl hands.history)
 
-  work_adds : (first : Kept) (worker : Worker) (answer : Reply) → slice_get old.kept (index worker) ≡ Some first
-      → Works first worker old.core old.kept answer new.core new.kept → AddsByWork worker old.core answer (history_of old.core) (history_of new.core)
-  work_adds Nothing worker answer at works = taken_adds worker answer works
-  work_adds (Request request) worker answer at works =
-      subst (λ a. AddsByWork worker old.core a (history_of old.core) (history_of new.core)) (sym works.refused) (ap history_of works.core)
-  work_adds (Outcome made) worker answer at works =
-      let handed = works.handed (is_out worker made at) in
+  handed_adds : (worker : Worker) (place : ℕ) (answer : Reply) → HandsInAt worker place old.core old.kept answer new.core new.kept
+      → AddsByWork worker old.core answer (history_of old.core) (history_of new.core)
+  handed_adds worker place answer hands =
+      let handed = hands.hands.handed (is_out hands.lane hands.made hands.is) in
       adds_by_outcome worker old.core answer (history_of old.core) (history_of new.core)
-      (subst (λ w. AddsByOutcome w answer (history_of old.core) (history_of new.core))
-      (same_worker made.request.id.worker worker (own_worker worker made at)) handed.adds)
+      (subst (λ w. AddsByOutcome w answer (history_of old.core) (history_of new.core)) (whose old.kept worker place hands.lane hands.made hands.at hands.is) handed.adds)
 
-  perform_adds : (first : Kept) (worker : Worker) (answer : Reply) → Performs g first worker old.disk old.kept answer new.disk new.kept → new.core ≡ old.core
+  work_adds : (worker : Worker) (answer : Reply) → Works worker old.core old.kept answer new.core new.kept
+      → AddsByWork worker old.core answer (history_of old.core) (history_of new.core)
+  work_adds worker answer (Works.hands_in hands) = handed_adds worker 0 answer hands
+  work_adds worker answer (Works.takes_up none takes) = taken_adds worker answer takes
+
+  hand_in_adds : (worker : Worker) (place : ℕ) (answer : Reply) → HandsInIfAny worker place old.core old.kept answer new.core new.kept
+      → AddsByWork worker old.core answer (history_of old.core) (history_of new.core)
+  hand_in_adds worker place answer (HandsInIfAny.hands_in hands) = handed_adds worker place answer hands
+  hand_in_adds worker place answer (HandsInIfAny.none none idle) =
+      subst (λ a. AddsByWork worker old.core a (history_of old.core) (history_of new.core)) (sym idle.refused) (ap history_of idle.core)
+
+  perform_adds : (worker : Worker) (place : ℕ) (answer : Reply) → Performs g worker place old.disk old.kept answer new.disk new.kept → new.core ≡ old.core
       → AddsByPerform answer (history_of old.core) (history_of new.core)
-  perform_adds Nothing worker answer performs core = subst (λ a. AddsByPerform a (history_of old.core) (history_of new.core)) (sym performs.refused) (ap history_of core)
-  perform_adds (Outcome made) worker answer performs core = subst (λ a. AddsByPerform a (history_of old.core) (history_of new.core)) (sym performs.refused) (ap history_of core)
-  perform_adds (Request request) worker answer performs core =
-      subst (λ a. AddsByPerform a (history_of old.core) (history_of new.core)) (sym performs.replied)
-      (adds_by_perform performs.made.answer (history_of old.core) (history_of new.core) (ap history_of core))
+  perform_adds worker place answer (Performs.none none idle) core = subst (λ a. AddsByPerform a (history_of old.core) (history_of new.core)) (sym idle.refused) (ap history_of core)
+  perform_adds worker place answer (Performs.performs performs) core =
+      subst (λ a. AddsByPerform a (history_of old.core) (history_of new.core)) (sym performs.keeps.replied)
+      (adds_by_perform performs.keeps.made.answer (history_of old.core) (history_of new.core) (ap history_of core))
 
   pub step_adds : (event : Event) (answer : Reply) → Does g event old answer new → Adds event answer old.core new.core
   step_adds (Command seat command) answer does = does.1
   step_adds (Begin rounds) answer does = does.1
-  step_adds (Work worker) answer does = work_adds does.works.first worker answer does.works.is does.works.works
-  step_adds (Perform worker) answer does = perform_adds does.performs.first worker answer does.performs.performs does.core
+  step_adds (Work worker) answer does = work_adds worker answer does.works
+  step_adds (TakeUp worker) answer does = taken_adds worker answer does.takes
+  step_adds (HandInAt worker place) answer does = hand_in_adds worker place answer does.hands
+  step_adds (Perform worker) answer does = perform_adds worker 0 answer does.performs does.core
+  step_adds (PerformAt worker place) answer does = perform_adds worker place answer does.performs does.core
   step_adds Merge answer does = does.1
   step_adds Cancel answer does = does.1
   step_adds Reopen answer does = does.1
@@ -119,34 +113,44 @@ module _ {D : Type 0} (g : Ghosts D) (old new : WorldView D) (world : IsWorld g 
   taken_base worker answer (TakesUp.step makes job left) = elim makes.keeps [ inl stays ↦ stays.base | inr anew ↦ anew.base ]
   taken_base worker answer (TakesUp.call request hands job left worked) = hands.base
 
-  work_base : (first : Kept) (worker : Worker) (answer : Reply) → slice_get old.kept (index worker) ≡ Some first
-      → Works first worker old.core old.kept answer new.core new.kept → new.core.base ≡ old.core.base
-  work_base Nothing worker answer at works = taken_base worker answer works
-  work_base (Request request) worker answer at works = ap (λ (c : CoreView). c.base) works.core
-  work_base (Outcome made) worker answer at works = (works.handed (is_out worker made at)).base
+  handed_base : (worker : Worker) (place : ℕ) (answer : Reply) → HandsInAt worker place old.core old.kept answer new.core new.kept → new.core.base ≡ old.core.base
+  handed_base worker place answer hands = (hands.hands.handed (is_out hands.lane hands.made hands.is)).base
+
+  work_base : (worker : Worker) (answer : Reply) → Works worker old.core old.kept answer new.core new.kept → new.core.base ≡ old.core.base
+  work_base worker answer (Works.hands_in hands) = handed_base worker 0 answer hands
+  work_base worker answer (Works.takes_up none takes) = taken_base worker answer takes
+
+  hand_in_base : (worker : Worker) (place : ℕ) (answer : Reply) → HandsInIfAny worker place old.core old.kept answer new.core new.kept → new.core.base ≡ old.core.base
+  hand_in_base worker place answer (HandsInIfAny.hands_in hands) = handed_base worker place answer hands
+  hand_in_base worker place answer (HandsInIfAny.none none idle) = ap (λ (c : CoreView). c.base) idle.core
 
   pub step_base : (event : Event) (answer : Reply) → Does g event old answer new → new.core.base ≡ old.core.base
   step_base (Command seat command) answer does = does.0.stays.base
   step_base (Begin rounds) answer does = does.0.stays.base
-  step_base (Work worker) answer does = work_base does.works.first worker answer does.works.is does.works.works
+  step_base (Work worker) answer does = work_base worker answer does.works
+  step_base (TakeUp worker) answer does = taken_base worker answer does.takes
+  step_base (HandInAt worker place) answer does = hand_in_base worker place answer does.hands
   step_base (Perform worker) answer does = ap (λ (c : CoreView). c.base) does.core
+  step_base (PerformAt worker place) answer does = ap (λ (c : CoreView). c.base) does.core
   step_base Merge answer does = does.0.stays.base
   step_base Cancel answer does = does.0.stays.base
   step_base Reopen answer does = does.0.stays.base
 
   -- ---- the disk
 
-  perform_honest : (first : Kept) (worker : Worker) (answer : Reply) → Performs g first worker old.disk old.kept answer new.disk new.kept
+  perform_honest : (worker : Worker) (place : ℕ) (answer : Reply) → Performs g worker place old.disk old.kept answer new.disk new.kept
       → g.is_honest new.disk → g.is_honest old.disk
-  perform_honest Nothing worker answer performs = subst g.is_honest performs.disk
-  perform_honest (Outcome made) worker answer performs = subst g.is_honest performs.disk
-  perform_honest (Request request) worker answer performs = performs.performed.one_call.honest
+  perform_honest worker place answer (Performs.none none idle) = subst g.is_honest idle.disk
+  perform_honest worker place answer (Performs.performs performs) = performs.keeps.performed.one_call.honest
 
   pub step_honest : (event : Event) (answer : Reply) → Does g event old answer new → g.is_honest new.disk → g.is_honest old.disk
   step_honest (Command seat command) answer does = subst g.is_honest does.0.disk
   step_honest (Begin rounds) answer does = subst g.is_honest does.0.disk
   step_honest (Work worker) answer does = subst g.is_honest does.disk
-  step_honest (Perform worker) answer does = perform_honest does.performs.first worker answer does.performs.performs
+  step_honest (TakeUp worker) answer does = subst g.is_honest does.disk
+  step_honest (HandInAt worker place) answer does = subst g.is_honest does.disk
+  step_honest (Perform worker) answer does = perform_honest worker 0 answer does.performs
+  step_honest (PerformAt worker place) answer does = perform_honest worker place answer does.performs
   step_honest Merge answer does = subst g.is_honest does.0.disk
   step_honest Cancel answer does = subst g.is_honest does.0.disk
   step_honest Reopen answer does = subst g.is_honest does.0.disk
@@ -156,12 +160,11 @@ module _ {D : Type 0} (g : Ghosts D) (old new : WorldView D) (world : IsWorld g 
     no_call : new.disk ≡ old.disk → LeavesOnly g old.disk new.disk P
     no_call same = subst (λ d. LeavesOnly g old.disk d P) (sym same) (nothing_called g old.disk P (g.may_leave old.disk) only_now before)
 
-    perform_span : (first : Kept) (worker : Worker) (answer : Reply) → Performs g first worker old.disk old.kept answer new.disk new.kept
+    perform_span : (worker : Worker) (place : ℕ) (answer : Reply) → Performs g worker place old.disk old.kept answer new.disk new.kept
         → Within (g.may_leave new.disk) P → LeavesOnly g old.disk new.disk P
-    perform_span Nothing worker answer performs after = no_call performs.disk
-    perform_span (Outcome made) worker answer performs after = no_call performs.disk
-    perform_span (Request request) worker answer performs after =
-        one_call g old.disk old.disk new.disk P (g.may_leave new.disk) (no_call_yet) performs.performed.one_call.time after
+    perform_span worker place answer (Performs.none none idle) after = no_call idle.disk
+    perform_span worker place answer (Performs.performs performs) after =
+        one_call g old.disk old.disk new.disk P (g.may_leave new.disk) no_call_yet performs.keeps.performed.one_call.time after
       where
         no_call_yet : LeavesOnly g old.disk old.disk P
         no_call_yet = nothing_called g old.disk P (g.may_leave old.disk) only_now before
@@ -172,7 +175,10 @@ module _ {D : Type 0} (g : Ghosts D) (old new : WorldView D) (world : IsWorld g 
     step_span (Command seat command) answer does after = no_call does.0.disk
     step_span (Begin rounds) answer does after = no_call does.0.disk
     step_span (Work worker) answer does after = no_call does.disk
-    step_span (Perform worker) answer does after = perform_span does.performs.first worker answer does.performs.performs (after does.core)
+    step_span (TakeUp worker) answer does after = no_call does.disk
+    step_span (HandInAt worker place) answer does after = no_call does.disk
+    step_span (Perform worker) answer does after = perform_span worker 0 answer does.performs (after does.core)
+    step_span (PerformAt worker place) answer does after = perform_span worker place answer does.performs (after does.core)
     step_span Merge answer does after = no_call does.0.disk
     step_span Cancel answer does after = no_call does.0.disk
     step_span Reopen answer does after = no_call does.0.disk

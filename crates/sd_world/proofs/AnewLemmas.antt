@@ -1,5 +1,5 @@
 -- What is so of every world stays so where a store was read again.
-use Rattle.std.proofs.Common.{◌≡◌, ℕ, ◌<◌, List, [], map, drop, length, Option, Some, None, slice_get, slice_index_or, sym, ◌∙◌, ap, subst}
+use Rattle.std.proofs.Common.{◌≡◌, ℕ, ◌<◌, List, [], map, drop, length, Option, Some, slice_get, slice_index_or, sym, ◌∙◌, ap, subst}
 use Rattle.std.proofs.lemmas.Option.{get_or_from_slice_get, slice_get-get_or, slice_get_within}
 use Rattle.sd_disk.specs.Contents.{file_at}
 use Rattle.sd_disk.specs.declared.disk.Disk.{Ghosts}
@@ -8,31 +8,17 @@ use Rattle.sd_gate.specs.declared.phase.Phase.TheVariants.{Raw}
 use Rattle.sd_gate.specs.declared.request_id.RequestId.{RequestId}
 use Rattle.sd_gate.specs.Fits.{SlotFits, DiskLeaves}
 use Rattle.sd_gate.specs.Laws.{found_phase}
-use Rattle.sd_gate.specs.Requests.{Asked}
 use Rattle.sd_store_laws.specs.GateSteps.{SyncedIsFound}
 use Rattle.sd_belief.specs.Calls.{NoneOut, StartsAnew}
 use Rattle.sd_belief.specs.Knows.{IsRefound}
 use Rattle.sd_belief.specs.View.{CoreView}
 use Rattle.sd_world.specs.declared.kept.Kept.{Kept}
-use Rattle.sd_world.specs.declared.kept.Kept.TheVariants.{Nothing, Request, Outcome}
-use Rattle.sd_world.specs.Consistent.{IsConsistent, IsWorld, body_now, outcome_on, phase_now}
+use Rattle.sd_world.specs.declared.kept.Kept.TheVariants.{Outcome}
+use Rattle.sd_world.specs.Consistent.{IsConsistent, IsWorld, SlotNow, slot_now}
 use Rattle.sd_world.specs.View.{asked_of, id_of}
-use Rattle.sd_world.proofs.KeptLemmas.{free_none}
+use Rattle.sd_world.proofs.KeptLemmas.{asked_id_of, free_now}
 use Rattle.sd_world.proofs.Lists.{get_map, map_get}
-
--- what is asked has an id
-asked_id : (k : Kept) (request : Asked) → asked_of k ≡ Some request → id_of k ≡ Some request.id
-asked_id Nothing request is = absurd cc
-asked_id (Request r) request is = ap (λ o. id_in o) is
-  where
-    id_in : Option Asked → Option RequestId
-    id_in None = None
-    id_in (Some q) = Some q.id
-asked_id (Outcome made) request is = ap (λ o. id_in o) is
-  where
-    id_in : Option Asked → Option RequestId
-    id_in None = None
-    id_in (Some q) = Some q.id
+use Rattle.sd_world.proofs.Worlds.{Fits, slot_as}
 
 module _ {D : Type 0} (g : Ghosts D) (disk : D) (old new : CoreView) (kept : List Kept) (anew : StartsAnew old new)
     (world : IsWorld g (record { core = old; disk = disk; kept = kept })) where
@@ -45,16 +31,15 @@ module _ {D : Type 0} (g : Ghosts D) (disk : D) (old new : CoreView) (kept : Lis
   none_asked : NoneOut (map asked_of kept)
   none_asked worker request is =
       let at = map_get asked_of kept worker (Some request) is in
-      idle worker request.id (get_map id_of kept worker at.0 at.1 ∙ ap Some (asked_id at.0 request at.2))
+      idle worker request.id (get_map id_of kept worker at.0 at.1 ∙ ap Some (asked_id_of at.0 request at.2))
 
-  none_kept : (slot : ℕ) → outcome_on kept slot ≡ None
-  none_kept slot = free_none kept slot (λ worker id is. absurd (idle worker id is))
+  none_kept : (slot : ℕ) (now : SlotNow) → slot_now kept slot now ≡ now
+  none_kept slot now = free_now kept slot now (λ lane id is. absurd (idle lane id is))
 
   module _ (was : IsConsistent g (record { core = old; disk = disk; kept = kept })) where
     fits : (slot : ℕ) (phase : Phase) → slice_get old.phases slot ≡ Some phase
         → SlotFits phase (file_at was.bodies slot) slot (g.contents disk) (g.may_leave disk)
-    fits slot phase is = subst (λ o. SlotFits (phase_now o phase) (body_now o (file_at was.bodies slot)) slot (g.contents disk) (g.may_leave disk))
-        (none_kept slot) (was.stands slot phase is)
+    fits slot phase is = subst (Fits (g.contents disk) (g.may_leave disk) slot) (none_kept slot (slot_as phase (file_at was.bodies slot))) (was.stands slot phase is)
 
     left : g.may_leave disk (g.contents disk) → DiskLeaves old.phases was.bodies (g.contents disk)
     left as_read = record { count = world.count; each = λ slot phase is. (fits slot phase is).leaves (g.contents disk) as_read }
@@ -65,8 +50,7 @@ module _ {D : Type 0} (g : Ghosts D) (disk : D) (old new : CoreView) (kept : Lis
     stands_anew : ((slot : ℕ) (phase : Phase) → slice_get old.phases slot ≡ Some phase → IsRefound phase)
         → SyncedIsFound (g.contents disk) (g.may_leave disk) → new.phases ≡ map found_phase (g.contents disk)
         → (slot : ℕ) (phase : Phase) → slice_get new.phases slot ≡ Some phase
-        → SlotFits (phase_now (outcome_on kept slot) phase) (body_now (outcome_on kept slot) (file_at (map (drop 1) (g.contents disk)) slot)) slot
-        (g.contents disk) (g.may_leave disk)
+        → Fits (g.contents disk) (g.may_leave disk) slot (slot_now kept slot (slot_as phase (file_at (map (drop 1) (g.contents disk)) slot)))
     stands_anew refounds found phases slot phase is =
         let contents = g.contents disk in
         let at = map_get found_phase contents slot phase (ap (λ all. slice_get all slot) (sym phases) ∙ is) in
@@ -78,7 +62,7 @@ module _ {D : Type 0} (g : Ghosts D) (disk : D) (old new : CoreView) (kept : Lis
         let before = slice_index_or old.phases slot Raw in
         let it : SlotFits (found_phase (file_at contents slot)) (drop 1 (file_at contents slot)) slot contents (g.may_leave disk) =
         found before (file_at was.bodies slot) slot (refounds slot before there) (fits slot before there) in
-        subst (λ o. SlotFits (phase_now o phase) (body_now o (file_at (map (drop 1) contents) slot)) slot contents (g.may_leave disk)) (sym (none_kept slot))
+        subst (Fits contents (g.may_leave disk) slot) (sym (none_kept slot (slot_as phase (file_at (map (drop 1) contents) slot))))
         (subst (λ b. SlotFits phase b slot contents (g.may_leave disk)) (sym same_body)
         (subst (λ p. SlotFits p (drop 1 (file_at contents slot)) slot contents (g.may_leave disk)) (ap found_phase same_file ∙ at.2) it))
 

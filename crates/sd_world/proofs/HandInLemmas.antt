@@ -7,41 +7,26 @@ use Rattle.sd_command.specs.declared.reply.Reply.{Reply}
 use Rattle.sd_disk.specs.Contents.{file_at}
 use Rattle.sd_disk.specs.declared.disk.Disk.{Ghosts}
 use Rattle.sd_gate.specs.declared.phase.Phase.{Phase}
-use Rattle.sd_gate.specs.declared.worker.Worker.{Worker}
-use Rattle.sd_gate.specs.Calls.{is_done}
-use Rattle.sd_gate.specs.Fits.{SlotFits}
-use Rattle.sd_gate.specs.Laws.{GivenUpFits}
+use Rattle.sd_gate.specs.Calls.{IsLook, is_done}
+use Rattle.sd_gate.specs.Fits.{Reads}
+use Rattle.sd_gate.specs.Laws.{GivenUpFits, WritesCommute}
 use Rattle.sd_gate.specs.Phases.{after as phase_after, body_after, bodies_after, phases_after}
 use Rattle.sd_gate.specs.Requests.{Made}
 use Rattle.sd_belief.specs.Believes.{Believes}
 use Rattle.sd_belief.specs.Calls.{AreGivenUp, HandedIn, IsOut}
-use Rattle.sd_belief.specs.View.{CoreView, index}
+use Rattle.sd_belief.specs.InUse.{IsPageOf}
+use Rattle.sd_belief.specs.View.{CoreView}
 use Rattle.sd_world.specs.declared.kept.Kept.{Kept}
 use Rattle.sd_world.specs.declared.kept.Kept.TheVariants.{Nothing, Outcome}
-use Rattle.sd_world.specs.Consistent.{AreInPlace, IsWorld, body_now, outcome_on, phase_now}
+use Rattle.sd_world.specs.Consistent.{AreInPlace, IsWorld, slot_now}
 use Rattle.sd_world.specs.View.{asked_of, id_of}
-use Rattle.sd_world.proofs.KeptLemmas.{cleared_places, is_set, its_own, nothing_on, outcome_at, outcome_off, set_elsewhere, which}
+use Rattle.sd_world.proofs.KeptLemmas.{alone_now, beside_of, cleared_places, handed_now, is_set, lane_cases, nothing_on, outcome_off, set_elsewhere}
 use Rattle.sd_world.proofs.Lists.{get_map, get_set_other, get_set_same, map_set}
-use Rattle.sd_world.proofs.Worlds.{Stand, stand_given_up}
+use Rattle.sd_world.proofs.Worlds.{Fits, Stand, slot_as, stand_given_up}
 
-nothing_made : (made : Made) → Outcome made ≡ Nothing → ⊥
-nothing_made made is = cc
-
-module _ (kept : List Kept) (slots : ℕ) (worker : Worker) (made : Made) (at : slice_get kept (index worker) ≡ Some (Outcome made)) (places : AreInPlace kept slots) where
+module _ (law : WritesCommute) (kept : List Kept) (slots lane : ℕ) (made : Made) (at : slice_get kept lane ≡ Some (Outcome made)) (places : AreInPlace kept slots) where
   abbrev pub now : List Kept
-  now = slice_set kept (index worker) Nothing
-
-  -- no outcome is on its slot any more
-  cleared_none : outcome_on now made.request.id.slot ≡ None
-  cleared_none = elim (which now made.request.id.slot) [
-    | inl none ↦ none
-    | inr (other, is) ↦
-        let there = outcome_at now made.request.id.slot other is in
-        elim (is_set kept (index worker) (Outcome made) Nothing at there.worker (Outcome other) there.at).either [
-          | inl (same, gone) ↦ absurd (nothing_made other gone)
-          | inr (differs, was) ↦ absurd (differs (places.apart there.worker (index worker) (Outcome other) (Outcome made) other.request.id made.request.id was at refl refl there.on))
-        ]
-  ]
+  now = slice_set kept lane Nothing
 
   -- its slot is in the phase that followed, with the body that followed, and the others are as they were
   stand_handed : (contents : List (List ℕ)) (may_leave : List (List ℕ) → Type 0) (phases : List Phase) (bodies : List (List ℕ)) (phase : Phase)
@@ -57,63 +42,69 @@ module _ (kept : List Kept) (slots : ℕ) (worker : Worker) (made : Made) (at : 
         | inl same ↦
             let within : id.slot < length bodies = subst (λ n. id.slot < n) (sym stored) (slice_get_within phases id.slot phase here) in
             let it : new ≡ next = same_Some new next (sym is ∙ ap (slice_get (slice_set phases id.slot next)) same ∙ get_set_same phases id.slot phase next here) in
-            let fits : SlotFits next body id.slot contents may_leave =
-            subst (λ o. SlotFits (phase_now o phase) (body_now o (file_at bodies id.slot)) id.slot contents may_leave)
-            (its_own kept slots (index worker) made places at) (stand id.slot phase here) in
-            let plain : SlotFits new (file_at filled id.slot) id.slot contents may_leave =
-            subst (λ p. SlotFits p (file_at filled id.slot) id.slot contents may_leave) (sym it)
-            (subst (λ b. SlotFits next b id.slot contents may_leave) (sym (get_or-set_same bodies id.slot body [] within)) fits) in
-            subst (λ s. SlotFits (phase_now (outcome_on now s) new) (body_now (outcome_on now s) (file_at filled s)) s contents may_leave) (sym same)
-            (subst (λ o. SlotFits (phase_now o new) (body_now o (file_at filled id.slot)) id.slot contents may_leave) (sym cleared_none) plain)
+            let fits : Fits contents may_leave id.slot (slot_now now id.slot (slot_as next body)) =
+            subst (Fits contents may_leave id.slot) (sym (handed_now law kept lane id.slot (slot_as phase (file_at bodies id.slot)) made at refl (beside_of kept slots lane (Outcome made) made places at refl)))
+            (stand id.slot phase here) in
+            subst (λ s. Fits contents may_leave s (slot_now now s (slot_as new (file_at filled s)))) (sym same)
+            (subst (λ p. Fits contents may_leave id.slot (slot_now now id.slot (slot_as p (file_at filled id.slot)))) (sym it)
+            (subst (λ b. Fits contents may_leave id.slot (slot_now now id.slot (slot_as next b))) (sym (get_or-set_same bodies id.slot body [] within)) fits))
         | inr differs ↦
-            let as_before : outcome_on now slot ≡ outcome_on kept slot =
-            set_elsewhere kept (index worker) (Outcome made) Nothing slot at (outcome_off made slot (λ on. differs (sym on))) (nothing_on slot) in
             let was : slice_get phases slot ≡ Some new = sym (get_set_other phases id.slot slot next differs) ∙ is in
-            subst (λ o. SlotFits (phase_now o new) (body_now o (file_at filled slot)) slot contents may_leave) (sym as_before)
-            (subst (λ b. SlotFits (phase_now (outcome_on kept slot) new) (body_now (outcome_on kept slot) b) slot contents may_leave)
+            subst (Fits contents may_leave slot) (sym (set_elsewhere kept lane (Outcome made) Nothing slot (slot_as new (file_at filled slot)) at
+            (outcome_off made slot (λ on. differs (sym on))) (nothing_on slot)))
+            (subst (λ b. Fits contents may_leave slot (slot_now kept slot (slot_as new b)))
             (sym (get_or-set_other bodies id.slot slot body [] differs)) (stand slot new was))
       ]
 
-pub handed_world : {D : Type 0} (g : Ghosts D) (disk : D) (old new : CoreView) (kept : List Kept) (worker : Worker) (made : Made) (answer : Reply)
-    → slice_get kept (index worker) ≡ Some (Outcome made) → GivenUpFits (g.contents disk) (g.may_leave disk)
-    → (IsOut old made.request.id → HandedIn old made answer new)
+  -- a call that only looks is alone on its slot
+  look_reads : (contents : List (List ℕ)) (may_leave : List (List ℕ) → Type 0) (phases : List Phase) (bodies : List (List ℕ)) (phase : Phase)
+      → IsLook made.request.id.call → slice_get phases made.request.id.slot ≡ Some phase → Stand contents may_leave phases kept bodies
+      → Reads (phase_after phase made.request.id.call (is_done made.answer))
+      (body_after (file_at bodies made.request.id.slot) made.request.id.call made.request.bytes) (file_at contents made.request.id.slot)
+  look_reads contents may_leave phases bodies phase looks here stand = elim (lane_cases lane) [
+    | inl few ↦ (subst (Fits contents may_leave made.request.id.slot)
+        (alone_now kept slots lane made (slot_as phase (file_at bodies made.request.id.slot)) law places at few) (stand made.request.id.slot phase here)).reads
+    | inr some ↦
+        let page : IsPageOf made.request.id.slot made.request = places.pages lane (Outcome made) made.request at refl some in
+        absurd (subst IsLook page.call looks)
+  ]
+
+pub handed_world : {D : Type 0} (g : Ghosts D) (disk : D) (old new : CoreView) (kept : List Kept) (lane : ℕ) (made : Made) (answer : Reply)
+    → WritesCommute → slice_get kept lane ≡ Some (Outcome made) → GivenUpFits (g.contents disk) (g.may_leave disk)
+    → ((out : IsOut old made.request.id) → HandedIn old out.lane made answer new)
     → IsWorld g (record { core = old; disk = disk; kept = kept })
-    → IsWorld g (record { core = new; disk = disk; kept = slice_set kept (index worker) Nothing })
-handed_world g disk old new kept worker made answer at gives handed world =
+    → IsWorld g (record { core = new; disk = disk; kept = slice_set kept lane Nothing })
+handed_world g disk old new kept lane made answer law at gives handed world =
     let id = made.request.id in
-    let i = index worker in
-    let later = slice_set kept i Nothing in
+    let later = slice_set kept lane Nothing in
     let contents = g.contents disk in
-    let own : index id.worker ≡ i = world.places.own i (Outcome made) id at refl in
-    let h = handed (ap (slice_get old.outs) own ∙ ap (λ outs. slice_get outs i) world.outs ∙ get_map id_of kept i (Outcome made) at) in
+    let h = handed (record { lane = lane; is = ap (λ outs. slice_get outs lane) world.outs ∙ get_map id_of kept lane (Outcome made) at }) in
     let outs : new.outs ≡ map id_of later =
-    h.outs ∙ ap (λ j. slice_set old.outs j None) own ∙ ap (λ all. slice_set all i None) world.outs ∙ sym (map_set id_of kept i Nothing) in
+    h.outs ∙ ap (λ all. slice_set all lane None) world.outs ∙ sym (map_set id_of kept lane Nothing) in
     record {
       count = world.count ∙ sym h.count;
       outs = outs;
-      places = cleared_places kept (length contents) i (Outcome made) at world.places;
+      places = cleared_places kept (length contents) lane (Outcome made) at world.places;
       consistent = λ honest.
           let was = world.consistent honest in
-          let asked_at : slice_get (map asked_of kept) i ≡ Some (Some made.request) = get_map asked_of kept i (Outcome made) at in
-          let cover = was.believes.has.waiting i made.request asked_at in
-          let own_outcome : outcome_on kept id.slot ≡ Some made = its_own kept (length contents) i made world.places at in
+          let asked_at : slice_get (map asked_of kept) lane ≡ Some (Some made.request) = get_map asked_of kept lane (Outcome made) at in
+          let cover = was.believes.has.waiting lane made.request asked_at in
           record {
             bodies = bodies_after was.bodies id made.request.bytes;
             believes = subst (λ asked. Believes new asked (bodies_after was.bodies id made.request.bytes) contents)
-                (ap (λ j. slice_set (map asked_of kept) j None) own ∙ sym (map_set asked_of kept i Nothing))
-                (h.goes_on (map asked_of kept) was.bodies contents (ap (slice_get (map asked_of kept)) own ∙ asked_at)
+                (sym (map_set asked_of kept lane Nothing))
+                (h.goes_on (map asked_of kept) was.bodies contents asked_at
                 (record {
-                  reads = λ phase waits. (subst (λ o. SlotFits (phase_now o phase) (body_now o (file_at was.bodies id.slot)) id.slot contents (g.may_leave disk))
-                      own_outcome (was.stands id.slot phase waits.is)).reads;
-                  told = was.told i made at;
+                  reads = λ looks phase waits. look_reads law kept (length contents) lane made at world.places contents (g.may_leave disk) old.phases was.bodies phase looks waits.is was.stands;
+                  told = was.told lane made at;
                 }) was.believes);
             stands = stand_given_up contents (g.may_leave disk) later (bodies_after was.bodies id made.request.bytes)
                 (phases_after old.phases id cover.phase (is_done made.answer)) new.phases gives
                 (subst (λ all. AreGivenUp all (phases_after old.phases id cover.phase (is_done made.answer)) new.phases) outs (h.phases cover.phase cover.waits))
-                (stand_handed kept (length contents) worker made at world.places contents (g.may_leave disk) old.phases was.bodies cover.phase
+                (stand_handed law kept (length contents) lane made at world.places contents (g.may_leave disk) old.phases was.bodies cover.phase
                 was.believes.has.stored cover.waits.is was.stands);
-            told = λ other m there. elim (is_set kept i (Outcome made) Nothing at other (Outcome m) there).either [
-              | inl (same, is) ↦ absurd (nothing_made m is)
+            told = λ other m there. elim (is_set kept lane (Outcome made) Nothing at other (Outcome m) there).either [
+              | inl (same, is) ↦ absurd (let no : Outcome m ≡ Nothing = is in cc)
               | inr (differs, before) ↦ was.told other m before
             ];
           };

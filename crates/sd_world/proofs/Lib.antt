@@ -2,6 +2,7 @@ mod Lists
 mod LowersLemmas
 mod Calls
 mod KeptLemmas
+mod FirstLemmas
 mod Worlds
 mod HandInLemmas
 mod PerformLemmas

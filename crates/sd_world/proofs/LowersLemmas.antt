@@ -1,22 +1,21 @@
 -- A worker's event lowers what is left of its job, unless it ends it or is refused.
-use Rattle.std.proofs.Common.{◌≡◌, Option, Some, None, slice_get, refl, sym, subst}
+use Rattle.std.proofs.Common.{◌≡◌, ℕ, Option, Some, None, refl, sym, subst}
 use Rattle.sd_command.specs.declared.refusal.Refusal.{Refusal}
-use Rattle.sd_command.specs.declared.refusal.Refusal.TheVariants.{Busy}
+use Rattle.sd_command.specs.declared.refusal.Refusal.TheVariants.{Idle}
 use Rattle.sd_command.specs.declared.reply.Reply.{Reply}
 use Rattle.sd_command.specs.declared.reply.Reply.TheVariants as reply
 use Rattle.sd_disk.specs.declared.disk.Disk.{Ghosts}
 use Rattle.sd_gate.specs.declared.worker.Worker.{Worker}
 use Rattle.sd_gate.specs.Requests.{Asked}
-use Rattle.sd_belief.specs.View.{CoreView, index}
+use Rattle.sd_belief.specs.View.{CoreView}
 use Rattle.sd_core.specs.declared.taken.Taken.TheVariants.{Step as StepTaken, Call as CallTaken}
 use Rattle.sd_core.specs.Refusals.{work_refusal}
 use Rattle.sd_core.specs.Working.{LeavesByOutcome, LeavesByStep, left_by}
-use Rattle.sd_world.specs.declared.kept.Kept.{Kept}
-use Rattle.sd_world.specs.declared.kept.Kept.TheVariants.{Nothing, Request, Outcome}
 use Rattle.sd_world.specs.Consistent.{IsWorld}
-use Rattle.sd_world.specs.Steps.{IsWork, LeavesLess, TakesUp, TurnsJob, Works}
+use Rattle.sd_world.specs.Steps.{HandsInAt, HandsInIfAny, IsHandIn, IsTakeUp, IsWork, LeavesLess, TakesUp, TurnsJob, Works}
 use Rattle.sd_world.specs.View.{WorldView}
-use Rattle.sd_world.proofs.AddsLemmas.{is_out, own_worker, same_worker}
+use Rattle.sd_world.proofs.AddsLemmas.{is_out}
+use Rattle.sd_world.proofs.KeptLemmas.{whose}
 
 by_step : (old : CoreView) (worker : Worker) (answer : Reply) (new : CoreView) → LeavesByStep old worker answer new → LeavesLess answer (left_by old worker) (left_by new worker)
 by_step old worker reply.Done new leaves = leaves
@@ -73,14 +72,29 @@ module _ {D : Type 0} (g : Ghosts D) (old new : WorldView D) (world : IsWorld g 
   taken_lowers worker answer (TakesUp.call request hands job left worked) =
       call_lowers old.core worker request answer new.core (work_refusal old.core worker) refl job worked
 
-  works_lowers : (first : Kept) (worker : Worker) (answer : Reply) → slice_get old.kept (index worker) ≡ Some first
-      → Works first worker old.core old.kept answer new.core new.kept → LeavesLess answer (left_by old.core worker) (left_by new.core worker)
-  works_lowers Nothing worker answer at works = taken_lowers worker answer works
-  works_lowers (Request request) worker answer at works = refused old.core worker answer new.core Busy works.refused
-  works_lowers (Outcome made) worker answer at works =
+  handed_lowers : (worker : Worker) (place : ℕ) (answer : Reply) → HandsInAt worker place old.core old.kept answer new.core new.kept
+      → LeavesLess answer (left_by old.core worker) (left_by new.core worker)
+  handed_lowers worker place answer hands =
       by_outcome old.core worker answer new.core
-      (subst (λ w. LeavesByOutcome old.core w answer new.core) (same_worker made.request.id.worker worker (own_worker g old new world worker made at))
-      (works.leaves (is_out g old new world worker made at)))
+      (subst (λ w. LeavesByOutcome old.core w answer new.core) (whose old.kept worker place hands.lane hands.made hands.at hands.is)
+      (hands.hands.leaves (is_out g old new world hands.lane hands.made hands.is)))
+
+  works_lowers : (worker : Worker) (answer : Reply) → Works worker old.core old.kept answer new.core new.kept
+      → LeavesLess answer (left_by old.core worker) (left_by new.core worker)
+  works_lowers worker answer (Works.hands_in hands) = handed_lowers worker 0 answer hands
+  works_lowers worker answer (Works.takes_up none takes) = taken_lowers worker answer takes
 
   pub work_lowers : (worker : Worker) (answer : Reply) → IsWork worker old answer new → LeavesLess answer (left_by old.core worker) (left_by new.core worker)
-  work_lowers worker answer work = works_lowers work.works.first worker answer work.works.is work.works.works
+  work_lowers worker answer work = works_lowers worker answer work.works
+
+  pub take_up_lowers : (worker : Worker) (answer : Reply) → IsTakeUp worker old answer new → LeavesLess answer (left_by old.core worker) (left_by new.core worker)
+  take_up_lowers worker answer it = taken_lowers worker answer it.takes
+
+  hand_in_lowers_by : (worker : Worker) (place : ℕ) (answer : Reply) → HandsInIfAny worker place old.core old.kept answer new.core new.kept
+      → LeavesLess answer (left_by old.core worker) (left_by new.core worker)
+  hand_in_lowers_by worker place answer (HandsInIfAny.hands_in hands) = handed_lowers worker place answer hands
+  hand_in_lowers_by worker place answer (HandsInIfAny.none none idle) = refused old.core worker answer new.core Idle idle.refused
+
+  pub hand_in_lowers : (worker : Worker) (place : ℕ) (answer : Reply) → IsHandIn worker place old answer new
+      → LeavesLess answer (left_by old.core worker) (left_by new.core worker)
+  hand_in_lowers worker place answer it = hand_in_lowers_by worker place answer it.hands

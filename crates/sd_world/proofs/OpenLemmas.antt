@@ -1,5 +1,5 @@
 -- Slots that are synced and looked at, one after the other.
-use Rattle.std.proofs.Common.{◌≡◌, ℕ, ◌+◌, ◌<◌, ◌≤◌, List, [], ◌∷◌, ◌++◌, map, take, length, Some, None, slice_get, zero, suc, refl, sym, ◌∙◌, ap, subst, inl, inr, arith}
+use Rattle.std.proofs.Common.{◌≡◌, ℕ, ◌+◌, ◌<◌, ◌≤◌, List, [], ◌∷◌, ◌++◌, map, take, length, Some, None, slice_get, replicate, zero, suc, refl, sym, ◌∙◌, ap, subst, inl, inr, arith}
 use Rattle.std.proofs.lemmas.Bool.{cases_eq}
 use Rattle.std.proofs.lemmas.List.{ext_get_or, map-append, take_more}
 use Rattle.std.proofs.lemmas.Option.{same_Some}
@@ -8,12 +8,11 @@ use Rattle.sd_disk.specs.Contents.{file_at}
 use Rattle.sd_disk.specs.Crash.{OnlyAt, Within}
 use Rattle.sd_gate.specs.declared.phase.Phase.{Phase}
 use Rattle.sd_gate.specs.Laws.{found_phase}
-use Rattle.sd_gate.specs.declared.request_id.RequestId.{RequestId}
-use Rattle.sd_gate.specs.Requests.{Made}
+use Rattle.sd_gate.specs.Requests.{Asked, Made}
 use Rattle.sd_world.specs.declared.kept.Kept.{Kept}
 use Rattle.sd_world.specs.declared.kept.Kept.TheVariants.{Nothing, Outcome}
 use Rattle.sd_world.specs.Consistent.{AreInPlace}
-use Rattle.sd_world.specs.View.{id_of}
+use Rattle.sd_world.specs.View.{asked_of, nothing_kept}
 use Rattle.sd_world.specs.declared.open_fault.OpenFault.{OpenFault}
 use Rattle.sd_world.specs.declared.open_fault.OpenFault.TheVariants.{NoFrame, Damaged, Device, OutOfMemory}
 use Rattle.sd_world.specs.Opens.{AreSynced, IsFaultOf, IsWantOf}
@@ -56,31 +55,27 @@ fault_of_want contents before now frames memory OutOfMemory is = tt
 
 -- ---- a world in which nothing is out
 
-abbrev pub nobody : List Kept
-nobody = Nothing ∷ Nothing ∷ Nothing ∷ []
+at_replicate : (count : ℕ) (lane : ℕ) (k : Kept) → slice_get (replicate count Nothing) lane ≡ Some k → k ≡ Nothing
+at_replicate zero lane k at = absurd (let no : None ≡ Some k = at in cc)
+at_replicate (suc count) zero k at = same_Some k Nothing (sym at)
+at_replicate (suc count) (suc lane) k at = at_replicate count lane k at
 
-pub at_nobody : (worker : ℕ) (k : Kept) → slice_get nobody worker ≡ Some k → k ≡ Nothing
-at_nobody zero k at = same_Some k Nothing (sym at)
-at_nobody (suc zero) k at = same_Some k Nothing (sym at)
-at_nobody (suc (suc zero)) k at = same_Some k Nothing (sym at)
-at_nobody (suc (suc (suc worker))) k at = absurd cc
-
-nothing_out : (worker : ℕ) (k : Kept) (id : RequestId) → slice_get nobody worker ≡ Some k → id_of k ≡ Some id → ⊥
-nothing_out worker k id at has =
-    let none : None ≡ Some id = sym (ap id_of (at_nobody worker k at)) ∙ has in
+nothing_out : (lane : ℕ) (k : Kept) (request : Asked) → slice_get nothing_kept lane ≡ Some k → asked_of k ≡ Some request → ⊥
+nothing_out lane k request at has =
+    let none : None ≡ Some request = sym (ap asked_of (at_replicate 11 lane k at)) ∙ has in
     cc
 
-pub nobody_places : (slots : ℕ) → AreInPlace nobody slots
+pub nobody_places : (slots : ℕ) → AreInPlace nothing_kept slots
 nobody_places slots = record {
-  three = refl;
-  own = λ worker k id at has. absurd (nothing_out worker k id at has);
-  range = λ worker k id at has. absurd (nothing_out worker k id at has);
-  apart = λ worker other j k m n at_j at_k has_m has_n on. absurd (nothing_out worker j m at_j has_m);
+  count = refl;
+  range = λ lane k request at has. absurd (nothing_out lane k request at has);
+  pages = λ lane k request at has some. absurd (nothing_out lane k request at has);
+  apart = λ one other j k a b at_j at_k has_a has_b on. absurd (nothing_out one j a at_j has_a);
 }
 
-pub nothing_made : (worker : ℕ) (made : Made) → slice_get nobody worker ≡ Some (Outcome made) → ⊥
-nothing_made worker made at =
-    let gone : Outcome made ≡ Nothing = at_nobody worker (Outcome made) at in
+pub nothing_made : (lane : ℕ) (made : Made) → slice_get nothing_kept lane ≡ Some (Outcome made) → ⊥
+nothing_made lane made at =
+    let gone : Outcome made ≡ Nothing = at_replicate 11 lane (Outcome made) at in
     cc
 
 -- where every slot was synced, a crash leaves the contents

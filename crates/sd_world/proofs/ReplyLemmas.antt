@@ -22,7 +22,7 @@ use Rattle.sd_belief.specs.Shown.{ShowsAllowed}
 use Rattle.sd_belief.specs.View.{CoreView, history_of}
 use Rattle.sd_gate.specs.declared.worker.Worker.{Worker}
 use Rattle.sd_world.specs.declared.event.Event.{Event}
-use Rattle.sd_world.specs.declared.event.Event.TheVariants.{Command as CommandEvent, Begin, Work, Perform, Merge, Cancel, Reopen}
+use Rattle.sd_world.specs.declared.event.Event.TheVariants.{Command as CommandEvent, Begin, Work, TakeUp, HandInAt, Perform, PerformAt, Merge, Cancel, Reopen}
 use Rattle.sd_world.specs.Adds.{Adds, AddsByCommand, AddsByPerform, AddsByWork}
 use Rattle.sd_world.specs.Runs.{ShowsFreeze, ShowsReply}
 
@@ -202,7 +202,12 @@ says (CommandEvent seat asked) answer old new contents adds legal allowed =
 says (Begin rounds) answer old new contents adds legal allowed = says_order new.base (history_of new) contents answer (history_of old) (history_of new) adds
 says (Work worker) answer old new contents adds legal allowed =
     says_work new.base contents worker old answer (history_of old) (history_of new) adds legal allowed
+says (TakeUp worker) answer old new contents adds legal allowed =
+    says_work new.base contents worker old answer (history_of old) (history_of new) adds legal allowed
+says (HandInAt worker place) answer old new contents adds legal allowed =
+    says_work new.base contents worker old answer (history_of old) (history_of new) adds legal allowed
 says (Perform worker) answer old new contents adds legal allowed = says_perform new.base (history_of new) contents answer (history_of old) (history_of new) adds
+says (PerformAt worker place) answer old new contents adds legal allowed = says_perform new.base (history_of new) contents answer (history_of old) (history_of new) adds
 says Merge answer old new contents adds legal allowed = says_order new.base (history_of new) contents answer (history_of old) (history_of new) adds
 says Cancel answer old new contents adds legal allowed = says_cancel new.base (history_of new) contents answer (history_of old) (history_of new) adds
 says Reopen answer old new contents adds legal allowed = says_order new.base (history_of new) contents answer (history_of old) (history_of new) adds

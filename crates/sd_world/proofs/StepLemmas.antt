@@ -1,27 +1,25 @@
 -- What each event does to a world.
-use Rattle.std.proofs.Common.{◌≡◌, Some, slice_get, slice_set, sym, subst, inl, inr}
+use Rattle.std.proofs.Common.{◌≡◌, ℕ, slice_set, sym, ◌∙◌, ap, subst, inl, inr}
 use Rattle.sd_command.specs.declared.reply.Reply.{Reply}
 use Rattle.sd_disk.specs.declared.disk.Disk.{Ghosts}
 use Rattle.sd_gate.specs.declared.worker.Worker.{Worker}
-use Rattle.sd_gate.specs.Laws.{GivenUpFits}
+use Rattle.sd_gate.specs.Laws.{GivenUpFits, WritesCommute}
 use Rattle.sd_store_laws.specs.GateSteps.{SyncedIsFound}
 use Rattle.sd_belief.specs.Laws.{PerformedIsBelieved}
-use Rattle.sd_belief.specs.View.{index}
 use Rattle.sd_world.specs.declared.event.Event.{Event}
-use Rattle.sd_world.specs.declared.event.Event.TheVariants.{Command, Begin, Work, Perform, Merge, Cancel, Reopen}
-use Rattle.sd_world.specs.declared.kept.Kept.{Kept}
+use Rattle.sd_world.specs.declared.event.Event.TheVariants.{Command, Begin, Work, TakeUp, HandInAt, Perform, PerformAt, Merge, Cancel, Reopen}
 use Rattle.sd_world.specs.declared.kept.Kept.TheVariants.{Nothing, Request, Outcome}
 use Rattle.sd_world.specs.Consistent.{IsWorld}
-use Rattle.sd_world.specs.Steps.{Does, IsOrder, Performs, TakesUp, Works}
+use Rattle.sd_world.specs.Steps.{Does, HandsInAt, HandsInIfAny, IsOrder, Performs, TakesUp, Works}
 use Rattle.sd_world.specs.View.{WorldView}
 use Rattle.sd_world.proofs.AnewLemmas.{anew_world}
 use Rattle.sd_world.proofs.HandInLemmas.{handed_world}
 use Rattle.sd_world.proofs.PerformLemmas.{performed_world}
-use Rattle.sd_world.proofs.Worlds.{hands_out_world, stays_world}
+use Rattle.sd_world.proofs.Worlds.{hands_out_world, same_lane, stays_world}
 
 module _ {D : Type 0} (g : Ghosts D) (old new : WorldView D) (gives : GivenUpFits (g.contents old.disk) (g.may_leave old.disk))
     (found : SyncedIsFound (g.contents old.disk) (g.may_leave old.disk)) (as_read : g.may_leave old.disk (g.contents old.disk))
-    (performed : PerformedIsBelieved) (world : IsWorld g old) where
+    (performed : PerformedIsBelieved) (law : WritesCommute) (world : IsWorld g old) where
   same_rest : new.disk ≡ old.disk → new.kept ≡ old.kept → IsWorld g (record { core = new.core; disk = old.disk; kept = old.kept }) → IsWorld g new
   same_rest disk kept it = subst (λ k. IsWorld g (record { core = new.core; disk = new.disk; kept = k })) (sym kept)
       (subst (λ d. IsWorld g (record { core = new.core; disk = d; kept = old.kept })) (sym disk) it)
@@ -29,43 +27,48 @@ module _ {D : Type 0} (g : Ghosts D) (old new : WorldView D) (gives : GivenUpFit
   order_world : IsOrder old new → IsWorld g new
   order_world order = same_rest order.disk order.kept (stays_world g old.disk old.core new.core old.kept gives order.stays world)
 
-  takes_world : (worker : Worker) (answer : Reply) → slice_get old.kept (index worker) ≡ Some Nothing
-      → TakesUp worker old.core old.kept answer new.core new.kept → new.disk ≡ old.disk → IsWorld g new
-  takes_world worker answer at (TakesUp.step makes job left) disk = same_rest disk left (elim makes.keeps [
+  takes_world : (worker : Worker) (answer : Reply) → TakesUp worker old.core old.kept answer new.core new.kept → new.disk ≡ old.disk → IsWorld g new
+  takes_world worker answer (TakesUp.step makes job left) disk = same_rest disk left (elim makes.keeps [
     | inl stays ↦ stays_world g old.disk old.core new.core old.kept gives stays world
     | inr anew ↦ anew_world g old.disk old.core new.core old.kept anew world found as_read
   ])
-  takes_world worker answer at (TakesUp.call request hands job left worked) disk =
+  takes_world worker answer (TakesUp.call request hands job keeps worked) disk =
+      let left = keeps.left ∙ ap (λ lane. slice_set old.kept lane (Request request)) (same_lane old.core new.core old.kept new.kept worker request hands keeps) in
       subst (λ k. IsWorld g (record { core = new.core; disk = new.disk; kept = k })) (sym left)
-      (subst (λ d. IsWorld g (record { core = new.core; disk = d; kept = slice_set old.kept (index worker) (Request request) })) (sym disk)
-      (hands_out_world g old.disk old.core new.core old.kept worker request at hands world))
+      (subst (λ d. IsWorld g (record { core = new.core; disk = d; kept = slice_set old.kept hands.lane (Request request) })) (sym disk)
+      (hands_out_world g old.disk old.core new.core old.kept worker request hands world))
 
-  works_world : (first : Kept) (worker : Worker) (answer : Reply) → slice_get old.kept (index worker) ≡ Some first
-      → Works first worker old.core old.kept answer new.core new.kept → new.disk ≡ old.disk → IsWorld g new
-  works_world Nothing worker answer at works disk = takes_world worker answer at works disk
-  works_world (Request request) worker answer at works disk =
-      same_rest disk works.left (subst (λ c. IsWorld g (record { core = c; disk = old.disk; kept = old.kept })) (sym works.core) world)
-  works_world (Outcome made) worker answer at works disk =
-      subst (λ k. IsWorld g (record { core = new.core; disk = new.disk; kept = k })) (sym works.left)
-      (subst (λ d. IsWorld g (record { core = new.core; disk = d; kept = slice_set old.kept (index worker) Nothing })) (sym disk)
-      (handed_world g old.disk old.core new.core old.kept worker made answer at gives works.handed world))
+  handed_in_world : (worker : Worker) (place : ℕ) (answer : Reply) → HandsInAt worker place old.core old.kept answer new.core new.kept → new.disk ≡ old.disk → IsWorld g new
+  handed_in_world worker place answer hands disk =
+      subst (λ k. IsWorld g (record { core = new.core; disk = new.disk; kept = k })) (sym hands.hands.left)
+      (subst (λ d. IsWorld g (record { core = new.core; disk = d; kept = slice_set old.kept hands.lane Nothing })) (sym disk)
+      (handed_world g old.disk old.core new.core old.kept hands.lane hands.made answer law hands.is gives hands.hands.handed world))
 
-  performs_world : (first : Kept) (worker : Worker) (answer : Reply) → slice_get old.kept (index worker) ≡ Some first
-      → Performs g first worker old.disk old.kept answer new.disk new.kept → new.core ≡ old.core → IsWorld g new
-  performs_world Nothing worker answer at performs core =
-      same_rest performs.disk performs.left (subst (λ c. IsWorld g (record { core = c; disk = old.disk; kept = old.kept })) (sym core) world)
-  performs_world (Outcome made) worker answer at performs core =
-      same_rest performs.disk performs.left (subst (λ c. IsWorld g (record { core = c; disk = old.disk; kept = old.kept })) (sym core) world)
-  performs_world (Request request) worker answer at performs core =
-      subst (λ k. IsWorld g (record { core = new.core; disk = new.disk; kept = k })) (sym performs.left)
-      (subst (λ c. IsWorld g (record { core = c; disk = new.disk; kept = slice_set old.kept (index worker) (Outcome performs.made) })) (sym core)
-      (performed_world g old.core old.kept worker request old.disk performs.made new.disk at performs.performed world performed))
+  works_world : (worker : Worker) (answer : Reply) → Works worker old.core old.kept answer new.core new.kept → new.disk ≡ old.disk → IsWorld g new
+  works_world worker answer (Works.hands_in hands) disk = handed_in_world worker 0 answer hands disk
+  works_world worker answer (Works.takes_up none takes) disk = takes_world worker answer takes disk
+
+  hand_in_world : (worker : Worker) (place : ℕ) (answer : Reply) → HandsInIfAny worker place old.core old.kept answer new.core new.kept → new.disk ≡ old.disk → IsWorld g new
+  hand_in_world worker place answer (HandsInIfAny.hands_in hands) disk = handed_in_world worker place answer hands disk
+  hand_in_world worker place answer (HandsInIfAny.none none idle) disk =
+      same_rest disk idle.left (subst (λ c. IsWorld g (record { core = c; disk = old.disk; kept = old.kept })) (sym idle.core) world)
+
+  performs_world : (worker : Worker) (place : ℕ) (answer : Reply) → Performs g worker place old.disk old.kept answer new.disk new.kept → new.core ≡ old.core → IsWorld g new
+  performs_world worker place answer (Performs.none none idle) core =
+      same_rest idle.disk idle.left (subst (λ c. IsWorld g (record { core = c; disk = old.disk; kept = old.kept })) (sym core) world)
+  performs_world worker place answer (Performs.performs it) core =
+      subst (λ k. IsWorld g (record { core = new.core; disk = new.disk; kept = k })) (sym it.keeps.left)
+      (subst (λ c. IsWorld g (record { core = c; disk = new.disk; kept = slice_set old.kept it.lane (Outcome it.keeps.made) })) (sym core)
+      (performed_world law g old.core old.kept it.lane it.request old.disk it.keeps.made new.disk it.is it.keeps.performed world performed))
 
   pub step_world : (event : Event) (answer : Reply) → Does g event old answer new → IsWorld g new
   step_world (Command seat command) answer does = order_world does.0
   step_world (Begin rounds) answer does = order_world does.0
-  step_world (Work worker) answer does = works_world does.works.first worker answer does.works.is does.works.works does.disk
-  step_world (Perform worker) answer does = performs_world does.performs.first worker answer does.performs.is does.performs.performs does.core
+  step_world (Work worker) answer does = works_world worker answer does.works does.disk
+  step_world (TakeUp worker) answer does = takes_world worker answer does.takes does.disk
+  step_world (HandInAt worker place) answer does = hand_in_world worker place answer does.hands does.disk
+  step_world (Perform worker) answer does = performs_world worker 0 answer does.performs does.core
+  step_world (PerformAt worker place) answer does = performs_world worker place answer does.performs does.core
   step_world Merge answer does = order_world does.0
   step_world Cancel answer does = order_world does.0
   step_world Reopen answer does = order_world does.0

@@ -11,7 +11,7 @@ use Rattle.sd_journal.specs.History.{History}
 use Rattle.sd_belief.specs.Calls.{AddsByCancel, AddsByOrder, AddsByWorked, IsJournaled, IsUnjournaled}
 use Rattle.sd_belief.specs.View.{CoreView, history_of}
 use Rattle.sd_world.specs.declared.event.Event.{Event}
-use Rattle.sd_world.specs.declared.event.Event.TheVariants.{Command as CommandEvent, Begin, Work, Perform, Merge, Cancel, Reopen}
+use Rattle.sd_world.specs.declared.event.Event.TheVariants.{Command as CommandEvent, Begin, Work, TakeUp, HandInAt, Perform, PerformAt, Merge, Cancel, Reopen}
 
 -- refused with a full journal or for want of memory
 pub record IsUnjournaledReply (answer : Reply) : Type 0 where
@@ -43,7 +43,10 @@ abbrev pub AddsBy : Event → CoreView → Reply → History → History → Typ
 AddsBy (CommandEvent seat command) core answer old new = AddsByCommand seat command answer old new
 AddsBy (Begin rounds) core answer old new = AddsByOrder answer old new
 AddsBy (Work worker) core answer old new = AddsByWork worker core answer old new
+AddsBy (TakeUp worker) core answer old new = AddsByWork worker core answer old new
+AddsBy (HandInAt worker place) core answer old new = AddsByWork worker core answer old new
 AddsBy (Perform worker) core answer old new = AddsByPerform answer old new
+AddsBy (PerformAt worker place) core answer old new = AddsByPerform answer old new
 AddsBy Merge core answer old new = AddsByOrder answer old new
 AddsBy Cancel core answer old new = AddsByCancel answer old new
 AddsBy Reopen core answer old new = AddsByOrder answer old new

@@ -1,7 +1,7 @@
 -- What an event does to a core, a disk and what is kept.
-use Rattle.std.specs.Prelude.{◌≡◌, ◌≢◌, ◌⊎◌, ℕ, ◌<◌, true, false, List, Some, None, slice_get, slice_set, length}
+use Rattle.std.specs.Prelude.{◌≡◌, ◌≢◌, ◌⊎◌, ℕ, ◌<◌, true, false, List, Option, Some, None, slice_get, slice_set, length}
 use Rattle.sd_command.specs.declared.refusal.Refusal.{Refusal}
-use Rattle.sd_command.specs.declared.refusal.Refusal.TheVariants.{Busy, Idle, Device, StoreDown}
+use Rattle.sd_command.specs.declared.refusal.Refusal.TheVariants.{Idle, Device, StoreDown}
 use Rattle.sd_command.specs.declared.reply.Reply.{Reply}
 use Rattle.sd_command.specs.declared.reply.Reply.TheVariants as reply
 use Rattle.sd_disk.specs.Contents.{file_at}
@@ -10,6 +10,7 @@ use Rattle.sd_disk.specs.declared.disk.Disk.{Ghosts}
 use Rattle.sd_gate.specs.declared.answer.Answer.{Answer}
 use Rattle.sd_gate.specs.declared.answer.Answer.TheVariants.{Done, Len, Failed}
 use Rattle.sd_gate.specs.declared.phase.Phase.{Phase}
+use Rattle.sd_gate.specs.declared.request_id.RequestId.{RequestId}
 use Rattle.sd_gate.specs.declared.worker.Worker.{Worker}
 use Rattle.sd_gate.specs.declared.worker.Worker.TheVariants.{Dumper}
 use Rattle.sd_gate.specs.Calls.{HasCause, IsAnswerTo, Tells, is_done}
@@ -19,7 +20,7 @@ use Rattle.sd_gate.specs.Requests.{Asked, Made}
 use Rattle.sd_rounds.specs.Dumper.{Running}
 use Rattle.sd_belief.specs.Calls.{HandedIn, HandsOut, IsOut, MakesStep, Stays}
 use Rattle.sd_belief.specs.Laws.{IsMadeOf}
-use Rattle.sd_belief.specs.View.{CoreView, index}
+use Rattle.sd_belief.specs.View.{CoreView}
 use Rattle.sd_core.specs.declared.taken.Taken.{Taken}
 use Rattle.sd_core.specs.declared.taken.Taken.TheVariants.{Step as StepTaken, Call as CallTaken}
 use Rattle.sd_core.specs.Images.{IsAcked}
@@ -27,11 +28,12 @@ use Rattle.sd_core.specs.LittleWork.{IsLittleDump, IsLittlePreDump, OpensPreDump
 use Rattle.sd_core.specs.Refusals.{work_refusal}
 use Rattle.sd_core.specs.Working.{Leaves, LeavesByOutcome}
 use Rattle.sd_world.specs.declared.event.Event.{Event}
-use Rattle.sd_world.specs.declared.event.Event.TheVariants.{Command, Begin, Work, Perform, Merge, Cancel, Reopen}
+use Rattle.sd_world.specs.declared.event.Event.TheVariants.{Command, Begin, Work, TakeUp, HandInAt, Perform, PerformAt, Merge, Cancel, Reopen}
 use Rattle.sd_world.specs.declared.kept.Kept.{Kept}
 use Rattle.sd_world.specs.declared.kept.Kept.TheVariants.{Nothing, Request, Outcome}
 use Rattle.sd_world.specs.Adds.{Adds}
-use Rattle.sd_world.specs.View.{WorldView}
+use Rattle.sd_world.specs.declared.call_state.CallState.TheVariants as its
+use Rattle.sd_world.specs.View.{IsAt, IsNowhere, WorldView}
 
 -- ---- a worker's event
 
@@ -50,39 +52,52 @@ LeavesLess (reply.Reopened m) before now = Unit {0}
 LeavesLess (reply.Refused why) before now = Unit {0}
 LeavesLess _ before now = ⊥
 
+-- a request is kept in the lane in which it is out
+pub record KeepsRequest (outs : List (Option RequestId)) (kept : List Kept) (request : Asked) (later : List Kept) : Type 0 where
+  pub lane : ℕ
+  pub out : slice_get outs lane ≡ Some (Some request.id)
+  pub left : later ≡ slice_set kept lane (Request request)
+
 -- its next step is made, or its next request is kept
 pub data TakesUp (worker : Worker) (old : CoreView) (kept : List Kept) (answer : Reply) (new : CoreView) (later : List Kept) : Type 0 where
   step : MakesStep old worker answer new → TurnsJob old worker (StepTaken answer) new → later ≡ kept → TakesUp worker old kept answer new later
   call : (request : Asked) → HandsOut old worker request new → TurnsJob old worker (CallTaken request) new
-      → later ≡ slice_set kept (index worker) (Request request) → answer ≡ reply.Worked → TakesUp worker old kept answer new later
+      → KeepsRequest new.outs kept request later → answer ≡ reply.Worked → TakesUp worker old kept answer new later
 
--- the outcome is handed in, and not kept any more
-pub record HandsIn (worker : Worker) (old : CoreView) (kept : List Kept) (made : Made) (answer : Reply) (new : CoreView) (later : List Kept) : Type 0 where
-  pub handed : IsOut old made.request.id → HandedIn old made answer new
+-- the outcome in this lane is handed in, and not kept any more
+pub record HandsIn (lane : ℕ) (old : CoreView) (kept : List Kept) (made : Made) (answer : Reply) (new : CoreView) (later : List Kept) : Type 0 where
+  pub handed : (out : IsOut old made.request.id) → HandedIn old out.lane made answer new
   pub failed : IsOut old made.request.id → is_done made.answer ≡ false → answer ≡ reply.Refused StoreDown
   pub leaves : IsOut old made.request.id → LeavesByOutcome old made.request.id.worker answer new
   pub acked : (n : ℕ) → IsOut old made.request.id → answer ≡ reply.Acked n → IsAcked n old new
   pub little : (n : ℕ) → IsOut old made.request.id → answer ≡ reply.Acked n → IsLittleDump n old new
   pub round : IsOut old made.request.id → made.request.id.worker ≡ Dumper → (running : Running) → OpensPreDump running old new
       → IsLittlePreDump running old new
-  pub left : later ≡ slice_set kept (index worker) Nothing
+  pub left : later ≡ slice_set kept lane Nothing
 
--- refused as busy, and nothing changes
-pub record IsBusy (old : CoreView) (kept : List Kept) (answer : Reply) (new : CoreView) (later : List Kept) : Type 0 where
-  pub refused : answer ≡ reply.Refused Busy
+-- the outcome of the worker at this place is handed in
+pub record HandsInAt (worker : Worker) (place : ℕ) (old : CoreView) (kept : List Kept) (answer : Reply) (new : CoreView) (later : List Kept) : Type 0 where
+  pub lane : ℕ
+  pub at : IsAt kept its.Made worker place lane
+  pub made : Made
+  pub is : slice_get kept lane ≡ Some (Outcome made)
+  pub hands : HandsIn lane old kept made answer new later
+
+-- refused as idle, and nothing changes
+pub record IsUnasked (old : CoreView) (kept : List Kept) (answer : Reply) (new : CoreView) (later : List Kept) : Type 0 where
+  pub refused : answer ≡ reply.Refused Idle
   pub core : new ≡ old
   pub left : later ≡ kept
 
--- by what is kept of the worker
-abbrev pub Works : Kept → Worker → CoreView → List Kept → Reply → CoreView → List Kept → Type 0
-Works Nothing worker old kept answer new later = TakesUp worker old kept answer new later
-Works (Request request) worker old kept answer new later = IsBusy old kept answer new later
-Works (Outcome made) worker old kept answer new later = HandsIn worker old kept made answer new later
+-- the first outcome of the worker is handed in, or else it takes up what is next
+pub data Works (worker : Worker) (old : CoreView) (kept : List Kept) (answer : Reply) (new : CoreView) (later : List Kept) : Type 0 where
+  hands_in : HandsInAt worker 0 old kept answer new later → Works worker old kept answer new later
+  takes_up : IsNowhere kept its.Made worker 0 → TakesUp worker old kept answer new later → Works worker old kept answer new later
 
-pub record WorksOn (worker : Worker) (old : CoreView) (kept : List Kept) (answer : Reply) (new : CoreView) (later : List Kept) : Type 0 where
-  pub first : Kept
-  pub is : slice_get kept (index worker) ≡ Some first
-  pub works : Works first worker old kept answer new later
+-- the outcome of the worker at this place is handed in, where there is one
+pub data HandsInIfAny (worker : Worker) (place : ℕ) (old : CoreView) (kept : List Kept) (answer : Reply) (new : CoreView) (later : List Kept) : Type 0 where
+  hands_in : HandsInAt worker place old kept answer new later → HandsInIfAny worker place old kept answer new later
+  none : IsNowhere kept its.Made worker place → IsUnasked old kept answer new later → HandsInIfAny worker place old kept answer new later
 
 -- ---- a device call
 
@@ -112,12 +127,20 @@ pub record IsPerformed {D : Type 0} (g : Ghosts D) (request : Asked) (old : D) (
   pub one_call : IsOneCall g old new
   pub cause : HasCause (g.failed old) (g.failed new) made.answer
 
--- the request that is kept is performed, and its outcome kept
-pub record KeepsOutcome {D : Type 0} (g : Ghosts D) (worker : Worker) (request : Asked) (old : D) (kept : List Kept) (answer : Reply) (new : D) (later : List Kept) : Type 0 where
+-- the request that is kept in this lane is performed, and its outcome kept
+pub record KeepsOutcome {D : Type 0} (g : Ghosts D) (lane : ℕ) (request : Asked) (old : D) (kept : List Kept) (answer : Reply) (new : D) (later : List Kept) : Type 0 where
   pub made : Made
   pub performed : IsPerformed g request old made new
-  pub left : later ≡ slice_set kept (index worker) (Outcome made)
+  pub left : later ≡ slice_set kept lane (Outcome made)
   pub replied : answer ≡ reply_of made.answer
+
+-- the request of the worker at this place is performed
+pub record PerformsAt {D : Type 0} (g : Ghosts D) (worker : Worker) (place : ℕ) (old : D) (kept : List Kept) (answer : Reply) (new : D) (later : List Kept) : Type 0 where
+  pub lane : ℕ
+  pub at : IsAt kept its.Asked worker place lane
+  pub request : Asked
+  pub is : slice_get kept lane ≡ Some (Request request)
+  pub keeps : KeepsOutcome g lane request old kept answer new later
 
 -- refused as idle, and nothing changes
 pub record IsIdle {D : Type 0} (old : D) (kept : List Kept) (answer : Reply) (new : D) (later : List Kept) : Type 0 where
@@ -125,15 +148,10 @@ pub record IsIdle {D : Type 0} (old : D) (kept : List Kept) (answer : Reply) (ne
   pub disk : new ≡ old
   pub left : later ≡ kept
 
-abbrev pub Performs : {D : Type 0} → Ghosts D → Kept → Worker → D → List Kept → Reply → D → List Kept → Type 0
-Performs g Nothing worker old kept answer new later = IsIdle old kept answer new later
-Performs g (Request request) worker old kept answer new later = KeepsOutcome g worker request old kept answer new later
-Performs g (Outcome made) worker old kept answer new later = IsIdle old kept answer new later
-
-pub record PerformsOn {D : Type 0} (g : Ghosts D) (worker : Worker) (old : D) (kept : List Kept) (answer : Reply) (new : D) (later : List Kept) : Type 0 where
-  pub first : Kept
-  pub is : slice_get kept (index worker) ≡ Some first
-  pub performs : Performs g first worker old kept answer new later
+-- the request of the worker at this place is performed, where there is one
+pub data Performs {D : Type 0} (g : Ghosts D) (worker : Worker) (place : ℕ) (old : D) (kept : List Kept) (answer : Reply) (new : D) (later : List Kept) : Type 0 where
+  performs : PerformsAt g worker place old kept answer new later → Performs g worker place old kept answer new later
+  none : IsNowhere kept its.Asked worker place → IsIdle old kept answer new later → Performs g worker place old kept answer new later
 
 -- ---- all events
 
@@ -144,18 +162,29 @@ pub record IsOrder {D : Type 0} (old new : WorldView D) : Type 0 where
   pub kept : new.kept ≡ old.kept
 
 pub record IsWork {D : Type 0} (worker : Worker) (old : WorldView D) (answer : Reply) (new : WorldView D) : Type 0 where
-  pub works : WorksOn worker old.core old.kept answer new.core new.kept
+  pub works : Works worker old.core old.kept answer new.core new.kept
   pub disk : new.disk ≡ old.disk
 
-pub record IsPerform {D : Type 0} (g : Ghosts D) (worker : Worker) (old : WorldView D) (answer : Reply) (new : WorldView D) : Type 0 where
-  pub performs : PerformsOn g worker old.disk old.kept answer new.disk new.kept
+pub record IsTakeUp {D : Type 0} (worker : Worker) (old : WorldView D) (answer : Reply) (new : WorldView D) : Type 0 where
+  pub takes : TakesUp worker old.core old.kept answer new.core new.kept
+  pub disk : new.disk ≡ old.disk
+
+pub record IsHandIn {D : Type 0} (worker : Worker) (place : ℕ) (old : WorldView D) (answer : Reply) (new : WorldView D) : Type 0 where
+  pub hands : HandsInIfAny worker place old.core old.kept answer new.core new.kept
+  pub disk : new.disk ≡ old.disk
+
+pub record IsPerform {D : Type 0} (g : Ghosts D) (worker : Worker) (place : ℕ) (old : WorldView D) (answer : Reply) (new : WorldView D) : Type 0 where
+  pub performs : Performs g worker place old.disk old.kept answer new.disk new.kept
   pub core : new.core ≡ old.core
 
 abbrev pub Does : {D : Type 0} → Ghosts D → Event → WorldView D → Reply → WorldView D → Type 0
 Does g (Command seat command) old answer new = IsOrder old new × Adds (Command seat command) answer old.core new.core
 Does g (Begin rounds) old answer new = IsOrder old new × Adds (Begin rounds) answer old.core new.core
 Does g (Work worker) old answer new = IsWork worker old answer new
-Does g (Perform worker) old answer new = IsPerform g worker old answer new
+Does g (TakeUp worker) old answer new = IsTakeUp worker old answer new
+Does g (HandInAt worker place) old answer new = IsHandIn worker place old answer new
+Does g (Perform worker) old answer new = IsPerform g worker 0 old answer new
+Does g (PerformAt worker place) old answer new = IsPerform g worker place old answer new
 Does g Merge old answer new = IsOrder old new × Adds Merge answer old.core new.core
 Does g Cancel old answer new = IsOrder old new × Adds Cancel answer old.core new.core
 Does g Reopen old answer new = IsOrder old new × Adds Reopen answer old.core new.core

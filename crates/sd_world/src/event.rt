@@ -8,10 +8,17 @@ pub enum Event {
     Command { seat: usize, command: Command },
     /// The order to begin a checkpoint of so many pre-dumps and a dump.
     Begin(u64),
-    /// A worker hands in the outcome of its device call, or else makes its next step or asks for its next device call.
+    /// A worker hands in the kept outcome with the least ticket, or else makes its next step or asks for its next device
+    /// call.
     Work(Worker),
-    /// The device call that a worker asked for is made.
+    /// A worker makes its next step or asks for its next device call, whatever outcomes are kept.
+    TakeUp(Worker),
+    /// A worker hands in the kept outcome at this place, from 0 by rising ticket.
+    HandInAt(Worker, u64),
+    /// The device call with the least ticket is made of those that a worker asked for.
     Perform(Worker),
+    /// The device call at this place, from 0 by rising ticket, is made of those that a worker asked for.
+    PerformAt(Worker, u64),
     /// The order to begin a merge.
     Merge,
     /// The order to cancel the checkpoint that runs or is pending.

@@ -1,27 +1,47 @@
 //! What is kept of the workers between their events.
-ghost use Rattle.std.specs.Prelude.{◌≡◌, ◌<◌, Some, slice_get, slice_set};
+ghost use Rattle.std.specs.Prelude.{◌≡◌, ◌↔◌, ◌<◌, Some, IfSome, IsTrue, MatchOption, slice_get, slice_set};
 ghost use Rattle.sd_belief.specs.View.{index};
 ghost use Rattle.sd_world.specs.declared.kept.Kept.TheVariants.{Nothing};
-ghost use Rattle.sd_world.specs.View.{is_asked};
+ghost use Rattle.sd_world.specs.View.{IsAt, IsNowhere, asked_id, earlier, id_in, is_asked, is_before, is_of, made_id, nothing_kept};
 
-use sd_gate::{Outcome, Request, Worker};
+use crate::call_state::CallState;
+use sd_core::LANES;
+use sd_gate::{Outcome, Request, RequestId, Worker};
 use std::mem;
 
-/// What is kept of a worker.
+/// What is kept of a lane in which a request may be out.
 #[derive(Debug, Drop)]
 pub enum Kept {
-    /// No device call of it is out.
+    /// No device call is out in it.
     Nothing,
-    /// The device call that it asked for, which wasn't made yet.
+    /// The device call that was asked for, which wasn't made yet.
     Request(Request),
     /// The device call that was made, whose outcome wasn't handed in yet.
     Outcome(Outcome),
 }
 
-/// The place of a worker among three.
-fn place(worker: Worker) -> usize
-    ensures place { result ≡ index worker }
-    ensures within { result < 3 }
+/// Nothing is kept in any lane.
+pub(crate) fn nothing_kept() -> [Kept; LANES]
+    ensures { result ≡ nothing_kept }
+{
+    [
+        Kept::Nothing,
+        Kept::Nothing,
+        Kept::Nothing,
+        Kept::Nothing,
+        Kept::Nothing,
+        Kept::Nothing,
+        Kept::Nothing,
+        Kept::Nothing,
+        Kept::Nothing,
+        Kept::Nothing,
+        Kept::Nothing,
+    ]
+}
+
+/// The number of a worker.
+fn number(worker: Worker) -> usize
+    ensures { result ≡ index worker }
 {
     match worker {
         Worker::Dumper => 0,
@@ -30,24 +50,115 @@ fn place(worker: Worker) -> usize
     }
 }
 
-/// Takes out what is kept of a worker.
-pub(crate) fn take_kept(kept: &mut [Kept; 3], worker: Worker) -> Kept
-    ensures taken { slice_get kept.old (index worker) ≡ Some result }
-    ensures left { kept.new ≡ slice_set kept.old (index worker) Nothing }
+/// The id of a device call that wasn't made yet.
+fn asked_id(kept: &Kept) -> Option<RequestId>
+    ensures { result ≡ asked_id kept.now }
 {
-    mem::replace(&mut kept[place(worker)], Kept::Nothing)
+    match kept {
+        Kept::Nothing | Kept::Outcome(_) => None,
+        Kept::Request(request) => Some(request.id()),
+    }
 }
 
-/// Keeps this of a worker.
-pub(crate) fn put_kept(kept: &mut [Kept; 3], worker: Worker, new: Kept)
-    ensures { kept.new ≡ slice_set kept.old (index worker) new }
+/// The id of a device call that was made.
+fn made_id(kept: &Kept) -> Option<RequestId>
+    ensures { result ≡ made_id kept.now }
 {
-    kept[place(worker)] = new;
+    match kept {
+        Kept::Nothing | Kept::Request(_) => None,
+        Kept::Outcome(outcome) => Some(outcome.id()),
+    }
+}
+
+/// The id of a device call in this state.
+fn id_in(kept: &Kept, state: CallState) -> Option<RequestId>
+    ensures { result ≡ id_in state kept.now }
+{
+    match state {
+        CallState::Asked => asked_id(kept),
+        CallState::Made => made_id(kept),
+    }
+}
+
+/// Whether a device call is a worker's.
+fn is_of(worker: Worker, id: Option<RequestId>) -> bool
+    ensures { result ≡ is_of worker id }
+{
+    match id {
+        Some(id) => number(id.worker) == number(worker),
+        None => false,
+    }
+}
+
+/// Whether a device call is a worker's, with a lesser ticket than this.
+fn is_before(worker: Worker, ticket: u64, id: Option<RequestId>) -> bool
+    ensures { result ≡ is_before worker ticket id }
+{
+    match id {
+        Some(id) => number(id.worker) == number(worker) && id.ticket < ticket,
+        None => false,
+    }
+}
+
+/// How many device calls of a worker in this state have a lesser ticket than this.
+fn earlier(kept: &[Kept; LANES], state: CallState, worker: Worker, ticket: u64) -> usize
+    ensures { result ≡ earlier kept.now state worker ticket }
+{
+    kept.iter()
+        .filter(|one| is_before(worker, ticket, id_in(one, state)))
+        .count()
+}
+
+/// Whether the worker's device call at this place is in this lane.
+fn is_at(kept: &[Kept; LANES], state: CallState, worker: Worker, place: u64, lane: usize) -> bool
+    requires { lane < 11 }
+    ensures { IsTrue result ↔ IsAt kept.now state worker place lane }
+{
+    match id_in(&kept[lane], state) {
+        Some(id) => id.worker == worker && earlier(kept, state, worker, id.ticket) as u64 == place,
+        None => false,
+    }
+}
+
+/// The lane of the worker's device call at this place, from 0, of those in this state by rising ticket.
+pub(crate) fn lane_at(
+    kept: &[Kept; LANES],
+    state: CallState,
+    worker: Worker,
+    place: u64,
+) -> Option<usize>
+    ensures found { MatchOption result (IsNowhere kept.now state worker place)
+        (IsAt kept.now state worker place) }
+    ensures within { IfSome result (λ lane. lane < 11) }
+{
+    for lane in 0..LANES {
+        if is_at(kept, state, worker, place, lane) {
+            return Some(lane);
+        }
+    }
+    None
+}
+
+/// Takes out what is kept in a lane.
+pub(crate) fn take_kept(kept: &mut [Kept; LANES], lane: usize) -> Kept
+    requires { lane < 11 }
+    ensures taken { slice_get kept.old lane ≡ Some result }
+    ensures left { kept.new ≡ slice_set kept.old lane Nothing }
+{
+    mem::replace(&mut kept[lane], Kept::Nothing)
+}
+
+/// Keeps this in a lane.
+pub(crate) fn put_kept(kept: &mut [Kept; LANES], lane: usize, new: Kept)
+    requires { lane < 11 }
+    ensures { kept.new ≡ slice_set kept.old lane new }
+{
+    kept[lane] = new;
 }
 
 /// Whether a device call of a worker is out that wasn't made yet.
-pub(crate) fn is_asked(kept: &[Kept; 3], worker: Worker) -> bool
+pub(crate) fn is_asked(kept: &[Kept; LANES], worker: Worker) -> bool
     ensures { result ≡ is_asked kept.now worker }
 {
-    matches!(kept[place(worker)], Kept::Request(_))
+    kept.iter().any(|one| is_of(worker, asked_id(one)))
 }

@@ -3,6 +3,7 @@
 #![tactic(auto)]
 
 mod auditing;
+mod call_state;
 mod event;
 mod kept;
 mod looking;
@@ -14,6 +15,7 @@ mod stepping;
 mod world;
 
 pub use auditing::audit;
+pub use call_state::CallState;
 pub use event::Event;
 pub use open_error::OpenError;
 pub use open_fault::OpenFault;

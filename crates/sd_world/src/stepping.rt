@@ -1,19 +1,18 @@
 //! What an event does to a core, a disk and what is kept.
-ghost use Rattle.std.specs.Prelude.{◌≡◌, ◌<◌, Some, length, MatchResult, slice_get};
+ghost use Rattle.std.specs.Prelude.{◌≡◌, ◌<◌, ℕ, Some, length, MatchResult, slice_get};
 ghost use Rattle.sd_command.specs.declared.reply.Reply.TheVariants as reply;
-ghost use Rattle.sd_belief.specs.Calls.{IsUnjournaled};
-ghost use Rattle.sd_belief.specs.View.{index};
-ghost use Rattle.sd_gate.specs.Requests.{Asked};
-ghost use Rattle.sd_world.specs.Adds.{IsUnjournaledReply};
-ghost use Rattle.sd_world.specs.Steps.{Does, PerformsOn, WorksOn, reply_of};
-ghost use Rattle.sd_world.specs.declared.kept.Kept.TheVariants.{Request as RequestKept};
+ghost use Rattle.sd_gate.specs.Requests.{Asked, Made};
+ghost use Rattle.sd_rounds.specs.Writes.{IsInLane};
+ghost use Rattle.sd_world.specs.Steps.{Does, HandsIn, HandsInIfAny, KeepsOutcome, KeepsRequest, Performs, TakesUp, Works, reply_of};
+ghost use Rattle.sd_world.specs.declared.kept.Kept.TheVariants.{Outcome as OutcomeKept, Request as RequestKept};
 
+use crate::call_state::CallState;
 use crate::event::Event;
-use crate::kept::{Kept, put_kept, take_kept};
+use crate::kept::{Kept, lane_at, put_kept, take_kept};
 use sd_command::{Refusal, Reply};
-use sd_core::{Core, Taken};
+use sd_core::{Core, LANES, Taken};
 use sd_disk::Disk;
-use sd_gate::{Answer, Worker, perform};
+use sd_gate::{Answer, Request, Worker, perform};
 
 /// How a command is answered.
 fn answer_of(told: Result<(u64, Reply), Refusal>) -> Reply
@@ -35,45 +34,96 @@ fn reply_of(answer: Answer) -> Reply
     }
 }
 
-/// A worker's event: an outcome that is kept is handed in; else the worker makes its next step, or its next request is
-/// kept. Refused as busy while its request is out and wasn't performed yet.
-pub(crate) fn work(core: &mut Core, kept: &mut [Kept; 3], worker: Worker) -> Reply
-    ensures { WorksOn worker core.old kept.old result core.new kept.new }
+/// Keeps a request in the lane in which it is out.
+fn keep_request(core: &Core, kept: &mut [Kept; LANES], request: Request)
+    requires { IsInLane core.now.outs request.id }
+    ensures { KeepsRequest core.now.outs kept.old request kept.new }
 {
-    match take_kept(kept, worker) {
-        Kept::Nothing => match core.take_up(worker) {
-            Taken::Step(answer) => answer,
-            Taken::Call(request) => {
-                put_kept(kept, worker, Kept::Request(request));
-                Reply::Worked
-            }
-        },
-        Kept::Request(request) => {
-            put_kept(kept, worker, Kept::Request(request));
-            Reply::Refused(Refusal::Busy)
+    let Some(lane) = core.lane_of(&request.id()) else {
+        return;
+    };
+    put_kept(kept, lane, Kept::Request(request));
+}
+
+/// Makes a worker's next step, or keeps the request for its next device call.
+fn take_up(core: &mut Core, kept: &mut [Kept; LANES], worker: Worker) -> Reply
+    ensures { TakesUp worker core.old kept.old result core.new kept.new }
+{
+    match core.take_up(worker) {
+        Taken::Step(answer) => answer,
+        Taken::Call(request) => {
+            keep_request(core, kept, request);
+            Reply::Worked
         }
-        Kept::Outcome(outcome) => core.hand_in(outcome),
     }
 }
 
-/// Performs the request that is out of a worker, and keeps its outcome. Refused as idle where there is none.
-pub(crate) fn perform_kept<D: Disk>(disk: &mut D, kept: &mut [Kept; 3], worker: Worker) -> Reply
-    requires { (request : Asked) → slice_get kept.old (index worker) ≡ Some (RequestKept request)
-        → request.id.slot < length (D.contents disk.old) }
-    ensures { PerformsOn D.Disk worker disk.old kept.old result disk.new kept.new }
+/// Hands in the outcome that is kept in a lane.
+fn hand_in(core: &mut Core, kept: &mut [Kept; LANES], lane: usize) -> Reply
+    requires within { lane < 11 }
+    ensures { (made : Made) → slice_get kept.old lane ≡ Some (OutcomeKept made)
+        → HandsIn lane core.old kept.old made result core.new kept.new }
 {
-    match take_kept(kept, worker) {
+    match take_kept(kept, lane) {
+        Kept::Outcome(outcome) => core.hand_in(outcome),
+        Kept::Nothing | Kept::Request(_) => Reply::Refused(Refusal::Idle),
+    }
+}
+
+/// A worker's event: its outcome with the least ticket is handed in; else it makes its next step, or its next request is
+/// kept.
+fn work(core: &mut Core, kept: &mut [Kept; LANES], worker: Worker) -> Reply
+    ensures { Works worker core.old kept.old result core.new kept.new }
+{
+    match lane_at(kept, CallState::Made, worker, 0) {
+        Some(lane) => hand_in(core, kept, lane),
+        None => take_up(core, kept, worker),
+    }
+}
+
+/// Hands in the outcome of a worker at this place. Refused as idle where there is none.
+fn hand_in_at(core: &mut Core, kept: &mut [Kept; LANES], worker: Worker, place: u64) -> Reply
+    ensures { HandsInIfAny worker place core.old kept.old result core.new kept.new }
+{
+    match lane_at(kept, CallState::Made, worker, place) {
+        Some(lane) => hand_in(core, kept, lane),
+        None => Reply::Refused(Refusal::Idle),
+    }
+}
+
+/// Performs the request that is kept in a lane, and keeps its outcome.
+fn perform_in<D: Disk>(disk: &mut D, kept: &mut [Kept; LANES], lane: usize) -> Reply
+    requires within { lane < 11 }
+    requires slot { (request : Asked) → slice_get kept.old lane ≡ Some (RequestKept request)
+        → request.id.slot < length (D.contents disk.old) }
+    ensures { (request : Asked) → slice_get kept.old lane ≡ Some (RequestKept request)
+        → KeepsOutcome D.Disk lane request disk.old kept.old result disk.new kept.new }
+{
+    match take_kept(kept, lane) {
         Kept::Request(request) => {
             let outcome = perform(disk, request);
             let answer = outcome.answer();
-            put_kept(kept, worker, Kept::Outcome(outcome));
+            put_kept(kept, lane, Kept::Outcome(outcome));
             reply_of(answer)
         }
-        Kept::Nothing => Reply::Refused(Refusal::Idle),
-        Kept::Outcome(outcome) => {
-            put_kept(kept, worker, Kept::Outcome(outcome));
-            Reply::Refused(Refusal::Idle)
-        }
+        Kept::Nothing | Kept::Outcome(_) => Reply::Refused(Refusal::Idle),
+    }
+}
+
+/// Performs the request of a worker at this place, and keeps its outcome. Refused as idle where there is none.
+fn perform_at<D: Disk>(
+    disk: &mut D,
+    kept: &mut [Kept; LANES],
+    worker: Worker,
+    place: u64,
+) -> Reply
+    requires { (lane : ℕ) (request : Asked) → slice_get kept.old lane ≡ Some (RequestKept request)
+        → request.id.slot < length (D.contents disk.old) }
+    ensures { Performs D.Disk worker place disk.old kept.old result disk.new kept.new }
+{
+    match lane_at(kept, CallState::Asked, worker, place) {
+        Some(lane) => perform_in(disk, kept, lane),
+        None => Reply::Refused(Refusal::Idle),
     }
 }
 
@@ -81,10 +131,10 @@ pub(crate) fn perform_kept<D: Disk>(disk: &mut D, kept: &mut [Kept; 3], worker: 
 pub(crate) fn make_step<D: Disk>(
     core: &mut Core,
     disk: &mut D,
-    kept: &mut [Kept; 3],
+    kept: &mut [Kept; LANES],
     event: &Event,
 ) -> Reply
-    requires { (worker : Worker) (request : Asked) → slice_get kept.old (index worker) ≡ Some (RequestKept request)
+    requires { (lane : ℕ) (request : Asked) → slice_get kept.old lane ≡ Some (RequestKept request)
         → request.id.slot < length (D.contents disk.old) }
     ensures { Does D.Disk event.now (record { core = core.old; disk = disk.old; kept = kept.old }) result
         (record { core = core.new; disk = disk.new; kept = kept.new }) }
@@ -93,7 +143,10 @@ pub(crate) fn make_step<D: Disk>(
         Event::Command { seat, command } => answer_of(core.apply(*seat, command)),
         Event::Begin(rounds) => core.begin(*rounds),
         Event::Work(worker) => work(core, kept, *worker),
-        Event::Perform(worker) => perform_kept(disk, kept, *worker),
+        Event::TakeUp(worker) => take_up(core, kept, *worker),
+        Event::HandInAt(worker, place) => hand_in_at(core, kept, *worker, *place),
+        Event::Perform(worker) => perform_at(disk, kept, *worker, 0),
+        Event::PerformAt(worker, place) => perform_at(disk, kept, *worker, *place),
         Event::Merge => core.merge(),
         Event::Cancel => core.cancel(),
         Event::Reopen => core.reopen(),

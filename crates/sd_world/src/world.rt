@@ -1,6 +1,6 @@
 //! A world: a core, its disk, and what is kept of the workers between events.
-ghost use Rattle.std.specs.Prelude.{◌≡◌, ◌≢◌, ◌≤◌, ◌∷◌, [], ℕ, List, None, false, true, IfOk, IfErr};
-ghost use Rattle.sd_command.specs.declared.refusal.Refusal.TheVariants.{Busy, Idle, OutOfMemory};
+ghost use Rattle.std.specs.Prelude.{◌≡◌, ◌≢◌, ◌≤◌, ◌<◌, [], ℕ, None, false, true, IfOk, IfErr};
+ghost use Rattle.sd_command.specs.declared.refusal.Refusal.TheVariants.{Idle, OutOfMemory};
 ghost use Rattle.sd_command.specs.declared.reply.Reply.TheVariants as reply;
 ghost use Rattle.sd_disk.specs.Crash.{Within};
 ghost use Rattle.sd_disk.specs.Reads.{OnlyReads};
@@ -10,22 +10,21 @@ ghost use Rattle.sd_pagetable.specs.Contents.{plain_of};
 ghost use Rattle.sd_belief.specs.declared.standing.Standing.TheVariants.{NotOpen};
 ghost use Rattle.sd_core.specs.Starts.{shown_base};
 ghost use Rattle.sd_core.specs.Working.{left_by};
-ghost use Rattle.sd_world.specs.declared.kept.Kept.TheVariants.{Nothing};
 ghost use Rattle.sd_world.specs.Opens.{HasNoFrame, IsFaultOf, bare_memory};
 ghost use Rattle.sd_gate.specs.declared.worker.Worker.{Worker as WorkerKind};
 ghost use Rattle.sd_journal.specs.Marked.{IsTracked};
 ghost use Rattle.sd_belief.specs.Shown.{ShowsAllowed};
 ghost use Rattle.sd_belief.specs.View.{history_of};
-ghost use Rattle.sd_world.specs.declared.event.Event.TheVariants.{Perform, Work};
+ghost use Rattle.sd_world.specs.declared.event.Event.TheVariants.{HandInAt, Perform, PerformAt, TakeUp, Work};
 ghost use Rattle.sd_world.specs.Adds.{Adds};
 ghost use Rattle.sd_world.specs.Little.{DoesLittle};
 ghost use Rattle.sd_world.specs.Restored.{IsRestored};
 ghost use Rattle.sd_world.specs.Runs.{Runs, ShowsAllowedBetween, ShowsReply};
 ghost use Rattle.sd_world.specs.Steps.{Does, IsAnswered, LeavesLess};
-ghost use Rattle.sd_world.specs.View.{is_asked};
+ghost use Rattle.sd_world.specs.View.{asked_count, is_asked, nothing_kept};
 
 use crate::event::Event;
-use crate::kept::{Kept, is_asked};
+use crate::kept::{Kept, is_asked, nothing_kept};
 use crate::open_error::OpenError;
 use crate::open_fault::OpenFault;
 use crate::opening::start_of;
@@ -34,9 +33,9 @@ use crate::stepping::make_step;
 use sd_areas::Snapshot;
 use sd_belief::performed_law;
 use sd_command::{Refusal, Reply};
-use sd_core::Core;
+use sd_core::{Core, LANES};
 use sd_disk::Disk;
-use sd_gate::{Worker, all_found_fit, given_up_fits};
+use sd_gate::{Worker, all_found_fit, given_up_fits, writes_commute};
 use sd_restore::Fault;
 use sd_store_laws::{contents_show, left_as_believed, synced_is_found};
 use std::alloc::Global;
@@ -48,7 +47,7 @@ pub struct World<D: Disk> {
     alloc: Global,
     core: Core,
     disk: D,
-    kept: [Kept; 3],
+    kept: [Kept; LANES],
 }
 
 impl<D: Disk> Model for World<D> {
@@ -80,7 +79,7 @@ impl<D: Disk> World<D> {
         // No entry stands in the journal, the store isn't open, and nothing is out.
         ensures journal { IfOk result (λ world. world.core.items ≡ []) }
         ensures standing { IfOk result (λ world. world.core.standing ≡ NotOpen) }
-        ensures kept { IfOk result (λ world. world.kept ≡ Nothing ∷ Nothing ∷ Nothing ∷ []) }
+        ensures kept { IfOk result (λ world. world.kept ≡ nothing_kept) }
 
         // The contents show the base, or nothing saved where it has no number, and so does every outcome of a crash.
         ensures shows { IfOk result (λ world. D.is_honest world.disk → Shows (D.contents disk)
@@ -106,7 +105,7 @@ impl<D: Disk> World<D> {
             Ok(start) => {
                 all_found_fit(&disk);
                 let core = Core::new(alloc, start);
-                let kept = [Kept::Nothing, Kept::Nothing, Kept::Nothing];
+                let kept = nothing_kept();
                 Ok(World {
                     alloc,
                     core,
@@ -161,6 +160,7 @@ impl<D: Disk> World<D> {
     {
         left_as_believed();
         contents_show();
+        writes_commute();
         self.core.sound();
     }
 
@@ -183,27 +183,30 @@ impl<D: Disk> World<D> {
     pub fn step(&mut self, event: &Event) -> Reply
         // What it does to the core, the disk and what is kept.
         ensures does { Does D.Disk event.now self.old result self.new }
-        ensures busy { (worker : WorkerKind) → event.now ≡ Work worker
-            → is_asked self.old.kept worker ≡ true
-            → (result ≡ reply.Refused Busy) × (self.new ≡ self.old) }
         ensures idle { (worker : WorkerKind) → event.now ≡ Perform worker
             → is_asked self.old.kept worker ≡ false
             → (result ≡ reply.Refused Idle) × (self.new ≡ self.old) }
 
-        // Behind a device call none is out of its worker that wasn't made.
+        // Behind a device call one fewer is out of its worker that wasn't made.
         ensures made { (worker : WorkerKind) → event.now ≡ Perform worker
-            → is_asked self.new.kept worker ≡ false }
+            → is_asked self.old.kept worker ≡ true
+            → asked_count self.new.kept worker < asked_count self.old.kept worker }
 
         // A device call is answered by how it ended, and no other event touches the disk.
         ensures device { (worker : WorkerKind) → event.now ≡ Perform worker
             → is_asked self.old.kept worker ≡ true
             → IsAnswered (D.failed self.old.disk) (D.failed self.new.disk) result }
         ensures quiet { ((worker : WorkerKind) → event.now ≢ Perform worker)
+            → ((worker : WorkerKind) (place : ℕ) → event.now ≢ PerformAt worker place)
             → self.new.disk ≡ self.old.disk }
 
         // A worker's step, or an outcome of it that is handed in, lowers what is left of its job, unless that ends the job
         // or is refused.
         ensures lowers { (worker : WorkerKind) → event.now ≡ Work worker
+            → LeavesLess result (left_by self.old.core worker) (left_by self.new.core worker) }
+        ensures lowers_up { (worker : WorkerKind) → event.now ≡ TakeUp worker
+            → LeavesLess result (left_by self.old.core worker) (left_by self.new.core worker) }
+        ensures lowers_at { (worker : WorkerKind) (place : ℕ) → event.now ≡ HandInAt worker place
             → LeavesLess result (left_by self.old.core worker) (left_by self.new.core worker) }
 
         // Where a worker's event acknowledges a checkpoint, its dump has exactly the pages that were mapped at the freeze, as
@@ -235,6 +238,7 @@ impl<D: Disk> World<D> {
             (D.contents self.new.disk) }
     {
         performed_law();
+        writes_commute();
         left_as_believed();
         contents_show();
         given_up_fits(&self.disk);

@@ -2,7 +2,7 @@
 use crate::fault::BenchFault;
 use crate::place::{mmap, store};
 use sd_command::{Refusal, Reply};
-use sd_disk::MemDisk;
+use sd_disk::{Disk, MemDisk};
 use sd_shared::{Hold, Seat, Shared};
 use std::alloc::{AllocError, Global};
 use std::sync::Wait;
@@ -27,7 +27,7 @@ const ROOM: usize = 70_000_000;
 const PAUSE_MICROS: u64 = 20;
 
 /// A hold that lets each call go on.
-struct Free;
+pub(crate) struct Free;
 
 impl Hold for Free {
     fn before(&self, _call: u64) {}
@@ -133,10 +133,10 @@ fn mutators_of(alloc: Global, seats: Vec<Seat>) -> Result<Vec<Mutator>, AllocErr
 }
 
 /// Opens the store, maps the pages, and stores a byte into each.
-fn prepare(
+pub(crate) fn prepare<D: Disk + Drop>(
     rt: &impl Wait,
     alloc: Global,
-    shared: &Shared<MemDisk>,
+    shared: &Shared<D>,
     seat: &mut Seat,
 ) -> Result<(), BenchFault> {
     if let Reply::Refused(why) = shared.run_opener(rt, &Free) {

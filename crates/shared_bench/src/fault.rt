@@ -5,6 +5,8 @@ use std::alloc::AllocError;
 #[derive(Clone, Copy, Debug)]
 pub(crate) enum BenchFault {
     NotOpened,
+    /// The clock can't be read.
+    NotTimed,
     OutOfMemory,
     Refused(Refusal),
 }

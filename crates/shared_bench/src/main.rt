@@ -5,10 +5,13 @@ mod beside;
 mod calls;
 mod fault;
 mod place;
+mod slow;
+mod writers;
 
 use crate::beside::save_beside;
 use crate::calls::{make_calls, make_steps};
 use crate::fault::BenchFault;
+use crate::writers::write_pages;
 use std::alloc::Global;
 use std::io;
 use std::process::ExitCode;
@@ -16,7 +19,8 @@ use std::sync::Wait;
 use std::thread::Threads;
 use std::time::Clock;
 
-const USAGE: &str = "usage: shared_bench calls N, shared_bench steps N, or shared_bench beside";
+const USAGE: &str =
+    "usage: shared_bench calls N, shared_bench steps N, shared_bench beside, or shared_bench writers N";
 
 /// Makes what a word names, and tells how it ended.
 fn timed<R: Threads + Wait + Clock + Sync>(
@@ -28,6 +32,10 @@ fn timed<R: Threads + Wait + Clock + Sync>(
     match word {
         "calls" => Ok(format!(in alloc; "{} calls", make_calls(rt, alloc, count)?)?),
         "steps" => Ok(format!(in alloc; "{} steps", make_steps(alloc, count)?)?),
+        "writers" => {
+            let took = write_pages(rt, alloc, count as usize)?;
+            Ok(format!(in alloc; "{} us", took.as_micros())?)
+        }
         "beside" => Ok(format!(in alloc; "{}", save_beside(rt, alloc)?)?),
         _ => Ok(format!(in alloc; "{USAGE}")?),
     }

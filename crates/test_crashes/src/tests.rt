@@ -15,7 +15,7 @@ const NONE: [Line; 0] = [];
 
 /// Two checkpoints.
 const TWO: [Line; 7] = [
-    Line::Map,
+    Line::Map(2),
     Line::Store(0, 1),
     Line::Begin(0),
     Line::Finish,
@@ -26,7 +26,7 @@ const TWO: [Line; 7] = [
 
 /// A checkpoint of two pre-dumps, with stores between its steps, and another one.
 const ROUNDS: [Line; 14] = [
-    Line::Map,
+    Line::Map(2),
     Line::Store(0, 1),
     Line::Store(4096, 2),
     Line::Begin(2),
@@ -44,7 +44,7 @@ const ROUNDS: [Line; 14] = [
 
 /// A checkpoint that is cancelled behind its pre-dump, and two that aren't.
 const CANCEL: [Line; 12] = [
-    Line::Map,
+    Line::Map(2),
     Line::Store(0, 1),
     Line::Begin(1),
     Line::Steps(30),

@@ -4,6 +4,7 @@ use crate::drive::Drive;
 use crate::facts::{Fact, NOTHING, Shown, is_so, room_of, shown};
 use crate::parts::retire;
 use crate::stop::Stop;
+use sd_rounds::PageBuffers;
 use std::alloc::Global;
 use std::mem::forget;
 use std::process::Abort;
@@ -80,7 +81,10 @@ fn begin_dump(
 ) -> Result<(), Stop> {
     let (slot, parent) = slots;
     let pre_dumps = pre_dumps.to_vec(alloc)?;
-    drive.dumper.begin(number, pre_dumps, slot, parent)?;
+    let buffers = PageBuffers::reserve(alloc)?;
+    drive
+        .dumper
+        .begin(number, pre_dumps, slot, parent, buffers)?;
     Ok(())
 }
 

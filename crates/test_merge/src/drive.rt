@@ -8,7 +8,7 @@ use sd_gate::RequestId;
 use sd_image::Header;
 use sd_merge::{MergeProgress, Merger, Retired};
 use sd_pagetable::Memory;
-use sd_rounds::Dumper;
+use sd_rounds::{Dumper, PageBuffers};
 use sd_slots::ListRoom;
 use std::alloc::{AllocError, Global};
 
@@ -131,7 +131,9 @@ impl Drive {
         slot: usize,
     ) -> Result<(), Stop> {
         let parent = self.parent();
-        self.dumper.begin(number, Vec::new(alloc), slot, parent)?;
+        let buffers = PageBuffers::reserve(alloc)?;
+        self.dumper
+            .begin(number, Vec::new(alloc), slot, parent, buffers)?;
         self.serials = self.serials.wrapping_add(1);
         for _ in 0..MOST {
             if self.dump_on()? {
@@ -220,7 +222,7 @@ impl Drive {
     }
 
     /// The list that the merge closes, made in this room.
-    pub(crate) fn list(&self, room: ListRoom, outs: &[Option<RequestId>; 3]) -> Vec<Retired> {
+    pub(crate) fn list(&self, room: ListRoom, outs: &[Option<RequestId>]) -> Vec<Retired> {
         room.into_list(&self.catalog, &self.dumper, &self.merger, outs)
     }
 }

@@ -61,8 +61,9 @@ fn asked_by_dumper(
         state: SlotState::Raw,
     };
     match dumper.work(memory, image, ticket)? {
-        ImageStep::Call(request) | ImageStep::PageCall(request) | ImageStep::TableCall(request) =>
-            Ok(Some(request)),
+        ImageStep::Call(request)
+        | ImageStep::PageCall { request, .. }
+        | ImageStep::TableCall(request) => Ok(Some(request)),
         ImageStep::Frozen | ImageStep::Visited(_) | ImageStep::Copied(_) => Ok(None),
     }
 }

@@ -4,7 +4,7 @@ use sd_areas::SpaceId;
 use sd_disk::{Disk, MemDisk};
 use sd_gate::{Request, SlotState, perform};
 use sd_pagetable::Memory;
-use sd_rounds::{Dumper, ImageStep, NextImage, Progress, WorkError};
+use sd_rounds::{Dumper, ImageStep, NextImage, PageBuffers, Progress, WorkError};
 use std::alloc::Global;
 use std::process::Abort;
 use std::test::Fail;
@@ -42,7 +42,8 @@ impl Watched {
 
     fn begin(&mut self, alloc: Global) -> Result<(), Fail> {
         self.map()?;
-        self.dumper.begin(1, vec![in alloc; 0]?, 1, 0)?;
+        let buffers = PageBuffers::reserve(alloc)?;
+        self.dumper.begin(1, vec![in alloc; 0]?, 1, 0, buffers)?;
         self.look();
         Ok(())
     }
@@ -95,18 +96,22 @@ impl Watched {
         let step = self.work()?;
         self.moved()?;
         match step {
-            ImageStep::Call(request)
-            | ImageStep::PageCall(request)
-            | ImageStep::TableCall(request) => self.call(request),
+            ImageStep::Call(request) | ImageStep::TableCall(request) => self.call(request),
+            ImageStep::PageCall { request, .. } => self.perform(request),
             ImageStep::Frozen | ImageStep::Visited(_) | ImageStep::Copied(_) => Ok(false),
         }
     }
 
-    /// Makes a device call, and hands its outcome in. While it is out, a step is refused.
+    /// Makes a device call that writes no data page, and hands its outcome in. While it is out, a step is refused.
     fn call(&mut self, request: Request) -> Result<bool, Fail> {
         if !self.is_refused(WorkError::Busy) {
             return Err(Fail::from("a step that is refused"));
         }
+        self.perform(request)
+    }
+
+    /// Makes a device call, and hands its outcome in.
+    fn perform(&mut self, request: Request) -> Result<bool, Fail> {
         if self.disk.slots() <= request.id().slot {
             return Err(Fail::from("a slot of the disk"));
         }

@@ -5,7 +5,7 @@ use sd_gate::{Request, SlotState, perform};
 use sd_image::Header;
 use sd_pagetable::{Memory, StoreOutcome};
 use sd_restore::restore;
-use sd_rounds::{Dumper, ImageStep, NextImage, Progress};
+use sd_rounds::{Dumper, ImageStep, NextImage, PageBuffers, Progress};
 use std::alloc::Global;
 use std::test::Fail;
 
@@ -33,6 +33,7 @@ const MOST: usize = 1000;
 /// A memory, a disk, and a dumper between them.
 #[derive(Drop)]
 pub(crate) struct Drive {
+    alloc: Global,
     pub(crate) memory: Memory,
     disk: MemDisk,
     pub(crate) dumper: Dumper,
@@ -49,6 +50,7 @@ impl Drive {
     /// An empty disk, and a memory of one page.
     pub(crate) fn new(alloc: Global) -> Result<Self, Fail> {
         let mut drive = Drive {
+            alloc,
             memory: Memory::new(alloc, 16)?,
             disk: MemDisk::new(alloc, SLOTS, SLOT_SIZE, CALLS)?,
             dumper: Dumper::new(alloc),
@@ -71,7 +73,8 @@ impl Drive {
     ) -> Result<(), Fail> {
         self.events = 0;
         self.frozen = 0;
-        self.dumper.begin(number, rounds, dump, parent)?;
+        let buffers = PageBuffers::reserve(self.alloc)?;
+        self.dumper.begin(number, rounds, dump, parent, buffers)?;
         Ok(())
     }
 
@@ -90,7 +93,7 @@ impl Drive {
             .work(&mut self.memory, image, self.events as u64)?;
         match step {
             ImageStep::Call(request)
-            | ImageStep::PageCall(request)
+            | ImageStep::PageCall { request, .. }
             | ImageStep::TableCall(request) => self.call(request),
             ImageStep::Frozen => {
                 self.frozen = self.events;

@@ -15,3 +15,5 @@ mod opening;
 mod rows;
 #[cfg(test)]
 mod run;
+#[cfg(test)]
+mod writes;

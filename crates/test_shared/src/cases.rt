@@ -4,10 +4,11 @@ use crate::beside::{Way, save_beside};
 use crate::cancelling::cancel_beside;
 use crate::device::Device;
 use crate::falling::falls;
-use crate::holds::{Free, merges_in_13_calls};
+use crate::holds::{Free, merges_in_13_calls, saves_in_16_calls};
 use crate::jobs::Job;
 use crate::mutator::Mutator;
 use crate::told::Told;
+use crate::writers::{falls_beside, writes_beside};
 use sd_command::{Refusal, Reply};
 use sd_core::Core;
 use sd_disk::{Disk, Fused, MemDisk};
@@ -48,13 +49,17 @@ enum Case {
     Falls,
     /// A checkpoint on a disk that drops what it is given.
     Dropped,
+    /// A checkpoint whose pages two threads write, and one without threads behind it.
+    Relayed,
+    /// One of which the first page's write fails, and another one.
+    RelayFalls,
 }
 
 impl Case {
     /// After how many device calls one fails.
     fn fuse(self) -> u64 {
         match self {
-            Case::Falls => CALLS_BEFORE_A_PAGE,
+            Case::Falls | Case::RelayFalls => CALLS_BEFORE_A_PAGE,
             _ => u64::MAX,
         }
     }
@@ -141,6 +146,16 @@ fn act<R: Threads + Wait + Clock + Abort + Sync>(
             assert_eq!(rt; Job::Merging.make(rt, shared, &Free), Reply::Merged(3));
             acks.push(1)?;
             Ok(())
+        }
+        Case::Relayed => {
+            writes_beside(rt, shared);
+            acks.push(1)?;
+            saves_in_16_calls(rt, shared);
+            Ok(acks.push(2)?)
+        }
+        Case::RelayFalls => {
+            falls_beside(rt, shared);
+            Ok(acks.push(2)?)
         }
         Case::Cancelled => {
             let ended = cancel_beside(rt, shared, acks);
@@ -316,4 +331,16 @@ fn a_store_that_falls_ends_a_wait(rt: HostRuntime) -> Result<(), Fail> {
 #[test]
 fn drops_device_calls(rt: HostRuntime) -> Result<(), Fail> {
     run(&rt, rt.alloc(), Case::Dropped)
+}
+
+/// Two pages are written beside each other, each by a thread of its own; and a checkpoint behind that has its pre-dump.
+#[test]
+fn two_writers(rt: HostRuntime) -> Result<(), Fail> {
+    run(&rt, rt.alloc(), Case::Relayed)
+}
+
+/// A write fails that another thread makes.
+#[test]
+fn a_write_of_another_thread_fails(rt: HostRuntime) -> Result<(), Fail> {
+    run(&rt, rt.alloc(), Case::RelayFalls)
 }

@@ -19,3 +19,5 @@ mod jobs;
 mod mutator;
 #[cfg(test)]
 mod told;
+#[cfg(test)]
+mod writers;

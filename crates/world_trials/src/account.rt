@@ -101,12 +101,21 @@ impl Account {
         match event {
             Event::Command { command, .. } => self.take_command(command, reply),
             Event::Begin(_) => Ok(self.take_begin(reply)),
-            Event::Work(Worker::Dumper) => Ok(self.take_dump(reply)),
-            Event::Work(Worker::Opener) => Ok(self.take_opening(reply)),
+            Event::Work(worker) | Event::TakeUp(worker) | Event::HandInAt(worker, _) => {
+                Ok(self.take_work(*worker, reply))
+            }
             Event::Cancel => Ok(self.take_cancel(reply)),
-            Event::Work(Worker::Merger) | Event::Perform(_) | Event::Merge | Event::Reopen => {
+            Event::Perform(_) | Event::PerformAt(..) | Event::Merge | Event::Reopen => {
                 Ok(is_plain(reply))
             }
+        }
+    }
+
+    fn take_work(&mut self, worker: Worker, reply: &Reply) -> bool {
+        match worker {
+            Worker::Dumper => self.take_dump(reply),
+            Worker::Merger => matches!(reply, Reply::Merged(_)) || is_plain(reply),
+            Worker::Opener => self.take_opening(reply),
         }
     }
 

@@ -119,14 +119,14 @@ fn for_job(course: &Course, chance: &mut Chance) -> Event {
     match course.job() {
         Job::Closed => Event::Reopen,
         Job::Opening => course.next_of(Worker::Opener),
-        Job::Dumping => course.next_of(Worker::Dumper),
+        Job::Dumping | Job::Falling => course.next_of(Worker::Dumper),
         Job::Resting | Job::Full => Event::Begin(chance.below(4)),
     }
 }
 
 /// An event by chance.
 fn event(alloc: Global, course: &Course, chance: &mut Chance) -> Result<Event, AllocError> {
-    Ok(match chance.below(200) {
+    Ok(match chance.below(240) {
         0..=49 => Event::Command {
             seat: chance.below(4) as usize,
             command: command(alloc, course, chance)?,
@@ -137,6 +137,9 @@ fn event(alloc: Global, course: &Course, chance: &mut Chance) -> Result<Event, A
         66 => Event::Merge,
         67 => Event::Cancel,
         68 => Event::Reopen,
+        69..=98 => Event::TakeUp(worker(chance)),
+        99..=106 => Event::PerformAt(worker(chance), chance.below(4)),
+        107..=112 => Event::HandInAt(worker(chance), chance.below(4)),
         _ => for_job(course, chance),
     })
 }

@@ -25,6 +25,8 @@ pub(crate) enum Job {
     Dumping,
     /// Too few slots are free for any checkpoint.
     Full,
+    /// The store fell while device calls of the dumper were out.
+    Falling,
 }
 
 /// A world, the steps that it made so far, and what its replies say. It ends as the record of them.
@@ -51,9 +53,11 @@ fn job_after_begin(job: Job, rounds: u64, why: Refusal) -> Job {
 /// How it goes on behind a worker's step that is refused.
 fn job_after_work(job: Job, worker: Worker, why: Refusal) -> Job {
     match why {
+        Refusal::StoreDown if job == Job::Falling => job,
         Refusal::StoreDown | Refusal::Damaged => Job::Closed,
         Refusal::Idle => match (worker, job) {
             (Worker::Dumper, Job::Dumping) | (Worker::Opener, Job::Opening) => Job::Resting,
+            (Worker::Dumper, Job::Falling) => Job::Closed,
             _ => job,
         },
         _ => job,
@@ -64,8 +68,12 @@ fn job_after_work(job: Job, worker: Worker, why: Refusal) -> Job {
 fn job_after_refusal(job: Job, event: &Event, why: Refusal) -> Job {
     match event {
         Event::Begin(rounds) => job_after_begin(job, *rounds, why),
-        Event::Work(worker) => job_after_work(job, *worker, why),
-        Event::Reopen if why == Refusal::Busy => Job::Opening,
+        Event::Work(worker) | Event::TakeUp(worker) => job_after_work(job, *worker, why),
+        Event::HandInAt(worker, _) if why != Refusal::Idle => job_after_work(job, *worker, why),
+        Event::Reopen if why == Refusal::Busy => match job {
+            Job::Closed | Job::Falling => Job::Falling,
+            _ => Job::Opening,
+        },
         _ => job,
     }
 }
@@ -184,7 +192,7 @@ impl Course {
         for _ in 0..most {
             let worker = match self.job {
                 Job::Opening => Worker::Opener,
-                Job::Dumping => Worker::Dumper,
+                Job::Dumping | Job::Falling => Worker::Dumper,
                 Job::Closed | Job::Resting | Job::Full => return Ok(()),
             };
             let event = self.next_of(worker);

@@ -82,7 +82,7 @@ impl Figures {
 
 /// Whether a device call was made.
 pub(crate) fn is_call(event: &Event, reply: &Reply) -> bool {
-    matches!(event, Event::Perform(_))
+    matches!(event, Event::Perform(_) | Event::PerformAt(..))
         && matches!(reply, Reply::Worked | Reply::Refused(Refusal::Device))
 }
 

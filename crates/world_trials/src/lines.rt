@@ -5,9 +5,10 @@ use crate::lab::Failing;
 use crate::record::Record;
 use crate::rule::Rule;
 use crate::trouble::Trouble;
-use sd_areas::{Prot, SpaceId};
+use sd_areas::{PAGE_BYTES, Prot, SpaceId};
 use sd_command::{Bytes, Command};
 use sd_disk::MemDisk;
+use sd_gate::Worker;
 use sd_world::Event;
 use std::alloc::{AllocError, Global};
 
@@ -26,31 +27,37 @@ const RULES: [Rule; 8] = [
     Rule::Greatest(0xFF),
 ];
 
-/// The first address of the two pages.
+/// The first address of the pages.
 const FIRST: u64 = 0x10000;
 
 /// One line of a run.
 #[derive(Clone, Copy)]
 pub enum Line {
-    /// Two pages are mapped, to be read and written.
-    Map,
+    /// So many pages are mapped, to be read and written.
+    Map(u64),
     /// A byte is stored at an address behind the first.
     Store(u64, u8),
     /// A checkpoint of so many pre-dumps begins, in a store that is opened again before, where it isn't open.
     Begin(u64),
     /// So many steps of the job that runs.
     Steps(usize),
+    /// So many times the dumper takes up what is next, whatever outcomes are kept.
+    TakeUps(usize),
+    /// The device call at this place is made of those that the dumper asked for.
+    PerformAt(u64),
+    /// The outcome at this place is handed in of those of the dumper's calls.
+    HandInAt(u64),
     /// The job that runs comes to its end.
     Finish,
     /// The checkpoint that runs is cancelled.
     Cancel,
 }
 
-fn map() -> Command {
+fn map(pages: u64) -> Command {
     Command::Mmap {
         space: SpaceId::new(1),
         address: FIRST,
-        length: 8192,
+        length: pages.saturating_mul(PAGE_BYTES),
         prot: Prot {
             read: true,
             write: true,
@@ -69,11 +76,19 @@ fn store(alloc: Global, behind: u64, byte: u8) -> Result<Command, AllocError> {
 
 /// Opens the store again where it isn't open. A call may fail once.
 fn ready(course: &mut Course, figures: &mut Figures) -> Result<(), Trouble> {
-    for _ in 0..2 {
+    for _ in 0..3 {
         if course.job() == Job::Closed {
             course.step(Event::Reopen, figures)?;
             course.finish(MOST, figures)?;
         }
+    }
+    Ok(())
+}
+
+/// Takes up so many times what is next of the dumper.
+fn take_up(course: &mut Course, count: usize, figures: &mut Figures) -> Result<(), Trouble> {
+    for _ in 0..count {
+        course.step(Event::TakeUp(Worker::Dumper), figures)?;
     }
     Ok(())
 }
@@ -87,10 +102,10 @@ fn make(
 ) -> Result<(), Trouble> {
     let seat = 0;
     match line {
-        Line::Map => course.step(
+        Line::Map(pages) => course.step(
             Event::Command {
                 seat,
-                command: map(),
+                command: map(pages),
             },
             figures,
         ),
@@ -103,6 +118,9 @@ fn make(
             course.step(Event::Begin(rounds), figures)
         }
         Line::Steps(count) => course.finish(count, figures),
+        Line::TakeUps(count) => take_up(course, count, figures),
+        Line::PerformAt(place) => course.step(Event::PerformAt(Worker::Dumper, place), figures),
+        Line::HandInAt(place) => course.step(Event::HandInAt(Worker::Dumper, place), figures),
         Line::Finish => course.finish(MOST, figures),
         Line::Cancel => course.step(Event::Cancel, figures),
     }
@@ -144,7 +162,7 @@ fn play(
 
 /// The store that lines leave, synced.
 fn store_of(alloc: Global, lines: &[Line]) -> Result<MemDisk, Trouble> {
-    let empty = MemDisk::new(alloc, 6, 20_000, 100_000)?;
+    let empty = MemDisk::new(alloc, 6, 24_000, 100_000)?;
     let record = play(
         alloc,
         empty,

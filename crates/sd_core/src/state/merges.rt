@@ -5,7 +5,7 @@ ghost use Rattle.sd_command.specs.declared.reply.Reply.TheVariants as reply;
 ghost use Rattle.sd_gate.specs.Calls.{is_done};
 ghost use Rattle.sd_gate.specs.declared.worker.Worker.TheVariants as its;
 ghost use Rattle.sd_merge.specs.Merger.{slot_before};
-ghost use Rattle.sd_belief.specs.Calls.{AddsByOrder, HandedIn, IsOut, Stays};
+ghost use Rattle.sd_belief.specs.Calls.{AddsByOrder, HandedIn, Stays};
 ghost use Rattle.sd_belief.specs.View.{history_of};
 ghost use Rattle.sd_core.specs.Entering.{EntersFirst};
 ghost use Rattle.sd_core.specs.Lasting.{MergeLasts};
@@ -17,11 +17,12 @@ ghost use Rattle.sd_core.specs.Working.{FindsSource, Leaves, LeavesByOutcome};
 use super::Core;
 use crate::beginning::{first_of, has_tip, is_down, is_not_open};
 use crate::dumping::{closes_for_sure, enter_catalog, leave_catalog};
+use crate::lanes::{MERGER, put_out};
 use crate::merging::{
     StepFault, begin_copy, begin_merge, end_checkpoint, fix_list, may_read, serials_in,
     step_merger, take_room,
 };
-use crate::opening::{follow_call, put_out};
+use crate::opening::follow_call;
 use crate::taken::Taken;
 use sd_belief::{Standing, core_steps, merge_beginning_law, merger_outcomes, merger_steps};
 use sd_command::{Refusal, Reply};
@@ -121,7 +122,7 @@ impl Core {
         let request = begin_copy(&mut self.merger, &self.catalog, image, self.numbers.ticket);
         self.numbers.give();
         self.numbers.tick();
-        put_out(&mut self.outs, Worker::Merger, Some(request.id()));
+        put_out(&mut self.outs, MERGER, Some(request.id()));
         Taken::Call(request)
     }
 
@@ -156,7 +157,7 @@ impl Core {
             | MergeStep::PageCall(request)
             | MergeStep::TableCall(request) => {
                 self.numbers.tick();
-                put_out(&mut self.outs, Worker::Merger, Some(request.id()));
+                put_out(&mut self.outs, MERGER, Some(request.id()));
                 Taken::Call(request)
             }
             MergeStep::ReadCall(request) => {
@@ -165,7 +166,7 @@ impl Core {
                     return Taken::Step(Reply::Refused(Refusal::Damaged));
                 }
                 self.numbers.tick();
-                put_out(&mut self.outs, Worker::Merger, Some(request.id()));
+                put_out(&mut self.outs, MERGER, Some(request.id()));
                 Taken::Call(request)
             }
         }
@@ -173,10 +174,10 @@ impl Core {
 
     /// Takes the outcome of the merger's call.
     pub(super) fn hand_in_merger(&mut self, outcome: Outcome) -> Reply
-        requires out { IsOut self.old outcome.request.id }
+        requires out { slice_get self.old.outs 1 ≡ Some (Some outcome.request.id) }
         requires merger { outcome.request.id.worker ≡ its.Merger }
         requires runs { is_idle self.old its.Merger ≡ false }
-        ensures handed { HandedIn self.old outcome result self.new }
+        ensures handed { HandedIn self.old 1 outcome result self.new }
         ensures failed { is_done outcome.answer ≡ false ↔ result ≡ reply.Refused StoreDown }
         ensures leaves { LeavesByOutcome self.old its.Merger result self.new }
         ensures lasts { MergeLasts self.old self.new }
@@ -194,7 +195,7 @@ impl Core {
         let done = outcome.answer().is_done();
         let closed = closes_for_sure(self.phases[id.slot], id.call);
         follow_call(&mut self.phases, &id, done);
-        put_out(&mut self.outs, Worker::Merger, None);
+        put_out(&mut self.outs, MERGER, None);
         let progress = self.merger.hand_in(outcome);
         merger_outcomes(&self.catalog);
         match progress {

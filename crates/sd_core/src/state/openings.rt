@@ -1,19 +1,20 @@
 //! A core's opener: how it goes on, and takes the store to its opening.
-ghost use Rattle.std.specs.Prelude.{◌≡◌, None, false};
+ghost use Rattle.std.specs.Prelude.{◌≡◌, Some, None, false, slice_get};
 ghost use Rattle.sd_command.specs.declared.refusal.Refusal.TheVariants.{StoreDown};
 ghost use Rattle.sd_command.specs.declared.reply.Reply.TheVariants as reply;
 ghost use Rattle.sd_gate.specs.Calls.{is_done};
 ghost use Rattle.sd_gate.specs.declared.worker.Worker.TheVariants as its;
 ghost use Rattle.sd_opener.specs.Looking.{IsDoneAsAsked};
-ghost use Rattle.sd_belief.specs.Calls.{HandedIn, IsOut, MakesStep};
+ghost use Rattle.sd_belief.specs.Calls.{HandedIn, MakesStep};
 ghost use Rattle.sd_core.specs.Opening.{IsAllRead};
 ghost use Rattle.sd_core.specs.Refusals.{work_refusal};
 ghost use Rattle.sd_core.specs.Starts.{TakesUp};
 ghost use Rattle.sd_core.specs.Working.{Leaves, LeavesByOutcome, LeavesByStep};
 
 use super::Core;
+use crate::lanes::{OPENER, put_out};
 use crate::opening::{
-    follow_call, let_go, put_out, read_by, release_for_opening, step_opener, take_opener, teach,
+    follow_call, let_go, read_by, release_for_opening, step_opener, take_opener, teach,
 };
 use crate::taken::Taken;
 use sd_belief::{Standing, opener_steps, reopened_law};
@@ -37,7 +38,7 @@ impl Core {
         match step {
             OpenerStep::Call(request) => {
                 self.numbers.tick();
-                put_out(&mut self.outs, Worker::Opener, Some(request.id()));
+                put_out(&mut self.outs, OPENER, Some(request.id()));
                 Taken::Call(request)
             }
             OpenerStep::Decoded => Taken::Step(Reply::Worked),
@@ -86,9 +87,9 @@ impl Core {
 
     /// Takes the outcome of the opener's call.
     pub(super) fn hand_in_opener(&mut self, outcome: Outcome) -> Reply
-        requires out { IsOut self.old outcome.request.id }
+        requires out { slice_get self.old.outs 2 ≡ Some (Some outcome.request.id) }
         requires opener { outcome.request.id.worker ≡ its.Opener }
-        ensures handed { HandedIn self.old outcome result self.new }
+        ensures handed { HandedIn self.old 2 outcome result self.new }
         ensures failed { is_done outcome.answer ≡ false → result ≡ reply.Refused StoreDown }
         ensures goes_on { IsDoneAsAsked outcome → result ≡ reply.Worked }
         ensures leaves { LeavesByOutcome self.old its.Opener result self.new }
@@ -98,7 +99,7 @@ impl Core {
         let id = outcome.id();
         let done = outcome.answer().is_done();
         follow_call(&mut self.phases, &id, done);
-        put_out(&mut self.outs, Worker::Opener, None);
+        put_out(&mut self.outs, OPENER, None);
         if teach(&mut self.opener, outcome) {
             return Reply::Worked;
         }

@@ -1,15 +1,19 @@
 //! What a core tells of its run, and what is so of every core.
-ghost use Rattle.std.specs.Prelude.{◌≡◌, is_some};
+ghost use Rattle.std.specs.Prelude.{◌≡◌, ◌↔◌, ◌<◌, Some, IfSome, IsTrue, MatchOption, is_some, slice_get};
 ghost use Rattle.sd_areas.specs.Memory.{memory_of};
 ghost use Rattle.sd_journal.specs.History.{pending};
 ghost use Rattle.sd_journal.specs.Marked.{IsTracked};
+ghost use Rattle.sd_rounds.specs.Writes.{IsInLane};
 ghost use Rattle.sd_belief.specs.View.{history_of};
 ghost use Rattle.sd_core.specs.Beginning.{is_down};
 ghost use Rattle.sd_core.specs.Lasting.{LeavesMerged};
+ghost use Rattle.sd_core.specs.Refusals.{IsPageOut};
 
 use super::Core;
 use crate::beginning::is_down;
+use crate::lanes::{OPENER, lane_of};
 use sd_areas::Snapshot;
+use sd_gate::RequestId;
 use sd_journal::Journal;
 use sd_pagetable::Memory;
 
@@ -41,6 +45,25 @@ impl Core {
         ensures first { result.now.first ≡ 0 }
     {
         &self.journal
+    }
+
+    /// The lane in which the request with this id is out, below 11.
+    pub fn lane_of(&self, id: &RequestId) -> Option<usize>
+        ensures found { MatchOption result (IsInLane self.now.outs id.now → ⊥)
+            (λ lane. slice_get self.now.outs lane ≡ Some (Some id.now)) }
+        ensures within { IfSome result (λ lane. lane < 11) }
+    {
+        lane_of(&self.outs, id)
+    }
+
+    /// Whether the request with this id is out, and writes a data page of the dumper's.
+    pub fn is_page_write(&self, id: &RequestId) -> bool
+        ensures { IsTrue result ↔ IsPageOut self.now.outs id.now }
+    {
+        match lane_of(&self.outs, id) {
+            Some(lane) => lane > OPENER,
+            None => false,
+        }
     }
 
     /// Whether a checkpoint is pending: commands are refused as frozen.

@@ -9,8 +9,8 @@ returns c = record {
   begins_image = begins_image_lem c.making_law.ensures c.plans_lead.ensures;
   asks = λ old new running image next number request asked bodies files s b.
       asks_lem c.quiet_steps.ensures c.gate_steps.ensures c.made_law.ensures c.catalog_follows.ensures c.dump_shows.ensures old new running image next number request asked bodies files s b;
-  writes_page = writes_page_lem c.quiet_steps.ensures c.plans_lead.ensures c.bodies_fill.ensures c.catalog_follows.ensures c.making_law.ensures c.file_law.ensures;
-  writes_table = writes_table_lem c.quiet_steps.ensures c.plans_lead.ensures c.bodies_fill.ensures c.catalog_follows.ensures c.making_law.ensures c.file_law.ensures;
+  writes_page = writes_page_lem c.quiet_steps.ensures c.writes_commute.ensures c.bodies_fill.ensures c.catalog_follows.ensures c.making_law.ensures;
+  writes_table = writes_table_lem c.quiet_steps.ensures c.plans_lead.ensures c.catalog_follows.ensures c.making_law.ensures c.file_law.ensures;
   freezes = freezes_lem c.quiet_steps.ensures c.making_law.ensures;
   works = works_lem c.making_law.ensures;
 }

@@ -3,7 +3,7 @@ use Rattle.std.proofs.Common.{sym, subst}
 use Rattle.sd_run.specs.Goes.{GoesOn}
 use Rattle.sd_run.specs.Jobs.{IsDriven}
 use Rattle.sd_run.proofs.LineLemmas.{answered_as}
-use Rattle.sd_run.proofs.lines.answer.Goals.{in-Command, in-Begin, in-BeginMerge, in-Cancel, in-Work, in-Perform, in-Step, in-Finish, in-Checkpoint, in-Merge, in-Reopen}
+use Rattle.sd_run.proofs.lines.answer.Goals.{in-Command, in-Begin, in-BeginMerge, in-Cancel, in-Work, in-Perform, in-PerformAt, in-Step, in-Finish, in-Checkpoint, in-Merge, in-Reopen}
 use Rattle.sd_run.proofs.lines.answer.Goals as goal
 
 pub returns-clause-answered : goal.returns-clause-answered
@@ -25,6 +25,8 @@ returns-clause-answered g c =
           w.make-reply-in-Work.ensures.step
       | in-Perform w ↦ answered_as g.D.Disk first last w.make-reply-in-Perform.new.world line _ reply w.make-reply-in-Perform.result w.in-Perform.is w.reply-is w.world-is
           w.make-reply-in-Perform.ensures.step
+      | in-PerformAt w ↦ answered_as g.D.Disk first last w.make-reply-in-PerformAt.new.world line _ reply w.make-reply-in-PerformAt.result w.in-PerformAt.is w.reply-is w.world-is
+          w.make-reply-in-PerformAt.ensures.step
       | in-Step w ↦ answered_as g.D.Disk first last w.drive-reply.new.world line _ reply w.drive-reply.result w.in-Step.is w.reply-is w.world-is
           (subst (λ n. IsDriven g.D.Disk w.in-Step.worker n first w.drive-reply.result w.drive-reply.new.world) w.max.ensures w.drive-reply.ensures.driven)
       | in-Finish w ↦ answered_as g.D.Disk first last w.finish-reply.new.world line _ reply w.finish-reply.result w.in-Finish.is w.reply-is w.world-is
@@ -47,6 +49,7 @@ returns-clause-goes_on g c =
       | in-Cancel w ↦ subst (GoesOn g.D.Disk first) (sym w.world-is) w.make-reply-in-Cancel.ensures.goes_on
       | in-Work w ↦ subst (GoesOn g.D.Disk first) (sym w.world-is) w.make-reply-in-Work.ensures.goes_on
       | in-Perform w ↦ subst (GoesOn g.D.Disk first) (sym w.world-is) w.make-reply-in-Perform.ensures.goes_on
+      | in-PerformAt w ↦ subst (GoesOn g.D.Disk first) (sym w.world-is) w.make-reply-in-PerformAt.ensures.goes_on
       | in-Step w ↦ subst (GoesOn g.D.Disk first) (sym w.world-is) w.drive-reply.ensures.goes_on
       | in-Finish w ↦ subst (GoesOn g.D.Disk first) (sym w.world-is) w.finish-reply.ensures.goes_on
       | in-Checkpoint w ↦ subst (GoesOn g.D.Disk first) (sym w.world-is) w.do_job-reply.ensures.goes_on

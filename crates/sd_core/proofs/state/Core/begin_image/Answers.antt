@@ -1,4 +1,4 @@
-use Rattle.std.proofs.Common.{◌≡◌, ℕ, ◌+◌, ◌^◌, ◌<◌, ◌≤◌, ◌||◌, ◌&&◌, if◌then◌else◌, ◌∷◌, [], Some, None, IsSome, IfSome, length, slice_get, slice_index_or, slice_set, refl, sym, ◌∙◌, ap, subst, inl, arith}
+use Rattle.std.proofs.Common.{◌≡◌, ℕ, ◌+◌, ◌^◌, ◌<◌, ◌≤◌, ◌||◌, ◌&&◌, if◌then◌else◌, ◌∷◌, Some, None, IsSome, IfSome, length, slice_get, slice_index_or, slice_set, refl, sym, ◌∙◌, ap, subst, inl, arith}
 use Rattle.std.proofs.lemmas.Option.{same_Some, slice_get-get_or}
 use Rattle.std.proofs.Math.Bool.{and-false}
 use Rattle.sd_areas.specs.Memory.{memory_of}
@@ -16,7 +16,8 @@ use Rattle.sd_merge.specs.Merger as merger
 use Rattle.sd_rounds.specs.declared.image_order.ImageOrder.{ImageOrder}
 use Rattle.sd_belief.specs.Merges.{IsSpared, MakesOther}
 use Rattle.sd_rounds.specs.Dumper.{AreRunning, HasSlot, is_dumping, is_frozen_image, is_last, next_slot, order_of, slot_of}
-use Rattle.sd_rounds.specs.Making.{begun_image}
+use Rattle.sd_rounds.specs.Making.{Making, begun_image, out_of}
+use Rattle.sd_rounds.specs.Writes.{no_writes}
 use Rattle.sd_belief.specs.DumperSteps.{opens_gate}
 use Rattle.sd_belief.specs.View.{CoreView}
 use Rattle.sd_core.specs.declared.numbers.Numbers.{Numbers}
@@ -26,13 +27,14 @@ use Rattle.sd_core.specs.Sound.{AreNumbers, AreOuts, IsImageOf, IsJournal, IsMer
 use Rattle.sd_core.proofs.ApplyLemmas.{stays_same}
 use Rattle.sd_core.proofs.ImageLemmas.{begun_asked}
 use Rattle.sd_core.proofs.LittleLemmas.{begun_little}
-use Rattle.sd_core.proofs.MarkLemmas.{counted_held, held_place, next_is, none_visited, start_numbers}
+use Rattle.sd_core.proofs.MarkLemmas.{counted_held, held_place, next_is, none_visited, sound_image, start_numbers}
 use Rattle.sd_core.proofs.MergeLemmas.{asks_apart, fills_same, merging_stays}
 use Rattle.sd_core.proofs.OpeningLemmas.{hands_seen, step_seen}
+use Rattle.sd_core.proofs.OutsLemmas.{dumper_outs, on_slot, open_outs}
 use Rattle.sd_core.proofs.PreDumpLemmas.{change_stays, pre_dumps_stay}
 use Rattle.sd_core.proofs.StageLemmas.{asked_in}
 use Rattle.sd_core.proofs.StepLemmas.{begins_asking}
-use Rattle.sd_core.proofs.WorkLemmas.{asked_on, at_work, core_working, grown_core, held_at_work, held_same, free_beside, held_more, merger_within, noted_journal, open_more, open_outs, out_at_work, rests_before, slot_within}
+use Rattle.sd_core.proofs.WorkLemmas.{asked_on, at_work, core_working, grown_core, held_at_work, held_same, free_beside, held_more, merger_out, noted_journal, open_more, rests_before, slot_within, sound_writes}
 use Rattle.sd_core.proofs.state.Core.begin_image.Goals as goal
 
 pub overflow_add-serial : goal.overflow_add-serial
@@ -80,7 +82,6 @@ invariant_of-self-2 c =
     let serial = old.serial + 1 in
     let w = c.begin_next-request.ensures.begins in
     let core = grown_core _ c.reserve_mark.new.self c.self.invariant c.in-Ok.ensures.grown in
-    let out = out_at_work _ w.running None core w.was (ap (λ outs. slice_get outs 0) (rests_before _ w.running core w.was w.none)) in
     let work = at_work _ w.running core w.was in
     let begun = c.tick.ensures.begun ∙ ap (λ (n : Numbers). n.begun) c.give.ensures in
     let checkpoint = c.tick.ensures.checkpoint ∙ ap (λ (n : Numbers). n.checkpoint) c.give.ensures in
@@ -91,6 +92,9 @@ invariant_of-self-2 c =
     let t = begun_asked c.reserve_mark.new.self.items c.hold.new.self c.tick.new.self (order_of w.running serial c.state.result) w.next c.begin_next-request.result
     (omega (arith, given)) (held_place c.self.inside.catalog c.hold.new.self serial c.in-Ok-hold.ensures.held) (none_visited c.reserve_mark.new.self.items serial fresh) w.steps.0 in
     let within = slot_within _ w.running core w.was in
+    let asked = asked_on w.running (begun_image (order_of w.running serial c.state.result)) w.next _ t.out_is t.slot refl in
+    let whose = subst (λ o. IfSome o (λ (i : RequestId). i.worker ≡ its.Dumper)) (sym t.out_is) w.steps.1.worker in
+    let writes = sound_writes w.running w.next (ap (λ (o : ImageOrder). o.slot) t.order) (sound_image _ (record w.running { image = Some w.next }) w.next c.sound-2.ensures.image w.is refl) in
     let serials : old.serial + due_serials c.self.inside.merger ≤ 2 ^ 63 + w.running.opened = subst (λ i. old.serial + due_serials c.self.inside.merger ≤ 2 ^ 63 + begun_images w.running i) w.none work.serials in
     let few = work.few in
     let opened = (subst (AreRunning c.self.inside.dumper.since_freeze) w.was c.sound.ensures.running).few in
@@ -103,13 +107,13 @@ invariant_of-self-2 c =
           (c.tracked_laws.ensures.started base c.reserve_mark.new.self.items c.self.inside.memory serial core.journal_is.tracked fresh) core.journal_is);
       held = c.note.ensures.held ∙ held_at_work _ w.running core w.was ∙ held_same c.self.inside.pending w.running (record w.running { image = Some w.next }) None;
       outs_are = subst (λ st. AreOuts st c.put_out.new.outs c.self.inside.phases.items (Some (record w.running { image = Some w.next })) c.self.inside.merger None) (sym work.stands)
-          (open_outs c.put_out.new.outs c.self.inside.phases.items (Some (record w.running { image = Some w.next })) c.self.inside.merger (Some c.begin_next-request.result.id) (merger.out_of_merge c.self.inside.merger)
-          (c.put_out.ensures ∙ ap (λ outs. slice_set outs 0 (Some c.id.result)) out.1 ∙ ap (λ o. o ∷ merger.out_of_merge c.self.inside.merger ∷ None ∷ []) (ap Some c.id.ensures))
-          t.out_is refl
-          (λ id is. subst (λ (i : RequestId). i.slot < length c.self.inside.phases.items) (same_Some c.begin_next-request.result.id id is)
-          (subst (λ slot. slot < length c.self.inside.phases.items) (sym t.slot) within))
-          (λ id is. merger_within _ id core work.stands is)
-          (λ id other one two. asks_apart _ w.running id other core w.was (ap (λ (i : RequestId). i.slot) (sym (same_Some c.begin_next-request.result.id id one)) ∙ t.slot) two));
+          (open_outs c.put_out.new.outs c.self.inside.phases.items (Some (record w.running { image = Some w.next })) c.self.inside.merger
+          (c.put_out.ensures ∙ ap (λ id. slice_set c.self.inside.outs 0 (Some id)) c.id.ensures ∙ ap (λ all. slice_set all 0 (Some c.begin_next-request.result.id)) (rests_before _ w.running core w.was w.none)
+          ∙ ap (λ o. o ∷ merger.out_of_merge c.self.inside.merger ∷ None ∷ no_writes) (sym t.out_is)
+          ∙ ap (λ all. out_of w.next.stage ∷ merger.out_of_merge c.self.inside.merger ∷ None ∷ all) (sym (ap (λ (m : Making). m.writes) w.steps.0.is)))
+          (dumper_outs c.self.inside.phases.items (record w.running { image = Some w.next }) within asked whose writes)
+          (λ id is. merger_out _ id core work.stands is)
+          (λ id other one two. asks_apart _ w.running id other core w.was (on_slot (record w.running { image = Some w.next }) id asked writes one) two));
       numbers_are = subst (λ all. AreNumbers base all c.self.inside.pending c.self.inside.last c.tick.new.self) (sym c.note.ensures.items)
           (start_numbers base c.reserve_mark.new.self.items c.self.inside.pending c.self.inside.last old c.tick.new.self begun checkpoint given now core.numbers_are);
       counted = subst (λ n. (s : ℕ) (o : Opened) → place_of c.hold.new.self s ≡ Some (Some o) → o.header.checkpoint ≤ n) (sym checkpoint)
@@ -127,7 +131,9 @@ invariant_of-self-2 c =
         apart = work.apart;
         pre_dumps = pre_dumps_stay (begun_as w.running) c.self.inside.catalog c.hold.new.self w.running.opened w.running.parent
             (change_stays (begun_as w.running) c.self.inside.catalog c.hold.new.self serial w.running.opened (Some None) c.in-Ok-hold.ensures.held new_serial) work.pre_dumps;
-        asked = asked_on w.running (begun_image (order_of w.running serial c.state.result)) w.next _ t.out_is t.slot refl;
+        asked = asked;
+        whose = whose;
+        writes = writes;
         image = subst (λ all. IsImageOf all c.hold.new.self c.tick.new.self w.next) (sym c.note.ensures.items) t.image_is;
       };
       little = subst (λ all. TakesLittle base all c.begin_next-request.new.memory w.running.number w.next) (sym c.note.ensures.items)

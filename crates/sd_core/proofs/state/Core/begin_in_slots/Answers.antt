@@ -1,11 +1,11 @@
-use Rattle.std.proofs.Common.{◌≡◌, ◌∷◌, [], length, Some, None, refl, sym, ◌∙◌, ap, subst, arith}
+use Rattle.std.proofs.Common.{◌≡◌, ◌∷◌, length, Some, None, refl, sym, ◌∙◌, ap, subst, inl, inr, arith}
 use Rattle.std.proofs.lemmas.List.{length-take-le}
 use Rattle.sd_areas.specs.Memory.{memory_of}
 use Rattle.sd_journal.specs.History.{Base}
 use Rattle.sd_journal.specs.Legal.{IsAbove}
 use Rattle.sd_journal.specs.Marked.{entries_of}
 use Rattle.sd_merge.specs.Merger as merger
-use Rattle.sd_rounds.specs.Dumper.{begun_checkpoint, out_of_running}
+use Rattle.sd_rounds.specs.Dumper.{begun_checkpoint, out_of_running, slot_of, writes_of_running}
 use Rattle.sd_belief.specs.CheckpointSteps.{HasParent}
 use Rattle.sd_belief.specs.View.{CoreView}
 use Rattle.sd_core.specs.Beginning.{AreReserved, IsFirstParent}
@@ -16,8 +16,10 @@ use Rattle.sd_core.proofs.BeginLemmas.{MayBegin, begun_counted, begun_numbers, m
 use Rattle.sd_core.proofs.BegunLemmas.{begun_beside, few_due}
 use Rattle.sd_core.proofs.JournalLemmas.{same_journal}
 use Rattle.sd_core.proofs.OpeningLemmas.{stays_seen}
+use Rattle.sd_core.proofs.OutsLemmas.{dumper_outs, no_write, open_outs}
+use Rattle.sd_rounds.specs.Writes.{no_writes}
 use Rattle.sd_core.proofs.SlotLemmas.{filled_free, free_unreached, free_within, has_parent, leaves_merge, slots_apart}
-use Rattle.sd_core.proofs.WorkLemmas.{core_working, merger_within, open_outs}
+use Rattle.sd_core.proofs.WorkLemmas.{core_working, merger_out}
 use Rattle.sd_core.specs.contracts.state.Core.{the_view}
 use Rattle.sd_core.proofs.state.Core.begin_in_slots.Goals as goal
 
@@ -37,8 +39,8 @@ invariant_of-self-2 c =
     let checkpoint = ap (λ (n : Numbers). n.checkpoint) c.begin-number.ensures.numbers in
     let given = ap (λ (n : Numbers). n.given) c.begin-number.ensures.numbers in
     let serial = ap (λ (n : Numbers). n.serial) c.begin-number.ensures.numbers in
-    let outs : c.self.inside.outs ≡ None ∷ merger.out_of_merge c.self.inside.merger ∷ None ∷ [] =
-    inside.outs_are.jobs may.stands ∙ ap (λ r. out_of_running r ∷ merger.out_of_merge c.self.inside.merger ∷ None ∷ []) may.idle in
+    let outs : c.self.inside.outs ≡ None ∷ merger.out_of_merge c.self.inside.merger ∷ None ∷ no_writes =
+    inside.outs_are.jobs may.stands ∙ ap (λ r. out_of_running r ∷ merger.out_of_merge c.self.inside.merger ∷ None ∷ writes_of_running r) may.idle in
     let held = grown.held in
     let before = inside.held ∙ ap (λ f. held_for f c.self.inside.dumper.running c.self.inside.opener) none ∙ ap (λ r. held_for None r c.self.inside.opener) may.idle
     ∙ ap (held_for None None) closed in
@@ -55,8 +57,11 @@ invariant_of-self-2 c =
       journal_is = same_journal base c.self.inside.journal c.hold.new.self c.self.inside.memory c.self.inside.pending c.self.inside.last grown.first grown.items grown.limit inside.journal_is;
       held = two ∙ ap (λ f. held_for f (Some running) None) (sym none);
       outs_are = subst (λ st. AreOuts st c.self.inside.outs c.self.inside.phases.items (Some running) c.self.inside.merger None) (sym may.stands)
-          (open_outs c.self.inside.outs c.self.inside.phases.items (Some running) c.self.inside.merger None (merger.out_of_merge c.self.inside.merger) outs refl refl
-          (λ id is. absurd (let no : None ≡ Some id = is in cc)) (λ id is. merger_within _ id inside may.stands is) (λ id other is at. (let no : None ≡ Some id = is in cc)));
+          (open_outs c.self.inside.outs c.self.inside.phases.items (Some running) c.self.inside.merger outs
+          (dumper_outs c.self.inside.phases.items running (free_within c.free_law.ensures view r.slots (slot_of running) r.free
+          (filled_free view c.args.rounds c.begin-number.result slots.pre_dumps.items slots.dump c.first_parent-parent.result (slot_of running) r (record { place = 0; from = omega arith; is = refl }))) tt tt tt)
+          (λ id is. merger_out _ id inside may.stands is)
+          (λ id other is at same. elim is [ inl own ↦ (let no : None ≡ Some id = own in cc) | inr page ↦ no_write page.0 id page.1 ]));
       numbers_are = subst (λ all. AreNumbers base all c.self.inside.pending c.self.inside.last c.begin-number.new.self) (sym grown.items)
           (subst (λ f. AreNumbers base c.self.inside.journal.items f c.self.inside.last c.begin-number.new.self) (sym none)
           (begun_numbers base c.self.inside.journal.items c.self.inside.last c.self.inside.numbers c.begin-number.new.self begun checkpoint given serial
@@ -75,6 +80,8 @@ invariant_of-self-2 c =
         apart = λ one other below within. slots_apart c.free_law.ensures view c.args.rounds slots.pre_dumps.items slots.dump one other r below within;
         pre_dumps = refl;
         asked = tt;
+        whose = tt;
+        writes = tt;
         image = tt;
       };
       little = tt;

@@ -44,7 +44,7 @@ invariant_of-self-2 c =
     (λ o is. let double = c.hold.ensures.double.1 (subst IsSome (sym is) refl) in cc) in
     core_asks _ c.put_out.new.outs c.hold.new.self c.tick.new.self (record w.merge { doing = copying w.copy }) c.begin_copy-request.new.merger c.begin_copy-request.result.id c.self.invariant
     m.stands m.closed w.is (due_rests _ w.merge c.self.invariant w.was w.is_due) (c.put_out.ensures ∙ ap (λ id. slice_set c.self.inside.outs 1 (Some id)) c.id.ensures) out
-    (subst (λ s. s < length c.self.inside.phases.items) (sym own.slot) m.within) (spared_of c.self.inside.dumper.running _ (λ has. m.spared (subst (HasSlot c.self.inside.dumper.running) own.slot has)))
+    (subst (λ s. s < length c.self.inside.phases.items) (sym own.slot) m.within) w.steps.1.worker (spared_of c.self.inside.dumper.running _ (λ has. m.spared (subst (HasSlot c.self.inside.dumper.running) own.slot has)))
     (record {
       begun = begun;
       given = omega (arith, given, above);
@@ -112,6 +112,7 @@ returns-clause-takes c =
     } in
     let outs = c.put_out.ensures ∙ ap (λ id. slice_set c.self.inside.outs 1 (Some id)) c.id.ensures in
     hands_seen its.Merger request _ _ _ c.self.view_is (record {
+      lane = 1;
       free = rests;
       base = refl;
       history = refl;
@@ -119,7 +120,9 @@ returns-clause-takes c =
       outs = outs;
       whose = w.steps.1.worker;
       slot = subst (λ s. s < length c.self.inside.phases.items) (sym own.slot) m.within;
-      alone = subst (IsFree c.self.inside.outs) (sym own.slot) free;
+      apart = λ lane other at same. absurd (subst (IsFree c.self.inside.outs) (sym own.slot) free lane other at same);
+      pages = λ few. absurd (omega (arith, few));
+      beside = λ lane other at same. absurd (subst (IsFree c.self.inside.outs) (sym own.slot) free lane other at same);
       goes_on = λ asked bodies files believed.
           c.merger_steps.ensures.asks mid _ begun (begun_copy order) w.copy c.self.inside.numbers.ticket request asked bodies files refl (record {
             merges = record {

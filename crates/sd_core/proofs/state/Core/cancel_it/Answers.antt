@@ -7,7 +7,7 @@ use Rattle.sd_core.specs.Dumping.{ReleasesPlace}
 use Rattle.sd_core.specs.LittleWork.{HasLittle}
 use Rattle.sd_core.specs.Sound.{AreNumbers, IsAtWork, held_for}
 use Rattle.sd_core.proofs.ApplyLemmas.{same_phases}
-use Rattle.sd_core.proofs.CancelLemmas.{cancelled_journal, cancelled_numbers, counted_released, images_same, may_cancel, merges_on, rests_cancelled}
+use Rattle.sd_core.proofs.CancelLemmas.{cancelled_journal, cancelled_numbers, counted_released, images_same, may_cancel, merges_on, rests_cancelled, written_of}
 use Rattle.sd_core.proofs.JournalLemmas.{same_journal}
 use Rattle.sd_core.proofs.OpeningLemmas.{stays_seen}
 use Rattle.sd_core.proofs.RefusalLemmas.{MayCancel, may_cancel_now}
@@ -29,7 +29,7 @@ invariant_of-self c =
       journal_is = same_journal base c.append_held.new.self c.release.new.self c.self.inside.memory None c.self.inside.last (ap (λ (k : Kept). k.first) c.release.ensures) items
           (ap (λ (k : Kept). k.limit) c.release.ensures) journal;
       held = free ∙ ap (λ r. held_for None r None) (sym gone) ∙ ap (held_for None c.cancel.new.self.running) (sym may.closed);
-      outs_are = rests_cancelled _ c.cancel.new.self.running c.self.invariant may.closed may.rests gone;
+      outs_are = rests_cancelled _ c.cancel.new.self.running c.self.invariant may.closed may.rests may.pages gone;
       opening = c.self.invariant.opening;
       numbers_are = subst (λ all. AreNumbers base all None c.self.inside.last c.self.inside.numbers) (sym (items ∙ c.append_held.ensures.items))
           (cancelled_numbers base c.self.inside.journal.items c.self.inside.pending c.self.inside.last c.self.inside.numbers c.self.invariant.numbers_are);
@@ -59,6 +59,7 @@ returns-clause-keeps c =
         serial = refl;
         closed = may.closed;
         free = may.rests;
+        written = written_of _ c.self.invariant may.pages;
         sure = may.sure;
         merger = refl;
         images = images_same (serial_of c.self.inside.dumper.running) c.self.inside.catalog c.release_place.new.catalog released;

@@ -1,6 +1,6 @@
-use Rattle.std.proofs.Common.{◌≡◌, ◌+◌, ◌<◌, ◌≤◌, ◌^◌, if◌then◌else◌, ◌||◌, ◌&&◌, length, Some, None, IfSome, slice_get, slice_set, ◌∷◌, [], refl, sym, ◌∙◌, ap, subst, arith}
+use Rattle.std.proofs.Common.{◌≡◌, ◌+◌, ◌<◌, ◌≤◌, ◌^◌, if◌then◌else◌, ◌||◌, ◌&&◌, length, Some, None, IfSome, slice_get, slice_set, ◌∷◌, refl, sym, ◌∙◌, ap, subst, arith}
 use Rattle.sd_areas.specs.Memory.{memory_of}
-use Rattle.std.proofs.lemmas.Option.{same_Some}
+use Rattle.std.proofs.lemmas.Option.{slice_get_within}
 use Rattle.sd_gate.specs.declared.request_id.RequestId.{RequestId}
 use Rattle.sd_gate.specs.declared.worker.Worker.TheVariants as its
 use Rattle.sd_command.specs.declared.reply.Reply.TheVariants as reply
@@ -9,27 +9,30 @@ use Rattle.sd_journal.specs.History.{Base}
 use Rattle.sd_journal.specs.Legal.{IsLegal}
 use Rattle.sd_journal.specs.declared.mark.Mark.TheVariants.{Table, Visit}
 use Rattle.sd_journal.specs.Marked.{Noted, Told, entries_of}
-use Rattle.sd_rounds.specs.declared.image_step.ImageStep.TheVariants.{TableCall, Visited, Copied}
+use Rattle.sd_rounds.specs.declared.image_step.ImageStep.TheVariants.{Call, PageCall, TableCall, Visited, Copied}
 use Rattle.sd_pagetable.specs.Contents.{plain_of}
 use Rattle.sd_merge.specs.Merger as merger
 use Rattle.sd_rounds.specs.declared.image_order.ImageOrder.{ImageOrder}
 use Rattle.sd_rounds.specs.Dumper.{is_dumping, is_last, slot_of}
+use Rattle.sd_rounds.specs.Making.{Making}
 use Rattle.sd_belief.specs.DumperSteps.{opens_gate}
+use Rattle.sd_belief.specs.View.{page_lane}
 use Rattle.sd_core.specs.Dumping.{StepsOn}
 use Rattle.sd_core.specs.Images.{begun_as}
 use Rattle.sd_core.specs.LittleWork.{TakesLittle}
 use Rattle.sd_core.specs.Sound.{AreNumbers, IsImageOf, IsJournal, IsMerging, begun_images, due_serials, held_for}
-use Rattle.sd_core.proofs.ImageLemmas.{image_calls, image_frozen, image_table, image_visited, image_copied}
-use Rattle.sd_core.proofs.LittleLemmas.{asks_no_visit, freeze_little, little_of, step_little, visit_more}
-use Rattle.sd_core.proofs.MarkLemmas.{asks_or_writes, before_freeze, freeze_journal, freeze_numbers, frozen_next, may_freeze, sound_image, table_journal, visit_journal}
+use Rattle.sd_core.proofs.ImageLemmas.{image_asked, image_frozen, image_page, image_table, image_visited, image_copied}
+use Rattle.sd_core.proofs.LaneLemmas.{lane_free, none_written, outs_asked, outs_kept, outs_resting, outs_writing, page_apart, page_beside}
+use Rattle.sd_core.proofs.LittleLemmas.{freeze_little, little_of, step_little, visit_more}
+use Rattle.sd_core.proofs.MarkLemmas.{before_freeze, freeze_journal, freeze_numbers, frozen_next, may_freeze, sound_image, table_journal, visit_journal}
 use Rattle.sd_core.proofs.OpeningLemmas.{hands_seen, step_seen}
 use Rattle.sd_core.proofs.PreDumpLemmas.{same_stay}
-use Rattle.sd_core.proofs.WorkLemmas.{SameNumbers, asked_on, at_work, core_working, counted_same, free_beside, grown_core, held_at_work, image_of_work, image_within, its_serial, merging_turned, numbers_noted, numbers_same, out_at_work, own_order, own_slot, same_numbers, same_places, turned}
-use Rattle.sd_core.proofs.StepLemmas.{freezes_it, hands_asked, hands_call, works_on}
+use Rattle.sd_core.proofs.WorkLemmas.{SameNumbers, asked_on, at_work, core_working, counted_same, free_beside, grown_core, held_at_work, image_of_work, image_within, its_serial, merging_turned, numbers_noted, numbers_same, out_at_work, own_order, own_slot, same_numbers, same_places, sound_writes, turned}
+use Rattle.sd_core.proofs.StepLemmas.{freezes_it, hands_asked, hands_page, works_on}
 use Rattle.sd_core.proofs.state.Core.go_on_image.Goals as goal
 
-pub invariant_of-self-in-Copied-1 : goal.invariant_of-self-in-Copied-1
-invariant_of-self-in-Copied-1 c =
+pub invariant_of-self-in-Copied : goal.invariant_of-self-in-Copied
+invariant_of-self-in-Copied c =
     let base : Base = record { number = c.self.inside.number; memory = memory_of c.self.inside.base } in
     let w = subst (λ step. StepsOn c.self.inside.numbers.ticket c.self.inside.dumper c.self.inside.memory step c.step_on.new.dumper c.step_on.new.memory) c.in-Copied.is c.in-Ok-step_on.ensures.steps in
     let core = grown_core _ c.reserve_mark.new.self c.self.invariant c.in-Ok.ensures.grown in
@@ -57,8 +60,9 @@ invariant_of-self-in-Copied-1 c =
       journal_is = subst (λ m. IsJournal base c.reserve_mark.new.self m c.self.inside.pending c.self.inside.last) (sym w.steps.1) core.journal_is;
       numbers_are = core.numbers_are;
       counted = core.counted;
-      outs = out.1 ∙ ap (λ o. o ∷ merger.out_of_merge c.self.inside.merger ∷ None ∷ []) (sym t.out_is);
-      slot = λ id is. absurd (let no : None ≡ Some id = sym t.out_is ∙ is in cc);
+      outs = outs_kept w.running w.image w.next (merger.out_of_merge c.self.inside.merger) c.self.inside.outs out.1 w.making (ap (λ (m : Making). m.writes) w.steps.0.passes.1) t.out_is;
+      whose = subst (λ o. IfSome o (λ i. i.worker ≡ its.Dumper)) (sym t.out_is) tt;
+      writes = sound_writes w.running w.next (ap (λ (o : ImageOrder). o.slot) t.order ∙ own_slot c.self.inside.dumper.since_freeze _ w.running w.image c.sound.ensures.running w.was w.making) (sound_image _ (record w.running { image = Some w.next }) w.next c.sound-2.ensures.image w.is refl);
       stay = same_stay (begun_as w.running) c.self.inside.catalog w.running.opened;
       asked = asked_on w.running w.image w.next _ t.out_is t.slot (own_slot c.self.inside.dumper.since_freeze _ w.running w.image c.sound.ensures.running w.was w.making);
       image_is = t.image_is;
@@ -67,8 +71,8 @@ invariant_of-self-in-Copied-1 c =
           (sound_image _ w.running w.image c.sound.ensures.image w.was w.making).rising t.still refl refl (little_of base c.reserve_mark.new.self.items c.self.inside.memory c.self.inside.dumper.running w.running w.image core.little w.was w.making);
     }))
 
-pub invariant_of-self-in-Visited-1 : goal.invariant_of-self-in-Visited-1
-invariant_of-self-in-Visited-1 c =
+pub invariant_of-self-in-Visited : goal.invariant_of-self-in-Visited
+invariant_of-self-in-Visited c =
     let base : Base = record { number = c.self.inside.number; memory = memory_of c.self.inside.base } in
     let w = subst (λ step. StepsOn c.self.inside.numbers.ticket c.self.inside.dumper c.self.inside.memory step c.step_on.new.dumper c.step_on.new.memory) c.in-Visited.is c.in-Ok-step_on.ensures.steps in
     let core = grown_core _ c.reserve_mark.new.self c.self.invariant c.in-Ok.ensures.grown in
@@ -78,8 +82,8 @@ invariant_of-self-in-Visited-1 c =
     let within = image_within _ c.self.inside.dumper.since_freeze w.running w.image core c.sound.ensures.running w.was w.making in
     let t = image_visited _ _ _ w.image w.next c.self.inside.memory _ _ image w.steps in
     let given = image.given in
-    let its = its_serial _ w.running w.next c.serial.result _ w.is c.serial.ensures c.in-Some.is ∙ ap (λ (o : ImageOrder). o.serial) t.order in
-    let items = c.note-in-Visited.ensures.items ∙ ap (λ s. Noted (Visit s c.in-Visited.visit.space c.in-Visited.visit.page) ∷ c.reserve_mark.new.self.items) its in
+    let own_serial = its_serial _ w.running w.next c.serial.result _ w.is c.serial.ensures c.in-Some.is ∙ ap (λ (o : ImageOrder). o.serial) t.order in
+    let items = c.note-in-Visited.ensures.items ∙ ap (λ s. Noted (Visit s c.in-Visited.visit.space c.in-Visited.visit.page) ∷ c.reserve_mark.new.self.items) own_serial in
     core_working _ _ w.is (turned _ _ w.running w.image w.next core (record {
       was = w.was;
       making = w.making;
@@ -100,8 +104,9 @@ invariant_of-self-in-Visited-1 c =
       numbers_are = subst (λ all. AreNumbers base all c.self.inside.pending c.self.inside.last c.self.inside.numbers) (sym items)
           (numbers_noted base c.reserve_mark.new.self.items c.self.inside.pending c.self.inside.last c.self.inside.numbers (Visit w.image.order.serial c.in-Visited.visit.space c.in-Visited.visit.page) (omega (arith, given)) core.numbers_are);
       counted = core.counted;
-      outs = out.1 ∙ ap (λ o. o ∷ merger.out_of_merge c.self.inside.merger ∷ None ∷ []) (sym t.out_is);
-      slot = λ id is. absurd (let no : None ≡ Some id = sym t.out_is ∙ is in cc);
+      outs = outs_kept w.running w.image w.next (merger.out_of_merge c.self.inside.merger) c.self.inside.outs out.1 w.making (ap (λ (m : Making). m.writes) w.steps.passes.1) t.out_is;
+      whose = subst (λ o. IfSome o (λ i. i.worker ≡ its.Dumper)) (sym t.out_is) tt;
+      writes = sound_writes w.running w.next (ap (λ (o : ImageOrder). o.slot) t.order ∙ own_slot c.self.inside.dumper.since_freeze _ w.running w.image c.sound.ensures.running w.was w.making) (sound_image _ (record w.running { image = Some w.next }) w.next c.sound-2.ensures.image w.is refl);
       stay = same_stay (begun_as w.running) c.self.inside.catalog w.running.opened;
       asked = asked_on w.running w.image w.next _ t.out_is t.slot (own_slot c.self.inside.dumper.since_freeze _ w.running w.image c.sound.ensures.running w.was w.making);
       image_is = subst (λ all. IsImageOf all c.self.inside.catalog c.self.inside.numbers w.next) (sym items) t.image_is;
@@ -114,15 +119,14 @@ invariant_of-self-in-Visited-1 c =
 pub invariant_of-self-in-Call : goal.invariant_of-self-in-Call
 invariant_of-self-in-Call c =
     let base : Base = record { number = c.self.inside.number; memory = memory_of c.self.inside.base } in
-    let w = c.in-Ok-step_on.ensures.steps in
+    let w = subst (λ step. StepsOn c.self.inside.numbers.ticket c.self.inside.dumper c.self.inside.memory step c.step_on.new.dumper c.step_on.new.memory) c.in-Call.is c.in-Ok-step_on.ensures.steps in
     let core = grown_core _ c.reserve_mark.new.self c.self.invariant c.in-Ok.ensures.grown in
     let rests = ap (λ v. slice_get v.outs 0) c.self.view_is ∙ c.requires.rests in
     let out = out_at_work _ w.running None core w.was rests in
     let image = image_of_work _ w.running w.image core w.was w.making in
     let within = image_within _ c.self.inside.dumper.since_freeze w.running w.image core c.sound.ensures.running w.was w.making in
     let numbers : SameNumbers c.self.inside.numbers c.tick-in-Call.new.self = record { begun = c.tick-in-Call.ensures.begun; given = c.tick-in-Call.ensures.given; checkpoint = c.tick-in-Call.ensures.checkpoint; serial = c.tick-in-Call.ensures.serial } in
-    let a = asks_or_writes c.self.inside.numbers.ticket w.image c.self.inside.memory c.in-Ok-step_on.step c.in-Call.request w.next c.step_on.new.memory c.in-Call.is w.steps in
-    let t = image_calls _ _ _ c.tick-in-Call.new.self w.image w.next c.in-Call.request numbers image a.either in
+    let t = image_asked _ _ _ c.tick-in-Call.new.self w.image w.next c.in-Call.request numbers image w.steps.0 in
     core_working _ _ w.is (turned _ _ w.running w.image w.next core (record {
       was = w.was;
       making = w.making;
@@ -139,21 +143,65 @@ invariant_of-self-in-Call c =
       numbers = numbers;
       entries = refl;
       held = refl;
-      journal_is = subst (λ m. IsJournal base c.reserve_mark.new.self m c.self.inside.pending c.self.inside.last) (sym a.same) core.journal_is;
+      journal_is = subst (λ m. IsJournal base c.reserve_mark.new.self m c.self.inside.pending c.self.inside.last) (sym w.steps.2) core.journal_is;
       numbers_are = numbers_same base c.reserve_mark.new.self.items c.self.inside.pending c.self.inside.last c.self.inside.numbers c.tick-in-Call.new.self numbers core.numbers_are;
       counted = counted_same c.self.inside.catalog c.self.inside.numbers c.tick-in-Call.new.self numbers core.counted;
-      outs = c.put_out-in-Call.ensures ∙ ap (λ outs. slice_set outs 0 (Some c.id-in-Call.result)) out.1 ∙ ap (λ o. o ∷ merger.out_of_merge c.self.inside.merger ∷ None ∷ []) (ap Some c.id-in-Call.ensures ∙ sym t.out_is);
-      slot = λ id is. subst (λ (i : RequestId). i.slot < length c.self.inside.phases.items) (same_Some c.in-Call.request.id id (sym t.out_is ∙ is)) (subst (λ slot. slot < length c.self.inside.phases.items) (sym t.slot) within);
+      outs = c.put_out-in-Call.ensures ∙ ap (λ id. slice_set c.self.inside.outs 0 (Some id)) c.id-in-Call.ensures
+          ∙ outs_asked w.running w.image w.next (merger.out_of_merge c.self.inside.merger) c.self.inside.outs out.1 w.making c.in-Call.request.id (ap (λ (m : Making). m.writes) w.steps.0.is) t.out_is;
+      whose = subst (λ o. IfSome o (λ i. i.worker ≡ its.Dumper)) (sym t.out_is) w.steps.1.worker;
+      writes = sound_writes w.running w.next (ap (λ (o : ImageOrder). o.slot) t.order ∙ own_slot c.self.inside.dumper.since_freeze _ w.running w.image c.sound.ensures.running w.was w.making) (sound_image _ (record w.running { image = Some w.next }) w.next c.sound-2.ensures.image w.is refl);
       stay = same_stay (begun_as w.running) c.self.inside.catalog w.running.opened;
       asked = asked_on w.running w.image w.next _ t.out_is t.slot (own_slot c.self.inside.dumper.since_freeze _ w.running w.image c.sound.ensures.running w.was w.making);
       image_is = t.image_is;
       still = t.still;
-      little = step_little c.little_law.ensures base c.reserve_mark.new.self.items c.reserve_mark.new.self.items c.self.inside.memory c.step_on.new.memory w.running.number c.self.inside.numbers.ticket w.image w.next c.in-Ok-step_on.step w.steps
-          (sound_image _ w.running w.image c.sound.ensures.image w.was w.making).rising t.still (asks_no_visit c.in-Ok-step_on.step c.in-Call.request _ c.in-Call.is) refl (little_of base c.reserve_mark.new.self.items c.self.inside.memory c.self.inside.dumper.running w.running w.image core.little w.was w.making);
+      little = step_little c.little_law.ensures base c.reserve_mark.new.self.items c.reserve_mark.new.self.items c.self.inside.memory c.step_on.new.memory w.running.number c.self.inside.numbers.ticket w.image w.next (Call c.in-Call.request) w.steps
+          (sound_image _ w.running w.image c.sound.ensures.image w.was w.making).rising t.still refl refl (little_of base c.reserve_mark.new.self.items c.self.inside.memory c.self.inside.dumper.running w.running w.image core.little w.was w.making);
     }))
 
-pub invariant_of-self-in-TableCall-1 : goal.invariant_of-self-in-TableCall-1
-invariant_of-self-in-TableCall-1 c =
+pub invariant_of-self-in-PageCall : goal.invariant_of-self-in-PageCall
+invariant_of-self-in-PageCall c =
+    let base : Base = record { number = c.self.inside.number; memory = memory_of c.self.inside.base } in
+    let w = subst (λ step. StepsOn c.self.inside.numbers.ticket c.self.inside.dumper c.self.inside.memory step c.step_on.new.dumper c.step_on.new.memory) c.in-PageCall.is c.in-Ok-step_on.ensures.steps in
+    let core = grown_core _ c.reserve_mark.new.self c.self.invariant c.in-Ok.ensures.grown in
+    let rests = ap (λ v. slice_get v.outs 0) c.self.view_is ∙ c.requires.rests in
+    let out = out_at_work _ w.running None core w.was rests in
+    let image = image_of_work _ w.running w.image core w.was w.making in
+    let within = image_within _ c.self.inside.dumper.since_freeze w.running w.image core c.sound.ensures.running w.was w.making in
+    let numbers : SameNumbers c.self.inside.numbers c.tick.new.self = record { begun = c.tick.ensures.begun; given = c.tick.ensures.given; checkpoint = c.tick.ensures.checkpoint; serial = c.tick.ensures.serial } in
+    let t = image_page _ _ _ c.tick.new.self w.image w.next c.in-PageCall.lane c.in-PageCall.request numbers image w.steps.0 in
+    core_working _ _ w.is (turned _ _ w.running w.image w.next core (record {
+      was = w.was;
+      making = w.making;
+      is = w.is;
+      merger_is = refl;
+      room = refl;
+      serial = ap (λ (o : ImageOrder). o.serial) t.order;
+      places_stay = same_places w.running c.self.inside.catalog;
+      base = refl;
+      frozen = refl;
+      standing = refl;
+      opener = refl;
+      count = refl;
+      numbers = numbers;
+      entries = refl;
+      held = refl;
+      journal_is = subst (λ m. IsJournal base c.reserve_mark.new.self m c.self.inside.pending c.self.inside.last) (sym w.steps.2) core.journal_is;
+      numbers_are = numbers_same base c.reserve_mark.new.self.items c.self.inside.pending c.self.inside.last c.self.inside.numbers c.tick.new.self numbers core.numbers_are;
+      counted = counted_same c.self.inside.catalog c.self.inside.numbers c.tick.new.self numbers core.counted;
+      outs = c.put_out.ensures ∙ ap (λ k. slice_set c.self.inside.outs k (Some c.id.result)) c.page_lane.ensures.lane ∙ ap (λ id. slice_set c.self.inside.outs (page_lane c.in-PageCall.lane) (Some id)) c.id.ensures
+          ∙ outs_writing w.running w.image w.next (merger.out_of_merge c.self.inside.merger) c.self.inside.outs out.1 w.making c.in-PageCall.lane c.in-PageCall.request.id w.steps.0.writes t.out_is;
+      whose = subst (λ o. IfSome o (λ i. i.worker ≡ its.Dumper)) (sym t.out_is) tt;
+      writes = sound_writes w.running w.next (ap (λ (o : ImageOrder). o.slot) t.order ∙ own_slot c.self.inside.dumper.since_freeze _ w.running w.image c.sound.ensures.running w.was w.making) (sound_image _ (record w.running { image = Some w.next }) w.next c.sound-2.ensures.image w.is refl);
+      stay = same_stay (begun_as w.running) c.self.inside.catalog w.running.opened;
+      asked = asked_on w.running w.image w.next _ t.out_is t.slot (own_slot c.self.inside.dumper.since_freeze _ w.running w.image c.sound.ensures.running w.was w.making);
+      image_is = t.image_is;
+      still = t.still;
+      little = step_little c.little_law.ensures base c.reserve_mark.new.self.items c.reserve_mark.new.self.items c.self.inside.memory c.step_on.new.memory w.running.number c.self.inside.numbers.ticket w.image w.next (PageCall c.in-PageCall.lane c.in-PageCall.request) w.steps
+          (sound_image _ w.running w.image c.sound.ensures.image w.was w.making).rising t.still refl refl (little_of base c.reserve_mark.new.self.items c.self.inside.memory c.self.inside.dumper.running w.running w.image core.little w.was w.making);
+    }))
+
+pub invariant_of-self-in-TableCall : goal.invariant_of-self-in-TableCall
+invariant_of-self-in-TableCall c =
     let base : Base = record { number = c.self.inside.number; memory = memory_of c.self.inside.base } in
     let w = subst (λ step. StepsOn c.self.inside.numbers.ticket c.self.inside.dumper c.self.inside.memory step c.step_on.new.dumper c.step_on.new.memory) c.in-TableCall.is c.in-Ok-step_on.ensures.steps in
     let core = grown_core _ c.reserve_mark.new.self c.self.invariant c.in-Ok.ensures.grown in
@@ -161,11 +209,11 @@ invariant_of-self-in-TableCall-1 c =
     let out = out_at_work _ w.running None core w.was rests in
     let image = image_of_work _ w.running w.image core w.was w.making in
     let within = image_within _ c.self.inside.dumper.since_freeze w.running w.image core c.sound.ensures.running w.was w.making in
-    let numbers : SameNumbers c.self.inside.numbers c.tick.new.self = record { begun = c.tick.ensures.begun; given = c.tick.ensures.given; checkpoint = c.tick.ensures.checkpoint; serial = c.tick.ensures.serial } in
-    let t = image_table _ _ _ c.tick.new.self w.image w.next c.self.inside.memory c.in-TableCall.request numbers image w.steps.0 in
+    let numbers : SameNumbers c.self.inside.numbers c.tick-in-TableCall.new.self = record { begun = c.tick-in-TableCall.ensures.begun; given = c.tick-in-TableCall.ensures.given; checkpoint = c.tick-in-TableCall.ensures.checkpoint; serial = c.tick-in-TableCall.ensures.serial } in
+    let t = image_table _ _ _ c.tick-in-TableCall.new.self w.image w.next c.self.inside.memory c.in-TableCall.request numbers image w.steps.0 in
     let given = image.given in
-    let its = its_serial _ w.running w.next c.serial.result _ w.is c.serial.ensures c.in-Some.is ∙ ap (λ (o : ImageOrder). o.serial) t.order in
-    let items = c.note.ensures.items ∙ ap (λ s. Noted (Table s) ∷ c.reserve_mark.new.self.items) its in
+    let own_serial = its_serial _ w.running w.next c.serial.result _ w.is c.serial.ensures c.in-Some.is ∙ ap (λ (o : ImageOrder). o.serial) t.order in
+    let items = c.note.ensures.items ∙ ap (λ s. Noted (Table s) ∷ c.reserve_mark.new.self.items) own_serial in
     core_working _ _ w.is (turned _ _ w.running w.image w.next core (record {
       was = w.was;
       making = w.making;
@@ -184,23 +232,25 @@ invariant_of-self-in-TableCall-1 c =
       held = c.note.ensures.held;
       journal_is = subst (λ m. IsJournal base c.note.new.self m c.self.inside.pending c.self.inside.last) (sym w.steps.2)
           (table_journal c.tracked_laws.ensures _ w.running w.image w.next c.in-TableCall.request c.note.new.self core w.was w.making w.steps.0 items c.note.ensures.numbers.first c.note.ensures.numbers.limit);
-      numbers_are = subst (λ all. AreNumbers base all c.self.inside.pending c.self.inside.last c.tick.new.self) (sym items)
-          (numbers_same base _ c.self.inside.pending c.self.inside.last c.self.inside.numbers c.tick.new.self numbers
+      numbers_are = subst (λ all. AreNumbers base all c.self.inside.pending c.self.inside.last c.tick-in-TableCall.new.self) (sym items)
+          (numbers_same base _ c.self.inside.pending c.self.inside.last c.self.inside.numbers c.tick-in-TableCall.new.self numbers
           (numbers_noted base c.reserve_mark.new.self.items c.self.inside.pending c.self.inside.last c.self.inside.numbers (Table w.image.order.serial) (omega (arith, given)) core.numbers_are));
-      counted = counted_same c.self.inside.catalog c.self.inside.numbers c.tick.new.self numbers core.counted;
-      outs = c.put_out.ensures ∙ ap (λ outs. slice_set outs 0 (Some c.id.result)) out.1 ∙ ap (λ o. o ∷ merger.out_of_merge c.self.inside.merger ∷ None ∷ []) (ap Some c.id.ensures ∙ sym t.out_is);
-      slot = λ id is. subst (λ (i : RequestId). i.slot < length c.self.inside.phases.items) (same_Some c.in-TableCall.request.id id (sym t.out_is ∙ is)) (subst (λ slot. slot < length c.self.inside.phases.items) (sym t.slot) within);
+      counted = counted_same c.self.inside.catalog c.self.inside.numbers c.tick-in-TableCall.new.self numbers core.counted;
+      outs = c.put_out-in-TableCall.ensures ∙ ap (λ id. slice_set c.self.inside.outs 0 (Some id)) c.id-in-TableCall.ensures
+          ∙ outs_asked w.running w.image w.next (merger.out_of_merge c.self.inside.merger) c.self.inside.outs out.1 w.making c.in-TableCall.request.id (ap (λ (m : Making). m.writes) w.steps.0.is) t.out_is;
+      whose = subst (λ o. IfSome o (λ i. i.worker ≡ its.Dumper)) (sym t.out_is) w.steps.1.worker;
+      writes = sound_writes w.running w.next (ap (λ (o : ImageOrder). o.slot) t.order ∙ own_slot c.self.inside.dumper.since_freeze _ w.running w.image c.sound.ensures.running w.was w.making) (sound_image _ (record w.running { image = Some w.next }) w.next c.sound-2.ensures.image w.is refl);
       stay = same_stay (begun_as w.running) c.self.inside.catalog w.running.opened;
       asked = asked_on w.running w.image w.next _ t.out_is t.slot (own_slot c.self.inside.dumper.since_freeze _ w.running w.image c.sound.ensures.running w.was w.making);
-      image_is = subst (λ all. IsImageOf all c.self.inside.catalog c.tick.new.self w.next) (sym items) t.image_is;
+      image_is = subst (λ all. IsImageOf all c.self.inside.catalog c.tick-in-TableCall.new.self w.next) (sym items) t.image_is;
       still = t.still;
       little = subst (λ all. TakesLittle base all c.step_on.new.memory w.running.number w.next) (sym items)
           (step_little c.little_law.ensures base c.reserve_mark.new.self.items (Noted (Table w.image.order.serial) ∷ c.reserve_mark.new.self.items) c.self.inside.memory c.step_on.new.memory w.running.number c.self.inside.numbers.ticket w.image w.next (TableCall c.in-TableCall.request) w.steps
           (sound_image _ w.running w.image c.sound.ensures.image w.was w.making).rising t.still refl refl (little_of base c.reserve_mark.new.self.items c.self.inside.memory c.self.inside.dumper.running w.running w.image core.little w.was w.making));
     }))
 
-pub invariant_of-self-in-Frozen-1 : goal.invariant_of-self-in-Frozen-1
-invariant_of-self-in-Frozen-1 c =
+pub invariant_of-self-in-Frozen : goal.invariant_of-self-in-Frozen
+invariant_of-self-in-Frozen c =
     let base : Base = record { number = c.self.inside.number; memory = memory_of c.self.inside.base } in
     let w = subst (λ step. StepsOn c.self.inside.numbers.ticket c.self.inside.dumper c.self.inside.memory step c.step_on.new.dumper c.step_on.new.memory) c.in-Frozen.is c.in-Ok-step_on.ensures.steps in
     let core = grown_core _ c.reserve_mark.new.self c.self.invariant c.in-Ok.ensures.grown in
@@ -220,11 +270,13 @@ invariant_of-self-in-Frozen-1 c =
           (freeze_journal c.tracked_laws.ensures _ w.running c.append_held.new.self core w.was b.none c.append_held.ensures.items c.append_held.ensures.numbers.first c.append_held.ensures.numbers.limit);
       held = omega (arith, held, two);
       outs_are = record {
-        jobs = λ stands. out.1 ∙ ap (λ o. o ∷ merger.out_of_merge c.self.inside.merger ∷ None ∷ []) (sym t.out_is);
+        count = core.outs_are.count;
+        jobs = λ stands. outs_kept w.running w.image w.next (merger.out_of_merge c.self.inside.merger) c.self.inside.outs out.1 w.making (ap (λ (m : Making). m.writes) w.steps.0.is) t.out_is;
         opening = tt;
         none = λ closed idle. core.outs_are.none closed work.closed;
         two = λ idle. core.outs_are.two work.closed;
         within = core.outs_are.within;
+        whose = core.outs_are.whose;
         apart = core.outs_are.apart;
       };
       numbers_are = subst (λ all. AreNumbers base all (Some c.self.inside.numbers.begun) c.self.inside.last c.self.inside.numbers) (sym c.append_held.ensures.items)
@@ -244,6 +296,8 @@ invariant_of-self-in-Frozen-1 c =
         apart = work.apart;
         pre_dumps = work.pre_dumps;
         asked = subst (λ o. IfSome o (λ id. id.slot ≡ slot_of w.running)) (sym t.out_is) tt;
+        whose = subst (λ o. IfSome o (λ i. i.worker ≡ its.Dumper)) (sym t.out_is) tt;
+        writes = sound_writes w.running w.next (ap (λ (o : ImageOrder). o.slot) t.order ∙ own_slot c.self.inside.dumper.since_freeze _ w.running w.image c.sound.ensures.running w.was w.making) (sound_image _ (record w.running { image = Some w.next }) w.next c.sound-2.ensures.image w.is refl);
         image = subst (λ all. IsImageOf all c.self.inside.catalog c.self.inside.numbers w.next) (sym c.append_held.ensures.items) t.image_is;
       };
       little = subst (λ all. TakesLittle base all c.step_on.new.memory w.running.number w.next) (sym c.append_held.ensures.items)
@@ -369,46 +423,85 @@ returns-in-TableCall-clause-takes c =
       catalog = refl;
       memory = w.steps.2;
       phases = refl;
-      serial = c.tick.ensures.serial;
+      serial = c.tick-in-TableCall.ensures.serial;
       free = rests;
-      apart = free_beside _ w.running c.in-TableCall.request.id.slot c.self.invariant w.was out.1 (slot ∙ own_slot c.self.inside.dumper.since_freeze _ w.running w.image c.sound.ensures.running w.was w.making);
-      outs = c.put_out.ensures ∙ ap (λ id. slice_set c.self.inside.outs 0 (Some id)) c.id.ensures;
+      apart = free_beside _ w.running c.in-TableCall.request.id.slot c.self.invariant w.was (outs_resting w.running w.image w.next (merger.out_of_merge c.self.inside.merger) c.self.inside.outs out.1 w.making w.steps.0.rests) (slot ∙ own_slot c.self.inside.dumper.since_freeze _ w.running w.image c.sound.ensures.running w.was w.making);
+      outs = c.put_out-in-TableCall.ensures ∙ ap (λ id. slice_set c.self.inside.outs 0 (Some id)) c.id-in-TableCall.ensures;
       was = w.was;
       making = w.making;
       rising = (sound_image _ w.running w.image c.sound.ensures.image w.was w.making).rising;
       own = own_order c.self.inside.dumper.since_freeze _ w.running w.image c.sound.ensures.running w.was w.making;
       steps = w.steps;
-      committing = c.is_committing-self-inside.ensures ∙ ap (λ r. c.self.inside.committing || is_dumping r && opens_gate c.id-in-TableCall.result.call) w.is
-          ∙ ap (λ (i : RequestId). c.self.inside.committing || is_last w.running && opens_gate i.call) c.id-in-TableCall.ensures;
+      committing = c.is_committing-self-inside-in-TableCall.ensures ∙ ap (λ r. c.self.inside.committing || is_dumping r && opens_gate c.id-in-TableCall-2.result.call) w.is
+          ∙ ap (λ (i : RequestId). c.self.inside.committing || is_last w.running && opens_gate i.call) c.id-in-TableCall-2.ensures;
       is = w.is;
     }) w.steps.1 (subst (λ slot. slot < length c.self.inside.phases.items) (sym slot) within) (λ asked bodies files. c.dumper_steps.ensures.writes_table _ _ w.running w.image w.next c.self.inside.numbers.ticket c.in-TableCall.request asked bodies files))
 
 pub returns-in-Call-clause-takes : goal.returns-in-Call-clause-takes
 returns-in-Call-clause-takes c =
     let base : Base = record { number = c.self.inside.number; memory = memory_of c.self.inside.base } in
-    let w = c.in-Ok-step_on.ensures.steps in
+    let w = subst (λ step. StepsOn c.self.inside.numbers.ticket c.self.inside.dumper c.self.inside.memory step c.step_on.new.dumper c.step_on.new.memory) c.in-Call.is c.in-Ok-step_on.ensures.steps in
     let rests = ap (λ v. slice_get v.outs 0) c.self.view_is ∙ c.requires.rests in
     let out = out_at_work _ w.running None c.self.invariant w.was rests in
     let work = at_work _ w.running c.self.invariant w.was in
     let within = image_within _ c.self.inside.dumper.since_freeze w.running w.image c.self.invariant c.sound.ensures.running w.was w.making in
-    let a = asks_or_writes c.self.inside.numbers.ticket w.image c.self.inside.memory c.in-Ok-step_on.step c.in-Call.request w.next c.step_on.new.memory c.in-Call.is w.steps in
-    let slot = (image_calls _ _ _ _ w.image w.next c.in-Call.request (same_numbers _) (image_of_work _ w.running w.image c.self.invariant w.was w.making) a.either).slot in
-    hands_seen its.Dumper c.in-Call.request _ _ _ c.self.view_is (hands_call c.dumper_steps.ensures _ _ w.running w.image w.next c.self.inside.numbers.ticket c.in-Ok-step_on.step c.in-Call.request c.in-Call.is (record {
+    let slot = (image_asked _ _ _ _ w.image w.next c.in-Call.request (same_numbers _) (image_of_work _ w.running w.image c.self.invariant w.was w.making) w.steps.0).slot in
+    let good = sound_image _ w.running w.image c.sound.ensures.image w.was w.making in
+    let resting = outs_resting w.running w.image w.next (merger.out_of_merge c.self.inside.merger) c.self.inside.outs out.1 w.making (none_written w.image w.steps.0.plan w.steps.0.was good) in
+    hands_seen its.Dumper c.in-Call.request _ _ _ c.self.view_is (hands_asked _ _ w.running w.image w.next c.self.inside.numbers.ticket (Call c.in-Call.request) c.in-Call.request (record {
       rest = record { stands = work.stands; base = refl; closed = work.closed; grows = refl; merger = refl };
       history = ap entries_of c.in-Ok.ensures.grown.items;
       catalog = refl;
-      memory = a.same;
+      memory = w.steps.2;
       phases = refl;
       serial = c.tick-in-Call.ensures.serial;
       free = rests;
-      apart = free_beside _ w.running c.in-Call.request.id.slot c.self.invariant w.was out.1 (slot ∙ own_slot c.self.inside.dumper.since_freeze _ w.running w.image c.sound.ensures.running w.was w.making);
+      apart = free_beside _ w.running c.in-Call.request.id.slot c.self.invariant w.was resting (slot ∙ own_slot c.self.inside.dumper.since_freeze _ w.running w.image c.sound.ensures.running w.was w.making);
       outs = c.put_out-in-Call.ensures ∙ ap (λ id. slice_set c.self.inside.outs 0 (Some id)) c.id-in-Call.ensures;
       was = w.was;
       making = w.making;
       rising = (sound_image _ w.running w.image c.sound.ensures.image w.was w.making).rising;
       own = own_order c.self.inside.dumper.since_freeze _ w.running w.image c.sound.ensures.running w.was w.making;
       steps = w.steps;
-      committing = c.is_committing-self-inside-in-Call.ensures ∙ ap (λ r. c.self.inside.committing || is_dumping r && opens_gate c.id-in-Call-2.result.call) w.is
+      committing = c.is_committing-self-inside.ensures ∙ ap (λ r. c.self.inside.committing || is_dumping r && opens_gate c.id-in-Call-2.result.call) w.is
           ∙ ap (λ (i : RequestId). c.self.inside.committing || is_last w.running && opens_gate i.call) c.id-in-Call-2.ensures;
       is = w.is;
-    }) a.by (subst (λ slot. slot < length c.self.inside.phases.items) (sym slot) within))
+    }) w.steps.1 (subst (λ slot. slot < length c.self.inside.phases.items) (sym slot) within) (λ asked bodies files. c.dumper_steps.ensures.asks _ _ w.running w.image w.next c.self.inside.numbers.ticket c.in-Call.request asked bodies files))
+
+pub returns-in-PageCall-clause-takes : goal.returns-in-PageCall-clause-takes
+returns-in-PageCall-clause-takes c =
+    let base : Base = record { number = c.self.inside.number; memory = memory_of c.self.inside.base } in
+    let w = subst (λ step. StepsOn c.self.inside.numbers.ticket c.self.inside.dumper c.self.inside.memory step c.step_on.new.dumper c.step_on.new.memory) c.in-PageCall.is c.in-Ok-step_on.ensures.steps in
+    let rests = ap (λ v. slice_get v.outs 0) c.self.view_is ∙ c.requires.rests in
+    let out = out_at_work _ w.running None c.self.invariant w.was rests in
+    let work = at_work _ w.running c.self.invariant w.was in
+    let within = image_within _ c.self.inside.dumper.since_freeze w.running w.image c.self.invariant c.sound.ensures.running w.was w.making in
+    let slot = w.steps.0.slot in
+    let own = own_slot c.self.inside.dumper.since_freeze _ w.running w.image c.sound.ensures.running w.was w.making in
+    hands_seen its.Dumper c.in-PageCall.request _ _ _ c.self.view_is (hands_page c.dumper_steps.ensures _ _ w.running w.image w.next c.self.inside.numbers.ticket c.in-PageCall.lane c.in-PageCall.request (record {
+      rest = record { stands = work.stands; base = refl; closed = work.closed; grows = refl; merger = refl };
+      history = ap entries_of c.in-Ok.ensures.grown.items;
+      catalog = refl;
+      memory = w.steps.2;
+      phases = refl;
+      serial = c.tick.ensures.serial;
+      free = lane_free w.running w.image w.next (merger.out_of_merge c.self.inside.merger) c.self.inside.outs out.1 w.making c.in-PageCall.lane w.steps.0.free;
+      apart = page_apart _ w.running w.image w.next c.in-PageCall.lane c.in-PageCall.request c.self.invariant w.was w.making out.1 own w.steps.0;
+      outs = c.put_out.ensures ∙ ap (λ k. slice_set c.self.inside.outs k (Some c.id.result)) c.page_lane.ensures.lane ∙ ap (λ id. slice_set c.self.inside.outs (page_lane c.in-PageCall.lane) (Some id)) c.id.ensures;
+      was = w.was;
+      making = w.making;
+      rising = (sound_image _ w.running w.image c.sound.ensures.image w.was w.making).rising;
+      own = own_order c.self.inside.dumper.since_freeze _ w.running w.image c.sound.ensures.running w.was w.making;
+      steps = w.steps;
+      committing = refl;
+      is = w.is;
+    }) w.steps.1 (subst (λ slot. slot < length c.self.inside.phases.items) (sym slot) within)
+    (page_beside _ w.running w.image w.next c.in-PageCall.lane c.in-PageCall.request c.self.invariant w.was w.making out.1 own w.steps.0))
+
+pub page_lane-requires : goal.page_lane-requires
+page_lane-requires c =
+    let w = subst (λ step. StepsOn c.self.inside.numbers.ticket c.self.inside.dumper c.self.inside.memory step c.step_on.new.dumper c.step_on.new.memory) c.in-PageCall.is c.in-Ok-step_on.ensures.steps in
+    let good = sound_image _ w.running w.image c.sound.ensures.image w.was w.making in
+    let within = slice_get_within w.image.writes c.in-PageCall.lane None w.steps.0.free in
+    let eight = good.lanes.count in
+    omega (arith, within, eight)

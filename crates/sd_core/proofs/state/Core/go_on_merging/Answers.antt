@@ -1,4 +1,4 @@
-use Rattle.std.proofs.Common.{◌≡◌, length, true, false, Err, Some, slice_get, slice_set, refl, sym, ◌∙◌, ap, subst, inl}
+use Rattle.std.proofs.Common.{◌≡◌, length, true, false, Err, Some, slice_get, slice_set, refl, sym, ◌∙◌, ap, subst, inl, arith}
 use Rattle.sd_gate.specs.declared.request_id.RequestId.{RequestId}
 use Rattle.sd_gate.specs.declared.worker.Worker.TheVariants as its
 use Rattle.sd_command.specs.declared.refusal.Refusal.TheVariants.{Damaged}
@@ -56,7 +56,7 @@ invariant_of-self-in-ReadCall-1 c =
     (subst (λ (i : RequestId). MayRead c.self.inside.dumper.running c.len.result i.slot) c.id.ensures (c.may_read.ensures.0 c.if-not-may_read.false)) in
     let r = reads_beside _ c.self.inside.numbers.ticket c.tick.new.self w.merge c.in-ReadCall.request w.doing c.self.invariant w.was same (subst HasSoundCopy w.was c.sound.ensures.copy) may steps in
     core_asks _ c.put_out.new.outs _ c.tick.new.self (record w.merge { doing = w.doing }) c.step_merger.new.merger c.in-ReadCall.request.id c.self.invariant m.stands m.closed w.is rests
-    (c.put_out.ensures ∙ ap (λ id. slice_set c.self.inside.outs 1 (Some id)) c.id-in-ReadCall.ensures) r.asks.out r.asks.within r.asks.spared
+    (c.put_out.ensures ∙ ap (λ id. slice_set c.self.inside.outs 1 (Some id)) c.id-in-ReadCall.ensures) r.asks.out r.asks.within r.asks.worker r.asks.spared
     (leaves_same _ _ w.merge (record w.merge { doing = w.doing }) c.self.invariant w.was r.asks.fewer same) (counted_same _ _ _ same c.self.invariant.counted) r.asks.merging
 
 pub invariant_of-self-in-Call : goal.invariant_of-self-in-Call
@@ -69,7 +69,7 @@ invariant_of-self-in-Call c =
     let a = asks_beside _ c.self.inside.numbers.ticket c.tick-in-Call.new.self w.merge c.in-Ok.step c.in-Call.request w.doing c.self.invariant w.was same
     (subst AreRunning w.was c.sound.ensures.running) (subst HasSoundCopy w.was c.sound.ensures.copy) call w.steps in
     core_asks _ c.put_out-in-Call.new.outs _ c.tick-in-Call.new.self (record w.merge { doing = w.doing }) c.step_merger.new.merger c.in-Call.request.id c.self.invariant m.stands m.closed w.is rests
-    (c.put_out-in-Call.ensures ∙ ap (λ id. slice_set c.self.inside.outs 1 (Some id)) c.id-in-Call.ensures) a.out a.within a.spared
+    (c.put_out-in-Call.ensures ∙ ap (λ id. slice_set c.self.inside.outs 1 (Some id)) c.id-in-Call.ensures) a.out a.within a.worker a.spared
     (leaves_same _ _ w.merge (record w.merge { doing = w.doing }) c.self.invariant w.was a.fewer same) (counted_same _ _ _ same c.self.invariant.counted) a.merging
 
 pub returns-in-Zero-clause-takes : goal.returns-in-Zero-clause-takes
@@ -112,6 +112,7 @@ returns-else-not-may_read-clause-takes c =
     let outs = c.put_out.ensures ∙ ap (λ id. slice_set c.self.inside.outs 1 (Some id)) c.id-in-ReadCall.ensures in
     let free = free_asked _ c.in-ReadCall.request.id.slot c.self.invariant m.stands rests r.asks.spared in
     hands_seen its.Merger c.in-ReadCall.request _ _ _ c.self.view_is (record {
+      lane = 1;
       free = rests;
       base = refl;
       history = refl;
@@ -119,7 +120,9 @@ returns-else-not-may_read-clause-takes c =
       outs = outs;
       whose = r.asks.worker;
       slot = r.asks.within;
-      alone = free;
+      apart = λ lane other at same. absurd (free lane other at same);
+      pages = λ few. absurd (omega (arith, few));
+      beside = λ lane other at same. absurd (free lane other at same);
       goes_on = λ asked bodies files b. goes_by_read c.self.inside.catalog c.merger_steps.ensures (the_view c.self.inside) _ w.merge w.doing c.self.inside.numbers.ticket c.in-ReadCall.request asked bodies files refl (record {
         rest = record { stands = m.stands; base = refl; history = refl; memory = refl; closed = m.closed; grows = refl; committing = refl; dumper = refl; makes = makes_in c.self.inside.dumper.since_freeze c.self.inside.dumper.running c.sound-2.ensures.running };
         phases = refl;
@@ -145,6 +148,7 @@ returns-in-Call-clause-takes c =
     let outs = c.put_out-in-Call.ensures ∙ ap (λ id. slice_set c.self.inside.outs 1 (Some id)) c.id-in-Call.ensures in
     let free = free_asked _ c.in-Call.request.id.slot c.self.invariant m.stands rests a.spared in
     hands_seen its.Merger c.in-Call.request _ _ _ c.self.view_is (record {
+      lane = 1;
       free = rests;
       base = refl;
       history = refl;
@@ -152,7 +156,9 @@ returns-in-Call-clause-takes c =
       outs = outs;
       whose = a.worker;
       slot = a.within;
-      alone = free;
+      apart = λ lane other at same. absurd (free lane other at same);
+      pages = λ few. absurd (omega (arith, few));
+      beside = λ lane other at same. absurd (free lane other at same);
       goes_on = λ asked bodies files b. goes_by_call _ c.merger_steps.ensures _ _ w.merge w.doing c.self.inside.numbers.ticket c.in-Ok.step c.in-Call.request asked bodies files refl (record {
         rest = record { stands = m.stands; base = refl; history = refl; memory = refl; closed = m.closed; grows = refl; committing = refl; dumper = refl; makes = makes_in c.self.inside.dumper.since_freeze c.self.inside.dumper.running c.sound-2.ensures.running };
         phases = refl;

@@ -1,4 +1,4 @@
-use Rattle.std.proofs.Common.{◌≡◌, ◌↔◌, ◌+◌, ◌^◌, ◌<◌, ◌≤◌, ◌==◌, ◌∷◌, Contains, [], length, Some, None, IfSome, slice_get, slice_index_or, slice_set, refl, sym, ◌∙◌, ap, subst, arith}
+use Rattle.std.proofs.Common.{◌≡◌, ◌↔◌, ◌+◌, ◌^◌, ◌<◌, ◌≤◌, ◌==◌, ◌∷◌, Contains, length, Some, None, IfSome, slice_get, slice_index_or, refl, sym, ◌∙◌, ap, subst, inl, inr, arith}
 use Rattle.std.proofs.lemmas.Option.{same_Some, slice_get-get_or}
 use Rattle.sd_areas.specs.Memory.{memory_of}
 use Rattle.sd_chain.specs.Catalog.{Changes, Opened}
@@ -9,6 +9,7 @@ use Rattle.sd_rounds.specs.LittleWork.{TookVisited}
 use Rattle.sd_rounds.specs.Pass.{Place}
 use Rattle.sd_gate.specs.declared.phase.Phase.{Phase}
 use Rattle.sd_gate.specs.declared.request_id.RequestId.{RequestId}
+use Rattle.sd_gate.specs.declared.worker.Worker.TheVariants.{Dumper}
 use Rattle.sd_gate.specs.Calls.{is_done}
 use Rattle.sd_gate.specs.Phases.{phases_after}
 use Rattle.sd_command.specs.declared.refusal.Refusal.TheVariants.{StoreDown}
@@ -16,25 +17,31 @@ use Rattle.sd_command.specs.declared.reply.Reply.TheVariants as reply
 use Rattle.sd_journal.specs.declared.entry.Entry.TheVariants.{Acked}
 use Rattle.sd_journal.specs.History.{Base}
 use Rattle.sd_journal.specs.Marked.{Told, entries_of}
-use Rattle.sd_rounds.specs.Dumper.{Hands, HasCounted, HasSlot, after_pre_dump, out_of_running, slot_of}
+use Rattle.sd_rounds.specs.Dumper.{Hands, HasCounted, HasSlot, after_pre_dump, out_of_running, slot_of, writes_of_running}
 use Rattle.sd_belief.specs.DumperOutcomes.{IsDumpersOutcome, LeavesCatalog, closes_for_sure}
-use Rattle.sd_belief.specs.View.{CoreView, index}
+use Rattle.sd_belief.specs.View.{CoreView, page_lane}
 use Rattle.sd_belief.specs.declared.standing.Standing.TheVariants.{Open}
 use Rattle.sd_belief.specs.Merges.{IsSpared, MakesOther}
 use Rattle.sd_merge.specs.Merger as merger
-use Rattle.sd_core.specs.Images.{HasImage, HasPreDumps, begun_as}
+use Rattle.sd_core.specs.Images.{HasImage, HasPreDumps, begun_as, job_of}
+use Rattle.sd_core.specs.Refusals.{is_idle}
+use Rattle.sd_pagetable.specs.Contents.{plain_of}
+use Rattle.sd_rounds.specs.Left.{left_of}
+use Rattle.sd_rounds.specs.declared.progress.Progress.TheVariants.{More}
 use Rattle.sd_core.specs.LittleWork.{HasLittle, visits_of, way_due}
 use Rattle.sd_core.specs.Sound.{AreNumbers, IsAtWork, AreOuts, IsMerging, IsOpening, begun_images, due_serials, held_for}
 use Rattle.sd_core.proofs.CoreLemmas.{after_count}
 use Rattle.sd_core.proofs.EnteredLemmas.{entered_merge, fills_after, left_places}
-use Rattle.sd_core.proofs.FallenLemmas.{fallen_core, free_after, let_go_two}
+use Rattle.sd_core.proofs.FallenLemmas.{apart_after, fallen_core, free_after, let_go_two}
 use Rattle.sd_core.proofs.ImageLemmas.{image_more}
+use Rattle.sd_core.proofs.LaneLemmas.{goes_out, handed_at, more_outs, opens_lane, opens_outs, outcome_at, plan_lane, slot_at, out_there, write_closes_none, write_lane}
+use Rattle.sd_core.proofs.OutsLemmas.{DumperOuts, IsOfDumper, dumper_none, dumper_outs, far, no_write, open_outs}
 use Rattle.sd_core.proofs.LittleLemmas.{dump_ways, freeze_memory, little_of, more_little, round_took, seen_before}
 use Rattle.sd_core.proofs.MarkLemmas.{sound_image}
 use Rattle.sd_core.proofs.OpeningLemmas.{handed_seen}
 use Rattle.sd_core.proofs.OutcomeLemmas.{has_image, acked_journal, acked_numbers, checkpoint_used, counted_opened, dump_pends, handed_dumper, left_counted, left_held, opened_now, pre_dump_pends}
 use Rattle.sd_core.proofs.PreDumpLemmas.{all_pre_dumps, change_stays, few_opened, leave_stays, none_held, pre_dump_entered, pre_dumps_stay}
-use Rattle.sd_core.proofs.WorkLemmas.{at_work, core_working, held_at_work, held_same, image_of_work, merger_within, open_outs, out_at_work, own_order, same_numbers, turned}
+use Rattle.sd_core.proofs.WorkLemmas.{at_work, core_working, held_at_work, held_same, image_of_work, merger_out, own_order, own_slot, same_numbers, sound_writes, turned}
 use Rattle.sd_core.proofs.state.Core.hand_in_dumper.Goals as goal
 
 pub invariant_of-self : goal.invariant_of-self
@@ -42,17 +49,16 @@ invariant_of-self c =
     let made = c.args.outcome in
     let id = made.request.id in
     let phases = c.self.inside.phases.items in
-    let own : slice_get c.self.inside.outs 0 ≡ Some (Some id) = ap (λ w. slice_get c.self.inside.outs (index w)) (sym c.requires.dumper)
-    ∙ ap (λ (v : CoreView). slice_get v.outs (index id.worker)) c.self.view_is ∙ c.requires.out in
+    let own : slice_get c.self.inside.outs c.args.lane ≡ Some (Some id) = ap (λ (v : CoreView). slice_get v.outs c.args.lane) c.self.view_is ∙ c.requires.out in
     let h = subst (λ p. Hands c.self.inside.dumper made p c.hand_in.new.self) c.in-Failed.is c.hand_in.ensures.hands in
     let work = at_work _ h.running c.self.invariant h.was in
-    let within = c.self.invariant.outs_are.within 0 id own in
+    let within = c.self.invariant.outs_are.within c.args.lane id own in
     let follows : (phase : Phase) → slice_get phases id.slot ≡ Some phase → c.follow_call.new.phases.items ≡ phases_after phases id phase (is_done made.answer) =
     (λ phase is. c.follow_call.ensures phase (ap (λ (i : RequestId). slice_get phases i.slot) c.id-id.ensures ∙ is)
     ∙ ap (λ i. phases_after phases i phase c.is_done-done.result) c.id-id.ensures
     ∙ ap (phases_after phases id phase) (c.is_done-done.ensures ∙ ap is_done c.answer.ensures)) in
     let count = after_count phases c.follow_call.new.phases.items id (is_done made.answer) within follows in
-    fallen_core _ c.release_unfrozen.new.journal _ _ _ _ _ _ 0 c.self.invariant work.closed c.release_unfrozen.ensures.items c.release_unfrozen.ensures.first c.release_unfrozen.ensures.limit
+    fallen_core _ c.release_unfrozen.new.journal _ _ _ _ _ _ c.args.lane c.self.invariant work.closed c.release_unfrozen.ensures.items c.release_unfrozen.ensures.first c.release_unfrozen.ensures.limit
     (let_go_two c.self.inside.pending _ h.running c.self.inside.journal _ h.was (c.self.invariant.held ∙ ap (held_for c.self.inside.pending c.self.inside.dumper.running) work.closed) c.release_unfrozen.ensures)
     refl count c.put_out.ensures (ap (λ d. d.running) h.is) c.cancel.ensures
 
@@ -62,13 +68,10 @@ invariant_of-self-in-More c =
     let made = c.args.outcome in
     let id = made.request.id in
     let phases = c.self.inside.phases.items in
-    let own : slice_get c.self.inside.outs 0 ≡ Some (Some id) = ap (λ w. slice_get c.self.inside.outs (index w)) (sym c.requires.dumper)
-    ∙ ap (λ (v : CoreView). slice_get v.outs (index id.worker)) c.self.view_is ∙ c.requires.out in
+    let own : slice_get c.self.inside.outs c.args.lane ≡ Some (Some id) = ap (λ (v : CoreView). slice_get v.outs c.args.lane) c.self.view_is ∙ c.requires.out in
     let h = subst (λ p. Hands c.self.inside.dumper made p c.hand_in.new.self) c.in-More.is c.hand_in.ensures.hands in
     let work = at_work _ h.running c.self.invariant h.was in
-    let out = out_at_work _ h.running (Some id) c.self.invariant h.was own in
-    let within = c.self.invariant.outs_are.within 0 id own in
-    let now_out : c.put_out.new.outs ≡ None ∷ merger.out_of_merge c.self.inside.merger ∷ None ∷ [] = c.put_out.ensures ∙ ap (λ outs. slice_set outs 0 None) out.1 in
+    let within = c.self.invariant.outs_are.within c.args.lane id own in
     let follows : (phase : Phase) → slice_get phases id.slot ≡ Some phase → c.follow_call.new.phases.items ≡ phases_after phases id phase (is_done made.answer) =
     (λ phase is. c.follow_call.ensures phase (ap (λ (i : RequestId). slice_get phases i.slot) c.id-id.ensures ∙ is)
     ∙ ap (λ i. phases_after phases i phase c.is_done-done.result) c.id-id.ensures
@@ -77,7 +80,8 @@ invariant_of-self-in-More c =
     let image = image_of_work _ h.running h.hands.image c.self.invariant h.was h.hands.was in
     let t = image_more c.self.inside.journal.items c.self.inside.catalog c.leave_catalog.new.catalog c.self.inside.numbers h.hands.image h.hands.next made image
     (left_held c.closes_for_sure-closed.result c.id-id.result.slot c.self.inside.catalog c.leave_catalog.new.catalog h.hands.image.order.serial c.leave_catalog.ensures image.held) h.hands.hands in
-    let own_slot_is = ap (λ (i : RequestId). i.slot) c.id-id.ensures ∙ subst (λ o. IfSome o (λ i. i.slot ≡ slot_of h.running)) out.0 work.asked in
+    let own_slot_is = ap (λ (i : RequestId). i.slot) c.id-id.ensures ∙ slot_at _ h.running c.args.lane id c.self.invariant h.was c.requires.dumper own in
+    let now_is = ap (λ d. d.running) h.is ∙ ap Some h.hands.is in
     core_working _ _ (ap (λ d. d.running) h.is ∙ ap Some h.hands.is) (turned _ _ h.running h.hands.image h.hands.next c.self.invariant (record {
       was = h.was;
       making = h.hands.was;
@@ -97,11 +101,13 @@ invariant_of-self-in-More c =
       journal_is = c.self.invariant.journal_is;
       numbers_are = c.self.invariant.numbers_are;
       counted = left_counted c.closes_for_sure-closed.result c.id-id.result.slot c.self.inside.catalog c.leave_catalog.new.catalog c.self.inside.numbers c.leave_catalog.ensures c.self.invariant.counted;
-      outs = now_out ∙ ap (λ o. o ∷ merger.out_of_merge c.self.inside.merger ∷ None ∷ []) (sym t.out_is);
-      slot = λ other is. absurd (let no : None ≡ Some other = sym t.out_is ∙ is in cc);
+      outs = c.put_out.ensures ∙ more_outs _ h.running h.hands.image h.hands.next c.args.lane made c.self.invariant h.was h.hands.was own t.out_is h.hands.hands;
       stay = leave_stays h.running c.closes_for_sure-closed.result c.id-id.result.slot c.self.inside.catalog c.leave_catalog.new.catalog c.leave_catalog.ensures
           own_slot_is (few_opened c.self.inside.dumper.since_freeze _ h.running c.sound.ensures.running h.was) work.apart;
       asked = subst (λ o. IfSome o (λ i. i.slot ≡ slot_of h.running)) (sym t.out_is) tt;
+      whose = subst (λ o. IfSome o (λ i. i.worker ≡ Dumper)) (sym t.out_is) tt;
+      writes = sound_writes h.running h.hands.next (ap (λ (o : ImageOrder). o.slot) t.order ∙ own_slot c.self.inside.dumper.since_freeze _ h.running h.hands.image c.sound.ensures.running h.was h.hands.was)
+          (sound_image _ (record h.running { image = Some h.hands.next }) h.hands.next c.sound-in-More.ensures.image now_is refl);
       image_is = t.image_is;
       still = t.still;
       little = more_little c.little_law.ensures base c.self.inside.journal.items c.self.inside.memory h.running.number h.hands.image h.hands.next made h.hands.hands t.still
@@ -114,13 +120,11 @@ invariant_of-self-in-PreDump c =
     let made = c.args.outcome in
     let id = made.request.id in
     let phases = c.self.inside.phases.items in
-    let own : slice_get c.self.inside.outs 0 ≡ Some (Some id) = ap (λ w. slice_get c.self.inside.outs (index w)) (sym c.requires.dumper)
-    ∙ ap (λ (v : CoreView). slice_get v.outs (index id.worker)) c.self.view_is ∙ c.requires.out in
+    let own : slice_get c.self.inside.outs c.args.lane ≡ Some (Some id) = ap (λ (v : CoreView). slice_get v.outs c.args.lane) c.self.view_is ∙ c.requires.out in
     let h = subst (λ p. Hands c.self.inside.dumper made p c.hand_in.new.self) c.in-PreDump.is c.hand_in.ensures.hands in
     let work = at_work _ h.running c.self.invariant h.was in
-    let out = out_at_work _ h.running (Some id) c.self.invariant h.was own in
-    let within = c.self.invariant.outs_are.within 0 id own in
-    let now_out : c.put_out.new.outs ≡ None ∷ merger.out_of_merge c.self.inside.merger ∷ None ∷ [] = c.put_out.ensures ∙ ap (λ outs. slice_set outs 0 None) out.1 in
+    let within = c.self.invariant.outs_are.within c.args.lane id own in
+    let now_out = c.put_out.ensures ∙ opens_outs _ h.running h.hands.0.image c.args.lane made _ c.self.invariant h.was h.hands.0.was own h.hands.0.hands in
     let follows : (phase : Phase) → slice_get phases id.slot ≡ Some phase → c.follow_call.new.phases.items ≡ phases_after phases id phase (is_done made.answer) =
     (λ phase is. c.follow_call.ensures phase (ap (λ (i : RequestId). slice_get phases i.slot) c.id-id.ensures ∙ is)
     ∙ ap (λ i. phases_after phases i phase c.is_done-done.result) c.id-id.ensures
@@ -140,9 +144,11 @@ invariant_of-self-in-PreDump c =
       journal_is = c.self.invariant.journal_is;
       held = held_at_work _ h.running c.self.invariant h.was ∙ held_same c.self.inside.pending h.running (after_pre_dump h.running opened) None;
       outs_are = subst (λ st. AreOuts st c.put_out.new.outs c.follow_call.new.phases.items (Some (after_pre_dump h.running opened)) c.self.inside.merger None) (sym work.stands)
-          (open_outs c.put_out.new.outs c.follow_call.new.phases.items (Some (after_pre_dump h.running opened)) c.self.inside.merger None (merger.out_of_merge c.self.inside.merger) now_out refl refl
-          (λ other is. absurd (let no : None ≡ Some other = is in cc)) (λ other is. subst (λ n. other.slot < n) (sym count) (merger_within _ other c.self.invariant work.stands is))
-          (λ other one is at. (let no : None ≡ Some other = is in cc)));
+          (open_outs c.put_out.new.outs c.follow_call.new.phases.items (Some (after_pre_dump h.running opened)) c.self.inside.merger now_out
+          (dumper_outs c.follow_call.new.phases.items (after_pre_dump h.running opened) (subst (λ k. slot_of (after_pre_dump h.running opened) < k) (sym count)
+          (work.within (slot_of (after_pre_dump h.running opened)) (record { place = h.running.opened + 1; from = omega arith; is = refl }))) tt tt tt)
+          (λ other is. (let its = merger_out _ other c.self.invariant work.stands is in (subst (λ n. other.slot < n) (sym count) its.0, its.1)))
+          (λ other one is at same. elim is [ inl plan ↦ (let no : None ≡ Some other = plan in cc) | inr page ↦ no_write page.0 other page.1 ]));
       numbers_are = c.self.invariant.numbers_are;
       counted = counted;
       work = record {
@@ -163,6 +169,8 @@ invariant_of-self-in-PreDump c =
             (change_stays (begun_as h.running) c.self.inside.catalog c.enter_catalog.new.catalog h.hands.0.image.order.serial h.running.opened _ changes
             (λ o is. none_held c.self.inside.catalog h.hands.0.image.order.serial o image.held is)) work.pre_dumps;
         asked = tt;
+        whose = tt;
+        writes = tt;
         image = tt;
       };
       little = tt;
@@ -205,13 +213,11 @@ invariant_of-self-in-Dump c =
     let made = c.args.outcome in
     let id = made.request.id in
     let phases = c.self.inside.phases.items in
-    let own : slice_get c.self.inside.outs 0 ≡ Some (Some id) = ap (λ w. slice_get c.self.inside.outs (index w)) (sym c.requires.dumper)
-    ∙ ap (λ (v : CoreView). slice_get v.outs (index id.worker)) c.self.view_is ∙ c.requires.out in
+    let own : slice_get c.self.inside.outs c.args.lane ≡ Some (Some id) = ap (λ (v : CoreView). slice_get v.outs c.args.lane) c.self.view_is ∙ c.requires.out in
     let h = subst (λ p. Hands c.self.inside.dumper made p c.hand_in.new.self) c.in-Dump.is c.hand_in.ensures.hands in
     let work = at_work _ h.running c.self.invariant h.was in
-    let out = out_at_work _ h.running (Some id) c.self.invariant h.was own in
-    let within = c.self.invariant.outs_are.within 0 id own in
-    let now_out : c.put_out.new.outs ≡ None ∷ merger.out_of_merge c.self.inside.merger ∷ None ∷ [] = c.put_out.ensures ∙ ap (λ outs. slice_set outs 0 None) out.1 in
+    let within = c.self.invariant.outs_are.within c.args.lane id own in
+    let now_out = c.put_out.ensures ∙ opens_outs _ h.running h.hands.0.image c.args.lane made _ c.self.invariant h.was h.hands.0.was own h.hands.0.hands in
     let follows : (phase : Phase) → slice_get phases id.slot ≡ Some phase → c.follow_call.new.phases.items ≡ phases_after phases id phase (is_done made.answer) =
     (λ phase is. c.follow_call.ensures phase (ap (λ (i : RequestId). slice_get phases i.slot) c.id-id.ensures ∙ is)
     ∙ ap (λ i. phases_after phases i phase c.is_done-done.result) c.id-id.ensures
@@ -235,10 +241,11 @@ invariant_of-self-in-Dump c =
       held = free ∙ ap (λ r. held_for None r None) (sym gone) ∙ ap (held_for None c.hand_in.new.self.running) (sym work.closed);
       outs_are = subst (λ st. AreOuts st c.put_out.new.outs c.follow_call.new.phases.items c.hand_in.new.self.running c.self.inside.merger c.self.inside.opener) (sym work.stands)
           (subst (λ o. AreOuts Open c.put_out.new.outs c.follow_call.new.phases.items c.hand_in.new.self.running c.self.inside.merger o) (sym work.closed)
-          (open_outs c.put_out.new.outs c.follow_call.new.phases.items c.hand_in.new.self.running c.self.inside.merger None (merger.out_of_merge c.self.inside.merger) now_out
-          (ap out_of_running gone) refl
-          (λ other is. absurd (let no : None ≡ Some other = is in cc)) (λ other is. subst (λ n. other.slot < n) (sym count) (merger_within _ other c.self.invariant work.stands is))
-          (λ other one is at. (let no : None ≡ Some other = is in cc))));
+          (open_outs c.put_out.new.outs c.follow_call.new.phases.items c.hand_in.new.self.running c.self.inside.merger
+          (now_out ∙ ap (λ r. out_of_running r ∷ merger.out_of_merge c.self.inside.merger ∷ None ∷ writes_of_running r) (sym gone))
+          (subst (DumperOuts c.follow_call.new.phases.items) (sym gone) (dumper_none c.follow_call.new.phases.items))
+          (λ other is. (let its = merger_out _ other c.self.invariant work.stands is in (subst (λ n. other.slot < n) (sym count) its.0, its.1)))
+          (λ other one is at same. elim (subst (λ r. IsOfDumper r other) gone is) [ inl plan ↦ (let no : None ≡ Some other = plan in cc) | inr page ↦ no_write page.0 other page.1 ])));
       opening = subst (λ o. IfSome o (IsOpening c.self.inside.standing c.follow_call.new.phases.items)) (sym work.closed) tt;
       numbers_are = subst (λ all. AreNumbers base all None (Some c.self.inside.numbers.begun) c.self.inside.numbers) (sym c.append_held.ensures.items)
           (acked_numbers base c.self.inside.journal.items c.self.inside.pending c.self.inside.last c.self.inside.numbers c.self.invariant.numbers_are);
@@ -284,13 +291,10 @@ returns-in-Failed-clause-handed c =
     let made = c.args.outcome in
     let id = made.request.id in
     let phases = c.self.inside.phases.items in
-    let own : slice_get c.self.inside.outs 0 ≡ Some (Some id) = ap (λ w. slice_get c.self.inside.outs (index w)) (sym c.requires.dumper)
-    ∙ ap (λ (v : CoreView). slice_get v.outs (index id.worker)) c.self.view_is ∙ c.requires.out in
+    let own : slice_get c.self.inside.outs c.args.lane ≡ Some (Some id) = ap (λ (v : CoreView). slice_get v.outs c.args.lane) c.self.view_is ∙ c.requires.out in
     let h = subst (λ p. Hands c.self.inside.dumper made p c.hand_in.new.self) c.in-Failed.is c.hand_in.ensures.hands in
     let work = at_work _ h.running c.self.invariant h.was in
-    let out = out_at_work _ h.running (Some id) c.self.invariant h.was own in
-    let within = c.self.invariant.outs_are.within 0 id own in
-    let now_out : c.put_out.new.outs ≡ None ∷ merger.out_of_merge c.self.inside.merger ∷ None ∷ [] = c.put_out.ensures ∙ ap (λ outs. slice_set outs 0 None) out.1 in
+    let within = c.self.invariant.outs_are.within c.args.lane id own in
     let follows : (phase : Phase) → slice_get phases id.slot ≡ Some phase → c.follow_call.new.phases.items ≡ phases_after phases id phase (is_done made.answer) =
     (λ phase is. c.follow_call.ensures phase (ap (λ (i : RequestId). slice_get phases i.slot) c.id-id.ensures ∙ is)
     ∙ ap (λ i. phases_after phases i phase c.is_done-done.result) c.id-id.ensures
@@ -298,18 +302,18 @@ returns-in-Failed-clause-handed c =
     let count = after_count phases c.follow_call.new.phases.items id (is_done made.answer) within follows in
     let phase = slice_index_or phases id.slot c.index.result.now in
     let phase_is = slice_get-get_or phases id.slot c.index.result.now within in
-    let outcome : IsDumpersOutcome _ made phase _ = record {
+    let outcome : IsDumpersOutcome _ c.args.lane made phase _ = record {
       base = refl;
       closed = work.closed;
       memory = refl;
       out = own;
       outs = c.put_out.ensures;
-      apart = free_after _ c.self.inside.outs _ _ _ _ 0 id c.self.invariant.outs_are own;
+      apart = λ at other out same. (apart_after _ c.self.inside.outs _ _ _ _ c.args.lane id c.self.invariant.outs_are own at other out same).are;
       phase_is = phase_is;
       phases = follows phase phase_is;
     } in
-    handed_seen made (reply.Refused StoreDown) _ _ _ c.self.view_is (handed_dumper _ _ made phase (reply.Refused StoreDown) outcome c.requires.dumper count
-    (λ asked bodies files. c.dumper_outcomes.ensures.fails _ _ made phase asked bodies files (record {
+    handed_seen c.args.lane made (reply.Refused StoreDown) _ _ _ c.self.view_is (handed_dumper _ _ c.args.lane made phase (reply.Refused StoreDown) outcome count
+    (λ asked bodies files. c.dumper_outcomes.ensures.fails _ _ c.args.lane made phase asked bodies files (record {
       outcome = outcome;
       history = ap entries_of c.release_unfrozen.ensures.items;
       down = refl;
@@ -322,13 +326,10 @@ returns-in-More-clause-handed c =
     let made = c.args.outcome in
     let id = made.request.id in
     let phases = c.self.inside.phases.items in
-    let own : slice_get c.self.inside.outs 0 ≡ Some (Some id) = ap (λ w. slice_get c.self.inside.outs (index w)) (sym c.requires.dumper)
-    ∙ ap (λ (v : CoreView). slice_get v.outs (index id.worker)) c.self.view_is ∙ c.requires.out in
+    let own : slice_get c.self.inside.outs c.args.lane ≡ Some (Some id) = ap (λ (v : CoreView). slice_get v.outs c.args.lane) c.self.view_is ∙ c.requires.out in
     let h = subst (λ p. Hands c.self.inside.dumper made p c.hand_in.new.self) c.in-More.is c.hand_in.ensures.hands in
     let work = at_work _ h.running c.self.invariant h.was in
-    let out = out_at_work _ h.running (Some id) c.self.invariant h.was own in
-    let within = c.self.invariant.outs_are.within 0 id own in
-    let now_out : c.put_out.new.outs ≡ None ∷ merger.out_of_merge c.self.inside.merger ∷ None ∷ [] = c.put_out.ensures ∙ ap (λ outs. slice_set outs 0 None) out.1 in
+    let within = c.self.invariant.outs_are.within c.args.lane id own in
     let follows : (phase : Phase) → slice_get phases id.slot ≡ Some phase → c.follow_call.new.phases.items ≡ phases_after phases id phase (is_done made.answer) =
     (λ phase is. c.follow_call.ensures phase (ap (λ (i : RequestId). slice_get phases i.slot) c.id-id.ensures ∙ is)
     ∙ ap (λ i. phases_after phases i phase c.is_done-done.result) c.id-id.ensures
@@ -341,31 +342,58 @@ returns-in-More-clause-handed c =
     (subst (λ (i : RequestId). LeavesCatalog c.closes_for_sure-closed.result i.slot c.self.inside.catalog c.leave_catalog.new.catalog) c.id-id.ensures c.leave_catalog.ensures) in
     let phase = slice_index_or phases id.slot c.index.result.now in
     let phase_is = slice_get-get_or phases id.slot c.index.result.now within in
-    let outcome : IsDumpersOutcome _ made phase _ = record {
+    let outcome : IsDumpersOutcome _ c.args.lane made phase _ = record {
       base = refl;
       closed = work.closed;
       memory = refl;
       out = own;
       outs = c.put_out.ensures;
-      apart = free_after _ c.self.inside.outs _ _ _ _ 0 id c.self.invariant.outs_are own;
+      apart = λ at other out same. (apart_after _ c.self.inside.outs _ _ _ _ c.args.lane id c.self.invariant.outs_are own at other out same).are;
       phase_is = phase_is;
       phases = follows phase phase_is;
     } in
-    handed_seen made reply.Worked _ _ _ c.self.view_is (handed_dumper _ _ made phase reply.Worked outcome c.requires.dumper count
-    (λ asked bodies files. c.dumper_outcomes.ensures.goes_on _ _ h.running h.hands.image h.hands.next made phase asked bodies files (record {
-      outcome = outcome;
-      rest = record { stands = work.stands; base = refl; closed = work.closed; grows = refl; merger = refl };
-      history = refl;
-      serial = refl;
-      catalog = leaves;
-      was = h.was;
-      making = h.hands.was;
-      own = own_order c.self.inside.dumper.since_freeze _ h.running h.hands.image c.sound.ensures.running h.was h.hands.was;
-      sound = sound_image _ h.running h.hands.image c.sound.ensures.image h.was h.hands.was;
-      hands = h.hands.hands;
-      committing = refl;
-      is = ap (λ d. d.running) h.is ∙ ap Some h.hands.is;
-    })) refl)
+    let now_is = ap (λ d. d.running) h.is ∙ ap Some h.hands.is in
+    let own_is = own_order c.self.inside.dumper.since_freeze _ h.running h.hands.image c.sound.ensures.running h.was h.hands.was in
+    let good = sound_image _ h.running h.hands.image c.sound.ensures.image h.was h.hands.was in
+    handed_seen c.args.lane made reply.Worked _ _ _ c.self.view_is (elim h.hands.hands [
+      | inl goes ↦
+          let zero_is = plan_lane _ h.running h.hands.image c.args.lane id c.self.invariant h.was h.hands.was own (goes_out h.hands.image h.hands.next made goes) in
+          handed_at _ _ c.args.lane 0 made reply.Worked zero_is (handed_dumper _ _ 0 made phase reply.Worked (outcome_at _ _ c.args.lane 0 made phase zero_is outcome) count
+          (λ asked bodies files. c.dumper_outcomes.ensures.goes_on _ _ h.running h.hands.image h.hands.next made phase asked bodies files (record {
+            outcome = outcome_at _ _ c.args.lane 0 made phase zero_is outcome;
+            alone = free_after _ c.self.inside.outs _ _ _ _ 0 id c.self.invariant.outs_are (ap (slice_get c.self.inside.outs) (sym zero_is) ∙ own) (omega arith);
+            rest = record { stands = work.stands; base = refl; closed = work.closed; grows = refl; merger = refl };
+            history = refl;
+            serial = refl;
+            catalog = leaves;
+            was = h.was;
+            making = h.hands.was;
+            own = own_is;
+            sound = good;
+            hands = goes;
+            committing = refl;
+            is = now_is;
+          })) refl)
+      | inr written ↦
+          let page_is = write_lane _ h.running h.hands.image c.args.lane written.lane id c.self.invariant h.was h.hands.was own written.out ∙ sym (far written.lane) in
+          handed_at _ _ c.args.lane (page_lane written.lane) made reply.Worked page_is (handed_dumper _ _ (page_lane written.lane) made phase reply.Worked
+          (outcome_at _ _ c.args.lane (page_lane written.lane) made phase page_is outcome) count
+          (λ asked bodies files. c.dumper_outcomes.ensures.written _ _ h.running h.hands.image h.hands.next made phase asked bodies files (record {
+            hands = written;
+            outcome = outcome_at _ _ c.args.lane (page_lane written.lane) made phase page_is outcome;
+            rest = record { stands = work.stands; base = refl; closed = work.closed; grows = refl; merger = refl };
+            history = refl;
+            serial = refl;
+            catalog = subst (λ b. LeavesCatalog b id.slot c.self.inside.catalog c.leave_catalog.new.catalog)
+                (write_closes_none _ h.running h.hands.image written.lane phase id c.self.invariant h.was h.hands.was written.out) leaves;
+            was = h.was;
+            making = h.hands.was;
+            own = own_is;
+            sound = good;
+            committing = refl;
+            is = now_is;
+          })) refl)
+    ])
 
 pub returns-in-PreDump-clause-handed : goal.returns-in-PreDump-clause-handed
 returns-in-PreDump-clause-handed c =
@@ -373,13 +401,10 @@ returns-in-PreDump-clause-handed c =
     let made = c.args.outcome in
     let id = made.request.id in
     let phases = c.self.inside.phases.items in
-    let own : slice_get c.self.inside.outs 0 ≡ Some (Some id) = ap (λ w. slice_get c.self.inside.outs (index w)) (sym c.requires.dumper)
-    ∙ ap (λ (v : CoreView). slice_get v.outs (index id.worker)) c.self.view_is ∙ c.requires.out in
+    let own : slice_get c.self.inside.outs c.args.lane ≡ Some (Some id) = ap (λ (v : CoreView). slice_get v.outs c.args.lane) c.self.view_is ∙ c.requires.out in
     let h = subst (λ p. Hands c.self.inside.dumper made p c.hand_in.new.self) c.in-PreDump.is c.hand_in.ensures.hands in
     let work = at_work _ h.running c.self.invariant h.was in
-    let out = out_at_work _ h.running (Some id) c.self.invariant h.was own in
-    let within = c.self.invariant.outs_are.within 0 id own in
-    let now_out : c.put_out.new.outs ≡ None ∷ merger.out_of_merge c.self.inside.merger ∷ None ∷ [] = c.put_out.ensures ∙ ap (λ outs. slice_set outs 0 None) out.1 in
+    let within = c.self.invariant.outs_are.within c.args.lane id own in
     let follows : (phase : Phase) → slice_get phases id.slot ≡ Some phase → c.follow_call.new.phases.items ≡ phases_after phases id phase (is_done made.answer) =
     (λ phase is. c.follow_call.ensures phase (ap (λ (i : RequestId). slice_get phases i.slot) c.id-id.ensures ∙ is)
     ∙ ap (λ i. phases_after phases i phase c.is_done-done.result) c.id-id.ensures
@@ -394,20 +419,22 @@ returns-in-PreDump-clause-handed c =
     (checkpoint_used _ c.self.inside.dumper.since_freeze h.running h.hands.0.image opened c.self.invariant c.sound.ensures.running h.was h.hands.0.was now) c.self.invariant.counted in
     let phase = slice_index_or phases id.slot c.index.result.now in
     let phase_is = slice_get-get_or phases id.slot c.index.result.now within in
-    let outcome : IsDumpersOutcome _ made phase _ = record {
+    let zero_is = opens_lane _ h.running h.hands.0.image c.args.lane made _ c.self.invariant h.was h.hands.0.was own h.hands.0.hands in
+    let outcome : IsDumpersOutcome _ c.args.lane made phase _ = record {
       base = refl;
       closed = work.closed;
       memory = refl;
       out = own;
       outs = c.put_out.ensures;
-      apart = free_after _ c.self.inside.outs _ _ _ _ 0 id c.self.invariant.outs_are own;
+      apart = λ at other out same. (apart_after _ c.self.inside.outs _ _ _ _ c.args.lane id c.self.invariant.outs_are own at other out same).are;
       phase_is = phase_is;
       phases = follows phase phase_is;
     } in
-    handed_seen made reply.Worked _ _ _ c.self.view_is (handed_dumper _ _ made phase reply.Worked outcome c.requires.dumper count
+    handed_seen c.args.lane made reply.Worked _ _ _ c.self.view_is (handed_at _ _ c.args.lane 0 made reply.Worked zero_is (handed_dumper _ _ 0 made phase reply.Worked (outcome_at _ _ c.args.lane 0 made phase zero_is outcome) count
     (λ asked bodies files. c.dumper_outcomes.ensures.opens_pre_dump _ _ h.running h.hands.0.image made phase opened asked bodies files (record {
       opens_it = record {
-        outcome = outcome;
+        outcome = outcome_at _ _ c.args.lane 0 made phase zero_is outcome;
+        alone = free_after _ c.self.inside.outs _ _ _ _ 0 id c.self.invariant.outs_are (ap (slice_get c.self.inside.outs) (sym zero_is) ∙ own) (omega arith);
         stands = work.stands;
         merger = refl;
         serial = refl;
@@ -423,7 +450,7 @@ returns-in-PreDump-clause-handed c =
       grows = refl;
       more = h.hands.1;
       is = ap (λ d. d.running) h.is ∙ ap Some h.hands.2;
-    })) refl)
+    })) refl))
 
 pub returns-in-Dump-clause-handed : goal.returns-in-Dump-clause-handed
 returns-in-Dump-clause-handed c =
@@ -431,13 +458,10 @@ returns-in-Dump-clause-handed c =
     let made = c.args.outcome in
     let id = made.request.id in
     let phases = c.self.inside.phases.items in
-    let own : slice_get c.self.inside.outs 0 ≡ Some (Some id) = ap (λ w. slice_get c.self.inside.outs (index w)) (sym c.requires.dumper)
-    ∙ ap (λ (v : CoreView). slice_get v.outs (index id.worker)) c.self.view_is ∙ c.requires.out in
+    let own : slice_get c.self.inside.outs c.args.lane ≡ Some (Some id) = ap (λ (v : CoreView). slice_get v.outs c.args.lane) c.self.view_is ∙ c.requires.out in
     let h = subst (λ p. Hands c.self.inside.dumper made p c.hand_in.new.self) c.in-Dump.is c.hand_in.ensures.hands in
     let work = at_work _ h.running c.self.invariant h.was in
-    let out = out_at_work _ h.running (Some id) c.self.invariant h.was own in
-    let within = c.self.invariant.outs_are.within 0 id own in
-    let now_out : c.put_out.new.outs ≡ None ∷ merger.out_of_merge c.self.inside.merger ∷ None ∷ [] = c.put_out.ensures ∙ ap (λ outs. slice_set outs 0 None) out.1 in
+    let within = c.self.invariant.outs_are.within c.args.lane id own in
     let follows : (phase : Phase) → slice_get phases id.slot ≡ Some phase → c.follow_call.new.phases.items ≡ phases_after phases id phase (is_done made.answer) =
     (λ phase is. c.follow_call.ensures phase (ap (λ (i : RequestId). slice_get phases i.slot) c.id-id.ensures ∙ is)
     ∙ ap (λ i. phases_after phases i phase c.is_done-done.result) c.id-id.ensures
@@ -452,21 +476,23 @@ returns-in-Dump-clause-handed c =
     (checkpoint_used _ c.self.inside.dumper.since_freeze h.running h.hands.0.image opened c.self.invariant c.sound.ensures.running h.was h.hands.0.was now) c.self.invariant.counted in
     let phase = slice_index_or phases id.slot c.index.result.now in
     let phase_is = slice_get-get_or phases id.slot c.index.result.now within in
-    let outcome : IsDumpersOutcome _ made phase _ = record {
+    let zero_is = opens_lane _ h.running h.hands.0.image c.args.lane made _ c.self.invariant h.was h.hands.0.was own h.hands.0.hands in
+    let outcome : IsDumpersOutcome _ c.args.lane made phase _ = record {
       base = refl;
       closed = work.closed;
       memory = refl;
       out = own;
       outs = c.put_out.ensures;
-      apart = free_after _ c.self.inside.outs _ _ _ _ 0 id c.self.invariant.outs_are own;
+      apart = λ at other out same. (apart_after _ c.self.inside.outs _ _ _ _ c.args.lane id c.self.invariant.outs_are own at other out same).are;
       phase_is = phase_is;
       phases = follows phase phase_is;
     } in
     let number = c.self.inside.numbers.begun in
-    handed_seen made (reply.Acked number) _ _ _ c.self.view_is (handed_dumper _ _ made phase (reply.Acked number) outcome c.requires.dumper count
+    handed_seen c.args.lane made (reply.Acked number) _ _ _ c.self.view_is (handed_at _ _ c.args.lane 0 made (reply.Acked number) zero_is (handed_dumper _ _ 0 made phase (reply.Acked number) (outcome_at _ _ c.args.lane 0 made phase zero_is outcome) count
     (λ asked bodies files. c.dumper_outcomes.ensures.opens_dump _ _ h.running h.hands.0.image made phase opened asked bodies files (record {
       opens_it = record {
-        outcome = outcome;
+        outcome = outcome_at _ _ c.args.lane 0 made phase zero_is outcome;
+        alone = free_after _ c.self.inside.outs _ _ _ _ 0 id c.self.invariant.outs_are (ap (slice_get c.self.inside.outs) (sym zero_is) ∙ own) (omega arith);
         stands = work.stands;
         merger = refl;
         serial = refl;
@@ -483,7 +509,7 @@ returns-in-Dump-clause-handed c =
       grows = refl;
       last = h.hands.1;
       is = ap (λ d. d.running) h.is;
-    })) (c.requires.dumper, ap entries_of c.append_held.ensures.items))
+    })) (c.requires.dumper, ap entries_of c.append_held.ensures.items)))
 
 pub returns-in-Dump-clause-acked : goal.returns-in-Dump-clause-acked
 returns-in-Dump-clause-acked c n is =
@@ -562,4 +588,22 @@ returns-in-PreDump-clause-round c running opens =
       image = entered;
       has = subst (λ r. HasImage r c.enter_catalog.new.catalog entered) same has;
       took = subst (λ (v : CoreView). TookVisited (opened.header.parent == 0) (visits_of v.items opened.header.serial) opened.table) c.self.view_is took;
+    }
+
+pub unreachable-requires : goal.unreachable-requires
+unreachable-requires c =
+    let id = c.args.outcome.request.id in
+    let own : slice_get c.self.inside.outs c.args.lane ≡ Some (Some id) = ap (λ (v : CoreView). slice_get v.outs c.args.lane) c.self.view_is ∙ c.requires.out in
+    let h = subst (λ p. Hands c.self.inside.dumper c.args.outcome p c.hand_in.new.self) c.in-Strange.is c.hand_in.ensures.hands in
+    h.other (out_there _ c.args.lane id c.self.invariant (ap (λ (v : CoreView). is_idle v Dumper) c.self.view_is ∙ c.requires.runs) c.requires.dumper own)
+
+pub returns-in-More-clause-leaves : goal.returns-in-More-clause-leaves
+returns-in-More-clause-leaves c =
+    let made = c.args.outcome in
+    let hands = subst (λ p. Hands c.self.inside.dumper made p c.hand_in.new.self) c.in-More.is c.hand_in.ensures.hands in
+    record {
+      stands = ap (λ (v : CoreView). v.standing) c.self.view_is;
+      job = ap job_of (ap (λ d. d.running) hands.is ∙ ap Some hands.hands.is) ∙ sym (ap job_of hands.was) ∙ ap (λ (v : CoreView). job_of v.dumper.running) c.self.view_is;
+      lowers = subst (λ (v : CoreView). left_of c.hand_in.new.self.running (plain_of c.self.inside.memory) < left_of v.dumper.running (plain_of v.memory)) c.self.view_is
+          (c.left_law.ensures.hands c.self.inside.dumper made More c.hand_in.new.self (plain_of c.self.inside.memory) hands refl);
     }

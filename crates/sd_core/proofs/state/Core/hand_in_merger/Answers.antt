@@ -1,4 +1,4 @@
-use Rattle.std.proofs.Common.{◌≡◌, Some, slice_get, slice_index_or, refl, sym, ◌∙◌, ap, subst}
+use Rattle.std.proofs.Common.{◌≡◌, Some, slice_get, slice_index_or, refl, sym, ◌∙◌, ap, subst, arith}
 use Rattle.std.proofs.lemmas.Option.{slice_get-get_or}
 use Rattle.sd_gate.specs.declared.phase.Phase.{Phase}
 use Rattle.sd_gate.specs.declared.request_id.RequestId.{RequestId}
@@ -11,7 +11,7 @@ use Rattle.sd_merge.specs.Merger.{AreRunning, Hands, HasSoundCopy}
 use Rattle.sd_belief.specs.Calls.{AddsByOutcome}
 use Rattle.sd_belief.specs.DumperOutcomes.{LeavesCatalog, closes_for_sure}
 use Rattle.sd_belief.specs.MergerOutcomes.{IsMergersOutcome}
-use Rattle.sd_belief.specs.View.{CoreView, index}
+use Rattle.sd_belief.specs.View.{CoreView}
 use Rattle.sd_core.specs.contracts.state.Core.{the_view}
 use Rattle.sd_core.specs.Merging.{FixesList}
 use Rattle.sd_core.specs.Sound.{held_for}
@@ -33,8 +33,7 @@ invariant_of-self c =
     let made = c.args.outcome in
     let id = made.request.id in
     let phases = c.self.inside.phases.items in
-    let own : slice_get c.self.inside.outs 1 ≡ Some (Some id) = ap (λ w. slice_get c.self.inside.outs (index w)) (sym c.requires.merger)
-    ∙ ap (λ (v : CoreView). slice_get v.outs (index id.worker)) c.self.view_is ∙ c.requires.out in
+    let own : slice_get c.self.inside.outs 1 ≡ Some (Some id) = ap (λ (v : CoreView). slice_get v.outs 1) c.self.view_is ∙ c.requires.out in
     let h = subst (λ p. Hands c.self.inside.merger made p c.hand_in-progress.new.self) c.in-Failed.is c.hand_in-progress.ensures in
     let m = merger_works _ h.running c.self.invariant h.was in
     let within = c.self.invariant.outs_are.within 1 id own in
@@ -53,8 +52,7 @@ invariant_of-self-in-More c =
     let made = c.args.outcome in
     let id = made.request.id in
     let phases = c.self.inside.phases.items in
-    let own : slice_get c.self.inside.outs 1 ≡ Some (Some id) = ap (λ w. slice_get c.self.inside.outs (index w)) (sym c.requires.merger)
-    ∙ ap (λ (v : CoreView). slice_get v.outs (index id.worker)) c.self.view_is ∙ c.requires.out in
+    let own : slice_get c.self.inside.outs 1 ≡ Some (Some id) = ap (λ (v : CoreView). slice_get v.outs 1) c.self.view_is ∙ c.requires.out in
     let within = c.self.invariant.outs_are.within 1 id own in
     let follows : (phase : Phase) → slice_get phases id.slot ≡ Some phase → c.follow_call.new.phases.items ≡ phases_after phases id phase (is_done made.answer) =
     (λ phase is. c.follow_call.ensures phase (ap (λ (i : RequestId). slice_get phases i.slot) c.id-id.ensures ∙ is)
@@ -79,8 +77,7 @@ invariant_of-self-in-Merged c =
     let made = c.args.outcome in
     let id = made.request.id in
     let phases = c.self.inside.phases.items in
-    let own : slice_get c.self.inside.outs 1 ≡ Some (Some id) = ap (λ w. slice_get c.self.inside.outs (index w)) (sym c.requires.merger)
-    ∙ ap (λ (v : CoreView). slice_get v.outs (index id.worker)) c.self.view_is ∙ c.requires.out in
+    let own : slice_get c.self.inside.outs 1 ≡ Some (Some id) = ap (λ (v : CoreView). slice_get v.outs 1) c.self.view_is ∙ c.requires.out in
     let within = c.self.invariant.outs_are.within 1 id own in
     let follows : (phase : Phase) → slice_get phases id.slot ≡ Some phase → c.follow_call.new.phases.items ≡ phases_after phases id phase (is_done made.answer) =
     (λ phase is. c.follow_call.ensures phase (ap (λ (i : RequestId). slice_get phases i.slot) c.id-id.ensures ∙ is)
@@ -103,8 +100,7 @@ returns-in-Failed-clause-handed c =
     let made = c.args.outcome in
     let id = made.request.id in
     let phases = c.self.inside.phases.items in
-    let own : slice_get c.self.inside.outs 1 ≡ Some (Some id) = ap (λ w. slice_get c.self.inside.outs (index w)) (sym c.requires.merger)
-    ∙ ap (λ (v : CoreView). slice_get v.outs (index id.worker)) c.self.view_is ∙ c.requires.out in
+    let own : slice_get c.self.inside.outs 1 ≡ Some (Some id) = ap (λ (v : CoreView). slice_get v.outs 1) c.self.view_is ∙ c.requires.out in
     let within = c.self.invariant.outs_are.within 1 id own in
     let follows : (phase : Phase) → slice_get phases id.slot ≡ Some phase → c.follow_call.new.phases.items ≡ phases_after phases id phase (is_done made.answer) =
     (λ phase is. c.follow_call.ensures phase (ap (λ (i : RequestId). slice_get phases i.slot) c.id-id.ensures ∙ is)
@@ -118,12 +114,12 @@ returns-in-Failed-clause-handed c =
     let outcome : IsMergersOutcome _ made phase _ = record {
       out = own;
       outs = c.put_out.ensures;
-      apart = free_after _ c.self.inside.outs _ _ _ _ 1 id c.self.invariant.outs_are own;
+      apart = free_after _ c.self.inside.outs _ _ _ _ 1 id c.self.invariant.outs_are own (omega arith);
       phase_is = phase_is;
       phases = follows phase phase_is;
     } in
     let history = ap entries_of c.end_checkpoint.ensures.journal.items in
-    handed_seen made (reply.Refused StoreDown) _ _ _ c.self.view_is (handed_merger _ _ made phase (reply.Refused StoreDown) outcome refl c.requires.merger count
+    handed_seen 1 made (reply.Refused StoreDown) _ _ _ c.self.view_is (handed_merger _ _ made phase (reply.Refused StoreDown) outcome refl count
     (c.merger_outcomes.ensures.fails _ _ made phase (record { outcome = outcome; base = refl; history = history; closed = m.closed; down = refl; committing = refl })) history)
 
 pub returns-in-More-clause-handed : goal.returns-in-More-clause-handed
@@ -131,8 +127,7 @@ returns-in-More-clause-handed c =
     let made = c.args.outcome in
     let id = made.request.id in
     let phases = c.self.inside.phases.items in
-    let own : slice_get c.self.inside.outs 1 ≡ Some (Some id) = ap (λ w. slice_get c.self.inside.outs (index w)) (sym c.requires.merger)
-    ∙ ap (λ (v : CoreView). slice_get v.outs (index id.worker)) c.self.view_is ∙ c.requires.out in
+    let own : slice_get c.self.inside.outs 1 ≡ Some (Some id) = ap (λ (v : CoreView). slice_get v.outs 1) c.self.view_is ∙ c.requires.out in
     let within = c.self.invariant.outs_are.within 1 id own in
     let follows : (phase : Phase) → slice_get phases id.slot ≡ Some phase → c.follow_call.new.phases.items ≡ phases_after phases id phase (is_done made.answer) =
     (λ phase is. c.follow_call.ensures phase (ap (λ (i : RequestId). slice_get phases i.slot) c.id-id.ensures ∙ is)
@@ -152,11 +147,11 @@ returns-in-More-clause-handed c =
     let outcome : IsMergersOutcome _ made phase _ = record {
       out = own;
       outs = c.put_out.ensures;
-      apart = free_after _ c.self.inside.outs _ _ _ _ 1 id c.self.invariant.outs_are own;
+      apart = free_after _ c.self.inside.outs _ _ _ _ 1 id c.self.invariant.outs_are own (omega arith);
       phase_is = phase_is;
       phases = follows phase phase_is;
     } in
-    handed_seen made reply.Worked _ _ _ c.self.view_is (handed_merger _ _ made phase reply.Worked outcome refl c.requires.merger count
+    handed_seen 1 made reply.Worked _ _ _ c.self.view_is (handed_merger _ _ made phase reply.Worked outcome refl count
     (goes_on_believed _ c.merger_outcomes.ensures _ _ h.merge made phase c.hand_in-progress.result h.doing (record {
       outcome = outcome;
       rest = record { stands = m.stands; base = refl; history = refl; memory = refl; closed = m.closed; grows = refl; committing = refl; dumper = refl; makes = makes_in c.self.inside.dumper.since_freeze c.self.inside.dumper.running c.sound-2.ensures.running };
@@ -173,8 +168,7 @@ returns-in-Merged-clause-handed c =
     let made = c.args.outcome in
     let id = made.request.id in
     let phases = c.self.inside.phases.items in
-    let own : slice_get c.self.inside.outs 1 ≡ Some (Some id) = ap (λ w. slice_get c.self.inside.outs (index w)) (sym c.requires.merger)
-    ∙ ap (λ (v : CoreView). slice_get v.outs (index id.worker)) c.self.view_is ∙ c.requires.out in
+    let own : slice_get c.self.inside.outs 1 ≡ Some (Some id) = ap (λ (v : CoreView). slice_get v.outs 1) c.self.view_is ∙ c.requires.out in
     let within = c.self.invariant.outs_are.within 1 id own in
     let follows : (phase : Phase) → slice_get phases id.slot ≡ Some phase → c.follow_call.new.phases.items ≡ phases_after phases id phase (is_done made.answer) =
     (λ phase is. c.follow_call.ensures phase (ap (λ (i : RequestId). slice_get phases i.slot) c.id-id.ensures ∙ is)
@@ -193,11 +187,11 @@ returns-in-Merged-clause-handed c =
     let outcome : IsMergersOutcome _ made phase _ = record {
       out = own;
       outs = c.put_out.ensures;
-      apart = free_after _ c.self.inside.outs _ _ _ _ 1 id c.self.invariant.outs_are own;
+      apart = free_after _ c.self.inside.outs _ _ _ _ 1 id c.self.invariant.outs_are own (omega arith);
       phase_is = phase_is;
       phases = follows phase phase_is;
     } in
-    handed_seen made (reply.Merged c.in-Merged.serial) _ _ _ c.self.view_is (handed_merger _ _ made phase (reply.Merged c.in-Merged.serial) outcome refl c.requires.merger count
+    handed_seen 1 made (reply.Merged c.in-Merged.serial) _ _ _ c.self.view_is (handed_merger _ _ made phase (reply.Merged c.in-Merged.serial) outcome refl count
     (merged_believed _ c.merger_outcomes.ensures _ _ h.running made phase c.in-Merged.serial (record {
       outcome = outcome;
       rest = record { stands = m.stands; base = refl; history = refl; memory = refl; closed = m.closed; grows = refl; committing = refl; dumper = refl; makes = makes_in c.self.inside.dumper.since_freeze c.self.inside.dumper.running c.sound-2.ensures.running };
@@ -214,8 +208,7 @@ invariant_of-self-in-Opened c =
     let made = c.args.outcome in
     let id = made.request.id in
     let phases = c.self.inside.phases.items in
-    let own : slice_get c.self.inside.outs 1 ≡ Some (Some id) = ap (λ w. slice_get c.self.inside.outs (index w)) (sym c.requires.merger)
-    ∙ ap (λ (v : CoreView). slice_get v.outs (index id.worker)) c.self.view_is ∙ c.requires.out in
+    let own : slice_get c.self.inside.outs 1 ≡ Some (Some id) = ap (λ (v : CoreView). slice_get v.outs 1) c.self.view_is ∙ c.requires.out in
     let within = c.self.invariant.outs_are.within 1 id own in
     let follows : (phase : Phase) → slice_get phases id.slot ≡ Some phase → c.follow_call.new.phases.items ≡ phases_after phases id phase (is_done made.answer) =
     (λ phase is. c.follow_call.ensures phase (ap (λ (i : RequestId). slice_get phases i.slot) c.id-id.ensures ∙ is)
@@ -235,8 +228,7 @@ returns-after-fix_list-clause-handed c =
     let made = c.args.outcome in
     let id = made.request.id in
     let phases = c.self.inside.phases.items in
-    let own : slice_get c.self.inside.outs 1 ≡ Some (Some id) = ap (λ w. slice_get c.self.inside.outs (index w)) (sym c.requires.merger)
-    ∙ ap (λ (v : CoreView). slice_get v.outs (index id.worker)) c.self.view_is ∙ c.requires.out in
+    let own : slice_get c.self.inside.outs 1 ≡ Some (Some id) = ap (λ (v : CoreView). slice_get v.outs 1) c.self.view_is ∙ c.requires.out in
     let within = c.self.invariant.outs_are.within 1 id own in
     let follows : (phase : Phase) → slice_get phases id.slot ≡ Some phase → c.follow_call.new.phases.items ≡ phases_after phases id phase (is_done made.answer) =
     (λ phase is. c.follow_call.ensures phase (ap (λ (i : RequestId). slice_get phases i.slot) c.id-id.ensures ∙ is)
@@ -251,7 +243,7 @@ returns-after-fix_list-clause-handed c =
     let outcome : IsMergersOutcome _ made phase _ = record {
       out = own;
       outs = c.put_out.ensures;
-      apart = free_after _ c.self.inside.outs _ _ _ _ 1 id c.self.invariant.outs_are own;
+      apart = free_after _ c.self.inside.outs _ _ _ _ 1 id c.self.invariant.outs_are own (omega arith);
       phase_is = phase_is;
       phases = follows phase phase_is;
     } in
@@ -266,9 +258,9 @@ returns-after-fix_list-clause-handed c =
       was = h.was;
     }) o (h.is ∙ ap Some h.hands.is) c.sound-in-Opened.ensures c.enter_catalog.ensures c.fix_list.ensures.fixes in
     elim c.match-fix_list.branch [
-      | in-None w ↦ handed_seen made c.match-fix_list.result _ _ _ c.self.view_is (handed_merger _ _ made phase c.match-fix_list.result outcome refl c.requires.merger count believed
+      | in-None w ↦ handed_seen 1 made c.match-fix_list.result _ _ _ c.self.view_is (handed_merger _ _ made phase c.match-fix_list.result outcome refl count believed
           (subst (λ a. AddsByOutcome id.worker a (entries_of c.self.inside.journal.items) (entries_of c.self.inside.journal.items)) (sym w.result-is) refl))
-      | in-Some w ↦ handed_seen made c.match-fix_list.result _ _ _ c.self.view_is (handed_merger _ _ made phase c.match-fix_list.result outcome refl c.requires.merger count believed
+      | in-Some w ↦ handed_seen 1 made c.match-fix_list.result _ _ _ c.self.view_is (handed_merger _ _ made phase c.match-fix_list.result outcome refl count believed
           (subst (λ a. AddsByOutcome id.worker a (entries_of c.self.inside.journal.items) (entries_of c.self.inside.journal.items)) (sym w.result-is) refl))
     ]
 
@@ -367,8 +359,7 @@ returns-in-Merged-clause-cuts c =
     let made = c.args.outcome in
     let id = made.request.id in
     let phases = c.self.inside.phases.items in
-    let own : slice_get c.self.inside.outs 1 ≡ Some (Some id) = ap (λ w. slice_get c.self.inside.outs (index w)) (sym c.requires.merger)
-    ∙ ap (λ (v : CoreView). slice_get v.outs (index id.worker)) c.self.view_is ∙ c.requires.out in
+    let own : slice_get c.self.inside.outs 1 ≡ Some (Some id) = ap (λ (v : CoreView). slice_get v.outs 1) c.self.view_is ∙ c.requires.out in
     let within = c.self.invariant.outs_are.within 1 id own in
     let follows : (phase : Phase) → slice_get phases id.slot ≡ Some phase → c.follow_call.new.phases.items ≡ phases_after phases id phase (is_done made.answer) =
     (λ phase is. c.follow_call.ensures phase (ap (λ (i : RequestId). slice_get phases i.slot) c.id-id.ensures ∙ is)
@@ -387,7 +378,7 @@ returns-in-Merged-clause-cuts c =
     let outcome : IsMergersOutcome _ made phase _ = record {
       out = own;
       outs = c.put_out.ensures;
-      apart = free_after _ c.self.inside.outs _ _ _ _ 1 id c.self.invariant.outs_are own;
+      apart = free_after _ c.self.inside.outs _ _ _ _ 1 id c.self.invariant.outs_are own (omega arith);
       phase_is = phase_is;
       phases = follows phase phase_is;
     } in
@@ -400,15 +391,14 @@ returns-in-Merged-clause-cuts c =
       running = subst AreRunning h.was c.sound.ensures.running;
       copied = subst HasSoundCopy h.was c.sound.ensures.copy;
       free = list_free _ h.running c.self.invariant h.was;
-    }) (ends_list h.running made c.in-Merged.serial _ h.hands.hands) (ap index c.requires.merger) (believed_seen made.request bodies _ _ c.self.view_is b))
+    }) (ends_list h.running made c.in-Merged.serial _ h.hands.hands) (believed_seen made.request bodies _ _ c.self.view_is b))
 
 pub returns-after-fix_list-clause-lists : goal.returns-after-fix_list-clause-lists
 returns-after-fix_list-clause-lists c =
     let made = c.args.outcome in
     let id = made.request.id in
     let phases = c.self.inside.phases.items in
-    let own : slice_get c.self.inside.outs 1 ≡ Some (Some id) = ap (λ w. slice_get c.self.inside.outs (index w)) (sym c.requires.merger)
-    ∙ ap (λ (v : CoreView). slice_get v.outs (index id.worker)) c.self.view_is ∙ c.requires.out in
+    let own : slice_get c.self.inside.outs 1 ≡ Some (Some id) = ap (λ (v : CoreView). slice_get v.outs 1) c.self.view_is ∙ c.requires.out in
     let within = c.self.invariant.outs_are.within 1 id own in
     let follows : (phase : Phase) → slice_get phases id.slot ≡ Some phase → c.follow_call.new.phases.items ≡ phases_after phases id phase (is_done made.answer) =
     (λ phase is. c.follow_call.ensures phase (ap (λ (i : RequestId). slice_get phases i.slot) c.id-id.ensures ∙ is)
@@ -423,7 +413,7 @@ returns-after-fix_list-clause-lists c =
     let outcome : IsMergersOutcome _ made phase _ = record {
       out = own;
       outs = c.put_out.ensures;
-      apart = free_after _ c.self.inside.outs _ _ _ _ 1 id c.self.invariant.outs_are own;
+      apart = free_after _ c.self.inside.outs _ _ _ _ 1 id c.self.invariant.outs_are own (omega arith);
       phase_is = phase_is;
       phases = follows phase phase_is;
     } in
@@ -437,15 +427,14 @@ returns-after-fix_list-clause-lists c =
       was = h.was;
     }) o (h.is ∙ ap Some h.hands.is) c.sound-in-Opened.ensures c.enter_catalog.ensures
     (subst (λ n. FixesList c.enter_catalog.new.catalog c.self.inside.dumper.running c.put_out.new.outs n c.hand_in-progress.new.self c.fix_list.result c.fix_list.new.merger) c.take_room-room.ensures c.fix_list.ensures.fixes)
-    refl (ap index c.requires.merger) refl count merge serial (opens_seen merge serial _ _ _ c.self.view_is opens)
+    refl refl count merge serial (opens_seen merge serial _ _ _ c.self.view_is opens)
 
 pub returns-after-fix_list-clause-retires : goal.returns-after-fix_list-clause-retires
 returns-after-fix_list-clause-retires c =
     let made = c.args.outcome in
     let id = made.request.id in
     let phases = c.self.inside.phases.items in
-    let own : slice_get c.self.inside.outs 1 ≡ Some (Some id) = ap (λ w. slice_get c.self.inside.outs (index w)) (sym c.requires.merger)
-    ∙ ap (λ (v : CoreView). slice_get v.outs (index id.worker)) c.self.view_is ∙ c.requires.out in
+    let own : slice_get c.self.inside.outs 1 ≡ Some (Some id) = ap (λ (v : CoreView). slice_get v.outs 1) c.self.view_is ∙ c.requires.out in
     let within = c.self.invariant.outs_are.within 1 id own in
     let follows : (phase : Phase) → slice_get phases id.slot ≡ Some phase → c.follow_call.new.phases.items ≡ phases_after phases id phase (is_done made.answer) =
     (λ phase is. c.follow_call.ensures phase (ap (λ (i : RequestId). slice_get phases i.slot) c.id-id.ensures ∙ is)
@@ -460,7 +449,7 @@ returns-after-fix_list-clause-retires c =
     let outcome : IsMergersOutcome _ made phase _ = record {
       out = own;
       outs = c.put_out.ensures;
-      apart = free_after _ c.self.inside.outs _ _ _ _ 1 id c.self.invariant.outs_are own;
+      apart = free_after _ c.self.inside.outs _ _ _ _ 1 id c.self.invariant.outs_are own (omega arith);
       phase_is = phase_is;
       phases = follows phase phase_is;
     } in
@@ -474,15 +463,14 @@ returns-after-fix_list-clause-retires c =
       was = h.was;
     }) o (h.is ∙ ap Some h.hands.is) c.sound-in-Opened.ensures c.enter_catalog.ensures
     (subst (λ n. FixesList c.enter_catalog.new.catalog c.self.inside.dumper.running c.put_out.new.outs n c.hand_in-progress.new.self c.fix_list.result c.fix_list.new.merger) c.take_room-room.ensures c.fix_list.ensures.fixes)
-    refl (ap index c.requires.merger) refl count merge serial bodies (opens_seen merge serial _ _ _ c.self.view_is opens) (believed_seen made.request bodies _ _ c.self.view_is b)
+    refl refl count merge serial bodies (opens_seen merge serial _ _ _ c.self.view_is opens) (believed_seen made.request bodies _ _ c.self.view_is b)
 
 pub returns-after-fix_list-clause-copies : goal.returns-after-fix_list-clause-copies
 returns-after-fix_list-clause-copies c =
     let made = c.args.outcome in
     let id = made.request.id in
     let phases = c.self.inside.phases.items in
-    let own : slice_get c.self.inside.outs 1 ≡ Some (Some id) = ap (λ w. slice_get c.self.inside.outs (index w)) (sym c.requires.merger)
-    ∙ ap (λ (v : CoreView). slice_get v.outs (index id.worker)) c.self.view_is ∙ c.requires.out in
+    let own : slice_get c.self.inside.outs 1 ≡ Some (Some id) = ap (λ (v : CoreView). slice_get v.outs 1) c.self.view_is ∙ c.requires.out in
     let within = c.self.invariant.outs_are.within 1 id own in
     let follows : (phase : Phase) → slice_get phases id.slot ≡ Some phase → c.follow_call.new.phases.items ≡ phases_after phases id phase (is_done made.answer) =
     (λ phase is. c.follow_call.ensures phase (ap (λ (i : RequestId). slice_get phases i.slot) c.id-id.ensures ∙ is)
@@ -497,7 +485,7 @@ returns-after-fix_list-clause-copies c =
     let outcome : IsMergersOutcome _ made phase _ = record {
       out = own;
       outs = c.put_out.ensures;
-      apart = free_after _ c.self.inside.outs _ _ _ _ 1 id c.self.invariant.outs_are own;
+      apart = free_after _ c.self.inside.outs _ _ _ _ 1 id c.self.invariant.outs_are own (omega arith);
       phase_is = phase_is;
       phases = follows phase phase_is;
     } in
@@ -512,7 +500,7 @@ returns-after-fix_list-clause-copies c =
       was = h.was;
     }) o (h.is ∙ ap Some h.hands.is) c.sound-in-Opened.ensures c.enter_catalog.ensures
     (subst (λ n. FixesList c.enter_catalog.new.catalog c.self.inside.dumper.running c.put_out.new.outs n c.hand_in-progress.new.self c.fix_list.result c.fix_list.new.merger) c.take_room-room.ensures c.fix_list.ensures.fixes)
-    refl (ap index c.requires.merger) refl count merge serial bodies (opens_seen merge serial _ _ _ c.self.view_is opens) (believed_seen made.request bodies _ _ c.self.view_is b))
+    refl refl count merge serial bodies (opens_seen merge serial _ _ _ c.self.view_is opens) (believed_seen made.request bodies _ _ c.self.view_is b))
 
 pub returns-after-fix_list-clause-cuts : goal.returns-after-fix_list-clause-cuts
 returns-after-fix_list-clause-cuts c =
@@ -543,8 +531,7 @@ returns-after-fix_list-clause-opens c =
     let made = c.args.outcome in
     let id = made.request.id in
     let phases = c.self.inside.phases.items in
-    let own : slice_get c.self.inside.outs 1 ≡ Some (Some id) = ap (λ w. slice_get c.self.inside.outs (index w)) (sym c.requires.merger)
-    ∙ ap (λ (v : CoreView). slice_get v.outs (index id.worker)) c.self.view_is ∙ c.requires.out in
+    let own : slice_get c.self.inside.outs 1 ≡ Some (Some id) = ap (λ (v : CoreView). slice_get v.outs 1) c.self.view_is ∙ c.requires.out in
     let within = c.self.invariant.outs_are.within 1 id own in
     let follows : (phase : Phase) → slice_get phases id.slot ≡ Some phase → c.follow_call.new.phases.items ≡ phases_after phases id phase (is_done made.answer) =
     (λ phase is. c.follow_call.ensures phase (ap (λ (i : RequestId). slice_get phases i.slot) c.id-id.ensures ∙ is)
@@ -559,7 +546,7 @@ returns-after-fix_list-clause-opens c =
     let outcome : IsMergersOutcome _ made phase _ = record {
       out = own;
       outs = c.put_out.ensures;
-      apart = free_after _ c.self.inside.outs _ _ _ _ 1 id c.self.invariant.outs_are own;
+      apart = free_after _ c.self.inside.outs _ _ _ _ 1 id c.self.invariant.outs_are own (omega arith);
       phase_is = phase_is;
       phases = follows phase phase_is;
     } in
@@ -574,4 +561,4 @@ returns-after-fix_list-clause-opens c =
       was = h.was;
     }) o (h.is ∙ ap Some h.hands.is) c.sound-in-Opened.ensures c.enter_catalog.ensures
     (subst (λ n. FixesList c.enter_catalog.new.catalog c.self.inside.dumper.running c.put_out.new.outs n c.hand_in-progress.new.self c.fix_list.result c.fix_list.new.merger) c.take_room-room.ensures c.fix_list.ensures.fixes)
-    refl (ap index c.requires.merger) refl count merge copy (ap (λ (v : CoreView). v.merger) c.self.view_is ∙ was) copies)
+    refl refl count merge copy (ap (λ (v : CoreView). v.merger) c.self.view_is ∙ was) copies)

@@ -1,13 +1,19 @@
-use Rattle.std.proofs.Common.{◌≡◌, Some, None, IfSome, slice_get, refl, sym, ◌∙◌, ap, subst}
+use Rattle.std.proofs.Common.{◌≡◌, ◌≢◌, ◌<◌, is_none, Some, None, IfSome, slice_get, refl, sym, ◌∙◌, ap, subst}
+use Rattle.sd_areas.specs.Memory.{memory_of}
+use Rattle.sd_journal.specs.History.{Base}
 use Rattle.sd_gate.specs.declared.phase.Phase.{Phase}
 use Rattle.sd_gate.specs.declared.request_id.RequestId.{RequestId}
 use Rattle.sd_gate.specs.Calls.{is_done}
 use Rattle.sd_gate.specs.Phases.{phases_after}
 use Rattle.sd_command.specs.declared.reply.Reply.TheVariants as reply
 use Rattle.sd_command.specs.declared.refusal.Refusal.TheVariants.{StoreDown}
-use Rattle.sd_belief.specs.View.{CoreView, index}
-use Rattle.sd_core.specs.Sound.{IsOpening, held_for, out_of_opener}
-use Rattle.sd_core.proofs.CoreLemmas.{alone_is, after_count, closed_by, held_opening, none_out, not_taught, set_nobody, taught_opener}
+use Rattle.sd_belief.specs.View.{CoreView}
+use Rattle.sd_core.specs.Sound.{AreNumbers, IsOpening, held_for, out_of_opener}
+use Rattle.sd_core.specs.Working.{opener_left}
+use Rattle.sd_belief.specs.declared.standing.Standing.TheVariants.{Open}
+use Rattle.sd_core.proofs.CoreLemmas.{alone_is, after_count, closed_by, held_let_go, held_opening, none_out, not_taught, set_nobody, taught_opener}
+use Rattle.sd_core.proofs.FallenLemmas.{by_worker, fallen_same, opener_left_some, runs_by}
+use Rattle.sd_core.proofs.JournalLemmas.{same_journal}
 use Rattle.sd_core.proofs.MergeLemmas.{no_merge, none_merges}
 use Rattle.sd_core.proofs.OpeningLemmas.{handed_failed, handed_on, handed_seen}
 use Rattle.sd_core.proofs.WorkLemmas.{none_closed, none_works}
@@ -16,8 +22,7 @@ use Rattle.sd_core.proofs.state.Core.hand_in_opener.Goals as goal
 pub invariant_of-self : goal.invariant_of-self
 invariant_of-self c =
     let id = c.args.outcome.request.id in
-    let own : slice_get c.self.inside.outs 2 ≡ Some (Some id) = ap (λ w. slice_get c.self.inside.outs (index w)) (sym c.requires.opener)
-    ∙ ap (λ (v : CoreView). slice_get v.outs (index id.worker)) c.self.view_is ∙ c.requires.out in
+    let own : slice_get c.self.inside.outs 2 ≡ Some (Some id) = ap (λ (v : CoreView). slice_get v.outs 2) c.self.view_is ∙ c.requires.out in
     let none = none_closed _ c.self.invariant (closed_by c.self.inside.opener id c.self.inside.standing c.self.inside.phases.items c.self.invariant.opening
     (alone_is _ id c.self.invariant own).0) in
     let alone = alone_is _ id c.self.invariant own in
@@ -51,8 +56,7 @@ invariant_of-self c =
 pub returns-then-teach-clause-handed : goal.returns-then-teach-clause-handed
 returns-then-teach-clause-handed c =
     let id = c.args.outcome.request.id in
-    let own : slice_get c.self.inside.outs 2 ≡ Some (Some id) = ap (λ w. slice_get c.self.inside.outs (index w)) (sym c.requires.opener)
-    ∙ ap (λ (v : CoreView). slice_get v.outs (index id.worker)) c.self.view_is ∙ c.requires.out in
+    let own : slice_get c.self.inside.outs 2 ≡ Some (Some id) = ap (λ (v : CoreView). slice_get v.outs 2) c.self.view_is ∙ c.requires.out in
     let none = none_closed _ c.self.invariant (closed_by c.self.inside.opener id c.self.inside.standing c.self.inside.phases.items c.self.invariant.opening
     (alone_is _ id c.self.invariant own).0) in
     let alone = alone_is _ id c.self.invariant own in
@@ -64,7 +68,7 @@ returns-then-teach-clause-handed c =
     let closed = closed_by c.self.inside.opener id c.self.inside.standing c.self.inside.phases.items c.self.invariant.opening alone.0 in
     let none_now = c.put_out.ensures ∙ set_nobody c.self.inside.outs id alone.1 in
     let t = taught_opener c.self.inside.opener c.args.outcome c.teach.new.opener c.if-teach.ensures in
-    handed_seen c.args.outcome reply.Worked _ _ _ c.self.view_is
+    handed_seen 2 c.args.outcome reply.Worked _ _ _ c.self.view_is
     (handed_on c.opener_steps.ensures _ _ c.args.outcome t.opener t.next (record {
       rest = record { closed = closed; base = refl; items = refl; memory = refl; standing = refl; catalog = refl; dumper = refl; numbers = refl; grows = refl; committing = refl };
       alone = alone.1;
@@ -84,8 +88,7 @@ returns-then-teach-clause-handed c =
 pub returns-clause-handed : goal.returns-clause-handed
 returns-clause-handed c =
     let id = c.args.outcome.request.id in
-    let own : slice_get c.self.inside.outs 2 ≡ Some (Some id) = ap (λ w. slice_get c.self.inside.outs (index w)) (sym c.requires.opener)
-    ∙ ap (λ (v : CoreView). slice_get v.outs (index id.worker)) c.self.view_is ∙ c.requires.out in
+    let own : slice_get c.self.inside.outs 2 ≡ Some (Some id) = ap (λ (v : CoreView). slice_get v.outs 2) c.self.view_is ∙ c.requires.out in
     let none = none_closed _ c.self.invariant (closed_by c.self.inside.opener id c.self.inside.standing c.self.inside.phases.items c.self.invariant.opening
     (alone_is _ id c.self.invariant own).0) in
     let alone = alone_is _ id c.self.invariant own in
@@ -96,7 +99,7 @@ returns-clause-handed c =
     let count = after_count c.self.inside.phases.items c.follow_call.new.phases.items id (is_done c.args.outcome.answer) (c.self.invariant.outs_are.within 2 id own) follows in
     let closed = closed_by c.self.inside.opener id c.self.inside.standing c.self.inside.phases.items c.self.invariant.opening alone.0 in
     let none_now = c.put_out.ensures ∙ set_nobody c.self.inside.outs id alone.1 in
-    handed_seen c.args.outcome (reply.Refused StoreDown) _ _ _ c.self.view_is
+    handed_seen 2 c.args.outcome (reply.Refused StoreDown) _ _ _ c.self.view_is
     (handed_failed c.opener_steps.ensures _ _ c.args.outcome StoreDown (record {
       rest = record { closed = closed; base = refl; items = c.let_go.ensures.journal.items; memory = refl; standing = refl; catalog = refl; dumper = refl; numbers = refl; grows = refl; committing = refl };
       alone = alone.1;
@@ -109,7 +112,49 @@ returns-clause-handed c =
 pub returns-clause-goes_on : goal.returns-clause-goes_on
 returns-clause-goes_on c as_asked =
     let id = c.args.outcome.request.id in
-    let own : slice_get c.self.inside.outs 2 ≡ Some (Some id) = ap (λ w. slice_get c.self.inside.outs (index w)) (sym c.requires.opener)
-    ∙ ap (λ (v : CoreView). slice_get v.outs (index id.worker)) c.self.view_is ∙ c.requires.out in
+    let own : slice_get c.self.inside.outs 2 ≡ Some (Some id) = ap (λ (v : CoreView). slice_get v.outs 2) c.self.view_is ∙ c.requires.out in
     absurd (not_taught c.self.inside.opener c.args.outcome c.teach.new.opener c.if-teach.ensures
     (alone_is _ id c.self.invariant own).0 as_asked)
+
+pub invariant_of-self-2 : goal.invariant_of-self-2
+invariant_of-self-2 c =
+    let id = c.args.outcome.request.id in
+    let own : slice_get c.self.inside.outs 2 ≡ Some (Some id) = ap (λ (v : CoreView). slice_get v.outs 2) c.self.view_is ∙ c.requires.out in
+    let alone = alone_is _ id c.self.invariant own in
+    let closed = closed_by c.self.inside.opener id c.self.inside.standing c.self.inside.phases.items c.self.invariant.opening alone.0 in
+    let none = none_closed _ c.self.invariant closed in
+    let looking = runs_by c.self.inside.opener id alone.0 in
+    let ended = c.let_go.ensures.opener in
+    let none_now = c.put_out.ensures ∙ set_nobody c.self.inside.outs id alone.1 in
+    let gone = c.let_go.ensures.journal in
+    let base : Base = record { number = c.self.inside.number; memory = memory_of c.self.inside.base } in
+    record {
+      journal_is = same_journal base c.self.inside.journal c.let_go.new.journal c.self.inside.memory c.self.inside.pending c.self.inside.last gone.first gone.items gone.limit c.self.invariant.journal_is;
+      held = held_let_go c.self.inside.pending c.self.inside.dumper.running looking.0 c.self.inside.journal c.let_go.new.journal none
+          (c.self.invariant.held ∙ ap (held_for c.self.inside.pending c.self.inside.dumper.running) looking.1) gone ∙ ap (held_for c.self.inside.pending c.self.inside.dumper.running) (sym ended);
+      outs_are = none_out c.self.inside.standing c.put_out.new.outs c.follow_call.new.phases.items c.self.inside.dumper.running c.self.inside.merger c.let_go.new.opener none
+          (none_merges _ c.self.invariant closed) (ap out_of_opener ended) none_now;
+      opening = subst (λ x. IfSome x (IsOpening c.self.inside.standing c.follow_call.new.phases.items)) (sym ended) tt;
+      numbers_are = subst (λ all. AreNumbers base all c.self.inside.pending c.self.inside.last c.self.inside.numbers) (sym gone.items) c.self.invariant.numbers_are;
+      counted = c.self.invariant.counted;
+      rests = c.self.invariant.rests;
+      work = none_works _ c.self.inside.dumper.running none;
+      little = none_works _ c.self.inside.dumper.running none;
+      merging = no_merge _ c.self.inside.merger (none_merges _ c.self.invariant closed);
+    }
+
+pub returns-clause-leaves : goal.returns-clause-leaves
+returns-clause-leaves c =
+    let id = c.args.outcome.request.id in
+    let own : slice_get c.self.inside.outs 2 ≡ Some (Some id) = ap (λ (v : CoreView). slice_get v.outs 2) c.self.view_is ∙ c.requires.out in
+    let alone = alone_is _ id c.self.invariant own in
+    let closed = closed_by c.self.inside.opener id c.self.inside.standing c.self.inside.phases.items c.self.invariant.opening alone.0 in
+    let none = none_closed _ c.self.invariant closed in
+    let looking = runs_by c.self.inside.opener id alone.0 in
+    let ended = c.let_go.ensures.opener in
+    record {
+      stands_so = ap (λ (v : CoreView). v.standing) c.self.view_is ∙ fallen_same c.args.self.now.standing (subst (λ (v : CoreView). v.standing ≢ Open) c.self.view_is closed);
+      idle = by_worker _ (ap is_none none) (ap is_none (none_merges _ c.self.invariant closed)) (ap is_none ended);
+      lowers = λ busy. subst (λ o. opener_left o < opener_left c.args.self.now.opener) (sym ended)
+          (subst (λ (v : CoreView). 0 < opener_left v.opener) c.self.view_is (subst (λ o. 0 < opener_left o) (sym looking.1) (opener_left_some looking.0)));
+    }

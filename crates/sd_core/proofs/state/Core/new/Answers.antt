@@ -1,15 +1,16 @@
-use Rattle.std.proofs.Common.{◌≡◌, None, Some, ◌∷◌, [], ◌∙◌, ap, sym, refl, subst}
+use Rattle.std.proofs.Common.{◌≡◌, None, Some, ◌∙◌, ap, sym, refl, subst}
 use Rattle.sd_areas.specs.Memory.{memory_of}
 use Rattle.sd_journal.specs.Allowed.{IsLastPair}
 use Rattle.sd_journal.specs.Marked.{entries_of}
 use Rattle.sd_belief.specs.declared.standing.Standing.TheVariants.{NotOpen, Open}
 use Rattle.sd_rounds.specs.Dumper.{Dumping}
 use Rattle.sd_core.specs.Sound.{held_for}
-use Rattle.sd_core.specs.Starts.{shown_base}
+use Rattle.sd_belief.specs.OpenerSteps.{nobody}
+use Rattle.sd_core.specs.Starts.{nothing_asked, shown_base}
 use Rattle.sd_core.proofs.CoreLemmas.{none_out}
 use Rattle.sd_core.proofs.MergeLemmas.{no_merge}
 use Rattle.sd_chain.specs.Catalog.{place_of}
-use Rattle.sd_core.proofs.StartLemmas.{start_journal, start_numbers, base_is_last, nobody, none_of}
+use Rattle.sd_core.proofs.StartLemmas.{start_journal, start_numbers, base_is_last, none_of}
 use Rattle.sd_core.proofs.WorkLemmas.{none_works}
 use Rattle.sd_core.proofs.state.Core.new.Goals as goal
 
@@ -19,7 +20,7 @@ invariant_of-result c =
     record {
       journal_is = start_journal _ c.new.result c.args.start.memory c.args.start.number c.requires.begins c.requires.same refl c.new.ensures.items c.new.ensures.first c.new.ensures.limit;
       held = c.new.ensures.held ∙ ap (λ r. held_for None r None) (sym idle);
-      outs_are = none_out NotOpen (None ∷ None ∷ None ∷ []) c.args.start.phases.items c.new-3.result.running c.new-4.result None idle c.new-4.ensures refl refl;
+      outs_are = none_out NotOpen nobody c.args.start.phases.items c.new-3.result.running c.new-4.result None idle c.new-4.ensures refl refl;
       opening = tt;
       numbers_are = start_numbers _ c.new.result.items c.args.start.number c.start.result refl c.new.ensures.items c.start.ensures.base c.start.ensures.checkpoint c.start.ensures.serial.0 c.start.ensures.serial.1;
       counted = λ serial o at. absurd (let no : None ≡ Some (Some o) = ap (λ all. place_of all serial) (sym c.new-2.ensures) ∙ at in cc);
@@ -33,6 +34,6 @@ pub returns-clause-believes : goal.returns-clause-believes
 returns-clause-believes c files found shows =
     let number = c.args.start.number in
     let base = memory_of c.args.start.base in
-    c.found_law.ensures _ nobody files (shown_base number base) found refl none_of refl (λ is. absurd (let no : NotOpen ≡ Open = is in cc)) shows
+    c.found_law.ensures _ nothing_asked files (shown_base number base) found refl none_of refl (λ is. absurd (let no : NotOpen ≡ Open = is in cc)) shows
     (subst (λ items. IsLastPair (record { number = number; memory = base }) (entries_of items) (shown_base number base))
     (sym c.new.ensures.items) (base_is_last number base))

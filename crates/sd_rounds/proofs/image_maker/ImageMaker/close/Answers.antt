@@ -11,8 +11,8 @@ use Rattle.sd_rounds.proofs.ImageTableLemmas.{table_is_long}
 use Rattle.sd_rounds.proofs.PlanLemmas.{body_under_way, gives_under_way, is_body}
 use Rattle.sd_rounds.proofs.image_maker.ImageMaker.close.Goals as goal
 
-pub first_request-request-requires-clause-under_way : goal.first_request-request-requires-clause-under_way
-first_request-request-requires-clause-under_way c =
+pub ask-request-requires-clause-under_way : goal.ask-request-requires-clause-under_way
+ask-request-requires-clause-under_way c =
     let few : data_pages c.args.self.now.pass.entries ≤ 2 ^ 39 = subst (λ (m : Making). data_pages m.pass.entries ≤ 2 ^ 39) c.self.view_is (subst (λ n. n ≤ 2 ^ 39) c.self.invariant.counted c.self.invariant.few) in
     let body : IsBody c.header-header.result c.in_ok-text.text.items =
     is_body c.header-header.result _ c.in_ok-text.text.items (data_pages c.args.self.now.pass.entries) c.header-header.ensures.numbers refl few
@@ -29,10 +29,12 @@ invariant_of-self c =
       takes = c.self.invariant.takes;
       counted = c.self.invariant.counted;
       few = c.self.invariant.few;
+      lanes = c.self.invariant.lanes;
+      rests = λ passing. ap (λ (m : Making). m.writes) c.self.view_is ∙ c.requires.rests;
       ready = (
         ap (λ (h : Header). h.pages) c.header-header.ensures.numbers ∙ ap (λ (m : Making). data_pages m.pass.entries) (sym c.self.view_is),
-        gives_under_way c.close_body-plan.result c.first_request-request.new.plan c.first_request-request.result
-            (subst (λ (p : Planned). IsUnderWay p) (sym (c.close_body-plan.ensures.body body)) (body_under_way _ _ _)) c.first_request-request.ensures.gives,
+        gives_under_way c.close_body-plan.result c.ask-request.new.plan c.ask-request.result
+            (subst (λ (p : Planned). IsUnderWay p) (sym (c.close_body-plan.ensures.body body)) (body_under_way _ _ _)) c.ask-request.ensures.gives,
       );
     }
 
@@ -47,6 +49,7 @@ returns-clause-table c =
         stage = c.requires.stage;
         free = c.requires.free;
         over = c.requires.over;
+        rests = c.requires.rests;
         tables = c.in_ok-table-2.table;
         header = c.header-header.result;
         numbers = c.header-header.ensures.numbers ∙ ap (header_of c.args.self.now.order (data_pages c.args.self.now.pass.entries))
@@ -55,12 +58,12 @@ returns-clause-table c =
         table = subst (λ (l : List Listed). HasTable c.args.self.now.order.kind c.args.memory.now c.args.self.now.pass.entries c.header-header.result l) (sym c.in_ok-table-2.ensures)
             (c.in_ok-table.ensures c.header-header.result (ap (λ (h : Header). h.kind) c.header-header.ensures.numbers) (ap (λ (h : Header). h.parent) c.header-header.ensures.numbers)
             (ap (λ (h : Header). h.pages) c.header-header.ensures.numbers));
-        next = c.first_request-request.new.plan;
-        gives = subst (λ (p : Planned). Gives p c.first_request-request.new.plan c.first_request-request.result)
+        next = c.ask-request.new.plan;
+        gives = subst (λ (p : Planned). Gives p c.ask-request.new.plan c.ask-request.result)
             (c.close_body-plan.ensures.body body ∙ ap (λ (t : List ℕ). begun c.self.inside.order.slot (body_calls c.header-header.result t) nothing) text
             ∙ ap (λ (m : Making). begun m.order.slot (body_calls c.header-header.result (table_text c.in_ok-table-2.table)) nothing) c.self.view_is)
-            c.first_request-request.ensures.gives;
-        is = ap (λ (m : Making). record m { stage = Close c.first_request-request.new.plan c.header-header.result c.in_ok-table-2.table }) c.self.view_is;
+            c.ask-request.ensures.gives;
+        is = ap (λ (m : Making). record m { stage = Close c.ask-request.new.plan c.header-header.result c.in_ok-table-2.table }) c.self.view_is;
       },
-      c.first_request-request.ensures.asked,
+      c.ask-request.ensures.asked,
     )

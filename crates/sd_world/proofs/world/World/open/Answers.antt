@@ -4,6 +4,7 @@ use Rattle.sd_gate.specs.Laws.{found_phase}
 use Rattle.sd_image.specs.Shows.{Shows}
 use Rattle.sd_journal.specs.History.{Base}
 use Rattle.sd_core.specs.Starts.{shown_base}
+use Rattle.sd_world.specs.Consistent.{IsWorld}
 use Rattle.sd_world.specs.Opens.{AreSynced}
 use Rattle.sd_world.proofs.OpenLemmas.{all_synced, nobody_places, nothing_made}
 use Rattle.sd_world.proofs.world.World.open.Goals as goal
@@ -16,7 +17,7 @@ invariant_of-result g c =
     let starts = c.new-core.ensures.starts in
     let read = c.in-Ok.ensures in
     let same : D.contents disk ≡ D.contents c.args.disk = read.reads.same in
-    record {
+    subst (λ kept. IsWorld D (record { core = c.new-core.result; disk = disk; kept = kept })) (sym c.nothing_kept-kept.ensures) (record {
       count = ap length same ∙ sym read.count ∙ ap length (sym starts.phases);
       outs = starts.outs;
       places = nobody_places (length (D.contents disk));
@@ -30,7 +31,7 @@ invariant_of-result g c =
             stands = λ slot phase is. fits.each slot phase (ap (λ all. slice_get all slot) (sym phases ∙ sym starts.phases) ∙ is);
             told = λ worker made at. absurd (nothing_made worker made at);
           };
-    }
+    })
 
 pub returns-in-Ok-clause-everywhere : goal.returns-in-Ok-clause-everywhere
 returns-in-Ok-clause-everywhere g c = λ honest contents may.

@@ -1,26 +1,27 @@
 use Rattle.std.proofs.Common.{refl, subst}
 use Rattle.sd_disk.specs.Crash.{Within}
 use Rattle.sd_belief.specs.Shown.{ShowsAllowed}
-use Rattle.sd_belief.specs.View.{CoreView, history_of, index}
+use Rattle.sd_belief.specs.View.{CoreView, history_of}
 use Rattle.sd_world.specs.declared.kept.Kept.TheVariants.{Request}
 use Rattle.sd_world.specs.Consistent.{IsWorld}
 use Rattle.sd_world.specs.Steps.{Does}
 use Rattle.sd_world.specs.View.{WorldView}
 use Rattle.sd_world.proofs.AddsLemmas.{step_adds, step_base, step_honest, step_span}
 use Rattle.sd_world.proofs.AllowedLemmas.{world_allows}
+use Rattle.sd_world.proofs.FirstLemmas.{device_step, idle_step, made_step}
 use Rattle.sd_world.proofs.LittleLemmas.{step_little}
-use Rattle.sd_world.proofs.LowersLemmas.{work_lowers}
+use Rattle.sd_world.proofs.LowersLemmas.{hand_in_lowers, take_up_lowers, work_lowers}
 use Rattle.sd_world.proofs.ReplyLemmas.{marked_legal, says}
 use Rattle.sd_world.proofs.StepLemmas.{step_world}
 use Rattle.sd_world.proofs.world.World.step.Goals as goal
 
 pub make_step-answer-requires : goal.make_step-answer-requires
-make_step-answer-requires g c = λ worker request at. c.self.invariant.places.range (index worker) (Request request) request.id at refl
+make_step-answer-requires g c = λ lane request at. c.self.invariant.places.range lane (Request request) request at refl
 
 pub invariant_of-self : goal.invariant_of-self
 invariant_of-self g c = step_world g.D.Disk (record { core = c.self.inside.core; disk = c.self.inside.disk; kept = c.self.inside.kept })
     (record { core = c.make_step-answer.new.core; disk = c.make_step-answer.new.disk; kept = c.make_step-answer.new.kept })
-    c.given_up_fits.ensures c.synced_is_found.ensures (g.met.D.Disk.as_read c.self.inside.disk) c.performed_law.ensures c.self.invariant
+    c.given_up_fits.ensures c.synced_is_found.ensures (g.met.D.Disk.as_read c.self.inside.disk) c.performed_law.ensures c.writes_commute.ensures c.self.invariant
     c.args.event.now c.make_step-answer.result c.make_step-answer.ensures
 
 pub returns-clause-adds : goal.returns-clause-adds
@@ -29,11 +30,43 @@ returns-clause-adds g c =
     step_adds g.D.Disk c.args.self.now new (subst (IsWorld g.D.Disk) c.self.view_is c.self.invariant) c.args.event.now c.make_step-answer.result
     (subst (λ w. Does g.D.Disk c.args.event.now w c.make_step-answer.result new) c.self.view_is c.make_step-answer.ensures)
 
+pub returns-clause-idle : goal.returns-clause-idle
+returns-clause-idle g c = λ worker is unasked.
+    let new : WorldView g.row.D.Denot = record { core = c.make_step-answer.new.core; disk = c.make_step-answer.new.disk; kept = c.make_step-answer.new.kept } in
+    let does = subst (λ w. Does g.D.Disk c.args.event.now w c.make_step-answer.result new) c.self.view_is c.make_step-answer.ensures in
+    idle_step g.D.Disk c.args.self.now new worker c.make_step-answer.result unasked (subst (λ e. Does g.D.Disk e c.args.self.now c.make_step-answer.result new) is does)
+
+pub returns-clause-made : goal.returns-clause-made
+returns-clause-made g c = λ worker is asked.
+    let new : WorldView g.row.D.Denot = record { core = c.make_step-answer.new.core; disk = c.make_step-answer.new.disk; kept = c.make_step-answer.new.kept } in
+    let does = subst (λ w. Does g.D.Disk c.args.event.now w c.make_step-answer.result new) c.self.view_is c.make_step-answer.ensures in
+    made_step g.D.Disk c.args.self.now new worker c.make_step-answer.result asked (subst (λ e. Does g.D.Disk e c.args.self.now c.make_step-answer.result new) is does)
+
+pub returns-clause-device : goal.returns-clause-device
+returns-clause-device g c = λ worker is asked.
+    let new : WorldView g.row.D.Denot = record { core = c.make_step-answer.new.core; disk = c.make_step-answer.new.disk; kept = c.make_step-answer.new.kept } in
+    let does = subst (λ w. Does g.D.Disk c.args.event.now w c.make_step-answer.result new) c.self.view_is c.make_step-answer.ensures in
+    device_step g.D.Disk c.args.self.now new worker c.make_step-answer.result asked (subst (λ e. Does g.D.Disk e c.args.self.now c.make_step-answer.result new) is does)
+
 pub returns-clause-lowers : goal.returns-clause-lowers
 returns-clause-lowers g c = λ worker is.
     let new : WorldView g.row.D.Denot = record { core = c.make_step-answer.new.core; disk = c.make_step-answer.new.disk; kept = c.make_step-answer.new.kept } in
     let does = subst (λ w. Does g.D.Disk c.args.event.now w c.make_step-answer.result new) c.self.view_is c.make_step-answer.ensures in
     work_lowers g.D.Disk c.args.self.now new (subst (IsWorld g.D.Disk) c.self.view_is c.self.invariant) worker c.make_step-answer.result
+    (subst (λ e. Does g.D.Disk e c.args.self.now c.make_step-answer.result new) is does)
+
+pub returns-clause-lowers_up : goal.returns-clause-lowers_up
+returns-clause-lowers_up g c = λ worker is.
+    let new : WorldView g.row.D.Denot = record { core = c.make_step-answer.new.core; disk = c.make_step-answer.new.disk; kept = c.make_step-answer.new.kept } in
+    let does = subst (λ w. Does g.D.Disk c.args.event.now w c.make_step-answer.result new) c.self.view_is c.make_step-answer.ensures in
+    take_up_lowers g.D.Disk c.args.self.now new (subst (IsWorld g.D.Disk) c.self.view_is c.self.invariant) worker c.make_step-answer.result
+    (subst (λ e. Does g.D.Disk e c.args.self.now c.make_step-answer.result new) is does)
+
+pub returns-clause-lowers_at : goal.returns-clause-lowers_at
+returns-clause-lowers_at g c = λ worker place is.
+    let new : WorldView g.row.D.Denot = record { core = c.make_step-answer.new.core; disk = c.make_step-answer.new.disk; kept = c.make_step-answer.new.kept } in
+    let does = subst (λ w. Does g.D.Disk c.args.event.now w c.make_step-answer.result new) c.self.view_is c.make_step-answer.ensures in
+    hand_in_lowers g.D.Disk c.args.self.now new (subst (IsWorld g.D.Disk) c.self.view_is c.self.invariant) worker place c.make_step-answer.result
     (subst (λ e. Does g.D.Disk e c.args.self.now c.make_step-answer.result new) is does)
 
 pub returns-clause-little : goal.returns-clause-little
@@ -51,7 +84,7 @@ returns-clause-base g c =
 pub returns-clause-at_end : goal.returns-clause-at_end
 returns-clause-at_end g c =
     let new : WorldView g.row.D.Denot = record { core = c.make_step-answer.new.core; disk = c.make_step-answer.new.disk; kept = c.make_step-answer.new.kept } in
-    world_allows g.D.Disk new c.left_as_believed.ensures c.contents_show.ensures (g.met.D.Disk.same_slots c.make_step-answer.new.disk)
+    world_allows g.D.Disk new c.left_as_believed.ensures c.contents_show.ensures c.writes_commute.ensures (g.met.D.Disk.same_slots c.make_step-answer.new.disk)
     (invariant_of-self g c)
 
 pub returns-clause-contents : goal.returns-clause-contents
@@ -74,7 +107,7 @@ returns-clause-any_moment g c = λ honest.
     let old = c.args.self.now in
     let world = subst (IsWorld g.D.Disk) c.self.view_is c.self.invariant in
     let does = subst (λ w. Does g.D.Disk c.args.event.now w c.make_step-answer.result new) c.self.view_is c.make_step-answer.ensures in
-    let before = world_allows g.D.Disk old c.left_as_believed.ensures c.contents_show.ensures (g.met.D.Disk.same_slots old.disk) world
+    let before = world_allows g.D.Disk old c.left_as_believed.ensures c.contents_show.ensures c.writes_commute.ensures (g.met.D.Disk.same_slots old.disk) world
     (step_honest g.D.Disk old new world c.args.event.now c.make_step-answer.result does honest) in
     step_span g.D.Disk old new world (ShowsAllowed old.core.base (history_of old.core)) (g.met.D.Disk.only_now old.disk) before
     c.args.event.now c.make_step-answer.result does

@@ -1,0 +1,225 @@
+-- In which lane a request of the dumper is, and what is out once its outcome was handed in.
+use Rattle.std.proofs.Common.{◌≡◌, ◌⊎◌, ℕ, suc, ◌<◌, ◌&&◌, Bool, true, false, List, ◌∷◌, is_none, Option, Some, None, slice_get, slice_set, refl, sym, ◌∙◌, ap, subst, inl, inr, arith}
+use Rattle.std.proofs.lemmas.Option.{same_Some}
+use Rattle.sd_gate.specs.declared.call.Call.TheVariants.{Write}
+use Rattle.sd_gate.specs.declared.phase.Phase.{Phase}
+use Rattle.sd_gate.specs.declared.request_id.RequestId.{RequestId}
+use Rattle.sd_gate.specs.declared.worker.Worker.TheVariants.{Dumper, Merger}
+use Rattle.sd_gate.specs.Plans.{Planned}
+use Rattle.sd_gate.specs.Requests.{Asked, Made}
+use Rattle.sd_gate.specs.Sequences.{data_place}
+use Rattle.sd_command.specs.declared.reply.Reply.{Reply}
+use Rattle.sd_merge.specs.Merger as merger
+use Rattle.sd_rounds.specs.declared.new_image.NewImage.{NewImage}
+use Rattle.sd_rounds.specs.declared.stage.Stage.{Stage}
+use Rattle.sd_rounds.specs.declared.stage.Stage.TheVariants.{Format, Freeze, Pass as PassStage, Close}
+use Rattle.sd_rounds.specs.Dumper.{IsOutOfImage, IsOutOfRunning, Running, out_of_running, slot_of, writes_of_running}
+use Rattle.sd_rounds.specs.Making.{GoesOn, IsWritten, Making, Opens, WritesPage, is_passing, out_of, plan_of}
+use Rattle.sd_rounds.specs.Pass.{data_pages}
+use Rattle.sd_rounds.specs.Sound.{IsSoundImage}
+use Rattle.sd_rounds.specs.Writes.{no_writes}
+use Rattle.sd_belief.specs.Calls.{HandedIn, IsApart}
+use Rattle.sd_belief.specs.DumperOutcomes.{IsDumpersOutcome, closes_for_sure, is_closing}
+use Rattle.sd_belief.specs.View.{CoreView, page_lane}
+use Rattle.sd_core.specs.Sound.{HasWrites, IsCore, Parts}
+use Rattle.sd_core.proofs.MergeLemmas.{asks_apart}
+use Rattle.sd_core.proofs.OutsLemmas.{IsOfDumper, far, lane_at, no_write, on_slot}
+use Rattle.sd_core.proofs.WorkLemmas.{at_work}
+
+-- one request is in one lane
+pub same_lane : (core : Parts) (one other : ℕ) (id : RequestId) → IsCore core → slice_get core.outs one ≡ Some (Some id) → slice_get core.outs other ≡ Some (Some id) → one ≡ other
+same_lane core one other id sound at its = elim (sound.outs_are.apart one other id id at its refl) [
+  | inl same ↦ same
+  | inr pages ↦ absurd (pages.are.apart refl)
+]
+
+-- what is out while a checkpoint runs
+pub jobs_are : (core : Parts) (running : Running) → IsCore core → core.dumper.running ≡ Some running
+    → core.outs ≡ out_of_running (Some running) ∷ merger.out_of_merge core.merger ∷ None ∷ writes_of_running (Some running)
+jobs_are core running sound is = sound.outs_are.jobs (at_work core running sound is).stands ∙ ap (λ r. out_of_running r ∷ merger.out_of_merge core.merger ∷ None ∷ writes_of_running r) is
+
+its_lane : (core : Parts) (running : Running) (lane : ℕ) (id : RequestId) → IsCore core → core.dumper.running ≡ Some running → id.worker ≡ Dumper
+    → slice_get core.outs lane ≡ Some (Some id) → IsOfDumper (Some running) id
+its_lane core running lane id sound is whose at =
+    elim (lane_at (out_of_running (Some running)) (merger.out_of_merge core.merger) (writes_of_running (Some running)) lane id (ap (λ all. slice_get all lane) (sym (jobs_are core running sound is)) ∙ at)) [
+      | inl a ↦ inl a.1
+      | inr rest ↦ elim rest [
+        | inl b ↦ absurd (let no : Dumper ≡ Merger = sym whose ∙ sound.outs_are.whose 1 id (ap (slice_get core.outs) (sym b.0) ∙ at) in cc)
+        | inr page ↦ inr (page.0, page.2)
+      ]
+    ]
+
+-- it is out of the image that is being made
+pub out_there : (core : Parts) (lane : ℕ) (id : RequestId) → IsCore core → is_none core.dumper.running ≡ false → id.worker ≡ Dumper → slice_get core.outs lane ≡ Some (Some id)
+    → IsOutOfRunning core.dumper.running id
+out_there core lane id sound runs whose at = by core.dumper.running refl
+  where
+    by_image : (running : Running) (image : Option Making) → running.image ≡ image → IsOfDumper (Some running) id → IsOutOfImage image id
+    by_image running None is (inl own) = (let no : None ≡ Some id = sym (ap (λ i. out_of_running (Some (record running { image = i }))) is) ∙ own in cc)
+    by_image running None is (inr page) = no_write page.0 id (ap (λ i. slice_get (writes_of_running (Some (record running { image = i }))) page.0) (sym is) ∙ page.1)
+    by_image running (Some image) is (inl own) = inl (ap (λ i. out_of_running (Some (record running { image = i }))) (sym is) ∙ own)
+    by_image running (Some image) is (inr page) = inr (record { lane = page.0; is = ap (λ i. slice_get (writes_of_running (Some (record running { image = i }))) page.0) (sym is) ∙ page.1 })
+
+    by : (running : Option Running) → core.dumper.running ≡ running → IsOutOfRunning running id
+    by None is = absurd (let no : true ≡ false = sym (ap is_none is) ∙ runs in cc)
+    by (Some running) is = by_image running running.image refl (its_lane core running lane id sound is whose at)
+
+-- it is on the slot of the image
+pub slot_at : (core : Parts) (running : Running) (lane : ℕ) (id : RequestId) → IsCore core → core.dumper.running ≡ Some running → id.worker ≡ Dumper
+    → slice_get core.outs lane ≡ Some (Some id) → id.slot ≡ slot_of running
+slot_at core running lane id sound is whose at =
+    let w = at_work core running sound is in
+    on_slot running id w.asked w.writes (its_lane core running lane id sound is whose at)
+
+-- ---- one of the plan
+
+pub plan_lane : (core : Parts) (running : Running) (image : Making) (lane : ℕ) (id : RequestId) → IsCore core → core.dumper.running ≡ Some running → running.image ≡ Some image
+    → slice_get core.outs lane ≡ Some (Some id) → out_of image.stage ≡ Some id → lane ≡ 0
+plan_lane core running image lane id sound is making at out =
+    same_lane core lane 0 id sound at (ap (λ all. slice_get all 0) (jobs_are core running sound is) ∙ ap (λ i. Some (out_of_running (Some (record running { image = i })))) making ∙ ap Some out)
+
+out_is : (stage : Stage) (plan : Planned) → plan_of stage ≡ Some plan → out_of stage ≡ plan.out
+out_is (Format own) plan was = ap (λ (p : Planned). p.out) (same_Some own plan was)
+out_is Freeze plan was = absurd (let no : None ≡ Some plan = was in cc)
+out_is PassStage plan was = absurd (let no : None ≡ Some plan = was in cc)
+out_is (Close own header tables) plan was = ap (λ (p : Planned). p.out) (same_Some own plan was)
+
+pub goes_out : (image next : Making) (made : Made) → GoesOn image made next → out_of image.stage ≡ Some made.request.id
+goes_out image next made goes = out_is image.stage goes.plan goes.awaited.was ∙ goes.awaited.out
+
+opens_out : (image : Making) (made : Made) (opened : NewImage) → Opens image made opened → out_of image.stage ≡ Some made.request.id
+opens_out image made opened opens = ap out_of opens.was ∙ opens.out
+
+-- ---- the write of a data page
+
+pub write_lane : (core : Parts) (running : Running) (image : Making) (lane k : ℕ) (id : RequestId) → IsCore core → core.dumper.running ≡ Some running → running.image ≡ Some image
+    → slice_get core.outs lane ≡ Some (Some id) → slice_get image.writes k ≡ Some (Some id) → lane ≡ suc (suc (suc k))
+write_lane core running image lane k id sound is making at out =
+    same_lane core lane (suc (suc (suc k))) id sound at
+    (ap (λ all. slice_get all (suc (suc (suc k)))) (jobs_are core running sound is) ∙ ap (λ i. slice_get (writes_of_running (Some (record running { image = i }))) k) making ∙ out)
+
+-- it closes nothing
+pub write_closes_none : (core : Parts) (running : Running) (image : Making) (k : ℕ) (phase : Phase) (id : RequestId) → IsCore core → core.dumper.running ≡ Some running → running.image ≡ Some image
+    → slice_get image.writes k ≡ Some (Some id) → closes_for_sure phase id.call ≡ false
+write_closes_none core running image k phase id sound is making out =
+    let w = at_work core running sound is in
+    let page = (subst (λ i. HasWrites running i) making w.writes).0.each k id out in
+    ap (closes_for_sure phase) page.call ∙ and_false (is_closing phase)
+  where
+    and_false : (b : Bool) → (b && false) ≡ false
+    and_false true = refl
+    and_false false = refl
+
+-- ---- what is out then
+
+pub more_outs : (core : Parts) (running : Running) (image next : Making) (lane : ℕ) (made : Made) → IsCore core → core.dumper.running ≡ Some running → running.image ≡ Some image
+    → slice_get core.outs lane ≡ Some (Some made.request.id) → out_of next.stage ≡ None → GoesOn image made next ⊎ IsWritten image made next
+    → slice_set core.outs lane None ≡ out_of next.stage ∷ merger.out_of_merge core.merger ∷ None ∷ next.writes
+more_outs core running image next lane made sound is making at rests (inl goes) =
+    let zero_is = plan_lane core running image lane made.request.id sound is making at (goes_out image next made goes) in
+    ap (λ k. slice_set core.outs k None) zero_is ∙ ap (λ all. slice_set all 0 None) (jobs_are core running sound is)
+    ∙ ap (λ i. None ∷ merger.out_of_merge core.merger ∷ None ∷ writes_of_running (Some (record running { image = i }))) making
+    ∙ ap (λ w. None ∷ merger.out_of_merge core.merger ∷ None ∷ w) (sym (ap (λ (m : Making). m.writes) goes.is))
+    ∙ ap (λ o. o ∷ merger.out_of_merge core.merger ∷ None ∷ next.writes) (sym rests)
+more_outs core running image next lane made sound is making at rests (inr written) =
+    let page_is = write_lane core running image lane written.lane made.request.id sound is making at written.out in
+    ap (λ k. slice_set core.outs k None) page_is ∙ ap (λ all. slice_set all (suc (suc (suc written.lane))) None) (jobs_are core running sound is)
+    ∙ ap (λ i. out_of_running (Some (record running { image = i })) ∷ merger.out_of_merge core.merger ∷ None ∷ slice_set (writes_of_running (Some (record running { image = i }))) written.lane None) making
+    ∙ ap (λ w. out_of image.stage ∷ merger.out_of_merge core.merger ∷ None ∷ w) (sym (ap (λ (m : Making). m.writes) written.is))
+    ∙ ap (λ o. o ∷ merger.out_of_merge core.merger ∷ None ∷ next.writes) (ap (λ (m : Making). out_of m.stage) (sym written.is))
+
+pub opens_lane : (core : Parts) (running : Running) (image : Making) (lane : ℕ) (made : Made) (opened : NewImage) → IsCore core → core.dumper.running ≡ Some running → running.image ≡ Some image
+    → slice_get core.outs lane ≡ Some (Some made.request.id) → Opens image made opened → lane ≡ 0
+opens_lane core running image lane made opened sound is making at opens =
+    plan_lane core running image lane made.request.id sound is making at (opens_out image made opened opens)
+
+pub opens_outs : (core : Parts) (running : Running) (image : Making) (lane : ℕ) (made : Made) (opened : NewImage) → IsCore core → core.dumper.running ≡ Some running → running.image ≡ Some image
+    → slice_get core.outs lane ≡ Some (Some made.request.id) → Opens image made opened
+    → slice_set core.outs lane None ≡ None ∷ merger.out_of_merge core.merger ∷ None ∷ no_writes
+opens_outs core running image lane made opened sound is making at opens =
+    ap (λ k. slice_set core.outs k None) (opens_lane core running image lane made opened sound is making at opens) ∙ ap (λ all. slice_set all 0 None) (jobs_are core running sound is)
+    ∙ ap (λ i. None ∷ merger.out_of_merge core.merger ∷ None ∷ writes_of_running (Some (record running { image = i }))) making
+    ∙ ap (λ w. None ∷ merger.out_of_merge core.merger ∷ None ∷ w) opens.rests
+
+-- ---- as the calls of a core tell it
+
+pub outcome_at : (old new : CoreView) (lane k : ℕ) (made : Made) (phase : Phase) → lane ≡ k → IsDumpersOutcome old lane made phase new → IsDumpersOutcome old k made phase new
+outcome_at old new lane k made phase same o = subst (λ n. IsDumpersOutcome old n made phase new) same o
+
+pub handed_at : (old new : CoreView) (lane k : ℕ) (made : Made) (answer : Reply) → lane ≡ k → HandedIn old k made answer new → HandedIn old lane made answer new
+handed_at old new lane k made answer same h = subst (λ n. HandedIn old n made answer new) (sym same) h
+
+-- ---- what is out once a step was made
+
+plan_outside : (stage : Stage) (plan : Planned) → plan_of stage ≡ Some plan → is_passing stage ≡ false
+plan_outside (Format own) plan was = refl
+plan_outside Freeze plan was = refl
+plan_outside PassStage plan was = absurd (let no : None ≡ Some plan = was in cc)
+plan_outside (Close own header tables) plan was = refl
+
+-- while a plan is made no data page is written
+pub none_written : (image : Making) (plan : Planned) → plan_of image.stage ≡ Some plan → IsSoundImage image → image.writes ≡ no_writes
+none_written image plan was sound = sound.rests (plan_outside image.stage plan was)
+
+module _ (running : Running) (image next : Making) (merge : Option RequestId) (outs : List (Option RequestId)) (are : outs ≡ None ∷ merge ∷ None ∷ writes_of_running (Some running))
+    (making : running.image ≡ Some image) where
+  image_outs : outs ≡ None ∷ merge ∷ None ∷ image.writes
+  image_outs = are ∙ ap (λ i. None ∷ merge ∷ None ∷ writes_of_running (Some (record running { image = i }))) making
+
+  -- nothing is asked for
+  pub outs_kept : next.writes ≡ image.writes → out_of next.stage ≡ None → outs ≡ out_of next.stage ∷ merge ∷ None ∷ next.writes
+  outs_kept same rests = image_outs ∙ ap (λ w. None ∷ merge ∷ None ∷ w) (sym same) ∙ ap (λ o. o ∷ merge ∷ None ∷ next.writes) (sym rests)
+
+  -- a call of a plan
+  pub outs_asked : (id : RequestId) → next.writes ≡ image.writes → out_of next.stage ≡ Some id → slice_set outs 0 (Some id) ≡ out_of next.stage ∷ merge ∷ None ∷ next.writes
+  outs_asked id same out = ap (λ all. slice_set all 0 (Some id)) image_outs ∙ ap (λ w. Some id ∷ merge ∷ None ∷ w) (sym same) ∙ ap (λ o. o ∷ merge ∷ None ∷ next.writes) (sym out)
+
+  -- the write of a data page
+  pub outs_writing : (lane : ℕ) (id : RequestId) → next.writes ≡ slice_set image.writes lane (Some id) → out_of next.stage ≡ None
+      → slice_set outs (page_lane lane) (Some id) ≡ out_of next.stage ∷ merge ∷ None ∷ next.writes
+  outs_writing lane id now rests = ap (λ k. slice_set outs k (Some id)) (far lane) ∙ ap (λ all. slice_set all (suc (suc (suc lane))) (Some id)) image_outs
+      ∙ ap (λ w. None ∷ merge ∷ None ∷ w) (sym now) ∙ ap (λ o. o ∷ merge ∷ None ∷ next.writes) (sym rests)
+
+  pub outs_resting : image.writes ≡ no_writes → outs ≡ None ∷ merge ∷ None ∷ no_writes
+  outs_resting none = image_outs ∙ ap (λ w. None ∷ merge ∷ None ∷ w) none
+
+  pub lane_free : (lane : ℕ) → slice_get image.writes lane ≡ Some None → slice_get outs (page_lane lane) ≡ Some None
+  lane_free lane free = ap (slice_get outs) (far lane) ∙ ap (λ all. slice_get all (suc (suc (suc lane)))) image_outs ∙ free
+
+-- what is out on the slot of a page that is to be written is in a lane of pages
+pub page_beside : (core : Parts) (running : Running) (image next : Making) (lane : ℕ) (request : Asked) → IsCore core → core.dumper.running ≡ Some running → running.image ≡ Some image
+    → core.outs ≡ None ∷ merger.out_of_merge core.merger ∷ None ∷ writes_of_running (Some running) → image.order.slot ≡ slot_of running → WritesPage image lane request next
+    → (other_lane : ℕ) (other : RequestId) → slice_get core.outs other_lane ≡ Some (Some other) → other.slot ≡ request.id.slot → 2 < other_lane
+page_beside core running image next lane request sound is making are own writes at id out same =
+    elim (lane_at None (merger.out_of_merge core.merger) image.writes at id (ap (λ all. slice_get all at) (sym (image_outs running image next (merger.out_of_merge core.merger) core.outs are making)) ∙ out)) [
+      | inl a ↦ absurd (let no : None ≡ Some id = a.1 in cc)
+      | inr rest ↦ elim rest [
+        | inl b ↦ absurd (asks_apart core running request.id id sound is (writes.slot ∙ own) b.1 (sym same))
+        | inr page ↦ (let here = page.1 in omega (arith, here))
+      ]
+    ]
+
+-- what is out on the slot of a page that is to be written writes others
+pub page_apart : (core : Parts) (running : Running) (image next : Making) (lane : ℕ) (request : Asked) → IsCore core → core.dumper.running ≡ Some running → running.image ≡ Some image
+    → core.outs ≡ None ∷ merger.out_of_merge core.merger ∷ None ∷ writes_of_running (Some running) → image.order.slot ≡ slot_of running → WritesPage image lane request next
+    → IsApart core.outs request.id
+page_apart core running image next lane request sound is making are own writes at id out same =
+    elim (lane_at None (merger.out_of_merge core.merger) image.writes at id (ap (λ all. slice_get all at) (sym (image_outs running image next (merger.out_of_merge core.merger) core.outs are making)) ∙ out)) [
+      | inl a ↦ absurd (let no : None ≡ Some id = a.1 in cc)
+      | inr rest ↦ elim rest [
+        | inl b ↦ absurd (asks_apart core running request.id id sound is (writes.slot ∙ own) b.1 (sym same))
+        | inr page ↦
+            let w = at_work core running sound is in
+            let its = (subst (λ i. HasWrites running i) making w.writes).0.each page.0 id page.2 in
+            record {
+              one = record { place = data_pages image.pass.entries; call = writes.call };
+              another = record { place = its.place; call = its.call };
+              apart = λ call. not_same its.place its.made (sym writes.call ∙ call ∙ its.call);
+            }
+      ]
+    ]
+  where
+    not_same : (place : ℕ) → place < data_pages image.pass.entries → Write (data_place (data_pages image.pass.entries)) ≡ Write (data_place place) → ⊥
+    not_same place made same_call =
+        let places : data_place (data_pages image.pass.entries) ≡ data_place place = cc in
+        omega (arith, places, made)

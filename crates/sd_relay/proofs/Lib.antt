@@ -1,0 +1,3 @@
+mod TicketLemmas
+mod TotalLemmas
+mod RuleLemmas

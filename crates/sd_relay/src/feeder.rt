@@ -1,0 +1,19 @@
+ghost use Rattle.std.specs.Prelude.{◌≡◌, ℕ, Bool, true, ⊤, List, []};
+ghost use Rattle.sd_relay.specs.Fronts.{put_into, Stays};
+
+use crate::front::Front;
+
+/// What the thread that calls `relay` does: it puts errands into the front.
+pub trait Feeder {
+    /// Whether it has fed.
+    ghost fed: { Self → Bool };
+
+    /// What it knows of the tickets that it put, in order.
+    ghost has_put: { Self → List ℕ → Type 0 } = { λ _ _. ⊤ };
+
+    /// Puts its errands into the front.
+    fn feed(&mut self, front: &mut Front)
+        ensures stays { Stays front.old front.new }
+        ensures fed { fed self.new ≡ true }
+        ensures put { put_into front.old ≡ [] → has_put self.new (put_into front.new) };
+}

@@ -1,0 +1,57 @@
+//! The lanes of the writes of data pages that are out: each has one of its own.
+ghost use Rattle.std.specs.Prelude.{◌≡◌, ◌↔◌, ◌<◌, None, Some, true, IfSome, IsTrue, slice_get, MatchOption};
+ghost use Rattle.sd_rounds.specs.Writes.{IsInLane, are_all_out, is_any_out, writes_out};
+
+use sd_gate::RequestId;
+
+/// How many writes of data pages may be out at once.
+pub const LANES: usize = 8;
+
+/// A lane in which no write is out.
+pub(crate) fn free_lane(writes: &[Option<RequestId>; LANES]) -> Option<usize>
+    ensures free { MatchOption result (are_all_out writes.now ≡ true)
+        (λ lane. slice_get writes.now lane ≡ Some None) }
+    ensures within { IfSome result (λ lane. lane < 8) }
+{
+    for (lane, write) in writes.iter().enumerate() {
+        if write.is_none() {
+            return Some(lane);
+        }
+    }
+    None
+}
+
+/// Whether the write in a lane has this id.
+fn is_this(write: &Option<RequestId>, id: &RequestId) -> bool
+    ensures { IsTrue result ↔ write.now ≡ Some id.now }
+{
+    *write == Some(*id)
+}
+
+/// The lane in which the write with this id is out.
+pub(crate) fn lane_of(writes: &[Option<RequestId>; LANES], id: &RequestId) -> Option<usize>
+    ensures found { MatchOption result (IsInLane writes.now id.now → ⊥)
+        (λ lane. slice_get writes.now lane ≡ Some (Some id.now)) }
+    ensures within { IfSome result (λ lane. lane < 8) }
+{
+    for (lane, write) in writes.iter().enumerate() {
+        if is_this(write, id) {
+            return Some(lane);
+        }
+    }
+    None
+}
+
+/// Whether a write is out in some lane.
+pub(crate) fn is_any_out(writes: &[Option<RequestId>; LANES]) -> bool
+    ensures { result ≡ is_any_out writes.now }
+{
+    writes.iter().any(|write| write.is_some())
+}
+
+/// How many writes are out.
+pub(crate) fn writes_out(writes: &[Option<RequestId>; LANES]) -> usize
+    ensures { result ≡ writes_out writes.now }
+{
+    writes.iter().filter(|write| write.is_some()).count()
+}

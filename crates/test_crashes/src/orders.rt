@@ -1,0 +1,90 @@
+//! Writes of data pages that are out at once: in each order in which they are made, with a crash behind each.
+use std::alloc::{AllocError, Global};
+use std::process::Abort;
+use std::test::Fail;
+use world_trials::{Failing, Line, Trouble, try_lines};
+
+/// The events that format a slot which was never written, and the freeze.
+const BEFORE_THE_PASS: usize = 10;
+
+/// The steps of a page: it is visited, its eight sectors are copied, and its write is taken up.
+const OF_A_PAGE: usize = 10;
+
+/// A checkpoint of one page.
+const ONE: [Line; 4] = [
+    Line::Map(1),
+    Line::Store(0, 9),
+    Line::Begin(0),
+    Line::Finish,
+];
+
+/// How many orders so many things have.
+fn orders(count: u64) -> u64 {
+    (1..=count).product()
+}
+
+/// The place, among those that are left, of what comes next in an order.
+fn place_in(order: u64, left: u64) -> u64 {
+    order / orders(left.saturating_sub(1)) % left
+}
+
+/// A checkpoint of pages that aren't all zeros: all their writes are out at once, are made in one order and handed in in
+/// another.
+fn in_orders(alloc: Global, count: u64, made: u64, handed: u64) -> Result<Vec<Line>, AllocError> {
+    let mut lines = Vec::new(alloc);
+    lines.push(Line::Map(count))?;
+    for page in 0..count {
+        lines.push(Line::Store(4096 * page, 1 + page as u8))?;
+    }
+    lines.push(Line::Begin(0))?;
+    lines.push(Line::Steps(BEFORE_THE_PASS))?;
+    lines.push(Line::TakeUps(OF_A_PAGE * count as usize))?;
+    for left in (1..=count).rev() {
+        lines.push(Line::PerformAt(place_in(made, left)))?;
+    }
+    for left in (1..=count).rev() {
+        lines.push(Line::HandInAt(place_in(handed, left)))?;
+    }
+    lines.push(Line::Finish)?;
+    Ok(lines)
+}
+
+/// A crash behind each call leaves what it may, and the checkpoint is acknowledged.
+fn is_right(
+    rt: &impl Abort,
+    alloc: Global,
+    count: u64,
+    made: u64,
+    handed: u64,
+) -> Result<(), Trouble> {
+    let lines = in_orders(alloc, count, made, handed)?;
+    let figures = try_lines(alloc, &ONE, &lines, Failing::Nothing)?;
+    let crashed = figures.pending > 0 && figures.last > 0;
+    assert!(rt;
+        figures.is_right() && crashed && figures.acked == 1,
+        "{figures:?}: {made}, {handed} of {count}"
+    );
+    Ok(())
+}
+
+/// So many writes are made in each order, and handed in in each order once.
+fn each_order(rt: &impl Abort, alloc: Global, count: u64) -> Result<(), Trouble> {
+    let all = orders(count);
+    for made in 0..all {
+        is_right(rt, alloc, count, made, all.saturating_sub(1 + made))?;
+    }
+    Ok(())
+}
+
+#[test]
+fn each_order_of_up_to_three_writes(rt: HostRuntime) -> Result<(), Fail> {
+    for count in 1..=3 {
+        each_order(&rt, rt.alloc(), count)?;
+    }
+    Ok(())
+}
+
+#[test]
+fn each_order_of_four_writes(rt: HostRuntime) -> Result<(), Fail> {
+    Ok(each_order(&rt, rt.alloc(), 4)?)
+}

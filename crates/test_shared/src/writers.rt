@@ -1,0 +1,102 @@
+//! Checkpoints whose pages are written by several threads.
+use crate::cases::Store;
+use crate::holds::Free;
+use crate::jobs::Job;
+use sd_command::{Refusal, Reply};
+use sd_shared::{Hold, Shared};
+use std::process::Abort;
+use std::sync::Wait;
+use std::sync::atomic::{AtomicU64, Ordering};
+use std::thread;
+use std::thread::Threads;
+use std::time::{Clock, Duration};
+
+/// How many turns of a millisecond a thread waits for another.
+const TURNS: u64 = 10_000;
+
+/// How many device calls a checkpoint of one round makes whose first image has two pages, and the sum of their numbers.
+const CALLS: u64 = 18;
+
+const SUM: u64 = 171;
+
+/// What a hold has seen.
+#[derive(Drop)]
+struct Seen {
+    /// How many calls there were, and the sum of their numbers.
+    calls: AtomicU64,
+    sum: AtomicU64,
+    /// Whether it was called for the second page's write.
+    second: AtomicU64,
+    /// Whether the first page's write wasn't held until then.
+    missed: AtomicU64,
+}
+
+impl Seen {
+    fn new() -> Self {
+        Seen {
+            calls: AtomicU64::new(0),
+            sum: AtomicU64::new(0),
+            second: AtomicU64::new(0),
+            missed: AtomicU64::new(0),
+        }
+    }
+}
+
+/// A hold that keeps the first page's write until it is called for the second's.
+#[derive(Drop)]
+struct Keeping<'a, R> {
+    rt: &'a R,
+    seen: &'a Seen,
+}
+
+impl<R: Clock> Keeping<'_, R> {
+    /// Waits for the second page's write. Returns whether it came.
+    fn await_second(&self) -> bool {
+        for _ in 0..TURNS {
+            if self.seen.second.load(Ordering::SeqCst) != 0 {
+                return true;
+            }
+            thread::sleep(self.rt, Duration::from_millis(1));
+        }
+        false
+    }
+}
+
+impl<R: Clock> Hold for Keeping<'_, R> {
+    fn before(&self, call: u64) {
+        self.seen.calls.fetch_add(1, Ordering::SeqCst);
+        self.seen.sum.fetch_add(call, Ordering::SeqCst);
+        if call == 5 {
+            self.seen.second.store(1, Ordering::SeqCst);
+        }
+        if call == 4 && !self.await_second() {
+            self.seen.missed.store(1, Ordering::SeqCst);
+        }
+    }
+}
+
+/// Two pages are written beside each other by two writers: the first page's write is held until the second's begins. The hold
+/// is called once for each call. No writers, and nine of them, are refused before anything begins.
+pub(crate) fn writes_beside<R: Threads + Wait + Clock + Abort + Sync>(
+    rt: &R,
+    shared: &Shared<Store>,
+) {
+    let refused = Reply::Refused(Refusal::Einval);
+    assert_eq!(rt; shared.run_relay(rt, 1, 0, &Free), refused);
+    assert_eq!(rt; shared.run_relay(rt, 1, 9, &Free), refused);
+    let seen = Seen::new();
+    let hold = Keeping { rt, seen: &seen };
+    assert_eq!(rt; shared.run_relay(rt, 1, 2, &hold), Reply::Acked(1));
+    assert_eq!(rt; seen.missed.load(Ordering::SeqCst), 0);
+    assert_eq!(rt; seen.calls.load(Ordering::SeqCst), CALLS);
+    assert_eq!(rt; seen.sum.load(Ordering::SeqCst), SUM);
+}
+
+/// The device fails at the first page's write, which a writer makes: the checkpoint ends with the store down. It is opened
+/// again, and a checkpoint with eight writers is made.
+pub(crate) fn falls_beside<R: Threads + Wait + Abort + Sync>(rt: &R, shared: &Shared<Store>) {
+    let down = Reply::Refused(Refusal::StoreDown);
+    assert_eq!(rt; shared.run_relay(rt, 0, 2, &Free), down);
+    assert_eq!(rt; Job::Opening.make(rt, shared, &Free), Reply::Reopened(None));
+    assert_eq!(rt; shared.run_relay(rt, 0, 8, &Free), Reply::Acked(2));
+}
