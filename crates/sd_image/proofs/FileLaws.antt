@@ -1,20 +1,28 @@
 -- A whole file: an image is read as itself, and what is read is an image.
-use Rattle.std.proofs.Common.{◌≡◌, ◌⊎◌, ◌<◌, ◌≤◌, ◌+◌, ◌*◌, ◌&&◌, ℕ, zero, suc, true, false, nat_eq, List, [], ◌∷◌, ◌++◌, take, drop, length, slice_index_or, Contains, Result, Ok, Err, refl, sym, ◌∙◌, ap, subst, arith, inl, inr, append_assoc}
+use Rattle.std.proofs.Common.{◌≡◌, ◌⊎◌, ◌<◌, ◌≤◌, ◌+◌, ◌*◌, ◌&&◌, ◌==◌, ℕ, zero, suc, true, false, not, cond, nat_eq, List, [], ◌∷◌, ◌++◌, take, drop, length, slice_index_or, Contains, Result, Ok, Err, refl, sym, ◌∙◌, ap, subst, arith, inl, inr, append_assoc}
 use Rattle.std.specs.Prelude.{All, slice_range, slice_index, nat_le}
 use Rattle.std.specs.List.{concat, AllByRecursion}
 use Rattle.std.proofs.Math.Seq.{take-add}
-use Rattle.std.proofs.lemmas.Bool.{and_parts, eqb-true, leb-true, le-leb}
+use Rattle.std.proofs.lemmas.Bool.{and_parts, eqb-true, leb-true, le-leb, not-false}
+use Rattle.std.proofs.lemmas.Slice.Eq.{bytes_eq-Decides}
+use Rattle.std.specs.Str.{bytes_eq}
+use Rattle.sha2.specs.Sha256.{sha256}
 use Rattle.std.proofs.lemmas.List.{length-append, take-append-drop, length-take-le, length-drop, drop-drop, take_at, drop_at, get_or_past}
 use Rattle.std.proofs.lemmas.Bool.{cases_lt}
 use Rattle.sd_image.specs.declared.header.Header.{Header}
+use Rattle.sd_image.specs.declared.header.Version.{Version}
+use Rattle.sd_image.specs.declared.header.Version.TheVariants.{One, Two}
 use Rattle.sd_image.specs.declared.reason.Reason.{Reason}
-use Rattle.sd_image.specs.Header.{header_text, IsHeader}
+use Rattle.sd_image.specs.declared.reason.Reason.TheVariants as reason
+use Rattle.sd_image.specs.Words.{version_number}
+use Rattle.sd_image.specs.Header.{header_front, header_text, HasWords, IsHeader}
 use Rattle.sd_image.specs.Table.{Listed, table_text, IsTable}
-use Rattle.sd_image.specs.Image.{Image, IsImage, OpenImages, image_text, is_open}
-use Rattle.sd_image.specs.Reading.{◌>>=◌, header_in, table_in, file_in}
+use Rattle.sd_image.specs.Image.{Image, IsImage, OpenImages, digested, image_text, is_open}
+use Rattle.sd_image.specs.Reading.{◌>>=◌, breaks_digest, digest_of_file, header_in, table_in, file_in}
 use Rattle.sd_image.specs.Laws.{FileIsImage, HeaderFillsFile, TextIsImage}
 use Rattle.sd_image.specs.ReasonLaws.{GoodFileHasNoReason, GoodHeaderHasNoReason, GoodStoreHasNoReason, GoodTableHasNoReason, IsFaultyFor, IsReadAs, OneReason}
-use Rattle.sd_image.proofs.Steps.{IsBytes, IsBytes-take, IsBytes-drop, bind_ok}
+use Rattle.sd_image.proofs.Steps.{IsBytes, IsBytes-take, IsBytes-drop, bind_ok, guard_ok}
+use Rattle.sd_image.proofs.HeaderBytes.{front_of_file}
 use Rattle.sd_image.proofs.HeaderRules.{header_again, header_length, header_takes}
 use Rattle.sd_image.proofs.TableLaws.{table_again, table_takes}
 use Rattle.sd_image.proofs.ShowsLemmas.{contains_front, contains_later}
@@ -45,7 +53,7 @@ header_read file i image =
     let long : 4096 ≤ length file = omega (arith, image.header.fills) in
     let whole : length (take 4096 file) ≡ 4096 = length-take-le 4096 file long in
     let front : take 4095 (image_text i) ≡ header_text i.header =
-    ap (take 4095) (behind_header i) ∙ take_at (header_text i.header) (concat i.pages ++ table_text i.spaces) 4095 (header_length i.header) in
+    ap (take 4095) (behind_header i) ∙ take_at (header_text i.header) (concat i.pages ++ table_text i.spaces) 4095 (header_length i.header image.header.words) in
     let text : drop 1 (take 4096 file) ≡ header_text i.header = ap (λ (bytes : List ℕ). drop 1 (take 4096 bytes)) image.spelled ∙ front in
     header_again (take 4096 file) (length file) i.header whole text image.header
 
@@ -53,16 +61,39 @@ table_place : (file : List ℕ) (i : Image) → IsImage file i → drop (4096 + 
 table_place file i image =
     let many : length (concat i.pages) ≡ 4096 * i.header.pages = length-pages i.pages image.whole ∙ ap (λ (n : ℕ). 4096 * n) image.stored in
     let front : length (header_text i.header ++ concat i.pages) ≡ 4095 + 4096 * i.header.pages =
-    length-append (header_text i.header) (concat i.pages) ∙ omega (arith, many, header_length i.header) in
+    length-append (header_text i.header) (concat i.pages) ∙ omega (arith, many, header_length i.header image.header.words) in
     let before : List ℕ = 165 ∷ (header_text i.header ++ concat i.pages) in
     ap (drop (4096 + 4096 * i.header.pages)) image.spelled
     ∙ drop_at before (table_text i.spaces) (4096 + 4096 * i.header.pages) (omega (arith, front))
+
+-- the digest of a file is that of its image
+digest_in_file : (file : List ℕ) (i : Image) → HasWords i.header → file ≡ 165 ∷ image_text i → digest_of_file file ≡ sha256 (digested i)
+digest_in_file file i words spelled =
+    let rest : List ℕ = concat i.pages ++ table_text i.spaces in
+    let text : file ≡ 165 ∷ (header_text i.header ++ rest) = spelled ∙ ap (λ (xs : List ℕ). 165 ∷ xs) (behind_header i) in
+    let body : drop 4096 file ≡ rest = ap (drop 4096) text ∙ drop_at (165 ∷ header_text i.header) rest 4096 (ap suc (header_length i.header words)) in
+    let front : take 63 (drop 1 file) ≡ header_front i.header = ap (λ (xs : List ℕ). take 63 (drop 1 xs)) text ∙ front_of_file i.header rest in
+    ap (λ (xs : List ℕ). sha256 (xs ++ take 63 (drop 1 file))) body ∙ ap (λ (xs : List ℕ). sha256 (rest ++ xs)) front
+
+digest_is_right : (version : Version) (digest other : List ℕ) → (version ≡ Two → digest ≡ other) → (version_number version == 2 && not (bytes_eq digest other)) ≡ false
+digest_is_right One digest other is = refl
+digest_is_right Two digest other is = ap not ((bytes_eq-Decides digest other).1 (is refl))
+
+digest_was_right : (version : Version) (digest other : List ℕ) → (version_number version == 2 && not (bytes_eq digest other)) ≡ false → version ≡ Two → digest ≡ other
+digest_was_right One digest other e is = absurd cc
+digest_was_right Two digest other e is = (bytes_eq-Decides digest other).0 (not-false _ e)
+
+digest_kept : (file : List ℕ) (i : Image) → IsImage file i → breaks_digest i.header file ≡ false
+unfolding breaks_digest
+digest_kept file i image =
+    digest_is_right i.header.version i.header.digest (digest_of_file file)
+    (λ two. image.digest two ∙ sym (digest_in_file file i image.header.words image.spelled))
 
 pub good_file : GoodFileHasNoReason
 good_file file i image =
     let table : table_in i.header (drop (4096 + 4096 * i.header.pages) file) ≡ Ok i.spaces =
     ap (table_in i.header) (table_place file i image) ∙ table_again i.header i.spaces image.table in
-    rw (header_read file i image, table) refl
+    rw (header_read file i image, table, digest_kept file i image) refl
 
 -- each open slot of a store is one of its images
 pub image_in_slot : (contents : List (List ℕ)) (images : List Image) (slot : ℕ) → OpenImages contents images → is_open (slice_index_or contents slot []) ≡ true
@@ -113,9 +144,9 @@ first_of_front (x ∷ file) = refl
 -- the image of a file whose header and table were read
 image_read : (file : List ℕ) (h : Header) (spaces : List Listed) → slice_index file 0 ≡ 165
     → drop 1 (take 4096 file) ≡ header_text h → IsHeader h (length file)
-    → drop (4096 + 4096 * h.pages) file ≡ table_text spaces → IsTable h spaces
+    → drop (4096 + 4096 * h.pages) file ≡ table_text spaces → IsTable h spaces → (h.version ≡ Two → h.digest ≡ digest_of_file file)
     → (i : Image) × IsImage file i × (i.header ≡ h) × (i.spaces ≡ spaces)
-image_read file h spaces gate header is_header table is_table =
+image_read file h spaces gate header is_header table is_table digest =
     let body : List ℕ = drop 4096 file in
     let long : 4096 ≤ length file = omega (arith, is_header.fills) in
     let stored = cut h.pages body (omega (arith, is_header.fills, length-drop 4096 file)) in
@@ -129,9 +160,17 @@ image_read file h spaces gate header is_header table is_table =
     sym (take-append-drop 4096 file)
     ∙ ap (λ (xs : List ℕ). xs ++ body) front
     ∙ ap (λ (xs : List ℕ). 165 ∷ (header_text h ++ xs)) rest
-    ∙ ap (λ (xs : List ℕ). 165 ∷ xs) (sym (append_assoc (header_text h) (concat stored.pages) (table_text spaces))) in (
-      record { header = h; pages = stored.pages; spaces = spaces },
-      record { spelled = spelled; header = is_header; table = is_table; stored = stored.many; whole = stored.whole },
+    ∙ ap (λ (xs : List ℕ). 165 ∷ xs) (sym (append_assoc (header_text h) (concat stored.pages) (table_text spaces))) in
+    let i : Image = record { header = h; pages = stored.pages; spaces = spaces } in (
+      i,
+      record {
+        spelled = spelled;
+        header = is_header;
+        table = is_table;
+        stored = stored.many;
+        whole = stored.whole;
+        digest = λ two. digest two ∙ digest_in_file file i is_header.words spelled;
+      },
       refl,
       refl,
     )
@@ -141,20 +180,25 @@ gate_of_open file opens =
     let parts = and_parts (nat_le 4096 (length file)) (nat_eq (slice_index file 0) 165) opens in
     (leb-true _ _ parts.0, eqb-true _ _ parts.1)
 
+right_digest : (h : Header) (file : List ℕ) → breaks_digest h file ≡ false → h.version ≡ Two → h.digest ≡ digest_of_file file
+unfolding breaks_digest
+right_digest h file kept = digest_was_right h.version h.digest (digest_of_file file) kept
+
 pub file_takes : (file : List ℕ) (x : Header × List Listed) → IsBytes file → is_open file ≡ true → file_in file ≡ Ok x → (i : Image) × IsImage file i
 file_takes file x fits opens e =
     let gate = gate_of_open file opens in
     let front : List ℕ = take 4096 file in
-    let a = bind_ok (header_in front (length file)) (λ header. table_in header (drop (4096 + 4096 * header.pages) file) >>= λ spaces. Ok (header, spaces)) x e in
-    let b = bind_ok (table_in a.0 (drop (4096 + 4096 * a.0.pages) file)) (λ spaces. Ok (a.0, spaces)) x a.2 in
+    let a = bind_ok (header_in front (length file)) (λ header. table_in header (drop (4096 + 4096 * header.pages) file) >>= λ spaces. cond (breaks_digest header file) (Err reason.Digest) (Ok (header, spaces))) x e in
+    let b = bind_ok (table_in a.0 (drop (4096 + 4096 * a.0.pages) file)) (λ spaces. cond (breaks_digest a.0 file) (Err reason.Digest) (Ok (a.0, spaces))) x a.2 in
+    let d = guard_ok (breaks_digest a.0 file) reason.Digest (Ok (a.0, b.0)) x b.2 in
     let header = header_takes front (length file) a.0 (length-take-le 4096 file gate.0) (IsBytes-take 4096 file fits) a.1 in
     let table = table_takes a.0 (drop (4096 + 4096 * a.0.pages) file) b.0 (IsBytes-drop (4096 + 4096 * a.0.pages) file fits) b.1 in
-    let read = image_read file a.0 b.0 gate.1 header.0 header.1 table.0 table.1 in
+    let read = image_read file a.0 b.0 gate.1 header.0 header.1 table.0 table.1 (right_digest a.0 file d.0) in
     (read.0, read.1)
 
 pub file_is_image_lem : FileIsImage
-file_is_image_lem file h spaces opens header is_header table is_table =
-    image_read file h spaces (gate_of_open file opens).1 header is_header table is_table
+file_is_image_lem file h spaces opens header is_header table is_table digest =
+    image_read file h spaces (gate_of_open file opens).1 header is_header table is_table digest
 
 are_bytes : (file : List ℕ) → All (λ byte. byte < 256) file → IsBytes file
 are_bytes file all i =
@@ -193,17 +237,17 @@ one_reason_lem file bytes opens = judged file (file_in file) (are_bytes file byt
 
 -- ---- the text of a complete image
 
-text_length : (i : Image) → AllByRecursion (λ page. length page ≡ 4096) i.pages
+text_length : (i : Image) → HasWords i.header → AllByRecursion (λ page. length page ≡ 4096) i.pages
     → length (165 ∷ image_text i) ≡ 4096 + 4096 * length i.pages + length (table_text i.spaces)
-text_length i whole =
+text_length i words whole =
     let all = length-append (header_text i.header ++ concat i.pages) (table_text i.spaces) in
     let front = length-append (header_text i.header) (concat i.pages) in
-    omega (arith, all, front, header_length i.header, length-pages i.pages whole)
+    omega (arith, all, front, header_length i.header words, length-pages i.pages whole)
 
 pub text_is_image_lem : TextIsImage
 text_is_image_lem i is =
     let fills : 4096 + 4096 * i.header.pages + i.header.table_len ≡ length (165 ∷ image_text i) =
-    omega (arith, text_length i is.whole, is.table_len, is.stored) in
+    omega (arith, text_length i is.words is.whole, is.table_len, is.stored) in
     let long : 4096 ≤ length (165 ∷ image_text i) = omega (arith, fills) in (
       record {
         spelled = refl;
@@ -211,6 +255,7 @@ text_is_image_lem i is =
         table = is.table;
         stored = is.stored;
         whole = is.whole;
+        digest = is.digest;
       },
       ap (λ b. b && true) (le-leb 4096 (length (165 ∷ image_text i)) long),
     )

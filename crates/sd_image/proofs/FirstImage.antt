@@ -1,5 +1,5 @@
 -- The first image of a store: a dump of one page is an image, and contents that are its file show that page.
-use Rattle.std.proofs.Common.{◌≡◌, ◌≢◌, ◌<◌, ◌≤◌, ◌+◌, ◌^◌, ℕ, Bool, true, false, eqb, ltb, leb, cond, is_some, List, [], ◌∷◌, ◌++◌, length, Option, Some, None, MatchOption, refl, sym, ◌∙◌, ap, subst, inl, inr, arith, length-append}
+use Rattle.std.proofs.Common.{◌≡◌, ◌≢◌, ◌<◌, ◌≤◌, ◌+◌, ◌^◌, ℕ, Bool, true, false, eqb, ltb, leb, cond, is_some, List, [], ◌∷◌, ◌++◌, length, replicate, Option, Some, None, MatchOption, refl, sym, ◌∙◌, ap, subst, inl, inr, arith, length-append}
 use Rattle.std.specs.List.{list_any, IsDistinct}
 use Rattle.std.specs.FinMap as finmap
 use Rattle.std.specs.FinMap.{get-empty, get-insert}
@@ -15,12 +15,11 @@ use Rattle.sd_areas.specs.Pages.{pages_from, is_within}
 use Rattle.sd_areas.specs.PlainMemory.{Page, Space}
 use Rattle.sd_image.specs.declared.run.RunKind.TheVariants.{Data}
 use Rattle.sd_image.specs.Words.{number_bytes, zeros}
-use Rattle.sd_image.specs.Header.{header_text, IsHeader}
+use Rattle.sd_image.specs.Header.{header_front, header_text, IsHeader}
 use Rattle.sd_image.specs.Table.{Listed, table_text, IsSpace, IsTable}
 use Rattle.sd_image.specs.Image.{Image, IsImage, gate, image_text, is_open}
 use Rattle.sd_image.specs.Shows.{Holds, by_data, page_in, IsRestorable, Shows}
 use Rattle.sd_image.specs.Laws.{AreBelow, FirstImageIsShown, IsWholeMemory, first_image, first_memory}
-use Rattle.sd_image.proofs.HeaderRules.{header_length}
 use Rattle.sd_image.proofs.ShowsLemmas.{contains_cons_cases, newest_is_shown_lem}
 
 -- a number that finds a key is it
@@ -37,6 +36,14 @@ module _ (n space page : ℕ) (prot : Prot) (bytes : List ℕ) where
   abbrev file : List ℕ
   file = gate ∷ image_text image
 
+  no_digest : replicate 32 0 ≡ zeros 32
+  unfolding zeros
+  no_digest = refl
+
+  header_length : length (header_text image.header) ≡ 4095
+  unfolding header_text header_front number_bytes zeros
+  header_length = refl
+
   table_length : length (table_text image.spaces) ≡ 72
   unfolding table_text number_bytes zeros
   table_length = refl
@@ -46,11 +53,11 @@ module _ (n space page : ℕ) (prot : Prot) (bytes : List ℕ) where
       let whole = length-append (header_text image.header ++ (bytes ++ [])) (table_text image.spaces) in
       let front = length-append (header_text image.header) (bytes ++ []) in
       let page : length (bytes ++ []) ≡ length bytes = ap length (append-nil bytes) in
-      omega (arith, whole, front, page, header_length image.header, table_length)
+      omega (arith, whole, front, page, header_length, table_length)
 
   is_header : 0 < n → n < 2 ^ 64 → length bytes ≡ 4096 → IsHeader image.header (length file)
   is_header some fits long = record {
-    words = record { serial = fits; stands_for = fits; parent = omega arith; checkpoint = fits; pages = omega arith; table_len = omega arith };
+    words = record { serial = fits; stands_for = fits; parent = omega arith; checkpoint = fits; pages = omega arith; table_len = omega arith; digest = no_digest };
     serial = some;
     numbers = (refl, some);
     checkpoint = some;
@@ -84,6 +91,7 @@ module _ (n space page : ℕ) (prot : Prot) (bytes : List ℕ) where
     table = is_table alive within inside;
     stored = refl;
     whole = (long, tt);
+    digest = λ two. absurd cc;
   }
 
   opens : length bytes ≡ 4096 → is_open file ≡ true

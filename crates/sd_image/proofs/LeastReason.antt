@@ -3,10 +3,11 @@ use Rattle.std.proofs.Common.{◌≡◌, ◌<◌, ◌≤◌, ◌+◌, ℕ, suc, 
 use Rattle.std.specs.List.{AllByRecursion}
 use Rattle.std.proofs.lemmas.Bool.{cases_lt}
 use Rattle.sd_image.specs.declared.header.Header.{Header}
+use Rattle.sd_image.specs.declared.header.Version.{Version}
 use Rattle.sd_image.specs.declared.header.Kind.{Kind}
 use Rattle.sd_image.specs.declared.reason.Reason.{Reason}
 use Rattle.sd_image.specs.declared.reason.Reason.TheVariants as reason
-use Rattle.sd_image.specs.Reading.{◌>>=◌, rules_kept, number_at, kind_of, fields_of, breaks_bytes, breaks_fields, bytes_kept, kind_in, fields_kept, header_in}
+use Rattle.sd_image.specs.Reading.{◌>>=◌, rules_kept, form_of, fields_of, breaks_bytes, breaks_fields, bytes_kept, form_in, fields_kept, header_in}
 use Rattle.sd_image.specs.ReasonLaws.{reason_number, IsLeast, breaks_header, LeastHeaderReason}
 
 -- ---- a number names one reason
@@ -124,21 +125,21 @@ bytes_part bytes len = kept_same (breaks_header bytes len) (breaks_bytes bytes) 
     (or_false (breaks_bytes bytes reason.Magic), (or_false (breaks_bytes bytes reason.Version), (or_false (breaks_bytes bytes reason.Kind), (or_false (breaks_bytes bytes reason.Reserved), tt))))
 
 abbrev header_of : List ℕ → Header
-header_of bytes = fields_of (kind_of (number_at 2 10 bytes)) bytes
+header_of bytes = fields_of (form_of bytes) bytes
 
 fields_part : (bytes : List ℕ) (len : ℕ) → rules_kept (breaks_header bytes len) of_fields ≡ fields_kept (header_of bytes) len
 unfolding fields_kept
 fields_part bytes len = kept_same (breaks_header bytes len) (breaks_fields (header_of bytes) len) of_fields (refl, (refl, (refl, (refl, (refl, tt)))))
 
-one_after_the_other : (kept : Result (Unit {0}) Reason) (kind : Kind) (fields : Kind → Result (Unit {0}) Reason) (made : Kind → Header)
-    → ((kept >>= λ _. Ok kind) >>= λ k. fields k >>= λ _. Ok (made k)) ≡ ((kept >>= λ _. fields kind) >>= λ _. Ok (made kind))
-one_after_the_other (Ok u) kind fields made = refl
-one_after_the_other (Err r) kind fields made = refl
+one_after_the_other : (kept : Result (Unit {0}) Reason) (form : Version × Kind) (fields : Version × Kind → Result (Unit {0}) Reason) (made : Version × Kind → Header)
+    → ((kept >>= λ _. Ok form) >>= λ k. fields k >>= λ _. Ok (made k)) ≡ ((kept >>= λ _. fields form) >>= λ _. Ok (made form))
+one_after_the_other (Ok u) form fields made = refl
+one_after_the_other (Err r) form fields made = refl
 
 rules_of_header : (bytes : List ℕ) (len : ℕ) → header_in bytes len ≡ (rules_kept (breaks_header bytes len) (of_bytes ++ of_fields) >>= λ _. Ok (header_of bytes))
-unfolding header_in kind_in
+unfolding header_in form_in
 rules_of_header bytes len =
-    one_after_the_other (bytes_kept bytes) (kind_of (number_at 2 10 bytes)) (λ k. fields_kept (fields_of k bytes) len) (λ k. fields_of k bytes)
+    one_after_the_other (bytes_kept bytes) (form_of bytes) (λ k. fields_kept (fields_of k bytes) len) (λ k. fields_of k bytes)
     ∙ ap (λ (kept : Result (Unit {0}) Reason). kept >>= λ _. Ok (header_of bytes))
     (sym (kept_append (breaks_header bytes len) of_bytes of_fields ∙ rw (bytes_part bytes len, fields_part bytes len) refl))
 

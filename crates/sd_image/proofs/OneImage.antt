@@ -50,7 +50,7 @@ pub one_image_lem : OneImage
 one_image_lem file i j a b =
     let text : image_text i ≡ image_text j = after_gate (image_text i) (image_text j) (sym a.spelled ∙ b.spelled) in
     let front = fronts_once (header_text i.header) (header_text j.header) (concat i.pages ++ table_text i.spaces) (concat j.pages ++ table_text j.spaces)
-    (header_length i.header ∙ sym (header_length j.header))
+    (header_length i.header a.header.words ∙ sym (header_length j.header b.header.words))
     (sym (append_assoc (header_text i.header) (concat i.pages) (table_text i.spaces)) ∙ text ∙ append_assoc (header_text j.header) (concat j.pages) (table_text j.spaces)) in
     let header : i.header ≡ j.header = header_once i.header j.header a.header.words b.header.words front.0 in
     let many : length i.pages ≡ length j.pages = a.stored ∙ ap (λ (h : Header). h.pages) header ∙ sym b.stored in

@@ -66,7 +66,7 @@ behind_header file i image =
     let front : List ℕ = 165 ∷ header_text i.header in
     let text : image_text i ≡ header_text i.header ++ (concat i.pages ++ table_text i.spaces) = append_assoc (header_text i.header) (concat i.pages) (table_text i.spaces) in
     ap (drop 4096) (image.spelled ∙ ap (λ xs. 165 ∷ xs) text)
-    ∙ drop_at front (concat i.pages ++ table_text i.spaces) 4096 (ap suc (header_length i.header))
+    ∙ drop_at front (concat i.pages ++ table_text i.spaces) 4096 (ap suc (header_length i.header image.header.words))
 
 pub page_in_file_lem : PageInFile
 page_in_file_lem file i page place image there =

@@ -1,19 +1,20 @@
 -- What the layers above use of images and of what contents show, each a law that a function with an empty body carries.
-use Rattle.std.specs.Prelude.{◌≡◌, ℕ, ◌+◌, ◌*◌, ◌<◌, ◌≤◌, ◌^◌, true, false, if◌then◌else◌, List, [], ◌∷◌, length, drop, take, All, Contains, slice_get, slice_index_or, slice_range, slice_set, Option, Some, None, Ok}
+use Rattle.std.specs.Prelude.{◌≡◌, ℕ, ◌+◌, ◌*◌, ◌<◌, ◌≤◌, ◌^◌, true, false, if◌then◌else◌, List, [], ◌∷◌, length, drop, take, All, Contains, replicate, slice_get, slice_index_or, slice_range, slice_set, Option, Some, None, Ok}
 use Rattle.std.specs.List.{AllByRecursion}
 use Rattle.std.specs.FinMap as finmap
 use Rattle.sd_areas.specs.declared.prot.Prot.{Prot}
 use Rattle.sd_areas.specs.Pages.{is_within}
 use Rattle.sd_areas.specs.PlainMemory.{PlainMemory}
 use Rattle.sd_image.specs.declared.header.Header.{Header}
+use Rattle.sd_image.specs.declared.header.Version.TheVariants.{One, Two}
 use Rattle.sd_image.specs.declared.header.Kind.TheVariants.{Dump}
 use Rattle.sd_image.specs.declared.run.Run.{Run}
 use Rattle.sd_image.specs.declared.run.RunKind.{RunKind}
 use Rattle.sd_image.specs.declared.run.RunKind.TheVariants.{Data}
 use Rattle.sd_image.specs.Header.{AreNumbers, HasWords, IsHeader, header_text}
-use Rattle.sd_image.specs.Reading.{header_in}
+use Rattle.sd_image.specs.Reading.{digest_of_file, header_in}
 use Rattle.sd_image.specs.Table.{AreRuns, IsTable, Listed, table_text}
-use Rattle.sd_image.specs.Image.{Image, IsImage, OpenImages, gate, image_text, is_open}
+use Rattle.sd_image.specs.Image.{HasItsDigest, Image, IsImage, OpenImages, gate, image_text, is_open}
 use Rattle.sd_image.specs.Shows.{Holds, IsMemory, IsNamed, IsRestorable, IsStore, IsTip, Shows, pages_of}
 
 -- A file has at most one image.
@@ -84,14 +85,14 @@ OneKind = (h : Header) (spaces : List Listed) (kind other : RunKind) (page : ℕ
 abbrev pub FewPages : Type 0
 FewPages = (h : Header) (spaces : List Listed) (kind : RunKind) → IsTable h spaces → length (pages_of kind spaces) ≤ 2 ^ 39
 
--- An open file whose header and table are image text is an image with them.
+-- An open file whose header and table are image text, and whose digest is right in version 2, is an image with them.
 abbrev pub FileIsImage : Type 0
 FileIsImage = (file : List ℕ) (h : Header) (spaces : List Listed) → is_open file ≡ true
     → drop 1 (take 4096 file) ≡ header_text h → IsHeader h (length file)
-    → drop (4096 + 4096 * h.pages) file ≡ table_text spaces → IsTable h spaces
+    → drop (4096 + 4096 * h.pages) file ≡ table_text spaces → IsTable h spaces → (h.version ≡ Two → h.digest ≡ digest_of_file file)
     → (i : Image) × IsImage file i × (i.header ≡ h) × (i.spaces ≡ spaces)
 
--- what an image needs so that its text is its file: numbers that go together, a table, and the data pages that it counts
+-- what an image needs so that its text is its file: numbers that go together, a table, the data pages that it counts, and its digest
 pub record IsComplete (i : Image) : Type 0 where
   pub words : HasWords i.header
   pub serial : 0 < i.header.serial
@@ -101,6 +102,7 @@ pub record IsComplete (i : Image) : Type 0 where
   pub stored : length i.pages ≡ i.header.pages
   pub whole : AllByRecursion (λ page. length page ≡ 4096) i.pages
   pub table_len : i.header.table_len ≡ length (table_text i.spaces)
+  pub digest : HasItsDigest i
 
 -- The text of a complete image, behind an open gate, is an open file, and is that image.
 abbrev pub TextIsImage : Type 0
@@ -117,10 +119,10 @@ PageInFile = (file : List ℕ) (i : Image) (page : ℕ × ℕ) (place : ℕ) →
     → (4096 + 4096 * place + 4096 ≤ length file)
     × (slice_get i.pages place ≡ Some (slice_range file (4096 + 4096 * place) (4096 + 4096 * place + 4096)))
 
--- a dump of one page, the first image of its store
+-- a dump of one page in version 1, the first image of its store
 abbrev pub first_image : ℕ → ℕ → ℕ → Prot → List ℕ → Image
 first_image n space page prot bytes = record {
-  header = record { kind = Dump; serial = n; stands_for = n; parent = 0; checkpoint = n; pages = 1; table_len = 72 };
+  header = record { version = One; kind = Dump; serial = n; stands_for = n; parent = 0; checkpoint = n; pages = 1; table_len = 72; digest = replicate 32 0 };
   pages = bytes ∷ [];
   spaces = record {
     space = space;

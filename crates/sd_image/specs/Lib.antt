@@ -3,6 +3,7 @@ pub mod Header
 pub mod Table
 pub mod Reading
 pub mod Coverage
+pub mod Digests
 pub mod Image
 pub mod Runs
 pub mod Shows

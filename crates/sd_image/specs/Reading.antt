@@ -1,13 +1,16 @@
 -- Reading the bytes of an image: what each rule of the format says, in the order of the reasons, and the first that is broken.
-use Rattle.std.specs.Prelude.{◌≡◌, nat_eq, ℕ, zero, suc, ◌+◌, ◌*◌, ◌%◌, ◌/◌, Bool, false, not, ◌&&◌, ◌==◌, nat_lt, nat_le, if◌then◌else◌, List, [], ◌∷◌, length, take, drop, slice_range, Option, Some, None, Result, Ok, Err}
+use Rattle.std.specs.Prelude.{◌≡◌, nat_eq, ℕ, zero, suc, ◌+◌, ◌*◌, ◌%◌, ◌/◌, Bool, true, false, not, ◌&&◌, ◌==◌, nat_lt, nat_le, if◌then◌else◌, List, [], ◌∷◌, ◌++◌, length, take, drop, slice_range, Option, Some, None, Result, Ok, Err}
 use Rattle.std.specs.List.{flat_map, list_all}
 use Rattle.std.specs.Cmp.Lexicographic.{pointwise}
 use Rattle.std.specs.Str.{bytes_eq}
 use Rattle.byteorder.specs.Endian.{little_number}
+use Rattle.sha2.specs.Sha256.{sha256}
 use Rattle.sd_areas.specs.declared.area.Area.{Area}
 use Rattle.sd_areas.specs.declared.prot.Prot.{Prot}
 use Rattle.sd_areas.specs.Areas.{is_area_after, area_pages}
 use Rattle.sd_image.specs.declared.header.Header.{Header}
+use Rattle.sd_image.specs.declared.header.Version.{Version}
+use Rattle.sd_image.specs.declared.header.Version.TheVariants.{One, Two}
 use Rattle.sd_image.specs.declared.header.Kind.{Kind}
 use Rattle.sd_image.specs.declared.header.Kind.TheVariants.{PreDump, Dump, Merged}
 use Rattle.sd_image.specs.declared.reason.Reason.{Reason}
@@ -18,6 +21,7 @@ use Rattle.sd_image.specs.declared.run.RunKind.TheVariants.{Data, Parent, Zero}
 use Rattle.sd_image.specs.declared.space_head.SpaceHead.{SpaceHead}
 use Rattle.sd_image.specs.declared.table_error.TableError.{TableError}
 use Rattle.sd_image.specs.declared.table_error.TableError.TheVariants as errors
+use Rattle.sd_image.specs.Words.{version_number}
 use Rattle.sd_image.specs.Header.{magic}
 use Rattle.sd_image.specs.Table.{Listed, is_run_after, run_pages, data_count, mapped_count}
 
@@ -54,34 +58,48 @@ are_zero bytes = list_all (λ b. b == 0) bytes
 
 -- The header: the first 4,096 bytes of a file, and the file's length.
 
+abbrev pub version_of : ℕ → Version
+version_of n = if n == 1 then One else Two
+
 abbrev pub kind_of : ℕ → Kind
 kind_of n = if n == 1 then PreDump else if n == 2 then Dump else Merged
 
+-- version 1 has zeros in the place of a digest
+abbrev pub has_no_digest : Version → List ℕ → Bool
+has_no_digest One bytes = are_zero bytes
+has_no_digest Two bytes = true
+
 abbrev pub breaks_bytes : List ℕ → Reason → Bool
 breaks_bytes bytes reason.Magic = not (bytes_eq (slice_range bytes 1 8) magic)
-breaks_bytes bytes reason.Version = not (number_at 2 8 bytes == 1)
+breaks_bytes bytes reason.Version = not (nat_le 1 (number_at 2 8 bytes) && nat_le (number_at 2 8 bytes) 2)
 breaks_bytes bytes reason.Kind = not (nat_le 1 (number_at 2 10 bytes) && nat_le (number_at 2 10 bytes) 3)
-breaks_bytes bytes reason.Reserved = not (are_zero (slice_range bytes 12 16) && are_zero (slice_range bytes 64 4096))
+breaks_bytes bytes reason.Reserved = not (are_zero (slice_range bytes 12 16) && has_no_digest (version_of (number_at 2 8 bytes)) (slice_range bytes 64 96) && are_zero (slice_range bytes 96 4096))
 breaks_bytes bytes _ = false
 
 unfoldable pub bytes_kept : List ℕ → Result (Unit {0}) Reason
 bytes_kept bytes = rules_kept (breaks_bytes bytes) (reason.Magic ∷ reason.Version ∷ reason.Kind ∷ reason.Reserved ∷ [])
 
--- the kind, where the bytes are what they have to be
-unfoldable pub kind_in : List ℕ → Result Kind Reason
-kind_in bytes = do
-  _ ← bytes_kept bytes
-  Ok (kind_of (number_at 2 10 bytes))
+-- the version and the kind
+abbrev pub form_of : List ℕ → Version × Kind
+form_of bytes = (version_of (number_at 2 8 bytes), kind_of (number_at 2 10 bytes))
 
-unfoldable pub fields_of : Kind → List ℕ → Header
-fields_of kind bytes = record {
-  kind = kind;
+-- these, where the bytes are what they have to be
+unfoldable pub form_in : List ℕ → Result (Version × Kind) Reason
+form_in bytes = do
+  _ ← bytes_kept bytes
+  Ok (form_of bytes)
+
+unfoldable pub fields_of : Version × Kind → List ℕ → Header
+fields_of form bytes = record {
+  version = form.0;
+  kind = form.1;
   serial = number_at 8 16 bytes;
   stands_for = number_at 8 24 bytes;
   parent = number_at 8 32 bytes;
   checkpoint = number_at 8 40 bytes;
   pages = number_at 8 48 bytes;
   table_len = number_at 8 56 bytes;
+  digest = slice_range bytes 64 96;
 }
 
 abbrev pub stands_rightly : Kind → ℕ → ℕ → Bool
@@ -108,9 +126,9 @@ fields_kept h len = rules_kept (breaks_fields h len) (reason.Serial ∷ reason.S
 -- the header that the bytes spell, or the least reason why they spell none
 unfoldable pub header_in : List ℕ → ℕ → Result Header Reason
 header_in bytes len = do
-  kind ← kind_in bytes
-  _ ← fields_kept (fields_of kind bytes) len
-  Ok (fields_of kind bytes)
+  form ← form_in bytes
+  _ ← fields_kept (fields_of form bytes) len
+  Ok (fields_of form bytes)
 
 -- The table: items one after the other. Each is a value and the bytes after it, or the least reason why it is none.
 
@@ -218,9 +236,18 @@ table_in h bytes = do
   spaces ← many (space_at h) (λ s. s.space) head.0 0 head.1
   if ends_rightly h spaces.0 spaces.1 then Ok spaces.0 else Err reason.Total
 
--- The header and the spaces that a whole file spells, whatever its gate; or the reason why it spells none: the header's before the table's.
+-- the digest of a file: of all that stands behind the header, and of bytes 1 to 63
+abbrev pub digest_of_file : List ℕ → List ℕ
+digest_of_file file = sha256 (drop 4096 file ++ slice_range file 1 64)
+
+-- whether an image of version 2 has another digest in its header than its file
+unfoldable pub breaks_digest : Header → List ℕ → Bool
+breaks_digest h file = version_number h.version == 2 && not (bytes_eq h.digest (digest_of_file file))
+
+-- The header and the spaces that a whole file spells, whatever its gate; or the reason why it spells none: the header's before the table's,
+-- and the digest's last.
 abbrev pub file_in : List ℕ → Result (Header × List Listed) Reason
 file_in file = do
   header ← header_in (slice_range file 0 4096) (length file)
   spaces ← table_in header (drop (4096 + 4096 * header.pages) file)
-  Ok (header, spaces)
+  if breaks_digest header file then Err reason.Digest else Ok (header, spaces)

@@ -6,7 +6,7 @@ use Rattle.sd_image.specs.declared.reason.Reason.TheVariants as reason
 use Rattle.sd_image.specs.Header.{header_text, IsHeader}
 use Rattle.sd_image.specs.Table.{Listed, table_text, IsTable}
 use Rattle.sd_image.specs.Image.{Image, IsImage, OpenImages, is_open}
-use Rattle.sd_image.specs.Reading.{number_at, kind_of, fields_of, breaks_bytes, breaks_fields, header_in, table_in, file_in}
+use Rattle.sd_image.specs.Reading.{form_of, fields_of, breaks_bytes, breaks_fields, header_in, table_in, file_in}
 
 -- A header is read as itself: no reason is found in its text, behind any gate.
 abbrev pub GoodHeaderHasNoReason : Type 0
@@ -72,7 +72,7 @@ pub record IsLeast (applies : Reason → Bool) (r : Reason) : Type 0 where
 
 -- whether a header's bytes, in a file of this length, break the rule with this reason
 abbrev pub breaks_header : List ℕ → ℕ → Reason → Bool
-breaks_header bytes len r = breaks_bytes bytes r || breaks_fields (fields_of (kind_of (number_at 2 10 bytes)) bytes) len r
+breaks_header bytes len r = breaks_bytes bytes r || breaks_fields (fields_of (form_of bytes) bytes) len r
 
 -- The reason that is found in a header is the least that applies, and the least that applies is found.
 abbrev pub LeastHeaderReason : Type 0

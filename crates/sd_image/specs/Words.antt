@@ -1,6 +1,8 @@
 -- The small words of the format.
 use Rattle.std.specs.Prelude.{ℕ, List, replicate}
 use Rattle.std.specs.Int.{bytes_low_first}
+use Rattle.sd_image.specs.declared.header.Version.{Version}
+use Rattle.sd_image.specs.declared.header.Version.TheVariants.{One, Two}
 use Rattle.sd_image.specs.declared.header.Kind.{Kind}
 use Rattle.sd_image.specs.declared.header.Kind.TheVariants.{PreDump, Dump, Merged}
 use Rattle.sd_image.specs.declared.run.RunKind.{RunKind}
@@ -13,6 +15,10 @@ number_bytes n x = bytes_low_first 0 n x
 -- n zeros
 unfoldable pub zeros : ℕ → List ℕ
 zeros n = replicate n 0
+
+abbrev pub version_number : Version → ℕ
+version_number One = 1
+version_number Two = 2
 
 abbrev pub kind_number : Kind → ℕ
 kind_number PreDump = 1

@@ -1,3 +1,12 @@
+/// The version of the format in which an image is written.
+#[derive(Clone, Copy, Debug, PartialEq, Eq, Hash)]
+pub enum Version {
+    /// Without a digest. It is read, and no longer written.
+    One,
+    /// With a digest of the image.
+    Two,
+}
+
 /// What an image is for.
 #[derive(Clone, Copy, Debug, PartialEq, Eq, Hash)]
 pub enum Kind {
@@ -12,6 +21,7 @@ pub enum Kind {
 /// The first 4,096 bytes of an open image.
 #[derive(Clone, Copy, Debug, PartialEq, Eq, Hash)]
 pub struct Header {
+    pub version: Version,
     pub kind: Kind,
     /// The number of this image in its store, from 1.
     pub serial: u64,
@@ -25,4 +35,6 @@ pub struct Header {
     pub pages: u64,
     /// The length of the table behind them, in bytes.
     pub table_len: u64,
+    /// In version 2 the SHA-256 of the data pages in file order, the table, and bytes 1 to 63; in version 1 zeros.
+    pub digest: [u8; 32],
 }

@@ -3,17 +3,37 @@
 ghost use Rattle.std.specs.Prelude.{◌≡◌, ℕ, ◌<◌, ◌≤◌, ◌+◌, ◌*◌, ◌⊎◌, ◌∷◌, ◌++◌, length, take, drop, IfOk, MatchOption, Ok};
 ghost use Rattle.sd_image.specs.declared.header.Header.{Header};
 ghost use Rattle.sd_image.specs.Header.{header_text, IsHeader};
-ghost use Rattle.sd_image.specs.Words.{kind_number};
-ghost use Rattle.sd_image.specs.Reading.{Reads, number_at, kind_of, kind_in, fields_of, fields_kept, stands_rightly, parent_rightly, header_in};
+ghost use Rattle.sd_image.specs.Words.{kind_number, version_number};
+ghost use Rattle.sd_image.specs.Reading.{Reads, form_in, has_no_digest, kind_of, version_of, fields_of, fields_kept, stands_rightly, parent_rightly, header_in};
 
 use crate::fields::{are_zero, u16_at, u64_at};
-use crate::header::{Header, Kind};
+use crate::header::{Header, Kind, Version};
 use crate::layout::HEADER_SIZE;
 use crate::reason::Reason;
 
 const MAGIC: &[u8; 7] = b"SDCHAIN";
 
-const VERSION: u16 = 1;
+/// The number by which a header names its version.
+fn number_of_version(version: Version) -> u16
+    ensures { result ≡ version_number version }
+{
+    match version {
+        Version::One => 1,
+        Version::Two => 2,
+    }
+}
+
+/// The version with this number, or none.
+fn version_with(number: u16) -> Option<Version>
+    ensures { MatchOption result (number < 1 ⊎ 2 < number)
+        (λ version. (1 ≤ number) × (number ≤ 2) × (version ≡ version_of number)) }
+{
+    match number {
+        1 => Some(Version::One),
+        2 => Some(Version::Two),
+        _ => None,
+    }
+}
 
 /// The number by which a header names the kind.
 fn number_of(kind: Kind) -> u16
@@ -48,6 +68,14 @@ fn put(text: &mut [u8; 4095], place: usize, field: &[u8])
     text[place..place + field.len()].copy_from_slice(field);
 }
 
+/// Writes the digest behind the numbers.
+fn put_digest(text: &mut [u8; 4095], digest: [u8; 32])
+    ensures text { text.new ≡ take 63 text.old ++ digest ++ drop 95 text.old }
+    ensures length { length digest ≡ 32 }
+{
+    text[63..95].copy_from_slice(&digest);
+}
+
 /// Bytes 1 to 4,095 of an image with this header.
 pub fn encode_header(header: &Header) -> [u8; 4095]
     ensures text { result ≡ header_text header.now }
@@ -58,7 +86,11 @@ pub fn encode_header(header: &Header) -> [u8; 4095]
 {
     let mut text = [0; 4095];
     put(&mut text, 0, MAGIC);
-    put(&mut text, 7, &VERSION.to_le_bytes());
+    put(
+        &mut text,
+        7,
+        &number_of_version(header.version).to_le_bytes(),
+    );
     put(&mut text, 9, &number_of(header.kind).to_le_bytes());
     put(&mut text, 15, &header.serial.to_le_bytes());
     put(&mut text, 23, &header.stands_for.to_le_bytes());
@@ -66,26 +98,38 @@ pub fn encode_header(header: &Header) -> [u8; 4095]
     put(&mut text, 39, &header.checkpoint.to_le_bytes());
     put(&mut text, 47, &header.pages.to_le_bytes());
     put(&mut text, 55, &header.table_len.to_le_bytes());
+    put_digest(&mut text, header.digest);
     text
 }
 
+/// Whether a header of this version has no digest where it may have none.
+fn has_no_digest(version: Version, bytes: &[u8]) -> bool
+    ensures { result ≡ has_no_digest version bytes.now }
+{
+    match version {
+        Version::One => are_zero(bytes),
+        Version::Two => true,
+    }
+}
+
 /// What the bytes themselves have to be, whatever the fields say.
-#[tactic(auto, unfolding(crate::specs::Reading::kind_in, crate::specs::Reading::bytes_kept))]
-fn check_bytes(bytes: &[u8]) -> Result<Kind, Reason>
+#[tactic(auto, unfolding(crate::specs::Reading::form_in, crate::specs::Reading::bytes_kept))]
+fn check_bytes(bytes: &[u8]) -> Result<(Version, Kind), Reason>
     requires { length bytes.now ≡ 4096 }
-    ensures { Reads (λ kind. kind) result (kind_in bytes.now) }
+    ensures { Reads (λ form. form) result (form_in bytes.now) }
 {
     if bytes[1..8] != MAGIC[..] {
         return Err(Reason::Magic);
     }
-    if u16_at(bytes, 8) != VERSION {
-        return Err(Reason::Version);
-    }
+    let version = version_with(u16_at(bytes, 8)).ok_or(Reason::Version)?;
     let kind = kind_with(u16_at(bytes, 10)).ok_or(Reason::Kind)?;
-    if !are_zero(&bytes[12..16]) || !are_zero(&bytes[64..HEADER_SIZE]) {
+    if !are_zero(&bytes[12..16])
+        || !has_no_digest(version, &bytes[64..96])
+        || !are_zero(&bytes[96..HEADER_SIZE])
+    {
         return Err(Reason::Reserved);
     }
-    Ok(kind)
+    Ok((version, kind))
 }
 
 /// Whether an image of this kind and number may stand for that number.
@@ -140,11 +184,14 @@ fn check_fields(header: &Header, len: u64) -> Result<(), Reason>
 
 /// The fields, where the bytes are what they have to be.
 #[tactic(auto, unfolding(crate::specs::Reading::fields_of))]
-fn fields(bytes: &[u8], kind: Kind) -> Header
+fn fields(bytes: &[u8], version: Version, kind: Kind) -> Header
     requires { length bytes.now ≡ 4096 }
-    ensures { result ≡ fields_of kind bytes.now }
+    ensures { result ≡ fields_of (version, kind) bytes.now }
 {
+    let mut digest = [0; 32];
+    digest.copy_from_slice(&bytes[64..96]);
     Header {
+        version,
         kind,
         serial: u64_at(bytes, 16),
         stands_for: u64_at(bytes, 24),
@@ -152,6 +199,7 @@ fn fields(bytes: &[u8], kind: Kind) -> Header
         checkpoint: u64_at(bytes, 40),
         pages: u64_at(bytes, 48),
         table_len: u64_at(bytes, 56),
+        digest,
     }
 }
 
@@ -161,8 +209,8 @@ fn header_of(bytes: &[u8], len: u64) -> Result<Header, Reason>
     requires { length bytes.now ≡ 4096 }
     ensures { result ≡ header_in bytes.now len }
 {
-    let kind = check_bytes(bytes)?;
-    let header = fields(bytes, kind);
+    let (version, kind) = check_bytes(bytes)?;
+    let header = fields(bytes, version, kind);
     check_fields(&header, len)?;
     Ok(header)
 }

@@ -2,6 +2,7 @@
 #![tactic(auto)]
 
 mod coverage;
+mod digester;
 mod fields;
 mod header;
 mod header_codec;
@@ -18,7 +19,8 @@ mod table_reading;
 mod table_writing;
 mod totals;
 
-pub use header::{Header, Kind};
+pub use digester::Digester;
+pub use header::{Header, Kind, Version};
 pub use header_codec::{decode_header, encode_header};
 pub use laws::{
     few_pages, file_is_image, first_image_is_shown, header_fills_file, held_once, held_once_among,

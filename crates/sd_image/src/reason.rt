@@ -7,7 +7,7 @@ use std::fmt;
 pub enum Reason {
     /// Bytes 1 to 7 are not the magic.
     Magic,
-    /// The version is not 1.
+    /// The version is neither 1 nor 2.
     Version,
     /// The kind is not 1, 2 or 3.
     Kind,
@@ -37,7 +37,7 @@ pub enum Reason {
     Coverage,
     /// Bytes remain behind the table, the header counts other data pages, or over 65,536 pages are mapped.
     Total,
-    /// The digest of the image; no version of the format has one yet.
+    /// An image of version 2 has another digest than its file.
     Digest,
     /// A page that no image of the chain has.
     Chain,
