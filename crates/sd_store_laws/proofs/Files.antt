@@ -2,7 +2,7 @@
 use Rattle.std.proofs.Common.{◌≡◌, ◌+◌, ℕ, List, [], ◌∷◌, ◌++◌, length, refl, sym, ◌∙◌, ap, arith, length-append}
 use Rattle.std.proofs.lemmas.List.{append-nil}
 use Rattle.sd_image.specs.Words.{number_bytes, zeros}
-use Rattle.sd_image.specs.Header.{header_text}
+use Rattle.sd_image.specs.Header.{header_front, header_text}
 use Rattle.sd_image.specs.Table.{table_text}
 use Rattle.sd_image.specs.Image.{Image, IsImage}
 use Rattle.sd_store_laws.specs.Worked.{file_of, merged, unchanged, whole}
@@ -23,11 +23,11 @@ module _ (bytes : List ℕ) (long : length bytes ≡ 4096) where
   m = merged 3 1 1 bytes
 
   a_head : length (header_text a.header) ≡ 4095
-  unfolding header_text number_bytes zeros
+  unfolding header_text header_front number_bytes zeros
   a_head = refl
 
   m_head : length (header_text m.header) ≡ 4095
-  unfolding header_text number_bytes zeros
+  unfolding header_text header_front number_bytes zeros
   m_head = refl
 
   a_table : length (table_text a.spaces) ≡ 72
@@ -41,7 +41,7 @@ module _ (bytes : List ℕ) (long : length bytes ≡ 4096) where
   a_file = record {
     spelled = refl;
     header = record {
-      words = record { serial = omega arith; stands_for = omega arith; parent = omega arith; checkpoint = omega arith; pages = omega arith; table_len = omega arith };
+      words = record { serial = omega arith; stands_for = omega arith; parent = omega arith; checkpoint = omega arith; pages = omega arith; table_len = omega arith; digest = refl };
       serial = omega arith;
       numbers = (refl, omega arith);
       checkpoint = omega arith;
@@ -55,13 +55,14 @@ module _ (bytes : List ℕ) (long : length bytes ≡ 4096) where
     };
     stored = refl;
     whole = (long, tt);
+    digest = λ two. absurd cc;
   }
 
   pub m_file : IsImage (file_of m) m
   m_file = record {
     spelled = refl;
     header = record {
-      words = record { serial = omega arith; stands_for = omega arith; parent = omega arith; checkpoint = omega arith; pages = omega arith; table_len = omega arith };
+      words = record { serial = omega arith; stands_for = omega arith; parent = omega arith; checkpoint = omega arith; pages = omega arith; table_len = omega arith; digest = refl };
       serial = omega arith;
       numbers = (omega arith, omega arith, refl);
       checkpoint = omega arith;
@@ -75,13 +76,14 @@ module _ (bytes : List ℕ) (long : length bytes ≡ 4096) where
     };
     stored = refl;
     whole = (long, tt);
+    digest = λ two. absurd cc;
   }
 
 abbrev b : Image
 b = unchanged 2 1 2
 
 b_head : length (header_text b.header) ≡ 4095
-unfolding header_text number_bytes zeros
+unfolding header_text header_front number_bytes zeros
 b_head = refl
 
 b_table : length (table_text b.spaces) ≡ 72
@@ -92,7 +94,7 @@ pub b_file : IsImage (file_of b) b
 b_file = record {
   spelled = refl;
   header = record {
-    words = record { serial = omega arith; stands_for = omega arith; parent = omega arith; checkpoint = omega arith; pages = omega arith; table_len = omega arith };
+    words = record { serial = omega arith; stands_for = omega arith; parent = omega arith; checkpoint = omega arith; pages = omega arith; table_len = omega arith; digest = refl };
     serial = omega arith;
     numbers = (refl, omega arith);
     checkpoint = omega arith;
@@ -106,4 +108,5 @@ b_file = record {
   };
   stored = refl;
   whole = tt;
+  digest = λ two. absurd cc;
 }

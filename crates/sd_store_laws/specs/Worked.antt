@@ -6,6 +6,8 @@ use Rattle.sd_image.specs.declared.header.Kind.{Kind}
 use Rattle.sd_image.specs.declared.header.Kind.TheVariants.{Dump, Merged}
 use Rattle.sd_image.specs.declared.run.RunKind.{RunKind}
 use Rattle.sd_image.specs.declared.run.RunKind.TheVariants.{Data, Parent}
+use Rattle.sd_image.specs.declared.header.Version.TheVariants.{One}
+use Rattle.sd_image.specs.Words.{zeros}
 use Rattle.sd_image.specs.Image.{Image, gate, image_text}
 use Rattle.sd_image.specs.Laws.{first_memory}
 use Rattle.sd_image.specs.Shows.{IsNamed, IsTip, Shows, ImagesShow}
@@ -23,7 +25,7 @@ memory_of bytes = first_memory 1 16 prot bytes
 
 abbrev pub one_page : Kind → ℕ → ℕ → ℕ → ℕ → RunKind → List (List ℕ) → Image
 one_page kind serial stands_for parent checkpoint way pages = record {
-  header = record { kind = kind; serial = serial; stands_for = stands_for; parent = parent; checkpoint = checkpoint; pages = length pages; table_len = 72 };
+  header = record { version = One; kind = kind; serial = serial; stands_for = stands_for; parent = parent; checkpoint = checkpoint; pages = length pages; table_len = 72; digest = zeros 32 };
   pages = pages;
   spaces = record { space = 1; areas = record { first = 16; count = 1; prot = prot } ∷ []; runs = record { first = 16; count = 1; kind = way } ∷ [] } ∷ [];
 }

@@ -2,6 +2,8 @@
 use Rattle.std.specs.Prelude.{◌⊎◌, ℕ, true, List, [], ◌∷◌, Some, None}
 use Rattle.sd_image.specs.declared.header.Kind.TheVariants.{PreDump}
 use Rattle.sd_image.specs.declared.run.RunKind.TheVariants.{Data}
+use Rattle.sd_image.specs.declared.header.Version.TheVariants.{One}
+use Rattle.sd_image.specs.Words.{zeros}
 use Rattle.sd_image.specs.Image.{Image}
 use Rattle.sd_image.specs.Shows.{ImagesShow, IsTip}
 use Rattle.sd_store_laws.specs.Needs.{IsUnneeded}
@@ -17,7 +19,7 @@ in_round bytes = record { catalog = whole 1 1 bytes ∷ []; chain = 1 ∷ []; wo
 -- a pre-dump of the page
 abbrev pub pre_dump : ℕ → ℕ → ℕ → List ℕ → Image
 pre_dump serial parent checkpoint bytes = record {
-  header = record { kind = PreDump; serial = serial; stands_for = serial; parent = parent; checkpoint = checkpoint; pages = 1; table_len = 48 };
+  header = record { version = One; kind = PreDump; serial = serial; stands_for = serial; parent = parent; checkpoint = checkpoint; pages = 1; table_len = 48; digest = zeros 32 };
   pages = bytes ∷ [];
   spaces = record { space = 1; areas = []; runs = record { first = 16; count = 1; kind = Data } ∷ [] } ∷ [];
 }
