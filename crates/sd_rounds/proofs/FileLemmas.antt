@@ -77,6 +77,7 @@ filed law pages chain old new memory request w own numbers kept has = record {
     stored = kept.count ∙ ap (λ (h : Header). h.pages) (sym w.numbers);
     whole = kept.whole;
     table_len = ap (λ (h : Header). h.table_len) w.numbers;
+    digest = λ two. w.digest (concat pages) kept.digested;
   })).0;
   numbers = w.numbers;
   lists = has.lists;

@@ -1,11 +1,14 @@
 -- What the steps of an image keep.
 use Rattle.std.proofs.Common.{◌≡◌, ◌≢◌, ℕ, ◌+◌, Bool, true, false, nat_eq, ◌||◌, if◌then◌else◌, List, [], ◌∷◌, ◌++◌, length, Option, Some, None, slice_set, refl, sym, ◌∙◌, ap, subst, inl, inr, arith}
-use Rattle.std.specs.List.{AllByRecursion}
+use Rattle.std.specs.List.{AllByRecursion, concat}
+use Rattle.std.proofs.lemmas.List.Folds.{concat-append}
 use Rattle.std.proofs.lemmas.Bool.{both_ways}
-use Rattle.std.proofs.lemmas.List.{length-append}
+use Rattle.std.proofs.lemmas.List.{append-nil, length-append}
 use Rattle.sd_image.specs.declared.header.Kind.{Kind}
 use Rattle.sd_image.specs.declared.header.Kind.TheVariants.{Dump, Merged, PreDump}
 use Rattle.sd_image.specs.declared.run.RunKind.{RunKind}
+use Rattle.sd_image.specs.declared.digester.Digester.{Digester}
+use Rattle.sd_image.specs.Digests.{HasFed}
 use Rattle.sd_image.specs.declared.run.RunKind.TheVariants.{Data, Parent, Zero}
 use Rattle.sd_gate.specs.declared.request_id.RequestId.{RequestId}
 use Rattle.sd_gate.specs.Plans.{Planned, plan_after}
@@ -82,10 +85,15 @@ pass_kept stage pages chain pass memory e kept = subst (λ (s : Stage). IsKeptIn
 pass_dumped : (stage : Stage) (cut : Contents) (pages : Pages) (chain : Chain) (pass : Pass) (memory : Contents) → stage ≡ PassStage → IsDumpedIn stage cut pages chain pass memory → IsDumping cut pass memory
 pass_dumped stage cut pages chain pass memory e dumped = subst (λ (s : Stage). IsDumpedIn s cut pages chain pass memory) e dumped
 
+-- the bytes of one page more
+concat_snoc : (pages : Pages) (page : List ℕ) → concat (pages ++ page ∷ []) ≡ concat pages ++ page
+concat_snoc pages page = concat-append pages (page ∷ []) ∙ ap (λ (xs : List ℕ). concat pages ++ xs) (append-nil page)
+
 begins : KeepsLaws → (order : ImageOrder) (chain : Chain) (memory : Contents) → (order.parent ≢ 0 → Rests chain memory) → KeepsImage [] chain (begun_image order) memory
 begins laws order chain memory rests = record {
   count = refl;
   whole = tt;
+  digested = refl;
   kept = by (nat_eq order.parent 0) refl;
 }
   where
@@ -97,22 +105,23 @@ begins laws order chain memory rests = record {
     by false e = laws.opens (listed_pages []) chain memory (rests (apart order.parent e))
 
 -- the same image, in another stage
-moved : (pages more : Pages) (chain : Chain) (new : Making) (stage : Stage) (pass : Pass) (order : ImageOrder) (writes : List (Option RequestId)) (memory : Contents)
-    → new ≡ record { order = order; pass = pass; stage = stage; writes = writes } → length more ≡ data_pages pass.entries → AllByRecursion (λ page. length page ≡ 4096) more
-    → IsKeptIn stage more chain pass memory → KeepsImage more chain new memory
-moved pages more chain new stage pass order writes memory is count whole kept =
-    subst (λ (m : Making). KeepsImage more chain m memory) (sym is) (record { count = count; whole = whole; kept = kept })
+moved : (pages more : Pages) (chain : Chain) (new : Making) (stage : Stage) (pass : Pass) (order : ImageOrder) (writes : List (Option RequestId)) (digester : Digester) (memory : Contents)
+    → new ≡ record { order = order; pass = pass; stage = stage; writes = writes; digester = digester } → length more ≡ data_pages pass.entries → AllByRecursion (λ page. length page ≡ 4096) more
+    → HasFed digester (concat more) → IsKeptIn stage more chain pass memory → KeepsImage more chain new memory
+moved pages more chain new stage pass order writes digester memory is count whole digested kept =
+    subst (λ (m : Making). KeepsImage more chain m memory) (sym is) (record { count = count; whole = whole; digested = digested; kept = kept })
 
 steps : KeepsLaws → StepLaws → (ticket : ℕ) (pages : Pages) (chain : Chain) (old new : Making) (before after : Contents) (step : ImageStep) → Steps ticket old before step new after
     → KeepsImage pages chain old before → KeepsImage (pages_after step pages) chain new after
 steps keeps laws ticket pages chain old new before after (Call request) s was =
     subst (λ memory. KeepsImage pages chain new memory) (sym s.2)
-    (moved pages pages chain new (with_plan old.stage s.0.next) old.pass old.order old.writes before s.0.is was.count was.whole
+    (moved pages pages chain new (with_plan old.stage s.0.next) old.pass old.order old.writes old.digester before s.0.is was.count was.whole was.digested
     (asked_keeps old.stage s.0.next pages chain old.pass before was.kept))
 steps keeps laws ticket pages chain old new before after (PageCall lane request) s was =
     subst (λ memory. KeepsImage (pages ++ request.bytes ∷ []) chain new memory) (sym s.2) (record {
       count = length-append pages (request.bytes ∷ []) ∙ ap (λ n. n + 1) was.count ∙ sym (take_counts old.pass request.bytes new.pass s.0.taken);
       whole = all_put (λ page. length page ≡ 4096) pages request.bytes was.whole s.0.taken.whole;
+      digested = subst (HasFed new.digester) (sym (concat_snoc pages request.bytes)) (s.0.digester (concat pages) was.digested);
       kept = subst (λ (g : Stage). IsKeptIn g (pages ++ request.bytes ∷ []) chain new.pass before) (sym s.0.still)
           (laws.take_keeps pages chain old.pass new.pass before request.bytes s.0.taken was.count (pass_kept old.stage pages chain old.pass before s.0.stage was.kept));
     })
@@ -120,19 +129,19 @@ steps keeps laws ticket pages chain old new before after (TableCall request) s w
     subst (λ memory. KeepsImage pages chain new memory) (sym s.2) (by s.0)
   where
     by : WritesTable old before request new → KeepsImage pages chain new before
-    by w = moved pages pages chain new (Close w.next w.header w.tables) old.pass old.order old.writes before w.is was.count was.whole
+    by w = moved pages pages chain new (Close w.next w.header w.tables) old.pass old.order old.writes old.digester before w.is was.count was.whole was.digested
         (keeps.ends (listed_pages pages) chain old.pass before w.free w.over (pass_kept old.stage pages chain old.pass before w.stage was.kept))
 steps keeps laws ticket pages chain old new before after Frozen s was =
     subst (λ memory. KeepsImage pages chain new memory) (sym s.1)
-    (moved pages pages chain new PassStage old.pass old.order old.writes before s.0.is was.count was.whole
+    (moved pages pages chain new PassStage old.pass old.order old.writes old.digester before s.0.is was.count was.whole was.digested
     (subst (λ (s : Stage). IsKeptIn s pages chain old.pass before) s.0.stage was.kept))
 steps keeps laws ticket pages chain old new before after (Visited visit) s was =
-    moved pages pages chain new old.stage new.pass old.order old.writes after s.passes.1 (was.count ∙ sym (visit_counts old.pass before visit new.pass after s.tests)) was.whole
+    moved pages pages chain new old.stage new.pass old.order old.writes old.digester after s.passes.1 (was.count ∙ sym (visit_counts old.pass before visit new.pass after s.tests)) was.whole was.digested
     (subst (λ (g : Stage). IsKeptIn g pages chain new.pass after) (sym s.passes.0)
     (laws.visit_keeps (listed_pages pages) chain old.pass new.pass before after visit s.tests s.free (pass_kept old.stage pages chain old.pass before s.passes.0 was.kept)))
 steps keeps laws ticket pages chain old new before after (Copied c) s was =
     subst (λ memory. KeepsImage pages chain new memory) (sym s.1)
-    (moved pages pages chain new old.stage new.pass old.order old.writes before s.0.passes.1 (was.count ∙ sym (copy_counts old.pass before c new.pass s.0.copies)) was.whole
+    (moved pages pages chain new old.stage new.pass old.order old.writes old.digester before s.0.passes.1 (was.count ∙ sym (copy_counts old.pass before c new.pass s.0.copies)) was.whole was.digested
     (subst (λ (g : Stage). IsKeptIn g pages chain new.pass before) (sym s.0.passes.0)
     (laws.copy_keeps (listed_pages pages) chain old.pass new.pass before c s.0.copies (pass_kept old.stage pages chain old.pass before s.0.passes.0 was.kept))))
 
@@ -155,7 +164,7 @@ none_closing (Close plan header tables) calls closes none = absurd (closes (λ e
 goes_on : (pages : Pages) (chain : Chain) (old new : Making) (memory : Contents) (made : Made) → GoesOn old made new
     → KeepsImage pages chain old memory → KeepsImage pages chain new memory
 goes_on pages chain old new memory made h was =
-    moved pages pages chain new (stage_after old.order.kind old.stage (plan_after h.plan made) (plan_after h.plan made).calls) old.pass old.order old.writes memory h.is was.count was.whole
+    moved pages pages chain new (stage_after old.order.kind old.stage (plan_after h.plan made) (plan_after h.plan made).calls) old.pass old.order old.writes old.digester memory h.is was.count was.whole was.digested
     (by (plan_after h.plan made).calls (none_closing old.stage (plan_after h.plan made).calls h.closes))
   where
     by : (calls : Calls) → (calls ≡ [] → closing old.stage ≡ 0) → IsKeptIn (stage_after old.order.kind old.stage (plan_after h.plan made) calls) pages chain old.pass memory
@@ -166,7 +175,7 @@ hands : (pages : Pages) (chain : Chain) (old new : Making) (memory : Contents) (
     → KeepsImage pages chain old memory → KeepsImage pages chain new memory
 hands pages chain old new memory made (inl g) was = goes_on pages chain old new memory made g was
 hands pages chain old new memory made (inr w) was =
-    moved pages pages chain new old.stage old.pass old.order (slice_set old.writes w.lane None) memory w.is was.count was.whole was.kept
+    moved pages pages chain new old.stage old.pass old.order (slice_set old.writes old.digester w.lane None) memory w.is was.count was.whole was.digested was.kept
 
 calls : KeepsLaws → (pages : Pages) (one other : Chain) (making : Making) (old new : Contents) (event : Event) → IsSound old → Step old event new → IsCall event → Within one other
     → KeepsImage pages one making old → KeepsImage pages other making new

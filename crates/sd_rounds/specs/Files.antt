@@ -32,7 +32,7 @@ file_of i = gate ∷ image_text i
 -- pass's entries.
 pub record IsFiled (order : ImageOrder) (pass : Pass) (pages : Pages) (header : Header) (tables : List Listed) : Type 0 where
   pub spelled : IsImage (file_of (image_of header pages tables)) (image_of header pages tables)
-  pub numbers : header ≡ header_of order (data_pages pass.entries) (length (table_text tables))
+  pub numbers : header ≡ header_of order (data_pages pass.entries) (length (table_text tables)) header.digest
   pub lists : Lists pass.entries tables
 
 abbrev pub IsFiledIn : Stage → ImageOrder → Pass → Pages → Type 0

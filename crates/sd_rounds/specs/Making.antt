@@ -1,9 +1,13 @@
 -- An image in the making, as it is seen, and what its steps do.
-use Rattle.std.specs.Prelude.{◌≡◌, ◌≢◌, ◌⊎◌, ℕ, ◌≤◌, ◌^◌, Bool, true, false, ◌==◌, ◌&&◌, ◌+◌, List, [], ◌∷◌, length, Option, Some, None, is_some, slice_get, slice_set}
+use Rattle.std.specs.Prelude.{◌≡◌, ◌≢◌, ◌⊎◌, ℕ, ◌≤◌, ◌^◌, Bool, true, false, ◌==◌, ◌&&◌, ◌+◌, List, [], ◌∷◌, ◌++◌, length, Option, Some, None, is_some, slice_get, slice_set}
 use Rattle.sd_image.specs.declared.header.Header.{Header}
 use Rattle.sd_image.specs.declared.header.Kind.{Kind}
 use Rattle.sd_image.specs.declared.header.Kind.TheVariants.{PreDump, Dump, Merged}
-use Rattle.sd_image.specs.Header.{HasWords}
+use Rattle.sha2.specs.Sha256.{sha256}
+use Rattle.sd_image.specs.declared.digester.Digester.{Digester}
+use Rattle.sd_image.specs.declared.header.Version.TheVariants.{Two}
+use Rattle.sd_image.specs.Digests.{HasFed, fresh}
+use Rattle.sd_image.specs.Header.{HasWords, header_front}
 use Rattle.sd_image.specs.Table.{IsTable, Listed, table_text}
 use Rattle.sd_image.specs.Words.{kind_number}
 use Rattle.sd_gate.specs.declared.call.Call.TheVariants.{Write}
@@ -33,12 +37,14 @@ use Rattle.sd_rounds.specs.Rises.{kind_at}
 use Rattle.sd_rounds.specs.Rounds.{Copies, TakesPage, Tests}
 use Rattle.sd_rounds.specs.Writes.{AreWrites, IsInLane, no_writes}
 
--- an image in the making: what is fixed of it, its pass, how far it is, and the writes of its data pages that are out
+-- an image in the making: what is fixed of it, its pass, how far it is, the writes of its data pages that are out, and what was
+-- fed those that were taken
 pub record Making : Type 0 where
   pub order : ImageOrder
   pub pass : Pass
   pub stage : Stage
   pub writes : List (Option RequestId)
+  pub digester : Digester
 
 -- it begins with the format of its slot; without a parent it takes every page
 abbrev pub begun_image : ImageOrder → Making
@@ -47,6 +53,7 @@ begun_image order = record {
   pass = opened (order.parent == 0);
   stage = Format (begun order.slot (format_calls order.state) nothing);
   writes = no_writes;
+  digester = fresh;
 }
 
 -- the plan whose calls are being made
@@ -164,10 +171,12 @@ pub record WritesPage (old : Making) (lane : ℕ) (request : Asked) (new : Makin
   pub order : new.order ≡ old.order
   pub still : new.stage ≡ PassStage
   pub writes : new.writes ≡ slice_set old.writes lane (Some request.id)
+  pub digester : (fed : List ℕ) → HasFed old.digester fed → HasFed new.digester (fed ++ request.bytes)
 
 -- the header of an image that stands for itself
-abbrev pub header_of : ImageOrder → ℕ → ℕ → Header
-header_of order pages table_len = record {
+abbrev pub header_of : ImageOrder → ℕ → ℕ → List ℕ → Header
+header_of order pages table_len digest = record {
+  version = Two;
   kind = order.kind;
   serial = order.serial;
   stands_for = order.serial;
@@ -175,6 +184,7 @@ header_of order pages table_len = record {
   checkpoint = order.checkpoint;
   pages = pages;
   table_len = table_len;
+  digest = digest;
 }
 
 -- entries are exactly the mapped pages of a memory
@@ -205,7 +215,8 @@ pub record WritesTable (old : Making) (memory : Contents) (request : Asked) (new
   pub rests : old.writes ≡ no_writes
   pub tables : List Listed
   pub header : Header
-  pub numbers : header ≡ header_of old.order (data_pages old.pass.entries) (length (table_text tables))
+  pub numbers : header ≡ header_of old.order (data_pages old.pass.entries) (length (table_text tables)) header.digest
+  pub digest : (fed : List ℕ) → HasFed old.digester fed → header.digest ≡ sha256 (fed ++ table_text tables ++ header_front header)
   pub words : HasWords header
   pub table : HasTable old.order.kind memory old.pass.entries header tables
   pub next : Planned

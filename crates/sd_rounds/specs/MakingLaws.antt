@@ -1,7 +1,8 @@
 -- What the steps of an image keep.
 use Rattle.std.specs.Prelude.{◌≡◌, ◌≢◌, ℕ, ◌<◌, true, List, [], ◌∷◌, ◌++◌, length}
-use Rattle.std.specs.List.{AllByRecursion}
+use Rattle.std.specs.List.{AllByRecursion, concat}
 use Rattle.sd_image.specs.declared.header.Header.{Header}
+use Rattle.sd_image.specs.Digests.{HasFed}
 use Rattle.sd_image.specs.Image.{Image}
 use Rattle.sd_image.specs.Table.{Listed}
 use Rattle.sd_gate.specs.Requests.{Made}
@@ -34,6 +35,7 @@ IsKeptIn (Close plan header tables) pages chain pass memory = Gave (listed_pages
 pub record KeepsImage (pages : Pages) (chain : Chain) (making : Making) (memory : Contents) : Type 0 where
   pub count : length pages ≡ data_pages making.pass.entries
   pub whole : AllByRecursion (λ page. length page ≡ 4096) pages
+  pub digested : HasFed making.digester (concat pages)
   pub kept : IsKeptIn making.stage pages chain making.pass memory
 
 -- The dump of a memory that was frozen as `cut`: each page is had in the way that is due, or will be.

@@ -1,6 +1,8 @@
 //! One image in the making: its slot is formatted, the pages of a memory are passed, and its gate is opened.
-ghost use Rattle.std.specs.Prelude.{◌≡◌, ◌≢◌, ◌↔◌, ℕ, ◌<◌, ◌≤◌, ◌^◌, ◌==◌, None, Some, Ok, Err, IsSome, IsTrue, IsErr, true, false, IfOk, OnErr, MatchOption, length, map, slice_get};
-ghost use Rattle.sd_image.specs.Header.{HasWords};
+ghost use Rattle.std.specs.Prelude.{◌≡◌, ◌≢◌, ◌↔◌, ℕ, ◌<◌, ◌≤◌, ◌^◌, ◌==◌, None, Some, Ok, Err, IsSome, IsTrue, IsErr, true, false, IfOk, OnErr, MatchOption, ◌++◌, List, length, map, replicate, slice_get};
+ghost use Rattle.sha2.specs.Sha256.{sha256};
+ghost use Rattle.sd_image.specs.Digests.{HasFed};
+ghost use Rattle.sd_image.specs.Header.{HasWords, header_front};
 ghost use Rattle.sd_image.specs.Table.{listing_of};
 ghost use Rattle.sd_gate.specs.Plans.{Gives};
 ghost use Rattle.sd_gate.specs.Sequences.{data_place};
@@ -19,6 +21,7 @@ ghost use Rattle.sd_rounds.specs.Sound.{IsSoundImage};
 ghost use Rattle.sd_rounds.specs.Waits.{must_wait};
 ghost use Rattle.sd_rounds.specs.Writes.{no_writes};
 
+use crate::digests::{digest_page, with_digest};
 use crate::image_order::ImageOrder;
 use crate::image_progress::ImageProgress;
 use crate::image_step::ImageStep;
@@ -34,7 +37,7 @@ use crate::standing::Standing;
 use crate::tables::{dump_table, pre_dump_table};
 use sd_chain::PlacedTable;
 use sd_gate::{Outcome, Plan, Request, RequestId, Settled, Worker};
-use sd_image::{Header, Kind, Table, encode_table};
+use sd_image::{Digester, Header, Kind, Table, Version, encode_table};
 use sd_pagetable::{Memory, plain_law};
 use std::alloc::{AllocError, Global};
 use std::marker::Model;
@@ -50,6 +53,8 @@ pub struct ImageMaker {
     stage: Stage,
     /// The writes of its data pages that are out.
     writes: [Option<RequestId>; LANES],
+    /// Was fed the data pages that were taken.
+    digester: Digester,
 }
 
 impl Model for ImageMaker {
@@ -57,7 +62,7 @@ impl Model for ImageMaker {
 
     ghost Value = { Making };
 
-    ghost view = { λ m. record { order = m.order; pass = m.round; stage = m.stage; writes = m.writes } };
+    ghost view = { λ m. record { order = m.order; pass = m.round; stage = m.stage; writes = m.writes; digester = m.digester } };
 
     ghost invariant = { λ m. IsMaking m.order m.round m.stored m.stage m.writes };
 }
@@ -100,12 +105,13 @@ fn page_request(slot: usize, place: usize, page: Vec<u8>, ticket: u64) -> Reques
     ask(&mut plan, ticket)
 }
 
-/// The header of an image that stands for itself.
+/// The header of an image that stands for itself, without its digest.
 fn own_header(order: ImageOrder, pages: u64, table_len: u64) -> Header
-    ensures numbers { result ≡ header_of order pages table_len }
+    ensures numbers { result ≡ header_of order pages table_len (replicate 32 0) }
     ensures words { HasWords result }
 {
     Header {
+        version: Version::Two,
         kind: order.kind,
         serial: order.serial,
         stands_for: order.serial,
@@ -113,6 +119,7 @@ fn own_header(order: ImageOrder, pages: u64, table_len: u64) -> Header
         checkpoint: order.checkpoint,
         pages,
         table_len,
+        digest: [0; 32],
     }
 }
 
@@ -148,6 +155,7 @@ impl ImageMaker {
             stored: 0,
             stage: Stage::Format(Plan::format(order.slot, order.state)),
             writes: [None; LANES],
+            digester: Digester::new(),
         }
     }
 
@@ -281,6 +289,7 @@ impl ImageMaker {
         self.round.has_room();
         let page = self.round.take_page()?;
         self.round.give_back(buffers.take());
+        digest_page(&mut self.digester, &page);
         let request = page_request(self.order.slot, self.stored, page, ticket);
         self.stored += 1;
         self.writes[lane] = Some(request.id());
@@ -300,7 +309,7 @@ impl ImageMaker {
     {
         let table = self.table(memory)?;
         let text = encode_table(self.alloc, &table)?;
-        let header = self.header(text.len() as u64);
+        let header = self.header(self.digester.clone()?, &text);
         let table = PlacedTable::new(self.alloc, table)?;
         let mut plan = Plan::close_body(self.order.slot, header, text);
         let request = ask(&mut plan, ticket);
@@ -328,13 +337,16 @@ impl ImageMaker {
         }
     }
 
-    /// The header of the image.
-    fn header(&self, table_len: u64) -> Header
-        ensures numbers { result
-            ≡ header_of self.now.order (data_pages self.now.pass.entries) table_len }
+    /// The header of the image, whose data pages were digested, and whose table has this text.
+    fn header(&self, digester: Digester, text: &[u8]) -> Header
+        ensures numbers { result ≡ header_of self.now.order (data_pages self.now.pass.entries)
+            (length text.now) result.digest }
+        ensures digest { (fed : List ℕ) → HasFed digester fed
+            → result.digest ≡ sha256 (fed ++ text.now ++ header_front result) }
         ensures words { HasWords result }
     {
-        own_header(self.order, self.stored as u64, table_len)
+        let header = own_header(self.order, self.stored as u64, text.len() as u64);
+        with_digest(digester, text, header)
     }
 
     /// How many steps and outcomes the image has before it, at most.

@@ -3,6 +3,7 @@
 
 mod checkpoint;
 mod copied;
+mod digests;
 mod dumper;
 mod entries;
 mod image_maker;
@@ -25,6 +26,7 @@ mod visit;
 mod work_error;
 
 pub use copied::Copied;
+pub use digests::{digest_page, with_digest};
 pub use dumper::Dumper;
 pub use image_step::ImageStep;
 pub use lanes::LANES;
