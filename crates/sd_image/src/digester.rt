@@ -8,11 +8,12 @@ ghost use Rattle.sd_image.specs.Header.{header_front};
 use crate::header::Header;
 use crate::header_codec::encode_header;
 use sha2::{Digest, Sha256};
+use std::alloc::AllocError;
 use std::mem;
 
 /// Makes the digest of an image of version 2: the SHA-256 (FIPS 180-4) of its data pages in file order, its table, and bytes 1
 /// to 63 of its header.
-#[derive(Clone, Debug, Drop)]
+#[derive(Debug, Drop)]
 pub struct Digester {
     /// None before the first bytes, so that digesters of nothing are all the same.
     hasher: Option<Sha256>,
@@ -68,5 +69,19 @@ impl Digester {
         let mut hasher = self.into_hasher();
         hasher.update(&text[..63]);
         hasher.finalize()
+    }
+}
+
+impl Clone for Digester {
+    ghost use Rattle.std.specs.Prelude.{⊤};
+
+    ghost is_clone = { λ digester copy. copy ≡ digester };
+
+    ghost is_infallible = { λ _. ⊤ };
+
+    fn clone(&self) -> Result<Digester, AllocError> {
+        Ok(Digester {
+            hasher: self.hasher.clone()?,
+        })
     }
 }

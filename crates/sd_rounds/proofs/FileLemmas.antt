@@ -1,4 +1,5 @@
 -- The file of an image whose table is written.
+use Rattle.std.specs.List.{concat}
 use Rattle.std.proofs.Common.{◌≡◌, ◌≢◌, ◌↔◌, Contains, List, ℕ, ◌<◌, Bool, [], ◌∷◌, Option, Some, None, is_some, refl, sym, ◌∙◌, ap, subst, inl, inr}
 use Rattle.std.specs.Option.{option_map}
 use Rattle.sd_image.specs.declared.header.Header.{Header}
@@ -126,7 +127,7 @@ dump law plain making ticket cut pages chain old new before after request s kind
 
 fills : BodiesFill → (order : ImageOrder) (pass : Pass) (pages : Pages) (header : Header) (tables : List Listed) → IsFiled order pass pages header tables
     → body_closed (pages_body pages) header (table_text tables) ≡ image_text (image_of header pages tables)
-fills law order pass pages header tables is = law.image pages header (table_text tables) is.spelled.whole (sym is.spelled.stored)
+fills law order pass pages header tables is = law.image pages header (table_text tables) is.spelled.whole (sym is.spelled.stored) is.spelled.header.words
 
 -- ---- until the image is open
 

@@ -28,3 +28,4 @@ pub mod WayLemmas
 pub mod FileLemmas
 pub mod ImageVisitLemmas
 pub mod LittleLemmas
+pub mod StageLemmas

@@ -175,13 +175,14 @@ hands : (pages : Pages) (chain : Chain) (old new : Making) (memory : Contents) (
     → KeepsImage pages chain old memory → KeepsImage pages chain new memory
 hands pages chain old new memory made (inl g) was = goes_on pages chain old new memory made g was
 hands pages chain old new memory made (inr w) was =
-    moved pages pages chain new old.stage old.pass old.order (slice_set old.writes old.digester w.lane None) memory w.is was.count was.whole was.digested was.kept
+    moved pages pages chain new old.stage old.pass old.order (slice_set old.writes w.lane None) old.digester memory w.is was.count was.whole was.digested was.kept
 
 calls : KeepsLaws → (pages : Pages) (one other : Chain) (making : Making) (old new : Contents) (event : Event) → IsSound old → Step old event new → IsCall event → Within one other
     → KeepsImage pages one making old → KeepsImage pages other making new
 calls laws pages one other making old new event sound step call within was = record {
   count = was.count;
   whole = was.whole;
+  digested = was.digested;
   kept = by making.stage was.kept;
 }
   where
@@ -201,6 +202,7 @@ agrees : KeepsLaws → (pages : Pages) (one other : Chain) (making : Making) (me
 agrees laws pages one other making memory within was = record {
   count = was.count;
   whole = was.whole;
+  digested = was.digested;
   kept = by making.stage was.kept;
 }
   where

@@ -4,7 +4,7 @@ ghost use Rattle.sha2.specs.Sha256.{sha256};
 ghost use Rattle.sd_image.specs.Digests.{HasFed};
 ghost use Rattle.sd_image.specs.Header.{HasWords, header_front};
 ghost use Rattle.sd_image.specs.Table.{listing_of};
-ghost use Rattle.sd_gate.specs.Plans.{Gives};
+ghost use Rattle.sd_gate.specs.Plans.{Gives, Planned};
 ghost use Rattle.sd_gate.specs.Sequences.{data_place};
 ghost use Rattle.sd_gate.specs.declared.call.Call.TheVariants.{Write};
 ghost use Rattle.sd_rounds.specs.declared.stage.Stage.TheVariants.{Close, Format, Pass as PassStage};
@@ -12,7 +12,7 @@ ghost use Rattle.sd_image.specs.declared.header.Header.{Header};
 ghost use Rattle.sd_pagetable.specs.Contents.{Contents, plain_of};
 ghost use Rattle.sd_pagetable.specs.Order.{IsNextPage};
 ghost use Rattle.sd_rounds.specs.Left.{image_left, plan_left};
-ghost use Rattle.sd_rounds.specs.Making.{HandsIn, HasTable, IsAskedBy, IsUnderWay, Steps, WritesPage, WritesTable, begun_image, header_of, is_frozen, out_of};
+ghost use Rattle.sd_rounds.specs.Making.{HandsIn, HasTable, IsAskedBy, IsUnderWay, Steps, WritesPage, WritesTable, begun_image, header_of, is_frozen, out_of, stage_behind};
 ghost use Rattle.sd_rounds.specs.PlanSteps.{HasNoPage, IsPageCallOf, IsTableCallOf, Settles, at_stage, image_step, is_freeze};
 ghost use Rattle.sd_rounds.specs.Pass.{data_pages, opened};
 ghost use Rattle.sd_rounds.specs.Room.{ImageWants};
@@ -120,6 +120,16 @@ fn own_header(order: ImageOrder, pages: u64, table_len: u64) -> Header
         pages,
         table_len,
         digest: [0; 32],
+    }
+}
+
+/// The stage behind the format of a slot: a dump freezes the memory.
+fn behind_format(kind: Kind) -> Stage
+    ensures { (plan : Planned) → result ≡ stage_behind kind (Format plan) }
+{
+    match kind {
+        Kind::Dump => Stage::Freeze,
+        Kind::PreDump | Kind::Merged => Stage::Pass,
     }
 }
 
@@ -445,9 +455,7 @@ impl ImageMaker {
                 ImageProgress::More
             }
             Settled::Finished => {
-                if self.order.kind == Kind::Dump {
-                    self.stage = Stage::Freeze;
-                }
+                self.stage = behind_format(self.order.kind);
                 ImageProgress::More
             }
         }

@@ -1,5 +1,9 @@
-use Rattle.std.proofs.Common.{◌≡◌, ℕ, ◌<◌, ◌≤◌, ◌^◌, List, length, refl, sym, ◌∙◌, ap, subst}
+use Rattle.std.proofs.Common.{◌≡◌, ℕ, ◌<◌, ◌≤◌, ◌^◌, List, ◌++◌, length, refl, sym, ◌∙◌, ap, subst}
 use Rattle.sd_image.specs.declared.header.Header.{Header}
+use Rattle.sha2.specs.Sha256.{sha256}
+use Rattle.sd_image.specs.declared.digester.Digester.{Digester}
+use Rattle.sd_image.specs.Digests.{HasFed}
+use Rattle.sd_image.specs.Header.{header_front}
 use Rattle.sd_image.specs.Table.{Listed, table_text}
 use Rattle.sd_gate.specs.Inspections.{nothing}
 use Rattle.sd_gate.specs.Plans.{Gives, Planned, begun}
@@ -52,8 +56,10 @@ returns-clause-table c =
         rests = c.requires.rests;
         tables = c.in_ok-table-2.table;
         header = c.header-header.result;
-        numbers = c.header-header.ensures.numbers ∙ ap (header_of c.args.self.now.order (data_pages c.args.self.now.pass.entries))
-            (c.len.ensures ∙ c.in_ok-text.text.ok.0 ∙ ap (λ (t : List ℕ). length t) text);
+        numbers = c.header-header.ensures.numbers
+            ∙ ap (λ (t : List ℕ). header_of c.args.self.now.order (data_pages c.args.self.now.pass.entries) (length t) c.header-header.result.digest)
+            (c.deref.ensures.value ∙ text);
+        digest = λ fed has. c.header-header.ensures.digest fed (subst (λ (d : Digester). HasFed d fed) (ap (λ (m : Making). m.digester) (sym c.self.view_is) ∙ sym c.in_ok-clone.ensures.cases) has) ∙ ap (λ (t : List ℕ). sha256 (fed ++ t ++ header_front c.header-header.result)) (c.deref.ensures.value ∙ text);
         words = c.header-header.ensures.words;
         table = subst (λ (l : List Listed). HasTable c.args.self.now.order.kind c.args.memory.now c.args.self.now.pass.entries c.header-header.result l) (sym c.in_ok-table-2.ensures)
             (c.in_ok-table.ensures c.header-header.result (ap (λ (h : Header). h.kind) c.header-header.ensures.numbers) (ap (λ (h : Header). h.parent) c.header-header.ensures.numbers)
