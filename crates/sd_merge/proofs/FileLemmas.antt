@@ -1,14 +1,14 @@
 -- The file of a merged image.
 use Rattle.std.proofs.Common.{◌≡◌, ℕ, ◌<◌, List, [], ◌∷◌, ◌++◌, length, map, Contains, Some, refl, sym, ◌∙◌, ap, subst, inl, inr, arith}
 use Rattle.std.specs.Prelude.{slice_get, replicate}
-use Rattle.std.specs.List.{AllByRecursion}
+use Rattle.std.specs.List.{AllByRecursion, concat}
 use Rattle.std.proofs.lemmas.List.{append-nil}
 use Rattle.sd_image.specs.declared.header.Header.{Header}
 use Rattle.sd_image.specs.declared.header.Kind.TheVariants.{Merged, PreDump}
 use Rattle.sd_image.specs.declared.run.RunKind.{RunKind}
 use Rattle.sd_image.specs.declared.run.RunKind.TheVariants.{Data, Parent, Zero}
 use Rattle.sd_image.specs.Header.{HasWords}
-use Rattle.sd_image.specs.Image.{Image, image_text}
+use Rattle.sd_image.specs.Image.{HasItsDigest, Image, image_text}
 use Rattle.sd_image.specs.Laws.{HaveTables, HeldOnceAmong, IsComplete, SerialsDiffer, TextIsImage}
 use Rattle.sd_image.specs.Shows.{Holds, IsRestorable, pages_of}
 use Rattle.sd_image.specs.Table.{IsTable, Listed, table_text}
@@ -40,9 +40,9 @@ use Rattle.sd_merge.proofs.OrderLemmas.{In, at_in, contains_in, in_kind, listed_
 -- ---- the table is written
 
 filed : TextIsImage → (order : CopyOrder) (source : Image) (entries : List Entry) (pages : Pages) (header : Header) (tables : List Listed)
-    → header ≡ header_of order (data_pages entries) (length (table_text tables)) → HasWords header → AreItsNumbers order → RepeatsTable source.spaces entries header tables
-    → length pages ≡ data_pages entries → AllByRecursion (λ page. length page ≡ 4096) pages → IsFiled order source entries pages header tables
-filed law order source entries pages header tables numbers words own table count whole = record {
+    → header ≡ header_of order (data_pages entries) (length (table_text tables)) header.digest → HasWords header → AreItsNumbers order → RepeatsTable source.spaces entries header tables
+    → length pages ≡ data_pages entries → AllByRecursion (λ page. length page ≡ 4096) pages → HasItsDigest (image_of header pages tables) → IsFiled order source entries pages header tables
+filed law order source entries pages header tables numbers words own table count whole digest = record {
   spelled = (law (image_of header pages tables) complete).0;
   numbers = numbers;
   table = table;
@@ -61,6 +61,7 @@ filed law order source entries pages header tables numbers words own table count
       stored = count;
       whole = whole;
       table_len = refl;
+      digest = subst (λ (h : Header). HasItsDigest (image_of h pages tables)) numbers digest;
     })
 
 files : ((l : List Listed) → Lists (entries_listed l) l) → TextIsImage → (ticket : ℕ) (places : Places) (catalog : List Image) (source : Image) (pages : Pages) (old new : Copying) (request : Asked)
@@ -78,11 +79,11 @@ files lists law ticket places catalog source pages old new request s is restorab
     (filed law old.order source old.entries pages w.header w.tables w.numbers w.words own
     (table source.header w.header (source_table places catalog old.order.source.serial source is) restorable all
     (ap (λ (h : Header). h.kind) w.numbers) (ap (λ (h : Header). h.parent) w.numbers) (ap (λ (h : Header). h.pages) w.numbers))
-    was.count was.whole)
+    was.count was.whole (λ two. w.digest (concat pages) was.digested))
 
 fills : BodiesFill → (order : CopyOrder) (source : Image) (entries : List Entry) (pages : Pages) (header : Header) (tables : List Listed) → IsFiled order source entries pages header tables
     → body_closed (pages_body pages) header (table_text tables) ≡ image_text (image_of header pages tables)
-fills law order source entries pages header tables f = law.image pages header (table_text tables) f.spelled.whole (sym f.spelled.stored)
+fills law order source entries pages header tables f = law.image pages header (table_text tables) f.spelled.whole (sym f.spelled.stored) f.spelled.header.words
 
 -- ---- until it is open
 

@@ -1,7 +1,8 @@
 -- What a merged image in the making has of its source, through each of its steps.
 use Rattle.std.proofs.Common.{◌≡◌, ◌≢◌, ◌⊎◌, ℕ, zero, suc, ◌+◌, ◌<◌, ◌≤◌, List, [], ◌∷◌, ◌++◌, length, map, filter, min, sum_by, Contains, Option, Some, None, refl, sym, ◌∙◌, ap, subst, inl, inr, arith}
 use Rattle.std.specs.Prelude.{slice_get, slice_index_or, replicate}
-use Rattle.std.specs.List.{AllByRecursion, flat_map}
+use Rattle.std.specs.List.{AllByRecursion, concat, flat_map}
+use Rattle.std.proofs.lemmas.List.Folds.{concat-append}
 use Rattle.std.proofs.lemmas.List.{map-append, append_assoc, append-nil, length-append, length-map}
 use Rattle.std.proofs.lemmas.List.Elements.{All-contains, filter-append}
 use Rattle.std.proofs.lemmas.List.Sums.{sum_by-cons}
@@ -12,6 +13,7 @@ use Rattle.sd_image.specs.declared.header.Kind.TheVariants.{PreDump}
 use Rattle.sd_image.specs.declared.run.Run.{Run}
 use Rattle.sd_image.specs.declared.run.RunKind.{RunKind}
 use Rattle.sd_image.specs.declared.run.RunKind.TheVariants.{Data, Parent, Zero}
+use Rattle.sd_image.specs.Digests.{HasFed}
 use Rattle.sd_image.specs.Image.{Image}
 use Rattle.sd_image.specs.Laws.{SerialsDiffer}
 use Rattle.sd_image.specs.Shows.{Holds, IsNamed, IsRestorable, pages_of}
@@ -192,6 +194,10 @@ zeros_more n a b e f = omega arith
 one_fewer : (rest later : List Place) (at : Place) (taking ahead : ℕ) → rest ≡ at ∷ later → length rest ≡ taking + ahead → length later + 1 ≡ taking + ahead
 one_fewer rest later at taking ahead is e = (let f : length rest ≡ suc (length later) = ap (λ (l : List Place). length l) is in omega arith)
 
+-- the bytes of one page more
+concat_snoc : (pages : Pages) (page : List ℕ) → concat (pages ++ page ∷ []) ≡ concat pages ++ page
+concat_snoc pages page = concat-append pages (page ∷ []) ∙ ap (λ (xs : List ℕ). concat pages ++ xs) (append-nil page)
+
 steps : ((l : List Listed) → Lists (entries_listed l) l) → (ticket : ℕ) (places : Places) (catalog : List Image) (source : Image) (pages : Pages) (old new : Copying) (made : MergeStep)
     → Steps ticket places old made new → IsSoundCopy old → IsSourceAt places catalog old.order.source.serial source
     → KeepsCopy catalog source pages old → KeepsCopy catalog source (pages_after made pages) new
@@ -199,6 +205,7 @@ steps lists ticket places catalog source pages old new (step.Call request) s sou
     subst (λ (m : Copying). KeepsCopy catalog source pages m) (sym s.0.is) (record {
       count = was.count;
       whole = was.whole;
+      digested = was.digested;
       rest = was.rest;
       merging = was.merging;
       ahead = was.ahead;
@@ -210,6 +217,7 @@ steps lists ticket places catalog source pages old new (step.ReadCall request) s
     subst (λ (m : Copying). KeepsCopy catalog source pages m) (sym s.0.reads.is) (record {
       count = was.count;
       whole = was.whole;
+      digested = was.digested;
       rest = was.rest;
       merging = was.merging;
       ahead = zeros_more (length was.rest) new.ahead old.ahead (was.ahead ∙ ap (λ (o : Option Place). is_taking o + old.ahead) s.0.reads.free) s.0.reads.fewer;
@@ -221,9 +229,10 @@ steps lists ticket places catalog source pages old new (step.ReadCall request) s
 steps lists ticket places catalog source pages old new (step.PageCall request) s sound is was =
     subst (λ (m : Copying). KeepsCopy catalog source (pages ++ request.bytes ∷ []) m) (sym s.0.is)
     (subst (λ (b : List ℕ). KeepsCopy catalog source (pages ++ b ∷ [])
-    (record old { entries = put old.entries s.0.at Data; taking = None; read = None; stage = PageWrite s.0.next })) (ap first_bytes s.0.gives.next) (record {
+    (record old { entries = put old.entries s.0.at Data; taking = None; read = None; stage = PageWrite s.0.next; digester = new.digester })) (ap first_bytes s.0.gives.next) (record {
       count = length-append pages (s.0.bytes ∷ []) ∙ ap (λ n. n + 1) was.count ∙ sym (counts_data old.entries s.0.at);
       whole = all_put (λ page. length page ≡ 4096) pages s.0.bytes was.whole holds.0;
+      digested = subst (HasFed new.digester) (sym (concat_snoc pages s.0.bytes)) (s.0.digester (concat pages) was.digested);
       rest = first.later;
       merging = record {
         all = places_put old.entries s.0.at Data was.rest first.later (listed_places source.spaces) was.merging.all first.is;
@@ -244,6 +253,7 @@ steps lists ticket places catalog source pages old new (step.TableCall request) 
     subst (λ (m : Copying). KeepsCopy catalog source pages m) (sym s.0.writes.is) (record {
       count = was.count;
       whole = was.whole;
+      digested = was.digested;
       rest = was.rest;
       merging = was.merging;
       ahead = was.ahead;
@@ -255,6 +265,7 @@ steps lists ticket places catalog source pages old new step.Zero s sound is was 
     subst (λ (m : Copying). KeepsCopy catalog source pages m) (sym s.takes.is) (record {
       count = was.count ∙ sym (counts_zero old.entries s.at);
       whole = was.whole;
+      digested = was.digested;
       rest = first.later;
       merging = record {
         all = places_put old.entries s.at Zero was.rest first.later (listed_places source.spaces) was.merging.all first.is;
@@ -389,6 +400,7 @@ hands catalog source pages old new made h sound tells was =
     subst (λ (m : Copying). KeepsCopy catalog source pages m) (sym h.is) (record {
       count = was.count;
       whole = was.whole;
+      digested = was.digested;
       rest = was.rest;
       merging = was.merging;
       ahead = was.ahead;
@@ -447,6 +459,7 @@ begins : (catalog : List Image) (source : Image) (order : CopyOrder) → IsTable
 begins catalog source order table restorable pages = record {
   count = refl;
   whole = tt;
+  digested = refl;
   rest = listed_places source.spaces;
   merging = record {
     all = refl;
@@ -508,6 +521,7 @@ stays : (catalog other : List Image) (source : Image) (pages : Pages) (copy : Co
 stays catalog other source pages copy holds was = record {
   count = was.count;
   whole = was.whole;
+  digested = was.digested;
   rest = was.rest;
   merging = record {
     all = was.merging.all;

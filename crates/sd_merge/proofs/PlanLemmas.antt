@@ -35,9 +35,9 @@ body_under_way slot header table = record {
 }
 
 -- few data pages, and a table
-pub is_body : (order : CopyOrder) (header : Header) (text : List ℕ) (tables : List Listed) (stored taking ahead len : ℕ) → header ≡ header_of order stored len
+pub is_body : (order : CopyOrder) (header : Header) (text : List ℕ) (tables : List Listed) (stored taking ahead len : ℕ) (digest : List ℕ) → header ≡ header_of order stored len digest
     → stored + taking + ahead ≤ 65536 → text ≡ table_text tables → IsBody header text
-is_body order header text tables stored taking ahead len is few same = record {
+is_body order header text tables stored taking ahead len digest is few same = record {
   few = subst (λ n. n ≤ 2 ^ 39) (sym (ap (λ (h : Header). h.pages) is)) (omega arith);
   some = subst (λ (t : List ℕ). 0 < length t) (sym same) (table_is_long tables);
 }

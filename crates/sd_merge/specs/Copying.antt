@@ -3,7 +3,11 @@ use Rattle.std.specs.Prelude.{◌≡◌, ◌≢◌, ◌⊎◌, ℕ, ◌+◌, ◌
 use Rattle.sd_image.specs.declared.header.Header.{Header}
 use Rattle.sd_image.specs.declared.header.Kind.TheVariants.{Merged}
 use Rattle.sd_image.specs.declared.run.RunKind.TheVariants.{Data, Zero}
-use Rattle.sd_image.specs.Header.{HasWords}
+use Rattle.sha2.specs.Sha256.{sha256}
+use Rattle.sd_image.specs.declared.digester.Digester.{Digester}
+use Rattle.sd_image.specs.declared.header.Version.TheVariants.{Two}
+use Rattle.sd_image.specs.Digests.{HasFed, fresh}
+use Rattle.sd_image.specs.Header.{HasWords, header_front}
 use Rattle.sd_image.specs.Table.{Listed, table_text}
 use Rattle.sd_chain.specs.declared.found.Found.{Found}
 use Rattle.sd_chain.specs.declared.found.Found.TheVariants as found
@@ -43,6 +47,8 @@ pub record Copying : Type 0 where
   pub taking : Option Place
   pub read : Option (List ℕ)
   pub stage : Stage
+  -- what was fed the data pages that were taken
+  pub digester : Digester
 
 -- it begins with the format of its slot, and has all pages ahead
 abbrev pub begun_copy : CopyOrder → Copying
@@ -53,6 +59,7 @@ begun_copy order = record {
   taking = None;
   read = None;
   stage = Format (begun order.slot (format_calls order.state) nothing);
+  digester = fresh;
 }
 
 -- the page that was taken last
@@ -132,16 +139,19 @@ pub record WritesPage (old : Copying) (request : Asked) (new : Copying) : Type 0
   pub read : old.read ≡ Some bytes
   pub next : Planned
   pub gives : Gives (begun old.order.slot ((Write (data_place (data_pages old.entries)), bytes) ∷ []) nothing) next request
+  pub digester : (fed : List ℕ) → HasFed old.digester fed → HasFed new.digester (fed ++ bytes)
   pub is : new ≡ record old {
     entries = old.entries ++ (record { place = at; kind = Data }) ∷ [];
     taking = None;
     read = None;
     stage = PageWrite next;
+    digester = new.digester;
   }
 
 -- the header of a merged image: it stands for what its source stands for, and has no parent
-abbrev pub header_of : CopyOrder → ℕ → ℕ → Header
-header_of order pages table_len = record {
+abbrev pub header_of : CopyOrder → ℕ → ℕ → List ℕ → Header
+header_of order pages table_len digest = record {
+  version = Two;
   kind = Merged;
   serial = order.serial;
   stands_for = order.source.stands_for;
@@ -149,6 +159,7 @@ header_of order pages table_len = record {
   checkpoint = order.source.checkpoint;
   pages = pages;
   table_len = table_len;
+  digest = digest;
 }
 
 -- the table is made of the source's areas and the pages that were taken, and its write is asked for
@@ -159,7 +170,8 @@ pub record WritesTable (places : Places) (old : Copying) (request : Asked) (new 
   pub there : place_of places old.order.source.serial ≡ Some (Some source)
   pub tables : List Listed
   pub header : Header
-  pub numbers : header ≡ header_of old.order (data_pages old.entries) (length (table_text tables))
+  pub numbers : header ≡ header_of old.order (data_pages old.entries) (length (table_text tables)) header.digest
+  pub digest : (fed : List ℕ) → HasFed old.digester fed → header.digest ≡ sha256 (fed ++ table_text tables ++ header_front header)
   pub words : HasWords header
   pub table : IsTableOf source.spaces old.entries tables
   pub next : Planned

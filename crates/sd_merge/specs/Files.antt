@@ -39,7 +39,7 @@ pub record HasItsNumbers (order : CopyOrder) (source : Image) : Type 0 where
 -- that were taken, and the areas of its source.
 pub record IsFiled (order : CopyOrder) (source : Image) (entries : List Entry) (pages : Pages) (header : Header) (tables : List Listed) : Type 0 where
   pub spelled : IsImage (file_of (image_of header pages tables)) (image_of header pages tables)
-  pub numbers : header ≡ header_of order (data_pages entries) (length (table_text tables))
+  pub numbers : header ≡ header_of order (data_pages entries) (length (table_text tables)) header.digest
   pub table : RepeatsTable source.spaces entries header tables
 
 abbrev pub IsFiledIn : Stage → CopyOrder → Image → List Entry → Pages → Type 0

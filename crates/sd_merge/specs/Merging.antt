@@ -1,7 +1,8 @@
 -- What a merged image in the making has of its source, through each of its steps.
 use Rattle.std.specs.Prelude.{◌≡◌, ℕ, ◌+◌, List, [], ◌∷◌, ◌++◌, length, map, replicate, Contains, slice_get, Option, Some}
-use Rattle.std.specs.List.{AllByRecursion}
+use Rattle.std.specs.List.{AllByRecursion, concat}
 use Rattle.sd_image.specs.declared.run.RunKind.TheVariants.{Data, Parent, Zero}
+use Rattle.sd_image.specs.Digests.{HasFed}
 use Rattle.sd_image.specs.Image.{Image}
 use Rattle.sd_image.specs.Laws.{SerialsDiffer}
 use Rattle.sd_image.specs.Shows.{Holds, IsRestorable}
@@ -62,6 +63,7 @@ IsOverIn (Close plan header tables) rest = rest ≡ []
 pub record KeepsCopy (catalog : List Image) (source : Image) (pages : Pages) (copy : Copying) : Type 0 where
   pub count : length pages ≡ data_pages copy.entries
   pub whole : AllByRecursion (λ page. length page ≡ 4096) pages
+  pub digested : HasFed copy.digester (concat pages)
   pub rest : List Place
   pub merging : IsMerging catalog source (listed_pages pages) copy.entries rest
   pub ahead : length rest ≡ is_taking copy.taking + copy.ahead

@@ -1,6 +1,8 @@
 //! One merged image in the making: its slot is formatted, the pages of its source are taken, and its gate is opened.
-ghost use Rattle.std.specs.Prelude.{◌≡◌, ◌≢◌, ◌↔◌, ◌<◌, ◌≤◌, ◌^◌, ◌∷◌, [], None, Some, Err, IsSome, IsNone, IsTrue, IfSome, IfOk, IfErr, OnOk, OnErr, MatchOption, length, true, false};
-ghost use Rattle.sd_image.specs.Header.{HasWords};
+ghost use Rattle.std.specs.Prelude.{◌≡◌, ◌≢◌, ◌↔◌, ◌<◌, ◌≤◌, ◌^◌, ◌∷◌, ◌++◌, ℕ, List, [], None, Some, Err, IsSome, IsNone, IsTrue, IfSome, IfOk, IfErr, OnOk, OnErr, MatchOption, length, true, false};
+ghost use Rattle.sha2.specs.Sha256.{sha256};
+ghost use Rattle.sd_image.specs.Digests.{HasFed};
+ghost use Rattle.sd_image.specs.Header.{HasWords, header_front};
 ghost use Rattle.sd_gate.specs.declared.call.Call.TheVariants.{Read};
 ghost use Rattle.sd_gate.specs.Calls.{is_done};
 ghost use Rattle.sd_gate.specs.Inspections.{nothing};
@@ -27,8 +29,8 @@ use crate::work_error::WorkError;
 use sd_areas::{PAGE_SIZE, PageNo, SpaceId};
 use sd_chain::{Catalog, Found, PlacedTable};
 use sd_gate::{Outcome, Plan, Request, RequestId, Settled, Worker};
-use sd_image::{Header, Kind, RunKind, encode_table, few_pages};
-use sd_rounds::NewImage;
+use sd_image::{Digester, Header, Kind, RunKind, Version, encode_table, few_pages};
+use sd_rounds::{NewImage, digest_page, with_digest};
 use std::alloc::{AllocError, Global};
 use std::marker::Model;
 use std::mem;
@@ -50,6 +52,8 @@ pub struct Copier {
     /// The buffer of the page before.
     spare: Vec<u8>,
     stage: Stage,
+    /// Was fed the data pages that were taken.
+    digester: Digester,
 }
 
 impl Model for Copier {
@@ -65,6 +69,7 @@ impl Model for Copier {
       taking = m.taking;
       read = option_map (λ b. page_of b.items) m.read;
       stage = m.stage;
+      digester = m.digester;
     } };
 
     ghost invariant = { λ m. IsCopying m.order.slot m.copies m.stored m.ahead m.taking
@@ -72,19 +77,25 @@ impl Model for Copier {
 }
 
 /// The header of a merged image: it stands for what its source stands for, and has no parent.
-fn merged_header(order: CopyOrder, pages: u64, table_len: u64) -> Header
-    ensures numbers { result ≡ header_of order pages table_len }
+/// Its data pages were digested, and its table has this text.
+fn merged_header(order: CopyOrder, pages: u64, digester: Digester, text: &[u8]) -> Header
+    ensures numbers { result ≡ header_of order pages (length text.now) result.digest }
+    ensures digest { (fed : List ℕ) → HasFed digester fed
+        → result.digest ≡ sha256 (fed ++ text.now ++ header_front result) }
     ensures words { HasWords result }
 {
-    Header {
+    let header = Header {
+        version: Version::Two,
         kind: Kind::Merged,
         serial: order.serial,
         stands_for: order.source.stands_for,
         parent: 0,
         checkpoint: order.source.checkpoint,
         pages,
-        table_len,
-    }
+        table_len: text.len() as u64,
+        digest: [0; 32],
+    };
+    with_digest(digester, text, header)
 }
 
 /// Whether a page is behind this one, or behind none.
@@ -135,6 +146,7 @@ impl Copier {
             read: None,
             spare: Vec::new(alloc),
             stage: Stage::Format(Plan::format(order.slot, order.state)),
+            digester: Digester::new(),
         }
     }
 
@@ -281,6 +293,7 @@ impl Copier {
         let Some(buffer) = self.read.take() else {
             unreachable!()
         };
+        digest_page(&mut self.digester, &buffer);
         let mut plan = Plan::write_page(self.order.slot, self.stored, buffer);
         let request = first_request(&mut plan, ticket);
         self.stored += 1;
@@ -304,7 +317,8 @@ impl Copier {
         };
         let table = self.copies.table(source.table())?;
         let text = encode_table(self.alloc, &table)?;
-        let header = merged_header(self.order, self.stored as u64, text.len() as u64);
+        let digester = self.digester.clone()?;
+        let header = merged_header(self.order, self.stored as u64, digester, &text);
         let table = PlacedTable::new(self.alloc, table)?;
         let mut plan = Plan::close_body(self.order.slot, header, text);
         let request = first_request(&mut plan, ticket);

@@ -1,5 +1,9 @@
-use Rattle.std.proofs.Common.{◌≡◌, ℕ, List, length, map, sym, ◌∙◌, ap, subst}
+use Rattle.std.proofs.Common.{◌≡◌, ℕ, List, ◌++◌, length, map, sym, ◌∙◌, ap, subst}
+use Rattle.sha2.specs.Sha256.{sha256}
+use Rattle.sd_image.specs.declared.digester.Digester.{Digester}
 use Rattle.sd_image.specs.declared.header.Header.{Header}
+use Rattle.sd_image.specs.Digests.{HasFed}
+use Rattle.sd_image.specs.Header.{header_front}
 use Rattle.sd_image.specs.Table.{Listed, listing_of, table_text}
 use Rattle.sd_chain.specs.Catalog.{place_of}
 use Rattle.sd_gate.specs.Inspections.{nothing}
@@ -15,12 +19,12 @@ use Rattle.sd_merge.proofs.copier.Copier.close.Goals as goal
 pub first_request-request-requires-clause-under_way : goal.first_request-request-requires-clause-under_way
 first_request-request-requires-clause-under_way c =
     closes_under_way _ _ _ _ (c.close_body-plan.ensures.body
-    (is_body c.self.inside.order c.merged_header-header.result c.in_ok-text.text.items _ c.self.inside.stored _ c.self.inside.ahead _ c.merged_header-header.ensures.numbers c.self.invariant.few c.in_ok-text.ensures.text))
+    (is_body c.self.inside.order c.merged_header-header.result c.in_ok-text.text.items _ c.self.inside.stored _ c.self.inside.ahead _ _ c.merged_header-header.ensures.numbers c.self.invariant.few c.in_ok-text.ensures.text))
 
 pub invariant_of-self : goal.invariant_of-self
 invariant_of-self c =
     let body : IsBody c.merged_header-header.result c.in_ok-text.text.items =
-    is_body c.self.inside.order c.merged_header-header.result c.in_ok-text.text.items _ c.self.inside.stored _ c.self.inside.ahead _ c.merged_header-header.ensures.numbers c.self.invariant.few c.in_ok-text.ensures.text in
+    is_body c.self.inside.order c.merged_header-header.result c.in_ok-text.text.items _ c.self.inside.stored _ c.self.inside.ahead _ _ c.merged_header-header.ensures.numbers c.self.invariant.few c.in_ok-text.ensures.text in
     record {
       counted = c.self.invariant.counted;
       few = c.self.invariant.few;
@@ -36,8 +40,9 @@ invariant_of-self c =
 pub returns-clause-table : goal.returns-clause-table
 returns-clause-table c =
     let body : IsBody c.merged_header-header.result c.in_ok-text.text.items =
-    is_body c.self.inside.order c.merged_header-header.result c.in_ok-text.text.items _ c.self.inside.stored _ c.self.inside.ahead _ c.merged_header-header.ensures.numbers c.self.invariant.few c.in_ok-text.ensures.text in
-    let text : c.in_ok-text.text.items ≡ table_text c.in_ok-table-2.table = c.in_ok-text.ensures.text ∙ ap table_text (sym c.in_ok-table-2.ensures) in (
+    is_body c.self.inside.order c.merged_header-header.result c.in_ok-text.text.items _ c.self.inside.stored _ c.self.inside.ahead _ _ c.merged_header-header.ensures.numbers c.self.invariant.few c.in_ok-text.ensures.text in
+    let text : c.in_ok-text.text.items ≡ table_text c.in_ok-table-2.table = c.in_ok-text.ensures.text ∙ ap table_text (sym c.in_ok-table-2.ensures) in
+    let digest : List ℕ = c.merged_header-header.result.digest in (
       record {
         stage = c.requires.stage;
         free = c.requires.free;
@@ -46,9 +51,12 @@ returns-clause-table c =
         tables = c.in_ok-table-2.table;
         header = c.merged_header-header.result;
         numbers = c.merged_header-header.ensures.numbers
-            ∙ ap (header_of c.self.inside.order c.self.inside.stored) (c.len.ensures ∙ c.in_ok-text.text.ok.0 ∙ ap (λ (t : List ℕ). length t) text)
-            ∙ ap (λ n. header_of c.self.inside.order n (length (table_text c.in_ok-table-2.table))) c.self.invariant.counted
-            ∙ ap (λ (m : Copying). header_of m.order (data_pages m.entries) (length (table_text c.in_ok-table-2.table))) c.self.view_is;
+            ∙ ap (λ (t : List ℕ). header_of c.self.inside.order c.self.inside.stored (length t) digest) (c.deref.ensures.value ∙ text)
+            ∙ ap (λ n. header_of c.self.inside.order n (length (table_text c.in_ok-table-2.table)) digest) c.self.invariant.counted
+            ∙ ap (λ (m : Copying). header_of m.order (data_pages m.entries) (length (table_text c.in_ok-table-2.table)) digest) c.self.view_is;
+        digest = λ fed has.
+            c.merged_header-header.ensures.digest fed (subst (λ (d : Digester). HasFed d fed) (ap (λ (m : Copying). m.digester) (sym c.self.view_is) ∙ sym c.in_ok-digester.ensures.cases) has)
+            ∙ ap (λ (t : List ℕ). sha256 (fed ++ t ++ header_front c.merged_header-header.result)) (c.deref.ensures.value ∙ text);
         words = c.merged_header-header.ensures.words;
         table = subst (λ (l : List Listed). IsTableOf c.in-Some.source.now.spaces c.args.self.now.entries l) (sym c.in_ok-table-2.ensures)
             (subst (λ (m : Copying). IsTableOf c.in-Some.source.now.spaces m.entries (map listing_of c.in_ok-table.table.spaces.items)) c.self.view_is
