@@ -160,7 +160,7 @@ writes_page_lem quiet commutes bodies_fill follows making old new running image 
     let slot = image.order.slot in
     let lanes = lanes_of asked in
     let asked_now = slice_set asked (page_lane lane) (Some request) in
-    let later : Making = record image { pass = next.pass; stage = PassStage; writes = slice_set image.writes lane (Some request.id) } in
+    let later : Making = record image { pass = next.pass; stage = PassStage; writes = slice_set image.writes lane (Some request.id); digester = next.digester } in
     let is : next ≡ later = whole_image next image.order next.pass PassStage (slice_set image.writes lane (Some request.id)) writes_it.order refl writes_it.still writes_it.writes in
     let chain = chain_of b.store running.parent in
     let pages : Pages = m0.pages ++ request.bytes ∷ [] in
@@ -219,11 +219,11 @@ writes_page_lem quiet commutes bodies_fill follows making old new running image 
     })
   where
     whole_image : (n : Making) (order : ImageOrder) (pass : Pass) (st : Stage) (own : List (Option RequestId)) → n.order ≡ order → n.pass ≡ pass → n.stage ≡ st → n.writes ≡ own
-        → n ≡ record { order = order; pass = pass; stage = st; writes = own }
-    whole_image n order pass st own a p t w = ap (λ o. record { order = o; pass = n.pass; stage = n.stage; writes = n.writes }) a
-        ∙ ap (λ o. record { order = order; pass = o; stage = n.stage; writes = n.writes }) p
-        ∙ ap (λ o. record { order = order; pass = pass; stage = o; writes = n.writes }) t
-        ∙ ap (λ o. record { order = order; pass = pass; stage = st; writes = o }) w
+        → n ≡ record { order = order; pass = pass; stage = st; writes = own; digester = n.digester }
+    whole_image n order pass st own a p t w = ap (λ o. record { order = o; pass = n.pass; stage = n.stage; writes = n.writes; digester = n.digester }) a
+        ∙ ap (λ o. record { order = order; pass = o; stage = n.stage; writes = n.writes; digester = n.digester }) p
+        ∙ ap (λ o. record { order = order; pass = pass; stage = o; writes = n.writes; digester = n.digester }) t
+        ∙ ap (λ o. record { order = order; pass = pass; stage = st; writes = o; digester = n.digester }) w
 
     -- what is being written is another page
     other_page : ArePagesOf image.order.slot (lanes_of asked) → IsOther request (lanes_of asked)

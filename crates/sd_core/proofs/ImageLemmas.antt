@@ -12,6 +12,7 @@ use Rattle.sd_journal.specs.Marked.{Marked, Noted, Told, last_visit}
 use Rattle.sd_pagetable.specs.Contents.{Contents}
 use Rattle.sd_rounds.specs.declared.copied.Copied.{Copied}
 use Rattle.sd_rounds.specs.declared.visit.Visit.{Visit as PageVisit}
+use Rattle.sd_image.specs.declared.digester.Digester.{Digester}
 use Rattle.sd_rounds.specs.declared.image_order.ImageOrder.{ImageOrder}
 use Rattle.sd_rounds.specs.declared.stage.Stage.{Stage}
 use Rattle.sd_rounds.specs.declared.stage.Stage.TheVariants.{Format, Freeze as FreezeStage, Pass as PassStage, Close}
@@ -30,10 +31,10 @@ pub record IsTurned (items : Marked) (places : Places) (numbers : Numbers) (imag
   pub out_is : out_of next.stage ≡ out
   pub slot : IfSome out (λ id. id.slot ≡ image.order.slot)
 
-turn : (items now : Marked) (places after : Places) (old new : Numbers) (image : Making) (pass : Pass) (stage : Stage) (writes : List (Option RequestId)) → SameNumbers old new
+turn : (items now : Marked) (places after : Places) (old new : Numbers) (image : Making) (pass : Pass) (stage : Stage) (writes : List (Option RequestId)) (digester : Digester) → SameNumbers old new
     → IsImageOf items places old image → IsHeld after image.order.serial → IsStageOf image.order stage → IsVisitingIn now image.order.serial pass stage
-    → IsImageOf now after new (record { order = image.order; pass = pass; stage = stage; writes = writes })
-turn items now places after old new image pass stage writes same is held at visits = record {
+    → IsImageOf now after new (record { order = image.order; pass = pass; stage = stage; writes = writes; digester = digester })
+turn items now places after old new image pass stage writes digester same is held at visits = record {
   given = (let given = is.given in let more = same.given in omega (arith, given, more));
   held = held;
   stage = at;
@@ -44,7 +45,7 @@ turn items now places after old new image pass stage writes same is held at visi
 pub image_asked : (items : Marked) (places : Places) (old new : Numbers) (image next : Making) (request : Asked) → SameNumbers old new
     → IsImageOf items places old image → Asks image request next → IsTurned items places new image next (Some request.id)
 image_asked items places old new image next request same is asks = subst (λ m. IsTurned items places new image m (Some request.id)) (sym asks.is) (record {
-  image_is = turn items items places places old new image image.pass (with_plan image.stage asks.next) image.writes same is is.held asked.stage_is
+  image_is = turn items items places places old new image image.pass (with_plan image.stage asks.next) image.writes image.digester same is is.held asked.stage_is
       (visiting_asked items image.order.serial image.pass image.stage asks.next is.visiting_in);
   order = refl;
   still = ap (λ b. (kind_number image.order.kind == 2) && b) (frozen_asked image.stage asks.next);
@@ -64,7 +65,7 @@ passing items places numbers image is stage = subst (λ s. IsVisitingIn items im
 pub image_page : (items : Marked) (places : Places) (old new : Numbers) (image next : Making) (lane : ℕ) (request : Asked) → SameNumbers old new
     → IsImageOf items places old image → WritesPage image lane request next → IsTurned items places new image next None
 image_page items places old new image next lane request same is writes = subst (λ m. IsTurned items places new image m None) (sym whole) (record {
-  image_is = turn items items places places old new image next.pass PassStage next.writes same is is.held tt
+  image_is = turn items items places places old new image next.pass PassStage next.writes next.digester same is is.held tt
       (record { started = cursor.started; cursor = cursor.cursor ∙ sym (ap (λ (p : Pass). p.after) writes.taken.is) });
   order = refl;
   still = ap (λ s. (kind_number image.order.kind == 2) && is_past_freeze s) (sym writes.stage);
@@ -75,16 +76,16 @@ image_page items places old new image next lane request same is writes = subst (
     cursor : IsVisiting items image.order.serial image.pass
     cursor = passing items places old image is writes.stage
 
-    whole : next ≡ record { order = image.order; pass = next.pass; stage = PassStage; writes = next.writes }
-    whole = ap (λ o. record { order = o; pass = next.pass; stage = next.stage; writes = next.writes }) writes.order
-        ∙ ap (λ s. record { order = image.order; pass = next.pass; stage = s; writes = next.writes }) writes.still
+    whole : next ≡ record { order = image.order; pass = next.pass; stage = PassStage; writes = next.writes; digester = next.digester }
+    whole = ap (λ o. record { order = o; pass = next.pass; stage = next.stage; writes = next.writes; digester = next.digester }) writes.order
+        ∙ ap (λ s. record { order = image.order; pass = next.pass; stage = s; writes = next.writes; digester = next.digester }) writes.still
 
 -- the first call that writes the table: the image's visits are over
 pub image_table : (items : Marked) (places : Places) (old new : Numbers) (image next : Making) (memory : Contents) (request : Asked) → SameNumbers old new
     → IsImageOf items places old image → WritesTable image memory request next → IsTurned (Noted (Table image.order.serial) ∷ items) places new image next (Some request.id)
 image_table items places old new image next memory request same is writes =
     subst (λ m. IsTurned (Noted (Table image.order.serial) ∷ items) places new image m (Some request.id)) (sym writes.is) (record {
-      image_is = turn items (Noted (Table image.order.serial) ∷ items) places places old new image image.pass (Close writes.next writes.header writes.tables) image.writes same is is.held (
+      image_is = turn items (Noted (Table image.order.serial) ∷ items) places places old new image image.pass (Close writes.next writes.header writes.tables) image.writes image.digester same is is.held (
         writes.gives.same_slot,
         record {
           kind = ap (λ h. h.kind) writes.numbers;
@@ -104,7 +105,7 @@ pub image_visited : (items : Marked) (places : Places) (numbers : Numbers) (imag
     → IsImageOf items places numbers image → Visits image before visit next after
     → IsTurned (Noted (Visit image.order.serial visit.space visit.page) ∷ items) places numbers image next None
 image_visited items places numbers image next before after visit is visits = subst (λ m. IsTurned (Noted (Visit image.order.serial visit.space visit.page) ∷ items) places numbers image m None) (sym visits.passes.1) (record {
-  image_is = turn items (Noted (Visit image.order.serial visit.space visit.page) ∷ items) places places numbers numbers image next.pass image.stage image.writes (same_numbers numbers) is is.held is.stage
+  image_is = turn items (Noted (Visit image.order.serial visit.space visit.page) ∷ items) places places numbers numbers image next.pass image.stage image.writes image.digester (same_numbers numbers) is is.held is.stage
       (subst (λ s. IsVisitingIn (Noted (Visit image.order.serial visit.space visit.page) ∷ items) image.order.serial next.pass s) (sym visits.passes.0) (record {
         started = cursor.started;
         cursor = ap (λ b. if b then Some (visit.space, visit.page) else last_visit items image.order.serial) (eq-eqb image.order.serial image.order.serial refl)
@@ -123,7 +124,7 @@ image_visited items places numbers image next before after visit is visits = sub
 pub image_copied : (items : Marked) (places : Places) (numbers : Numbers) (image next : Making) (memory : Contents) (copied : Copied)
     → IsImageOf items places numbers image → CopiesSector image memory copied next → IsTurned items places numbers image next None
 image_copied items places numbers image next memory copied is copies = subst (λ m. IsTurned items places numbers image m None) (sym copies.passes.1) (record {
-  image_is = turn items items places places numbers numbers image next.pass image.stage image.writes (same_numbers numbers) is is.held is.stage
+  image_is = turn items items places places numbers numbers image next.pass image.stage image.writes image.digester (same_numbers numbers) is is.held is.stage
       (subst (λ s. IsVisitingIn items image.order.serial next.pass s) (sym copies.passes.0)
       (record { started = cursor.started; cursor = cursor.cursor ∙ sym (copied_after image.pass next.pass memory copied copies.copies) }));
   order = refl;
@@ -140,7 +141,7 @@ plan_more : (items : Marked) (places after : Places) (numbers : Numbers) (image 
     → IsImageOf items places numbers image → IsHeld after image.order.serial → GoesOn image made next → IsTurned items after numbers image next None
 plan_more items places after numbers image next made is held goes = subst (λ m. IsTurned items after numbers image m None) (sym goes.is) (record {
   image_is = turn items items places after numbers numbers image image.pass
-      (stage_after image.order.kind image.stage (plan_after goes.plan made) (plan_after goes.plan made).calls) image.writes (same_numbers numbers) is held
+      (stage_after image.order.kind image.stage (plan_after goes.plan made) (plan_after goes.plan made).calls) image.writes image.digester (same_numbers numbers) is held
       (on.stage_is is.stage) (on.visiting_in is.visiting_in);
   order = refl;
   still = on.frozen;
@@ -155,7 +156,7 @@ plan_more items places after numbers image next made is held goes = subst (λ m.
 page_more : (items : Marked) (places after : Places) (numbers : Numbers) (image next : Making) (made : Made)
     → IsImageOf items places numbers image → IsHeld after image.order.serial → IsWritten image made next → IsTurned items after numbers image next None
 page_more items places after numbers image next made is held written = subst (λ m. IsTurned items after numbers image m None) (sym written.is) (record {
-  image_is = turn items items places after numbers numbers image image.pass image.stage (slice_set image.writes written.lane None) (same_numbers numbers) is held is.stage is.visiting_in;
+  image_is = turn items items places after numbers numbers image image.pass image.stage (slice_set image.writes written.lane None) image.digester (same_numbers numbers) is held is.stage is.visiting_in;
   order = refl;
   still = refl;
   out_is = passes image.stage written.passing;
@@ -184,7 +185,7 @@ pub image_frozen : (items : Marked) (places : Places) (numbers : Numbers) (image
     → IsFrozenNext items places numbers image next
 image_frozen items places numbers image next is f = subst (IsFrozenNext items places numbers image) (sym f.is) (record {
   order = refl;
-  image_is = turn items (Told (Freeze numbers.begun) ∷ items) places places numbers numbers image image.pass PassStage image.writes (same_numbers numbers) is is.held tt
+  image_is = turn items (Told (Freeze numbers.begun) ∷ items) places places numbers numbers image image.pass PassStage image.writes image.digester (same_numbers numbers) is is.held tt
       (record { started = cursor.started; cursor = cursor.cursor });
   out_is = refl;
 })
