@@ -1,5 +1,5 @@
 -- The order of a catalog's places, kept by its changes.
-use Rattle.std.proofs.Common.{◌≡◌, ◌+◌, ℕ, zero, suc, Bool, true, false, cond, nat_eq, not, [], ◌∷◌, filter, slice_index_or, Option, Some, None, refl, sym, ◌∙◌, ap, subst, arith, inl, inr}
+use Rattle.std.proofs.Common.{◌≡◌, ◌+◌, ℕ, zero, suc, Bool, true, false, cond, nat_eq, not, [], ◌∷◌, filter, slice_index_or, Option, Some, None, Result, Ok, Err, OnOk, OnErr, refl, sym, ◌∙◌, ap, subst, arith, inl, inr}
 use Rattle.std.specs.List.{IsDistinct}
 use Rattle.std.specs.List.Sorted.{IsSorted, IsSortedByKey}
 use Rattle.std.specs.Map.{lookup, keys_of}
@@ -50,6 +50,18 @@ order_changed old new serial place was distinct sorted changes own = record {
         let is : place ≡ Some i = cc in
         own i is ∙ eqb-true serial other t
     by other i false t e = was.own other i (ap (λ b. cond b (Some place) (place_of old other)) (sym t) ∙ e)
+
+-- an image was put at its serial, or nothing changed: each image still stands at its own
+pub own_kept : {A E : Type 0} (r : Result A E) (P : Type 0) (old new : Places) (serial : ℕ) (added : Opened) → AreInOrder old → (P → Changes old new serial (Some (Some added)))
+    → OnOk r P → OnErr r (new ≡ old) → added.header.serial ≡ serial → (other : ℕ) (i : Opened) → place_of new other ≡ Some (Some i) → i.header.serial ≡ other
+own_kept (Ok x) P old new serial added was changes put same at other i e = by (nat_eq serial other) refl (sym (changes put other) ∙ e)
+  where
+    by : (b : Bool) → nat_eq serial other ≡ b → cond b (Some (Some added)) (place_of old other) ≡ Some (Some i) → i.header.serial ≡ other
+    by true t e =
+        let is : added ≡ i = cc in
+        ap (λ (i : Opened). i.header.serial) (sym is) ∙ at ∙ eqb-true serial other t
+    by false t e = was.own other i e
+own_kept (Err x) P old new serial added was changes put same at other i e = was.own other i (subst (λ places. place_of places other ≡ Some (Some i)) same e)
 
 filtered : (p : ℕ × Option Opened → Bool) (es : Places) → AreInOrder es
     → ((serial : ℕ) (i : Opened) → lookup (nat_eq serial) (filter p es) ≡ Some (Some i) → lookup (nat_eq serial) es ≡ Some (Some i))

@@ -1,5 +1,5 @@
 -- The file of an open slot is the image that was read from it.
-use Rattle.std.proofs.Common.{◌≡◌, ◌<◌, ◌≤◌, ◌+◌, ◌-◌, ◌*◌, ℕ, Bool, true, false, nat_eq, ◌&&◌, List, [], ◌∷◌, ◌++◌, map, drop, take, length, Ok, Err, refl, sym, ◌∙◌, ap, arith, inl, inr}
+use Rattle.std.proofs.Common.{◌≡◌, ◌<◌, ◌≤◌, ◌+◌, ◌-◌, ◌*◌, ℕ, Bool, true, false, nat_eq, ◌&&◌, List, [], ◌∷◌, ◌++◌, map, drop, take, length, Ok, Err, refl, sym, ◌∙◌, ap, subst, arith, inl, inr}
 use Rattle.std.specs.Prelude.{slice_range, slice_index, nat_le}
 use Rattle.std.proofs.lemmas.Bool.{le-leb, lt-leb, ne_eqb}
 use Rattle.sd_image.specs.Header.{header_text, IsHeader}
@@ -13,7 +13,7 @@ use Rattle.sd_image.specs.Reading.{header_in, table_in}
 use Rattle.sd_image.specs.ReasonLaws.{GoodHeaderHasNoReason}
 use Rattle.sd_restore.specs.declared.decoded.Decoded.{Decoded}
 use Rattle.sd_restore.specs.Faulty.{IsFaulty}
-use Rattle.sd_restore.specs.Reading.{HasHeader, IsDecodedAs, table_bytes}
+use Rattle.sd_restore.specs.Reading.{HasDigestOf, HasHeader, IsDecodedAs, table_bytes}
 use Rattle.sd_restore.proofs.TakeLemmas.{taken_all}
 
 index_of_first : (file : List ℕ) → slice_index (slice_range file 0 4096) 0 ≡ slice_index file 0
@@ -31,8 +31,14 @@ has_header file h gate spelled is =
       is = is;
     }
 
+-- so is one whose first bytes were read, and this header in them
+pub read_header : (file : List ℕ) (h : Header) (bytes : List ℕ) (len : ℕ) → bytes ≡ slice_range file 0 4096 → len ≡ length file → slice_index bytes 0 ≡ 165
+    → (drop 1 bytes ≡ header_text h) × IsHeader h len → HasHeader file h
+read_header file h bytes len are long gate found =
+    has_header file h (subst (λ xs. slice_index xs 0 ≡ 165) are gate) (ap (drop 1) (sym are) ∙ found.0) (subst (IsHeader h) long found.1)
+
 -- the table is all that stands behind the data pages
-table_is_rest : (file : List ℕ) (h : Header) → IsHeader h (length file) → table_bytes h file ≡ drop (4096 + 4096 * h.pages) file
+pub table_is_rest : (file : List ℕ) (h : Header) → IsHeader h (length file) → table_bytes h file ≡ drop (4096 + 4096 * h.pages) file
 table_is_rest file h is =
     let place : ℕ = 4096 + 4096 * h.pages in
     let count : place + h.table_len - place ≡ h.table_len = omega arith in
@@ -41,17 +47,22 @@ table_is_rest file h is =
 -- such a file is the image that its header and its table say
 pub is_decoded : FileIsImage → (file : List ℕ) (decoded : Decoded) → HasHeader file decoded.header
     → table_bytes decoded.header file ≡ table_text (map listing_of decoded.table.spaces.items) → IsTable decoded.header (map listing_of decoded.table.spaces.items)
-    → IsDecodedAs file decoded
-is_decoded law file decoded has spelled table =
-    let image = law file decoded.header (map listing_of decoded.table.spaces.items) has.opens has.spelled has.is (sym (table_is_rest file decoded.header has.is) ∙ spelled) table in
+    → HasDigestOf file decoded.header → IsDecodedAs file decoded
+is_decoded law file decoded has spelled table digest =
+    let image = law file decoded.header (map listing_of decoded.table.spaces.items) has.opens has.spelled has.is (sym (table_is_rest file decoded.header has.is) ∙ spelled) table digest in
     record { opens = has.opens; image = image.0; spelled = image.1; header = image.2; spaces = image.3 }
+
+-- its header is read in it
+pub header_read : GoodHeaderHasNoReason → (file : List ℕ) (h : Header) → HasHeader file h → header_in (slice_range file 0 4096) (length file) ≡ Ok h
+header_read law file h has =
+    let long : 4096 ≤ length file = omega (arith, has.is.fills) in
+    law (slice_range file 0 4096) (length file) h (length-take-le 4096 file long) has.spelled has.is
 
 -- and where its table breaks a rule, so does it
 pub table_is_faulty : GoodHeaderHasNoReason → (file : List ℕ) (h : Header) (reason : Reason) → HasHeader file h → table_in h (table_bytes h file) ≡ Err reason
     → IsFaulty file reason
 table_is_faulty law file h reason has breaks =
-    let long : 4096 ≤ length file = omega (arith, has.is.fills) in
-    let read : header_in (slice_range file 0 4096) (length file) ≡ Ok h = law (slice_range file 0 4096) (length file) h (length-take-le 4096 file long) has.spelled has.is in
+    let read : header_in (slice_range file 0 4096) (length file) ≡ Ok h = header_read law file h has in
     let table : table_in h (drop (4096 + 4096 * h.pages) file) ≡ Err reason = ap (table_in h) (sym (table_is_rest file h has.is)) ∙ breaks in
     record { opens = has.opens; breaks = rw (read, table) refl }
 

@@ -1,5 +1,6 @@
 pub mod TakeLemmas
 pub mod FileLemmas
+pub mod DigestLemmas
 pub mod ScanLemmas
 pub mod GoodLemmas
 pub mod MappedLemmas

@@ -1,12 +1,28 @@
 -- How many calls of the device a store is read with.
-use Rattle.std.specs.Prelude.{ℕ, ◌≤◌, nat_lt, if◌then◌else◌, List, length, sum_by}
+use Rattle.std.specs.Prelude.{ℕ, ◌+◌, ◌≤◌, nat_lt, if◌then◌else◌, List, Result, Ok, Err, length, slice_range, sum_by}
+use Rattle.sd_image.specs.declared.header.Header.{Header}
+use Rattle.sd_image.specs.declared.header.Version.{Version}
+use Rattle.sd_image.specs.declared.header.Version.TheVariants.{One, Two}
+use Rattle.sd_image.specs.declared.reason.Reason.{Reason}
 use Rattle.sd_image.specs.Image.{Image, is_open}
+use Rattle.sd_image.specs.Reading.{header_in}
 use Rattle.sd_image.specs.Shows.{IsStore, IsTip}
 use Rattle.sd_restore.specs.Mapped.{mapped_pages}
 
--- a slot: its length; its first bytes, where the file is as long as a header; its table, where the slot is open
+-- of so many data pages, those that are read for the digest of an image of this version
+abbrev pub pages_digested : Version → ℕ → ℕ
+pages_digested One pages = 0
+pages_digested Two pages = pages
+
+abbrev pub digest_calls : Result Header Reason → ℕ
+digest_calls (Ok h) = pages_digested h.version h.pages
+digest_calls (Err reason) = 0
+
+-- a slot: its length; its first bytes, where the file is as long as a header; where the slot is open, its table, and in version 2 its data
+-- pages
 abbrev pub calls_for : List ℕ → ℕ
-calls_for file = if nat_lt (length file) 4096 then 1 else (if is_open file then 3 else 2)
+calls_for file =
+    if nat_lt (length file) 4096 then 1 else (if is_open file then 3 + digest_calls (header_in (slice_range file 0 4096) (length file)) else 2)
 
 -- all slots
 abbrev pub scan_calls : List (List ℕ) → ℕ

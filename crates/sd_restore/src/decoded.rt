@@ -1,8 +1,10 @@
 //! What a slot says of its image.
-ghost use Rattle.std.specs.Prelude.{◌≡◌, ◌≢◌, List, ℕ, IfOk, IfErr};
+ghost use Rattle.std.specs.Prelude.{◌≡◌, ◌≢◌, List, ℕ, Ok, map, IfOk, IfErr};
 ghost use Rattle.sd_image.specs.Header.{IsHeader};
+ghost use Rattle.sd_image.specs.Reading.{table_in};
+ghost use Rattle.sd_image.specs.Table.{listing_of};
 ghost use Rattle.sd_restore.specs.Faulty.{Names, IsFaulty};
-ghost use Rattle.sd_restore.specs.Reading.{HasHeader, IsDecodedAs, IsSound, table_bytes};
+ghost use Rattle.sd_restore.specs.Reading.{HasDigestOf, HasHeader, IsDecodedAs, IsSound, table_bytes};
 
 use crate::fault::Fault;
 use sd_image::{Header, Table, TableError, decode_table, file_is_image, good_header_has_no_reason};
@@ -15,7 +17,8 @@ pub struct Decoded {
     pub table: Table,
 }
 
-/// What an open slot says of its image, from its header and from the bytes of its table, which were read already.
+/// What an open slot says of its image, from its header and from the bytes of its table, which were read already. It
+/// sees no data page, so it checks no digest.
 ///
 /// # Errors
 ///
@@ -27,12 +30,15 @@ pub fn decode_slot(
     header: Header,
     table: &[u8],
 ) -> Result<Decoded, Fault>
-    // Where they are those of an open file, that file is an image, and this is what it says; or it is faulty.
+    // Where they are those of an open file, that file is an image if its digest is right, and this is what it says; or
+    // it is faulty, whatever its digest is.
     ensures decoded { (file : List ℕ) → HasHeader file header → table.now ≡ table_bytes header file
-        → IfOk result (IsDecodedAs file) }
+        → HasDigestOf file header → IfOk result (IsDecodedAs file) }
     ensures faulty { (file : List ℕ) → HasHeader file header → table.now ≡ table_bytes header file
         → IfErr result (Names (λ s reason. (s ≡ slot) × IsFaulty file reason)) }
-    // Also of a device that lies.
+    // What is read is what the bytes spell, also of a device that lies.
+    ensures read { IfOk result
+        (λ decoded. table_in header table.now ≡ Ok (map listing_of decoded.table.spaces.items)) }
     ensures sound { (len : ℕ) → IsHeader header len → IfOk result IsSound }
     ensures empty { result ≢ Err Fault.EmptyChain }
     ensures device { result ≢ Err Fault.Device }

@@ -4,6 +4,7 @@
 mod chain;
 mod decoded;
 mod device;
+mod digests;
 mod fault;
 mod laws;
 mod pages;
@@ -18,7 +19,10 @@ mod verifying;
 
 pub use decoded::{Decoded, decode_slot};
 pub use fault::Fault;
-pub use laws::shown_is_within_limits;
+pub use laws::{
+    closed_is_rightly_digested, image_is_rightly_digested, shown_is_within_limits,
+    store_is_rightly_digested,
+};
 pub use placed_run::PlacedRun;
 pub use placing::{PlacedMemory, place_newest, read_placed, read_placed_pages};
 pub use report::Report;

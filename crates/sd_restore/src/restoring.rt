@@ -71,13 +71,13 @@ pub fn restore_from<D: Disk>(
 }
 
 /// The memory that a store shows: that of its newest dump or merged image. It only reads: the header and the table of
-/// each open slot once, and each data page of the result once. Its time grows with the pages, and with the images that
-/// it passes for pages that lie in parents.
+/// each open slot once, each data page of an image of version 2 for its digest, and then each data page of the result
+/// once. Its time grows with the pages, and with the images that it passes for pages that lie in parents.
 ///
 /// # Errors
 ///
-/// `EmptyChain` where no dump and no merged image stands in an open slot. `Damaged` names the first slot whose header
-/// or table is faulty; or else the least slot whose serial stands in an earlier open one; or else, of the newest
+/// `EmptyChain` where no dump and no merged image stands in an open slot. `Damaged` names the first slot whose header,
+/// table or digest is faulty; or else the least slot whose serial stands in an earlier open one; or else, of the newest
 /// image's pages, rising by space and page, the first whose chain breaks, by the slot of the image that has the page in
 /// its parent. `Device` and `OutOfMemory` end it at once.
 pub fn restore<D: Disk>(alloc: Global, disk: &mut D) -> Result<Snapshot, Fault>

@@ -1,4 +1,4 @@
-//! Reading one slot: its gate, its header and its table.
+//! Reading one slot: its gate, its header, its table and its digest.
 ghost use Rattle.std.specs.Prelude.{◌≡◌, ◌≢◌, ◌+◌, ◌*◌, ◌<◌, ◌≤◌, ◌^◌, List, ℕ, length, map, drop, Some, IfOk, IfSome, IfErr, IsErrOf, slice_range};
 ghost use Rattle.sd_disk.specs.Contents.{file_at};
 ghost use Rattle.sd_disk.specs.Reads.{OnlyReads};
@@ -11,6 +11,7 @@ ghost use Rattle.sd_restore.specs.Reading.{IsReading, IsSound, table_bytes};
 
 use crate::decoded::{Decoded, decode_slot};
 use crate::device::{file_len, read_file};
+use crate::digests::check_digest;
 use crate::fault::Fault;
 use sd_areas::PAGE_SIZE;
 use sd_disk::{DeviceError, Disk};
@@ -70,7 +71,7 @@ fn read_table<D: Disk>(
     Ok(bytes)
 }
 
-/// Reads a slot: what it says of its image, or none where it is closed.
+/// Reads a slot: what it says of its image, whose digest it checks, or none where it is closed.
 pub fn read_slot<D: Disk>(
     alloc: Global,
     disk: &mut D,
@@ -100,5 +101,7 @@ pub fn read_slot<D: Disk>(
     }
     let header = header_of(slot, &bytes, len)?;
     let table = read_table(alloc, disk, slot, &header)?;
-    Ok(Some(decode_slot(alloc, slot, header, &table)?))
+    let decoded = decode_slot(alloc, slot, header, &table)?;
+    check_digest(alloc, disk, slot, &header, &table)?;
+    Ok(Some(decoded))
 }

@@ -98,11 +98,12 @@ pub fn scan_store<D: Disk>(alloc: Global, disk: &mut D) -> Result<Scanned, Fault
     Ok(scanned)
 }
 
-/// The catalog of a store: exactly its open images. It only reads, the header and the table of each open slot once.
+/// The catalog of a store: exactly its open images. It only reads: the header and the table of each open slot once, and
+/// each data page of an image of version 2, for its digest.
 ///
 /// # Errors
 ///
-/// `Damaged` names the first slot whose header or table is faulty, with its reason, or else the least slot whose
+/// `Damaged` names the first slot whose header, table or digest is faulty, with its reason, or else the least slot whose
 /// serial stands in an earlier open one. `Device` and `OutOfMemory` end the scan at once.
 pub fn scan<D: Disk>(alloc: Global, disk: &mut D) -> Result<Catalog, Fault>
     ensures catalog { D.is_honest disk.new → IfOk result (IsCatalogOf (D.contents disk.old)) }

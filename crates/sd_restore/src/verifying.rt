@@ -60,8 +60,8 @@ pub fn newest_checkpoint(catalog: &Catalog) -> Option<u64>
     Some(tip.header().checkpoint)
 }
 
-/// Makes the checks of a restore, and reads no data page: the checkpoint that the store shows, and how many slots are
-/// open.
+/// Makes the checks of a restore, and reads no data page but those of images of version 2, for their digests: the
+/// checkpoint that the store shows, and how many slots are open.
 ///
 /// # Errors
 ///

@@ -7,8 +7,8 @@ use Rattle.sd_restore.proofs.FileLemmas.{is_decoded, table_is_faulty}
 use Rattle.sd_restore.proofs.decoded.decode_slot.Goals as goal
 
 pub returns-in-Ok-clause-decoded : goal.returns-in-Ok-clause-decoded
-returns-in-Ok-clause-decoded c = λ file has is.
-    is_decoded c.file_is_image.ensures file (record { header = c.args.header; table = c.in-Ok.table }) has (sym is ∙ c.in-Ok.ensures.found.0) c.in-Ok.ensures.found.1
+returns-in-Ok-clause-decoded c = λ file has is digest.
+    is_decoded c.file_is_image.ensures file (record { header = c.args.header; table = c.in-Ok.table }) has (sym is ∙ c.in-Ok.ensures.found.0) c.in-Ok.ensures.found.1 digest
 
 pub returns-in-Err-Damaged-clause-faulty : goal.returns-in-Err-Damaged-clause-faulty
 returns-in-Err-Damaged-clause-faulty c = λ file has is.

@@ -1,7 +1,19 @@
-use Rattle.std.proofs.Common.{rules, Some, subst}
+use Rattle.std.proofs.Common.{rules, Some, nat_eq, subst}
+use Rattle.indexmap.specs.IndexMap.{Updates}
 use Rattle.sd_chain.specs.Catalog.{AreInOrder, Changes}
 use Rattle.sd_chain.proofs.Members.{no_others}
+use Rattle.sd_chain.proofs.Places.{own_kept}
 use Rattle.sd_chain.proofs.catalog.Catalog.add.Goals as goal
+
+pub invariant_of-self-2 : goal.invariant_of-self-2
+invariant_of-self-2 c = record {
+  distinct = search rules;
+  sorted = search rules;
+  own = own_kept c.insert_sorted.result
+      (Updates nat_eq c.self.inside.places c.insert_sorted.new.self c.args.header.serial (Some (Some c.new-image.result)))
+      c.self.inside.places.entries c.insert_sorted.new.self.entries c.args.header.serial c.new-image.result c.self.invariant
+      (λ updates. updates.0) c.insert_sorted.ensures.updates c.insert_sorted.ensures.err (search rules);
+}
 
 pub returns-clause-no_others : goal.returns-clause-no_others
 returns-clause-no_others c =
