@@ -14,6 +14,7 @@ use Rattle.sd_gate.specs.Plans.{Planned, begun, calls_after, plan_after, settled
 use Rattle.sd_gate.specs.Requests.{Asked, Made}
 use Rattle.sd_gate.specs.Sequences.{Calls, first_looks}
 use Rattle.sd_restore.specs.Faulty.{IsFaulty}
+use Rattle.sd_restore.specs.Reading.{AreRightlyDigested}
 use Rattle.sd_restore.specs.Scanned.{IsScanned}
 use Rattle.sd_opener.specs.declared.stage.Stage.{Stage}
 use Rattle.sd_opener.specs.declared.stage.Stage.TheVariants.{Asking, Read, Broken}
@@ -44,7 +45,7 @@ pub record IsPassed (files : List (List ℕ)) (old new : Looking) (phase : Phase
   pub same_slots : new.slots ≡ old.slots
   pub told_more : new.told ≡ old.told ++ phase ∷ []
   pub next_stage : new.stage ≡ Asking (begun (length old.told + 1) first_looks the_length)
-  pub scanned_more : IsScanned files (length old.told + 1) new.scanned
+  pub scanned_more : AreRightlyDigested files → IsScanned files (length old.told + 1) new.scanned
 
 pub passes : InspectionFinds → (files : List (List ℕ)) (request : Option Asked) (old new : Looking) (phase : Phase) → Sees files request old → IsPassed files old new phase
     → Sees files None new
@@ -56,7 +57,7 @@ passes finds files request old new phase sees is =
       count = sees.count ∙ sym is.same_slots;
       told = is.told_more ∙ ap (λ all. all ++ phase ∷ []) sees.told ∙ ap (λ p. map found_phase (take n files) ++ p ∷ []) is.phase_is
           ∙ sym (map_back (take n files) (file_at files n)) ∙ ap (map found_phase) (sym (take_more files n is.within)) ∙ ap (λ k. map found_phase (take k files)) (sym more);
-      scanned = subst (λ k. IsScanned files k new.scanned) at is.scanned_more;
+      scanned = λ right. subst (λ k. IsScanned files k new.scanned) at (is.scanned_more right);
       slot = subst (λ k. SeesSlot k (file_at files k) None new.stage) at
           (subst (SeesSlot (n + 1) (file_at files (n + 1)) None) (sym is.next_stage) (finds.begins (n + 1) (file_at files (n + 1))));
     }

@@ -7,6 +7,7 @@ ghost use Rattle.sd_gate.specs.Plans.{Planned, begun, found_of};
 ghost use Rattle.sd_gate.specs.Requests.{Asked};
 ghost use Rattle.sd_gate.specs.Sequences.{first_looks};
 ghost use Rattle.sd_restore.specs.Faulty.{IsDamage, Names};
+ghost use Rattle.sd_restore.specs.Reading.{AreRightlyDigested};
 ghost use Rattle.sd_opener.specs.declared.open_error.OpenError.TheVariants.{Busy};
 ghost use Rattle.sd_opener.specs.declared.opener_progress.OpenerProgress.TheVariants.{Strange as IsStrange, Failed as HasFailed, More as GoesOn};
 ghost use Rattle.sd_opener.specs.Left.{Lowers, LowersByStep, looking_left, stage_left};
@@ -21,7 +22,7 @@ use crate::slot_end::{SlotEnd, slot_end};
 use crate::stage::Stage;
 use sd_gate::{Found, Outcome, Phase, Plan, Settled, Worker, inspection_finds};
 use sd_image::good_store_has_no_reason;
-use sd_restore::{Fault, Scanned, decode_slot};
+use sd_restore::{Fault, Scanned, decode_slot, store_is_rightly_digested};
 use std::alloc::{AllocError, Global};
 use std::marker::Model;
 use std::mem;
@@ -232,15 +233,16 @@ impl Opener {
     /// `Damaged` names the least slot whose serial stands in an earlier open one.
     pub fn finish(self) -> Result<Opened, Fault>
         ensures opened { (files : List (List ℕ)) → Sees files None self → length self.told ≡ length files
-            → IfOk result (IsOpened files) }
+            → AreRightlyDigested files → IfOk result (IsOpened files) }
         ensures told { IfOk result (λ opened. opened.phases.items ≡ self.told) }
         ensures damaged { (files : List (List ℕ)) → Sees files None self → length self.told ≡ length files
             → IfErr result (λ _. IsNoStore files) }
         ensures names { (files : List (List ℕ)) → Sees files None self → length self.told ≡ length files
-            → IfErr result (Names (IsDamage files)) }
+            → AreRightlyDigested files → IfErr result (Names (IsDamage files)) }
         ensures empty { result ≢ Err Fault.EmptyChain }
         ensures device { result ≢ Err Fault.Device }
     {
+        store_is_rightly_digested();
         let Opener { told, scanned, .. } = self;
         scanned.check()?;
         Ok(Opened {

@@ -21,6 +21,3 @@ returns-clause-no_others c =
     let is : AreInOrder c.insert_sorted.new.self.entries = search rules in
     let changes : Changes c.args.self.now c.insert_sorted.new.self.entries c.args.header.serial (Some (Some (record { slot = c.args.slot; header = c.args.header; spaces = c.args.table }))) = search rules in
     no_others c.args.self.now c.insert_sorted.new.self.entries _ was is changes
-
-pub invariant_of-self-2 : goal.invariant_of-self-2
-invariant_of-self-2 c = search rules

@@ -99,9 +99,9 @@ returns-in-Some-Closed-clause-sees c files request told sees =
         same_slots = refl;
         told_more = c.push.ensures.items ∙ ap (λ r. if is_ok r then c.self.inside.told.items ++ c.in-Some-Closed.phase ∷ [] else c.self.inside.told.items) c.unwrap.ensures;
         next_stage = c.put_stage-in-Some-Closed.ensures ∙ c.first_stage-in-Some-Closed.ensures ∙ ap (λ k. Asking (begun (k + 1) first_looks the_length)) long;
-        scanned_more = subst (λ k. IsScanned files (k + 1) c.self.inside.scanned) long
+        scanned_more = λ right. subst (λ k. IsScanned files (k + 1) c.self.inside.scanned) long
             (c.skip.ensures files (subst (λ k. k < length files) (sym long) within) (subst (λ k. is_open (file_at files k) ≡ false) (sym long) end.0)
-            (subst (λ k. IsScanned files k c.self.inside.scanned) (sym long) was.scanned));
+            (subst (λ k. IsScanned files k c.self.inside.scanned) (sym long) (was.scanned right)));
       }),
     )
 

@@ -11,7 +11,7 @@ returns-clause-sees c files count =
     record {
       count = count;
       told = subst (λ told. told ≡ map found_phase (take (length told) files)) empty refl;
-      scanned = subst (λ told. IsScanned files (length told) c.new.result) empty (c.new.ensures.scanned files);
+      scanned = λ right. subst (λ told. IsScanned files (length told) c.new.result) empty (c.new.ensures.scanned files);
       slot = subst (λ told. SeesSlot (length told) (file_at files (length told)) None c.first_stage.result) empty
           (subst (SeesSlot 0 (file_at files 0) None) (sym c.first_stage.ensures) (c.inspection_finds.ensures.begins 0 (file_at files 0)));
     }
