@@ -174,6 +174,7 @@ module _ (follows : CatalogFollows) (base : Base) (history : History) (places : 
     keeps = record {
       count = m.keeps.count;
       whole = m.keeps.whole;
+      digested = m.keeps.digested;
       kept = kept_with image.stage plan p was m.pages (chain_of store running.parent) image.pass memory m.keeps.kept;
     };
     files = files_with image.stage p image.order image.pass m.pages m.files;

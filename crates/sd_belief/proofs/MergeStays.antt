@@ -68,6 +68,7 @@ pub copy_stays : (catalog other : List Image) (source : Image) (pages : Pages) (
 copy_stays catalog other source pages made holds k = record {
   count = k.count;
   whole = k.whole;
+  digested = k.digested;
   rest = k.rest;
   merging = record {
     all = k.merging.all;

@@ -82,6 +82,7 @@ pub copy_on : (catalog : List Image) (source : Image) (pages : Pages) (made : Co
 copy_on catalog source pages made next k = record {
   count = k.count;
   whole = k.whole;
+  digested = k.digested;
   rest = k.rest;
   merging = k.merging;
   ahead = k.ahead;
