@@ -54,6 +54,6 @@ reopened_lem shows found_is laws old new asked bodies files found none b left is
     let now = shows old asked bodies files files b left in
     let last : IsLastPair old.base (Reopened found ∷ history_of old) now.shown =
     last_then laws old.base (history_of old) found now.shown is.legal now.allowed (is.number now.shown now.shows) in
-    found_is new asked files now.shown is.phases is.opener none (b.knows.out ∙ sym is.outs) (λ stands. is.open_as) now.shows
+    found_is new asked files now.shown is.phases is.opener none (b.knows.out ∙ sym is.outs) (λ stands. is.open_as now.shown now.shows) now.shows
     (subst (λ base. IsLastPair base (history_of new) now.shown) (sym is.base)
     (subst (λ items. IsLastPair old.base (entries_of items) now.shown) (sym is.items) last))

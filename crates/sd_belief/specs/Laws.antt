@@ -66,7 +66,7 @@ pub record IsReopened (old new : CoreView) (files : List (List ℕ)) (found : Op
   pub phases : new.phases ≡ map found_phase files
   pub outs : new.outs ≡ old.outs
   pub opener : new.opener ≡ None
-  pub open_as : IsOpenAs new files
+  pub open_as : (shown : Shown) → Shows files shown → IsOpenAs new files
 
 -- What is believed then starts anew from the files, which are as a crash could have left them.
 abbrev pub ReopenedIsBelieved : Type 0

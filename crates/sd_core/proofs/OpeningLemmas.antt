@@ -118,7 +118,7 @@ pub record IsAnew (old : CoreView) (opener : Looking) (found : Option ℕ) (new 
 pub starts_anew : ReopenedIsBelieved → OpenerSteps → (old new : CoreView) (opener : Looking) (found : Option ℕ) → IsAnew old opener found new
     → ((files : List (List ℕ)) → Sees files None opener → length opener.told ≡ length files → new.phases ≡ map found_phase files)
     → ((files : List (List ℕ)) → Sees files None opener → length opener.told ≡ length files → (shown : Shown) → Shows files shown → shown_number shown ≡ found)
-    → ((files : List (List ℕ)) → Sees files None opener → length opener.told ≡ length files → IsOpenAs new files)
+    → ((files : List (List ℕ)) → Sees files None opener → length opener.told ≡ length files → (shown : Shown) → Shows files shown → IsOpenAs new files)
     → MakesStep old Opener (reply.Reopened found) new
 starts_anew reopened steps old new opener found a phases number opens = record {
   keeps = inr (record {

@@ -71,7 +71,8 @@ IsExpected last pending found = (found ≡ last) ⊎ ((pending ≢ None) × (fou
 pub record OpensAnew (opener : Looking) (last pending : Option ℕ) (opened : Opened) (found : Option ℕ) : Type 0 where
   pub expected : IsExpected last pending found
   pub told : opened.phases.items ≡ opener.told
-  pub read : (files : List (List ℕ)) → Sees files None opener → length opener.told ≡ length files → IsOpened files opened
+  pub read : (files : List (List ℕ)) → Sees files None opener → length opener.told ≡ length files
+      → (shown : Shown) → Shows files shown → IsOpened files opened
   pub number : (files : List (List ℕ)) → Sees files None opener → length opener.told ≡ length files
       → (shown : Shown) → Shows files shown → shown_number shown ≡ found
 

@@ -17,6 +17,7 @@ use sd_gate::{Outcome, Phase, RequestId};
 use sd_image::{one_store, tip_once};
 use sd_journal::Journal;
 use sd_opener::{OpenError, Opened, Opener, OpenerProgress, OpenerStep};
+use sd_restore::store_is_rightly_digested;
 use std::alloc::{AllocError, Global};
 use std::mem;
 
@@ -190,6 +191,7 @@ pub(crate) fn read_by(
 ) -> Option<(Opened, Option<u64>)>
     ensures { IfSome result (λ read. OpensAnew opener last pending read.0 read.1) }
 {
+    store_is_rightly_digested();
     let Ok(opened) = opener.finish() else {
         return None;
     };

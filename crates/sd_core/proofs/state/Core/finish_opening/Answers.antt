@@ -1,7 +1,9 @@
-use Rattle.std.proofs.Common.{◌≡◌, length, Some, None, IfSome, refl, sym, ◌∙◌, ap, subst, arith}
+use Rattle.std.proofs.Common.{◌≡◌, length, map, take, Some, None, IfSome, refl, sym, ◌∙◌, ap, subst, arith}
+use Rattle.std.proofs.Math.Seq.{take-length}
 use Rattle.std.proofs.lemmas.Option.{same_Some}
 use Rattle.sd_areas.specs.Memory.{memory_of}
 use Rattle.sd_gate.specs.declared.worker.Worker.TheVariants as its
+use Rattle.sd_gate.specs.Laws.{found_phase}
 use Rattle.sd_command.specs.declared.refusal.Refusal.TheVariants.{Damaged as DamagedStore}
 use Rattle.sd_command.specs.declared.reply.Reply.TheVariants as reply
 use Rattle.sd_journal.specs.History.{Base}
@@ -87,8 +89,8 @@ returns-clause-takes c =
       slots = slots;
       closed = c.take_opener.ensures.left;
       count = ap length opens.told ∙ all ∙ slots;
-    }) (λ files sees count. (opens.read files sees count).phases) opens.number (λ files sees count. record {
-      catalog = (opens.read files sees count).catalog;
+    }) (λ files sees count. opens.told ∙ sees.told ∙ ap (λ k. map found_phase (take k files)) count ∙ ap (map found_phase) (take-length files)) opens.number (λ files sees count shown shows. record {
+      catalog = (opens.read files sees count shown shows).catalog;
       order = c.sound.ensures.order;
       serials = c.found.ensures.serials;
       grows = refl;
