@@ -10,7 +10,7 @@ use std::alloc::{AllocError, Global};
 const PAGES: u64 = 65_536;
 
 /// How many of them are touched: one of each sixteen.
-const TOUCHED: u64 = 4_096;
+pub(crate) const TOUCHED: u64 = 4_096;
 
 const STEP: u64 = PAGES / TOUCHED;
 
@@ -256,6 +256,11 @@ impl Bench {
         clear_slot(&mut self.disk)?;
         copy_pages(&self.memory, &mut self.disk, &mut self.buffer)?;
         Ok(open_slot(&mut self.disk)?)
+    }
+
+    /// Writes bytes at the beginning of the slot.
+    pub(crate) fn write_first(&mut self, bytes: &[u8]) -> Result<(), BenchError> {
+        Ok(write(&mut self.disk, 0, bytes)?)
     }
 
     /// Closes, cuts and opens the slot, as an image without pages does.

@@ -2,8 +2,10 @@
 #![tactic(auto)]
 
 mod bench;
+mod digest;
 
 use crate::bench::{Bench, BenchError};
+use crate::digest::digest;
 use std::alloc::Global;
 use std::io;
 use std::process::ExitCode;
@@ -57,6 +59,14 @@ fn rounds(alloc: Global, bench: &mut Bench) -> Result<(), BenchError> {
     bench.dump(vec![in alloc; 0; TURNS as usize]?)
 }
 
+/// Digests as many bytes as a dump has, some times, and writes each digest.
+fn digests(bench: &mut Bench) -> Result<(), BenchError> {
+    for _ in 0..TURNS {
+        bench.write_first(&digest())?;
+    }
+    Ok(())
+}
+
 /// Does what a word names. Returns whether it names something.
 fn act(alloc: Global, bench: &mut Bench, word: &str) -> Result<bool, BenchError> {
     match word {
@@ -64,6 +74,7 @@ fn act(alloc: Global, bench: &mut Bench, word: &str) -> Result<bool, BenchError>
         "touched" => touched(bench)?,
         "plain" => plain(bench)?,
         "dumps" => dumps(alloc, bench)?,
+        "digests" => digests(bench)?,
         "walks" => walks(bench),
         "emptied" => emptied(bench)?,
         "rounds" => rounds(alloc, bench)?,
@@ -92,7 +103,9 @@ fn main(rt: HostRuntime) -> io::Result<ExitCode> {
     match timed_argument(alloc, &words) {
         Ok(true) => println!(rt; "done")?,
         Ok(false) => {
-            println!(rt; "usage: rounds_bench made|touched|plain|dumps|walks|emptied|rounds")?;
+            println!(rt;
+                "usage: rounds_bench made|touched|plain|dumps|digests|walks|emptied|rounds"
+            )?;
         }
         Err(error) => println!(rt; "{error:?}")?,
     }
