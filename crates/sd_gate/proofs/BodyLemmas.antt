@@ -6,7 +6,9 @@ use Rattle.std.proofs.lemmas.List.Folds.{concat-append}
 use Rattle.std.proofs.Math.Seq.{take-length, drop-append_seam}
 use Rattle.sd_disk.specs.Contents.{file_after_write}
 use Rattle.sd_image.specs.declared.header.Header.{Header}
-use Rattle.sd_image.specs.Header.{header_text}
+use Rattle.sd_image.specs.declared.header.Version.{Version}
+use Rattle.sd_image.specs.declared.header.Version.TheVariants.{One, Two}
+use Rattle.sd_image.specs.Header.{HasWords, IsDigest, header_front, header_text}
 use Rattle.sd_image.specs.Words.{number_bytes, zeros}
 use Rattle.sd_gate.specs.Laws.{AreWhole, pages_body, page_place}
 use Rattle.sd_gate.specs.Sequences.{table_place}
@@ -73,14 +75,21 @@ header_written header rest whole =
     let behind : 0 + length header ≡ length (zeros 4095) = omega arith in
     ap (λ n. header ++ drop n (zeros 4095 ++ rest)) behind ∙ ap (λ xs. header ++ xs) (drop-append_seam (zeros 4095) rest)
 
-length_header : (header : Header) → length (header_text header) ≡ 4095
-unfolding header_text number_bytes zeros
-length_header header = refl
+length-digest : (version : Version) (digest : List ℕ) → IsDigest version digest → length digest ≡ 32
+unfolding zeros
+length-digest One digest is = ap length is
+length-digest Two digest is = is
 
-pub image_filled : (pages : List (List ℕ)) (header : Header) (table : List ℕ) → AreWhole pages → header.pages ≡ length pages
+length_header : (header : Header) → HasWords header → length (header_text header) ≡ 4095
+unfolding header_text header_front number_bytes zeros
+length_header header words =
+    let parts = length-append header.digest (zeros 4000) in
+    omega (arith, parts, length-digest header.version header.digest words.digest)
+
+pub image_filled : (pages : List (List ℕ)) (header : Header) (table : List ℕ) → AreWhole pages → header.pages ≡ length pages → HasWords header
     → file_after_write (file_after_write (pages_body pages) (table_place header - 1) table) 0 (header_text header) ≡ header_text header ++ concat pages ++ table
-image_filled pages header table whole count =
+image_filled pages header table whole count words =
     ap (λ body. file_after_write body 0 (header_text header))
     (behind_pages pages (table_place header) table whole (ap (λ n. 4096 + 4096 * n) count) ∙ append_assoc (zeros 4095) (concat pages) table)
-    ∙ header_written (header_text header) (concat pages ++ table) (length_header header)
+    ∙ header_written (header_text header) (concat pages ++ table) (length_header header words)
     ∙ sym (append_assoc (header_text header) (concat pages) table)

@@ -4,7 +4,7 @@ use Rattle.std.specs.List.{concat, AllByRecursion}
 use Rattle.sd_disk.specs.Contents.{file_at}
 use Rattle.sd_disk.specs.Crash.{OnlyAt}
 use Rattle.sd_image.specs.declared.header.Header.{Header}
-use Rattle.sd_image.specs.Header.{header_text}
+use Rattle.sd_image.specs.Header.{HasWords, header_text}
 use Rattle.sd_image.specs.Image.{gate, is_open}
 use Rattle.sd_image.specs.Words.{zeros}
 use Rattle.sd_gate.specs.declared.call.Call.{Call}
@@ -104,7 +104,7 @@ page_place pages = data_place (length pages)
 pub record BodiesFill : Type 0 where
   pub page : (pages : List (List ℕ)) (page : List ℕ) → AreWhole pages
       → body_after (pages_body pages) (Write (page_place pages)) page ≡ pages_body (pages ++ page ∷ [])
-  pub image : (pages : List (List ℕ)) (header : Header) (table : List ℕ) → AreWhole pages → header.pages ≡ length pages
+  pub image : (pages : List (List ℕ)) (header : Header) (table : List ℕ) → AreWhole pages → header.pages ≡ length pages → HasWords header
       → body_after (body_after (pages_body pages) (Write (table_place header)) table) WriteHeader (header_text header)
       ≡ header_text header ++ concat pages ++ table
 

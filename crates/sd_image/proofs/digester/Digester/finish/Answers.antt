@@ -1,7 +1,6 @@
-use Rattle.std.proofs.Common.{◌≡◌, ℕ, List, ◌++◌, length, take, sym, ap, ◌∙◌, arith}
+use Rattle.std.proofs.Common.{ℕ, List, ◌++◌, take, sym, ap, ◌∙◌, arith}
 use Rattle.std.proofs.lemmas.List.{length-take-le}
 use Rattle.sha2.specs.Sha256.{sha256}
-use Rattle.sd_image.specs.Digests.{HasFed}
 use Rattle.sd_image.specs.Header.{header_front}
 use Rattle.sd_image.proofs.HeaderBytes.{front_of_text}
 use Rattle.sd_image.proofs.digester.Digester.finish.Goals as goal
@@ -11,5 +10,5 @@ slice_bounds-update-end c = sym (length-take-le 63 c.encode_header-text.result (
 
 pub returns : goal.returns
 returns c = λ fed has.
-    c.finalize.ensures (fed ++ take 63 c.encode_header-text.result) (c.update.ensures fed has)
+    c.finalize.ensures (fed ++ take 63 c.encode_header-text.result) (c.update.ensures fed (c.into_hasher-hasher.ensures fed has))
     ∙ ap (λ (front : List ℕ). sha256 (fed ++ front)) (ap (take 63) c.encode_header-text.ensures.text ∙ front_of_text c.args.header.now)
