@@ -54,6 +54,7 @@ passes finds files request old new phase sees is =
     let at : n + 1 ≡ length new.told = next_is n ∙ sym more in
     record {
       count = sees.count ∙ sym is.same_slots;
+      digests = sees.digests;
       told = is.told_more ∙ ap (λ all. all ++ phase ∷ []) sees.told ∙ ap (λ p. map found_phase (take n files) ++ p ∷ []) is.phase_is
           ∙ sym (map_back (take n files) (file_at files n)) ∙ ap (map found_phase) (sym (take_more files n is.within)) ∙ ap (λ k. map found_phase (take k files)) (sym more);
       scanned = subst (λ k. IsScanned files k new.scanned) at is.scanned_more;

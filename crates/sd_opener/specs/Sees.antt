@@ -12,7 +12,7 @@ use Rattle.sd_gate.specs.Laws.{found_phase}
 use Rattle.sd_gate.specs.Looks.{HasNoHeader, IsTold, LooksAt}
 use Rattle.sd_gate.specs.Plans.{Back}
 use Rattle.sd_gate.specs.Requests.{Asked, Made}
-use Rattle.sd_restore.specs.Reading.{HasHeader, table_bytes}
+use Rattle.sd_restore.specs.Reading.{AreRightlyDigested, HasHeader, table_bytes}
 use Rattle.sd_restore.specs.Scanned.{IsScanned}
 use Rattle.sd_opener.specs.declared.opened.Opened.{Opened}
 use Rattle.sd_opener.specs.declared.opener_step.OpenerStep.{OpenerStep}
@@ -29,9 +29,10 @@ SeesSlot slot file request (Asking plan) = LooksAt slot file request plan
 SeesSlot slot file request (Read header table) = (request ≡ None) × HasHeader file header × (table.items ≡ table_bytes header file)
 SeesSlot slot file request (Broken reason) = (request ≡ None) × HasNoHeader file reason
 
--- the phases and the images of the first slots are those of the files
+-- the phases and the images of the first slots are those of the files, whose digests it takes to be right
 pub record Sees (files : List (List ℕ)) (request : Option Asked) (opener : Looking) : Type 0 where
   pub count : length files ≡ opener.slots
+  pub digests : AreRightlyDigested files
   pub told : opener.told ≡ map found_phase (take (length opener.told) files)
   pub scanned : IsScanned files (length opener.told) opener.scanned
   pub slot : SeesSlot (length opener.told) (file_at files (length opener.told)) request opener.stage

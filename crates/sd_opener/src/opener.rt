@@ -7,6 +7,7 @@ ghost use Rattle.sd_gate.specs.Plans.{Planned, begun, found_of};
 ghost use Rattle.sd_gate.specs.Requests.{Asked};
 ghost use Rattle.sd_gate.specs.Sequences.{first_looks};
 ghost use Rattle.sd_restore.specs.Faulty.{IsDamage, Names};
+ghost use Rattle.sd_restore.specs.Reading.{AreRightlyDigested};
 ghost use Rattle.sd_opener.specs.declared.open_error.OpenError.TheVariants.{Busy};
 ghost use Rattle.sd_opener.specs.declared.opener_progress.OpenerProgress.TheVariants.{Strange as IsStrange, Failed as HasFailed, More as GoesOn};
 ghost use Rattle.sd_opener.specs.Left.{Lowers, LowersByStep, looking_left, stage_left};
@@ -27,7 +28,7 @@ use std::marker::Model;
 use std::mem;
 
 /// Reads the slots of a store, rising: it syncs each slot, asks for the length of its file, and reads the header and the
-/// table of an open image.
+/// table of an open image. It reads no data page, so it checks no digest.
 #[derive(Drop)]
 pub struct Opener {
     alloc: Global,
@@ -104,7 +105,7 @@ impl Opener {
         ensures stage { IfOk result (λ opener. opener.stage
             ≡ Stage.Asking (begun 0 first_looks the_length)) }
         ensures sees { IfOk result (λ opener. (files : List (List ℕ)) → length files ≡ slots
-            → Sees files None opener) }
+            → AreRightlyDigested files → Sees files None opener) }
     {
         inspection_finds();
         Ok(Opener {

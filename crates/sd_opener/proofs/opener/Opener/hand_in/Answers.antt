@@ -33,6 +33,7 @@ returns-in-More-clause-sees c files request told sees =
       refl,
       record {
         count = was.count;
+        digests = was.digests;
         told = was.told;
         scanned = was.scanned;
         slot = looks_on c.inspection_finds.ensures files request _ c.in-Asking.plan c.settle.new.self c.args.outcome c.settle.result c.in-Asking.is c.settle.ensures.settled was is;
@@ -73,6 +74,7 @@ returns-in-Some-Open-clause-sees c files request told sees =
       refl,
       record {
         count = was.count;
+        digests = was.digests;
         told = was.told;
         scanned = was.scanned;
         slot = subst (SeesSlot n (file_at files n) None) (sym c.put_stage-in-Some-Open.ensures) (end.1 n);

@@ -9,9 +9,12 @@ use Rattle.sd_gate.specs.Sequences.{first_looks}
 use Rattle.sd_restore.specs.Reading.{IsReading}
 use Rattle.sd_restore.specs.Scanned.{IsScanned}
 use Rattle.sd_opener.specs.declared.stage.Stage.TheVariants.{Asking}
+use Rattle.sd_opener.specs.Left.{Lowers, stage_left}
+use Rattle.sd_opener.specs.Looking.{Looking}
 use Rattle.sd_opener.specs.Sees.{Sees, SeesSlot}
 use Rattle.sd_opener.proofs.Ends.{broken_is_faulty, whole_phase}
-use Rattle.sd_opener.proofs.Steps.{faulty_is_no_store, passes}
+use Rattle.sd_opener.proofs.Lowers.{slot_lowers}
+use Rattle.sd_opener.proofs.Steps.{back_count, faulty_is_no_store, passes}
 use Rattle.sd_opener.proofs.opener.Opener.work.Goals as goal
 
 pub returns-in-Broken-clause-sees : goal.returns-in-Broken-clause-sees
@@ -29,7 +32,7 @@ returns-in_ok-take_in-in-Ok-clause-sees c files sees =
     let long : c.len-slot.result ≡ n = c.len-slot.ensures ∙ c.self.inside.told.ok.0 in
     let within : n < length files =
     (let count = was.count in let few = c.self.invariant.within in let other = c.if-slot-self.false in omega (arith, count, few, other, long)) in
-    let decoded = c.in-Ok.ensures.decoded (file_at files n) at.1 (c.deref.ensures.value ∙ at.2) in
+    let decoded = c.in-Ok.ensures.decoded (file_at files n) at.1 (c.deref.ensures.value ∙ at.2) (was.digests n c.in-Read.header at.1) in
     passes c.inspection_finds.ensures files None _ _ Whole was (record {
       within = within;
       phase_is = sym (whole_phase (file_at files n) at.1.opens);
@@ -49,7 +52,19 @@ returns-in-Some-clause-sees c files sees =
     let given = subst (λ taken. MatchOption taken ((c.take.new.self ≡ c.in-Asking.plan) × (IsSome c.in-Asking.plan.out ⊎ (c.in-Asking.plan.calls ≡ []))) (λ request. Gives c.in-Asking.plan c.take.new.self request × (request.id.worker ≡ Opener) × (request.id.ticket ≡ c.args.ticket))) c.in-Some.is c.in_ok-request-in-Asking.ensures.given in
     record {
       count = was.count;
+      digests = was.digests;
       told = was.told;
       scanned = was.scanned;
       slot = c.inspection_finds.ensures.takes n (file_at files n) c.in-Asking.plan c.take.new.self c.in-Some.request at given.0;
     }
+
+pub returns-in_ok-take_in-in-Ok-clause-lowers : goal.returns-in_ok-take_in-in-Ok-clause-lowers
+returns-in_ok-take_in-in-Ok-clause-lowers c =
+    let long : c.len-slot.result ≡ length c.self.inside.told.items = c.len-slot.ensures ∙ c.self.inside.told.ok.0 in
+    let within : length c.self.inside.told.items < c.self.inside.slots = (let few = c.self.invariant.within in let other = c.if-slot-self.false in omega (arith, few, other, long)) in
+    let more = ap length c.push.ensures.items ∙ ap (λ r. length (if is_ok r then c.self.inside.told.items ++ Whole ∷ [] else c.self.inside.told.items)) c.unwrap.ensures
+    ∙ back_count c.self.inside.told.items Whole in
+    let next : Looking = record { slots = c.self.inside.slots; told = c.push.new.self.items; stage = c.put_stage.new.stage; scanned = c.take_in.new.self } in
+    subst (λ v. Lowers v next) c.self.view_is
+    (slot_lowers c.self.inside.slots (length c.self.inside.told.items) (length c.push.new.self.items) c.self.inside.stage c.put_stage.new.stage within
+    (omega (arith, more)) (ap stage_left (c.put_stage.ensures ∙ c.first_stage.ensures)))
