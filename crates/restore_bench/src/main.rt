@@ -5,7 +5,9 @@ ghost use Rattle.std.specs.Prelude.{◌≤◌};
 
 use sd_areas::{Area, PAGE_SIZE, PageNo, Prot, SpaceId};
 use sd_disk::{Disk, MemDisk};
-use sd_image::{Header, Kind, Run, RunKind, SpaceTable, Table, encode_header, encode_table};
+use sd_image::{
+    Header, Kind, Run, RunKind, SpaceTable, Table, Version, encode_header, encode_table,
+};
 use sd_restore::{Fault, restore};
 use std::alloc::{AllocError, Global};
 use std::io;
@@ -55,6 +57,7 @@ fn image(alloc: Global, checkpoint: u64, parents: u64, stored: u64) -> Result<Ve
 {
     let table = encode_table(alloc, &table(alloc, parents, stored)?)?;
     let header = Header {
+        version: Version::One,
         kind: Kind::Dump,
         serial: checkpoint,
         stands_for: checkpoint,
@@ -62,6 +65,7 @@ fn image(alloc: Global, checkpoint: u64, parents: u64, stored: u64) -> Result<Ve
         checkpoint,
         pages: stored,
         table_len: table.len() as u64,
+        digest: [0; 32],
     };
     let mut file = vec![in alloc; 0xA5]?;
     file.extend_from_slice(&encode_header(&header))?;

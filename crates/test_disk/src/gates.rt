@@ -9,13 +9,14 @@ use sd_gate::{
     cuts_fit, found_fits, given_up_fits, image_whole_or_closed, inspection_finds, inspection_tells,
     perform, plans_lead, plans_take, writes_commute,
 };
-use sd_image::{Header, Kind};
+use sd_image::{Header, Kind, Version};
 use std::alloc::Global;
 use std::process::Abort;
 use std::test::Fail;
 
 /// One dump of one page.
 const HEADER: Header = Header {
+    version: Version::One,
     kind: Kind::Dump,
     serial: 1,
     stands_for: 1,
@@ -23,6 +24,7 @@ const HEADER: Header = Header {
     checkpoint: 1,
     pages: 1,
     table_len: 72,
+    digest: [0; 32],
 };
 
 /// The first 64 bytes of its file.

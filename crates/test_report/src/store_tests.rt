@@ -2,7 +2,9 @@
 
 use sd_areas::{Area, PAGE_SIZE, PageNo, Prot, SpaceId};
 use sd_disk::{Disk, Fused, MemDisk};
-use sd_image::{Header, Kind, Run, RunKind, SpaceTable, Table, encode_header, encode_table};
+use sd_image::{
+    Digester, Header, Kind, Run, RunKind, SpaceTable, Table, Version, encode_header, encode_table,
+};
 use sd_report::{list_to, restore_to, verify_to};
 use std::alloc::{AllocError, Global};
 use std::process::Abort;
@@ -34,6 +36,17 @@ fn table(alloc: Global, kind: RunKind) -> Result<Table, Fail> {
     Ok(Table { spaces })
 }
 
+/// The header with the digest of its image.
+fn with_digest(header: Header, table: &[u8], filled: Option<u8>) -> Header {
+    let mut digester = Digester::new();
+    if let Some(byte) = filled {
+        digester.page(&[byte; PAGE_SIZE]);
+    }
+    digester.table(table);
+    let digest = digester.finish(&header);
+    Header { digest, ..header }
+}
+
 /// The file of an image of page 16, which is filled with a byte or in the parent.
 fn file(alloc: Global, header: Header, filled: Option<u8>) -> Result<Vec<u8>, Fail> {
     let kind = if filled.is_some() {
@@ -47,6 +60,7 @@ fn file(alloc: Global, header: Header, filled: Option<u8>) -> Result<Vec<u8>, Fa
         table_len: table.len() as u64,
         ..header
     };
+    let header = with_digest(header, &table, filled);
     let mut file = vec![in alloc; 0xA5]?;
     file.extend_from_slice(&encode_header(&header))?;
     if let Some(byte) = filled {
@@ -59,6 +73,7 @@ fn file(alloc: Global, header: Header, filled: Option<u8>) -> Result<Vec<u8>, Fa
 /// A dump of checkpoint 1.
 fn first(alloc: Global) -> Result<Vec<u8>, Fail> {
     let header = Header {
+        version: Version::Two,
         kind: Kind::Dump,
         serial: 1,
         stands_for: 1,
@@ -66,6 +81,7 @@ fn first(alloc: Global) -> Result<Vec<u8>, Fail> {
         checkpoint: 1,
         pages: 0,
         table_len: 0,
+        digest: [0; 32],
     };
     file(alloc, header, Some(0x11))
 }
@@ -73,6 +89,7 @@ fn first(alloc: Global) -> Result<Vec<u8>, Fail> {
 /// A dump of checkpoint 2, whose page is in its parent.
 fn second(alloc: Global) -> Result<Vec<u8>, Fail> {
     let header = Header {
+        version: Version::Two,
         kind: Kind::Dump,
         serial: 2,
         stands_for: 2,
@@ -80,6 +97,7 @@ fn second(alloc: Global) -> Result<Vec<u8>, Fail> {
         checkpoint: 2,
         pages: 0,
         table_len: 0,
+        digest: [0; 32],
     };
     file(alloc, header, None)
 }
@@ -87,6 +105,7 @@ fn second(alloc: Global) -> Result<Vec<u8>, Fail> {
 /// A merged image that stands for the dump of checkpoint 1.
 fn merged(alloc: Global) -> Result<Vec<u8>, Fail> {
     let header = Header {
+        version: Version::Two,
         kind: Kind::Merged,
         serial: 3,
         stands_for: 1,
@@ -94,6 +113,7 @@ fn merged(alloc: Global) -> Result<Vec<u8>, Fail> {
         checkpoint: 1,
         pages: 0,
         table_len: 0,
+        digest: [0; 32],
     };
     file(alloc, header, Some(0x33))
 }
@@ -220,6 +240,25 @@ fn a_double_serial_is_a_fault(rt: HostRuntime) -> Result<(), Fail> {
     Ok(())
 }
 
+/// A wrong digest is told by all three programs, also of an image that isn't restored.
+#[test]
+fn a_wrong_digest_is_a_fault(rt: HostRuntime) -> Result<(), Fail> {
+    let alloc = rt.alloc();
+    let mut disk = store(
+        &rt,
+        4,
+        &vec![in alloc; first(alloc)?, second(alloc)?, merged(alloc)?]?,
+    )?;
+    assert!(&rt; disk.slots() > 0);
+    disk.write_at(0, 5000, &[1])?;
+    for program in PROGRAMS {
+        let (out, status) = printed(alloc, &mut disk, program);
+        assert!(&rt; out.as_slice() == "damaged 000 17\n".as_bytes());
+        assert_eq!(&rt; status, 1);
+    }
+    Ok(())
+}
+
 /// Of 64 empty files nothing is restored.
 #[test]
 fn empty_files(rt: HostRuntime) -> Result<(), Fail> {
@@ -237,18 +276,19 @@ fn empty_files(rt: HostRuntime) -> Result<(), Fail> {
     Ok(())
 }
 
-/// A call that fails ends each program with that: of two open slots the length, the header and the table are read, before
-/// anything is printed, and of a restored memory its page, behind the lines of its area.
+/// A call that fails ends each program with that: of two open slots the length, the header and the table are read, and of
+/// the first its data page for its digest, before anything is printed; and of a restored memory its page, behind the lines
+/// of its area.
 #[test]
 fn each_read_fails_in_turn(rt: HostRuntime) -> Result<(), Fail> {
     let alloc = rt.alloc();
     let files = vec![in alloc; first(alloc)?, second(alloc)?]?;
-    for (program, calls) in [("restore", 7u64), ("list", 6), ("verify", 6)] {
+    for (program, calls) in [("restore", 8u64), ("list", 7), ("verify", 7)] {
         for call in 0..calls {
             let mut fused = Fused::new(store(&rt, 2, &files)?, call);
             let (out, status) = printed(alloc, &mut fused, program);
             assert!(&rt; out.as_slice().ends_with("device\n".as_bytes()));
-            assert!(&rt; call == 6 || out.len() == 7);
+            assert!(&rt; call == 7 || out.len() == 7);
             assert_eq!(&rt; status, 1);
         }
         let mut fused = Fused::new(store(&rt, 2, &files)?, calls);

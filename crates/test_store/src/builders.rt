@@ -1,7 +1,9 @@
 //! Builders of headers, tables, files and stores.
 use sd_areas::{Area, PAGE_SIZE, PageNo, Prot, SpaceId};
 use sd_disk::{DeviceError, Disk, MemDisk};
-use sd_image::{Header, Kind, Run, RunKind, SpaceTable, Table, encode_header, encode_table};
+use sd_image::{
+    Digester, Header, Kind, Run, RunKind, SpaceTable, Table, Version, encode_header, encode_table,
+};
 use std::alloc::{AllocError, AllocFailed, Global};
 
 /// Why something isn't built, or isn't asked for.
@@ -54,9 +56,10 @@ pub(crate) fn page(number: u64) -> Result<PageNo, Unbuilt> {
     }
 }
 
-/// A dump that stands for itself.
+/// A dump of version 2 that stands for itself.
 pub(crate) fn dump(serial: u64, checkpoint: u64, parent: u64) -> Header {
     Header {
+        version: Version::Two,
         kind: Kind::Dump,
         serial,
         stands_for: serial,
@@ -64,6 +67,7 @@ pub(crate) fn dump(serial: u64, checkpoint: u64, parent: u64) -> Header {
         checkpoint,
         pages: 0,
         table_len: 0,
+        digest: [0; 32],
     }
 }
 
@@ -120,6 +124,20 @@ pub(crate) fn table(alloc: Global, spaces: u64, runs: &[Run]) -> Result<Table, A
     Ok(Table { spaces: tables })
 }
 
+/// The header of an image with this table, whose data pages are filled with a byte: in version 2 with its digest.
+pub(crate) fn with_digest(header: Header, text: &[u8], byte: u8) -> Header {
+    if header.version == Version::One {
+        return header;
+    }
+    let mut digester = Digester::new();
+    for _ in 0..header.pages {
+        digester.page(&[byte; PAGE_SIZE]);
+    }
+    digester.table(text);
+    let digest = digester.finish(&header);
+    Header { digest, ..header }
+}
+
 /// Puts the file of an image with this table behind a file's gate.
 fn put_file(file: &mut Vec<u8>, header: &Header, text: &[u8], byte: u8) -> Result<(), AllocError> {
     file.push(0xA5)?;
@@ -145,6 +163,7 @@ pub(crate) fn file_of(
         table_len: text.len() as u64,
         ..header
     };
+    let header = with_digest(header, &text, byte);
     let mut file = Vec::new(alloc);
     put_file(&mut file, &header, &text, byte)?;
     Ok(file)
@@ -170,6 +189,7 @@ pub(crate) fn file(alloc: Global, header: Header, filled: Option<u8>) -> Result<
 pub(crate) type Image = (Header, Option<u8>);
 
 const FIRST_DUMP: Header = Header {
+    version: Version::Two,
     kind: Kind::Dump,
     serial: 1,
     stands_for: 1,
@@ -177,6 +197,7 @@ const FIRST_DUMP: Header = Header {
     checkpoint: 1,
     pages: 0,
     table_len: 0,
+    digest: [0; 32],
 };
 
 const SECOND_DUMP: Header = Header {
@@ -192,6 +213,15 @@ pub(crate) const FIRST: Image = (FIRST_DUMP, Some(7));
 
 /// A dump of serial 2, whose page is in the first.
 pub(crate) const SECOND: Image = (SECOND_DUMP, None);
+
+/// The same dump in version 1.
+pub(crate) const OLD_FIRST: Image = (
+    Header {
+        version: Version::One,
+        ..FIRST_DUMP
+    },
+    Some(7),
+);
 
 const THIRD: Header = Header {
     kind: Kind::Merged,

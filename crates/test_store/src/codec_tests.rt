@@ -2,8 +2,8 @@
 use crate::builders::{Unbuilt, dump, merged, page, pre_dump, runs, table};
 use crate::example::{HEADER, LEN, TABLE, example, first_bytes, hello_page};
 use sd_image::{
-    Header, Reason, Run, RunKind, Table, TableError, decode_header, decode_table, encode_header,
-    encode_table, push_page,
+    Digester, Header, Reason, Run, RunKind, Table, TableError, Version, decode_header,
+    decode_table, encode_header, encode_table, push_page,
 };
 use std::alloc::{AllocError, Global};
 use std::test::Fail;
@@ -14,40 +14,61 @@ fn example_table(alloc: Global) -> Result<Table, Unbuilt> {
     Ok(table(alloc, 1, &runs)?)
 }
 
-#[test]
-fn the_header_is_read_and_written(rt: HostRuntime) {
-    let bytes = first_bytes();
-    assert!(rt; decode_header(&bytes, LEN) == Ok(HEADER));
-    assert!(rt; encode_header(&HEADER).as_slice() == &bytes[1..4096]);
+/// The example's header: in version 2 its digest is made of its page and of this table.
+fn header_in(version: Version, table: &[u8]) -> Header {
+    let header = Header { version, ..HEADER };
+    if version == Version::One {
+        return header;
+    }
+    let mut digester = Digester::new();
+    digester.page(&hello_page());
+    digester.table(table);
+    let digest = digester.finish(&header);
+    Header { digest, ..header }
 }
 
-fn write_example(written: &mut Vec<u8>, table: &[u8]) -> Result<(), AllocError> {
+const VERSIONS: [Version; 2] = [Version::One, Version::Two];
+
+#[test]
+fn the_header_is_read_and_written(rt: HostRuntime) {
+    for version in VERSIONS {
+        let bytes = first_bytes(version);
+        let header = Header { version, ..HEADER };
+        assert!(rt; decode_header(&bytes, LEN) == Ok(header));
+        assert!(rt; encode_header(&header).as_slice() == &bytes[1..4096]);
+    }
+}
+
+fn write_example(written: &mut Vec<u8>, version: Version, table: &[u8]) -> Result<(), AllocError> {
     written.push(0xa5)?;
-    written.extend_from_slice(&encode_header(&HEADER))?;
+    written.extend_from_slice(&encode_header(&header_in(version, table)))?;
     written.extend_from_slice(&hello_page())?;
     written.extend_from_slice(table)?;
     Ok(())
 }
 
 /// What is written of the example's header, page and table.
-fn written_example(alloc: Global) -> Result<Vec<u8>, Unbuilt> {
+fn written_example(alloc: Global, version: Version) -> Result<Vec<u8>, Unbuilt> {
     let table = encode_table(alloc, &example_table(alloc)?)?;
     let mut written = Vec::new(alloc);
-    write_example(&mut written, &table)?;
+    write_example(&mut written, version, &table)?;
     Ok(written)
 }
 
-/// Whether these are the example's bytes.
-fn is_the_example(alloc: Global, written: &[u8]) -> Result<bool, AllocError> {
-    let file = example(alloc)?;
-    Ok(written.len() as u64 == LEN && written == file.as_slice())
+/// Whether the example's bytes are written.
+fn writes_the_example(alloc: Global, version: Version) -> Result<bool, Unbuilt> {
+    let file = example(alloc, version)?;
+    let written = written_example(alloc, version)?;
+    Ok(written.len() as u64 == LEN && written.as_slice() == file.as_slice())
 }
 
-/// The file of one page that begins with `hello`: what is written around the page is the file's, byte for byte.
+/// The file of one page that begins with `hello`: what is written around the page is the file's, byte for byte. In version
+/// 2 its digest is the one that `sha2` alone makes of the file.
 #[test]
 fn the_example_file_is_written(rt: HostRuntime) -> Result<(), Fail> {
-    let written = written_example(rt.alloc())?;
-    assert!(rt; is_the_example(rt.alloc(), &written)?);
+    for version in VERSIONS {
+        assert!(rt; writes_the_example(rt.alloc(), version)?);
+    }
     Ok(())
 }
 

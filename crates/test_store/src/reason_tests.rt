@@ -1,6 +1,8 @@
 //! Headers and tables with faults, and the reason that is found.
 use crate::example::{HEADER, LEN, TABLE, first_bytes};
-use sd_image::{Header, Kind, Reason, TableError, decode_header, decode_table, encode_table};
+use sd_image::{
+    Header, Kind, Reason, TableError, Version, decode_header, decode_table, encode_table,
+};
 use std::alloc::{AllocError, Global};
 use std::process::Abort;
 use std::test::Fail;
@@ -14,19 +16,24 @@ fn reason_of(alloc: Global, header: &Header, table: &[u8]) -> Result<Option<Reas
     }
 }
 
-/// The places and the values of bytes that change in a header, and the reason against it.
-const HEADERS: [(&[(usize, u8)], Reason); 28] = [
+/// Places and values of bytes that change in a header.
+type Changes = &'static [(usize, u8)];
+
+/// What changes in a header of either version, and the reason against it.
+const HEADERS: [(Changes, Reason); 30] = [
     (&[(1, 0x00)], Reason::Magic),
     (&[(7, 0x4f), (8, 0x02)], Reason::Magic),
     (&[(7, 0x4f), (12, 0x01), (40, 0x00)], Reason::Magic),
-    (&[(8, 0x02)], Reason::Version),
+    (&[(8, 0x03)], Reason::Version),
+    (&[(8, 0x00), (12, 0x01)], Reason::Version),
     (&[(9, 0x01), (10, 0x00)], Reason::Version),
     (&[(10, 0x00)], Reason::Kind),
     (&[(11, 0x01)], Reason::Kind),
     (&[(10, 0x04), (64, 0x01), (16, 0x00)], Reason::Kind),
     (&[(12, 0x01)], Reason::Reserved),
     (&[(15, 0x80)], Reason::Reserved),
-    (&[(64, 0x01)], Reason::Reserved),
+    (&[(96, 0x01)], Reason::Reserved),
+    (&[(64, 0x01), (96, 0x01)], Reason::Reserved),
     (&[(4095, 0x80), (16, 0x00)], Reason::Reserved),
     (&[(16, 0x00)], Reason::Serial),
     (&[(16, 0x00), (24, 0x00), (40, 0x00)], Reason::Serial),
@@ -50,17 +57,41 @@ const HEADERS: [(&[(usize, u8)], Reason); 28] = [
     (&[(63, 0x80)], Reason::Length),
 ];
 
+/// What is read of the example's header in a version, after these changes.
+fn changed(version: Version, changes: Changes) -> Result<Header, Reason> {
+    let mut bytes = first_bytes(version);
+    for (place, byte) in changes {
+        if let Some(old) = bytes.get_mut(*place) {
+            *old = *byte;
+        }
+    }
+    decode_header(&bytes, LEN)
+}
+
 /// Each rule of a header, also where a later one is broken too.
 #[test]
 fn a_header_has_its_least_reason(rt: HostRuntime) {
     for (changes, reason) in &HEADERS {
-        let mut bytes = first_bytes();
-        for (place, byte) in *changes {
-            assert!(rt; *place < bytes.len());
-            bytes[*place] = *byte;
-        }
-        assert_eq!(rt; decode_header(&bytes, LEN), Err(*reason));
+        assert_eq!(rt; changed(Version::One, changes), Err(*reason));
+        assert_eq!(rt; changed(Version::Two, changes), Err(*reason));
     }
+}
+
+/// In the place of a digest version 1 has zeros, and version 2 any bytes: a decoder sees no data page.
+#[test]
+fn a_digest_stands_in_version_two_alone(rt: HostRuntime) {
+    let mut digest = [0; 32];
+    digest[0] = 0x80;
+    digest[31] = 0x01;
+    let version = Version::Two;
+    let read = Header {
+        version,
+        digest,
+        ..HEADER
+    };
+    let changes = &[(64, 0x80), (95, 0x01)];
+    assert_eq!(rt; changed(Version::One, changes), Err(Reason::Reserved));
+    assert_eq!(rt; changed(version, changes), Ok(read));
 }
 
 /// An item of a table, by its fields.
@@ -128,6 +159,7 @@ const PARENT: u32 = 2;
 const ZERO: u32 = 3;
 
 const PRE_DUMP: Header = Header {
+    version: Version::Two,
     kind: Kind::PreDump,
     serial: 2,
     stands_for: 2,
@@ -135,6 +167,7 @@ const PRE_DUMP: Header = Header {
     checkpoint: 2,
     pages: 0,
     table_len: 0,
+    digest: [0; 32],
 };
 
 const DUMP: Header = Header {

@@ -1,9 +1,9 @@
 //! Stores that are scanned, restored and verified.
-use crate::builders::{FIRST, Image, SECOND, THIRD_MERGED, Unbuilt};
+use crate::builders::{FIRST, Image, OLD_FIRST, SECOND, THIRD_MERGED, Unbuilt};
 use crate::example::example;
 use crate::store_deeds::{Deed, Files, is_restored, restoring_fault, run, verifying_fault};
 use sd_chain::Found;
-use sd_image::{Header, Kind, Reason, decode_header};
+use sd_image::{Header, Kind, Reason, Version, decode_header};
 use sd_restore::{Fault, Scanned, decode_slot, newest_checkpoint};
 use std::alloc::{AllocError, Global};
 use std::process::Abort;
@@ -103,6 +103,61 @@ fn a_faulty_file_comes_first(rt: HostRuntime) -> Result<(), Fail> {
     Ok(show(&rt, rt.alloc(), FAULTY)?)
 }
 
+/// The digest of the image in this slot is wrong.
+const DIGEST_IN_0: Deed<'static> = Deed::Faults(Fault::Damaged {
+    slot: 0,
+    reason: Reason::Digest,
+});
+
+const DIGEST_IN_1: Deed<'static> = Deed::Faults(Fault::Damaged {
+    slot: 1,
+    reason: Reason::Digest,
+});
+
+const DIGEST_IN_2: Deed<'static> = Deed::Faults(Fault::Damaged {
+    slot: 2,
+    reason: Reason::Digest,
+});
+
+const MAGIC_IN_0: Deed<'static> = Deed::Faults(Fault::Damaged {
+    slot: 0,
+    reason: Reason::Magic,
+});
+
+const WRONG_DIGESTS: Rows = &[
+    (
+        &ALL,
+        &[
+            // An image that isn't the newest, and in whose place none is restored from.
+            Deed::Put(2, 5000, 1),
+            DIGEST_IN_2,
+            Deed::Put(0, 5000, 1),
+            DIGEST_IN_0,
+            // It comes before what is wrong with the next slot.
+            Deed::Put(1, 1, 0),
+            DIGEST_IN_0,
+            // The table's reason, and then the header's, come before it.
+            Deed::Put(0, 8192, 0),
+            TOTAL_IN_0,
+            Deed::Put(0, 1, 0),
+            MAGIC_IN_0,
+        ],
+    ),
+    // It comes before a serial that stands twice.
+    (&[FIRST, FIRST], &[Deed::Put(1, 5000, 1), DIGEST_IN_1]),
+    // Version 1 has none.
+    (
+        &[OLD_FIRST, SECOND],
+        &[Deed::Put(0, 5000, 1), Deed::InOrder(Some(2), 2)],
+    ),
+];
+
+/// Each open slot's digest is checked, whichever image is restored.
+#[test]
+fn a_wrong_digest_is_named(rt: HostRuntime) -> Result<(), Fail> {
+    Ok(show(&rt, rt.alloc(), WRONG_DIGESTS)?)
+}
+
 const IN_PARENT: Rows = &[
     (
         &[FIRST],
@@ -119,6 +174,7 @@ fn second_checkpoint_is_parent_run(rt: HostRuntime) -> Result<(), Fail> {
 }
 
 const OLDER: Header = Header {
+    version: Version::Two,
     kind: Kind::Dump,
     serial: 1007,
     stands_for: 1007,
@@ -126,6 +182,7 @@ const OLDER: Header = Header {
     checkpoint: 5,
     pages: 0,
     table_len: 0,
+    digest: [0; 32],
 };
 
 const NEWER: Header = Header {
@@ -234,13 +291,16 @@ fn is_taken_in(alloc: Global, scanned: &mut Scanned, file: &[u8]) -> Result<bool
 /// Slot by slot, as an opener reads them: each slot is decoded from bytes that were read already.
 #[test]
 fn slots_are_taken_in_one_by_one(rt: HostRuntime) -> Result<(), Fail> {
-    let file = example(rt.alloc())?;
-    let taken = is_taken_in(rt.alloc(), &mut Scanned::new(rt.alloc()), &file)?;
-    assert!(rt; taken);
+    for version in [Version::One, Version::Two] {
+        let file = example(rt.alloc(), version)?;
+        let taken = is_taken_in(rt.alloc(), &mut Scanned::new(rt.alloc()), &file)?;
+        assert!(rt; taken);
+    }
     Ok(())
 }
 
 const THIRD: Header = Header {
+    version: Version::Two,
     kind: Kind::Dump,
     serial: 3,
     stands_for: 3,
@@ -248,6 +308,7 @@ const THIRD: Header = Header {
     checkpoint: 3,
     pages: 0,
     table_len: 0,
+    digest: [0; 32],
 };
 
 /// The third dump has the page in the second, and that one in an image that isn't there.
@@ -278,29 +339,43 @@ fn boundaries(rt: HostRuntime) -> Result<(), Fail> {
     Ok(run(&rt, rt.alloc(), Files::Bytes(&[0xA5]), &deeds)?)
 }
 
-/// Two reads for each of three open slots, and for a restore one more for its page.
+const READ: Rows = &[
+    // The first dump and the merged image have a data page each.
+    (&ALL, &[Deed::Reads(9, 17)]),
+    (&TWO, &[Deed::Reads(6, 11)]),
+    // Version 1 has no digest to be checked.
+    (&[OLD_FIRST, SECOND], &[Deed::Reads(5, 9)]),
+];
+
+/// Two reads for each open slot, one more for each data page of version 2, and for a restore one more for its page.
 #[test]
 fn each_page_is_read_once(rt: HostRuntime) -> Result<(), Fail> {
-    let deeds = [Deed::Reads(7, 13)];
-    Ok(run(&rt, rt.alloc(), Files::Images(&ALL), &deeds)?)
+    Ok(show(&rt, rt.alloc(), READ)?)
+}
+
+/// Sixteen data pages are read with one call for their digest, and then one by one.
+#[test]
+fn adjacent_pages_are_digested_at_once(rt: HostRuntime) -> Result<(), Fail> {
+    let deeds = [Deed::Reads(19, 22)];
+    Ok(run(&rt, rt.alloc(), Files::SixteenSpaces, &deeds)?)
 }
 
 /// Whether restoring and verifying fail as they should, where the device fails behind so many calls.
 fn fail_so(alloc: Global, calls: u64) -> Result<bool, Unbuilt> {
     let device = Some(Fault::Device);
-    let verified = if calls < 8 { device } else { None };
+    let verified = if calls < 9 { device } else { None };
     let restored = restoring_fault(alloc, &TWO, calls)? == device;
     Ok(restored && verifying_fault(alloc, &TWO, calls)? == verified)
 }
 
-/// Two open slots of four are asked with four lengths and four reads, and a restore reads a page besides. Whichever of
-/// them fails, the report is that.
+/// Two open slots of four are asked with four lengths, four reads, and one of the data page for its digest, and a restore
+/// reads that page besides. Whichever of them fails, the report is that.
 #[test]
 fn a_call_that_fails_ends_it(rt: HostRuntime) -> Result<(), Fail> {
-    for passed in 0..9u64 {
+    for passed in 0..10u64 {
         assert!(rt; fail_so(rt.alloc(), passed)?, "behind {passed}");
     }
-    assert!(rt; is_restored(rt.alloc(), &TWO, 9)?);
+    assert!(rt; is_restored(rt.alloc(), &TWO, 10)?);
     Ok(())
 }
 

@@ -3,7 +3,6 @@ use crate::builders::{
     Image, READ_WRITE, SPACE, Unbuilt, dump, file_of, four_slots, page, put, put_image, put_images,
     runs, table,
 };
-use crate::example::example;
 use sd_areas::{Snapshot, SnapshotPage, SpaceId};
 use sd_chain::{Catalog, Found};
 use sd_disk::{Disk, Fused, MemDisk};
@@ -19,8 +18,6 @@ pub(crate) enum Files<'a> {
     Images(&'a [Image]),
     /// These bytes in the first of four slots.
     Bytes(&'a [u8]),
-    /// The example file in the first of four slots.
-    Example,
     /// A dump of sixteen spaces in the first of four slots.
     SixteenSpaces,
     /// Nothing, in 64 slots.
@@ -243,7 +240,6 @@ fn fill(alloc: Global, disk: &mut MemDisk, files: Files<'_>) -> Result<(), Unbui
     match files {
         Files::Images(images) => put_images(alloc, disk, images),
         Files::Bytes(bytes) => put(disk, 0, 0, bytes),
-        Files::Example => put(disk, 0, 0, &example(alloc)?),
         Files::SixteenSpaces => put(disk, 0, 0, &sixteen_spaces(alloc)?),
         Files::Nothing => Ok(()),
     }
