@@ -4,6 +4,7 @@ use crate::run::{
     is_shown, path, prints,
 };
 use sd_disk::Disk;
+use sha2::{Digest, Sha256};
 use std::fs;
 use std::process::Abort;
 use std::test::Fail;
@@ -184,11 +185,21 @@ fn is_hex(rt: &(impl Abort + AllocGlobal), bytes: &[u8], digits: &str) -> Result
     Ok(())
 }
 
-/// The bytes of the first image: the header, the page and the table.
+/// The digest of an image's file: of the data pages, the table, and bytes 1 to 63.
+fn digest_of(bytes: &[u8]) -> [u8; 32] {
+    let mut hasher = Sha256::new();
+    if let (Some(body), Some(front)) = (bytes.get(4096..), bytes.get(1..64)) {
+        hasher.update(body);
+        hasher.update(front);
+    }
+    hasher.finalize()
+}
+
+/// The bytes of the first image: the header with its digest, the page and the table.
 fn is_first(rt: &(impl Abort + AllocGlobal), bytes: &[u8]) -> Result<(), Fail> {
     assert_eq!(rt; bytes.len(), 8264);
     is_hex(rt, bytes.get(..64).ok_or("a header")?, HEADER)?;
-    assert!(rt; bytes[64..4096].iter().all(|byte| *byte == 0));
+    assert!(rt; bytes[64..96] == digest_of(bytes) && bytes[96..4096].iter().all(|byte| *byte == 0));
     assert_eq!(rt; &bytes[4096..4101], b"hello".as_slice());
     assert!(rt; bytes[4101..8192].iter().all(|byte| *byte == 0));
     is_hex(rt, &bytes[8192..], TABLE)

@@ -1,5 +1,5 @@
 //! Stores that a run opens, and opens again.
-use crate::run::{HEADER, TABLE, answers, cut_first, empty, folder, has_first, path, prints};
+use crate::run::{HEADER_ONE, TABLE, answers, cut_first, empty, folder, has_first, path, prints};
 use sd_disk::{Disk, Fused, MemDisk};
 use sd_run::run_script;
 use std::alloc::Global;
@@ -13,9 +13,9 @@ fn push_hex(alloc: Global, file: &mut Vec<u8>, digits: &str) -> Result<(), Fail>
     Ok(())
 }
 
-/// The header, the page and the table of checkpoint 1.
+/// The header, the page and the table of checkpoint 1, in version 1.
 fn push_first(rt: &(impl Abort + AllocGlobal), file: &mut Vec<u8>) -> Result<(), Fail> {
-    push_hex(rt.alloc(), file, HEADER)?;
+    push_hex(rt.alloc(), file, HEADER_ONE)?;
     assert_eq!(rt; file.len(), 64);
     file.resize(4096, 0)?;
     file.extend_from_slice(b"hello")?;

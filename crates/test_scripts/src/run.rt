@@ -12,8 +12,12 @@ use std::process::{self, Abort};
 use std::test::Fail;
 use std::{fs, str};
 
-/// The header and the table of the image of checkpoint 1: page 0x10 of space 1 begins with `hello`.
+/// The front of the header, before its digest, and the table of the image of checkpoint 1: page 0x10 of space 1 begins with
+/// `hello`. The header of version 1 ends with zeros, as it has no digest.
 pub(crate) const HEADER: &str =
+    "a55344434841494e0200020000000000010000000000000001000000000000000000000000000000010000000000000001000000000000004800000000000000";
+
+pub(crate) const HEADER_ONE: &str =
     "a55344434841494e0100020000000000010000000000000001000000000000000000000000000000010000000000000001000000000000004800000000000000";
 
 pub(crate) const TABLE: &str =
