@@ -199,7 +199,8 @@ fn digest_of(bytes: &[u8]) -> [u8; 32] {
 fn is_first(rt: &(impl Abort + AllocGlobal), bytes: &[u8]) -> Result<(), Fail> {
     assert_eq!(rt; bytes.len(), 8264);
     is_hex(rt, bytes.get(..64).ok_or("a header")?, HEADER)?;
-    assert!(rt; bytes[64..96] == digest_of(bytes) && bytes[96..4096].iter().all(|byte| *byte == 0));
+    assert_eq!(rt; &bytes[64..96], digest_of(bytes).as_slice());
+    assert!(rt; bytes[96..4096].iter().all(|byte| *byte == 0));
     assert_eq!(rt; &bytes[4096..4101], b"hello".as_slice());
     assert!(rt; bytes[4101..8192].iter().all(|byte| *byte == 0));
     is_hex(rt, &bytes[8192..], TABLE)
