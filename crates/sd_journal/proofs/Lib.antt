@@ -5,3 +5,4 @@ pub mod KeptLemmas
 pub mod LegalLemmas
 pub mod MarkedLemmas
 pub mod PlainLemmas
+pub mod TrimLemmas

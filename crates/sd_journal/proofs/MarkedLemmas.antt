@@ -102,7 +102,7 @@ frozen_passes (command.TryStore space address bytes) = refl
 frozen_passes (command.Fault space address) = refl
 frozen_passes (command.Store space address bytes) = refl
 
-frozen_leaves : (command : Command) (memory : PlainMemory) → effect command (Refused Frozen) memory ≡ memory
+pub frozen_leaves : (command : Command) (memory : PlainMemory) → effect command (Refused Frozen) memory ≡ memory
 frozen_leaves (command.Mmap space address bytes prot) memory = refl
 frozen_leaves (command.Munmap space address bytes) memory = refl
 frozen_leaves (command.Mprotect space address bytes prot) memory = refl

@@ -1,6 +1,7 @@
 //! Laws of journals, each the contract of a function that does nothing.
 ghost use Rattle.sd_journal.specs.Laws.{JournalLaws};
 ghost use Rattle.sd_journal.specs.TrackedLaws.{TrackedLaws, DueLaws};
+ghost use Rattle.sd_journal.specs.Trimming.{TrimLaws};
 ghost use Rattle.sd_journal.specs.Worked.{WorkedJournals};
 
 use sd_command::effect_law as command_law;
@@ -24,6 +25,12 @@ pub fn tracked_laws()
 /// Which pages a dump finds soft-dirty: those that were touched since their last visit, or never visited.
 pub fn due_laws()
     ensures { DueLaws }
+{}
+
+/// What a trim leaves of a legal journal: it makes the same memory, allows the same to be shown, and goes on from the
+/// checkpoint whose entries were folded.
+pub fn trim_laws()
+    ensures { TrimLaws }
 {}
 
 /// Journals of two checkpoints, worked out one entry after the other.

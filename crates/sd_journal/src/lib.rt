@@ -14,7 +14,7 @@ mod receipt;
 pub use close_fault::CloseFault;
 pub use entry::Entry;
 pub use journal::{ENTRY_LIMIT, Journal};
-pub use laws::{due_laws, journal_laws, tracked_laws, worked_journals};
+pub use laws::{due_laws, journal_laws, tracked_laws, trim_laws, worked_journals};
 pub use mark::Mark;
 pub use plain_memory::replay;
 pub use receipt::Receipt;

@@ -1,0 +1,70 @@
+-- Trimming: the entries up to and with the one that ended the pending of a checkpoint are taken from the front of a journal, and what is
+-- kept goes on from a new base, which is that checkpoint.
+use Rattle.std.specs.Prelude.{◌≡◌, ◌≢◌, ◌↔◌, ◌+◌, ℕ, List, [], ◌∷◌, ◌++◌, length, reverse, Option, Some}
+use Rattle.sd_journal.specs.declared.entry.Entry.{Entry}
+use Rattle.sd_journal.specs.declared.entry.Entry.TheVariants.{Applied, Freeze, Acked, Cancelled, Reopened}
+use Rattle.sd_journal.specs.History.{Base, History, memory_after, at_freeze, last, pending}
+use Rattle.sd_journal.specs.Legal.{IsAbove, IsLegal}
+use Rattle.sd_journal.specs.Allowed.{Shown, IsAllowed}
+use Rattle.sd_journal.specs.Marked.{Told, Marked, entries_of}
+use Rattle.sd_journal.specs.Kept.{Kept}
+
+-- the entry, after those, ended the pending of a checkpoint: its acknowledgement, or the reopening that found it while it was pending
+abbrev pub Ends : ℕ → History → Entry → Type 0
+Ends n before (Applied seat command reply) = ⊥
+Ends n before (Freeze m) = ⊥
+Ends n before (Acked m) = (m ≡ n) × (pending before ≡ Some n)
+Ends n before (Cancelled m) = ⊥
+Ends n before (Reopened m) = (m ≡ Some n) × (pending before ≡ Some n)
+
+-- the last of these entries ended the pending of a checkpoint
+abbrev pub IsEnded : ℕ → History → Type 0
+IsEnded n [] = ⊥
+IsEnded n (entry ∷ before) = Ends n before entry
+
+-- the base that is left when entries are folded: the memory that they make, under the checkpoint's number
+abbrev pub base_after : Base → ℕ → History → Base
+base_after base n folded = record { number = Some n; memory = memory_after base folded }
+
+-- Of a legal journal, the front that ended the pending of a checkpoint is folded, and the rest is kept.
+pub record TrimLaws : Type 0 where
+  -- the new base is the memory at the checkpoint's freeze
+  pub freeze : (base : Base) (kept folded : History) (n : ℕ) → IsLegal base (kept ++ folded) → IsEnded n folded
+      → at_freeze base (kept ++ folded) n ≡ Some (memory_after base folded)
+  -- what is kept is a legal journal on it, and makes the same memory
+  pub legal : (base : Base) (kept folded : History) (n : ℕ) → IsLegal base (kept ++ folded) → IsEnded n folded
+      → IsLegal (base_after base n folded) kept
+  pub memory : (base : Base) (kept folded : History) (n : ℕ)
+      → memory_after (base_after base n folded) kept ≡ memory_after base (kept ++ folded)
+  -- the last and the pending checkpoint are the same
+  pub last_stays : (base : Base) (kept folded : History) (n : ℕ) → IsEnded n folded
+      → last (base_after base n folded) kept ≡ last base (kept ++ folded)
+  pub pending_stays : (kept folded : History) (n : ℕ) → IsEnded n folded → pending kept ≡ pending (kept ++ folded)
+  -- it allows the same to be shown
+  pub allowed : (base : Base) (kept folded : History) (n : ℕ) (shown : Shown) → IsLegal base (kept ++ folded) → IsEnded n folded
+      → IsAllowed (base_after base n folded) kept shown ↔ IsAllowed base (kept ++ folded) shown
+  -- a number is above all of it as before
+  pub above : (base : Base) (kept folded : History) (n k : ℕ) → IsLegal base (kept ++ folded) → IsEnded n folded
+      → IsAbove (base_after base n folded) kept k ↔ IsAbove base (kept ++ folded) k
+  -- there is one such front at most, and there is one where the last checkpoint isn't the base's
+  pub one : (base : Base) (kept folded other_kept other : History) (n : ℕ) → IsLegal base (kept ++ folded)
+      → kept ++ folded ≡ other_kept ++ other → IsEnded n folded → IsEnded n other → folded ≡ other
+  pub some : (base : Base) (history : History) (n : ℕ) → IsLegal base history → last base history ≡ Some n → base.number ≢ Some n
+      → (kept : History) × (folded : History) × (history ≡ kept ++ folded) × IsEnded n folded
+
+-- ---- a journal as it is kept
+
+-- the newest of these is an entry
+abbrev pub IsEntryFirst : Marked → Type 0
+IsEntryFirst items = (entry : Entry) × (earlier : Marked) × (items ≡ Told entry ∷ earlier)
+
+-- So many entries were taken from the front, with the marks between them: a mark behind the last of them is kept. The others keep their numbers.
+pub record TakesFront (many : ℕ) (taken : List Entry) (old new : Kept) : Type 0 where
+  pub gone : Marked
+  pub parts : old.items ≡ new.items ++ gone
+  pub newest : IsEntryFirst gone
+  pub entries : taken ≡ reverse (entries_of gone)
+  pub count : length taken ≡ many
+  pub first : new.first ≡ old.first + many
+  pub held : new.held ≡ old.held
+  pub limit : new.limit ≡ old.limit
