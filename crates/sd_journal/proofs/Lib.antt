@@ -1,8 +1,10 @@
 pub mod AllowedLemmas
 pub mod DueLemmas
+pub mod FrontLemmas
 pub mod HistoryLemmas
 pub mod KeptLemmas
 pub mod LegalLemmas
 pub mod MarkedLemmas
 pub mod PlainLemmas
+pub mod TakenLemmas
 pub mod TrimLemmas

@@ -1,6 +1,6 @@
 -- Trimming: the entries up to and with the one that ended the pending of a checkpoint are taken from the front of a journal, and what is
 -- kept goes on from a new base, which is that checkpoint.
-use Rattle.std.specs.Prelude.{◌≡◌, ◌≢◌, ◌↔◌, ◌+◌, ℕ, List, [], ◌∷◌, ◌++◌, length, reverse, Option, Some}
+use Rattle.std.specs.Prelude.{◌≡◌, ◌≢◌, ◌↔◌, ◌+◌, ◌≤◌, ℕ, List, [], ◌∷◌, ◌++◌, length, reverse, take, Option, Some}
 use Rattle.sd_journal.specs.declared.entry.Entry.{Entry}
 use Rattle.sd_journal.specs.declared.entry.Entry.TheVariants.{Applied, Freeze, Acked, Cancelled, Reopened}
 use Rattle.sd_journal.specs.History.{Base, History, memory_after, at_freeze, last, pending}
@@ -21,6 +21,10 @@ Ends n before (Reopened m) = (m ≡ Some n) × (pending before ≡ Some n)
 abbrev pub IsEnded : ℕ → History → Type 0
 IsEnded n [] = ⊥
 IsEnded n (entry ∷ before) = Ends n before entry
+
+-- so many entries from the front, in order of time, end with that one
+abbrev pub EndsAt : ℕ → List Entry → ℕ → Type 0
+EndsAt n entries count = (count ≤ length entries) × IsEnded n (reverse (take count entries))
 
 -- the base that is left when entries are folded: the memory that they make, under the checkpoint's number
 abbrev pub base_after : Base → ℕ → History → Base
