@@ -1,4 +1,5 @@
 pub mod AllowedLemmas
+pub mod BitLemmas
 pub mod DueLemmas
 pub mod FrontLemmas
 pub mod HistoryLemmas

@@ -1,8 +1,9 @@
 -- Trimming: the entries up to and with the one that ended the pending of a checkpoint are taken from the front of a journal, and what is
 -- kept goes on from a new base, which is that checkpoint.
-use Rattle.std.specs.Prelude.{◌≡◌, ◌≢◌, ◌↔◌, ◌+◌, ◌≤◌, ℕ, List, [], ◌∷◌, ◌++◌, length, reverse, take, Option, Some}
+use Rattle.std.specs.Prelude.{◌≡◌, ◌≢◌, ◌↔◌, ◌+◌, ◌≤◌, ℕ, Bool, true, false, List, [], ◌∷◌, ◌++◌, length, reverse, take, Option, Some}
 use Rattle.sd_journal.specs.declared.entry.Entry.{Entry}
 use Rattle.sd_journal.specs.declared.entry.Entry.TheVariants.{Applied, Freeze, Acked, Cancelled, Reopened}
+use Rattle.sd_journal.specs.declared.origin.Origin.TheVariants.{Trimmed}
 use Rattle.sd_journal.specs.History.{Base, History, memory_after, at_freeze, last, pending}
 use Rattle.sd_journal.specs.Legal.{IsAbove, IsLegal}
 use Rattle.sd_journal.specs.Allowed.{Shown, IsAllowed}
@@ -26,9 +27,14 @@ IsEnded n (entry ∷ before) = Ends n before entry
 abbrev pub EndsAt : ℕ → List Entry → ℕ → Type 0
 EndsAt n entries count = (count ≤ length entries) × IsEnded n (reverse (take count entries))
 
+-- the last of these entries is an acknowledgement
+abbrev pub is_acknowledged : History → Bool
+is_acknowledged (Acked n ∷ before) = true
+is_acknowledged _ = false
+
 -- the base that is left when entries are folded: the memory that they make, under the checkpoint's number
 abbrev pub base_after : Base → ℕ → History → Base
-base_after base n folded = record { number = Some n; memory = memory_after base folded }
+base_after base n folded = record { number = Some n; memory = memory_after base folded; origin = Trimmed (is_acknowledged folded) }
 
 -- Of a legal journal, the front that ended the pending of a checkpoint is folded, and the rest is kept.
 pub record TrimLaws : Type 0 where

@@ -5,7 +5,7 @@ ghost use Rattle.sd_journal.specs.Trimming.{TrimLaws};
 ghost use Rattle.sd_journal.specs.Worked.{WorkedJournals};
 
 use sd_command::effect_law as command_law;
-use sd_pagetable::{effect_law, plain_law, tracks_law};
+use sd_pagetable::{clear_law, effect_law, page_law, plain_law};
 
 /// What each entry of a legal journal makes of what it allows to be shown.
 pub fn journal_laws()
@@ -19,7 +19,8 @@ pub fn tracked_laws()
     command_law();
     effect_law();
     plain_law();
-    tracks_law();
+    page_law();
+    clear_law();
 }
 
 /// Which pages a dump finds soft-dirty: those that were touched since their last visit, or never visited.
