@@ -5,7 +5,9 @@ pub mod FrontLemmas
 pub mod HistoryLemmas
 pub mod KeptLemmas
 pub mod LegalLemmas
+pub mod MappedLemmas
 pub mod MarkedLemmas
 pub mod PlainLemmas
 pub mod TakenLemmas
 pub mod TrimLemmas
+pub mod TrimmedMarks

@@ -29,19 +29,19 @@ use Rattle.sd_journal.specs.Receipts.{is_command}
 use Rattle.sd_journal.proofs.BitLemmas.{bits_clear, bits_pass, bits_step}
 use Rattle.sd_journal.proofs.HistoryLemmas.{same}
 
-and_left : (a b : Bool) → (a && b) ≡ true → a ≡ true
+pub and_left : (a b : Bool) → (a && b) ≡ true → a ≡ true
 and_left true b e = refl
 and_left false b e = e
 
-and_right : (a b : Bool) → (a && b) ≡ true → b ≡ true
+pub and_right : (a b : Bool) → (a && b) ≡ true → b ≡ true
 and_right true b e = e
 and_right false b e = absurd (cc)
 
-or_left : (a b : Bool) → (a || b) ≡ false → a ≡ false
+pub or_left : (a b : Bool) → (a || b) ≡ false → a ≡ false
 or_left true b e = e
 or_left false b e = refl
 
-or_right : (a b : Bool) → (a || b) ≡ false → b ≡ false
+pub or_right : (a b : Bool) → (a || b) ≡ false → b ≡ false
 or_right true b e = absurd (cc)
 or_right false b e = e
 
@@ -52,7 +52,7 @@ or_holds false b e = e
 pub never : {P : Type 0} → true ≡ false → P
 never e = absurd (cc)
 
-if_some : {A : Type 0} (o : Option A) (P Q : A → Type 0) → ((a : A) → P a → Q a) → IfSome o P → IfSome o Q
+pub if_some : {A : Type 0} (o : Option A) (P Q : A → Type 0) → ((a : A) → P a → Q a) → IfSome o P → IfSome o Q
 if_some None P Q f p = p
 if_some (Some a) P Q f p = f a p
 
@@ -159,7 +159,7 @@ told base items contents (Reopened m) tracked may other = record {
 -- ---- marks
 
 -- an image without a mark has visited no page
-no_visit : (items : Marked) (serial : ℕ) → list_any (is_of serial) items ≡ false → last_visit items serial ≡ None
+pub no_visit : (items : Marked) (serial : ℕ) → list_any (is_of serial) items ≡ false → last_visit items serial ≡ None
 no_visit [] serial e = refl
 no_visit (Told entry ∷ earlier) serial e = no_visit earlier serial e
 no_visit (Noted (Start s) ∷ earlier) serial e = no_visit earlier serial (or_right (s == serial) (list_any (is_of serial) earlier) e)

@@ -1,13 +1,15 @@
 -- Trimming: the entries up to and with the one that ended the pending of a checkpoint are taken from the front of a journal, and what is
 -- kept goes on from a new base, which is that checkpoint.
 use Rattle.std.specs.Prelude.{◌≡◌, ◌≢◌, ◌↔◌, ◌+◌, ◌≤◌, ℕ, Bool, true, false, List, [], ◌∷◌, ◌++◌, length, reverse, take, Option, Some}
+use Rattle.sd_pagetable.specs.Contents.{Contents}
+use Rattle.sd_pagetable.specs.Tracking.{is_writable}
 use Rattle.sd_journal.specs.declared.entry.Entry.{Entry}
 use Rattle.sd_journal.specs.declared.entry.Entry.TheVariants.{Applied, Freeze, Acked, Cancelled, Reopened}
 use Rattle.sd_journal.specs.declared.origin.Origin.TheVariants.{Trimmed}
 use Rattle.sd_journal.specs.History.{Base, History, memory_after, at_freeze, last, pending}
 use Rattle.sd_journal.specs.Legal.{IsAbove, IsLegal}
 use Rattle.sd_journal.specs.Allowed.{Shown, IsAllowed}
-use Rattle.sd_journal.specs.Marked.{Told, Marked, entries_of}
+use Rattle.sd_journal.specs.Marked.{Told, Marked, entries_of, events_of, is_due, is_mapped, last_visit, memory_at, visiting, IsMarked, IsTracked}
 use Rattle.sd_journal.specs.Kept.{Kept}
 
 -- the entry, after those, ended the pending of a checkpoint: its acknowledgement, or the reopening that found it while it was pending
@@ -62,11 +64,38 @@ pub record TrimLaws : Type 0 where
   pub some : (base : Base) (history : History) (n : ℕ) → IsLegal base history → last base history ≡ Some n → base.number ≢ Some n
       → (kept : History) × (folded : History) × (history ≡ kept ++ folded) × IsEnded n folded
 
--- ---- a journal as it is kept
+-- ---- a tracked memory
 
 -- the newest of these is an entry
 abbrev pub IsEntryFirst : Marked → Type 0
 IsEntryFirst items = (entry : Entry) × (earlier : Marked) × (items ≡ Told entry ∷ earlier)
+
+-- Each page of the memory was visited, and nothing touched it since.
+pub record HasVisited (base : Base) (folded : Marked) : Type 0 where
+  pub clean : (space page : ℕ) → is_mapped (memory_at base folded) space page ≡ true → is_due base folded space page ≡ false
+  pub protected : (space page : ℕ) → is_mapped (memory_at base folded) space page ≡ true → is_writable (events_of folded) space page ≡ false
+
+-- Of a marked journal, the front is folded that ended the pending of a checkpoint.
+pub record IsFolded (n : ℕ) (folded : Marked) : Type 0 where
+  pub newest : IsEntryFirst folded
+  pub ended : IsEnded n (entries_of folded)
+
+-- The front of a marked journal is folded, and the rest is kept.
+pub record MarkedTrimLaws : Type 0 where
+  -- the marks that are kept may stand, and tell of the same visits
+  pub marked : (base : Base) (kept folded : Marked) (n : ℕ) → IsMarked base (kept ++ folded) → IsFolded n folded
+      → IsMarked (base_after base n (entries_of folded)) kept
+  pub visiting_stays : (kept folded : Marked) (n : ℕ) → IsFolded n folded → visiting kept ≡ visiting (kept ++ folded)
+  pub cursor_stays : (base : Base) (kept folded : Marked) (n serial : ℕ) → IsMarked base (kept ++ folded) → IsFolded n folded
+      → visiting kept ≡ Some serial → last_visit kept serial ≡ last_visit (kept ++ folded) serial
+  -- where each page of the folded memory was visited, the pages are due that were, and the memory stays tracked
+  pub due_stays : (base : Base) (kept folded : Marked) (n space page : ℕ) → IsFolded n folded → HasVisited base folded
+      → is_mapped (memory_at base (kept ++ folded)) space page ≡ true
+      → is_due (base_after base n (entries_of folded)) kept space page ≡ is_due base (kept ++ folded) space page
+  pub tracked : (base : Base) (kept folded : Marked) (contents : Contents) (n : ℕ) → IsTracked base (kept ++ folded) contents
+      → IsFolded n folded → HasVisited base folded → IsTracked (base_after base n (entries_of folded)) kept contents
+
+-- ---- a journal as it is kept
 
 -- So many entries were taken from the front, with the marks between them: a mark behind the last of them is kept. The others keep their numbers.
 pub record TakesFront (many : ℕ) (taken : List Entry) (old new : Kept) : Type 0 where

@@ -1,7 +1,7 @@
 //! Laws of journals, each the contract of a function that does nothing.
 ghost use Rattle.sd_journal.specs.Laws.{JournalLaws};
 ghost use Rattle.sd_journal.specs.TrackedLaws.{TrackedLaws, DueLaws};
-ghost use Rattle.sd_journal.specs.Trimming.{TrimLaws};
+ghost use Rattle.sd_journal.specs.Trimming.{MarkedTrimLaws, TrimLaws};
 ghost use Rattle.sd_journal.specs.Worked.{WorkedJournals};
 
 use sd_command::effect_law as command_law;
@@ -33,6 +33,14 @@ pub fn due_laws()
 pub fn trim_laws()
     ensures { TrimLaws }
 {}
+
+/// What a trim leaves of a marked journal: its marks tell of the same visits, and where each page of the folded memory was
+/// visited, the memory stays tracked, with the pages due that were.
+pub fn marked_trim_laws()
+    ensures { MarkedTrimLaws }
+{
+    plain_law();
+}
 
 /// Journals of two checkpoints, worked out one entry after the other.
 pub fn worked_journals()
