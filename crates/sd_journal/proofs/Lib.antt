@@ -1,3 +1,4 @@
+pub mod AlikeLemmas
 pub mod AllowedLemmas
 pub mod BitLemmas
 pub mod DueLemmas

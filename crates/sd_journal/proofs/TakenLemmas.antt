@@ -8,7 +8,7 @@ use Rattle.sd_journal.specs.declared.entry.Entry.{Entry}
 use Rattle.sd_journal.specs.declared.placed_mark.PlacedMark.{PlacedMark}
 use Rattle.sd_journal.specs.History.{History}
 use Rattle.sd_journal.specs.Kept.{woven, AreWithin, is_behind}
-use Rattle.sd_journal.specs.Marked.{Told, Noted, Marked, entries_of}
+use Rattle.sd_journal.specs.Marked.{Item, Told, Noted, Marked, entries_of}
 use Rattle.sd_journal.specs.Trimming.{IsEntryFirst}
 use Rattle.sd_journal.proofs.KeptLemmas.{entries_of-woven, within_more, woven_entry}
 
@@ -91,6 +91,27 @@ record IsCut (under next : ℕ) (newer older : History) (marks : List PlacedMark
   within : AreWithin under old_marks
   parts : woven next (newer ++ older) marks ≡ woven next newer (filter (is_behind (under + 1)) marks) ++ woven (under + 1) older old_marks
 
+behind_parts : (next number : ℕ) (newer older : History) (placed : PlacedMark) (earlier kept old_marks : List PlacedMark) (d : ℕ) → d ≡ next - placed.before
+    → d ≤ length newer → filter (is_behind number) (placed ∷ earlier) ≡ placed ∷ kept
+    → woven placed.before (drop d newer ++ older) earlier ≡ woven placed.before (drop d newer) kept ++ woven number older old_marks
+    → woven next (newer ++ older) (placed ∷ earlier) ≡ woven next newer (filter (is_behind number) (placed ∷ earlier)) ++ woven number older old_marks
+behind_parts next number newer older placed earlier kept old_marks d is short all rest =
+    let went : List Item = map Told (take d newer) in
+    let left : List Item = woven placed.before (drop d newer) kept in
+    let gone : List Item = woven number older old_marks in
+    let first : woven next (newer ++ older) (placed ∷ earlier)
+        ≡ map Told (take d (newer ++ older)) ++ Noted placed.mark ∷ woven placed.before (drop d (newer ++ older)) earlier =
+    ap (λ k. map Told (take k (newer ++ older)) ++ Noted placed.mark ∷ woven placed.before (drop k (newer ++ older)) earlier) (sym is) in
+    let second : map Told (take d (newer ++ older)) ++ Noted placed.mark ∷ woven placed.before (drop d (newer ++ older)) earlier
+        ≡ went ++ Noted placed.mark ∷ woven placed.before (drop d newer ++ older) earlier =
+    ap (λ xs. map Told xs ++ Noted placed.mark ∷ woven placed.before (drop d (newer ++ older)) earlier) (take-append-le d newer older short)
+    ∙ ap (λ xs. went ++ Noted placed.mark ∷ woven placed.before xs earlier) (drop-append-le d newer older short) in
+    let third : went ++ Noted placed.mark ∷ woven placed.before (drop d newer ++ older) earlier ≡ (went ++ Noted placed.mark ∷ left) ++ gone =
+    ap (λ xs. went ++ Noted placed.mark ∷ xs) rest ∙ sym (append_assoc went (Noted placed.mark ∷ left) gone) in
+    let fourth : (went ++ Noted placed.mark ∷ left) ++ gone ≡ woven next newer (placed ∷ kept) ++ gone =
+    ap (λ k. (map Told (take k newer) ++ Noted placed.mark ∷ woven placed.before (drop k newer) kept) ++ gone) is in
+    first ∙ second ∙ third ∙ fourth ∙ ap (λ xs. woven next newer xs ++ gone) (sym all)
+
 cut : (under next : ℕ) (newer older : History) (marks : List PlacedMark) → under + 1 + length newer ≡ next → AreWithin next marks
     → IsCut under next newer older marks
 cut under next newer older [] e within = record {
@@ -110,11 +131,7 @@ cut under next newer older (placed ∷ earlier) e within =
           record {
             old_marks = rest.old_marks;
             within = rest.within;
-            parts = ap (λ xs. map Told xs ++ Noted placed.mark ∷ woven placed.before (drop d (newer ++ older)) earlier) (take-append-le d newer older short)
-                ∙ ap (λ xs. map Told (take d newer) ++ Noted placed.mark ∷ woven placed.before xs earlier) (drop-append-le d newer older short)
-                ∙ ap (λ xs. map Told (take d newer) ++ Noted placed.mark ∷ xs) rest.parts
-                ∙ sym (append_assoc (map Told (take d newer)) (Noted placed.mark ∷ woven placed.before (drop d newer) kept) (woven (under + 1) older rest.old_marks))
-                ∙ ap (λ xs. woven next newer xs ++ woven (under + 1) older rest.old_marks) (sym (kept_one (under + 1) placed earlier behind.0));
+            parts = behind_parts next (under + 1) newer older placed earlier kept rest.old_marks d refl short (kept_one (under + 1) placed earlier behind.0) rest.parts;
           }
       | inr before ↦
           let below : placed.before ≤ under = omega (arith, before.1) in
