@@ -1,6 +1,6 @@
 -- What is seen of a core.
-use Rattle.std.specs.Prelude.{ℕ, ◌+◌, Bool, List, Option, refl}
-use Rattle.std.specs.Coded.{Coded, code_by, coded×, coded_ℕ, coded_option}
+use Rattle.std.specs.Prelude.{◌≡◌, ℕ, ◌+◌, Bool, List, Option, Some, None, refl, ap}
+use Rattle.std.specs.Coded.{Coded, code_by, coded×, coded_bool, coded_ℕ, coded_option}
 use Rattle.sd_areas.specs.Codes.{plain_memory_code}
 use Rattle.sd_areas.specs.PlainMemory.{PlainMemory}
 use Rattle.sd_pagetable.specs.Contents.{Contents, contents_code}
@@ -9,6 +9,8 @@ use Rattle.sd_gate.specs.declared.phase.Phase.{Phase}
 use Rattle.sd_gate.specs.declared.request_id.RequestId.{RequestId}
 use Rattle.sd_gate.specs.declared.worker.Worker.{Worker}
 use Rattle.sd_gate.specs.declared.worker.Worker.TheVariants.{Dumper, Merger, Opener}
+use Rattle.sd_journal.specs.declared.origin.Origin.{Origin}
+use Rattle.sd_journal.specs.declared.origin.Origin.TheVariants.{Opened, Trimmed}
 use Rattle.sd_journal.specs.History.{Base, History}
 use Rattle.sd_journal.specs.Marked.{Marked, entries_of}
 use Rattle.sd_merge.specs.Merger as merger
@@ -51,9 +53,23 @@ pub record CoreView : Type 0 where
 
 -- ---- how a view is stored as a value
 
+-- none where it was opened, else whether the trim ended at an acknowledgement
+abbrev pub origin_word : Origin → Option Bool
+origin_word Opened = None
+origin_word (Trimmed acknowledged) = Some acknowledged
+
+abbrev pub origin_of : Option Bool → Origin
+origin_of None = Opened
+origin_of (Some acknowledged) = Trimmed acknowledged
+
+abbrev pub same_origin : (origin : Origin) → origin_of (origin_word origin) ≡ origin
+same_origin Opened = refl
+same_origin (Trimmed acknowledged) = refl
+
 abbrev pub base_code : Coded Base
-base_code = code_by (Option ℕ × PlainMemory) (coded× (coded_option coded_ℕ) plain_memory_code)
-    (λ b. (b.number, b.memory)) (λ t. record { number = t.0; memory = t.1 }) (λ _. refl)
+base_code = code_by (Option ℕ × (PlainMemory × Option Bool)) (coded× (coded_option coded_ℕ) (coded× plain_memory_code (coded_option coded_bool)))
+    (λ b. (b.number, (b.memory, origin_word b.origin))) (λ t. record { number = t.0; memory = t.1.0; origin = origin_of t.1.1 })
+    (λ b. ap {B = Base} (λ o. record { number = b.number; memory = b.memory; origin = o }) (same_origin b.origin))
 
 -- all but the base and the memory
 abbrev pub Rest : Type 0

@@ -21,7 +21,7 @@ shown_base (Some number) memory = Some (number, memory)
 
 -- a core that starts: its journal is empty, its store isn't open, and nothing is out
 pub record IsStart (number : Option ℕ) (saved : PlainMemory) (loaded : Contents) (found : List Phase) (core : CoreView) : Type 0 where
-  pub base : core.base ≡ record { number = number; memory = saved }
+  pub base : core.base ≡ record { number = number; memory = saved; origin = Opened }
   pub items : core.items ≡ []
   pub held : core.held ≡ 0
   pub limit : core.limit ≡ 1048576
