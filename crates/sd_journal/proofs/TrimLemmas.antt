@@ -262,33 +262,56 @@ freeze_stays base (Acked m ∷ earlier) folded n k legal ended from = freeze_sta
 freeze_stays base (Cancelled m ∷ earlier) folded n k legal ended from = freeze_stays base earlier folded n k legal.1 ended from
 freeze_stays base (Reopened m ∷ earlier) folded n k legal ended from = freeze_stays base earlier folded n k legal.1 ended from
 
-allowed_off : (base : Base) (kept folded : History) (n : ℕ) (shown : Shown) → IsLegal base (kept ++ folded) → IsEnded n folded
-    → IsAllowed (base_after base n folded) kept shown → IsAllowed base (kept ++ folded) shown
-allowed_off base kept folded n None was ended (inl none) = inl (sym (last_stays base kept folded n ended) ∙ none)
-allowed_off base kept folded n None was ended (inr never) = absurd never
-allowed_off base kept folded n (Some pair) was ended (inl is) =
+last_off : (base : Base) (kept folded : History) (n : ℕ) (shown : Shown) → IsLegal base (kept ++ folded) → IsEnded n folded
+    → IsLastPair (base_after base n folded) kept shown → IsLastPair base (kept ++ folded) shown
+last_off base kept folded n None was ended none = sym (last_stays base kept folded n ended) ∙ none
+last_off base kept folded n (Some pair) was ended is =
     let from = last_from (base_after base n folded) kept n pair.0 refl (legal base kept folded n was ended) is.0 in
-    inl (sym (last_stays base kept folded n ended) ∙ is.0, sym (freeze_stays base kept folded n pair.0 was ended from) ∙ is.1)
-allowed_off base kept folded n (Some pair) was ended (inr is) =
-    let from = pending_from (base_after base n folded) kept n pair.0 refl (legal base kept folded n was ended) is.0 in
-    inr (sym (pending_stays kept folded n ended) ∙ is.0, sym (freeze_stays base kept folded n pair.0 was ended (inr from)) ∙ is.1)
+    (sym (last_stays base kept folded n ended) ∙ is.0, sym (freeze_stays base kept folded n pair.0 was ended from) ∙ is.1)
 
-allowed_on : (base : Base) (kept folded : History) (n : ℕ) (shown : Shown) → IsLegal base (kept ++ folded) → IsEnded n folded
-    → IsAllowed base (kept ++ folded) shown → IsAllowed (base_after base n folded) kept shown
-allowed_on base kept folded n None was ended (inl none) = inl (last_stays base kept folded n ended ∙ none)
-allowed_on base kept folded n None was ended (inr never) = absurd never
-allowed_on base kept folded n (Some pair) was ended (inl is) =
+last_on : (base : Base) (kept folded : History) (n : ℕ) (shown : Shown) → IsLegal base (kept ++ folded) → IsEnded n folded
+    → IsLastPair base (kept ++ folded) shown → IsLastPair (base_after base n folded) kept shown
+last_on base kept folded n None was ended none = last_stays base kept folded n ended ∙ none
+last_on base kept folded n (Some pair) was ended is =
     let now = last_stays base kept folded n ended ∙ is.0 in
     let from = last_from (base_after base n folded) kept n pair.0 refl (legal base kept folded n was ended) now in
-    inl (now, freeze_stays base kept folded n pair.0 was ended from ∙ is.1)
-allowed_on base kept folded n (Some pair) was ended (inr is) =
+    (now, freeze_stays base kept folded n pair.0 was ended from ∙ is.1)
+
+pub last_pair : (base : Base) (kept folded : History) (n : ℕ) (shown : Shown) → IsLegal base (kept ++ folded) → IsEnded n folded
+    → IsLastPair (base_after base n folded) kept shown ↔ IsLastPair base (kept ++ folded) shown
+last_pair base kept folded n shown was ended = (last_off base kept folded n shown was ended, last_on base kept folded n shown was ended)
+
+pending_off : (base : Base) (kept folded : History) (n : ℕ) (shown : Shown) → IsLegal base (kept ++ folded) → IsEnded n folded
+    → IsPendingPair (base_after base n folded) kept shown → IsPendingPair base (kept ++ folded) shown
+pending_off base kept folded n None was ended never = absurd never
+pending_off base kept folded n (Some pair) was ended is =
+    let from = pending_from (base_after base n folded) kept n pair.0 refl (legal base kept folded n was ended) is.0 in
+    (sym (pending_stays kept folded n ended) ∙ is.0, sym (freeze_stays base kept folded n pair.0 was ended (inr from)) ∙ is.1)
+
+pending_on : (base : Base) (kept folded : History) (n : ℕ) (shown : Shown) → IsLegal base (kept ++ folded) → IsEnded n folded
+    → IsPendingPair base (kept ++ folded) shown → IsPendingPair (base_after base n folded) kept shown
+pending_on base kept folded n None was ended never = absurd never
+pending_on base kept folded n (Some pair) was ended is =
     let now = pending_stays kept folded n ended ∙ is.0 in
     let from = pending_from (base_after base n folded) kept n pair.0 refl (legal base kept folded n was ended) now in
-    inr (now, freeze_stays base kept folded n pair.0 was ended (inr from) ∙ is.1)
+    (now, freeze_stays base kept folded n pair.0 was ended (inr from) ∙ is.1)
+
+pub pending_pair : (base : Base) (kept folded : History) (n : ℕ) (shown : Shown) → IsLegal base (kept ++ folded) → IsEnded n folded
+    → IsPendingPair (base_after base n folded) kept shown ↔ IsPendingPair base (kept ++ folded) shown
+pending_pair base kept folded n shown was ended = (pending_off base kept folded n shown was ended, pending_on base kept folded n shown was ended)
 
 pub allowed : (base : Base) (kept folded : History) (n : ℕ) (shown : Shown) → IsLegal base (kept ++ folded) → IsEnded n folded
     → IsAllowed (base_after base n folded) kept shown ↔ IsAllowed base (kept ++ folded) shown
-allowed base kept folded n shown was ended = (allowed_off base kept folded n shown was ended, allowed_on base kept folded n shown was ended)
+allowed base kept folded n shown was ended = (
+  λ either. elim either [
+    | inl is ↦ inl (last_off base kept folded n shown was ended is)
+    | inr is ↦ inr (pending_off base kept folded n shown was ended is)
+  ],
+  λ either. elim either [
+    | inl is ↦ inl (last_on base kept folded n shown was ended is)
+    | inr is ↦ inr (pending_on base kept folded n shown was ended is)
+  ],
+)
 
 -- ---- there is one front
 

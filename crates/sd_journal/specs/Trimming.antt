@@ -8,7 +8,7 @@ use Rattle.sd_journal.specs.declared.entry.Entry.TheVariants.{Applied, Freeze, A
 use Rattle.sd_journal.specs.declared.origin.Origin.TheVariants.{Trimmed}
 use Rattle.sd_journal.specs.History.{Base, History, memory_after, at_freeze, last, pending}
 use Rattle.sd_journal.specs.Legal.{IsAbove, IsLegal}
-use Rattle.sd_journal.specs.Allowed.{Shown, IsAllowed}
+use Rattle.sd_journal.specs.Allowed.{Shown, IsAllowed, IsLastPair, IsPendingPair}
 use Rattle.sd_journal.specs.Marked.{Told, Marked, entries_of, events_of, is_due, is_mapped, last_visit, memory_at, visiting, IsMarked, IsTracked}
 use Rattle.sd_journal.specs.Kept.{Kept}
 
@@ -52,7 +52,11 @@ pub record TrimLaws : Type 0 where
   pub last_stays : (base : Base) (kept folded : History) (n : ℕ) → IsEnded n folded
       → last (base_after base n folded) kept ≡ last base (kept ++ folded)
   pub pending_stays : (kept folded : History) (n : ℕ) → IsEnded n folded → pending kept ≡ pending (kept ++ folded)
-  -- it allows the same to be shown
+  -- so are the pairs of both, and it allows the same to be shown
+  pub last_pair : (base : Base) (kept folded : History) (n : ℕ) (shown : Shown) → IsLegal base (kept ++ folded) → IsEnded n folded
+      → IsLastPair (base_after base n folded) kept shown ↔ IsLastPair base (kept ++ folded) shown
+  pub pending_pair : (base : Base) (kept folded : History) (n : ℕ) (shown : Shown) → IsLegal base (kept ++ folded) → IsEnded n folded
+      → IsPendingPair (base_after base n folded) kept shown ↔ IsPendingPair base (kept ++ folded) shown
   pub allowed : (base : Base) (kept folded : History) (n : ℕ) (shown : Shown) → IsLegal base (kept ++ folded) → IsEnded n folded
       → IsAllowed (base_after base n folded) kept shown ↔ IsAllowed base (kept ++ folded) shown
   -- a number is above all of it as before
@@ -82,6 +86,8 @@ pub record IsFolded (n : ℕ) (folded : Marked) : Type 0 where
 
 -- The front of a marked journal is folded, and the rest is kept.
 pub record MarkedTrimLaws : Type 0 where
+  -- its entries are those of both
+  pub entries : (kept folded : Marked) → entries_of (kept ++ folded) ≡ entries_of kept ++ entries_of folded
   -- the marks that are kept may stand, and tell of the same visits
   pub marked : (base : Base) (kept folded : Marked) (n : ℕ) → IsMarked base (kept ++ folded) → IsFolded n folded
       → IsMarked (base_after base n (entries_of folded)) kept

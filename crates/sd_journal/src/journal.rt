@@ -1,5 +1,5 @@
 //! The journal of a run.
-ghost use Rattle.std.specs.Prelude.{◌≡◌, ◌↔◌, ◌+◌, ◌-◌, ◌<◌, ◌≤◌, ◌^◌, ◌∷◌, ◌++◌, [], ℕ, length, drop, map, reverse, take, vec_len, vec_capacity, IfOk, IsTrue, MatchOption, OnOk, OnErr};
+ghost use Rattle.std.specs.Prelude.{◌≡◌, ◌↔◌, ◌+◌, ◌-◌, ◌<◌, ◌≤◌, ◌^◌, ◌∷◌, ◌++◌, [], ℕ, length, drop, map, reverse, take, vec_len, vec_capacity, IfOk, IfSome, IsTrue, MatchOption, OnOk, OnErr};
 ghost use Rattle.std.specs.List.{filter};
 ghost use Rattle.sd_journal.specs.Kept.{HasGrown, HasSameNumbers, Kept, entry_count, is_behind, next_number};
 ghost use Rattle.sd_journal.specs.History.{History, pending, unless_it_is};
@@ -201,9 +201,10 @@ impl Journal {
     /// How many entries from the front on end with the one that ended the pending of a checkpoint: its acknowledgement,
     /// or the reopening that found it while it was pending.
     pub fn ended_at(&self, checkpoint: u64) -> Option<usize>
-        ensures { MatchOption result
+        ensures ends { MatchOption result
             ((count : ℕ) → EndsAt checkpoint (reverse (entries_of self.now.items)) count → ⊥)
             (EndsAt checkpoint (reverse (entries_of self.now.items))) }
+        ensures some { IfSome result (λ count. 0 < count) }
     {
         ended_at(&self.entries, checkpoint)
     }
@@ -255,8 +256,9 @@ fn split_front(
 
 /// How many entries from the front on end with the one that ended the pending of a checkpoint.
 fn ended_at(entries: &[Entry], checkpoint: u64) -> Option<usize>
-    ensures { MatchOption result ((count : ℕ) → EndsAt checkpoint entries.now count → ⊥)
+    ensures ends { MatchOption result ((count : ℕ) → EndsAt checkpoint entries.now count → ⊥)
         (EndsAt checkpoint entries.now) }
+    ensures some { IfSome result (λ count. 0 < count) }
 {
     let mut found = None;
     for (place, entry) in entries.iter().enumerate() {

@@ -19,10 +19,10 @@ loop-place-preserved c =
           c.loop-place.invariant.none;
     }
 
-pub returns-then-ends : goal.returns-then-ends
-returns-then-ends c =
+pub returns-then-ends-clause-ends : goal.returns-then-ends-clause-ends
+returns-then-ends-clause-ends c =
     ends_here c.args.checkpoint c.args.entries.now c.loop-place.place c.index-entries-place.result c.loop-place-test.true c.index-entries-place.is
     ((c.ends.ensures (reverse (take c.loop-place.place c.args.entries.now)) c.loop-place.invariant.found).0 c.if-ends.true)
 
-pub returns : goal.returns
-returns c = none_at_all c.args.checkpoint c.args.entries.now c.loop-place.place c.loop-place-test.false c.loop-place.invariant.none
+pub returns-clause-ends : goal.returns-clause-ends
+returns-clause-ends c = none_at_all c.args.checkpoint c.args.entries.now c.loop-place.place c.loop-place-test.false c.loop-place.invariant.none
