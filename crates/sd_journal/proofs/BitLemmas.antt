@@ -59,7 +59,7 @@ due_more base item items space page = by (is_opened base.origin)
 pub due_passes : (base : Base) (item : Item) (items : Marked) (space page : ℕ) → item_event item ≡ Passed → is_due base (item ∷ items) space page ≡ is_due base items space page
 due_passes base item items space page e = due_more base item items space page ∙ ap (λ event. due_by event space page (is_due base items space page)) e
 
-writable_passes : (item : Item) (items : Marked) (space page : ℕ) → item_event item ≡ Passed → is_writable (events_of (item ∷ items)) space page ≡ is_writable (events_of items) space page
+pub writable_passes : (item : Item) (items : Marked) (space page : ℕ) → item_event item ≡ Passed → is_writable (events_of (item ∷ items)) space page ≡ is_writable (events_of items) space page
 writable_passes item items space page e =
     writable_more (item_event item) (events_of items) space page
     ∙ ap (λ event. cond (write_protects space page event) false (makes_writable space page event || is_writable (events_of items) space page)) e

@@ -12,3 +12,4 @@ pub mod PlainLemmas
 pub mod TakenLemmas
 pub mod TrimLemmas
 pub mod TrimmedMarks
+pub mod VisitedLemmas

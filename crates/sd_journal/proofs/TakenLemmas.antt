@@ -161,30 +161,47 @@ pub record IsTaken (first count : ℕ) (entries : List Entry) (marks : List Plac
   pub parts : woven (first + length entries) (reverse entries) (reverse marks)
       ≡ woven (first + count + length (drop count entries)) (reverse (drop count entries)) (reverse (filter (is_behind (first + count)) marks)) ++ gone
 
-pub taken : (first count : ℕ) (entries : List Entry) (marks : List PlacedMark) → 0 < count → count ≤ length entries
-    → AreWithin (first + length entries) (reverse marks) → IsTaken first count entries marks
-taken first count entries marks some within marked =
-    let under = first + count - 1 in
-    let number : under + 1 ≡ first + count = omega (arith, some) in
-    let newer = reverse (drop count entries) in
-    let older = reverse (take count entries) in
-    let left : length newer ≡ length entries - count = length-reverse (drop count entries) ∙ length-drop count entries in
-    let went : length older ≡ count = length-reverse (take count entries) ∙ length-take-le count entries within in
-    let next : under + 1 + length newer ≡ first + length entries = omega (arith, number, left, within) in
+-- the parts, said of a journal of which some names are other ones
+renamed_parts : (next mid number at : ℕ) (all newer older : History) (marks kept old_marks : List PlacedMark) → all ≡ newer ++ older → mid ≡ next → at ≡ number
+    → woven next (newer ++ older) marks ≡ woven next newer (filter (is_behind at) marks) ++ woven at older old_marks
+    → filter (is_behind number) marks ≡ kept
+    → woven next all marks ≡ woven mid newer kept ++ woven at older old_marks
+renamed_parts next mid number at all newer older marks kept old_marks is same here parts left =
+    ap (λ xs. woven next xs marks) is ∙ parts
+    ∙ ap (λ n. woven n newer (filter (is_behind at) marks) ++ woven at older old_marks) (sym same)
+    ∙ ap (λ n. woven mid newer (filter (is_behind n) marks) ++ woven at older old_marks) here
+    ∙ ap (λ ms. woven mid newer ms ++ woven at older old_marks) left
+
+back_in_time : (number : ℕ) (front : List Entry) (older : History) (marks : List PlacedMark) → older ≡ reverse front → front ≡ reverse (entries_of (woven number older marks))
+back_in_time number front older marks is =
+    sym (reverse-reverse front) ∙ ap reverse (sym is) ∙ ap reverse (sym (entries_of-woven number older marks))
+
+taken_by : (first count under : ℕ) (entries : List Entry) (newer older : History) (marks : List PlacedMark) → under + 1 ≡ first + count → 0 < count → count ≤ length entries
+    → newer ≡ reverse (drop count entries) → older ≡ reverse (take count entries)
+    → IsCut under (first + length entries) newer older (reverse marks) → IsTaken first count entries marks
+taken_by first count under entries newer older marks number some within new_is old_is c =
+    let went : length older ≡ count = ap length old_is ∙ length-reverse (take count entries) ∙ length-take-le count entries within in
     let also : first + count + length (drop count entries) ≡ first + length entries = omega (arith, length-drop count entries, within) in
-    let c = cut under (first + length entries) newer older (reverse marks) next marked in
     let all : reverse entries ≡ newer ++ older =
-    ap reverse (sym (take-append-drop count entries)) ∙ reverse-append (take count entries) (drop count entries) in
+    ap reverse (sym (take-append-drop count entries)) ∙ reverse-append (take count entries) (drop count entries)
+    ∙ ap (λ xs. xs ++ reverse (take count entries)) (sym new_is) ∙ ap (λ xs. newer ++ xs) (sym old_is) in
     record {
       gone = woven (under + 1) older c.old_marks;
       newest = first_told under older c.old_marks (subst (λ n. 0 < n) (sym went) some) c.within;
-      entries_are = sym (reverse-reverse (take count entries)) ∙ ap reverse (sym (entries_of-woven (under + 1) older c.old_marks));
-      parts = ap (λ xs. woven (first + length entries) xs (reverse marks)) all ∙ c.parts
-          ∙ ap (λ n. woven n newer (filter (is_behind (under + 1)) (reverse marks)) ++ woven (under + 1) older c.old_marks) (sym also)
-          ∙ ap (λ n. woven (first + count + length (drop count entries)) newer (filter (is_behind n) (reverse marks)) ++ woven (under + 1) older c.old_marks) number
-          ∙ ap (λ xs. woven (first + count + length (drop count entries)) newer xs ++ woven (under + 1) older c.old_marks)
-          (sym (filter-reverse (is_behind (first + count)) marks));
+      entries_are = back_in_time (under + 1) (take count entries) older c.old_marks old_is;
+      parts = renamed_parts (first + length entries) (first + count + length (drop count entries)) (first + count) (under + 1) (reverse entries) newer older (reverse marks)
+          (reverse (filter (is_behind (first + count)) marks)) c.old_marks all also number c.parts (sym (filter-reverse (is_behind (first + count)) marks))
+          ∙ ap (λ xs. woven (first + count + length (drop count entries)) xs (reverse (filter (is_behind (first + count)) marks)) ++ woven (under + 1) older c.old_marks) new_is;
     }
+
+pub taken : (first count : ℕ) (entries : List Entry) (marks : List PlacedMark) → 0 < count → count ≤ length entries
+    → AreWithin (first + length entries) (reverse marks) → IsTaken first count entries marks
+taken first count entries marks some within marked =
+    let number : first + count - 1 + 1 ≡ first + count = omega (arith, some) in
+    let left : length (reverse (drop count entries)) ≡ length entries - count = length-reverse (drop count entries) ∙ length-drop count entries in
+    let next : first + count - 1 + 1 + length (reverse (drop count entries)) ≡ first + length entries = omega (arith, number, left, within) in
+    taken_by first count (first + count - 1) entries (reverse (drop count entries)) (reverse (take count entries)) marks number some within refl refl
+    (cut (first + count - 1) (first + length entries) (reverse (drop count entries)) (reverse (take count entries)) (reverse marks) next marked)
 
 pub taken_parts : (first count : ℕ) (entries kept : List Entry) (marks behind : List PlacedMark) (t : IsTaken first count entries marks)
     → kept ≡ drop count entries → behind ≡ filter (is_behind (first + count)) marks

@@ -10,6 +10,7 @@ use Rattle.sd_journal.specs.History.{Base, History, memory_after, at_freeze, las
 use Rattle.sd_journal.specs.Legal.{IsAbove, IsLegal}
 use Rattle.sd_journal.specs.Allowed.{Shown, IsAllowed, IsLastPair, IsPendingPair}
 use Rattle.sd_journal.specs.Marked.{Told, Marked, entries_of, events_of, is_due, is_mapped, last_visit, memory_at, visiting, IsMarked, IsTracked}
+use Rattle.sd_journal.specs.TrackedLaws.{visited_since}
 use Rattle.sd_journal.specs.Kept.{Kept}
 
 -- the entry, after those, ended the pending of a checkpoint: its acknowledgement, or the reopening that found it while it was pending
@@ -94,6 +95,10 @@ pub record MarkedTrimLaws : Type 0 where
   pub visiting_stays : (kept folded : Marked) (n : ℕ) → IsFolded n folded → visiting kept ≡ visiting (kept ++ folded)
   pub cursor_stays : (base : Base) (kept folded : Marked) (n serial : ℕ) → IsMarked base (kept ++ folded) → IsFolded n folded
       → visiting kept ≡ Some serial → last_visit kept serial ≡ last_visit (kept ++ folded) serial
+  -- each page of the folded memory was visited where each was since the checkpoint's freeze
+  pub visited : (base : Base) (folded : Marked) (n : ℕ) → IsMarked base folded → IsFolded n folded
+      → ((space page : ℕ) → is_mapped (memory_at base folded) space page ≡ true → visited_since folded n space page ≡ true)
+      → HasVisited base folded
   -- where each page of the folded memory was visited, the pages are due that were, and the memory stays tracked
   pub due_stays : (base : Base) (kept folded : Marked) (n space page : ℕ) → IsFolded n folded → HasVisited base folded
       → is_mapped (memory_at base (kept ++ folded)) space page ≡ true
