@@ -1,6 +1,6 @@
 -- What is seen of a core.
-use Rattle.std.specs.Prelude.{◌≡◌, ℕ, ◌+◌, Bool, List, Option, Some, None, refl, ap}
-use Rattle.std.specs.Coded.{Coded, code_by, coded×, coded_bool, coded_ℕ, coded_option}
+use Rattle.std.specs.Prelude.{ℕ, ◌+◌, Bool, List, Option, refl}
+use Rattle.std.specs.Coded.{Coded, code_by, coded×, coded_ℕ, coded_option}
 use Rattle.sd_areas.specs.Codes.{plain_memory_code}
 use Rattle.sd_areas.specs.PlainMemory.{PlainMemory}
 use Rattle.sd_pagetable.specs.Contents.{Contents, contents_code}
@@ -10,7 +10,6 @@ use Rattle.sd_gate.specs.declared.request_id.RequestId.{RequestId}
 use Rattle.sd_gate.specs.declared.worker.Worker.{Worker}
 use Rattle.sd_gate.specs.declared.worker.Worker.TheVariants.{Dumper, Merger, Opener}
 use Rattle.sd_journal.specs.declared.origin.Origin.{Origin}
-use Rattle.sd_journal.specs.declared.origin.Origin.TheVariants.{Opened, Trimmed}
 use Rattle.sd_journal.specs.History.{Base, History}
 use Rattle.sd_journal.specs.Marked.{Marked, entries_of}
 use Rattle.sd_merge.specs.Merger as merger
@@ -53,47 +52,32 @@ pub record CoreView : Type 0 where
 
 -- ---- how a view is stored as a value
 
--- none where it was opened, else whether the trim ended at an acknowledgement
-abbrev pub origin_word : Origin → Option Bool
-origin_word Opened = None
-origin_word (Trimmed acknowledged) = Some acknowledged
+abbrev pub saved_code : Coded (Option ℕ × PlainMemory)
+saved_code = coded× (coded_option coded_ℕ) plain_memory_code
 
-abbrev pub origin_of : Option Bool → Origin
-origin_of None = Opened
-origin_of (Some acknowledged) = Trimmed acknowledged
-
-abbrev pub same_origin : (origin : Origin) → origin_of (origin_word origin) ≡ origin
-same_origin Opened = refl
-same_origin (Trimmed acknowledged) = refl
-
-abbrev pub base_code : Coded Base
-base_code = code_by (Option ℕ × (PlainMemory × Option Bool)) (coded× (coded_option coded_ℕ) (coded× plain_memory_code (coded_option coded_bool)))
-    (λ b. (b.number, (b.memory, origin_word b.origin))) (λ t. record { number = t.0; memory = t.1.0; origin = origin_of t.1.1 })
-    (λ b. ap {B = Base} (λ o. record { number = b.number; memory = b.memory; origin = o }) (same_origin b.origin))
-
--- all but the base and the memory
+-- all but the number and the memory of the base, and the memory
 abbrev pub Rest : Type 0
-Rest = Marked × (ℕ × (ℕ × (Standing × (List Phase × (List (Option RequestId) × (Places × (Dumping × (Option merger.Running × (Option Looking × (Numbers × (Bool × Bool)))))))))))
+Rest = Origin × (Marked × (ℕ × (ℕ × (Standing × (List Phase × (List (Option RequestId) × (Places × (Dumping × (Option merger.Running × (Option Looking × (Numbers × (Bool × Bool))))))))))))
 
 abbrev pub core_code : Coded Rest → Coded CoreView
-core_code rest = code_by (Base × (Contents × Rest)) (coded× base_code (coded× contents_code rest))
-    (λ c. (c.base, (c.memory, (c.items, (c.held, (c.limit, (c.standing, (c.phases, (c.outs, (c.catalog, (c.dumper, (c.merger, (c.opener, (c.numbers, (c.grows, c.committing)))))))))))))))
+core_code rest = code_by ((Option ℕ × PlainMemory) × (Contents × Rest)) (coded× saved_code (coded× contents_code rest))
+    (λ c. ((c.base.number, c.base.memory), (c.memory, (c.base.origin, (c.items, (c.held, (c.limit, (c.standing, (c.phases, (c.outs, (c.catalog, (c.dumper, (c.merger, (c.opener, (c.numbers, (c.grows, c.committing))))))))))))))))
     (λ t. record {
-      base = t.0;
+      base = record { number = t.0.0; memory = t.0.1; origin = t.1.1.0 };
       memory = t.1.0;
-      items = t.1.1.0;
-      held = t.1.1.1.0;
-      limit = t.1.1.1.1.0;
-      standing = t.1.1.1.1.1.0;
-      phases = t.1.1.1.1.1.1.0;
-      outs = t.1.1.1.1.1.1.1.0;
-      catalog = t.1.1.1.1.1.1.1.1.0;
-      dumper = t.1.1.1.1.1.1.1.1.1.0;
-      merger = t.1.1.1.1.1.1.1.1.1.1.0;
-      opener = t.1.1.1.1.1.1.1.1.1.1.1.0;
-      numbers = t.1.1.1.1.1.1.1.1.1.1.1.1.0;
-      grows = t.1.1.1.1.1.1.1.1.1.1.1.1.1.0;
-      committing = t.1.1.1.1.1.1.1.1.1.1.1.1.1.1;
+      items = t.1.1.1.0;
+      held = t.1.1.1.1.0;
+      limit = t.1.1.1.1.1.0;
+      standing = t.1.1.1.1.1.1.0;
+      phases = t.1.1.1.1.1.1.1.0;
+      outs = t.1.1.1.1.1.1.1.1.0;
+      catalog = t.1.1.1.1.1.1.1.1.1.0;
+      dumper = t.1.1.1.1.1.1.1.1.1.1.0;
+      merger = t.1.1.1.1.1.1.1.1.1.1.1.0;
+      opener = t.1.1.1.1.1.1.1.1.1.1.1.1.0;
+      numbers = t.1.1.1.1.1.1.1.1.1.1.1.1.1.0;
+      grows = t.1.1.1.1.1.1.1.1.1.1.1.1.1.1.0;
+      committing = t.1.1.1.1.1.1.1.1.1.1.1.1.1.1.1;
     }) (λ _. refl)
 
 -- ---- parts of it
