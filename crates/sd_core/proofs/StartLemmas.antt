@@ -7,7 +7,7 @@ use Rattle.std.specs.Option.{option_map}
 use Rattle.std.proofs.lemmas.Option.{same_Some}
 use Rattle.sd_gate.specs.Requests.{Asked}
 use Rattle.sd_journal.specs.declared.origin.Origin.{Origin}
-use Rattle.sd_journal.specs.declared.origin.Origin.TheVariants.{Opened}
+use Rattle.sd_journal.specs.declared.origin.Origin.TheVariants as origins
 use Rattle.sd_journal.specs.Allowed.{IsLastPair}
 use Rattle.sd_journal.specs.History.{Base, last, pending}
 use Rattle.sd_journal.specs.Kept.{Kept}
@@ -31,17 +31,17 @@ none_of lane one is = nobody_out lane one.id (id_there nothing_asked lane one is
     id_there (a ∷ asked) (suc at) request is = id_there asked at request is
 
 -- the base is the last pair of a journal without entries
-pub base_is_last : (number : Option ℕ) (base : PlainMemory) → IsLastPair (record { number = number; memory = base; origin = Opened }) [] (shown_base number base)
+pub base_is_last : (number : Option ℕ) (base : PlainMemory) → IsLastPair (record { number = number; memory = base; origin = origins.Opened }) [] (shown_base number base)
 base_is_last None base = refl
 base_is_last (Some number) base = (refl, ap (λ b. if b then Some base else None) (eq-eqb number number refl))
 
 -- ---- its invariant
 
-due_at_first : (base : Base) → base.origin ≡ Opened → (space page : ℕ) → is_due base [] space page ≡ true
+due_at_first : (base : Base) → base.origin ≡ origins.Opened → (space page : ℕ) → is_due base [] space page ≡ true
 due_at_first base opened space page =
     ap (λ (o : Origin). if is_opened o then is_dirty [] space page else list_any (touches space page) (since (clears space page) [])) opened
 
-pub start_journal : (base : Base) (journal : Kept) (memory : Contents) (number : Option ℕ) → base.origin ≡ Opened → IsBeginning memory → plain_of memory ≡ base.memory → base.number ≡ number
+pub start_journal : (base : Base) (journal : Kept) (memory : Contents) (number : Option ℕ) → base.origin ≡ origins.Opened → IsBeginning memory → plain_of memory ≡ base.memory → base.number ≡ number
     → journal.items ≡ [] → journal.first ≡ 0 → journal.limit ≡ 1048576 → IsJournal base journal memory None number
 start_journal base journal memory number opened begins same own items first limit = record {
   tracked = subst (λ all. IsTracked base all memory) (sym items) (record { marked = tt; memory = same; bits = record { soft_dirty = λ space page at there. (begins space page at there).0 ∙ sym (due_at_first base opened space page); writable = λ space page at there. (begins space page at there).1 }; swept = tt });

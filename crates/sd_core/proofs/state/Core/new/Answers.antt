@@ -1,6 +1,6 @@
 use Rattle.std.proofs.Common.{◌≡◌, None, Some, ◌∙◌, ap, sym, refl, subst}
 use Rattle.sd_areas.specs.Memory.{memory_of}
-use Rattle.sd_journal.specs.declared.origin.Origin.TheVariants.{Opened}
+use Rattle.sd_journal.specs.declared.origin.Origin.TheVariants as origins
 use Rattle.sd_journal.specs.Allowed.{IsLastPair}
 use Rattle.sd_journal.specs.Marked.{entries_of}
 use Rattle.sd_belief.specs.declared.standing.Standing.TheVariants.{NotOpen, Open}
@@ -36,5 +36,5 @@ returns-clause-believes c files found shows =
     let number = c.args.start.number in
     let base = memory_of c.args.start.base in
     c.found_law.ensures _ nothing_asked files (shown_base number base) found refl none_of refl (λ is. absurd (let no : NotOpen ≡ Open = is in cc)) shows
-    (subst (λ items. IsLastPair (record { number = number; memory = base; origin = Opened }) (entries_of items) (shown_base number base))
+    (subst (λ items. IsLastPair (record { number = number; memory = base; origin = origins.Opened }) (entries_of items) (shown_base number base))
     (sym c.new.ensures.items) (base_is_last number base))
