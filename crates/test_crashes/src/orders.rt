@@ -43,7 +43,7 @@ fn in_orders(alloc: Global, count: u64, made: u64, handed: u64) -> Result<Vec<Li
     let mut lines = Vec::new(alloc);
     lines.push(Line::Map(count))?;
     for page in 0..count {
-        lines.push(Line::Store(page.saturating_mul(4096), (page as u8).saturating_add(1)))?;
+        lines.push(Line::Store(page.saturating_mul(4096), 1 + (page % 200) as u8))?;
     }
     lines.push(Line::Begin(0))?;
     lines.push(Line::Steps(BEFORE_THE_PASS))?;
