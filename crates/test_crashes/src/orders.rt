@@ -47,7 +47,7 @@ fn in_orders(alloc: Global, count: u64, made: u64, handed: u64) -> Result<Vec<Li
     }
     lines.push(Line::Begin(0))?;
     lines.push(Line::Steps(BEFORE_THE_PASS))?;
-    lines.push(Line::TakeUps(OF_A_PAGE * count as usize))?;
+    lines.push(Line::TakeUps(OF_A_PAGE.saturating_mul(count as usize)))?;
     for left in (1..=count).rev() {
         lines.push(Line::PerformAt(place_in(made, left)))?;
     }
