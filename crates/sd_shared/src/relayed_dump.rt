@@ -42,7 +42,7 @@ impl<'a, R: Wait, D: Disk + Drop, H: Hold> RelayedDump<'a, R, D, H> {
 
     /// The last reply.
     pub(crate) fn into_last(self) -> Reply
-        ensures { result ≡ self.last }
+        ensures { result ≡ self.entry.last }
     {
         self.last
     }

@@ -166,9 +166,9 @@ module _ {D : Type 0} (g : Ghosts D) (old new : WorldView D) (worker : Worker) (
   made_by : is_asked old.kept worker ≡ true → Performs g worker 0 old.disk old.kept answer new.disk new.kept → asked_count new.kept worker < asked_count old.kept worker
   made_by asked (Performs.performs it) =
       let less = count_set (λ k. is_of worker (asked_id k)) 0 old.kept it.lane (Request it.request) (Outcome it.keeps.made) it.is
-          (let there = asked_there old.kept worker 0 it.lane it.at in
-          ap (λ (r : Asked). index r.id.worker == index worker) (same_request it.request there.0 (sym it.is ∙ there.1))
-          ∙ ap (λ w. index w == index worker) there.2 ∙ same_number (index worker)) refl in
+      (let there = asked_there old.kept worker 0 it.lane it.at in
+      ap (λ (r : Asked). index r.id.worker == index worker) (same_request it.request there.0 (sym it.is ∙ there.1))
+      ∙ ap (λ w. index w == index worker) there.2 ∙ same_number (index worker)) refl in
       subst (λ k. asked_count k worker < asked_count old.kept worker) (sym it.keeps.left) (omega (arith, less))
   made_by asked (Performs.none none idle) = absurd (let first = asked_first old.kept worker asked in none first.0 first.1)
 

@@ -374,10 +374,10 @@ beside_of kept slots lane k made places at asks other_lane other differs there s
     elim (places.apart lane other_lane k (Outcome other) made.request other.request at there asks refl (sym same)) [
       | inl own ↦ absurd (differs (sym own))
       | inr pages ↦ record {
-          first = places.pages lane k made.request at asks pages.first;
-          second = subst (λ n. IsPageOf n other.request) same (places.pages other_lane (Outcome other) other.request there refl pages.second);
-          apart = pages.apart;
-        }
+        first = places.pages lane k made.request at asks pages.first;
+        second = subst (λ n. IsPageOf n other.request) same (places.pages other_lane (Outcome other) other.request there refl pages.second);
+        apart = pages.apart;
+      }
     ]
 
 page_writes : (slot : ℕ) (made : Made) → IsPageOf slot made.request → IsWrite made.request.id.call

@@ -111,12 +111,7 @@ fn perform_in<D: Disk>(disk: &mut D, kept: &mut [Kept; LANES], lane: usize) -> R
 }
 
 /// Performs the request of a worker at this place, and keeps its outcome. Refused as idle where there is none.
-fn perform_at<D: Disk>(
-    disk: &mut D,
-    kept: &mut [Kept; LANES],
-    worker: Worker,
-    place: u64,
-) -> Reply
+fn perform_at<D: Disk>(disk: &mut D, kept: &mut [Kept; LANES], worker: Worker, place: u64) -> Reply
     requires { (lane : ℕ) (request : Asked) → slice_get kept.old lane ≡ Some (RequestKept request)
         → request.id.slot < length (D.contents disk.old) }
     ensures { Performs D.Disk worker place disk.old kept.old result disk.new kept.new }
