@@ -90,8 +90,8 @@ bits_step law base item items old new sound step bits = record {
     | inr made ↦
         made.soft_dirty
         ∙ sym (due_more base item items space number
-          ∙ ap (λ c. cond c false (touches space number (item_event item) || is_due base items space number)) made.uncleared
-          ∙ ap (λ t. t || is_due base items space number) made.touched)
+        ∙ ap (λ c. cond c false (touches space number (item_event item) || is_due base items space number)) made.uncleared
+        ∙ ap (λ t. t || is_due base items space number) made.touched)
   ];
   writable = λ space number page there. elim (law old new (item_event item) space number page sound step there) [
     | inl was ↦
@@ -101,7 +101,7 @@ bits_step law base item items old new sound step bits = record {
     | inr made ↦
         made.writable
         ∙ sym (writable_more (item_event item) (events_of items) space number
-          ∙ ap (λ c. cond c false (makes_writable space number (item_event item) || is_writable (events_of items) space number)) made.protected)
+        ∙ ap (λ c. cond c false (makes_writable space number (item_event item) || is_writable (events_of items) space number)) made.protected)
   ];
 }
 

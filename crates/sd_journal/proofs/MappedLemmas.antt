@@ -95,7 +95,7 @@ changed_run_mapped : (memory : PlainMemory) (s first count : ℕ) (change : Page
 changed_run_mapped memory s first count change space page mapped =
     put_mapped memory s (change_within change (inside memory s) first count) space page ⊥ mapped
     (λ e some. inl (here memory s space page e (some_of (finmap.get (inside memory s) page) (λ x. cond (is_within first count page) (change x) x)
-      (sym (ap is_some (get-change_within change (inside memory s) first count page)) ∙ some))))
+    (sym (ap is_some (get-change_within change (inside memory s) first count page)) ∙ some))))
 
 stored_mapped : (memory : PlainMemory) (s p : ℕ) (x : Page → Page) (space page : ℕ)
     → is_mapped (option_map_or (λ (found : Page). put_at memory s p (x found)) (value_at memory s p) memory) space page ≡ true → is_mapped memory space page ≡ true
@@ -117,7 +117,7 @@ stored_mapped memory s p x space page mapped = by (value_at memory s p) refl map
         → is_mapped memory space page ≡ true
     by None is at = at
     by (Some found) is at = only (put_mapped memory s (finmap.insert (inside memory s) p (x found)) space page ⊥ at
-      (λ e some. in_page found is e (nat_eq page p) refl (sym (ap is_some (get_put (inside memory s) p (x found) page)) ∙ some)))
+        (λ e some. in_page found is e (nat_eq page p) refl (sym (ap is_some (get_put (inside memory s) p (x found) page)) ∙ some)))
 
 -- the command touched the page, and it isn't writable
 pub record IsMadeBy (asked : Command) (answer : Reply) (space page : ℕ) : Type 0 where

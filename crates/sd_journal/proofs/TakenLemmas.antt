@@ -100,10 +100,10 @@ behind_parts next number newer older placed earlier kept old_marks d is short al
     let left : List Item = woven placed.before (drop d newer) kept in
     let gone : List Item = woven number older old_marks in
     let first : woven next (newer ++ older) (placed ∷ earlier)
-        ≡ map Told (take d (newer ++ older)) ++ Noted placed.mark ∷ woven placed.before (drop d (newer ++ older)) earlier =
+    ≡ map Told (take d (newer ++ older)) ++ Noted placed.mark ∷ woven placed.before (drop d (newer ++ older)) earlier =
     ap (λ k. map Told (take k (newer ++ older)) ++ Noted placed.mark ∷ woven placed.before (drop k (newer ++ older)) earlier) (sym is) in
     let second : map Told (take d (newer ++ older)) ++ Noted placed.mark ∷ woven placed.before (drop d (newer ++ older)) earlier
-        ≡ went ++ Noted placed.mark ∷ woven placed.before (drop d newer ++ older) earlier =
+    ≡ went ++ Noted placed.mark ∷ woven placed.before (drop d newer ++ older) earlier =
     ap (λ xs. map Told xs ++ Noted placed.mark ∷ woven placed.before (drop d (newer ++ older)) earlier) (take-append-le d newer older short)
     ∙ ap (λ xs. went ++ Noted placed.mark ∷ woven placed.before xs earlier) (drop-append-le d newer older short) in
     let third : went ++ Noted placed.mark ∷ woven placed.before (drop d newer ++ older) earlier ≡ (went ++ Noted placed.mark ∷ left) ++ gone =

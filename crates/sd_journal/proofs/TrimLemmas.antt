@@ -135,24 +135,29 @@ legal_reply memory other was is command reply e f legal =
 
 pub legal : (base : Base) (kept folded : History) (n : ℕ) → IsLegal base (kept ++ folded) → IsEnded n folded → IsLegal (base_after base n folded) kept
 legal base [] folded n was ended = tt
-legal base (Applied seat command reply ∷ earlier) folded n was ended =
-    (legal_reply (memory_after base (earlier ++ folded)) (memory_after (base_after base n folded) earlier) (pending (earlier ++ folded)) (pending earlier) command reply
+legal base (Applied seat command reply ∷ earlier) folded n was ended = (
+  legal_reply (memory_after base (earlier ++ folded)) (memory_after (base_after base n folded) earlier) (pending (earlier ++ folded)) (pending earlier) command reply
       (memory base earlier folded n) (pending_stays earlier folded n ended) was.0,
-    legal base earlier folded n was.1 ended)
+  legal base earlier folded n was.1 ended,
+)
 legal base (Freeze m ∷ earlier) folded n was ended =
     ((pending_stays earlier folded n ended ∙ was.0.0, above_on base earlier folded n m ended was.0.1), legal base earlier folded n was.1 ended)
 legal base (Acked m ∷ earlier) folded n was ended =
     (pending_stays earlier folded n ended ∙ was.0, legal base earlier folded n was.1 ended)
-legal base (Cancelled m ∷ earlier) folded n was ended =
-    (elim was.0 [
-      | inl is ↦ inl (pending_stays earlier folded n ended ∙ is)
-      | inr none ↦ inr (pending_stays earlier folded n ended ∙ none.0, above_on base earlier folded n m ended none.1)
-    ], legal base earlier folded n was.1 ended)
-legal base (Reopened m ∷ earlier) folded n was ended =
-    (elim was.0 [
-      | inl as_last ↦ inl (as_last ∙ sym (last_stays base earlier folded n ended))
-      | inr as_pending ↦ inr (λ none. as_pending.0 (sym (pending_stays earlier folded n ended) ∙ none), as_pending.1 ∙ sym (pending_stays earlier folded n ended))
-    ], legal base earlier folded n was.1 ended)
+legal base (Cancelled m ∷ earlier) folded n was ended = (
+  elim was.0 [
+    | inl is ↦ inl (pending_stays earlier folded n ended ∙ is)
+    | inr none ↦ inr (pending_stays earlier folded n ended ∙ none.0, above_on base earlier folded n m ended none.1)
+  ],
+  legal base earlier folded n was.1 ended,
+)
+legal base (Reopened m ∷ earlier) folded n was ended = (
+  elim was.0 [
+    | inl as_last ↦ inl (as_last ∙ sym (last_stays base earlier folded n ended))
+    | inr as_pending ↦ inr (λ none. as_pending.0 (sym (pending_stays earlier folded n ended) ∙ none), as_pending.1 ∙ sym (pending_stays earlier folded n ended))
+  ],
+  legal base earlier folded n was.1 ended,
+)
 
 -- ---- the memory at the freeze
 

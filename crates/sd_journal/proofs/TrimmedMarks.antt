@@ -142,15 +142,18 @@ noted : (base : Base) (kept folded : Marked) (n : ℕ) (mark : Mark) → IsMarke
     → MayBeNoted (base_after base n (entries_of folded)) kept mark
 noted base kept folded n (Start serial) marked f may = any_left (is_of serial) kept folded may
 noted base kept folded n (Visit serial space page) marked f may =
-    let now : visiting kept ≡ Some serial = visiting_stays kept folded n f ∙ may.0 in
-    (now,
-    ap (λ m. is_mapped m space page) (memory_behind base kept folded n) ∙ may.1,
-    ap (λ o. is_above o space page) (cursor_stays base kept folded n serial marked f now) ∙ may.2)
+    let now : visiting kept ≡ Some serial = visiting_stays kept folded n f ∙ may.0 in (
+      now,
+      ap (λ m. is_mapped m space page) (memory_behind base kept folded n) ∙ may.1,
+      ap (λ o. is_above o space page) (cursor_stays base kept folded n serial marked f now) ∙ may.2,
+    )
 noted base kept folded n (Table serial) marked f may =
     let now : visiting kept ≡ Some serial = visiting_stays kept folded n f ∙ may.0 in
-    let none = fresh base kept folded serial marked now in
-    (now, λ space page stays.
-      sym (visited_behind kept folded serial space page none) ∙ may.1 space page (sym (stays_behind base kept folded n serial space page none) ∙ stays))
+    let none = fresh base kept folded serial marked now in (
+      now,
+      λ space page stays.
+          sym (visited_behind kept folded serial space page none) ∙ may.1 space page (sym (stays_behind base kept folded n serial space page none) ∙ stays),
+    )
 
 pub marked : (base : Base) (kept folded : Marked) (n : ℕ) → IsMarked base (kept ++ folded) → IsFolded n folded → IsMarked (base_after base n (entries_of folded)) kept
 marked base [] folded n was f = tt

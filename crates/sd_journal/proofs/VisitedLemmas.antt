@@ -41,7 +41,7 @@ clean_since base (Told (Applied seat command reply) ∷ earlier) n space page ma
     let by : event_of command reply ≡ Passed = ap (event_of command) refused ∙ frozen_passes command in
     passes base (Told (Applied seat command reply)) earlier space page by
     (clean_since base earlier n space page marked.1 is
-      (visited_rest (clears space page (event_of command reply)) (visited_since earlier n space page) (ap (clears space page) by) visited))
+    (visited_rest (clears space page (event_of command reply)) (visited_since earlier n space page) (ap (clears space page) by) visited))
 clean_since base (Told (Freeze m) ∷ earlier) n space page marked is visited =
     let own : (m == n) ≡ true = ap (λ k. k == n) (some_is m n is) ∙ same n in
     never (sym (sym (ap (λ b. if b then false else (if clears space page Passed then true else visited_since earlier n space page)) own) ∙ visited))
@@ -66,9 +66,10 @@ clean_since base (Noted (Visit s at number) ∷ earlier) n space page marked is 
     by true e rest =
         (due ∙ ap (λ b. cond b false (is_due base earlier space page)) e, may_write ∙ ap (λ b. cond b false (is_writable (events_of earlier) space page)) e)
     by false e rest =
-        let clean = rest e in
-        (due ∙ ap (λ b. cond b false (is_due base earlier space page)) e ∙ clean.0,
-        may_write ∙ ap (λ b. cond b false (is_writable (events_of earlier) space page)) e ∙ clean.1)
+        let clean = rest e in (
+          due ∙ ap (λ b. cond b false (is_due base earlier space page)) e ∙ clean.0,
+          may_write ∙ ap (λ b. cond b false (is_writable (events_of earlier) space page)) e ∙ clean.1,
+        )
 
 clean_end : (base : Base) (before : Marked) (n space page : ℕ) (entry : Entry) → IsMarked base before → Ends n (entries_of before) entry
     → visited_since (Told entry ∷ before) n space page ≡ true → IsClean base (Told entry ∷ before) space page

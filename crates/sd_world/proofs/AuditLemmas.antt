@@ -29,7 +29,8 @@ pub audited : JournalLaws → (result : Result Bool Fault) (base other : Base) (
     → IfOk result (λ told. IsTrue told ↔ ShowsOne base history contents)
     → IfOk result (λ told. IsTrue told ↔ ShowsAllowed other history contents)
 audited laws (Ok told) base other history contents number memory exact =
-    let so = shows_so other history contents in
-    ((λ yes. so.0 (shows_alike laws base other history contents number memory (exact.0 yes))),
-    (λ shows. exact.1 (shows_alike laws other base history contents (sym number) (sym memory) (so.1 shows))))
+    let so = shows_so other history contents in (
+      (λ yes. so.0 (shows_alike laws base other history contents number memory (exact.0 yes))),
+      (λ shows. exact.1 (shows_alike laws other base history contents (sym number) (sym memory) (so.1 shows))),
+    )
 audited laws (Err fault) base other history contents number memory exact = exact

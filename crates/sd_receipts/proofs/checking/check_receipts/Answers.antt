@@ -8,4 +8,4 @@ pub returns-clause-fault : goal.returns-clause-fault
 returns-clause-fault c =
     subst (λ (first : ℕ). IfErr c.check_entries.result (IsFault first (in_time c.args.journal.now) c.args.receipts.now c.args.acks.now)) c.first.ensures
     (subst (λ (entries : List Entry). IfErr c.check_entries.result (IsFault c.first.result entries c.args.receipts.now c.args.acks.now)) c.entries.ensures
-      c.check_entries.ensures.fault)
+    c.check_entries.ensures.fault)

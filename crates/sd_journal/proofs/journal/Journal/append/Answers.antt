@@ -35,5 +35,5 @@ returns-clause-items c =
     ap length c.push_into_room.ensures.items ∙ length-append c.self.inside.entries.items (c.args.entry ∷ []) in
     let one : c.self.inside.first + length c.push_into_room.new.entries.items ≡ c.self.inside.first + length c.self.inside.entries.items + 1 = omega arith in
     after_entry (c.self.inside.first + length c.self.inside.entries.items) (c.self.inside.first + length c.push_into_room.new.entries.items) c.args.entry
-      c.self.inside.entries.items c.push_into_room.new.entries.items c.self.inside.marks.items c.self.invariant.marks one c.push_into_room.ensures.items
+    c.self.inside.entries.items c.push_into_room.new.entries.items c.self.inside.marks.items c.self.invariant.marks one c.push_into_room.ensures.items
     ∙ ap (λ (journal : Kept). Told c.args.entry ∷ journal.items) c.self.view_is
