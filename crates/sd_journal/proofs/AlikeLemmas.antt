@@ -1,11 +1,10 @@
 -- Bases with the same number and memory.
-use Rattle.std.proofs.Common.{◌≡◌, ◌⊎◌, ℕ, ◌<◌, ◌==◌, if◌then◌else◌, [], ◌∷◌, Option, Some, None, IfSome, is_some, refl, sym, ◌∙◌, ap, subst, inl, inr}
-use Rattle.sd_areas.specs.PlainMemory.{PlainMemory}
+use Rattle.std.proofs.Common.{◌≡◌, ℕ, ◌<◌, ◌==◌, if◌then◌else◌, [], ◌∷◌, Some, None, IfSome, is_some, refl, sym, ◌∙◌, ap, subst, inl, inr}
 use Rattle.sd_command.specs.Replies.{IsLegalReply, effect}
 use Rattle.sd_journal.specs.declared.entry.Entry.TheVariants.{Applied, Freeze, Acked, Cancelled, Reopened}
 use Rattle.sd_journal.specs.History.{Base, History, at_base, at_freeze, last, memory_after, pending}
 use Rattle.sd_journal.specs.Legal.{IsAbove, IsLegal}
-use Rattle.sd_journal.specs.Allowed.{IsAllowed, IsLastPair, IsPendingPair, Shown}
+use Rattle.sd_journal.specs.Allowed.{IsAllowed, Shown}
 
 module _ (one other : Base) (number : one.number ≡ other.number) (memory : one.memory ≡ other.memory) where
   memory_alike : (history : History) → memory_after one history ≡ memory_after other history

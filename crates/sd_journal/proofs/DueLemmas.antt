@@ -1,5 +1,5 @@
 -- What is due stays due while a checkpoint is pending.
-use Rattle.std.proofs.Common.{◌≡◌, ℕ, Bool, true, false, not, cond, ◌||◌, [], List, ◌∷◌, Some, None, is_some, refl, sym, ◌∙◌, ap, inl, inr}
+use Rattle.std.proofs.Common.{◌≡◌, ℕ, Bool, true, false, cond, ◌||◌, [], ◌∷◌, Some, None, is_some, refl, sym, ◌∙◌, ap, inl, inr}
 use Rattle.sd_pagetable.specs.Tracking.{is_page, touches, clears}
 use Rattle.sd_command.specs.declared.command.Command.{Command}
 use Rattle.sd_command.specs.declared.refusal.Refusal.TheVariants.{Frozen}

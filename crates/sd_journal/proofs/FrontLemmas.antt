@@ -1,5 +1,5 @@
 -- Where the entries stand that end the pending of a checkpoint, in order of time.
-use Rattle.std.proofs.Common.{◌≡◌, ℕ, ◌+◌, ◌<◌, ◌≤◌, ◌⊎◌, List, ◌∷◌, length, take, get_or, reverse, refl, sym, subst, arith, inl, inr}
+use Rattle.std.proofs.Common.{◌≡◌, ℕ, ◌+◌, ◌<◌, ◌≤◌, ◌⊎◌, List, length, take, get_or, reverse, sym, subst, arith, inl, inr}
 use Rattle.sd_journal.specs.declared.entry.Entry.{Entry}
 use Rattle.sd_journal.specs.Trimming.{Ends, EndsAt, IsEnded}
 use Rattle.sd_journal.proofs.LegalLemmas.{next_entry}

@@ -1,14 +1,12 @@
 -- Entries and marks in one list, and what one more of either makes of it.
-use Rattle.std.proofs.Common.{◌≡◌, ℕ, suc, ◌+◌, ◌-◌, ◌≤◌, ◌<◌, Bool, true, false, cond, List, [], ◌∷◌, ◌++◌, length, take, drop, map, reverse, refl, sym, ◌∙◌, ap, subst, arith}
-use Rattle.std.specs.List.{filter}
-use Rattle.std.proofs.lemmas.Bool.Decides.{leb_tells}
+use Rattle.std.proofs.Common.{◌≡◌, ℕ, suc, ◌+◌, ◌-◌, ◌≤◌, List, [], ◌∷◌, ◌++◌, length, take, drop, map, reverse, refl, sym, ◌∙◌, ap, subst, arith}
 use Rattle.std.proofs.lemmas.List.{reverse-append, length-reverse, take-append-drop}
 use Rattle.sd_journal.specs.declared.entry.Entry.{Entry}
 use Rattle.sd_journal.specs.declared.mark.Mark.{Mark}
 use Rattle.sd_journal.specs.declared.placed_mark.PlacedMark.{PlacedMark}
 use Rattle.sd_journal.specs.History.{History}
 use Rattle.sd_journal.specs.Marked.{Told, Noted, Marked, entries_of}
-use Rattle.sd_journal.specs.Kept.{woven, AreWithin, is_behind}
+use Rattle.sd_journal.specs.Kept.{woven, AreWithin}
 
 pub woven_entry : (next : ℕ) (entry : Entry) (entries : History) (marks : List PlacedMark) → AreWithin next marks
     → woven (next + 1) (entry ∷ entries) marks ≡ Told entry ∷ woven next entries marks

@@ -1,5 +1,5 @@
 -- A page that is mapped behind a command was mapped before, or the command made it.
-use Rattle.std.proofs.Common.{◌≡◌, ◌⊎◌, ℕ, ◌==◌, ◌&&◌, ◌||◌, Bool, true, false, cond, nat_eq, is_some, Option, Some, None, List, refl, sym, ◌∙◌, ap, subst, arith, unwrap_or, inl, inr}
+use Rattle.std.proofs.Common.{◌≡◌, ◌⊎◌, ℕ, ◌==◌, ◌&&◌, ◌||◌, Bool, true, false, cond, nat_eq, is_some, Option, Some, None, refl, sym, ◌∙◌, ap, subst, arith, unwrap_or, inl, inr}
 use Rattle.std.proofs.lemmas.Bool.Decides.{nat_tests}
 use Rattle.std.specs.Option.{option_map, option_map_or}
 use Rattle.std.specs.Ordering.{nat_cmp}
@@ -7,7 +7,6 @@ use Rattle.std.specs.FinMap as finmap
 use Rattle.std.specs.FinMap.{get-empty}
 use Rattle.sd_areas.specs.Pages.{is_within, page_of, pages_for}
 use Rattle.sd_areas.specs.PlainMemory.{Page, Space, PlainMemory}
-use Rattle.sd_pagetable.specs.Access.{stored_at}
 use Rattle.sd_pagetable.specs.Nested.{inside, value_at, put_at, set_within, remove_within, change_within}
 use Rattle.sd_pagetable.specs.Tracking.{touches, write_protects}
 use Rattle.sd_command.specs.declared.command.Command.{Command}

@@ -1,5 +1,5 @@
 -- What a trim leaves of a legal journal: it allows the same, and makes the same memory.
-use Rattle.std.proofs.Common.{◌≡◌, ◌≢◌, ◌⊎◌, ◌↔◌, ℕ, ◌<◌, ◌==◌, false, List, [], ◌∷◌, ◌++◌, Option, Some, None, IfSome, is_some, if◌then◌else◌, refl, sym, ◌∙◌, ap, subst, arith, inl, inr}
+use Rattle.std.proofs.Common.{◌≡◌, ◌≢◌, ◌⊎◌, ◌↔◌, ℕ, ◌<◌, ◌==◌, false, [], ◌∷◌, ◌++◌, Option, Some, None, IfSome, is_some, if◌then◌else◌, refl, sym, ◌∙◌, ap, subst, arith, inl, inr}
 use Rattle.std.proofs.lemmas.Bool.Decides.{nat_tests}
 use Rattle.sd_areas.specs.PlainMemory.{PlainMemory}
 use Rattle.sd_command.specs.declared.refusal.Refusal.TheVariants.{Frozen}
@@ -12,7 +12,7 @@ use Rattle.sd_journal.specs.History.{Base, History, memory_after, at_base, at_fr
 use Rattle.sd_journal.specs.Legal.{IsAbove, IsLegal}
 use Rattle.sd_journal.specs.Allowed.{Shown, IsAllowed, IsLastPair, IsPendingPair}
 use Rattle.sd_journal.specs.Trimming.{Ends, IsEnded, base_after}
-use Rattle.sd_journal.proofs.HistoryLemmas.{same, apart, some_is, none_is_some, unless_some, at_freeze-other, at_freeze-own}
+use Rattle.sd_journal.proofs.HistoryLemmas.{same, some_is, none_is_some, unless_some, at_freeze-other, at_freeze-own}
 use Rattle.sd_journal.proofs.AllowedLemmas.{none_left}
 use Rattle.sd_journal.proofs.MarkedLemmas.{frozen_leaves}
 

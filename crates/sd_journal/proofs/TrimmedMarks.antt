@@ -6,20 +6,19 @@ use Rattle.sd_pagetable.specs.Contents.{Contents, page_at, plain_of}
 use Rattle.sd_pagetable.specs.Law.{PlainLaw}
 use Rattle.sd_pagetable.specs.Order.{is_above}
 use Rattle.sd_pagetable.specs.Page.{Page, plain_page}
-use Rattle.sd_pagetable.specs.Tracking.{Event, clears, is_page, is_writable, makes_writable, touches, write_protects}
-use Rattle.sd_command.specs.Events.{event_of}
+use Rattle.sd_pagetable.specs.Tracking.{clears, is_page, is_writable, makes_writable, touches, write_protects}
 use Rattle.sd_journal.specs.declared.entry.Entry.{Entry}
 use Rattle.sd_journal.specs.declared.entry.Entry.TheVariants.{Applied, Freeze, Acked, Cancelled, Reopened}
 use Rattle.sd_journal.specs.declared.mark.Mark.{Mark}
 use Rattle.sd_journal.specs.declared.mark.Mark.TheVariants.{Start, Visit, Table}
-use Rattle.sd_journal.specs.History.{Base, History, memory_after}
-use Rattle.sd_journal.specs.Legal.{IsLegal, MayFollow}
-use Rattle.sd_journal.specs.Marked.{Item, Told, Noted, Marked, entries_of, events_of, is_due, is_mapped, is_of, is_visit, is_visited, item_event, last_visit, memory_at, starts, stays_mapped, visiting, HasBits, IsMarked, IsSwept, IsTracked, MayBeNoted}
+use Rattle.sd_journal.specs.History.{Base, memory_after}
+use Rattle.sd_journal.specs.Legal.{IsLegal}
+use Rattle.sd_journal.specs.Marked.{Item, Told, Noted, Marked, entries_of, events_of, is_due, is_mapped, is_of, is_visit, is_visited, item_event, last_visit, memory_at, starts, stays_mapped, visiting, IsMarked, IsSwept, IsTracked, MayBeNoted}
 use Rattle.sd_journal.specs.Trimming.{Ends, HasVisited, IsEnded, IsFolded, base_after}
 use Rattle.sd_journal.proofs.BitLemmas.{due_by, due_more, writable_more}
 use Rattle.sd_journal.proofs.HistoryLemmas.{none_is_some, some_is}
 use Rattle.sd_journal.proofs.MappedLemmas.{was_mapped}
-use Rattle.sd_journal.proofs.MarkedLemmas.{if_some, legal, never, no_visit, or_left, or_right}
+use Rattle.sd_journal.proofs.MarkedLemmas.{legal, never, no_visit, or_left, or_right}
 use Rattle.sd_journal.proofs.TrimLemmas as trim
 
 pub entries_behind : (kept folded : Marked) → entries_of (kept ++ folded) ≡ entries_of kept ++ entries_of folded

@@ -1,9 +1,7 @@
 -- A page that was visited since a freeze is clean as long as that is pending.
-use Rattle.std.proofs.Common.{◌≡◌, ◌⊎◌, ℕ, ◌==◌, Bool, true, false, cond, if◌then◌else◌, ◌||◌, [], ◌∷◌, Some, None, is_some, refl, sym, ◌∙◌, ap, subst, inl, inr}
-use Rattle.sd_pagetable.specs.Tracking.{Passed, clears, is_page, is_writable, makes_writable, write_protects}
-use Rattle.sd_command.specs.declared.command.Command.{Command}
+use Rattle.std.proofs.Common.{◌≡◌, ℕ, ◌==◌, Bool, true, false, cond, if◌then◌else◌, [], ◌∷◌, Some, is_some, refl, sym, ◌∙◌, ap, subst, inl}
+use Rattle.sd_pagetable.specs.Tracking.{Passed, clears, is_page, is_writable}
 use Rattle.sd_command.specs.declared.refusal.Refusal.TheVariants.{Frozen}
-use Rattle.sd_command.specs.declared.reply.Reply.{Reply}
 use Rattle.sd_command.specs.declared.reply.Reply.TheVariants.{Refused}
 use Rattle.sd_command.specs.Events.{event_of}
 use Rattle.sd_command.specs.Replies.{IsLegalReply}
@@ -15,7 +13,7 @@ use Rattle.sd_journal.specs.Marked.{Item, Told, Noted, Marked, entries_of, event
 use Rattle.sd_journal.specs.TrackedLaws.{visited_since}
 use Rattle.sd_journal.specs.Trimming.{Ends, HasVisited, IsEnded, IsFolded}
 use Rattle.sd_journal.proofs.AllowedLemmas.{none_left}
-use Rattle.sd_journal.proofs.BitLemmas.{due_by, due_more, due_passes, writable_more, writable_passes}
+use Rattle.sd_journal.proofs.BitLemmas.{due_more, due_passes, writable_more, writable_passes}
 use Rattle.sd_journal.proofs.HistoryLemmas.{none_is_some, same, some_is}
 use Rattle.sd_journal.proofs.MarkedLemmas.{frozen_passes, never}
 

@@ -1,5 +1,5 @@
 -- What holds of the parts of a `Journal`.
-use Rattle.std.specs.Prelude.{◌≡◌, ◌+◌, ◌≤◌, ◌^◌, length, reverse, vec_capacity}
+use Rattle.std.specs.Prelude.{◌+◌, ◌≤◌, ◌^◌, length, reverse, vec_capacity}
 use Rattle.sd_journal.specs.declared.journal.Journal.TheInside.{Inside}
 use Rattle.sd_journal.specs.Kept.{AreWithin}
 

@@ -1,6 +1,6 @@
 -- Trimming: the entries up to and with the one that ended the pending of a checkpoint are taken from the front of a journal, and what is
 -- kept goes on from a new base, which is that checkpoint.
-use Rattle.std.specs.Prelude.{◌≡◌, ◌≢◌, ◌↔◌, ◌+◌, ◌≤◌, ℕ, Bool, true, false, List, [], ◌∷◌, ◌++◌, length, reverse, take, Option, Some}
+use Rattle.std.specs.Prelude.{◌≡◌, ◌≢◌, ◌↔◌, ◌+◌, ◌≤◌, ℕ, Bool, true, false, List, [], ◌∷◌, ◌++◌, length, reverse, take, Some}
 use Rattle.sd_pagetable.specs.Contents.{Contents}
 use Rattle.sd_pagetable.specs.Tracking.{is_writable}
 use Rattle.sd_journal.specs.declared.entry.Entry.{Entry}
