@@ -4,12 +4,13 @@ use Rattle.sd_areas.specs.declared.snapshot.Snapshot.{Snapshot}
 use Rattle.sd_areas.specs.Memory.{memory_of}
 use Rattle.sd_areas.specs.PlainMemory.{PlainMemory}
 use Rattle.sd_image.specs.Shows.{Shows}
+use Rattle.sd_journal.specs.declared.origin.Origin.TheVariants.{Opened}
 use Rattle.sd_journal.specs.History.{Base, History}
 use Rattle.sd_journal.specs.Allowed.{Shown, IsAllowed}
 
--- what a run starts from: a memory, with the number of its checkpoint if it has one
+-- what a run goes on from: a memory, with the number of its checkpoint if it has one. Where these come from matters to no audit.
 abbrev pub base_of : Option ℕ → Snapshot → Base
-base_of number snapshot = record { number = number; memory = memory_of snapshot }
+base_of number snapshot = record { number = number; memory = memory_of snapshot; origin = Opened }
 
 -- the contents show nothing saved, or a checkpoint's memory, and the journal allows just that
 pub record ShowsOne (base : Base) (history : History) (contents : List (List ℕ)) : Type 0 where

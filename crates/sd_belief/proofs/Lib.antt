@@ -39,6 +39,7 @@ mod Places
 mod QuietSteps
 mod Reopened
 mod TipHeld
+mod Trims
 mod WorkStays
 mod Works
 mod WritesLaw

@@ -15,4 +15,5 @@ pub mod Merges
 pub mod OpenerSteps
 pub mod Shown
 pub mod StoreSteps
+pub mod Trims
 pub mod View

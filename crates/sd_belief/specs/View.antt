@@ -9,6 +9,7 @@ use Rattle.sd_gate.specs.declared.phase.Phase.{Phase}
 use Rattle.sd_gate.specs.declared.request_id.RequestId.{RequestId}
 use Rattle.sd_gate.specs.declared.worker.Worker.{Worker}
 use Rattle.sd_gate.specs.declared.worker.Worker.TheVariants.{Dumper, Merger, Opener}
+use Rattle.sd_journal.specs.declared.origin.Origin.{Origin}
 use Rattle.sd_journal.specs.History.{Base, History}
 use Rattle.sd_journal.specs.Marked.{Marked, entries_of}
 use Rattle.sd_merge.specs.Merger as merger
@@ -51,33 +52,32 @@ pub record CoreView : Type 0 where
 
 -- ---- how a view is stored as a value
 
-abbrev pub base_code : Coded Base
-base_code = code_by (Option ℕ × PlainMemory) (coded× (coded_option coded_ℕ) plain_memory_code)
-    (λ b. (b.number, b.memory)) (λ t. record { number = t.0; memory = t.1 }) (λ _. refl)
+abbrev pub saved_code : Coded (Option ℕ × PlainMemory)
+saved_code = coded× (coded_option coded_ℕ) plain_memory_code
 
--- all but the base and the memory
+-- all but the number and the memory of the base, and the memory
 abbrev pub Rest : Type 0
-Rest = Marked × (ℕ × (ℕ × (Standing × (List Phase × (List (Option RequestId) × (Places × (Dumping × (Option merger.Running × (Option Looking × (Numbers × (Bool × Bool)))))))))))
+Rest = Origin × (Marked × (ℕ × (ℕ × (Standing × (List Phase × (List (Option RequestId) × (Places × (Dumping × (Option merger.Running × (Option Looking × (Numbers × (Bool × Bool))))))))))))
 
 abbrev pub core_code : Coded Rest → Coded CoreView
-core_code rest = code_by (Base × (Contents × Rest)) (coded× base_code (coded× contents_code rest))
-    (λ c. (c.base, (c.memory, (c.items, (c.held, (c.limit, (c.standing, (c.phases, (c.outs, (c.catalog, (c.dumper, (c.merger, (c.opener, (c.numbers, (c.grows, c.committing)))))))))))))))
+core_code rest = code_by ((Option ℕ × PlainMemory) × (Contents × Rest)) (coded× saved_code (coded× contents_code rest))
+    (λ c. ((c.base.number, c.base.memory), (c.memory, (c.base.origin, (c.items, (c.held, (c.limit, (c.standing, (c.phases, (c.outs, (c.catalog, (c.dumper, (c.merger, (c.opener, (c.numbers, (c.grows, c.committing))))))))))))))))
     (λ t. record {
-      base = t.0;
+      base = record { number = t.0.0; memory = t.0.1; origin = t.1.1.0 };
       memory = t.1.0;
-      items = t.1.1.0;
-      held = t.1.1.1.0;
-      limit = t.1.1.1.1.0;
-      standing = t.1.1.1.1.1.0;
-      phases = t.1.1.1.1.1.1.0;
-      outs = t.1.1.1.1.1.1.1.0;
-      catalog = t.1.1.1.1.1.1.1.1.0;
-      dumper = t.1.1.1.1.1.1.1.1.1.0;
-      merger = t.1.1.1.1.1.1.1.1.1.1.0;
-      opener = t.1.1.1.1.1.1.1.1.1.1.1.0;
-      numbers = t.1.1.1.1.1.1.1.1.1.1.1.1.0;
-      grows = t.1.1.1.1.1.1.1.1.1.1.1.1.1.0;
-      committing = t.1.1.1.1.1.1.1.1.1.1.1.1.1.1;
+      items = t.1.1.1.0;
+      held = t.1.1.1.1.0;
+      limit = t.1.1.1.1.1.0;
+      standing = t.1.1.1.1.1.1.0;
+      phases = t.1.1.1.1.1.1.1.0;
+      outs = t.1.1.1.1.1.1.1.1.0;
+      catalog = t.1.1.1.1.1.1.1.1.1.0;
+      dumper = t.1.1.1.1.1.1.1.1.1.1.0;
+      merger = t.1.1.1.1.1.1.1.1.1.1.1.0;
+      opener = t.1.1.1.1.1.1.1.1.1.1.1.1.0;
+      numbers = t.1.1.1.1.1.1.1.1.1.1.1.1.1.0;
+      grows = t.1.1.1.1.1.1.1.1.1.1.1.1.1.1.0;
+      committing = t.1.1.1.1.1.1.1.1.1.1.1.1.1.1.1;
     }) (λ _. refl)
 
 -- ---- parts of it

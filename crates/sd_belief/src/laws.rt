@@ -9,11 +9,12 @@ ghost use Rattle.sd_belief.specs.MergerOutcomes.{MergerOutcomes};
 ghost use Rattle.sd_belief.specs.MergerSteps.{MergeBeginningIsBelieved, MergerSteps};
 ghost use Rattle.sd_belief.specs.OpenerSteps.{OpenerSteps};
 ghost use Rattle.sd_belief.specs.StoreSteps.{QuietSteps};
+ghost use Rattle.sd_belief.specs.Trims.{TrimStep};
 
 use sd_chain::Catalog;
 use sd_gate::{bodies_fill, plans_lead, writes_commute};
 use sd_image::page_in_file;
-use sd_journal::journal_laws;
+use sd_journal::{journal_laws, marked_trim_laws, trim_laws};
 use sd_merge::{merge_law, merged_file_law};
 use sd_rounds::{file_law, keeps_law, made_law, making_law};
 use sd_store_laws::{
@@ -75,6 +76,14 @@ pub fn core_steps()
     quiet_steps();
     keeps_law();
     making_law();
+}
+
+/// A trim of the journal leaves what is believed.
+pub fn trim_step()
+    ensures { TrimStep }
+{
+    trim_laws();
+    marked_trim_laws();
 }
 
 /// Steps of a dumper: the next image begins, a device call is asked for, a page is visited or a sector copied, and the

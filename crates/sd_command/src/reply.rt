@@ -27,6 +27,8 @@ pub enum Reply {
     Cancelled(u64),
     /// The merged image with this serial is on the disk.
     Merged(u64),
+    /// So many entries were taken from the front of the journal.
+    Trimmed(u64),
     /// The store was opened, and this is its checkpoint, if it has one.
     Reopened(Option<u64>),
     /// Refused; nothing changed but what the refusal itself names.
@@ -46,6 +48,7 @@ impl fmt::Display for Reply {
             Reply::Acked(number) => write!(f, "acked {number}"),
             Reply::Cancelled(number) => write!(f, "cancelled {number}"),
             Reply::Merged(serial) => write!(f, "merged {serial}"),
+            Reply::Trimmed(count) => write!(f, "trimmed {count}"),
             Reply::Reopened(Some(number)) => write!(f, "reopened {number}"),
             Reply::Reopened(None) => f.write_str("reopened none"),
             Reply::Refused(refusal) => write!(f, "refused {refusal}"),

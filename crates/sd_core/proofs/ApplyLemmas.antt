@@ -40,11 +40,11 @@ bytes_pass false command reply bytes old new is told = load_passes command bytes
 -- ---- the memory stays tracked
 
 pub tracked_on : TrackedLaws → (base : Base) (items : Marked) (old new : Contents) (seat : ℕ) (command : Command) (reply : Reply) (waiting : Option ℕ)
-    → waiting ≡ pending (entries_of items) → IsTracked base items old → IsAnswered (is_some waiting) command reply old new
+    → waiting ≡ pending (entries_of items) → IsSound old → IsTracked base items old → IsAnswered (is_some waiting) command reply old new
     → IsTracked base (Told (Applied seat command reply) ∷ items) new
-tracked_on laws base items old new seat command reply None none was told =
-    laws.applied base items old new seat command reply was (sym none) told.legal told.step
-tracked_on laws base items old new seat command reply (Some n) some was told =
+tracked_on laws base items old new seat command reply None none sound was told =
+    laws.applied base items old new seat command reply sound was (sym none) told.legal told.step
+tracked_on laws base items old new seat command reply (Some n) some sound was told =
     subst (λ r. IsTracked base (Told (Applied seat command r) ∷ items) new) (sym told.0)
     (subst (IsTracked base (Told (Applied seat command (Refused Frozen)) ∷ items)) (sym told.1) (laws.frozen base items old seat n command was (sym some)))
 

@@ -8,7 +8,7 @@ use Rattle.sd_journal.specs.Kept.{Kept}
 use Rattle.sd_journal.specs.Legal.{MayFollow}
 use Rattle.sd_journal.specs.Marked.{Told, IsTracked, Marked, entries_of}
 use Rattle.sd_journal.specs.TrackedLaws.{TrackedLaws}
-use Rattle.sd_pagetable.specs.Contents.{Contents}
+use Rattle.sd_pagetable.specs.Contents.{Contents, IsSound}
 use Rattle.sd_core.specs.Answering.{IsAnswered}
 use Rattle.sd_core.specs.declared.numbers.Numbers.{Numbers}
 use Rattle.sd_core.specs.Sound.{AreNumbers, IsJournal}
@@ -28,10 +28,10 @@ same_journal base old new memory frozen newest first items limit was = record {
 -- a command was journaled
 pub applied_journal : TrackedLaws → (base : Base) (old new : Kept) (before after : Contents) (frozen newest : Option ℕ) (seat : ℕ) (command : Command) (reply : Reply)
     → new.items ≡ Told (Applied seat command reply) ∷ old.items → new.first ≡ old.first → new.limit ≡ old.limit
-    → IsJournal base old before frozen newest → IsAnswered (is_some frozen) command reply before after → IsJournal base new after frozen newest
-applied_journal laws base old new before after frozen newest seat command reply items first limit was answered = record {
+    → IsSound before → IsJournal base old before frozen newest → IsAnswered (is_some frozen) command reply before after → IsJournal base new after frozen newest
+applied_journal laws base old new before after frozen newest seat command reply items first limit sound was answered = record {
   tracked = subst (λ all. IsTracked base all after) (sym items)
-      (tracked_on laws base old.items before after seat command reply frozen was.frozen_for was.tracked answered);
+      (tracked_on laws base old.items before after seat command reply frozen was.frozen_for sound was.tracked answered);
   first = first ∙ was.first;
   limit = limit ∙ was.limit;
   frozen_for = was.frozen_for ∙ ap (λ all. pending (entries_of all)) (sym items);

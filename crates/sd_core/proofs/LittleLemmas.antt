@@ -17,8 +17,8 @@ use Rattle.sd_command.specs.declared.reply.Reply.{Reply}
 use Rattle.sd_journal.specs.declared.entry.Entry.TheVariants.{Acked, Applied, Cancelled, Freeze, Reopened}
 use Rattle.sd_journal.specs.declared.mark.Mark.TheVariants.{Start, Table, Visit}
 use Rattle.sd_journal.specs.History.{Base, at_freeze, memory_after}
-use Rattle.sd_journal.specs.Marked.{IsTracked, Marked, Noted, Told, entries_of, is_of, memory_at}
-use Rattle.sd_journal.specs.TrackedLaws.{DueLaws, before_freeze, is_due}
+use Rattle.sd_journal.specs.Marked.{IsTracked, Marked, Noted, Told, entries_of, is_due, is_of, memory_at}
+use Rattle.sd_journal.specs.TrackedLaws.{DueLaws, before_freeze}
 use Rattle.sd_pagetable.specs.Contents.{Contents, page_at}
 use Rattle.sd_pagetable.specs.Law.{PlainLaw}
 use Rattle.sd_pagetable.specs.Nested.{value_at}
@@ -50,24 +50,24 @@ either true other is = absurd (both_ways true is refl)
 either false other is = (refl, is)
 
 -- none under a serial that no mark has
-pub no_visits : (items : Marked) (serial : ℕ) → list_any (is_of serial) items ≡ false → visits_of items serial ≡ []
-no_visits [] serial none = refl
-no_visits (Told entry ∷ items) serial none = no_visits items serial none
-no_visits (Noted (Start s) ∷ items) serial none = no_visits items serial (either (s == serial) (list_any (is_of serial) items) none).1
-no_visits (Noted (Visit s space page) ∷ items) serial none =
+pub no_visits : (base : Base) (items : Marked) (serial : ℕ) → list_any (is_of serial) items ≡ false → visits_of base items serial ≡ []
+no_visits base [] serial none = refl
+no_visits base (Told entry ∷ items) serial none = no_visits base items serial none
+no_visits base (Noted (Start s) ∷ items) serial none = no_visits base items serial (either (s == serial) (list_any (is_of serial) items) none).1
+no_visits base (Noted (Visit s space page) ∷ items) serial none =
     let both = either (s == serial) (list_any (is_of serial) items) none in
-    ap (λ b. if b then visits_of items serial ++ (record { place = (space, page); soft_dirty = is_due items space page }) ∷ [] else visits_of items serial) both.0
-    ∙ no_visits items serial both.1
-no_visits (Noted (Table s) ∷ items) serial none = no_visits items serial (either (s == serial) (list_any (is_of serial) items) none).1
+    ap (λ b. if b then visits_of base items serial ++ (record { place = (space, page); soft_dirty = is_due base items space page }) ∷ [] else visits_of base items serial) both.0
+    ∙ no_visits base items serial both.1
+no_visits base (Noted (Table s) ∷ items) serial none = no_visits base items serial (either (s == serial) (list_any (is_of serial) items) none).1
 
 -- a visit finds whether the page is due
 pub visit_more : DueLaws → (base : Base) (items : Marked) (before after : Contents) (image next : Making) (visit : PageVisit) (serial : ℕ) → IsTracked base items before
     → Visits image before visit next after
-    → visits_of (Noted (Visit serial visit.space visit.page) ∷ items) serial ≡ visits_after (Visited visit) (visits_of items serial)
+    → visits_of base (Noted (Visit serial visit.space visit.page) ∷ items) serial ≡ visits_after (Visited visit) (visits_of base items serial)
 visit_more laws base items before after image next visit serial tracked v =
-    ap (λ b. if b then visits_of items serial ++ (record { place = (visit.space, visit.page); soft_dirty = is_due items visit.space visit.page }) ∷ [] else visits_of items serial)
+    ap (λ b. if b then visits_of base items serial ++ (record { place = (visit.space, visit.page); soft_dirty = is_due base items visit.space visit.page }) ∷ [] else visits_of base items serial)
     (eq-eqb serial serial refl)
-    ∙ ap (λ d. visits_of items serial ++ (record { place = (visit.space, visit.page); soft_dirty = d }) ∷ [])
+    ∙ ap (λ d. visits_of base items serial ++ (record { place = (visit.space, visit.page); soft_dirty = d }) ∷ [])
     (sym (laws.bit base items before visit.space visit.page v.tests.page tracked v.tests.there) ∙ sym v.tests.bit)
 
 -- ---- a step of the image in the making
@@ -89,11 +89,11 @@ past_freeze image is = and_right (kind_number image.order.kind == 2) (is_past_fr
 
 pub step_little : LittleLaws → (base : Base) (items now : Marked) (before after : Contents) (number ticket : ℕ) (image next : Making) (step : ImageStep)
     → Steps ticket image before step next after → IsRising image.pass → is_frozen next ≡ is_frozen image
-    → visits_of now image.order.serial ≡ visits_after step (visits_of items image.order.serial) → before_freeze now number ≡ before_freeze items number
+    → visits_of base now image.order.serial ≡ visits_after step (visits_of base items image.order.serial) → before_freeze now number ≡ before_freeze items number
     → TakesLittle base items before number image → TakesLittle base now after number next
 step_little laws base items now before after number ticket image next step s rising still seen since was = record {
-  round = λ kind. subst (λ all. TakesVisited all next) (sym seen ∙ ap (λ (o : ImageOrder). visits_of now o.serial) (sym order))
-      (laws.visits ticket (visits_of items image.order.serial) image next before after step s (ap (λ (o : ImageOrder). o.kind) (sym order) ∙ kind)
+  round = λ kind. subst (λ all. TakesVisited all next) (sym seen ∙ ap (λ (o : ImageOrder). visits_of base now o.serial) (sym order))
+      (laws.visits ticket (visits_of base items image.order.serial) image next before after step s (ap (λ (o : ImageOrder). o.kind) (sym order) ∙ kind)
       (was.round (ap (λ (o : ImageOrder). o.kind) (sym order) ∙ kind)));
   dump = λ is.
       let d = was.dump (sym still ∙ is) in
@@ -132,7 +132,7 @@ pub begun_little : LittleLaws → (base : Base) (items : Marked) (before after :
     → Steps ticket (begun_image order) before (Call request) next after → list_any (is_of order.serial) items ≡ false → is_frozen next ≡ false
     → TakesLittle base (Noted (Start order.serial) ∷ items) after number next
 begun_little laws base items before after number ticket order next request s fresh not_yet = record {
-  round = λ kind. subst (λ all. TakesVisited all next) (sym (no_visits items order.serial fresh) ∙ ap (λ (o : ImageOrder). visits_of items o.serial) (sym same))
+  round = λ kind. subst (λ all. TakesVisited all next) (sym (no_visits base items order.serial fresh) ∙ ap (λ (o : ImageOrder). visits_of base items o.serial) (sym same))
       (laws.visits ticket [] (begun_image order) next before after (Call request) s (ap (λ (o : ImageOrder). o.kind) (sym same) ∙ kind) (laws.begins order));
   dump = λ is. absurd (both_ways (is_frozen next) not_yet is);
 }
@@ -144,8 +144,8 @@ begun_little laws base items before after number ticket order next request s fre
 pub more_little : LittleLaws → (base : Base) (items : Marked) (memory : Contents) (number : ℕ) (image next : Making) (made : Made)
     → GoesOn image made next ⊎ IsWritten image made next → is_frozen next ≡ is_frozen image → TakesLittle base items memory number image → TakesLittle base items memory number next
 more_little laws base items memory number image next made g still was = record {
-  round = λ kind. subst (λ (o : ImageOrder). TakesVisited (visits_of items o.serial) next) (sym order)
-      (laws.goes_on (visits_of items image.order.serial) image next made g (was.round (ap (λ (o : ImageOrder). o.kind) (sym order) ∙ kind)));
+  round = λ kind. subst (λ (o : ImageOrder). TakesVisited (visits_of base items o.serial) next) (sym order)
+      (laws.goes_on (visits_of base items image.order.serial) image next made g (was.round (ap (λ (o : ImageOrder). o.kind) (sym order) ∙ kind)));
   dump = λ is.
       let d = was.dump (sym still ∙ is) in
       record {
@@ -200,11 +200,11 @@ due_is_way : PlainLaw → DueLaws → (base : Base) (frozen : Marked) (cut : Con
     → due whole (page_at cut at.0 at.1) ≡ way_due whole base frozen at
 due_is_way law dues base frozen cut tracked whole at =
     by (page_at cut at.0 at.1) refl
-    ∙ ap (option_map (λ (page : plain.Page). if whole || is_due frozen at.0 at.1 then kind_of_bytes page.bytes else Parent))
+    ∙ ap (option_map (λ (page : plain.Page). if whole || is_due base frozen at.0 at.1 then kind_of_bytes page.bytes else Parent))
     (sym (law.pages cut at.0 at.1) ∙ ap (λ m. value_at m at.0 at.1) tracked.memory)
   where
     by : (o : Option Page) → page_at cut at.0 at.1 ≡ o
-        → due whole o ≡ option_map (λ (page : plain.Page). if whole || is_due frozen at.0 at.1 then kind_of_bytes page.bytes else Parent) (option_map plain_page o)
+        → due whole o ≡ option_map (λ (page : plain.Page). if whole || is_due base frozen at.0 at.1 then kind_of_bytes page.bytes else Parent) (option_map plain_page o)
     by None there = refl
     by (Some page) there = ap (λ b. Some (if whole || b then kind_of_bytes page.bytes else Parent)) (dues.bit base frozen cut at.0 at.1 page tracked there)
 
@@ -266,11 +266,11 @@ seen_before seen old own n frozen same named was = subst (λ (v : CoreView). bef
 pub round_took : LittleLaws → (base : Base) (items : Marked) (memory : Contents) (running : Running) (image : Making) (made : Made) (opened : NewImage)
     → is_last running ≡ false → image.order ≡ order_of running image.order.serial image.order.state → Opens image made opened → IsSoundImage image
     → IsHeaderOf image.order opened.header → TakesLittle base items memory running.number image
-    → TookVisited (opened.header.parent == 0) (visits_of items opened.header.serial) opened.table
+    → TookVisited (opened.header.parent == 0) (visits_of base items opened.header.serial) opened.table
 round_took laws base items memory running image made opened more own o sound now was =
-    subst (λ b. TookVisited b (visits_of items opened.header.serial) opened.table) (whole_is image opened.header sound now)
-    (subst (λ s. TookVisited image.pass.takes_all (visits_of items s) opened.table) (sym now.serial)
-    (laws.took (visits_of items image.order.serial) image made opened o (was.round kind)))
+    subst (λ b. TookVisited b (visits_of base items opened.header.serial) opened.table) (whole_is image opened.header sound now)
+    (subst (λ s. TookVisited image.pass.takes_all (visits_of base items s) opened.table) (sym now.serial)
+    (laws.took (visits_of base items image.order.serial) image made opened o (was.round kind)))
   where
     kind : image.order.kind ≡ PreDump
     kind = ap (λ (m : ImageOrder). m.kind) own ∙ ap (λ b. if b then Dump else PreDump) more

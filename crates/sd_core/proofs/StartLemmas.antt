@@ -1,18 +1,20 @@
 -- A core as it starts.
-use Rattle.std.proofs.Common.{◌≡◌, ℕ, zero, suc, ◌<◌, ◌≤◌, List, [], ◌∷◌, if◌then◌else◌, Option, Some, None, IfSome, slice_get, refl, sym, ◌∙◌, ap, subst, arith}
+use Rattle.std.proofs.Common.{◌≡◌, ℕ, true, zero, suc, ◌<◌, ◌≤◌, List, [], ◌∷◌, if◌then◌else◌, Option, Some, None, IfSome, slice_get, refl, sym, ◌∙◌, ap, subst, arith}
 use Rattle.std.specs.List.{list_any}
 use Rattle.std.proofs.lemmas.Bool.{eq-eqb}
 use Rattle.sd_areas.specs.PlainMemory.{PlainMemory}
 use Rattle.std.specs.Option.{option_map}
 use Rattle.std.proofs.lemmas.Option.{same_Some}
 use Rattle.sd_gate.specs.Requests.{Asked}
+use Rattle.sd_journal.specs.declared.origin.Origin.{Origin}
+use Rattle.sd_journal.specs.declared.origin.Origin.TheVariants as origins
 use Rattle.sd_journal.specs.Allowed.{IsLastPair}
 use Rattle.sd_journal.specs.History.{Base, last, pending}
 use Rattle.sd_journal.specs.Kept.{Kept}
 use Rattle.sd_journal.specs.Legal.{IsAbove}
-use Rattle.sd_journal.specs.Marked.{IsTracked, Marked, entries_of, is_of}
+use Rattle.sd_journal.specs.Marked.{IsTracked, Marked, entries_of, is_due, is_of, is_opened}
 use Rattle.sd_pagetable.specs.Contents.{Contents, plain_of}
-use Rattle.sd_pagetable.specs.Tracking.{IsBeginning}
+use Rattle.sd_pagetable.specs.Tracking.{IsBeginning, clears, is_dirty, since, touches}
 use Rattle.sd_core.specs.declared.numbers.Numbers.{Numbers}
 use Rattle.sd_core.specs.Sound.{AreNumbers, IsJournal}
 use Rattle.sd_belief.specs.InUse.{id_of, ids_of}
@@ -29,16 +31,20 @@ none_of lane one is = nobody_out lane one.id (id_there nothing_asked lane one is
     id_there (a ∷ asked) (suc at) request is = id_there asked at request is
 
 -- the base is the last pair of a journal without entries
-pub base_is_last : (number : Option ℕ) (base : PlainMemory) → IsLastPair (record { number = number; memory = base }) [] (shown_base number base)
+pub base_is_last : (number : Option ℕ) (base : PlainMemory) → IsLastPair (record { number = number; memory = base; origin = origins.Opened }) [] (shown_base number base)
 base_is_last None base = refl
 base_is_last (Some number) base = (refl, ap (λ b. if b then Some base else None) (eq-eqb number number refl))
 
 -- ---- its invariant
 
-pub start_journal : (base : Base) (journal : Kept) (memory : Contents) (number : Option ℕ) → IsBeginning memory → plain_of memory ≡ base.memory → base.number ≡ number
+due_at_first : (base : Base) → base.origin ≡ origins.Opened → (space page : ℕ) → is_due base [] space page ≡ true
+due_at_first base opened space page =
+    ap (λ (o : Origin). if is_opened o then is_dirty [] space page else list_any (touches space page) (since (clears space page) [])) opened
+
+pub start_journal : (base : Base) (journal : Kept) (memory : Contents) (number : Option ℕ) → base.origin ≡ origins.Opened → IsBeginning memory → plain_of memory ≡ base.memory → base.number ≡ number
     → journal.items ≡ [] → journal.first ≡ 0 → journal.limit ≡ 1048576 → IsJournal base journal memory None number
-start_journal base journal memory number begins same own items first limit = record {
-  tracked = subst (λ all. IsTracked base all memory) (sym items) (record { marked = tt; memory = same; bits = record { soft_dirty = λ space page at there. (begins space page at there).0; writable = λ space page at there. (begins space page at there).1 }; swept = tt });
+start_journal base journal memory number opened begins same own items first limit = record {
+  tracked = subst (λ all. IsTracked base all memory) (sym items) (record { marked = tt; memory = same; bits = record { soft_dirty = λ space page at there. (begins space page at there).0 ∙ sym (due_at_first base opened space page); writable = λ space page at there. (begins space page at there).1 }; swept = tt });
   first = first;
   limit = limit;
   frozen_for = ap (λ all. pending (entries_of all)) (sym items);

@@ -9,8 +9,8 @@ use Rattle.sd_image.specs.declared.run.RunKind.TheVariants.{Parent}
 use Rattle.sd_image.specs.Shows.{pages_of}
 use Rattle.sd_journal.specs.declared.mark.Mark.TheVariants.{Visit}
 use Rattle.sd_journal.specs.History.{Base, at_freeze}
-use Rattle.sd_journal.specs.Marked.{IsTracked, Marked, Noted, memory_at}
-use Rattle.sd_journal.specs.TrackedLaws.{before_freeze, is_due}
+use Rattle.sd_journal.specs.Marked.{IsTracked, Marked, Noted, is_due, memory_at}
+use Rattle.sd_journal.specs.TrackedLaws.{before_freeze}
 use Rattle.sd_pagetable.specs.Contents.{Contents}
 use Rattle.sd_pagetable.specs.Nested.{value_at}
 use Rattle.sd_rounds.specs.Dump.{kind_of_bytes}
@@ -27,7 +27,7 @@ use Rattle.sd_core.specs.Images.{HasImage}
 -- How a dump is to have a page that is mapped at the freeze: where it has no parent, or where something since the page's last visit
 -- touched it or it had no visit, as zeros or data, by its bytes; and else in its parent. No other page.
 abbrev pub way_due : Bool → Base → Marked → Place → Option RunKind
-way_due whole base frozen at = option_map (λ (page : plain.Page). if whole || is_due frozen at.0 at.1 then kind_of_bytes page.bytes else Parent)
+way_due whole base frozen at = option_map (λ (page : plain.Page). if whole || is_due base frozen at.0 at.1 then kind_of_bytes page.bytes else Parent)
     (value_at (memory_at base frozen) at.0 at.1)
 
 -- The dump's table has exactly the pages that were mapped at the freeze of this number, each in the way that is due by what stood in the
@@ -48,19 +48,19 @@ pub record IsLittleDump (n : ℕ) (old new : CoreView) : Type 0 where
 -- ---- a pre-dump
 
 -- The visits of an image, in their order, each with whether something since the page's visit before touched it, or it had none.
-abbrev pub visits_of : Marked → ℕ → List visits.Visit
-visits_of [] serial = []
-visits_of (Noted (Visit s space page) ∷ earlier) serial =
-    if s == serial then visits_of earlier serial ++ (record { place = (space, page); soft_dirty = is_due earlier space page }) ∷ []
-    else visits_of earlier serial
-visits_of (_ ∷ earlier) serial = visits_of earlier serial
+abbrev pub visits_of : Base → Marked → ℕ → List visits.Visit
+visits_of base [] serial = []
+visits_of base (Noted (Visit s space page) ∷ earlier) serial =
+    if s == serial then visits_of base earlier serial ++ (record { place = (space, page); soft_dirty = is_due base earlier space page }) ∷ []
+    else visits_of base earlier serial
+visits_of base (_ ∷ earlier) serial = visits_of base earlier serial
 
 -- The pre-dump that was open last has as its parent's exactly the visited pages that weren't touched since their visit before, and as data
 -- and zeros none but those that were; without a parent all visited pages are taken.
 pub record IsLittlePreDump (running : Running) (old new : CoreView) : Type 0 where
   pub image : Opened
   pub has : HasImage running new.catalog image
-  pub took : TookVisited (image.header.parent == 0) (visits_of old.items image.header.serial) image.spaces
+  pub took : TookVisited (image.header.parent == 0) (visits_of old.base old.items image.header.serial) image.spaces
 
 -- one pre-dump more of a checkpoint is open
 pub record OpensPreDump (running : Running) (old new : CoreView) : Type 0 where
@@ -80,7 +80,7 @@ pub record IsFrozenFor (base : Base) (items : Marked) (memory : Contents) (numbe
   pub takes : TakesDue cut image memory
 
 pub record TakesLittle (base : Base) (items : Marked) (memory : Contents) (number : ℕ) (image : Making) : Type 0 where
-  pub round : image.order.kind ≡ PreDump → TakesVisited (visits_of items image.order.serial) image
+  pub round : image.order.kind ≡ PreDump → TakesVisited (visits_of base items image.order.serial) image
   pub dump : is_frozen image ≡ true → IsFrozenFor base items memory number image
 
 abbrev pub HasLittle : Base → Marked → Contents → Running → Type 0

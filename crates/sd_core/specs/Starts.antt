@@ -4,6 +4,7 @@ use Rattle.sd_areas.specs.PlainMemory.{PlainMemory}
 use Rattle.sd_gate.specs.declared.phase.Phase.{Phase}
 use Rattle.sd_gate.specs.declared.worker.Worker.{Worker}
 use Rattle.sd_gate.specs.Requests.{Asked}
+use Rattle.sd_journal.specs.declared.origin.Origin.TheVariants as origins
 use Rattle.sd_journal.specs.Allowed.{Shown}
 use Rattle.sd_pagetable.specs.Contents.{Contents}
 use Rattle.sd_rounds.specs.Dumper.{idle}
@@ -21,7 +22,7 @@ shown_base (Some number) memory = Some (number, memory)
 
 -- a core that starts: its journal is empty, its store isn't open, and nothing is out
 pub record IsStart (number : Option ℕ) (saved : PlainMemory) (loaded : Contents) (found : List Phase) (core : CoreView) : Type 0 where
-  pub base : core.base ≡ record { number = number; memory = saved }
+  pub base : core.base ≡ record { number = number; memory = saved; origin = origins.Opened }
   pub items : core.items ≡ []
   pub held : core.held ≡ 0
   pub limit : core.limit ≡ 1048576

@@ -110,6 +110,7 @@ pub fn copy_reply(alloc: Global, reply: &Reply) -> Result<Reply, AllocError>
         Reply::Acked(number) => Reply::Acked(*number),
         Reply::Cancelled(number) => Reply::Cancelled(*number),
         Reply::Merged(serial) => Reply::Merged(*serial),
+        Reply::Trimmed(count) => Reply::Trimmed(*count),
         Reply::Reopened(number) => Reply::Reopened(*number),
         Reply::Refused(refusal) => Reply::Refused(*refusal),
     })

@@ -95,6 +95,7 @@ impl Model for Core {
     ghost use Rattle.std.specs.Prelude.{None};
     ghost use Rattle.sd_areas.specs.Memory.{memory_of};
     ghost use Rattle.std.specs.Coded.{codes};
+    ghost use Rattle.sd_journal.specs.declared.origin.Origin.TheVariants.{Opened};
     ghost use Rattle.sd_belief.specs.View.{CoreView, core_code};
     ghost use Rattle.sd_core.specs.Sound.{IsCore};
 
@@ -103,7 +104,7 @@ impl Model for Core {
     ghost coded = { core_code (Prim.hlevel (codes)) };
 
     ghost view = { λ c. record {
-      base = record { number = c.number; memory = memory_of c.base };
+      base = record { number = c.number; memory = memory_of c.base; origin = Opened };
       items = c.journal.items;
       held = c.journal.held;
       limit = c.journal.limit;
@@ -121,7 +122,7 @@ impl Model for Core {
     } };
 
     ghost invariant = { λ c. IsCore (record {
-      base = record { number = c.number; memory = memory_of c.base };
+      base = record { number = c.number; memory = memory_of c.base; origin = Opened };
       journal = c.journal;
       memory = c.memory;
       frozen = c.pending;

@@ -70,7 +70,7 @@ acked_allows base history n (Some pair) legal = (
 )
 
 -- nothing is pending behind a cancelling
-none_left : (base : Base) (history : History) (n k : ℕ) {P : Type 0}
+pub none_left : (base : Base) (history : History) (n k : ℕ) {P : Type 0}
     → (pending history ≡ Some n) ⊎ ((pending history ≡ None) × IsAbove base history n) → unless_it_is n (pending history) ≡ Some k → P
 none_left base history n k (inl is) e =
     let gone : unless_it_is n (Some n) ≡ None = rw (same n) refl in

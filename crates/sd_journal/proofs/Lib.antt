@@ -1,7 +1,15 @@
+pub mod AlikeLemmas
 pub mod AllowedLemmas
+pub mod BitLemmas
 pub mod DueLemmas
+pub mod FrontLemmas
 pub mod HistoryLemmas
 pub mod KeptLemmas
 pub mod LegalLemmas
+pub mod MappedLemmas
 pub mod MarkedLemmas
 pub mod PlainLemmas
+pub mod TakenLemmas
+pub mod TrimLemmas
+pub mod TrimmedMarks
+pub mod VisitedLemmas

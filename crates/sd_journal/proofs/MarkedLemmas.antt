@@ -4,13 +4,14 @@ use Rattle.std.proofs.lemmas.Bool.Decides.{nat_tests}
 use Rattle.std.specs.List.{list_any}
 use Rattle.std.specs.Option.{option_map}
 use Rattle.sd_areas.specs.PlainMemory.{PlainMemory}
-use Rattle.sd_pagetable.specs.Contents.{Contents, page_at, plain_of}
+use Rattle.sd_pagetable.specs.Contents.{Contents, IsSound, page_at, plain_of}
 use Rattle.sd_pagetable.specs.EventEffects.{EffectLaw}
-use Rattle.sd_pagetable.specs.Law.{PlainLaw}
+use Rattle.sd_pagetable.specs.Law.{ClearLaw, PlainLaw}
 use Rattle.sd_pagetable.specs.Nested.{value_at}
 use Rattle.sd_pagetable.specs.Order.{is_above, IsNextPage}
 use Rattle.sd_pagetable.specs.Page.{plain_page}
-use Rattle.sd_pagetable.specs.Tracking.{Cleared, Passed, Step, TracksLaw, is_page}
+use Rattle.sd_pagetable.specs.PageLaw.{PageLaw}
+use Rattle.sd_pagetable.specs.Tracking.{Cleared, Passed, Step, is_page}
 use Rattle.sd_command.specs.declared.command.Command.{Command}
 use Rattle.sd_command.specs.declared.command.Command.TheVariants as command
 use Rattle.sd_command.specs.declared.refusal.Refusal.TheVariants.{Frozen}
@@ -23,23 +24,24 @@ use Rattle.sd_journal.specs.declared.entry.Entry.TheVariants.{Applied, Freeze, A
 use Rattle.sd_journal.specs.declared.mark.Mark.TheVariants.{Start, Visit, Table}
 use Rattle.sd_journal.specs.History.{Base, pending}
 use Rattle.sd_journal.specs.Legal.{IsLegal, MayFollow}
-use Rattle.sd_journal.specs.Marked.{Told, Noted, Marked, entries_of, memory_at, events_of, is_of, is_visited, last_visit, visiting, is_mapped, stays_mapped, IsMarked, IsSwept, IsTracked}
+use Rattle.sd_journal.specs.Marked.{Told, Noted, Marked, entries_of, memory_at, is_of, is_visited, last_visit, visiting, is_mapped, stays_mapped, IsMarked, IsSwept, IsTracked}
 use Rattle.sd_journal.specs.Receipts.{is_command}
+use Rattle.sd_journal.proofs.BitLemmas.{bits_clear, bits_pass, bits_step}
 use Rattle.sd_journal.proofs.HistoryLemmas.{same}
 
-and_left : (a b : Bool) → (a && b) ≡ true → a ≡ true
+pub and_left : (a b : Bool) → (a && b) ≡ true → a ≡ true
 and_left true b e = refl
 and_left false b e = e
 
-and_right : (a b : Bool) → (a && b) ≡ true → b ≡ true
+pub and_right : (a b : Bool) → (a && b) ≡ true → b ≡ true
 and_right true b e = e
 and_right false b e = absurd (cc)
 
-or_left : (a b : Bool) → (a || b) ≡ false → a ≡ false
+pub or_left : (a b : Bool) → (a || b) ≡ false → a ≡ false
 or_left true b e = e
 or_left false b e = refl
 
-or_right : (a b : Bool) → (a || b) ≡ false → b ≡ false
+pub or_right : (a b : Bool) → (a || b) ≡ false → b ≡ false
 or_right true b e = absurd (cc)
 or_right false b e = e
 
@@ -50,7 +52,7 @@ or_holds false b e = e
 pub never : {P : Type 0} → true ≡ false → P
 never e = absurd (cc)
 
-if_some : {A : Type 0} (o : Option A) (P Q : A → Type 0) → ((a : A) → P a → Q a) → IfSome o P → IfSome o Q
+pub if_some : {A : Type 0} (o : Option A) (P Q : A → Type 0) → ((a : A) → P a → Q a) → IfSome o P → IfSome o Q
 if_some None P Q f p = p
 if_some (Some a) P Q f p = f a p
 
@@ -78,16 +80,16 @@ still_swept : (base : Base) (items : Marked) (entry : Entry) → IfSome (visitin
 still_swept base items entry swept =
     if_some (visiting items) (λ serial. IsSwept base items serial) (λ serial. IsSwept base (Told entry ∷ items) serial) (λ serial. swept_told base items entry serial) swept
 
-pub applied : TracksLaw → CommandLaw → (base : Base) (items : Marked) (old new : Contents) (seat : ℕ) (command : Command) (reply : Reply)
-    → IsTracked base items old → pending (entries_of items) ≡ None → IsLegalReply (plain_of old) false command reply
+pub applied : PageLaw → CommandLaw → (base : Base) (items : Marked) (old new : Contents) (seat : ℕ) (command : Command) (reply : Reply)
+    → IsSound old → IsTracked base items old → pending (entries_of items) ≡ None → IsLegalReply (plain_of old) false command reply
     → Step old (event_of command reply) new → IsTracked base (Told (Applied seat command reply) ∷ items) new
-applied tracks effects base items old new seat command reply tracked none legal step =
+applied pages effects base items old new seat command reply sound tracked none legal step =
     let now : IsLegalReply (memory_at base items) false command reply = subst (λ memory. IsLegalReply memory false command reply) tracked.memory legal in
     let may : IsLegalReply (memory_at base items) (is_some (pending (entries_of items))) command reply = rw none now in
     record {
       marked = (may, tracked.marked);
       memory = effects old new command reply step ∙ ap (effect command reply) tracked.memory;
-      bits = tracks.more (events_of items) (event_of command reply) old new tracked.bits step;
+      bits = bits_step pages base (Told (Applied seat command reply)) items old new sound step tracked.bits;
       swept = still_swept base items (Applied seat command reply) tracked.swept;
     }
 
@@ -102,7 +104,7 @@ frozen_passes (command.TryStore space address bytes) = refl
 frozen_passes (command.Fault space address) = refl
 frozen_passes (command.Store space address bytes) = refl
 
-frozen_leaves : (command : Command) (memory : PlainMemory) → effect command (Refused Frozen) memory ≡ memory
+pub frozen_leaves : (command : Command) (memory : PlainMemory) → effect command (Refused Frozen) memory ≡ memory
 frozen_leaves (command.Mmap space address bytes prot) memory = refl
 frozen_leaves (command.Munmap space address bytes) memory = refl
 frozen_leaves (command.Mprotect space address bytes prot) memory = refl
@@ -113,52 +115,51 @@ frozen_leaves (command.TryStore space address bytes) memory = refl
 frozen_leaves (command.Fault space address) memory = refl
 frozen_leaves (command.Store space address bytes) memory = refl
 
-pub frozen : TracksLaw → (base : Base) (items : Marked) (contents : Contents) (seat n : ℕ) (command : Command)
+pub frozen : (base : Base) (items : Marked) (contents : Contents) (seat n : ℕ) (command : Command)
     → IsTracked base items contents → pending (entries_of items) ≡ Some n
     → IsTracked base (Told (Applied seat command (Refused Frozen)) ∷ items) contents
-frozen tracks base items contents seat n command tracked is =
+frozen base items contents seat n command tracked is =
     let may : IsLegalReply (memory_at base items) (is_some (pending (entries_of items))) command (Refused Frozen) = rw is refl in
-    let step : Step contents (event_of command (Refused Frozen)) contents = rw (frozen_passes command) refl in
     record {
       marked = (may, tracked.marked);
       memory = tracked.memory ∙ sym (frozen_leaves command (memory_at base items));
-      bits = tracks.more (events_of items) (event_of command (Refused Frozen)) contents contents tracked.bits step;
+      bits = bits_pass base (Told (Applied seat command (Refused Frozen))) items contents (frozen_passes command) tracked.bits;
       swept = still_swept base items (Applied seat command (Refused Frozen)) tracked.swept;
     }
 
-pub told : TracksLaw → (base : Base) (items : Marked) (contents : Contents) (entry : Entry)
+pub told : (base : Base) (items : Marked) (contents : Contents) (entry : Entry)
     → IsTracked base items contents → MayFollow base (entries_of items) entry → is_command entry ≡ false
     → IsTracked base (Told entry ∷ items) contents
-told tracks base items contents (Applied seat command reply) tracked may other = never other
-told tracks base items contents (Freeze n) tracked may other = record {
+told base items contents (Applied seat command reply) tracked may other = never other
+told base items contents (Freeze n) tracked may other = record {
   marked = (may, tracked.marked);
   memory = tracked.memory;
-  bits = tracks.more (events_of items) Passed contents contents tracked.bits refl;
+  bits = bits_pass base (Told (Freeze n)) items contents refl tracked.bits;
   swept = still_swept base items (Freeze n) tracked.swept;
 }
-told tracks base items contents (Acked n) tracked may other = record {
+told base items contents (Acked n) tracked may other = record {
   marked = (may, tracked.marked);
   memory = tracked.memory;
-  bits = tracks.more (events_of items) Passed contents contents tracked.bits refl;
-  swept = still_swept base items (Acked n) tracked.swept;
+  bits = bits_pass base (Told (Acked n)) items contents refl tracked.bits;
+  swept = tt;
 }
-told tracks base items contents (Cancelled n) tracked may other = record {
+told base items contents (Cancelled n) tracked may other = record {
   marked = (may, tracked.marked);
   memory = tracked.memory;
-  bits = tracks.more (events_of items) Passed contents contents tracked.bits refl;
-  swept = still_swept base items (Cancelled n) tracked.swept;
+  bits = bits_pass base (Told (Cancelled n)) items contents refl tracked.bits;
+  swept = tt;
 }
-told tracks base items contents (Reopened m) tracked may other = record {
+told base items contents (Reopened m) tracked may other = record {
   marked = (may, tracked.marked);
   memory = tracked.memory;
-  bits = tracks.more (events_of items) Passed contents contents tracked.bits refl;
-  swept = still_swept base items (Reopened m) tracked.swept;
+  bits = bits_pass base (Told (Reopened m)) items contents refl tracked.bits;
+  swept = tt;
 }
 
 -- ---- marks
 
 -- an image without a mark has visited no page
-no_visit : (items : Marked) (serial : ℕ) → list_any (is_of serial) items ≡ false → last_visit items serial ≡ None
+pub no_visit : (items : Marked) (serial : ℕ) → list_any (is_of serial) items ≡ false → last_visit items serial ≡ None
 no_visit [] serial e = refl
 no_visit (Told entry ∷ earlier) serial e = no_visit earlier serial e
 no_visit (Noted (Start s) ∷ earlier) serial e = no_visit earlier serial (or_right (s == serial) (list_any (is_of serial) earlier) e)
@@ -171,12 +172,12 @@ swept_start base items serial new space page above stays =
     let none : is_above (last_visit items serial) space page ≡ true = ap (λ last. is_above last space page) (no_visit items serial new) in
     never (sym none ∙ above)
 
-pub started : TracksLaw → (base : Base) (items : Marked) (contents : Contents) (serial : ℕ)
+pub started : (base : Base) (items : Marked) (contents : Contents) (serial : ℕ)
     → IsTracked base items contents → list_any (is_of serial) items ≡ false → IsTracked base (Noted (Start serial) ∷ items) contents
-started tracks base items contents serial tracked new = record {
+started base items contents serial tracked new = record {
   marked = (new, tracked.marked);
   memory = tracked.memory;
-  bits = tracks.more (events_of items) Passed contents contents tracked.bits refl;
+  bits = bits_pass base (Noted (Start serial)) items contents refl tracked.bits;
   swept = swept_start base items serial new;
 }
 
@@ -218,28 +219,28 @@ swept_visit plain base items old serial s p tracked is next space page behind st
     go mapped stayed swept last false other true e =
         never (sym (below s p space page last other) ∙ next.2 space page (in_memory plain base items old space page tracked.memory mapped) e)
 
-pub visited : TracksLaw → EffectLaw → PlainLaw → (base : Base) (items : Marked) (old new : Contents) (serial space page : ℕ)
+pub visited : ClearLaw → EffectLaw → PlainLaw → (base : Base) (items : Marked) (old new : Contents) (serial space page : ℕ)
     → IsTracked base items old → visiting items ≡ Some serial
     → IsNextPage old.spaces (last_visit items serial) (Some (space, page)) → Step old (Cleared space page) new
     → IsTracked base (Noted (Visit serial space page) ∷ items) new
-visited tracks effects plain base items old new serial space page tracked is next step =
+visited clears effects plain base items old new serial space page tracked is next step =
     let mapped : is_mapped (memory_at base items) space page ≡ true = of_memory plain base items old space page tracked.memory next.0 in
     record {
       marked = ((is, mapped, next.1), tracked.marked);
       memory = effects old new (Cleared space page) step ∙ tracked.memory;
-      bits = tracks.more (events_of items) (Cleared space page) old new tracked.bits step;
+      bits = bits_clear clears base (Noted (Visit serial space page)) items old new space page refl step tracked.bits;
       swept = rw is (swept_visit plain base items old serial space page tracked is next);
     }
 
-pub tabled : TracksLaw → PlainLaw → (base : Base) (items : Marked) (contents : Contents) (serial : ℕ)
+pub tabled : PlainLaw → (base : Base) (items : Marked) (contents : Contents) (serial : ℕ)
     → IsTracked base items contents → visiting items ≡ Some serial → IsNextPage contents.spaces (last_visit items serial) None
     → IsTracked base (Noted (Table serial) ∷ items) contents
-tabled tracks plain base items contents serial tracked is next =
+tabled plain base items contents serial tracked is next =
     let swept : IsSwept base items serial = rw is at tracked.swept in
     record {
       marked = ((is, λ space page stays. all swept space page stays), tracked.marked);
       memory = tracked.memory;
-      bits = tracks.more (events_of items) Passed contents contents tracked.bits refl;
+      bits = bits_pass base (Noted (Table serial)) items contents refl tracked.bits;
       swept = tt;
     }
   where

@@ -174,7 +174,7 @@ module _ {X : Type 0} where
       ∙ cond-or (nat_eq q first) (is_within (suc first) count q) x (find nat_cmp q es)
       ∙ ap (λ b. cond b (Some x) (find nat_cmp q es)) (sym (within_next first count q))
 
-  get-set_within : (m : Table X) (first count : ℕ) (x : X) (q : ℕ) → finmap.get (set_within m first count x) q ≡ cond (is_within first count q) (Some x) (finmap.get m q)
+  pub get-set_within : (m : Table X) (first count : ℕ) (x : X) (q : ℕ) → finmap.get (set_within m first count x) q ≡ cond (is_within first count q) (Some x) (finmap.get m q)
   unfolding set_within
   get-set_within m first count x q = get-from_entries nat_cmp_total _ q ∙ find_run first count x (finmap.entries m) q ∙ ap (cond (is_within first count q) (Some x)) (sym (get-entries m q))
 
@@ -202,7 +202,7 @@ module _ {X : Type 0} where
     unfolding map_entries
     get-map_entries m q = get-from_entries nat_cmp_total _ q ∙ found_changed (finmap.entries m) q ∙ ap (option_map (f q)) (sym (get-entries m q))
 
-  get-change_within : (change : X → X) (m : Table X) (first count q : ℕ) → finmap.get (change_within change m first count) q ≡ option_map (λ x. cond (is_within first count q) (change x) x) (finmap.get m q)
+  pub get-change_within : (change : X → X) (m : Table X) (first count q : ℕ) → finmap.get (change_within change m first count) q ≡ option_map (λ x. cond (is_within first count q) (change x) x) (finmap.get m q)
   unfolding change_within
   get-change_within change m first count q = get-map_entries (λ page x. cond (is_within first count page) (change x) x) m q
 

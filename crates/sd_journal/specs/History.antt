@@ -4,11 +4,13 @@ use Rattle.sd_areas.specs.PlainMemory.{PlainMemory}
 use Rattle.sd_command.specs.Replies.{effect}
 use Rattle.sd_journal.specs.declared.entry.Entry.{Entry}
 use Rattle.sd_journal.specs.declared.entry.Entry.TheVariants.{Applied, Freeze, Acked, Cancelled, Reopened}
+use Rattle.sd_journal.specs.declared.origin.Origin.{Origin}
 
--- what a run started from: a memory, and the number of its checkpoint, if it has one
+-- what a run goes on from: a memory, the number of its checkpoint, if it has one, and where these come from
 pub record Base : Type 0 where
   pub number : Option ℕ
   pub memory : PlainMemory
+  pub origin : Origin
 
 -- the entries of a journal, the newest first
 abbrev pub History : Type 0

@@ -1,5 +1,5 @@
 -- A journal as it is kept: its entries are numbered, marks stand between them, and some free entries are held.
-use Rattle.std.specs.Prelude.{◌≡◌, ℕ, ◌+◌, ◌-◌, ◌≤◌, List, [], ◌∷◌, ◌++◌, length, map, take, drop}
+use Rattle.std.specs.Prelude.{◌≡◌, ℕ, ◌+◌, ◌-◌, ◌≤◌, Bool, leb, List, [], ◌∷◌, ◌++◌, length, map, take, drop}
 use Rattle.sd_journal.specs.declared.placed_mark.PlacedMark.{PlacedMark}
 use Rattle.sd_journal.specs.History.{History}
 use Rattle.sd_journal.specs.Marked.{Told, Noted, Marked, entries_of}
@@ -40,13 +40,17 @@ pub record HasSameNumbers (old new : Kept) : Type 0 where
 
 -- ---- inside `Journal`
 
--- the entries and the marks in one list, all with the newest first
-abbrev pub woven : History → List PlacedMark → Marked
-woven entries [] = map Told entries
-woven entries (placed ∷ earlier) = map Told (take (length entries - placed.before) entries)
-    ++ Noted placed.mark ∷ woven (drop (length entries - placed.before) entries) earlier
+-- the entries and the marks in one list, all with the newest first: next is the number of the entry that will follow
+abbrev pub woven : ℕ → History → List PlacedMark → Marked
+woven next entries [] = map Told entries
+woven next entries (placed ∷ earlier) = map Told (take (next - placed.before) entries)
+    ++ Noted placed.mark ∷ woven placed.before (drop (next - placed.before) entries) earlier
 
--- no more entries stand before a mark than there are
+-- each mark stands before the entry with that number, and none before an older one
 abbrev pub AreWithin : ℕ → List PlacedMark → Type 0
-AreWithin count [] = Unit {0}
-AreWithin count (placed ∷ earlier) = (placed.before ≤ count) × AreWithin placed.before earlier
+AreWithin next [] = Unit {0}
+AreWithin next (placed ∷ earlier) = (placed.before ≤ next) × AreWithin placed.before earlier
+
+-- it stands behind the entries before that number
+abbrev pub is_behind : ℕ → PlacedMark → Bool
+is_behind number placed = leb number placed.before

@@ -34,3 +34,8 @@ pub record JournalLaws : Type 0 where
       → last base history ≡ Some k → k < n
   pub pending_below : (base : Base) (history : History) (n k : ℕ) → IsLegal base history → IsAbove base history n
       → pending history ≡ Some k → k < n
+  -- where a base comes from matters neither to which journals are legal nor to what they allow
+  pub legal_alike : (one other : Base) (history : History) → one.number ≡ other.number → one.memory ≡ other.memory
+      → IsLegal one history → IsLegal other history
+  pub allowed_alike : (one other : Base) (history : History) (shown : Shown) → one.number ≡ other.number → one.memory ≡ other.memory
+      → IsAllowed one history shown → IsAllowed other history shown

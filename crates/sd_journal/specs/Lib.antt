@@ -7,4 +7,5 @@ pub mod Legal
 pub mod Marked
 pub mod Receipts
 pub mod TrackedLaws
+pub mod Trimming
 pub mod Worked

@@ -2,15 +2,18 @@
 use Rattle.std.specs.Prelude.{◌≡◌, ℕ, Bool, true, false, ◌==◌, ◌&&◌, ◌||◌, if◌then◌else◌, List, [], ◌∷◌, map, Option, Some, None, IfSome, is_some}
 use Rattle.std.specs.List.{list_any}
 use Rattle.sd_areas.specs.PlainMemory.{PlainMemory}
-use Rattle.sd_pagetable.specs.Contents.{Contents, plain_of}
+use Rattle.sd_pagetable.specs.Contents.{Contents, page_at, plain_of}
 use Rattle.sd_pagetable.specs.Nested.{value_at}
 use Rattle.sd_pagetable.specs.Order.{is_above}
-use Rattle.sd_pagetable.specs.Tracking.{Event, Cleared, Passed, Tracks, is_page}
+use Rattle.sd_pagetable.specs.Page.{Page}
+use Rattle.sd_pagetable.specs.Tracking.{Event, Cleared, Passed, clears, is_dirty, is_page, is_writable, since, touches}
 use Rattle.sd_command.specs.Events.{event_of}
 use Rattle.sd_journal.specs.declared.entry.Entry.{Entry}
-use Rattle.sd_journal.specs.declared.entry.Entry.TheVariants.{Applied}
+use Rattle.sd_journal.specs.declared.entry.Entry.TheVariants.{Applied, Acked, Cancelled, Reopened}
 use Rattle.sd_journal.specs.declared.mark.Mark.{Mark}
 use Rattle.sd_journal.specs.declared.mark.Mark.TheVariants.{Start, Visit, Table}
+use Rattle.sd_journal.specs.declared.origin.Origin.{Origin}
+use Rattle.sd_journal.specs.declared.origin.Origin.TheVariants.{Opened, Trimmed}
 use Rattle.sd_journal.specs.History.{Base, History, memory_after}
 use Rattle.sd_journal.specs.Legal.{MayFollow}
 
@@ -40,6 +43,24 @@ item_event _ = Passed
 
 abbrev pub events_of : Marked → List Event
 events_of items = map item_event items
+
+-- ---- soft-dirty and writable pages
+
+abbrev pub is_opened : Origin → Bool
+is_opened Opened = true
+is_opened (Trimmed acknowledged) = false
+
+-- Something since its last visit touched the page, or it was never visited. A base that a trim made counts as one visit of each of its pages.
+abbrev pub is_due : Base → Marked → ℕ → ℕ → Bool
+is_due base items space page =
+    if is_opened base.origin then is_dirty (events_of items) space page
+    else list_any (touches space page) (since (clears space page) (events_of items))
+
+-- the soft-dirty and the writable bits of each mapped page are those that commands and visits give
+pub record HasBits (base : Base) (items : Marked) (contents : Contents) : Type 0 where
+  pub soft_dirty : (space number : ℕ) (page : Page) → page_at contents space number ≡ Some page → page.soft_dirty ≡ is_due base items space number
+  pub writable : (space number : ℕ) (page : Page) → page_at contents space number ≡ Some page
+      → page.writable ≡ is_writable (events_of items) space number
 
 -- ---- the marks of one image
 
@@ -72,9 +93,12 @@ last_visit (Noted (Visit s space page) ∷ earlier) serial =
     if s == serial then Some (space, page) else last_visit earlier serial
 last_visit (_ ∷ earlier) serial = last_visit earlier serial
 
--- the image whose pages are being visited: the last that was started, until its table
+-- the image whose pages are being visited: the last that was started, until its table or the end of its checkpoint
 abbrev pub visiting : Marked → Option ℕ
 visiting [] = None
+visiting (Told (Acked n) ∷ earlier) = None
+visiting (Told (Cancelled n) ∷ earlier) = None
+visiting (Told (Reopened m) ∷ earlier) = None
 visiting (Noted (Start serial) ∷ earlier) = Some serial
 visiting (Noted (Table serial) ∷ earlier) = None
 visiting (_ ∷ earlier) = visiting earlier
@@ -115,5 +139,5 @@ IsSwept base items serial = (space page : ℕ) → is_above (last_visit items se
 pub record IsTracked (base : Base) (items : Marked) (contents : Contents) : Type 0 where
   pub marked : IsMarked base items
   pub memory : plain_of contents ≡ memory_at base items
-  pub bits : Tracks (events_of items) contents
+  pub bits : HasBits base items contents
   pub swept : IfSome (visiting items) (λ serial. IsSwept base items serial)

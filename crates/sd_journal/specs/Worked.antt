@@ -6,16 +6,17 @@ use Rattle.sd_command.specs.declared.command.Command.{Command}
 use Rattle.sd_command.specs.declared.reply.Reply.{Reply}
 use Rattle.sd_command.specs.Replies.{effect}
 use Rattle.sd_journal.specs.declared.entry.Entry.TheVariants.{Applied, Freeze, Acked, Cancelled, Reopened}
+use Rattle.sd_journal.specs.declared.origin.Origin.TheVariants.{Opened}
 use Rattle.sd_journal.specs.History.{Base, History}
 use Rattle.sd_journal.specs.Allowed.{IsAllowed}
 
 -- space 1 alone, without pages and without a checkpoint
 abbrev pub empty_base : Base
-empty_base = record { number = None; memory = finmap.insert finmap.empty 1 finmap.empty }
+empty_base = record { number = None; memory = finmap.insert finmap.empty 1 finmap.empty; origin = Opened }
 
 -- a run on what an earlier one saved as its checkpoint 7
 abbrev pub second_base : PlainMemory → Base
-second_base memory = record { number = Some 7; memory = memory }
+second_base memory = record { number = Some 7; memory = memory; origin = Opened }
 
 module _ (one other : Command) (done again : Reply) where
   abbrev pub first : PlainMemory

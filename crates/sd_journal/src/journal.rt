@@ -1,19 +1,24 @@
 //! The journal of a run.
-ghost use Rattle.std.specs.Prelude.{◌≡◌, ◌+◌, ◌-◌, ◌<◌, ◌≤◌, ◌∷◌, ◌++◌, [], ℕ, reverse, vec_len, vec_capacity, OnOk, OnErr};
-ghost use Rattle.sd_journal.specs.Kept.{HasGrown, HasSameNumbers, Kept, entry_count, next_number};
+ghost use Rattle.std.specs.Prelude.{◌≡◌, ◌↔◌, ◌+◌, ◌-◌, ◌<◌, ◌≤◌, ◌^◌, ◌∷◌, ◌++◌, [], ℕ, length, drop, map, reverse, take, vec_len, vec_capacity, IfOk, IfSome, IsTrue, MatchOption, OnOk, OnErr};
+ghost use Rattle.std.specs.List.{filter};
+ghost use Rattle.sd_journal.specs.Kept.{HasGrown, HasSameNumbers, Kept, entry_count, is_behind, next_number};
+ghost use Rattle.sd_journal.specs.History.{History, pending, unless_it_is};
 ghost use Rattle.sd_journal.specs.Marked.{Told, Noted, entries_of};
+ghost use Rattle.sd_journal.specs.Trimming.{Ends, EndsAt, TakesFront};
 
 use crate::entry::Entry;
 use crate::mark::Mark;
 use crate::placed_mark::PlacedMark;
 use std::alloc::{AllocError, Global};
 use std::marker::Model;
+use std::mem;
 
 /// The most entries that a journal may have.
 pub const ENTRY_LIMIT: usize = 1_048_576;
 
-/// The entries of a run in order of time, numbered from 0, with the dumper's marks between them. Some of the free
-/// entries can be held for what has to be written later, whatever comes before.
+/// The entries of a run in order of time, numbered from 0, with the dumper's marks between them. Entries can be taken from
+/// the front: the others keep their numbers. Some of the free entries can be held for what has to be written later,
+/// whatever comes before.
 #[derive(Drop)]
 pub struct Journal {
     first: u64,
@@ -31,7 +36,7 @@ impl Model for Journal {
 
     ghost view = { λ j. record {
       first = j.first;
-      items = woven (reverse j.entries.items) (reverse j.marks.items);
+      items = woven (j.first + length j.entries.items) (reverse j.entries.items) (reverse j.marks.items);
       held = j.held;
       limit = j.limit;
       room = vec_capacity j.entries - length j.entries.items;
@@ -189,9 +194,112 @@ impl Journal {
         ensures numbers { HasSameNumbers self.old self.new }
         ensures room { self.old.room ≤ self.new.room }
     {
-        let before = self.entries.len();
+        let before = self.next_number();
         note_behind(&mut self.marks, before, mark);
     }
+
+    /// How many entries from the front on end with the one that ended the pending of a checkpoint: its acknowledgement,
+    /// or the reopening that found it while it was pending.
+    pub fn ended_at(&self, checkpoint: u64) -> Option<usize>
+        ensures ends { MatchOption result
+            ((count : ℕ) → EndsAt checkpoint (reverse (entries_of self.now.items)) count → ⊥)
+            (EndsAt checkpoint (reverse (entries_of self.now.items))) }
+        ensures some { IfSome result (λ count. 0 < count) }
+    {
+        ended_at(&self.entries, checkpoint)
+    }
+
+    /// Takes so many entries from the front, in order of time, with the marks between them. A mark behind the last of
+    /// them is kept. The others keep their numbers, and what is held stays.
+    ///
+    /// # Errors
+    ///
+    /// Out of memory where the list of entries that are kept finds no room: nothing changes.
+    pub fn take_front(&mut self, alloc: Global, count: usize) -> Result<Vec<Entry>, AllocError>
+        requires some { 0 < count }
+        requires within { count ≤ entry_count self.old }
+        requires numbers { self.old.first + count ≤ 2 ^ 62 }
+        ensures ok { IfOk result (λ taken. TakesFront count taken.items self.old self.new) }
+        ensures err { OnErr result (self.new ≡ self.old) }
+    {
+        let taken = split_front(alloc, &mut self.entries, count, self.held)?;
+        self.first += count as u64;
+        forget_before(&mut self.marks, self.first);
+        Ok(taken)
+    }
+}
+
+/// Takes so many entries from the front of a list, which then has room for so many more.
+///
+/// # Errors
+///
+/// Out of memory where the list of those that are kept finds no room: nothing changes.
+fn split_front(
+    alloc: Global,
+    entries: &mut Vec<Entry>,
+    count: usize,
+    spare: usize,
+) -> Result<Vec<Entry>, AllocError>
+    requires within { count ≤ vec_len entries.old }
+    requires few { vec_len entries.old + spare ≤ 1048576 }
+    ensures taken { IfOk result (λ taken. taken.items ≡ take count entries.old.items) }
+    ensures kept { OnOk result (entries.new.items ≡ drop count entries.old.items) }
+    ensures room { OnOk result (vec_len entries.new + spare ≤ vec_capacity entries.new) }
+    ensures err { OnErr result (entries.new ≡ entries.old) }
+{
+    let mut kept = Vec::new(alloc);
+    kept.try_reserve(entries.len() - count + spare)?;
+    let mut rest = entries.split_off(count)?;
+    kept.append(&mut rest).unwrap();
+    Ok(mem::replace(entries, kept))
+}
+
+/// How many entries from the front on end with the one that ended the pending of a checkpoint.
+fn ended_at(entries: &[Entry], checkpoint: u64) -> Option<usize>
+    ensures ends { MatchOption result ((count : ℕ) → EndsAt checkpoint entries.now count → ⊥)
+        (EndsAt checkpoint entries.now) }
+    ensures some { IfSome result (λ count. 0 < count) }
+{
+    let mut found = None;
+    for (place, entry) in entries.iter().enumerate() {
+        if ends(found, entry, checkpoint) {
+            return Some(place + 1);
+        }
+        found = pending_after(found, entry);
+    }
+    None
+}
+
+/// The number of the pending checkpoint, with one more entry.
+fn pending_after(before: Option<u64>, entry: &Entry) -> Option<u64>
+    ensures { (earlier : History) → before ≡ pending earlier
+        → result ≡ pending (entry.now ∷ earlier) }
+{
+    match entry {
+        Entry::Applied { .. } => before,
+        Entry::Freeze(number) => Some(*number),
+        Entry::Acked(number) | Entry::Cancelled(number) => unless_it_is(*number, before),
+        Entry::Reopened(_) => None,
+    }
+}
+
+/// A pending checkpoint's number, unless it is the one that ended.
+fn unless_it_is(ended: u64, before: Option<u64>) -> Option<u64>
+    ensures { result ≡ unless_it_is ended before }
+{
+    if before == Some(ended) { None } else { before }
+}
+
+/// Whether an entry ended the pending of a checkpoint, where that is found to be pending before.
+fn ends(found: Option<u64>, entry: &Entry, checkpoint: u64) -> bool
+    ensures { (before : History) → found ≡ pending before → IsTrue result ↔ Ends checkpoint before entry.now }
+{
+    let named = match entry {
+        Entry::Acked(number) => Some(*number),
+        Entry::Reopened(number) => *number,
+        _ => None,
+    };
+    found == Some(checkpoint) && named == Some(checkpoint)
 }
 
 /// Adds an entry to a list with room for it.
@@ -203,12 +311,19 @@ fn push_into_room(entries: &mut Vec<Entry>, entry: Entry)
     entries.push(entry).unwrap();
 }
 
-/// Adds a mark behind so many entries to a list with room for it.
-fn note_behind(marks: &mut Vec<PlacedMark>, before: usize, mark: Mark)
+/// Adds a mark before the entry with this number to a list with room for it.
+fn note_behind(marks: &mut Vec<PlacedMark>, before: u64, mark: Mark)
     requires { vec_len marks.old < vec_capacity marks.old }
     ensures items { marks.new.items
         ≡ marks.old.items ++ (record { before = before; mark = mark }) ∷ [] }
     ensures capacity { vec_capacity marks.old ≤ vec_capacity marks.new }
 {
     marks.push(PlacedMark { before, mark }).unwrap();
+}
+
+/// Forgets the marks that stand before the last of the entries before a number.
+fn forget_before(marks: &mut Vec<PlacedMark>, number: u64)
+    ensures { marks.new.items ≡ filter (is_behind number) marks.old.items }
+{
+    marks.retain(|placed| number <= placed.before);
 }

@@ -1,10 +1,11 @@
 //! Laws of journals, each the contract of a function that does nothing.
 ghost use Rattle.sd_journal.specs.Laws.{JournalLaws};
 ghost use Rattle.sd_journal.specs.TrackedLaws.{TrackedLaws, DueLaws};
+ghost use Rattle.sd_journal.specs.Trimming.{MarkedTrimLaws, TrimLaws};
 ghost use Rattle.sd_journal.specs.Worked.{WorkedJournals};
 
 use sd_command::effect_law as command_law;
-use sd_pagetable::{effect_law, plain_law, tracks_law};
+use sd_pagetable::{clear_law, effect_law, page_law, plain_law};
 
 /// What each entry of a legal journal makes of what it allows to be shown.
 pub fn journal_laws()
@@ -18,13 +19,28 @@ pub fn tracked_laws()
     command_law();
     effect_law();
     plain_law();
-    tracks_law();
+    page_law();
+    clear_law();
 }
 
 /// Which pages a dump finds soft-dirty: those that were touched since their last visit, or never visited.
 pub fn due_laws()
     ensures { DueLaws }
 {}
+
+/// What a trim leaves of a legal journal: it makes the same memory, allows the same to be shown, and goes on from the
+/// checkpoint whose entries were folded.
+pub fn trim_laws()
+    ensures { TrimLaws }
+{}
+
+/// What a trim leaves of a marked journal: its marks tell of the same visits, and where each page of the folded memory was
+/// visited, the memory stays tracked, with the pages due that were.
+pub fn marked_trim_laws()
+    ensures { MarkedTrimLaws }
+{
+    plain_law();
+}
 
 /// Journals of two checkpoints, worked out one entry after the other.
 pub fn worked_journals()

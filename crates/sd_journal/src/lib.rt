@@ -6,6 +6,7 @@ mod entry;
 mod journal;
 mod laws;
 mod mark;
+mod origin;
 mod placed_mark;
 mod plain_memory;
 mod plain_pages;
@@ -14,7 +15,10 @@ mod receipt;
 pub use close_fault::CloseFault;
 pub use entry::Entry;
 pub use journal::{ENTRY_LIMIT, Journal};
-pub use laws::{due_laws, journal_laws, tracked_laws, worked_journals};
+pub use laws::{
+    due_laws, journal_laws, marked_trim_laws, tracked_laws, trim_laws, worked_journals,
+};
 pub use mark::Mark;
+pub use origin::Origin;
 pub use plain_memory::replay;
 pub use receipt::Receipt;

@@ -1,8 +1,8 @@
 use crate::mark::Mark;
 
-/// A mark, and how many entries stand before it.
+/// A mark, and the number of the entry before which it stands.
 #[derive(Drop)]
 pub(crate) struct PlacedMark {
-    pub(crate) before: usize,
+    pub(crate) before: u64,
     pub(crate) mark: Mark,
 }

@@ -27,8 +27,24 @@ pub fn check_receipts(
     ensures fault { IfErr result
         (IsFault journal.now.first (in_time journal.now) receipts.now acks.now) }
 {
-    let entries = journal.entries();
-    check_each(journal.first(), entries, receipts)?;
+    check_entries(journal.first(), journal.entries(), receipts, acks)
+}
+
+/// Tests whether entries, the first of which has a number, account for the receipts and the acknowledged numbers.
+///
+/// # Errors
+///
+/// The first fault, as of `check_receipts`.
+pub(crate) fn check_entries(
+    first: u64,
+    entries: &[Entry],
+    receipts: &[Receipt],
+    acks: &[u64],
+) -> Result<(), CloseFault>
+    ensures exact { IsOk result ↔ Accounts first entries.now receipts.now acks.now }
+    ensures fault { IfErr result (IsFault first entries.now receipts.now acks.now) }
+{
+    check_each(first, entries, receipts)?;
     if command_count(entries) != receipts.len() {
         return Err(CloseFault::Count);
     }

@@ -2,11 +2,13 @@
 #![tactic(auto)]
 
 mod checking;
+mod folded;
 mod laws;
 mod rising;
 #[cfg(test)]
 mod tests;
 
 pub use checking::check_receipts;
+pub use folded::Folded;
 pub use laws::fault_laws;
 pub use sd_journal::{CloseFault, Receipt};

@@ -42,6 +42,7 @@ less_of reply.Worked before now goes leaves = leaves
 less_of (reply.Acked n) before now goes leaves = absurd (let no : true ≡ false = goes in cc)
 less_of (reply.Cancelled n) before now goes leaves = elim leaves [ ]
 less_of (reply.Merged serial) before now goes leaves = absurd (let no : true ≡ false = goes in cc)
+less_of (reply.Trimmed count) before now goes leaves = elim leaves [ ]
 less_of (reply.Reopened m) before now goes leaves = absurd (let no : true ≡ false = goes in cc)
 less_of (reply.Refused why) before now goes leaves = absurd (let no : true ≡ false = goes in cc)
 

@@ -37,6 +37,7 @@ by_order reply.Worked old new adds = grown_same old new adds
 by_order (reply.Acked n) old new adds = absurd adds
 by_order (reply.Cancelled n) old new adds = absurd adds
 by_order (reply.Merged serial) old new adds = absurd adds
+by_order (reply.Trimmed count) old new adds = absurd adds
 by_order (reply.Reopened m) old new adds = absurd adds
 by_order (reply.Refused why) old new adds = grown_same old new adds
 
@@ -51,6 +52,7 @@ by_cancel reply.Worked old new adds = absurd adds
 by_cancel (reply.Acked n) old new adds = absurd adds
 by_cancel (reply.Cancelled n) old new adds = grown_one (Cancelled n) old new adds
 by_cancel (reply.Merged serial) old new adds = absurd adds
+by_cancel (reply.Trimmed count) old new adds = absurd adds
 by_cancel (reply.Reopened m) old new adds = absurd adds
 by_cancel (reply.Refused why) old new adds = grown_same old new adds
 
@@ -65,6 +67,7 @@ by_perform reply.Worked old new adds = grown_same old new adds
 by_perform (reply.Acked n) old new adds = absurd adds
 by_perform (reply.Cancelled n) old new adds = absurd adds
 by_perform (reply.Merged serial) old new adds = absurd adds
+by_perform (reply.Trimmed count) old new adds = absurd adds
 by_perform (reply.Reopened m) old new adds = absurd adds
 by_perform (reply.Refused why) old new adds = grown_same old new adds
 
@@ -82,6 +85,7 @@ by_work worker core reply.Worked old new adds = elim adds [
 by_work worker core (reply.Acked n) old new adds = grown_one (Acked n) old new adds.1
 by_work worker core (reply.Cancelled n) old new adds = absurd adds
 by_work worker core (reply.Merged serial) old new adds = grown_same old new adds
+by_work worker core (reply.Trimmed count) old new adds = absurd adds
 by_work worker core (reply.Reopened m) old new adds = grown_one (Reopened m) old new adds.1
 by_work worker core (reply.Refused why) old new adds = grown_same old new adds
 

@@ -15,5 +15,6 @@ not_reopened reply.Worked other = refl
 not_reopened (reply.Acked n) other = refl
 not_reopened (reply.Cancelled n) other = refl
 not_reopened (reply.Merged serial) other = refl
+not_reopened (reply.Trimmed count) other = refl
 not_reopened (reply.Reopened m) other = absurd (other m refl)
 not_reopened (reply.Refused why) other = refl

@@ -24,6 +24,7 @@ is_merged reply.Worked = false
 is_merged (reply.Acked n) = false
 is_merged (reply.Cancelled n) = false
 is_merged (reply.Merged serial) = true
+is_merged (reply.Trimmed count) = false
 is_merged (reply.Reopened m) = false
 is_merged (reply.Refused why) = false
 
@@ -39,6 +40,7 @@ is_reopened reply.Worked = false
 is_reopened (reply.Acked n) = false
 is_reopened (reply.Cancelled n) = false
 is_reopened (reply.Merged serial) = false
+is_reopened (reply.Trimmed count) = false
 is_reopened (reply.Reopened m) = true
 is_reopened (reply.Refused why) = false
 

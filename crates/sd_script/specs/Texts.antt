@@ -7,7 +7,7 @@ use Rattle.hex.specs.Hex.{encode_lower}
 use Rattle.sd_pagetable.specs.Refusals.{segv_name}
 use Rattle.sd_command.specs.Refusals.{refusal_text}
 use Rattle.sd_command.specs.declared.reply.Reply.{Reply}
-use Rattle.sd_command.specs.declared.reply.Reply.TheVariants.{Done, Bytes, Child, NeedsFault, Segv, Begun, Worked, Acked, Cancelled, Merged, Reopened, Refused}
+use Rattle.sd_command.specs.declared.reply.Reply.TheVariants.{Done, Bytes, Child, NeedsFault, Segv, Begun, Worked, Acked, Cancelled, Merged, Trimmed, Reopened, Refused}
 use Rattle.sd_script.specs.declared.answer.Answer.{Answer}
 use Rattle.sd_script.specs.declared.answer.Answer.TheVariants as answer
 
@@ -22,6 +22,7 @@ reply_text Worked = codes "worked"
 reply_text (Acked n) = codes "acked " ++ decimal n
 reply_text (Cancelled n) = codes "cancelled " ++ decimal n
 reply_text (Merged serial) = codes "merged " ++ decimal serial
+reply_text (Trimmed count) = codes "trimmed " ++ decimal count
 reply_text (Reopened (Some n)) = codes "reopened " ++ decimal n
 reply_text (Reopened None) = codes "reopened none"
 reply_text (Refused why) = codes "refused " ++ refusal_text why

@@ -43,6 +43,7 @@ fn print_reply<W: Write>(reply: &Reply, out: &mut W) -> io::Result<()>
         Reply::Acked(number) => writeln!(out, "acked {number}"),
         Reply::Cancelled(number) => writeln!(out, "cancelled {number}"),
         Reply::Merged(serial) => writeln!(out, "merged {serial}"),
+        Reply::Trimmed(count) => writeln!(out, "trimmed {count}"),
         Reply::Reopened(Some(number)) => writeln!(out, "reopened {number}"),
         Reply::Reopened(None) => out.write_all(b"reopened none\n"),
         Reply::Refused(refusal) => writeln!(out, "refused {refusal}"),

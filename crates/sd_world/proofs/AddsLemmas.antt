@@ -34,6 +34,7 @@ adds_by_step worker core reply.Worked old new adds = adds
 adds_by_step worker core (reply.Acked n) old new adds = absurd adds
 adds_by_step worker core (reply.Cancelled n) old new adds = absurd adds
 adds_by_step worker core (reply.Merged serial) old new adds = absurd adds
+adds_by_step worker core (reply.Trimmed count) old new adds = absurd adds
 adds_by_step worker core (reply.Reopened m) old new adds = adds
 adds_by_step worker core (reply.Refused why) old new adds = adds
 
@@ -49,6 +50,7 @@ adds_by_outcome worker core reply.Worked old new adds = inl adds
 adds_by_outcome worker core (reply.Acked n) old new adds = adds
 adds_by_outcome worker core (reply.Cancelled n) old new adds = absurd adds
 adds_by_outcome worker core (reply.Merged serial) old new adds = adds
+adds_by_outcome worker core (reply.Trimmed count) old new adds = absurd adds
 adds_by_outcome worker core (reply.Reopened m) old new adds = absurd adds
 adds_by_outcome worker core (reply.Refused why) old new adds = adds
 

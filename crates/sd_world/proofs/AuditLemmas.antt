@@ -1,18 +1,11 @@
 -- What an audit is lent is the base and the history of a core.
 use Rattle.std.proofs.Common.{◌≡◌, ◌↔◌, ℕ, Bool, List, Option, Result, Ok, Err, IfOk, IsTrue, reverse, sym, ◌∙◌, ap, subst}
 use Rattle.std.proofs.lemmas.List.{reverse-reverse}
-use Rattle.sd_areas.specs.PlainMemory.{PlainMemory}
 use Rattle.sd_audit.specs.ShowsOne.{ShowsOne}
 use Rattle.sd_belief.specs.Shown.{ShowsAllowed}
 use Rattle.sd_journal.specs.History.{Base, History}
+use Rattle.sd_journal.specs.Laws.{JournalLaws}
 use Rattle.sd_restore.specs.declared.fault.Fault.{Fault}
-
--- a number and a memory that are those of a base
-pub same_base : (base : Base) (number : Option ℕ) (memory : PlainMemory) → number ≡ base.number → memory ≡ base.memory
-    → base ≡ record { number = number; memory = memory }
-same_base base number memory n m =
-    ap {B = Base} (λ own. record { number = own; memory = base.memory }) (sym n)
-    ∙ ap {B = Base} (λ own. record { number = number; memory = own }) (sym m)
 
 -- the entries of a journal in order of time, read from the newest
 pub same_history : (history entries : History) → entries ≡ reverse history → history ≡ reverse entries
@@ -25,10 +18,19 @@ shows_so base history contents = (
   (λ it. record { shown = it.shown; allowed = it.allowed; shows = it.shows }),
 )
 
-pub audited : (result : Result Bool Fault) (base : Base) (history : History) (contents : List (List ℕ))
+-- what is shown of a base with the same number and memory
+shows_alike : JournalLaws → (one other : Base) (history : History) (contents : List (List ℕ)) → one.number ≡ other.number → one.memory ≡ other.memory
+    → ShowsOne one history contents → ShowsOne other history contents
+shows_alike laws one other history contents number memory s =
+    record { shown = s.shown; allowed = laws.allowed_alike one other history s.shown number memory s.allowed; shows = s.shows }
+
+pub audited : JournalLaws → (result : Result Bool Fault) (base other : Base) (history : History) (contents : List (List ℕ))
+    → base.number ≡ other.number → base.memory ≡ other.memory
     → IfOk result (λ told. IsTrue told ↔ ShowsOne base history contents)
-    → IfOk result (λ told. IsTrue told ↔ ShowsAllowed base history contents)
-audited (Ok told) base history contents exact =
-    let so = shows_so base history contents in
-    ((λ yes. so.0 (exact.0 yes)), (λ shows. exact.1 (so.1 shows)))
-audited (Err fault) base history contents exact = exact
+    → IfOk result (λ told. IsTrue told ↔ ShowsAllowed other history contents)
+audited laws (Ok told) base other history contents number memory exact =
+    let so = shows_so other history contents in (
+      (λ yes. so.0 (shows_alike laws base other history contents number memory (exact.0 yes))),
+      (λ shows. exact.1 (shows_alike laws other base history contents (sym number) (sym memory) (so.1 shows))),
+    )
+audited laws (Err fault) base other history contents number memory exact = exact

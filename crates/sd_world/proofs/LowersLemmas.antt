@@ -28,6 +28,7 @@ by_step old worker reply.Worked new leaves = leaves.lowers
 by_step old worker (reply.Acked n) new leaves = tt
 by_step old worker (reply.Cancelled n) new leaves = leaves
 by_step old worker (reply.Merged serial) new leaves = tt
+by_step old worker (reply.Trimmed count) new leaves = leaves
 by_step old worker (reply.Reopened m) new leaves = tt
 by_step old worker (reply.Refused why) new leaves = tt
 
@@ -43,6 +44,7 @@ by_outcome old worker reply.Worked new leaves = leaves.lowers
 by_outcome old worker (reply.Acked n) new leaves = tt
 by_outcome old worker (reply.Cancelled n) new leaves = leaves
 by_outcome old worker (reply.Merged serial) new leaves = tt
+by_outcome old worker (reply.Trimmed count) new leaves = leaves
 by_outcome old worker (reply.Reopened m) new leaves = tt
 by_outcome old worker (reply.Refused why) new leaves = tt
 

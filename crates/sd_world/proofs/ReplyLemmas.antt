@@ -84,6 +84,7 @@ module _ (base : Base) (history : History) (contents : List (List ℕ)) where
   says_order (reply.Acked n) old new adds = absurd adds
   says_order (reply.Cancelled n) old new adds = tt
   says_order (reply.Merged serial) old new adds = tt
+  says_order (reply.Trimmed count) old new adds = tt
   says_order (reply.Reopened m) old new adds = absurd adds
   says_order (reply.Refused why) old new adds = tt
 
@@ -98,6 +99,7 @@ module _ (base : Base) (history : History) (contents : List (List ℕ)) where
   says_cancel (reply.Acked n) old new adds = absurd adds
   says_cancel (reply.Cancelled n) old new adds = tt
   says_cancel (reply.Merged serial) old new adds = tt
+  says_cancel (reply.Trimmed count) old new adds = tt
   says_cancel (reply.Reopened m) old new adds = absurd adds
   says_cancel (reply.Refused why) old new adds = tt
 
@@ -112,6 +114,7 @@ module _ (base : Base) (history : History) (contents : List (List ℕ)) where
   says_perform (reply.Acked n) old new adds = absurd adds
   says_perform (reply.Cancelled n) old new adds = tt
   says_perform (reply.Merged serial) old new adds = tt
+  says_perform (reply.Trimmed count) old new adds = tt
   says_perform (reply.Reopened m) old new adds = absurd adds
   says_perform (reply.Refused why) old new adds = tt
 
@@ -183,6 +186,7 @@ says_work base contents worker core (reply.Acked n) old new adds legal allowed =
     (acked_shows base old contents n (subst (IsLegal base) adds.1 legal) (subst (λ h. ShowsAllowed base h contents) adds.1 allowed))
 says_work base contents worker core (reply.Cancelled n) old new adds legal allowed = tt
 says_work base contents worker core (reply.Merged serial) old new adds legal allowed = tt
+says_work base contents worker core (reply.Trimmed count) old new adds legal allowed = tt
 says_work base contents worker core (reply.Reopened m) old new adds legal allowed =
     subst (λ h. ShowsReply (reply.Reopened m) base h contents) (sym adds.1)
     (reopened_shows base old contents m (subst (λ h. ShowsAllowed base h contents) adds.1 allowed))

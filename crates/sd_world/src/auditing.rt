@@ -10,7 +10,7 @@ ghost use Rattle.sd_restore.specs.Faulty.{IsBrokenChain, IsDamage, Names};
 use sd_audit::audit as audit_entries;
 use sd_core::Core;
 use sd_disk::Disk;
-use sd_journal::tracked_laws;
+use sd_journal::{journal_laws, tracked_laws};
 use sd_restore::Fault;
 use std::alloc::Global;
 
@@ -38,6 +38,7 @@ pub fn audit<D: Disk>(alloc: Global, core: &Core, disk: &mut D) -> Result<bool, 
     ensures stops { D.failed disk.old < D.failed disk.new → IsErrOf result Fault.Device }
 {
     tracked_laws();
+    journal_laws();
     core.sound();
     let entries = core.journal().entries();
     audit_entries(alloc, core.base_number(), core.base(), entries, disk)

@@ -1,5 +1,6 @@
 //! A journal with entries, marks and entries that are held.
 use sd_journal::{ENTRY_LIMIT, Entry, Journal, Mark};
+use std::alloc::{AllocError, AllocGlobal};
 use std::test::Fail;
 
 #[test]
@@ -28,4 +29,40 @@ fn a_fresh_journal_is_empty(rt: HostRuntime) {
     let journal = Journal::new(rt.alloc());
     assert_eq!(rt; (journal.first(), journal.next_number()), (0, 0));
     assert_eq!(rt; journal.free(), ENTRY_LIMIT);
+}
+
+/// A journal with a checkpoint that was acknowledged, named again by a reopening, and a mark behind the acknowledgement.
+fn saved_once(rt: &impl AllocGlobal) -> Result<Journal, AllocError> {
+    let mut journal = Journal::with_limit(rt.alloc(), 8);
+    journal.hold(5)?;
+    journal.append_held(Entry::Reopened(None));
+    journal.reserve_mark()?;
+    journal.note(Mark::Start(1));
+    journal.append_held(Entry::Freeze(1));
+    journal.append_held(Entry::Acked(1));
+    journal.reserve_mark()?;
+    journal.note(Mark::Start(2));
+    journal.append_held(Entry::Reopened(Some(1)));
+    Ok(journal)
+}
+
+#[test]
+fn a_front_ends_with_the_acknowledgement(rt: HostRuntime) -> Result<(), Fail> {
+    let mut journal = saved_once(&rt)?;
+    assert_eq!(rt; journal.ended_at(2), None);
+    let Some(count) = journal.ended_at(1) else {
+        panic!(rt; "the checkpoint was acknowledged");
+    };
+    assert_eq!(rt; count, 3);
+    if journal.first() > 1 {
+        panic!(rt; "the first entry has another number");
+    }
+    let taken = journal.take_front(rt.alloc(), count)?;
+    let wanted = [Entry::Reopened(None), Entry::Freeze(1), Entry::Acked(1)];
+    assert_eq!(rt; taken.as_slice(), wanted.as_slice());
+    assert_eq!(rt; journal.entries(), [Entry::Reopened(Some(1))].as_slice());
+    assert_eq!(rt; (journal.first(), journal.next_number()), (3, 4));
+    assert_eq!(rt; (journal.free(), journal.held()), (6, 1));
+    assert_eq!(rt; journal.ended_at(1), None);
+    Ok(())
 }

@@ -113,6 +113,7 @@ fn each_reply_has_its_text(rt: HostRuntime) -> Result<(), Fail> {
         (Reply::Acked(2), "acked 2"),
         (Reply::Cancelled(3), "cancelled 3"),
         (Reply::Merged(4), "merged 4"),
+        (Reply::Trimmed(5), "trimmed 5"),
         (Reply::Reopened(Some(5)), "reopened 5"),
         (Reply::Reopened(None), "reopened none"),
         (Reply::Segv(Segv::Accerr), "segv accerr"),

@@ -1,5 +1,6 @@
 use Rattle.std.proofs.Common.{◌≡◌, ◌∷◌, length, IfSome, sym, refl, ◌∙◌, ap, subst, arith}
 use Rattle.sd_areas.specs.Memory.{memory_of}
+use Rattle.sd_journal.specs.declared.origin.Origin.TheVariants as origins
 use Rattle.sd_journal.specs.History.{Base}
 use Rattle.sd_journal.specs.declared.entry.Entry.TheVariants.{Applied}
 use Rattle.sd_journal.specs.Marked.{Told, entries_of}
@@ -17,7 +18,7 @@ use Rattle.sd_core.proofs.state.Core.apply.Goals as goal
 
 pub invariant_of-self-in_default-copy_reply : goal.invariant_of-self-in_default-copy_reply
 invariant_of-self-in_default-copy_reply c =
-    let base : Base = record { number = c.self.inside.number; memory = memory_of c.self.inside.base } in
+    let base : Base = record { number = c.self.inside.number; memory = memory_of c.self.inside.base; origin = origins.Opened } in
     let bytes = c.in_default-copy_reply.ensures.bytes refl in
     let same = bytes_pass c.is_some.result c.in-Ok-copy_command.command c.in-Ok-answer.reply bytes.0 c.self.inside.memory c.answer.new.memory bytes.1 c.in-Ok-answer.ensures.answered in
     let before = c.reserve.ensures.grown.items in
@@ -48,13 +49,13 @@ returns-in_default-copy_reply-clause-keeps c =
 
 pub invariant_of-self-2 : goal.invariant_of-self-2
 invariant_of-self-2 c =
-    let base : Base = record { number = c.self.inside.number; memory = memory_of c.self.inside.base } in
+    let base : Base = record { number = c.self.inside.number; memory = memory_of c.self.inside.base; origin = origins.Opened } in
     let answered = subst (λ frozen. IsAnswered frozen c.in-Ok-copy_command.command c.in-Ok-answer.reply c.self.inside.memory c.answer.new.memory) c.is_some.ensures c.in-Ok-answer.ensures.answered in
     let before = same_journal base c.self.inside.journal c.reserve.new.self c.self.inside.memory c.self.inside.pending c.self.inside.last c.reserve.ensures.grown.first c.reserve.ensures.grown.items c.reserve.ensures.grown.limit c.self.invariant.journal_is in
     let items = c.append.ensures.items ∙ ap (λ all. Told (Applied c.args.seat c.in-Ok-copy_command.command c.in-Ok-answer.reply) ∷ all) c.reserve.ensures.grown.items in
     record {
       journal_is = applied_journal c.tracked_laws.ensures base c.reserve.new.self c.append.new.self c.self.inside.memory c.answer.new.memory c.self.inside.pending c.self.inside.last
-          c.args.seat c.in-Ok-copy_command.command c.in-Ok-answer.reply c.append.ensures.items c.append.ensures.numbers.first c.append.ensures.numbers.limit before answered;
+          c.args.seat c.in-Ok-copy_command.command c.in-Ok-answer.reply c.append.ensures.items c.append.ensures.numbers.first c.append.ensures.numbers.limit c.sound.ensures before answered;
       held = c.append.ensures.held ∙ c.reserve.ensures.grown.held ∙ c.self.invariant.held;
       outs_are = c.self.invariant.outs_are;
       opening = c.self.invariant.opening;

@@ -1,6 +1,7 @@
 use Rattle.std.proofs.Common.{◌≡◌, ◌∷◌, length, Some, None, refl, sym, ◌∙◌, ap, subst, inl, inr, arith}
 use Rattle.std.proofs.lemmas.List.{length-take-le}
 use Rattle.sd_areas.specs.Memory.{memory_of}
+use Rattle.sd_journal.specs.declared.origin.Origin.TheVariants as origins
 use Rattle.sd_journal.specs.History.{Base}
 use Rattle.sd_journal.specs.Legal.{IsAbove}
 use Rattle.sd_journal.specs.Marked.{entries_of}
@@ -25,7 +26,7 @@ use Rattle.sd_core.proofs.state.Core.begin_in_slots.Goals as goal
 
 pub invariant_of-self-2 : goal.invariant_of-self-2
 invariant_of-self-2 c =
-    let base : Base = record { number = c.self.inside.number; memory = memory_of c.self.inside.base } in
+    let base : Base = record { number = c.self.inside.number; memory = memory_of c.self.inside.base; origin = origins.Opened } in
     let may = subst (λ v. MayBegin v c.args.rounds) (sym c.self.view_is) (may_begin c.args.self.now c.args.rounds c.requires) in
     let inside = c.self.invariant in
     let closed = none_opens c.self.inside.opener c.self.inside.standing c.self.inside.phases.items inside.opening may.stands in

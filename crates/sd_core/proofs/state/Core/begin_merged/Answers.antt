@@ -5,6 +5,7 @@ use Rattle.sd_chain.specs.Catalog.{Opened, place_of}
 use Rattle.sd_gate.specs.declared.request_id.RequestId.{RequestId}
 use Rattle.sd_gate.specs.declared.worker.Worker.TheVariants as its
 use Rattle.sd_gate.specs.Phases.{state_of}
+use Rattle.sd_journal.specs.declared.origin.Origin.TheVariants as origins
 use Rattle.sd_journal.specs.History.{Base}
 use Rattle.sd_merge.specs.declared.copy_order.CopyOrder.{CopyOrder}
 use Rattle.sd_merge.specs.Copying.{begun_copy}
@@ -78,7 +79,7 @@ invariant_of-self-2 c =
 
 pub returns-clause-takes : goal.returns-clause-takes
 returns-clause-takes c =
-    let base : Base = record { number = c.self.inside.number; memory = memory_of c.self.inside.base } in
+    let base : Base = record { number = c.self.inside.number; memory = memory_of c.self.inside.base; origin = origins.Opened } in
     let serial = c.self.inside.numbers.serial + 1 in
     let request = c.begin_copy-request.result in
     let w = c.begin_copy-request.ensures.begins in

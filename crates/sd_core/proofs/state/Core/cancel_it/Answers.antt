@@ -1,5 +1,6 @@
 use Rattle.std.proofs.Common.{◌≡◌, None, IfSome, refl, sym, ◌∙◌, ap, subst, arith}
 use Rattle.sd_areas.specs.Memory.{memory_of}
+use Rattle.sd_journal.specs.declared.origin.Origin.TheVariants as origins
 use Rattle.sd_journal.specs.History.{Base}
 use Rattle.sd_journal.specs.Kept.{Kept}
 use Rattle.sd_rounds.specs.Dumper.{Dumping, serial_of}
@@ -15,7 +16,7 @@ use Rattle.sd_core.proofs.state.Core.cancel_it.Goals as goal
 
 pub invariant_of-self : goal.invariant_of-self
 invariant_of-self c =
-    let base : Base = record { number = c.self.inside.number; memory = memory_of c.self.inside.base } in
+    let base : Base = record { number = c.self.inside.number; memory = memory_of c.self.inside.base; origin = origins.Opened } in
     let may = subst MayCancel (sym c.self.view_is) (may_cancel_now c.args.self.now c.requires) in
     let gone = ap (λ (d : Dumping). d.running) c.cancel.ensures in
     let released = subst (λ own. ReleasesPlace own c.self.inside.catalog c.release_place.new.catalog) c.serial.ensures c.release_place.ensures in

@@ -5,6 +5,7 @@ use Rattle.sd_gate.specs.declared.request_id.RequestId.{RequestId}
 use Rattle.sd_gate.specs.declared.worker.Worker.TheVariants as its
 use Rattle.sd_command.specs.declared.reply.Reply.TheVariants as reply
 use Rattle.sd_journal.specs.declared.entry.Entry.TheVariants.{Freeze}
+use Rattle.sd_journal.specs.declared.origin.Origin.TheVariants as origins
 use Rattle.sd_journal.specs.History.{Base}
 use Rattle.sd_journal.specs.Legal.{IsLegal}
 use Rattle.sd_journal.specs.declared.mark.Mark.TheVariants.{Table, Visit}
@@ -33,7 +34,7 @@ use Rattle.sd_core.proofs.state.Core.go_on_image.Goals as goal
 
 pub invariant_of-self-in-Copied : goal.invariant_of-self-in-Copied
 invariant_of-self-in-Copied c =
-    let base : Base = record { number = c.self.inside.number; memory = memory_of c.self.inside.base } in
+    let base : Base = record { number = c.self.inside.number; memory = memory_of c.self.inside.base; origin = origins.Opened } in
     let w = subst (λ step. StepsOn c.self.inside.numbers.ticket c.self.inside.dumper c.self.inside.memory step c.step_on.new.dumper c.step_on.new.memory) c.in-Copied.is c.in-Ok-step_on.ensures.steps in
     let core = grown_core _ c.reserve_mark.new.self c.self.invariant c.in-Ok.ensures.grown in
     let rests = ap (λ v. slice_get v.outs 0) c.self.view_is ∙ c.requires.rests in
@@ -73,7 +74,7 @@ invariant_of-self-in-Copied c =
 
 pub invariant_of-self-in-Visited : goal.invariant_of-self-in-Visited
 invariant_of-self-in-Visited c =
-    let base : Base = record { number = c.self.inside.number; memory = memory_of c.self.inside.base } in
+    let base : Base = record { number = c.self.inside.number; memory = memory_of c.self.inside.base; origin = origins.Opened } in
     let w = subst (λ step. StepsOn c.self.inside.numbers.ticket c.self.inside.dumper c.self.inside.memory step c.step_on.new.dumper c.step_on.new.memory) c.in-Visited.is c.in-Ok-step_on.ensures.steps in
     let core = grown_core _ c.reserve_mark.new.self c.self.invariant c.in-Ok.ensures.grown in
     let rests = ap (λ v. slice_get v.outs 0) c.self.view_is ∙ c.requires.rests in
@@ -118,7 +119,7 @@ invariant_of-self-in-Visited c =
 
 pub invariant_of-self-in-Call : goal.invariant_of-self-in-Call
 invariant_of-self-in-Call c =
-    let base : Base = record { number = c.self.inside.number; memory = memory_of c.self.inside.base } in
+    let base : Base = record { number = c.self.inside.number; memory = memory_of c.self.inside.base; origin = origins.Opened } in
     let w = subst (λ step. StepsOn c.self.inside.numbers.ticket c.self.inside.dumper c.self.inside.memory step c.step_on.new.dumper c.step_on.new.memory) c.in-Call.is c.in-Ok-step_on.ensures.steps in
     let core = grown_core _ c.reserve_mark.new.self c.self.invariant c.in-Ok.ensures.grown in
     let rests = ap (λ v. slice_get v.outs 0) c.self.view_is ∙ c.requires.rests in
@@ -160,7 +161,7 @@ invariant_of-self-in-Call c =
 
 pub invariant_of-self-in-PageCall : goal.invariant_of-self-in-PageCall
 invariant_of-self-in-PageCall c =
-    let base : Base = record { number = c.self.inside.number; memory = memory_of c.self.inside.base } in
+    let base : Base = record { number = c.self.inside.number; memory = memory_of c.self.inside.base; origin = origins.Opened } in
     let w = subst (λ step. StepsOn c.self.inside.numbers.ticket c.self.inside.dumper c.self.inside.memory step c.step_on.new.dumper c.step_on.new.memory) c.in-PageCall.is c.in-Ok-step_on.ensures.steps in
     let core = grown_core _ c.reserve_mark.new.self c.self.invariant c.in-Ok.ensures.grown in
     let rests = ap (λ v. slice_get v.outs 0) c.self.view_is ∙ c.requires.rests in
@@ -202,7 +203,7 @@ invariant_of-self-in-PageCall c =
 
 pub invariant_of-self-in-TableCall : goal.invariant_of-self-in-TableCall
 invariant_of-self-in-TableCall c =
-    let base : Base = record { number = c.self.inside.number; memory = memory_of c.self.inside.base } in
+    let base : Base = record { number = c.self.inside.number; memory = memory_of c.self.inside.base; origin = origins.Opened } in
     let w = subst (λ step. StepsOn c.self.inside.numbers.ticket c.self.inside.dumper c.self.inside.memory step c.step_on.new.dumper c.step_on.new.memory) c.in-TableCall.is c.in-Ok-step_on.ensures.steps in
     let core = grown_core _ c.reserve_mark.new.self c.self.invariant c.in-Ok.ensures.grown in
     let rests = ap (λ v. slice_get v.outs 0) c.self.view_is ∙ c.requires.rests in
@@ -251,7 +252,7 @@ invariant_of-self-in-TableCall c =
 
 pub invariant_of-self-in-Frozen : goal.invariant_of-self-in-Frozen
 invariant_of-self-in-Frozen c =
-    let base : Base = record { number = c.self.inside.number; memory = memory_of c.self.inside.base } in
+    let base : Base = record { number = c.self.inside.number; memory = memory_of c.self.inside.base; origin = origins.Opened } in
     let w = subst (λ step. StepsOn c.self.inside.numbers.ticket c.self.inside.dumper c.self.inside.memory step c.step_on.new.dumper c.step_on.new.memory) c.in-Frozen.is c.in-Ok-step_on.ensures.steps in
     let core = grown_core _ c.reserve_mark.new.self c.self.invariant c.in-Ok.ensures.grown in
     let rests = ap (λ v. slice_get v.outs 0) c.self.view_is ∙ c.requires.rests in
@@ -336,7 +337,7 @@ invariant_of-self-in-Frozen c =
 
 pub returns-in-Copied-clause-takes : goal.returns-in-Copied-clause-takes
 returns-in-Copied-clause-takes c =
-    let base : Base = record { number = c.self.inside.number; memory = memory_of c.self.inside.base } in
+    let base : Base = record { number = c.self.inside.number; memory = memory_of c.self.inside.base; origin = origins.Opened } in
     let w = subst (λ step. StepsOn c.self.inside.numbers.ticket c.self.inside.dumper c.self.inside.memory step c.step_on.new.dumper c.step_on.new.memory) c.in-Copied.is c.in-Ok-step_on.ensures.steps in
     let rests = ap (λ v. slice_get v.outs 0) c.self.view_is ∙ c.requires.rests in
     let out = out_at_work _ w.running None c.self.invariant w.was rests in
@@ -359,7 +360,7 @@ returns-in-Copied-clause-takes c =
 
 pub returns-in-Visited-clause-takes : goal.returns-in-Visited-clause-takes
 returns-in-Visited-clause-takes c =
-    let base : Base = record { number = c.self.inside.number; memory = memory_of c.self.inside.base } in
+    let base : Base = record { number = c.self.inside.number; memory = memory_of c.self.inside.base; origin = origins.Opened } in
     let w = subst (λ step. StepsOn c.self.inside.numbers.ticket c.self.inside.dumper c.self.inside.memory step c.step_on.new.dumper c.step_on.new.memory) c.in-Visited.is c.in-Ok-step_on.ensures.steps in
     let rests = ap (λ v. slice_get v.outs 0) c.self.view_is ∙ c.requires.rests in
     let out = out_at_work _ w.running None c.self.invariant w.was rests in
@@ -382,7 +383,7 @@ returns-in-Visited-clause-takes c =
 
 pub returns-in-Frozen-clause-takes : goal.returns-in-Frozen-clause-takes
 returns-in-Frozen-clause-takes c =
-    let base : Base = record { number = c.self.inside.number; memory = memory_of c.self.inside.base } in
+    let base : Base = record { number = c.self.inside.number; memory = memory_of c.self.inside.base; origin = origins.Opened } in
     let w = subst (λ step. StepsOn c.self.inside.numbers.ticket c.self.inside.dumper c.self.inside.memory step c.step_on.new.dumper c.step_on.new.memory) c.in-Frozen.is c.in-Ok-step_on.ensures.steps in
     let rests = ap (λ v. slice_get v.outs 0) c.self.view_is ∙ c.requires.rests in
     let out = out_at_work _ w.running None c.self.invariant w.was rests in
@@ -410,7 +411,7 @@ returns-in-Frozen-clause-takes c =
 
 pub returns-in-TableCall-clause-takes : goal.returns-in-TableCall-clause-takes
 returns-in-TableCall-clause-takes c =
-    let base : Base = record { number = c.self.inside.number; memory = memory_of c.self.inside.base } in
+    let base : Base = record { number = c.self.inside.number; memory = memory_of c.self.inside.base; origin = origins.Opened } in
     let w = subst (λ step. StepsOn c.self.inside.numbers.ticket c.self.inside.dumper c.self.inside.memory step c.step_on.new.dumper c.step_on.new.memory) c.in-TableCall.is c.in-Ok-step_on.ensures.steps in
     let rests = ap (λ v. slice_get v.outs 0) c.self.view_is ∙ c.requires.rests in
     let out = out_at_work _ w.running None c.self.invariant w.was rests in
@@ -439,7 +440,7 @@ returns-in-TableCall-clause-takes c =
 
 pub returns-in-Call-clause-takes : goal.returns-in-Call-clause-takes
 returns-in-Call-clause-takes c =
-    let base : Base = record { number = c.self.inside.number; memory = memory_of c.self.inside.base } in
+    let base : Base = record { number = c.self.inside.number; memory = memory_of c.self.inside.base; origin = origins.Opened } in
     let w = subst (λ step. StepsOn c.self.inside.numbers.ticket c.self.inside.dumper c.self.inside.memory step c.step_on.new.dumper c.step_on.new.memory) c.in-Call.is c.in-Ok-step_on.ensures.steps in
     let rests = ap (λ v. slice_get v.outs 0) c.self.view_is ∙ c.requires.rests in
     let out = out_at_work _ w.running None c.self.invariant w.was rests in
@@ -470,7 +471,7 @@ returns-in-Call-clause-takes c =
 
 pub returns-in-PageCall-clause-takes : goal.returns-in-PageCall-clause-takes
 returns-in-PageCall-clause-takes c =
-    let base : Base = record { number = c.self.inside.number; memory = memory_of c.self.inside.base } in
+    let base : Base = record { number = c.self.inside.number; memory = memory_of c.self.inside.base; origin = origins.Opened } in
     let w = subst (λ step. StepsOn c.self.inside.numbers.ticket c.self.inside.dumper c.self.inside.memory step c.step_on.new.dumper c.step_on.new.memory) c.in-PageCall.is c.in-Ok-step_on.ensures.steps in
     let rests = ap (λ v. slice_get v.outs 0) c.self.view_is ∙ c.requires.rests in
     let out = out_at_work _ w.running None c.self.invariant w.was rests in

@@ -15,6 +15,7 @@ use Rattle.sd_gate.specs.Phases.{phases_after}
 use Rattle.sd_command.specs.declared.refusal.Refusal.TheVariants.{StoreDown}
 use Rattle.sd_command.specs.declared.reply.Reply.TheVariants as reply
 use Rattle.sd_journal.specs.declared.entry.Entry.TheVariants.{Acked}
+use Rattle.sd_journal.specs.declared.origin.Origin.TheVariants as origins
 use Rattle.sd_journal.specs.History.{Base}
 use Rattle.sd_journal.specs.Marked.{Told, entries_of}
 use Rattle.sd_rounds.specs.Dumper.{Hands, HasCounted, HasSlot, after_pre_dump, out_of_running, slot_of, writes_of_running}
@@ -64,7 +65,7 @@ invariant_of-self c =
 
 pub invariant_of-self-in-More : goal.invariant_of-self-in-More
 invariant_of-self-in-More c =
-    let base : Base = record { number = c.self.inside.number; memory = memory_of c.self.inside.base } in
+    let base : Base = record { number = c.self.inside.number; memory = memory_of c.self.inside.base; origin = origins.Opened } in
     let made = c.args.outcome in
     let id = made.request.id in
     let phases = c.self.inside.phases.items in
@@ -116,7 +117,7 @@ invariant_of-self-in-More c =
 
 pub invariant_of-self-in-PreDump : goal.invariant_of-self-in-PreDump
 invariant_of-self-in-PreDump c =
-    let base : Base = record { number = c.self.inside.number; memory = memory_of c.self.inside.base } in
+    let base : Base = record { number = c.self.inside.number; memory = memory_of c.self.inside.base; origin = origins.Opened } in
     let made = c.args.outcome in
     let id = made.request.id in
     let phases = c.self.inside.phases.items in
@@ -209,7 +210,7 @@ invariant_of-self-in-PreDump c =
 
 pub invariant_of-self-in-Dump : goal.invariant_of-self-in-Dump
 invariant_of-self-in-Dump c =
-    let base : Base = record { number = c.self.inside.number; memory = memory_of c.self.inside.base } in
+    let base : Base = record { number = c.self.inside.number; memory = memory_of c.self.inside.base; origin = origins.Opened } in
     let made = c.args.outcome in
     let id = made.request.id in
     let phases = c.self.inside.phases.items in
@@ -287,7 +288,7 @@ invariant_of-self-in-Dump c =
 
 pub returns-in-Failed-clause-handed : goal.returns-in-Failed-clause-handed
 returns-in-Failed-clause-handed c =
-    let base : Base = record { number = c.self.inside.number; memory = memory_of c.self.inside.base } in
+    let base : Base = record { number = c.self.inside.number; memory = memory_of c.self.inside.base; origin = origins.Opened } in
     let made = c.args.outcome in
     let id = made.request.id in
     let phases = c.self.inside.phases.items in
@@ -322,7 +323,7 @@ returns-in-Failed-clause-handed c =
 
 pub returns-in-More-clause-handed : goal.returns-in-More-clause-handed
 returns-in-More-clause-handed c =
-    let base : Base = record { number = c.self.inside.number; memory = memory_of c.self.inside.base } in
+    let base : Base = record { number = c.self.inside.number; memory = memory_of c.self.inside.base; origin = origins.Opened } in
     let made = c.args.outcome in
     let id = made.request.id in
     let phases = c.self.inside.phases.items in
@@ -397,7 +398,7 @@ returns-in-More-clause-handed c =
 
 pub returns-in-PreDump-clause-handed : goal.returns-in-PreDump-clause-handed
 returns-in-PreDump-clause-handed c =
-    let base : Base = record { number = c.self.inside.number; memory = memory_of c.self.inside.base } in
+    let base : Base = record { number = c.self.inside.number; memory = memory_of c.self.inside.base; origin = origins.Opened } in
     let made = c.args.outcome in
     let id = made.request.id in
     let phases = c.self.inside.phases.items in
@@ -454,7 +455,7 @@ returns-in-PreDump-clause-handed c =
 
 pub returns-in-Dump-clause-handed : goal.returns-in-Dump-clause-handed
 returns-in-Dump-clause-handed c =
-    let base : Base = record { number = c.self.inside.number; memory = memory_of c.self.inside.base } in
+    let base : Base = record { number = c.self.inside.number; memory = memory_of c.self.inside.base; origin = origins.Opened } in
     let made = c.args.outcome in
     let id = made.request.id in
     let phases = c.self.inside.phases.items in
@@ -542,7 +543,7 @@ returns-in-Dump-clause-acked c n is =
 
 pub returns-in-Dump-clause-little : goal.returns-in-Dump-clause-little
 returns-in-Dump-clause-little c n is =
-    let base : Base = record { number = c.self.inside.number; memory = memory_of c.self.inside.base } in
+    let base : Base = record { number = c.self.inside.number; memory = memory_of c.self.inside.base; origin = origins.Opened } in
     let made = c.args.outcome in
     let h = subst (λ p. Hands c.self.inside.dumper made p c.hand_in.new.self) c.in-Dump.is c.hand_in.ensures.hands in
     let work = at_work _ h.running c.self.invariant h.was in
@@ -570,7 +571,7 @@ returns-in-Dump-clause-little c n is =
 
 pub returns-in-PreDump-clause-round : goal.returns-in-PreDump-clause-round
 returns-in-PreDump-clause-round c running opens =
-    let base : Base = record { number = c.self.inside.number; memory = memory_of c.self.inside.base } in
+    let base : Base = record { number = c.self.inside.number; memory = memory_of c.self.inside.base; origin = origins.Opened } in
     let made = c.args.outcome in
     let h = subst (λ p. Hands c.self.inside.dumper made p c.hand_in.new.self) c.in-PreDump.is c.hand_in.ensures.hands in
     let opened = c.in-PreDump.image in
@@ -587,7 +588,7 @@ returns-in-PreDump-clause-round c running opens =
     record {
       image = entered;
       has = subst (λ r. HasImage r c.enter_catalog.new.catalog entered) same has;
-      took = subst (λ (v : CoreView). TookVisited (opened.header.parent == 0) (visits_of v.items opened.header.serial) opened.table) c.self.view_is took;
+      took = subst (λ (v : CoreView). TookVisited (opened.header.parent == 0) (visits_of v.base v.items opened.header.serial) opened.table) c.self.view_is took;
     }
 
 pub unreachable-requires : goal.unreachable-requires

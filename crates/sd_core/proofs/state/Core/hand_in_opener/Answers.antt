@@ -1,5 +1,6 @@
 use Rattle.std.proofs.Common.{◌≡◌, ◌≢◌, ◌<◌, is_none, Some, None, IfSome, slice_get, refl, sym, ◌∙◌, ap, subst}
 use Rattle.sd_areas.specs.Memory.{memory_of}
+use Rattle.sd_journal.specs.declared.origin.Origin.TheVariants as origins
 use Rattle.sd_journal.specs.History.{Base}
 use Rattle.sd_gate.specs.declared.phase.Phase.{Phase}
 use Rattle.sd_gate.specs.declared.request_id.RequestId.{RequestId}
@@ -127,7 +128,7 @@ invariant_of-self-2 c =
     let ended = c.let_go.ensures.opener in
     let none_now = c.put_out.ensures ∙ set_nobody c.self.inside.outs id alone.1 in
     let gone = c.let_go.ensures.journal in
-    let base : Base = record { number = c.self.inside.number; memory = memory_of c.self.inside.base } in
+    let base : Base = record { number = c.self.inside.number; memory = memory_of c.self.inside.base; origin = origins.Opened } in
     record {
       journal_is = same_journal base c.self.inside.journal c.let_go.new.journal c.self.inside.memory c.self.inside.pending c.self.inside.last gone.first gone.items gone.limit c.self.invariant.journal_is;
       held = held_let_go c.self.inside.pending c.self.inside.dumper.running looking.0 c.self.inside.journal c.let_go.new.journal none

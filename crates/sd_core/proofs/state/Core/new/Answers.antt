@@ -1,5 +1,6 @@
 use Rattle.std.proofs.Common.{◌≡◌, None, Some, ◌∙◌, ap, sym, refl, subst}
 use Rattle.sd_areas.specs.Memory.{memory_of}
+use Rattle.sd_journal.specs.declared.origin.Origin.TheVariants as origins
 use Rattle.sd_journal.specs.Allowed.{IsLastPair}
 use Rattle.sd_journal.specs.Marked.{entries_of}
 use Rattle.sd_belief.specs.declared.standing.Standing.TheVariants.{NotOpen, Open}
@@ -18,7 +19,7 @@ pub invariant_of-result : goal.invariant_of-result
 invariant_of-result c =
     let idle = ap (λ (d : Dumping). d.running) c.new-3.ensures in
     record {
-      journal_is = start_journal _ c.new.result c.args.start.memory c.args.start.number c.requires.begins c.requires.same refl c.new.ensures.items c.new.ensures.first c.new.ensures.limit;
+      journal_is = start_journal _ c.new.result c.args.start.memory c.args.start.number refl c.requires.begins c.requires.same refl c.new.ensures.items c.new.ensures.first c.new.ensures.limit;
       held = c.new.ensures.held ∙ ap (λ r. held_for None r None) (sym idle);
       outs_are = none_out NotOpen nobody c.args.start.phases.items c.new-3.result.running c.new-4.result None idle c.new-4.ensures refl refl;
       opening = tt;
@@ -35,5 +36,5 @@ returns-clause-believes c files found shows =
     let number = c.args.start.number in
     let base = memory_of c.args.start.base in
     c.found_law.ensures _ nothing_asked files (shown_base number base) found refl none_of refl (λ is. absurd (let no : NotOpen ≡ Open = is in cc)) shows
-    (subst (λ items. IsLastPair (record { number = number; memory = base }) (entries_of items) (shown_base number base))
+    (subst (λ items. IsLastPair (record { number = number; memory = base; origin = origins.Opened }) (entries_of items) (shown_base number base))
     (sym c.new.ensures.items) (base_is_last number base))

@@ -3,6 +3,7 @@ use Rattle.sd_areas.specs.Memory.{memory_of}
 use Rattle.sd_gate.specs.declared.worker.Worker.TheVariants as its
 use Rattle.sd_command.specs.declared.reply.Reply.TheVariants as reply
 use Rattle.sd_command.specs.declared.refusal.Refusal.TheVariants.{Damaged as DamagedStore}
+use Rattle.sd_journal.specs.declared.origin.Origin.TheVariants as origins
 use Rattle.sd_journal.specs.History.{Base}
 use Rattle.sd_belief.specs.OpenerSteps.{opener_alone}
 use Rattle.sd_opener.specs.Looking.{out_of}
@@ -16,7 +17,7 @@ use Rattle.sd_core.proofs.state.Core.take_up_opener.Goals as goal
 
 pub invariant_of-self-in-Call : goal.invariant_of-self-in-Call
 invariant_of-self-in-Call c =
-    let base : Base = record { number = c.self.inside.number; memory = memory_of c.self.inside.base } in
+    let base : Base = record { number = c.self.inside.number; memory = memory_of c.self.inside.base; origin = origins.Opened } in
     let w = subst (λ step. WorksOpener c.self.inside.opener c.self.inside.numbers.ticket step c.step_opener.new.opener) c.in-Call.is c.in-Ok.ensures.works in
     let inside = c.self.invariant in
     let opening = subst (λ x. IfSome x (IsOpening c.self.inside.standing c.self.inside.phases.items)) w.was inside.opening in

@@ -7,7 +7,7 @@ use Rattle.sd_journal.proofs.journal.Journal.append_held.Goals as goal
 pub invariant_of-self : goal.invariant_of-self
 invariant_of-self c =
     let count : entry_count c.args.self.now ≡ length c.self.inside.entries.items =
-    ap entry_count (sym c.self.view_is) ∙ count_in c.self.inside.entries.items c.self.inside.marks.items in
+    ap entry_count (sym c.self.view_is) ∙ count_in _ c.self.inside.entries.items c.self.inside.marks.items in
     let long : vec_len c.self.inside.entries ≡ length c.self.inside.entries.items = c.self.inside.entries.ok.0 in
     let held : c.args.self.now.held ≡ c.self.inside.held = ap (λ (journal : Kept). journal.held) (sym c.self.view_is) in
     let limit : c.args.self.now.limit ≡ c.self.inside.limit = ap (λ (journal : Kept). journal.limit) (sym c.self.view_is) in
@@ -17,7 +17,7 @@ invariant_of-self c =
     let before : length c.self.inside.entries.items + c.self.inside.held ≤ c.self.inside.limit = c.self.invariant.within in
     let spare : length c.self.inside.entries.items + c.self.inside.held ≤ vec_capacity c.self.inside.entries = c.self.invariant.room in
     let some : 0 < c.args.self.now.held = c.requires in
-    let more : length c.self.inside.entries.items ≤ length c.push_into_room.new.entries.items = omega arith in
+    let more : c.self.inside.first + length c.self.inside.entries.items ≤ c.self.inside.first + length c.push_into_room.new.entries.items = omega arith in
     record {
       first = c.self.invariant.first;
       most = c.self.invariant.most;
@@ -28,5 +28,9 @@ invariant_of-self c =
 
 pub returns-clause-items : goal.returns-clause-items
 returns-clause-items c =
-    after_entry c.args.entry c.self.inside.entries.items c.push_into_room.new.entries.items c.self.inside.marks.items c.self.invariant.marks c.push_into_room.ensures.items
+    let longer : length c.push_into_room.new.entries.items ≡ length c.self.inside.entries.items + 1 =
+    ap length c.push_into_room.ensures.items ∙ length-append c.self.inside.entries.items (c.args.entry ∷ []) in
+    let one : c.self.inside.first + length c.push_into_room.new.entries.items ≡ c.self.inside.first + length c.self.inside.entries.items + 1 = omega arith in
+    after_entry (c.self.inside.first + length c.self.inside.entries.items) (c.self.inside.first + length c.push_into_room.new.entries.items) c.args.entry
+    c.self.inside.entries.items c.push_into_room.new.entries.items c.self.inside.marks.items c.self.invariant.marks one c.push_into_room.ensures.items
     ∙ ap (λ (journal : Kept). Told c.args.entry ∷ journal.items) c.self.view_is

@@ -8,5 +8,5 @@ use Rattle.sd_journal.proofs.journal.Journal.entries.Goals as goal
 pub returns : goal.returns
 returns c =
     let entries = c.self.inside.entries.items in
-    c.deref.ensures.value ∙ sym (reverse-reverse entries) ∙ ap reverse (sym (entries_in entries c.self.inside.marks.items))
+    c.deref.ensures.value ∙ sym (reverse-reverse entries) ∙ ap reverse (sym (entries_in _ entries c.self.inside.marks.items))
     ∙ ap (λ (journal : Kept). reverse (entries_of journal.items)) c.self.view_is

@@ -6,7 +6,7 @@ use Rattle.sd_journal.proofs.journal.Journal.hold.Goals as goal
 pub invariant_of-self-2 : goal.invariant_of-self-2
 invariant_of-self-2 c =
     let count : entry_count c.args.self.now ≡ length c.self.inside.entries.items =
-    ap entry_count (sym c.self.view_is) ∙ count_in c.self.inside.entries.items c.self.inside.marks.items in
+    ap entry_count (sym c.self.view_is) ∙ count_in _ c.self.inside.entries.items c.self.inside.marks.items in
     let long : vec_len c.self.inside.entries ≡ length c.self.inside.entries.items = c.self.inside.entries.ok.0 in
     let held : c.args.self.now.held ≡ c.self.inside.held = ap (λ (journal : Kept). journal.held) (sym c.self.view_is) in
     let limit : c.args.self.now.limit ≡ c.self.inside.limit = ap (λ (journal : Kept). journal.limit) (sym c.self.view_is) in
@@ -20,5 +20,5 @@ invariant_of-self-2 c =
       most = c.self.invariant.most;
       within = omega arith;
       room = omega arith;
-      marks = subst (λ n. AreWithin n (reverse c.self.inside.marks.items)) (sym same) c.self.invariant.marks;
+      marks = subst (λ n. AreWithin (c.self.inside.first + n) (reverse c.self.inside.marks.items)) (sym same) c.self.invariant.marks;
     }

@@ -6,7 +6,7 @@ use Rattle.sd_journal.proofs.journal.Journal.next_number.Goals as goal
 pub returns : goal.returns
 returns c =
     let count : entry_count c.args.self.now ≡ length c.self.inside.entries.items =
-    ap entry_count (sym c.self.view_is) ∙ count_in c.self.inside.entries.items c.self.inside.marks.items in
+    ap entry_count (sym c.self.view_is) ∙ count_in _ c.self.inside.entries.items c.self.inside.marks.items in
     let long : vec_len c.self.inside.entries ≡ length c.self.inside.entries.items = c.self.inside.entries.ok.0 in
     let held : c.args.self.now.held ≡ c.self.inside.held = ap (λ (journal : Kept). journal.held) (sym c.self.view_is) in
     let limit : c.args.self.now.limit ≡ c.self.inside.limit = ap (λ (journal : Kept). journal.limit) (sym c.self.view_is) in

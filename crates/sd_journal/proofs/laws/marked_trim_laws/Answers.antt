@@ -1,0 +1,14 @@
+use Rattle.sd_journal.proofs.TrimmedMarks.{entries_behind, marked, visiting_stays, cursor_stays, due_stays, tracked}
+use Rattle.sd_journal.proofs.VisitedLemmas.{visited}
+use Rattle.sd_journal.proofs.laws.marked_trim_laws.Goals as goal
+
+pub returns : goal.returns
+returns c = record {
+  entries = entries_behind;
+  marked = marked;
+  visiting_stays = visiting_stays;
+  cursor_stays = cursor_stays;
+  visited = visited;
+  due_stays = due_stays;
+  tracked = tracked c.plain_law.ensures;
+}
