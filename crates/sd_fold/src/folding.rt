@@ -1,0 +1,30 @@
+//! Folding entries into a base.
+ghost use Rattle.std.specs.Prelude.{◌≡◌, reverse, OnOk, OnErr};
+ghost use Rattle.sd_areas.specs.Memory.{memory_of};
+ghost use Rattle.sd_journal.specs.History.{Base, memory_after};
+ghost use Rattle.sd_journal.specs.Legal.{IsLegal};
+
+use crate::copying::copy_of;
+use sd_areas::Snapshot;
+use sd_journal::{Entry, replay};
+use std::alloc::{AllocError, Global};
+
+/// Makes of a memory what the entries of a legal journal make of it. The checkpoint number that stands beside the memory
+/// stays.
+///
+/// # Errors
+///
+/// Out of memory where a growth was refused: the memory is as before.
+pub fn fold(alloc: Global, base: &mut Snapshot, entries: &[Entry]) -> Result<(), AllocError>
+    requires legal { (start : Base) × (start.memory ≡ memory_of base.old)
+        × IsLegal start (reverse entries.now) }
+    ensures ok { (start : Base) → start.memory ≡ memory_of base.old
+        → OnOk result (memory_of base.new ≡ memory_after start (reverse entries.now)) }
+    ensures err { OnErr result (memory_of base.new ≡ memory_of base.old) }
+    ensures checkpoint { base.new.checkpoint ≡ base.old.checkpoint }
+{
+    let copy = copy_of(alloc, base)?;
+    let made = replay(alloc, copy, entries)?;
+    base.spaces = made.spaces;
+    Ok(())
+}
