@@ -13,3 +13,4 @@ pub mod TakenLemmas
 pub mod TrimLemmas
 pub mod TrimmedMarks
 pub mod VisitedLemmas
+pub mod MovedLemmas

@@ -1,5 +1,6 @@
 -- What a trim leaves of a marked journal, and of the bits that it gives.
 use Rattle.std.proofs.Common.{◌≡◌, ◌⊎◌, ℕ, ◌==◌, ◌&&◌, ◌||◌, Bool, true, false, cond, [], ◌∷◌, ◌++◌, Option, Some, None, IfSome, is_some, if◌then◌else◌, refl, sym, ◌∙◌, ap, subst, inl, inr}
+use Rattle.std.proofs.lemmas.Bool.{eqb-true}
 use Rattle.std.specs.List.{list_any}
 use Rattle.std.specs.Option.{option_map}
 use Rattle.sd_pagetable.specs.Contents.{Contents, page_at, plain_of}
@@ -83,6 +84,20 @@ fresh base (Noted (Start s) ∷ kept) folded serial marked e =
     subst (λ k. list_any (is_of k) folded ≡ false) (some_is s serial e) (any_right (is_of s) kept folded marked.0)
 fresh base (Noted (Visit s space page) ∷ kept) folded serial marked e = fresh base kept folded serial marked.1 e
 fresh base (Noted (Table s) ∷ kept) folded serial marked e = none_is_some serial e
+
+-- by its start
+pub started_fresh : (base : Base) (kept folded : Marked) (serial : ℕ) → IsMarked base (kept ++ folded) → list_any (starts serial) kept ≡ true
+    → list_any (is_of serial) folded ≡ false
+started_fresh base [] folded serial marked is = absurd (let no : false ≡ true = is in cc)
+started_fresh base (Told entry ∷ kept) folded serial marked is = started_fresh base kept folded serial marked.1 is
+started_fresh base (Noted (Visit s space page) ∷ kept) folded serial marked is = started_fresh base kept folded serial marked.1 is
+started_fresh base (Noted (Table s) ∷ kept) folded serial marked is = started_fresh base kept folded serial marked.1 is
+started_fresh base (Noted (Start s) ∷ kept) folded serial marked is = by (s == serial) refl is (started_fresh base kept folded serial marked.1)
+  where
+    by : (b : Bool) → (s == serial) ≡ b → (b || list_any (starts serial) kept) ≡ true
+        → (list_any (starts serial) kept ≡ true → list_any (is_of serial) folded ≡ false) → list_any (is_of serial) folded ≡ false
+    by true same e rest = subst (λ k. list_any (is_of k) folded ≡ false) (eqb-true s serial same) (any_right (is_of s) kept folded marked.0)
+    by false other e rest = rest e
 
 cursor_behind : (kept folded : Marked) (serial : ℕ) → list_any (is_of serial) folded ≡ false → last_visit kept serial ≡ last_visit (kept ++ folded) serial
 cursor_behind [] folded serial none = sym (no_visit folded serial none)

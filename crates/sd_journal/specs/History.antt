@@ -6,11 +6,13 @@ use Rattle.sd_journal.specs.declared.entry.Entry.{Entry}
 use Rattle.sd_journal.specs.declared.entry.Entry.TheVariants.{Applied, Freeze, Acked, Cancelled, Reopened}
 use Rattle.sd_journal.specs.declared.origin.Origin.{Origin}
 
--- what a run goes on from: a memory, the number of its checkpoint, if it has one, and where these come from
+-- what a run goes on from: a memory, the number of its checkpoint, if it has one, where these come from, and how many entries were ever
+-- folded into it
 pub record Base : Type 0 where
   pub number : Option ℕ
   pub memory : PlainMemory
   pub origin : Origin
+  pub folded : ℕ
 
 -- the entries of a journal, the newest first
 abbrev pub History : Type 0

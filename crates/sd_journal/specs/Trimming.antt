@@ -1,6 +1,7 @@
 -- Trimming: the entries up to and with the one that ended the pending of a checkpoint are taken from the front of a journal, and what is
 -- kept goes on from a new base, which is that checkpoint.
 use Rattle.std.specs.Prelude.{◌≡◌, ◌≢◌, ◌↔◌, ◌+◌, ◌≤◌, ℕ, Bool, true, false, List, [], ◌∷◌, ◌++◌, length, reverse, take, Some}
+use Rattle.std.specs.List.{list_any}
 use Rattle.sd_pagetable.specs.Contents.{Contents}
 use Rattle.sd_pagetable.specs.Tracking.{is_writable}
 use Rattle.sd_journal.specs.declared.entry.Entry.{Entry}
@@ -9,7 +10,7 @@ use Rattle.sd_journal.specs.declared.origin.Origin.TheVariants.{Trimmed}
 use Rattle.sd_journal.specs.History.{Base, History, memory_after, at_freeze, last, pending}
 use Rattle.sd_journal.specs.Legal.{IsAbove, IsLegal}
 use Rattle.sd_journal.specs.Allowed.{Shown, IsAllowed, IsLastPair, IsPendingPair}
-use Rattle.sd_journal.specs.Marked.{Told, Marked, entries_of, events_of, is_due, is_mapped, last_visit, memory_at, visiting, IsMarked, IsTracked}
+use Rattle.sd_journal.specs.Marked.{Told, Marked, entries_of, events_of, is_due, is_mapped, is_of, last_visit, memory_at, starts, visiting, IsMarked, IsTracked}
 use Rattle.sd_journal.specs.TrackedLaws.{visited_since}
 use Rattle.sd_journal.specs.Kept.{Kept}
 
@@ -37,7 +38,7 @@ is_acknowledged _ = false
 
 -- the base that is left when entries are folded: the memory that they make, under the checkpoint's number
 abbrev pub base_after : Base → ℕ → History → Base
-base_after base n folded = record { number = Some n; memory = memory_after base folded; origin = Trimmed (is_acknowledged folded) }
+base_after base n folded = record { number = Some n; memory = memory_after base folded; origin = Trimmed (is_acknowledged folded); folded = base.folded + length folded }
 
 -- Of a legal journal, the front that ended the pending of a checkpoint is folded, and the rest is kept.
 pub record TrimLaws : Type 0 where
@@ -93,6 +94,9 @@ pub record MarkedTrimLaws : Type 0 where
   pub marked : (base : Base) (kept folded : Marked) (n : ℕ) → IsMarked base (kept ++ folded) → IsFolded n folded
       → IsMarked (base_after base n (entries_of folded)) kept
   pub visiting_stays : (kept folded : Marked) (n : ℕ) → IsFolded n folded → visiting kept ≡ visiting (kept ++ folded)
+  -- an image whose start is kept has no mark among what was folded
+  pub fresh : (base : Base) (kept folded : Marked) (serial : ℕ) → IsMarked base (kept ++ folded) → list_any (starts serial) kept ≡ true
+      → list_any (is_of serial) folded ≡ false
   pub cursor_stays : (base : Base) (kept folded : Marked) (n serial : ℕ) → IsMarked base (kept ++ folded) → IsFolded n folded
       → visiting kept ≡ Some serial → last_visit kept serial ≡ last_visit (kept ++ folded) serial
   -- each page of the folded memory was visited where each was since the checkpoint's freeze

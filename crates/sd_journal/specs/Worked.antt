@@ -12,11 +12,11 @@ use Rattle.sd_journal.specs.Allowed.{IsAllowed}
 
 -- space 1 alone, without pages and without a checkpoint
 abbrev pub empty_base : Base
-empty_base = record { number = None; memory = finmap.insert finmap.empty 1 finmap.empty; origin = Opened }
+empty_base = record { number = None; memory = finmap.insert finmap.empty 1 finmap.empty; origin = Opened; folded = 0 }
 
 -- a run on what an earlier one saved as its checkpoint 7
 abbrev pub second_base : PlainMemory → Base
-second_base memory = record { number = Some 7; memory = memory; origin = Opened }
+second_base memory = record { number = Some 7; memory = memory; origin = Opened; folded = 0 }
 
 module _ (one other : Command) (done again : Reply) where
   abbrev pub first : PlainMemory

@@ -209,49 +209,67 @@ impl Journal {
         ended_at(&self.entries, checkpoint)
     }
 
-    /// Takes so many entries from the front, in order of time, with the marks between them. A mark behind the last of
-    /// them is kept. The others keep their numbers, and what is held stays.
+    /// An empty list with room for the entries that are left once so many are taken from the front, and for those that
+    /// are held.
     ///
     /// # Errors
     ///
-    /// Out of memory where the list of entries that are kept finds no room: nothing changes.
-    pub fn take_front(&mut self, alloc: Global, count: usize) -> Result<Vec<Entry>, AllocError>
+    /// Out of memory where the list finds no room.
+    pub fn room_behind(&self, alloc: Global, count: usize) -> Result<Vec<Entry>, AllocError>
+        requires { count ≤ entry_count self.now }
+        ensures empty { IfOk result (λ room. room.items ≡ []) }
+        ensures room { IfOk result (λ room. entry_count self.now + self.now.held ≤ vec_capacity room + count) }
+    {
+        let mut room = Vec::new(alloc);
+        room.try_reserve(self.entries.len() - count + self.held)?;
+        Ok(room)
+    }
+
+    /// Takes so many entries from the front, in order of time, with the marks between them. A mark behind the last of
+    /// them is kept. The others keep their numbers, and what is held stays. They move into a list with room for them, so
+    /// that no memory is taken.
+    pub fn take_front(&mut self, room: Vec<Entry>, count: usize) -> Vec<Entry>
         requires some { 0 < count }
         requires within { count ≤ entry_count self.old }
         requires numbers { self.old.first + count ≤ 2 ^ 62 }
-        ensures ok { IfOk result (λ taken. TakesFront count taken.items self.old self.new) }
-        ensures err { OnErr result (self.new ≡ self.old) }
+        requires empty { room.items ≡ [] }
+        requires room { entry_count self.old + self.old.held ≤ vec_capacity room + count }
+        ensures { TakesFront count result.items self.old self.new }
     {
-        let taken = split_front(alloc, &mut self.entries, count, self.held)?;
+        let taken = split_front(&mut self.entries, room, count);
         self.first += count as u64;
         forget_before(&mut self.marks, self.first);
-        Ok(taken)
+        taken
     }
 }
 
-/// Takes so many entries from the front of a list, which then has room for so many more.
-///
-/// # Errors
-///
-/// Out of memory where the list of those that are kept finds no room: nothing changes.
-fn split_front(
-    alloc: Global,
-    entries: &mut Vec<Entry>,
-    count: usize,
-    spare: usize,
-) -> Result<Vec<Entry>, AllocError>
+/// Takes so many entries from the front of a list. The others move into a list with room for them.
+fn split_front(entries: &mut Vec<Entry>, mut kept: Vec<Entry>, count: usize) -> Vec<Entry>
     requires within { count ≤ vec_len entries.old }
-    requires few { vec_len entries.old + spare ≤ 1048576 }
-    ensures taken { IfOk result (λ taken. taken.items ≡ take count entries.old.items) }
-    ensures kept { OnOk result (entries.new.items ≡ drop count entries.old.items) }
-    ensures room { OnOk result (vec_len entries.new + spare ≤ vec_capacity entries.new) }
-    ensures err { OnErr result (entries.new ≡ entries.old) }
+    requires empty { kept.items ≡ [] }
+    requires room { vec_len entries.old ≤ vec_capacity kept + count }
+    ensures taken { result.items ≡ take count entries.old.items }
+    ensures kept { entries.new.items ≡ drop count entries.old.items }
+    ensures capacity { vec_capacity kept ≤ vec_capacity entries.new }
 {
-    let mut kept = Vec::new(alloc);
-    kept.try_reserve(entries.len() - count + spare)?;
-    let mut rest = entries.split_off(count)?;
-    kept.append(&mut rest).unwrap();
-    Ok(mem::replace(entries, kept))
+    move_behind(entries, count, &mut kept);
+    mem::replace(entries, kept)
+}
+
+/// Moves the entries behind the first so many into an empty list with room for them.
+fn move_behind(entries: &mut Vec<Entry>, count: usize, kept: &mut Vec<Entry>)
+    requires within { count ≤ vec_len entries.old }
+    requires empty { kept.old.items ≡ [] }
+    requires room { vec_len entries.old ≤ vec_capacity kept.old + count }
+    ensures front { entries.new.items ≡ take count entries.old.items }
+    ensures behind { kept.new.items ≡ drop count entries.old.items }
+    ensures capacity { vec_capacity kept.old ≤ vec_capacity kept.new }
+{
+    while entries.len() > count {
+        let entry = entries.pop().unwrap();
+        push_into_room(kept, entry);
+    }
+    kept.reverse();
 }
 
 /// How many entries from the front on end with the one that ended the pending of a checkpoint.

@@ -57,7 +57,8 @@ fn a_front_ends_with_the_acknowledgement(rt: HostRuntime) -> Result<(), Fail> {
     if journal.first() > 1 {
         panic!(rt; "the first entry has another number");
     }
-    let taken = journal.take_front(rt.alloc(), count)?;
+    let room = journal.room_behind(rt.alloc(), count)?;
+    let taken = journal.take_front(room, count);
     let wanted = [Entry::Reopened(None), Entry::Freeze(1), Entry::Acked(1)];
     assert_eq!(rt; taken.as_slice(), wanted.as_slice());
     assert_eq!(rt; journal.entries(), [Entry::Reopened(Some(1))].as_slice());

@@ -1,4 +1,4 @@
-use Rattle.sd_journal.proofs.TrimmedMarks.{entries_behind, marked, visiting_stays, cursor_stays, due_stays, tracked}
+use Rattle.sd_journal.proofs.TrimmedMarks.{entries_behind, marked, visiting_stays, started_fresh, cursor_stays, due_stays, tracked}
 use Rattle.sd_journal.proofs.VisitedLemmas.{visited}
 use Rattle.sd_journal.proofs.laws.marked_trim_laws.Goals as goal
 
@@ -7,6 +7,7 @@ returns c = record {
   entries = entries_behind;
   marked = marked;
   visiting_stays = visiting_stays;
+  fresh = started_fresh;
   cursor_stays = cursor_stays;
   visited = visited;
   due_stays = due_stays;
