@@ -131,6 +131,7 @@ image_beside core places numbers merge running (Some image) l was making is =
       held = l.held running image was making is.held;
       stage = is.stage;
       visiting_in = is.visiting_in;
+      begun = is.begun;
     }
 
 work_beside : (core : Parts) (phases : List Phase) (places : Places) (numbers : Numbers) (merge : Option merger.Running) → IsCore core → length phases ≡ length core.phases
@@ -191,6 +192,7 @@ core_beside core outs phases places room numbers merge sound stands closed count
       };
   counted = counted;
   rests = sound.rests;
+  swept_is = sound.swept_is;
   work = work_beside core phases places numbers merge sound count l;
   little = sound.little;
   merging = merging;

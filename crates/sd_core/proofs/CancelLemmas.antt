@@ -21,6 +21,7 @@ use Rattle.sd_core.specs.declared.numbers.Numbers.{Numbers}
 use Rattle.sd_core.specs.Sound.{AreCounted, AreNumbers, AreOuts, IsCore, IsJournal, IsMerging, Parts}
 use Rattle.sd_core.proofs.MergeLemmas.{merging_stays}
 use Rattle.sd_core.proofs.OutsLemmas.{no_writes_of}
+use Rattle.sd_core.proofs.SettledLemmas.{settled_more}
 use Rattle.sd_core.proofs.WorkLemmas.{at_work}
 
 -- ---- the entry
@@ -56,6 +57,7 @@ cancelled_journal laws core journal sound may items first limit = record {
   frozen_for = none_left core.numbers.begun core.frozen sound.numbers_are.frozen_used ∙ ap (unless_it_is core.numbers.begun) sound.journal_is.frozen_for
       ∙ ap (λ all. pending (entries_of all)) (sym items);
   newest_is = sound.journal_is.newest_is ∙ ap (λ all. last core.base (entries_of all)) (sym items);
+  settled = settled_more core.base core.journal.items journal.items (Told (Cancelled core.numbers.begun)) core.newest items sound.journal_is.settled;
 }
 
 pub cancelled_numbers : (base : Base) (items : Marked) (frozen newest : Option ℕ) (numbers : Numbers) → AreNumbers base items frozen newest numbers

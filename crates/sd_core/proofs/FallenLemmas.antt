@@ -105,6 +105,7 @@ fallen_core core journal stands phases outs dumper merge room place sound closed
   numbers_are = subst (λ all. AreNumbers core.base all core.frozen core.newest core.numbers) (sym items) sound.numbers_are;
   counted = sound.counted;
   rests = λ resting open_. absurd (let no : Down ≡ Open = sym is_down ∙ open_ in cc);
+  swept_is = sound.swept_is;
   work = subst (λ r. IfSome r (IsAtWork core.base journal.items core.frozen stands phases core.places merge core.opener core.numbers)) (sym idle) tt;
   little = subst (λ r. IfSome r (HasLittle core.base journal.items core.memory)) (sym idle) tt;
   merging = subst (λ m. IfSome m (IsMerging stands phases core.places core.opener core.numbers room dumper.running)) (sym none) tt;

@@ -1,5 +1,5 @@
 -- What the steps and outcomes of an image leave of what is so of it.
-use Rattle.std.proofs.Common.{◌≡◌, ◌⊎◌, ℕ, ◌≤◌, ◌==◌, ◌&&◌, true, if◌then◌else◌, List, ◌∷◌, Option, Some, None, IfSome, slice_set, refl, sym, ◌∙◌, ap, subst, inl, inr, arith}
+use Rattle.std.proofs.Common.{◌≡◌, ◌⊎◌, ℕ, ◌≤◌, ◌==◌, ◌&&◌, ◌||◌, true, if◌then◌else◌, List, ◌∷◌, Option, Some, None, IfSome, slice_set, refl, sym, ◌∙◌, ap, subst, inl, inr, arith}
 use Rattle.std.proofs.lemmas.Bool.{eq-eqb, false≢true}
 use Rattle.sd_chain.specs.Catalog.{IsHeld, Places}
 use Rattle.sd_gate.specs.declared.request_id.RequestId.{RequestId}
@@ -20,6 +20,7 @@ use Rattle.sd_rounds.specs.Making.{Asks, CopiesSector, Freezes, GoesOn, IsWritte
 use Rattle.sd_rounds.specs.Pass.{Pass}
 use Rattle.sd_core.specs.declared.numbers.Numbers.{Numbers}
 use Rattle.sd_core.specs.Sound.{IsImageOf, IsStageOf, IsVisiting, IsVisitingIn}
+use Rattle.sd_core.specs.Visited.{is_begun}
 use Rattle.sd_core.proofs.StageLemmas.{IsAskedIn, IsBehind, asked_in, behind, copied_after, frozen_asked, visited_after, visiting_asked}
 use Rattle.sd_core.proofs.WorkLemmas.{SameNumbers, same_numbers}
 
@@ -33,12 +34,13 @@ pub record IsTurned (items : Marked) (places : Places) (numbers : Numbers) (imag
 
 turn : (items now : Marked) (places after : Places) (old new : Numbers) (image : Making) (pass : Pass) (stage : Stage) (writes : List (Option RequestId)) (digester : Digester) → SameNumbers old new
     → IsImageOf items places old image → IsHeld after image.order.serial → IsStageOf image.order stage → IsVisitingIn now image.order.serial pass stage
-    → IsImageOf now after new (record { order = image.order; pass = pass; stage = stage; writes = writes; digester = digester })
-turn items now places after old new image pass stage writes digester same is held at visits = record {
+    → is_begun now image.order.serial ≡ true → IsImageOf now after new (record { order = image.order; pass = pass; stage = stage; writes = writes; digester = digester })
+turn items now places after old new image pass stage writes digester same is held at visits begun = record {
   given = (let given = is.given in let more = same.given in omega (arith, given, more));
   held = held;
   stage = at;
   visiting_in = visits;
+  begun = begun;
 }
 
 -- the next call of a plan
@@ -46,7 +48,7 @@ pub image_asked : (items : Marked) (places : Places) (old new : Numbers) (image 
     → IsImageOf items places old image → Asks image request next → IsTurned items places new image next (Some request.id)
 image_asked items places old new image next request same is asks = subst (λ m. IsTurned items places new image m (Some request.id)) (sym asks.is) (record {
   image_is = turn items items places places old new image image.pass (with_plan image.stage asks.next) image.writes image.digester same is is.held asked.stage_is
-      (visiting_asked items image.order.serial image.pass image.stage asks.next is.visiting_in);
+      (visiting_asked items image.order.serial image.pass image.stage asks.next is.visiting_in) is.begun;
   order = refl;
   still = ap (λ b. (kind_number image.order.kind == 2) && b) (frozen_asked image.stage asks.next);
   out_is = asked.out;
@@ -66,7 +68,7 @@ pub image_page : (items : Marked) (places : Places) (old new : Numbers) (image n
     → IsImageOf items places old image → WritesPage image lane request next → IsTurned items places new image next None
 image_page items places old new image next lane request same is writes = subst (λ m. IsTurned items places new image m None) (sym whole) (record {
   image_is = turn items items places places old new image next.pass PassStage next.writes next.digester same is is.held tt
-      (record { started = cursor.started; cursor = cursor.cursor ∙ sym (ap (λ (p : Pass). p.after) writes.taken.is) });
+      (record { started = cursor.started; cursor = cursor.cursor ∙ sym (ap (λ (p : Pass). p.after) writes.taken.is) }) is.begun;
   order = refl;
   still = ap (λ s. (kind_number image.order.kind == 2) && is_past_freeze s) (sym writes.stage);
   out_is = refl;
@@ -93,7 +95,7 @@ image_table items places old new image next memory request same is writes =
           parent = ap (λ h. h.parent) writes.numbers;
           checkpoint = ap (λ h. h.checkpoint) writes.numbers;
         },
-      ) tt;
+      ) tt is.begun;
       order = refl;
       still = ap (λ s. (kind_number image.order.kind == 2) && is_past_freeze s) (sym writes.stage);
       out_is = writes.gives.out;
@@ -110,7 +112,7 @@ image_visited items places numbers image next before after visit is visits = sub
         started = cursor.started;
         cursor = ap (λ b. if b then Some (visit.space, visit.page) else last_visit items image.order.serial) (eq-eqb image.order.serial image.order.serial refl)
             ∙ sym (ap (λ (p : Pass). p.after) visits.tests.is ∙ visited_after image.pass (visit.space, visit.page) visits.tests.page.soft_dirty);
-      }));
+      })) is.begun;
   order = refl;
   still = refl;
   out_is = ap out_of visits.passes.0;
@@ -126,7 +128,7 @@ pub image_copied : (items : Marked) (places : Places) (numbers : Numbers) (image
 image_copied items places numbers image next memory copied is copies = subst (λ m. IsTurned items places numbers image m None) (sym copies.passes.1) (record {
   image_is = turn items items places places numbers numbers image next.pass image.stage image.writes image.digester (same_numbers numbers) is is.held is.stage
       (subst (λ s. IsVisitingIn items image.order.serial next.pass s) (sym copies.passes.0)
-      (record { started = cursor.started; cursor = cursor.cursor ∙ sym (copied_after image.pass next.pass memory copied copies.copies) }));
+      (record { started = cursor.started; cursor = cursor.cursor ∙ sym (copied_after image.pass next.pass memory copied copies.copies) })) is.begun;
   order = refl;
   still = refl;
   out_is = ap out_of copies.passes.0;
@@ -142,7 +144,7 @@ plan_more : (items : Marked) (places after : Places) (numbers : Numbers) (image 
 plan_more items places after numbers image next made is held goes = subst (λ m. IsTurned items after numbers image m None) (sym goes.is) (record {
   image_is = turn items items places after numbers numbers image image.pass
       (stage_after image.order.kind image.stage (plan_after goes.plan made) (plan_after goes.plan made).calls) image.writes image.digester (same_numbers numbers) is held
-      (on.stage_is is.stage) (on.visiting_in is.visiting_in);
+      (on.stage_is is.stage) (on.visiting_in is.visiting_in) is.begun;
   order = refl;
   still = on.frozen;
   out_is = on.rests;
@@ -156,7 +158,7 @@ plan_more items places after numbers image next made is held goes = subst (λ m.
 page_more : (items : Marked) (places after : Places) (numbers : Numbers) (image next : Making) (made : Made)
     → IsImageOf items places numbers image → IsHeld after image.order.serial → IsWritten image made next → IsTurned items after numbers image next None
 page_more items places after numbers image next made is held written = subst (λ m. IsTurned items after numbers image m None) (sym written.is) (record {
-  image_is = turn items items places after numbers numbers image image.pass image.stage (slice_set image.writes written.lane None) image.digester (same_numbers numbers) is held is.stage is.visiting_in;
+  image_is = turn items items places after numbers numbers image image.pass image.stage (slice_set image.writes written.lane None) image.digester (same_numbers numbers) is held is.stage is.visiting_in is.begun;
   order = refl;
   still = refl;
   out_is = passes image.stage written.passing;
@@ -186,7 +188,7 @@ pub image_frozen : (items : Marked) (places : Places) (numbers : Numbers) (image
 image_frozen items places numbers image next is f = subst (IsFrozenNext items places numbers image) (sym f.is) (record {
   order = refl;
   image_is = turn items (Told (Freeze numbers.begun) ∷ items) places places numbers numbers image image.pass PassStage image.writes image.digester (same_numbers numbers) is is.held tt
-      (record { started = cursor.started; cursor = cursor.cursor });
+      (record { started = cursor.started; cursor = cursor.cursor }) is.begun;
   out_is = refl;
 })
   where
@@ -202,4 +204,5 @@ begun_asked items places numbers order next request given held none asks =
       held = held;
       stage = refl;
       visiting_in = record { started = refl; cursor = none };
+      begun = ap (λ b. b || is_begun items order.serial) (eq-eqb order.serial order.serial refl);
     }) asks

@@ -15,9 +15,9 @@ mod LaneLemmas
 mod LastingLemmas
 mod ListLemmas
 mod LittleLemmas
+mod MarkLemmas
 mod MergeBegin
 mod MergeLemmas
-mod MarkLemmas
 mod MergerCalls
 mod MergerHands
 mod MergerSteps
@@ -35,3 +35,8 @@ mod StartLemmas
 mod StepLemmas
 mod TipLemmas
 mod WorkLemmas
+pub mod FrontLemmas
+pub mod SettledLemmas
+pub mod SweptLemmas
+pub mod TrimLemmas
+pub mod TrimmedLemmas

@@ -1,5 +1,5 @@
 -- Which pages an image has, by the marked journal.
-use Rattle.std.proofs.Common.{◌≡◌, ◌⊎◌, ◌↔◌, ℕ, ◌==◌, ◌&&◌, ◌||◌, Bool, true, false, if◌then◌else◌, [], ◌∷◌, ◌++◌, Contains, Option, Some, None, IfSome, is_some, refl, sym, ◌∙◌, ap, subst, inr, inl}
+use Rattle.std.proofs.Common.{◌≡◌, ◌⊎◌, ◌↔◌, ℕ, ◌==◌, ◌&&◌, ◌||◌, Bool, true, false, if◌then◌else◌, [], ◌∷◌, ◌++◌, Contains, Option, Some, None, IfSome, IsSome, is_some, not, refl, sym, ◌∙◌, ap, subst, inr, inl}
 use Rattle.std.specs.List.{list_any}
 use Rattle.std.specs.Option.{option_map}
 use Rattle.std.proofs.lemmas.Bool.{both_ways, eq-eqb}
@@ -7,7 +7,10 @@ use Rattle.std.proofs.lemmas.Option.{same_Some}
 use Rattle.sd_areas.specs.PlainMemory as plain
 use Rattle.sd_gate.specs.Requests.{Asked, Made}
 use Rattle.sd_image.specs.declared.header.Header.{Header}
-use Rattle.sd_image.specs.declared.header.Kind.TheVariants.{Dump, PreDump}
+use Rattle.sd_gate.specs.Plans.{Planned, plan_after}
+use Rattle.sd_gate.specs.Sequences.{Calls}
+use Rattle.sd_image.specs.declared.header.Kind.{Kind}
+use Rattle.sd_image.specs.declared.header.Kind.TheVariants.{Dump, Merged, PreDump}
 use Rattle.sd_image.specs.declared.run.RunKind.{RunKind}
 use Rattle.sd_image.specs.declared.run.RunKind.TheVariants.{Parent}
 use Rattle.sd_image.specs.Shows.{pages_of}
@@ -27,20 +30,22 @@ use Rattle.sd_rounds.specs.declared.image_order.ImageOrder.{ImageOrder}
 use Rattle.sd_rounds.specs.declared.image_step.ImageStep.{ImageStep}
 use Rattle.sd_rounds.specs.declared.image_step.ImageStep.TheVariants.{Call, PageCall, TableCall, Frozen, Visited, Copied}
 use Rattle.sd_rounds.specs.declared.new_image.NewImage.{NewImage}
+use Rattle.sd_rounds.specs.declared.stage.Stage.{Stage}
+use Rattle.sd_rounds.specs.declared.stage.Stage.TheVariants.{Format, Freeze as FreezeStage, Pass as PassStage, Close}
 use Rattle.sd_rounds.specs.declared.visit.Visit.{Visit as PageVisit}
 use Rattle.sd_rounds.specs.Dump.{due, kind_of_bytes}
 use Rattle.sd_rounds.specs.Dumper.{Running, is_frozen_image, is_last, order_of}
 use Rattle.sd_rounds.specs.ImageVisits.{visits_after}
-use Rattle.sd_rounds.specs.LittleWork.{LittleLaws, TakesDue, TakesVisited, TookVisited}
-use Rattle.sd_rounds.specs.Making.{GoesOn, IsWritten, Making, Opens, Steps, Visits, begun_image, is_frozen, is_past_freeze}
+use Rattle.sd_rounds.specs.LittleWork.{IsTaking, LittleLaws, TakesDue, TakesDueIn, TakesVisited, TookVisited}
+use Rattle.sd_rounds.specs.Making.{GoesOn, IsWritten, Making, Opens, Steps, Visits, begun_image, is_frozen, is_past_freeze, stage_after, stage_behind, with_plan}
 use Rattle.sd_rounds.specs.Pass.{Place}
 use Rattle.sd_rounds.specs.Rises.{IsRising}
 use Rattle.sd_rounds.specs.Sound.{IsSoundImage}
-use Rattle.sd_rounds.specs.Visits as visits
 use Rattle.sd_core.specs.LittleWork.{HasLittle, IsFrozenFor, TakesLittle, visits_of, way_due}
 use Rattle.sd_belief.specs.View.{CoreView}
 use Rattle.sd_core.specs.Answering.{IsAnswered}
 use Rattle.sd_core.specs.Sound.{IsCore, IsHeaderOf, Parts}
+use Rattle.sd_core.specs.Visited.{IsClean, is_closing}
 use Rattle.sd_core.proofs.WorkLemmas.{at_work}
 
 -- ---- the visits of an image
@@ -87,6 +92,28 @@ and_right false other is = absurd (both_ways false refl is)
 past_freeze : (image : Making) → is_frozen image ≡ true → is_past_freeze image.stage ≡ true
 past_freeze image is = and_right (kind_number image.order.kind == 2) (is_past_freeze image.stage) is
 
+not_closing : {P : Type 0} (stage : Stage) → stage ≡ PassStage → is_closing stage ≡ true → P
+not_closing stage is closing = absurd (let no : false ≡ true = sym (ap is_closing is) ∙ closing in cc)
+
+same_closing : (stage : Stage) (plan : Planned) → is_closing (with_plan stage plan) ≡ is_closing stage
+same_closing (Format old) plan = refl
+same_closing FreezeStage plan = refl
+same_closing PassStage plan = refl
+same_closing (Close old header tables) plan = refl
+
+-- once its table is written each page was visited, and nothing was touched since
+closed_step : (base : Base) (items : Marked) (number ticket : ℕ) (image next : Making) (before after : Contents) (step : ImageStep) → Steps ticket image before step next after
+    → IsFrozenFor base items before number image → (is_closing image.stage ≡ true → IsClean before) → is_closing next.stage ≡ true → IsClean after
+closed_step base items number ticket image next before after (Call request) s dump was closing =
+    subst IsClean (sym s.2) (was (sym (ap (λ (m : Making). is_closing m.stage) s.0.is ∙ same_closing image.stage s.0.next) ∙ closing))
+closed_step base items number ticket image next before after (PageCall lane request) s dump was closing = not_closing next.stage s.0.still closing
+closed_step base items number ticket image next before after (TableCall request) s dump was closing = subst IsClean (sym s.2) (λ space number page there.
+    let taking : IsTaking dump.cut image.pass before = subst (λ stage. TakesDueIn stage dump.cut image.pass before) s.0.stage dump.takes in
+    taking.dumping.behind (space, number) page (ap not (s.0.over space number (subst IsSome (sym there) refl))) there)
+closed_step base items number ticket image next before after Frozen s dump was closing = not_closing next.stage (ap (λ (m : Making). m.stage) s.0.is) closing
+closed_step base items number ticket image next before after (Visited visit) s dump was closing = not_closing next.stage (ap (λ (m : Making). m.stage) s.passes.1 ∙ s.passes.0) closing
+closed_step base items number ticket image next before after (Copied copied) s dump was closing = not_closing next.stage (ap (λ (m : Making). m.stage) s.0.passes.1 ∙ s.0.passes.0) closing
+
 pub step_little : LittleLaws → (base : Base) (items now : Marked) (before after : Contents) (number ticket : ℕ) (image next : Making) (step : ImageStep)
     → Steps ticket image before step next after → IsRising image.pass → is_frozen next ≡ is_frozen image
     → visits_of base now image.order.serial ≡ visits_after step (visits_of base items image.order.serial) → before_freeze now number ≡ before_freeze items number
@@ -104,6 +131,7 @@ step_little laws base items now before after number ticket image next step s ris
         tracked = d.tracked;
         takes = laws.steps ticket d.cut image next before after step s (past_freeze image (sym still ∙ is)) rising d.takes;
       };
+  closed = λ is closing. closed_step base items number ticket image next before after step s (was.dump (sym still ∙ is)) (was.closed (sym still ∙ is)) closing;
 }
   where
     order : next.order ≡ image.order
@@ -122,6 +150,7 @@ freeze_little laws base items before after number ticket image next s kind track
     tracked = tracked;
     takes = laws.freezes ticket image next before after s;
   };
+  closed = λ is closing. not_closing next.stage (ap (λ (m : Making). m.stage) s.0.is) closing;
 }
   where
     not_both : Dump ≡ PreDump → ⊥
@@ -135,10 +164,28 @@ begun_little laws base items before after number ticket order next request s fre
   round = λ kind. subst (λ all. TakesVisited all next) (sym (no_visits base items order.serial fresh) ∙ ap (λ (o : ImageOrder). visits_of base items o.serial) (sym same))
       (laws.visits ticket [] (begun_image order) next before after (Call request) s (ap (λ (o : ImageOrder). o.kind) (sym same) ∙ kind) (laws.begins order));
   dump = λ is. absurd (both_ways (is_frozen next) not_yet is);
+  closed = λ is closing. absurd (both_ways (is_frozen next) not_yet is);
 }
   where
     same : next.order ≡ order
     same = same_order ticket (begun_image order) next before after (Call request) s
+
+behind_closing : {P : Type 0} (kind : Kind) (stage : Stage) → is_closing (stage_behind kind stage) ≡ true → P
+behind_closing Dump (Format plan) closing = absurd (let no : false ≡ true = closing in cc)
+behind_closing PreDump (Format plan) closing = absurd (let no : false ≡ true = closing in cc)
+behind_closing Merged (Format plan) closing = absurd (let no : false ≡ true = closing in cc)
+behind_closing kind FreezeStage closing = absurd (let no : false ≡ true = closing in cc)
+behind_closing kind PassStage closing = absurd (let no : false ≡ true = closing in cc)
+behind_closing kind (Close plan header tables) closing = absurd (let no : false ≡ true = closing in cc)
+
+after_closing : (kind : Kind) (stage : Stage) (plan : Planned) (calls : Calls) → is_closing (stage_after kind stage plan calls) ≡ true → is_closing stage ≡ true
+after_closing kind stage plan [] closing = behind_closing kind stage closing
+after_closing kind stage plan (call ∷ calls) closing = sym (same_closing stage plan) ∙ closing
+
+still_closing : (image next : Making) (made : Made) → GoesOn image made next ⊎ IsWritten image made next → is_closing next.stage ≡ true → is_closing image.stage ≡ true
+still_closing image next made (inl goes) closing =
+    after_closing image.order.kind image.stage (plan_after goes.plan made) (plan_after goes.plan made).calls (sym (ap (λ (m : Making). is_closing m.stage) goes.is) ∙ closing)
+still_closing image next made (inr written) closing = sym (ap (λ (m : Making). is_closing m.stage) written.is) ∙ closing
 
 -- an outcome with which it goes on
 pub more_little : LittleLaws → (base : Base) (items : Marked) (memory : Contents) (number : ℕ) (image next : Making) (made : Made)
@@ -155,6 +202,7 @@ more_little laws base items memory number image next made g still was = record {
         tracked = d.tracked;
         takes = laws.hands d.cut image next memory made g (past_freeze image (sym still ∙ is)) d.takes;
       };
+  closed = λ is closing. was.closed (sym still ∙ is) (still_closing image next made g closing);
 }
   where
     order : next.order ≡ image.order
@@ -169,6 +217,7 @@ applied_image base items old new number image seat command reply same was = reco
   dump = λ is.
       let d = was.dump is in
       record { frozen = d.frozen; before = d.before; cut = d.cut; tracked = d.tracked; takes = subst (λ m. TakesDue d.cut image m) (sym (same is)) d.takes };
+  closed = λ is closing. subst IsClean (sym (same is)) (was.closed is closing);
 }
 
 applied_of : (base : Base) (items : Marked) (old new : Contents) (number : ℕ) (image : Option Making) (seat : ℕ) (command : Command) (reply : Reply)
@@ -284,3 +333,9 @@ pub little_of : (base : Base) (items : Marked) (memory : Contents) (all : Option
     → all ≡ Some running → running.image ≡ Some image → TakesLittle base items memory running.number image
 little_of base items memory all running image was is making =
     subst (λ i. IfSome i (TakesLittle base items memory running.number)) making (subst (λ r. IfSome r (HasLittle base items memory)) is was)
+
+-- once the dump is open each page was visited, and nothing was touched since
+pub dump_clean : (base : Base) (items : Marked) (memory : Contents) (running : Running) (image : Making) (made : Made) (opened : NewImage)
+    → is_last running ≡ true → image.order ≡ order_of running image.order.serial image.order.state → Opens image made opened
+    → TakesLittle base items memory running.number image → IsClean memory
+dump_clean base items memory running image made opened last own o was = was.closed (frozen_open running image made opened last own o) (ap is_closing o.was)

@@ -22,6 +22,7 @@ use Rattle.sd_rounds.specs.Making.{Freezes, IsReadyFor, Making, Visits, WritesTa
 use Rattle.sd_rounds.specs.Sound.{HasSoundImage, IsSoundImage, IsSoundMaking}
 use Rattle.sd_core.specs.declared.numbers.Numbers.{Numbers}
 use Rattle.sd_core.specs.Sound.{AreCounted, AreNumbers, IsCore, IsJournal, IsVisiting, IsVisitingIn, Parts, frozen_by}
+use Rattle.sd_core.proofs.SettledLemmas.{settled_more}
 use Rattle.sd_core.proofs.WorkLemmas.{at_work, image_of_work, noted_journal, numbers_noted}
 
 -- ---- two conditions
@@ -108,6 +109,7 @@ freeze_journal laws core running journal sound was none items first limit = reco
   limit = limit ∙ sound.journal_is.limit;
   frozen_for = ap (λ all. pending (entries_of all)) (sym items);
   newest_is = sound.journal_is.newest_is ∙ ap (λ all. last core.base (entries_of all)) (sym items);
+  settled = settled_more core.base core.journal.items journal.items (Told (Freeze core.numbers.begun)) core.newest items sound.journal_is.settled;
 }
 
 pub freeze_numbers : (base : Base) (items : Marked) (newest : Option ℕ) (numbers : Numbers) → AreNumbers base items None newest numbers

@@ -15,6 +15,8 @@ use Rattle.sd_journal.specs.History.{Base, last, pending, unless_it_is}
 use Rattle.sd_journal.specs.Kept.{Kept}
 use Rattle.sd_journal.specs.Marked.{IsTracked, Marked, Told, entries_of}
 use Rattle.sd_journal.specs.TrackedLaws.{TrackedLaws}
+use Rattle.sd_pagetable.specs.Contents.{IsSound}
+use Rattle.sd_pagetable.specs.Law.{PlainLaw}
 use Rattle.sd_rounds.specs.declared.image_order.ImageOrder.{ImageOrder}
 use Rattle.sd_rounds.specs.declared.new_image.NewImage.{NewImage}
 use Rattle.sd_rounds.specs.Dumper.{AreRunning, Running, is_frozen_image, is_last, order_of}
@@ -26,7 +28,9 @@ use Rattle.sd_belief.specs.DumperOutcomes.{IsDumpersOutcome, LeavesCatalog}
 use Rattle.sd_belief.specs.View.{CoreView, history_of}
 use Rattle.sd_core.specs.declared.numbers.Numbers.{Numbers}
 use Rattle.sd_core.specs.Sound.{AreCounted, AreNumbers, IsCore, IsHeaderOf, IsImageOf, IsJournal, IsStageOf, Parts}
+use Rattle.sd_core.specs.Visited.{IsClean}
 use Rattle.sd_core.proofs.ApplyLemmas.{same_phases}
+use Rattle.sd_core.proofs.SettledLemmas.{settled_now}
 use Rattle.sd_core.proofs.WorkLemmas.{at_work, own_order}
 
 -- ---- as the calls of a core tell it
@@ -108,18 +112,23 @@ dump_pends core since running image made opened sound are was making done opens 
 
 -- ---- the acknowledgement
 
-pub acked_journal : TrackedLaws → (core : Parts) (journal : Kept) → IsCore core → core.frozen ≡ Some core.numbers.begun
+pub acked_journal : TrackedLaws → PlainLaw → (core : Parts) (journal : Kept) → IsCore core → core.frozen ≡ Some core.numbers.begun
     → journal.items ≡ Told (Acked core.numbers.begun) ∷ core.journal.items → journal.first ≡ core.journal.first → journal.limit ≡ core.journal.limit
-    → IsJournal core.base journal core.memory None (Some core.numbers.begun)
-acked_journal laws core journal sound pends items first limit = record {
-  tracked = subst (λ all. IsTracked core.base all core.memory) (sym items)
-      (laws.told core.base core.journal.items core.memory (Acked core.numbers.begun) sound.journal_is.tracked (sym sound.journal_is.frozen_for ∙ pends) refl);
+    → IsSound core.memory → IsClean core.memory → IsJournal core.base journal core.memory None (Some core.numbers.begun)
+acked_journal laws law core journal sound pends items first limit whole clean = record {
+  tracked = tracked;
   first = first ∙ sound.journal_is.first;
   limit = limit ∙ sound.journal_is.limit;
   frozen_for = ap (λ b. if b then None else Some core.numbers.begun) (sym (eq-eqb core.numbers.begun core.numbers.begun refl))
       ∙ ap (unless_it_is core.numbers.begun) (sym pends ∙ sound.journal_is.frozen_for) ∙ ap (λ all. pending (entries_of all)) (sym items);
   newest_is = ap (λ all. last core.base (entries_of all)) (sym items);
+  settled = settled_now law core.base core.journal.items journal.items core.memory core.numbers.begun (Acked core.numbers.begun) items
+      (refl, sym sound.journal_is.frozen_for ∙ pends) tracked whole clean;
 }
+  where
+    tracked : IsTracked core.base journal.items core.memory
+    tracked = subst (λ all. IsTracked core.base all core.memory) (sym items)
+        (laws.told core.base core.journal.items core.memory (Acked core.numbers.begun) sound.journal_is.tracked (sym sound.journal_is.frozen_for ∙ pends) refl)
 
 pub acked_numbers : (base : Base) (items : Marked) (frozen newest : Option ℕ) (numbers : Numbers) → AreNumbers base items frozen newest numbers
     → AreNumbers base (Told (Acked numbers.begun) ∷ items) None (Some numbers.begun) numbers

@@ -1,5 +1,5 @@
 -- A core as it starts.
-use Rattle.std.proofs.Common.{◌≡◌, ℕ, true, zero, suc, ◌<◌, ◌≤◌, List, [], ◌∷◌, if◌then◌else◌, Option, Some, None, IfSome, slice_get, refl, sym, ◌∙◌, ap, subst, arith}
+use Rattle.std.proofs.Common.{◌≡◌, ℕ, true, zero, suc, ◌<◌, ◌≤◌, List, [], ◌∷◌, if◌then◌else◌, Option, Some, None, IfSome, slice_get, refl, sym, ◌∙◌, ap, subst, arith, inl}
 use Rattle.std.specs.List.{list_any}
 use Rattle.std.proofs.lemmas.Bool.{eq-eqb}
 use Rattle.sd_areas.specs.PlainMemory.{PlainMemory}
@@ -31,7 +31,7 @@ none_of lane one is = nobody_out lane one.id (id_there nothing_asked lane one is
     id_there (a ∷ asked) (suc at) request is = id_there asked at request is
 
 -- the base is the last pair of a journal without entries
-pub base_is_last : (number : Option ℕ) (base : PlainMemory) → IsLastPair (record { number = number; memory = base; origin = origins.Opened }) [] (shown_base number base)
+pub base_is_last : (number : Option ℕ) (base : PlainMemory) → IsLastPair (record { number = number; memory = base; origin = origins.Opened; folded = 0 }) [] (shown_base number base)
 base_is_last None base = refl
 base_is_last (Some number) base = (refl, ap (λ b. if b then Some base else None) (eq-eqb number number refl))
 
@@ -41,14 +41,15 @@ due_at_first : (base : Base) → base.origin ≡ origins.Opened → (space page 
 due_at_first base opened space page =
     ap (λ (o : Origin). if is_opened o then is_dirty [] space page else list_any (touches space page) (since (clears space page) [])) opened
 
-pub start_journal : (base : Base) (journal : Kept) (memory : Contents) (number : Option ℕ) → base.origin ≡ origins.Opened → IsBeginning memory → plain_of memory ≡ base.memory → base.number ≡ number
+pub start_journal : (base : Base) (journal : Kept) (memory : Contents) (number : Option ℕ) → base.origin ≡ origins.Opened → IsBeginning memory → plain_of memory ≡ base.memory → base.number ≡ number → base.folded ≡ 0
     → journal.items ≡ [] → journal.first ≡ 0 → journal.limit ≡ 1048576 → IsJournal base journal memory None number
-start_journal base journal memory number opened begins same own items first limit = record {
+start_journal base journal memory number opened begins same own none_folded items first limit = record {
   tracked = subst (λ all. IsTracked base all memory) (sym items) (record { marked = tt; memory = same; bits = record { soft_dirty = λ space page at there. (begins space page at there).0 ∙ sym (due_at_first base opened space page); writable = λ space page at there. (begins space page at there).1 }; swept = tt });
-  first = first;
+  first = first ∙ sym none_folded;
   limit = limit;
   frozen_for = ap (λ all. pending (entries_of all)) (sym items);
   newest_is = sym own ∙ ap (λ all. last base (entries_of all)) (sym items);
+  settled = inl (sym own);
 }
 
 pub start_numbers : (base : Base) (items : Marked) (number : Option ℕ) (numbers : Numbers) → base.number ≡ number → items ≡ [] → IfSome number (λ n. n ≡ numbers.begun)

@@ -30,10 +30,12 @@ use Rattle.sd_belief.specs.declared.standing.Standing.{Standing}
 use Rattle.sd_belief.specs.declared.standing.Standing.TheVariants.{Open}
 use Rattle.sd_belief.specs.Merges.{IsOtherImage, IsSpared, MakesOther}
 use Rattle.sd_core.specs.declared.numbers.Numbers.{Numbers}
+use Rattle.sd_core.specs.Visited.{HasSwept}
 use Rattle.sd_core.proofs.JournalLemmas.{same_journal}
 use Rattle.sd_core.proofs.MergeLemmas.{asks_apart, fills_same, merging_stays}
 use Rattle.sd_core.proofs.OutsLemmas.{dumper_outs, lane_at, no_write, on_slot, open_outs}
 use Rattle.sd_core.proofs.PreDumpLemmas.{TheyStay, pre_dumps_stay}
+use Rattle.sd_core.proofs.SettledLemmas.{settled_more}
 use Rattle.sd_core.specs.Images.{begun_as}
 use Rattle.sd_core.specs.LittleWork.{HasLittle, TakesLittle}
 use Rattle.sd_core.specs.Sound.{AreCounted, AreNumbers, AreOuts, HasWrites, IsAtWork, IsCore, IsImageOf, IsJournal, IsMerging, IsOpening, IsVisiting, IsVisitingIn, Parts, begun_images, due_serials, frozen_by, held_for}
@@ -85,6 +87,7 @@ pub record IsWorking (core : Parts) (running : Running) : Type 0 where
   pub work : IsAtWork core.base core.journal.items core.frozen core.standing core.phases core.places core.merger core.opener core.numbers running
   pub little : HasLittle core.base core.journal.items core.memory running
   pub merging : IfSome core.merger (IsMerging core.standing core.phases core.places core.opener core.numbers core.room (Some running))
+  pub swept_is : HasSwept core.swept core.frozen core.memory
 
 pub core_working : (core : Parts) (running : Running) → core.dumper.running ≡ Some running → IsWorking core running → IsCore core
 core_working core running is w = record {
@@ -96,6 +99,7 @@ core_working core running is w = record {
   numbers_are = w.numbers_are;
   counted = w.counted;
   rests = λ none. absurd (let no : None ≡ Some running = sym none ∙ is in cc);
+  swept_is = w.swept_is;
   work = subst (λ r. IfSome r (IsAtWork core.base core.journal.items core.frozen core.standing core.phases core.places core.merger core.opener core.numbers)) (sym is) w.work;
   little = subst (λ r. IfSome r (HasLittle core.base core.journal.items core.memory)) (sym is) w.little;
   merging = subst (λ r. IfSome core.merger (IsMerging core.standing core.phases core.places core.opener core.numbers core.room r)) (sym is) w.merging;
@@ -165,6 +169,7 @@ noted_journal base old new before after frozen newest mark items first limit tra
   limit = limit ∙ was.limit;
   frozen_for = was.frozen_for ∙ ap (λ all. pending (entries_of all)) (sym items);
   newest_is = was.newest_is ∙ ap (λ all. last base (entries_of all)) (sym items);
+  settled = settled_more base old.items new.items (Noted mark) newest items was.settled;
 }
 
 -- ---- the image in the making turns to another stage
@@ -204,6 +209,7 @@ pub record Turns (old new : Parts) (running : Running) (image next : Making) : T
   pub image_is : IsImageOf new.journal.items new.places new.numbers next
   pub still : is_frozen next ≡ is_frozen image
   pub little : TakesLittle new.base new.journal.items new.memory running.number next
+  pub swept_is : HasSwept new.swept new.frozen new.memory
 
 -- ---- requests that are out while the store is open
 
@@ -299,6 +305,7 @@ turned old new running image next sound t =
         image = t.image_is;
       };
       little = t.little;
+      swept_is = t.swept_is;
       merging = subst (λ r. IfSome new.merger (IsMerging new.standing new.phases new.places new.opener new.numbers new.room r)) t.is (merging_turned old new running image next sound (record {
         was = t.was;
         making = t.making;
@@ -325,6 +332,7 @@ grown_core core journal sound grown = record {
   numbers_are = subst (λ all. AreNumbers core.base all core.frozen core.newest core.numbers) (sym grown.items) sound.numbers_are;
   counted = sound.counted;
   rests = sound.rests;
+  swept_is = sound.swept_is;
   work = subst (λ all. IfSome core.dumper.running (IsAtWork core.base all core.frozen core.standing core.phases core.places core.merger core.opener core.numbers)) (sym grown.items) sound.work;
   little = subst (λ all. IfSome core.dumper.running (HasLittle core.base all core.memory)) (sym grown.items) sound.little;
   merging = sound.merging;
@@ -428,6 +436,7 @@ image_applied items places numbers image seat command reply is = record {
   held = is.held;
   stage = is.stage;
   visiting_in = by_stage image.stage is.visiting_in;
+  begun = is.begun;
 }
   where
     same : IsVisiting items image.order.serial image.pass → IsVisiting (Told (Applied seat command reply) ∷ items) image.order.serial image.pass

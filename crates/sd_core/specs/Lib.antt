@@ -11,4 +11,6 @@ pub mod Orders
 pub mod Refusals
 pub mod Sound
 pub mod Starts
+pub mod Trims
+pub mod Visited
 pub mod Working

@@ -21,6 +21,7 @@ use Rattle.sd_rounds.specs.Pass.{Place}
 use Rattle.sd_rounds.specs.Visits as visits
 use Rattle.sd_belief.specs.View.{CoreView, history_of}
 use Rattle.sd_core.specs.Images.{HasImage}
+use Rattle.sd_core.specs.Visited.{IsClean, is_closing}
 
 -- ---- the dump
 
@@ -82,6 +83,8 @@ pub record IsFrozenFor (base : Base) (items : Marked) (memory : Contents) (numbe
 pub record TakesLittle (base : Base) (items : Marked) (memory : Contents) (number : ℕ) (image : Making) : Type 0 where
   pub round : image.order.kind ≡ PreDump → TakesVisited (visits_of base items image.order.serial) image
   pub dump : is_frozen image ≡ true → IsFrozenFor base items memory number image
+  -- each page was visited by the time its table is written
+  pub closed : is_frozen image ≡ true → is_closing image.stage ≡ true → IsClean memory
 
 abbrev pub HasLittle : Base → Marked → Contents → Running → Type 0
 HasLittle base items memory running = IfSome running.image (TakesLittle base items memory running.number)

@@ -1,5 +1,5 @@
 -- What is so of every core.
-use Rattle.std.specs.Prelude.{◌≡◌, ◌≢◌, ◌⊎◌, ℕ, zero, suc, ◌+◌, ◌<◌, ◌≤◌, ◌^◌, false, if◌then◌else◌, List, ◌∷◌, length, Option, Some, None, IfSome, slice_get}
+use Rattle.std.specs.Prelude.{◌≡◌, ◌≢◌, ◌⊎◌, ℕ, zero, suc, ◌+◌, ◌<◌, ◌≤◌, ◌^◌, Bool, true, false, if◌then◌else◌, List, ◌∷◌, length, Option, Some, None, IfSome, slice_get}
 use Rattle.std.specs.List.{list_any}
 use Rattle.sd_chain.specs.Catalog.{IsHeld, Opened, Places, place_of}
 use Rattle.sd_gate.specs.declared.phase.Phase.{Phase}
@@ -38,6 +38,7 @@ use Rattle.sd_core.specs.declared.numbers.Numbers.{Numbers}
 use Rattle.sd_core.specs.Images.{AreApart, HasPreDumps, begun_as}
 use Rattle.sd_core.specs.LittleWork.{HasLittle}
 use Rattle.sd_core.specs.Merging.{IsMergedImage}
+use Rattle.sd_core.specs.Visited.{HasSettled, HasSwept, is_begun}
 
 -- how many entries are held: two for a checkpoint before its freeze, one while it is pending, and one for an opener with none pending
 abbrev pub held_for : Option ℕ → Option Running → Option Looking → ℕ
@@ -94,10 +95,11 @@ pub record AreOuts (standing : Standing) (outs : List (Option RequestId)) (phase
 -- its journal makes its memory, and tells what is pending and what is last
 pub record IsJournal (base : Base) (journal : Kept) (memory : Contents) (frozen newest : Option ℕ) : Type 0 where
   pub tracked : IsTracked base journal.items memory
-  pub first : journal.first ≡ 0
+  pub first : journal.first ≡ base.folded
   pub limit : journal.limit ≡ 1048576
   pub frozen_for : frozen ≡ pending (entries_of journal.items)
   pub newest_is : newest ≡ last base (entries_of journal.items)
+  pub settled : HasSettled base journal.items newest
 
 -- ---- numbers
 
@@ -148,6 +150,7 @@ pub record IsImageOf (items : Marked) (places : Places) (numbers : Numbers) (ima
   pub held : IsHeld places image.order.serial
   pub stage : IsStageOf image.order image.stage
   pub visiting_in : IsVisitingIn items image.order.serial image.pass image.stage
+  pub begun : is_begun items image.order.serial ≡ true
 
 -- its checkpoint is pending from the freeze on
 abbrev pub frozen_by : Running → Option ℕ
@@ -270,6 +273,8 @@ pub record Parts : Type 0 where
   pub room : ℕ
   pub opener : Option Looking
   pub numbers : Numbers
+  -- the pass of the pending checkpoint's dump is over
+  pub swept : Bool
 
 pub record IsCore (core : Parts) : Type 0 where
   pub journal_is : IsJournal core.base core.journal core.memory core.frozen core.newest
@@ -283,3 +288,4 @@ pub record IsCore (core : Parts) : Type 0 where
   pub work : IfSome core.dumper.running (IsAtWork core.base core.journal.items core.frozen core.standing core.phases core.places core.merger core.opener core.numbers)
   pub little : IfSome core.dumper.running (HasLittle core.base core.journal.items core.memory)
   pub merging : IfSome core.merger (IsMerging core.standing core.phases core.places core.opener core.numbers core.room core.dumper.running)
+  pub swept_is : HasSwept core.swept core.frozen core.memory

@@ -1,19 +1,26 @@
 -- A core as it starts, and what a worker's step is.
 use Rattle.std.specs.Prelude.{◌≡◌, ℕ, List, [], replicate, Option, Some, None}
+use Rattle.sd_areas.specs.Memory.{memory_of}
 use Rattle.sd_areas.specs.PlainMemory.{PlainMemory}
 use Rattle.sd_gate.specs.declared.phase.Phase.{Phase}
 use Rattle.sd_gate.specs.declared.worker.Worker.{Worker}
 use Rattle.sd_gate.specs.Requests.{Asked}
 use Rattle.sd_journal.specs.declared.origin.Origin.TheVariants as origins
 use Rattle.sd_journal.specs.Allowed.{Shown}
+use Rattle.sd_journal.specs.History.{Base}
 use Rattle.sd_pagetable.specs.Contents.{Contents}
 use Rattle.sd_rounds.specs.Dumper.{idle}
 use Rattle.sd_belief.specs.declared.standing.Standing.TheVariants.{NotOpen}
 use Rattle.sd_belief.specs.Calls.{HandsOut, MakesStep}
 use Rattle.sd_belief.specs.OpenerSteps.{nobody}
 use Rattle.sd_belief.specs.View.{CoreView}
+use Rattle.sd_core.specs.declared.base.CoreBase.{CoreBase}
 use Rattle.sd_core.specs.declared.taken.Taken.{Taken}
 use Rattle.sd_core.specs.declared.taken.Taken.TheVariants.{Step, Call}
+
+-- the base of a core
+abbrev pub base_of : CoreBase → Base
+base_of base = record { number = base.number; memory = memory_of base.memory; origin = base.origin; folded = base.folded }
 
 -- what the base's number and memory are to be shown as
 abbrev pub shown_base : Option ℕ → PlainMemory → Shown
@@ -22,7 +29,7 @@ shown_base (Some number) memory = Some (number, memory)
 
 -- a core that starts: its journal is empty, its store isn't open, and nothing is out
 pub record IsStart (number : Option ℕ) (saved : PlainMemory) (loaded : Contents) (found : List Phase) (core : CoreView) : Type 0 where
-  pub base : core.base ≡ record { number = number; memory = saved; origin = origins.Opened }
+  pub base : core.base ≡ record { number = number; memory = saved; origin = origins.Opened; folded = 0 }
   pub items : core.items ≡ []
   pub held : core.held ≡ 0
   pub limit : core.limit ≡ 1048576

@@ -102,6 +102,13 @@ pub(crate) fn is_committing(committing: bool, dumper: &Dumper, call: Call) -> bo
     committing || dumper.is_dumping() && opens_gate(call)
 }
 
+/// Whether the pass of the pending checkpoint's dump is over, once a table is written.
+pub(crate) fn is_swept(swept: bool, dumper: &Dumper) -> bool
+    ensures { result ≡ (swept || is_dumping dumper.now.running) }
+{
+    swept || dumper.is_dumping()
+}
+
 /// Lets go of the entries of a checkpoint that has ended, but of that of a pending one.
 pub(crate) fn release_unfrozen(journal: &mut Journal, pending: Option<u64>)
     requires { pending ≡ None → 2 ≤ journal.old.held }

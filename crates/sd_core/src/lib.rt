@@ -3,6 +3,7 @@
 #![tactic(auto)]
 
 mod answering;
+mod base;
 mod beginning;
 mod copies;
 mod dumping;
@@ -13,6 +14,7 @@ mod opening;
 mod start;
 mod state;
 mod taken;
+mod trimming;
 
 pub use lanes::LANES;
 pub use start::Start;

@@ -1,5 +1,5 @@
 //! The opener of a core: its steps, and what it leaves.
-ghost use Rattle.std.specs.Prelude.{◌≡◌, ◌↔◌, ◌<◌, ◌≤◌, ◌+◌, None, Some, Err, IfOk, IfSome, OnErr, length, map, true, IsTrue, List, ℕ};
+ghost use Rattle.std.specs.Prelude.{◌≡◌, ◌↔◌, ◌<◌, ◌≤◌, ◌+◌, None, Some, Err, IfOk, IfSome, OnErr, length, map, true, IsTrue, List, ℕ, if◌then◌else◌};
 ghost use Rattle.sd_chain.specs.Store.{IsCatalogOf};
 ghost use Rattle.sd_image.specs.Shows.{Shows};
 ghost use Rattle.sd_journal.specs.Allowed.{Shown, shown_number};
@@ -180,6 +180,13 @@ fn is_expected(found: Option<u64>, last: Option<u64>, pending: Option<u64>) -> b
         return true;
     }
     pending.is_some() && found == pending
+}
+
+/// The pending checkpoint, where its dump visited each page: only then can the store show it.
+pub(crate) fn swept_checkpoint(swept: bool, pending: Option<u64>) -> Option<u64>
+    ensures { result ≡ (if swept then pending else None) }
+{
+    if swept { pending } else { None }
 }
 
 /// What an opener read, and the checkpoint that the store shows. None where a serial stands twice, or the checkpoint is

@@ -32,18 +32,18 @@ ghost use Rattle.sd_gate.specs.Calls.{is_done};
 ghost use Rattle.sd_opener.specs.Looking.{IsDoneAsAsked};
 
 use crate::answering::answer;
+use crate::base::CoreBase;
 use crate::beginning::{first_of, first_parent, is_down, is_not_open, reserve_slots};
 use crate::copies::{copy_command, copy_reply};
 use crate::dumping::{
-    begin_checkpoint, begin_next, closes_for_sure, enter_catalog, is_committing, leave_catalog,
-    release_place, release_unfrozen, step_on,
+    begin_checkpoint, begin_next, closes_for_sure, enter_catalog, is_committing, is_swept,
+    leave_catalog, release_place, release_unfrozen, step_on,
 };
 use crate::lanes::{DUMPER, LANES, lane_of, page_lane, put_out};
 use crate::numbers::Numbers;
 use crate::opening::{follow_call, fresh_opener, give_up_all, left_of_opener, put_opener};
 use crate::start::Start;
 use crate::taken::Taken;
-use sd_areas::Snapshot;
 use sd_belief::{
     Standing, beginning_law, cancelling_law, core_steps, dumper_outcomes, dumper_steps, found_law,
     merger_outcomes, opener_steps,
@@ -51,10 +51,10 @@ use sd_belief::{
 use sd_chain::Catalog;
 use sd_command::{Command, Refusal, Reply};
 use sd_gate::{Outcome, Phase, RequestId, Worker};
-use sd_journal::{Entry, Journal, Mark, due_laws, tracked_laws};
+use sd_journal::{Entry, Journal, Mark, Origin, due_laws, tracked_laws};
 use sd_merge::Merger;
 use sd_opener::Opener;
-use sd_pagetable::{Memory, plain_law};
+use sd_pagetable::{Memory, clear_law, plain_law};
 use sd_rounds::{
     Dumper, ImageStep, NextImage, PageBuffers, Progress, left_law, little_law, rises_law,
 };
@@ -66,13 +66,13 @@ mod merges;
 mod openings;
 mod refusing;
 mod told;
+mod trims;
 
 /// The memory of a run, its journal, its workers, and what is known of its store.
 #[derive(Drop)]
 pub struct Core {
     alloc: Global,
-    number: Option<u64>,
-    base: Snapshot,
+    base: CoreBase,
     memory: Memory,
     journal: Journal,
     pending: Option<u64>,
@@ -89,22 +89,23 @@ pub struct Core {
     numbers: Numbers,
     grows: bool,
     committing: bool,
+    /// The pass of the pending checkpoint's dump is over: each page was visited since the freeze.
+    swept: bool,
 }
 
 impl Model for Core {
     ghost use Rattle.std.specs.Prelude.{None};
-    ghost use Rattle.sd_areas.specs.Memory.{memory_of};
     ghost use Rattle.std.specs.Coded.{codes};
-    ghost use Rattle.sd_journal.specs.declared.origin.Origin.TheVariants.{Opened};
     ghost use Rattle.sd_belief.specs.View.{CoreView, core_code};
     ghost use Rattle.sd_core.specs.Sound.{IsCore};
+    ghost use Rattle.sd_core.specs.Starts.{base_of};
 
     ghost Value = { CoreView };
 
     ghost coded = { core_code (Prim.hlevel (codes)) };
 
     ghost view = { λ c. record {
-      base = record { number = c.number; memory = memory_of c.base; origin = Opened };
+      base = base_of c.base;
       items = c.journal.items;
       held = c.journal.held;
       limit = c.journal.limit;
@@ -122,7 +123,7 @@ impl Model for Core {
     } };
 
     ghost invariant = { λ c. IsCore (record {
-      base = record { number = c.number; memory = memory_of c.base; origin = Opened };
+      base = base_of c.base;
       journal = c.journal;
       memory = c.memory;
       frozen = c.pending;
@@ -136,6 +137,7 @@ impl Model for Core {
       room = c.room;
       opener = c.opener;
       numbers = c.numbers;
+      swept = c.swept;
     }) };
 }
 
@@ -159,8 +161,12 @@ impl Core {
         } = start;
         Core {
             alloc,
-            number,
-            base,
+            base: CoreBase {
+                number,
+                memory: base,
+                origin: Origin::Opened,
+                folded: 0,
+            },
             memory,
             journal: Journal::new(alloc),
             pending: None,
@@ -176,6 +182,7 @@ impl Core {
             numbers: Numbers::start(number),
             grows: false,
             committing: false,
+            swept: false,
         }
     }
 
@@ -207,7 +214,7 @@ impl Core {
     /// `JournalFull` where no entry is free beside those held. `OutOfMemory` where a growth was refused. Nothing changes.
     pub fn apply(&mut self, seat: usize, command: &Command) -> Result<(u64, Reply), Refusal>
         ensures applies { Applies seat command.now result self.old self.new }
-        ensures number { IfOk result (λ told. told.0 ≡ length (history_of self.old)) }
+        ensures number { IfOk result (λ told. told.0 ≡ self.old.base.folded + length (history_of self.old)) }
         ensures full { result ≡ Err JournalFull
             ↔ length (history_of self.old) + self.old.held ≡ self.old.limit }
         ensures stands { self.new.standing ≡ self.old.standing }
@@ -397,6 +404,7 @@ impl Core {
         release_place(&mut self.catalog, self.dumper.serial());
         self.dumper.cancel();
         self.grows = false;
+        self.swept = false;
         Reply::Cancelled(number)
     }
 
@@ -560,6 +568,7 @@ impl Core {
         tracked_laws();
         due_laws();
         little_law();
+        clear_law();
         self.dumper.sound();
         let Ok(()) = self.journal.reserve_mark() else {
             return Taken::Step(Reply::Refused(Refusal::OutOfMemory));
@@ -585,6 +594,7 @@ impl Core {
             }
             ImageStep::TableCall(request) => {
                 self.journal.note(Mark::Table(serial));
+                self.swept = is_swept(self.swept, &self.dumper);
                 self.numbers.tick();
                 put_out(&mut self.outs, DUMPER, Some(request.id()));
                 self.committing = is_committing(self.committing, &self.dumper, request.id().call);
@@ -733,6 +743,7 @@ impl Core {
                 Reply::Worked
             }
             Progress::Dump(image) => {
+                self.memory.sound();
                 enter_catalog(&mut self.catalog, image);
                 let number = self.numbers.begun;
                 self.journal.append_held(Entry::Acked(number));
@@ -740,6 +751,7 @@ impl Core {
                 self.last = Some(number);
                 self.grows = true;
                 self.committing = false;
+                self.swept = false;
                 Reply::Acked(number)
             }
         }

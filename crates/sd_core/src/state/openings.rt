@@ -14,7 +14,8 @@ ghost use Rattle.sd_core.specs.Working.{Leaves, LeavesByOutcome, LeavesByStep};
 use super::Core;
 use crate::lanes::{OPENER, put_out};
 use crate::opening::{
-    follow_call, let_go, read_by, release_for_opening, step_opener, take_opener, teach,
+    follow_call, let_go, read_by, release_for_opening, step_opener, swept_checkpoint, take_opener,
+    teach,
 };
 use crate::taken::Taken;
 use sd_belief::{Standing, opener_steps, reopened_law};
@@ -22,6 +23,7 @@ use sd_command::{Refusal, Reply};
 use sd_gate::{Outcome, Worker};
 use sd_journal::{Entry, tracked_laws};
 use sd_opener::{Opened, OpenerStep};
+use sd_pagetable::plain_law;
 
 impl Core {
     /// Makes the opener's next step, or hands out its next device call.
@@ -54,7 +56,8 @@ impl Core {
     ///
     /// # Errors
     ///
-    /// `Damaged` where the store shows neither the last checkpoint nor the pending one.
+    /// `Damaged` where the store shows neither the last checkpoint nor the pending one, or shows that one though its
+    /// dump's table was never to be written.
     fn finish_opening(&mut self) -> Reply
         requires { IsAllRead self.old.opener }
         ensures takes { MakesStep self.old its.Opener result self.new }
@@ -64,10 +67,16 @@ impl Core {
         reopened_law();
         opener_steps();
         tracked_laws();
+        plain_law();
+        self.memory.sound();
         let Some(opener) = take_opener(&mut self.opener) else {
             unreachable!();
         };
-        let Some((opened, found)) = read_by(opener, self.last, self.pending) else {
+        let Some((opened, found)) = read_by(
+            opener,
+            self.last,
+            swept_checkpoint(self.swept, self.pending),
+        ) else {
             release_for_opening(&mut self.journal, self.pending);
             return Reply::Refused(Refusal::Damaged);
         };
@@ -82,6 +91,7 @@ impl Core {
         self.phases = phases;
         self.grows = false;
         self.committing = false;
+        self.swept = false;
         Reply::Reopened(found)
     }
 

@@ -25,24 +25,31 @@ impl Core {
         &self.memory
     }
 
-    /// The number of the checkpoint that the run started from, if it started from one.
+    /// The number of the checkpoint that the run goes on from, if it has one.
     pub fn base_number(&self) -> Option<u64>
         ensures { result ≡ self.now.base.number }
     {
-        self.number
+        self.base.number
     }
 
-    /// The memory that the run started from.
+    /// The memory that the run goes on from.
     pub fn base(&self) -> &Snapshot
         ensures { memory_of result.now ≡ self.now.base.memory }
     {
-        &self.base
+        &self.base.memory
     }
 
-    /// The journal of the run, whose entries are numbered from 0.
+    /// How many entries were ever folded into the base: the number of the first entry that is kept.
+    pub fn folded(&self) -> u64
+        ensures { result ≡ self.now.base.folded }
+    {
+        self.base.folded
+    }
+
+    /// The journal of the run: the entries that are kept.
     pub fn journal(&self) -> &Journal
         ensures items { result.now.items ≡ self.now.items }
-        ensures first { result.now.first ≡ 0 }
+        ensures first { result.now.first ≡ self.now.base.folded }
     {
         &self.journal
     }

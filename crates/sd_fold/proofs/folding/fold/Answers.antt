@@ -1,6 +1,5 @@
-use Rattle.std.proofs.Common.{◌≡◌, sym, ◌∙◌, subst, reverse}
+use Rattle.std.proofs.Common.{sym, ◌∙◌}
 use Rattle.sd_areas.specs.Memory.{memory_of}
-use Rattle.sd_journal.specs.History.{memory_after}
 use Rattle.sd_fold.proofs.folding.fold.Goals as goal
 
 pub replay-requires : goal.replay-requires

@@ -1,6 +1,4 @@
 use Rattle.std.proofs.Common.{◌≡◌, ◌∷◌, length, IfSome, sym, refl, ◌∙◌, ap, subst, arith}
-use Rattle.sd_areas.specs.Memory.{memory_of}
-use Rattle.sd_journal.specs.declared.origin.Origin.TheVariants as origins
 use Rattle.sd_journal.specs.History.{Base}
 use Rattle.sd_journal.specs.declared.entry.Entry.TheVariants.{Applied}
 use Rattle.sd_journal.specs.Marked.{Told, entries_of}
@@ -9,16 +7,19 @@ use Rattle.sd_core.specs.Answering.{IsAnswered}
 use Rattle.sd_core.specs.LittleWork.{HasLittle}
 use Rattle.sd_core.specs.Sound.{AreNumbers, IsAtWork, IsJournal}
 use Rattle.sd_belief.specs.CoreSteps.{IsCommanded}
+use Rattle.sd_core.specs.Starts.{base_of}
+use Rattle.sd_core.specs.Visited.{HasSwept}
 use Rattle.sd_core.proofs.ApplyLemmas.{bytes_pass, commanded, stays_applied, stays_same}
 use Rattle.sd_core.proofs.JournalLemmas.{applied_journal, same_journal}
 use Rattle.sd_core.proofs.LittleLemmas.{applied_little, still_while_frozen}
 use Rattle.sd_core.proofs.OpeningLemmas.{stays_seen}
+use Rattle.sd_core.proofs.SettledLemmas.{swept_answered}
 use Rattle.sd_core.proofs.WorkLemmas.{applied_numbers, applied_work}
 use Rattle.sd_core.proofs.state.Core.apply.Goals as goal
 
 pub invariant_of-self-in_default-copy_reply : goal.invariant_of-self-in_default-copy_reply
 invariant_of-self-in_default-copy_reply c =
-    let base : Base = record { number = c.self.inside.number; memory = memory_of c.self.inside.base; origin = origins.Opened } in
+    let base : Base = base_of c.self.inside.base in
     let bytes = c.in_default-copy_reply.ensures.bytes refl in
     let same = bytes_pass c.is_some.result c.in-Ok-copy_command.command c.in-Ok-answer.reply bytes.0 c.self.inside.memory c.answer.new.memory bytes.1 c.in-Ok-answer.ensures.answered in
     let before = c.reserve.ensures.grown.items in
@@ -34,6 +35,7 @@ invariant_of-self-in_default-copy_reply c =
       work = subst (λ all. IfSome c.self.inside.dumper.running (IsAtWork base all c.self.inside.pending c.self.inside.standing c.self.inside.phases.items c.self.inside.catalog c.self.inside.merger c.self.inside.opener c.self.inside.numbers)) (sym before) c.self.invariant.work;
       little = subst (λ m. IfSome c.self.inside.dumper.running (HasLittle base c.reserve.new.self.items m)) (sym same)
           (subst (λ all. IfSome c.self.inside.dumper.running (HasLittle base all c.self.inside.memory)) (sym before) c.self.invariant.little);
+      swept_is = subst (λ m. HasSwept c.self.inside.swept c.self.inside.pending m) (sym same) c.self.invariant.swept_is;
       merging = c.self.invariant.merging;
     }
 
@@ -49,7 +51,7 @@ returns-in_default-copy_reply-clause-keeps c =
 
 pub invariant_of-self-2 : goal.invariant_of-self-2
 invariant_of-self-2 c =
-    let base : Base = record { number = c.self.inside.number; memory = memory_of c.self.inside.base; origin = origins.Opened } in
+    let base : Base = base_of c.self.inside.base in
     let answered = subst (λ frozen. IsAnswered frozen c.in-Ok-copy_command.command c.in-Ok-answer.reply c.self.inside.memory c.answer.new.memory) c.is_some.ensures c.in-Ok-answer.ensures.answered in
     let before = same_journal base c.self.inside.journal c.reserve.new.self c.self.inside.memory c.self.inside.pending c.self.inside.last c.reserve.ensures.grown.first c.reserve.ensures.grown.items c.reserve.ensures.grown.limit c.self.invariant.journal_is in
     let items = c.append.ensures.items ∙ ap (λ all. Told (Applied c.args.seat c.in-Ok-copy_command.command c.in-Ok-answer.reply) ∷ all) c.reserve.ensures.grown.items in
@@ -69,6 +71,7 @@ invariant_of-self-2 c =
       little = subst (λ all. IfSome c.self.inside.dumper.running (HasLittle base all c.answer.new.memory)) (sym items)
           (applied_little base c.self.inside.journal.items c.self.inside.memory c.answer.new.memory c.self.inside.dumper.running c.args.seat c.in-Ok-copy_command.command c.in-Ok-answer.reply
           (still_while_frozen _ c.answer.new.memory c.in-Ok-copy_command.command c.in-Ok-answer.reply c.self.invariant answered) c.self.invariant.little);
+      swept_is = swept_answered c.self.inside.swept c.self.inside.pending c.in-Ok-copy_command.command c.in-Ok-answer.reply c.self.inside.memory c.answer.new.memory answered c.self.invariant.swept_is;
       merging = c.self.invariant.merging;
     }
 
@@ -77,8 +80,8 @@ returns-clause-number c =
     let count : length (entries_of c.reserve.new.self.items) ≡ length (history_of c.args.self.now) =
     ap (λ items. length (entries_of items)) c.reserve.ensures.grown.items ∙ ap (λ (v : CoreView). length (history_of v)) c.self.view_is in
     let number = c.next_number-number.ensures in
-    let first : c.reserve.new.self.first ≡ 0 = c.reserve.ensures.grown.first ∙ c.self.invariant.journal_is.first in
-    omega (arith, count, number, first)
+    let folded : c.reserve.new.self.first ≡ c.args.self.now.base.folded = c.reserve.ensures.grown.first ∙ c.self.invariant.journal_is.first ∙ ap (λ (v : CoreView). v.base.folded) c.self.view_is in
+    omega (arith, count, number, folded)
 
 pub returns-clause-keeps : goal.returns-clause-keeps
 returns-clause-keeps c =

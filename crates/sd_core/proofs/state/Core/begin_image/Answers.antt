@@ -1,7 +1,6 @@
 use Rattle.std.proofs.Common.{◌≡◌, ℕ, ◌+◌, ◌^◌, ◌<◌, ◌≤◌, ◌||◌, ◌&&◌, if◌then◌else◌, ◌∷◌, Some, None, IsSome, IfSome, length, slice_get, slice_index_or, slice_set, refl, sym, ◌∙◌, ap, subst, inl, arith}
 use Rattle.std.proofs.lemmas.Option.{same_Some, slice_get-get_or}
 use Rattle.std.proofs.Math.Bool.{and-false}
-use Rattle.sd_areas.specs.Memory.{memory_of}
 use Rattle.sd_chain.specs.Catalog.{Opened, place_of}
 use Rattle.sd_gate.specs.Phases.{state_of}
 use Rattle.sd_gate.specs.declared.request_id.RequestId.{RequestId}
@@ -9,7 +8,6 @@ use Rattle.sd_gate.specs.declared.worker.Worker.TheVariants as its
 use Rattle.sd_command.specs.declared.refusal.Refusal.TheVariants.{OutOfMemory}
 use Rattle.sd_command.specs.declared.reply.Reply.TheVariants as reply
 use Rattle.sd_journal.specs.declared.mark.Mark.TheVariants.{Start}
-use Rattle.sd_journal.specs.declared.origin.Origin.TheVariants as origins
 use Rattle.sd_journal.specs.History.{Base}
 use Rattle.sd_journal.specs.Legal.{IsAbove}
 use Rattle.sd_journal.specs.Marked.{entries_of}
@@ -25,6 +23,7 @@ use Rattle.sd_core.specs.declared.numbers.Numbers.{Numbers}
 use Rattle.sd_core.specs.Images.{begun_as}
 use Rattle.sd_core.specs.LittleWork.{TakesLittle}
 use Rattle.sd_core.specs.Sound.{AreNumbers, AreOuts, IsImageOf, IsJournal, IsMerging, begun_images, due_serials}
+use Rattle.sd_core.specs.Starts.{base_of}
 use Rattle.sd_core.proofs.ApplyLemmas.{stays_same}
 use Rattle.sd_core.proofs.ImageLemmas.{begun_asked}
 use Rattle.sd_core.proofs.LittleLemmas.{begun_little}
@@ -33,6 +32,7 @@ use Rattle.sd_core.proofs.MergeLemmas.{asks_apart, fills_same, merging_stays}
 use Rattle.sd_core.proofs.OpeningLemmas.{hands_seen, step_seen}
 use Rattle.sd_core.proofs.OutsLemmas.{dumper_outs, on_slot, open_outs}
 use Rattle.sd_core.proofs.PreDumpLemmas.{change_stays, pre_dumps_stay}
+use Rattle.sd_core.proofs.SettledLemmas.{swept_same}
 use Rattle.sd_core.proofs.StageLemmas.{asked_in}
 use Rattle.sd_core.proofs.StepLemmas.{begins_asking}
 use Rattle.sd_core.proofs.WorkLemmas.{asked_on, at_work, core_working, grown_core, held_at_work, held_same, free_beside, held_more, merger_out, noted_journal, open_more, rests_before, slot_within, sound_writes}
@@ -78,7 +78,7 @@ returns-in_default-hold-clause-takes c =
 
 pub invariant_of-self-2 : goal.invariant_of-self-2
 invariant_of-self-2 c =
-    let base : Base = record { number = c.self.inside.number; memory = memory_of c.self.inside.base; origin = origins.Opened } in
+    let base : Base = base_of c.self.inside.base in
     let old = c.self.inside.numbers in
     let serial = old.serial + 1 in
     let w = c.begin_next-request.ensures.begins in
@@ -117,6 +117,7 @@ invariant_of-self-2 c =
           (λ id other one two. asks_apart _ w.running id other core w.was (on_slot (record w.running { image = Some w.next }) id asked writes one) two));
       numbers_are = subst (λ all. AreNumbers base all c.self.inside.pending c.self.inside.last c.tick.new.self) (sym c.note.ensures.items)
           (start_numbers base c.reserve_mark.new.self.items c.self.inside.pending c.self.inside.last old c.tick.new.self begun checkpoint given now core.numbers_are);
+      swept_is = swept_same c.self.inside.swept c.self.inside.swept c.self.inside.pending c.self.inside.pending c.self.inside.memory c.begin_next-request.new.memory refl refl w.steps.2 core.swept_is;
       counted = subst (λ n. (s : ℕ) (o : Opened) → place_of c.hold.new.self s ≡ Some (Some o) → o.header.checkpoint ≤ n) (sym checkpoint)
           (counted_held old c.self.inside.catalog c.hold.new.self serial c.in-Ok-hold.ensures.held core.counted);
       work = record {
@@ -156,6 +157,7 @@ invariant_of-self-2 c =
             room = c.self.inside.room;
             opener = c.self.inside.opener;
             numbers = old;
+            swept = c.self.inside.swept;
           }) (record {
             base = base;
             journal = c.note.new.self;
@@ -171,6 +173,7 @@ invariant_of-self-2 c =
             room = c.self.inside.room;
             opener = c.self.inside.opener;
             numbers = c.tick.new.self;
+            swept = c.self.inside.swept;
           }) (record {
             merger_is = refl;
             room = refl;
@@ -190,7 +193,7 @@ invariant_of-self-2 c =
 
 pub returns-clause-takes : goal.returns-clause-takes
 returns-clause-takes c =
-    let base : Base = record { number = c.self.inside.number; memory = memory_of c.self.inside.base; origin = origins.Opened } in
+    let base : Base = base_of c.self.inside.base in
     let serial = c.self.inside.numbers.serial + 1 in
     let w = c.begin_next-request.ensures.begins in
     let order = order_of w.running serial c.state.result in

@@ -1,7 +1,5 @@
 use Rattle.std.proofs.Common.{◌≡◌, ◌∷◌, length, Some, None, refl, sym, ◌∙◌, ap, subst, inl, inr, arith}
 use Rattle.std.proofs.lemmas.List.{length-take-le}
-use Rattle.sd_areas.specs.Memory.{memory_of}
-use Rattle.sd_journal.specs.declared.origin.Origin.TheVariants as origins
 use Rattle.sd_journal.specs.History.{Base}
 use Rattle.sd_journal.specs.Legal.{IsAbove}
 use Rattle.sd_journal.specs.Marked.{entries_of}
@@ -12,6 +10,7 @@ use Rattle.sd_belief.specs.View.{CoreView}
 use Rattle.sd_core.specs.Beginning.{AreReserved, IsFirstParent}
 use Rattle.sd_core.specs.declared.numbers.Numbers.{Numbers}
 use Rattle.sd_core.specs.Sound.{AreNumbers, AreOuts, held_for}
+use Rattle.sd_core.specs.Starts.{base_of}
 use Rattle.sd_core.proofs.ApplyLemmas.{same_phases}
 use Rattle.sd_core.proofs.BeginLemmas.{MayBegin, begun_counted, begun_numbers, may_begin, none_opens}
 use Rattle.sd_core.proofs.BegunLemmas.{begun_beside, few_due}
@@ -26,7 +25,7 @@ use Rattle.sd_core.proofs.state.Core.begin_in_slots.Goals as goal
 
 pub invariant_of-self-2 : goal.invariant_of-self-2
 invariant_of-self-2 c =
-    let base : Base = record { number = c.self.inside.number; memory = memory_of c.self.inside.base; origin = origins.Opened } in
+    let base : Base = base_of c.self.inside.base in
     let may = subst (λ v. MayBegin v c.args.rounds) (sym c.self.view_is) (may_begin c.args.self.now c.args.rounds c.requires) in
     let inside = c.self.invariant in
     let closed = none_opens c.self.inside.opener c.self.inside.standing c.self.inside.phases.items inside.opening may.stands in
@@ -67,6 +66,7 @@ invariant_of-self-2 c =
           (subst (λ f. AreNumbers base c.self.inside.journal.items f c.self.inside.last c.begin-number.new.self) (sym none)
           (begun_numbers base c.self.inside.journal.items c.self.inside.last c.self.inside.numbers c.begin-number.new.self begun checkpoint given serial
           (subst (λ f. AreNumbers base c.self.inside.journal.items f c.self.inside.last c.self.inside.numbers) none inside.numbers_are)));
+      swept_is = inside.swept_is;
       counted = begun_counted c.self.inside.catalog c.self.inside.numbers c.begin-number.new.self checkpoint inside.counted;
       work = record {
         stands = may.stands;

@@ -1,11 +1,9 @@
 use Rattle.std.proofs.Common.{◌≡◌, ℕ, ◌+◌, ◌<◌, ◌≤◌, length, Some, None, IsSome, slice_index_or, slice_set, refl, sym, ◌∙◌, ap, subst, arith}
 use Rattle.std.proofs.lemmas.Option.{same_Some, slice_get-get_or}
-use Rattle.sd_areas.specs.Memory.{memory_of}
 use Rattle.sd_chain.specs.Catalog.{Opened, place_of}
 use Rattle.sd_gate.specs.declared.request_id.RequestId.{RequestId}
 use Rattle.sd_gate.specs.declared.worker.Worker.TheVariants as its
 use Rattle.sd_gate.specs.Phases.{state_of}
-use Rattle.sd_journal.specs.declared.origin.Origin.TheVariants as origins
 use Rattle.sd_journal.specs.History.{Base}
 use Rattle.sd_merge.specs.declared.copy_order.CopyOrder.{CopyOrder}
 use Rattle.sd_merge.specs.Copying.{begun_copy}
@@ -16,6 +14,7 @@ use Rattle.sd_belief.specs.Calls.{IsFree}
 use Rattle.sd_belief.specs.View.{CoreView}
 use Rattle.sd_core.specs.declared.numbers.Numbers.{Numbers}
 use Rattle.sd_core.specs.Sound.{HasHeader, IsDoing, due_serials}
+use Rattle.sd_core.specs.Starts.{base_of}
 use Rattle.sd_core.proofs.BesideLemmas.{core_asks, due_rests, free_asked, merger_works, other_above}
 use Rattle.sd_core.proofs.MarkLemmas.{counted_held, held_place}
 use Rattle.sd_core.proofs.MergerSteps.{asks_header, asks_own, begun_sound}
@@ -79,7 +78,7 @@ invariant_of-self-2 c =
 
 pub returns-clause-takes : goal.returns-clause-takes
 returns-clause-takes c =
-    let base : Base = record { number = c.self.inside.number; memory = memory_of c.self.inside.base; origin = origins.Opened } in
+    let base : Base = base_of c.self.inside.base in
     let serial = c.self.inside.numbers.serial + 1 in
     let request = c.begin_copy-request.result in
     let w = c.begin_copy-request.ensures.begins in

@@ -1,22 +1,22 @@
-use Rattle.std.proofs.Common.{◌≡◌, None, IfSome, refl, sym, ◌∙◌, ap, subst, arith}
-use Rattle.sd_areas.specs.Memory.{memory_of}
-use Rattle.sd_journal.specs.declared.origin.Origin.TheVariants as origins
+use Rattle.std.proofs.Common.{◌≡◌, false, None, IfSome, refl, sym, ◌∙◌, ap, subst, arith}
 use Rattle.sd_journal.specs.History.{Base}
 use Rattle.sd_journal.specs.Kept.{Kept}
 use Rattle.sd_rounds.specs.Dumper.{Dumping, serial_of}
 use Rattle.sd_core.specs.Dumping.{ReleasesPlace}
 use Rattle.sd_core.specs.LittleWork.{HasLittle}
 use Rattle.sd_core.specs.Sound.{AreNumbers, IsAtWork, held_for}
+use Rattle.sd_core.specs.Starts.{base_of}
 use Rattle.sd_core.proofs.ApplyLemmas.{same_phases}
 use Rattle.sd_core.proofs.CancelLemmas.{cancelled_journal, cancelled_numbers, counted_released, images_same, may_cancel, merges_on, rests_cancelled, written_of}
 use Rattle.sd_core.proofs.JournalLemmas.{same_journal}
 use Rattle.sd_core.proofs.OpeningLemmas.{stays_seen}
 use Rattle.sd_core.proofs.RefusalLemmas.{MayCancel, may_cancel_now}
+use Rattle.sd_core.proofs.SettledLemmas.{not_swept}
 use Rattle.sd_core.proofs.state.Core.cancel_it.Goals as goal
 
 pub invariant_of-self : goal.invariant_of-self
 invariant_of-self c =
-    let base : Base = record { number = c.self.inside.number; memory = memory_of c.self.inside.base; origin = origins.Opened } in
+    let base : Base = base_of c.self.inside.base in
     let may = subst MayCancel (sym c.self.view_is) (may_cancel_now c.args.self.now c.requires) in
     let gone = ap (λ (d : Dumping). d.running) c.cancel.ensures in
     let released = subst (λ own. ReleasesPlace own c.self.inside.catalog c.release_place.new.catalog) c.serial.ensures c.release_place.ensures in
@@ -38,6 +38,7 @@ invariant_of-self c =
       rests = λ none stands. refl;
       work = subst (λ r. IfSome r (IsAtWork base c.release.new.self.items None c.self.inside.standing c.self.inside.phases.items c.release_place.new.catalog c.self.inside.merger c.self.inside.opener c.self.inside.numbers)) (sym gone) tt;
       little = subst (λ r. IfSome r (HasLittle base c.release.new.self.items c.self.inside.memory)) (sym gone) tt;
+      swept_is = not_swept false None c.self.inside.memory refl;
       merging = merges_on _ c.release_place.new.catalog c.cancel.new.self c.self.invariant gone released;
     }
 

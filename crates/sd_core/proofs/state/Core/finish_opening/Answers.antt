@@ -1,41 +1,44 @@
-use Rattle.std.proofs.Common.{◌≡◌, length, map, take, Some, None, IfSome, refl, sym, ◌∙◌, ap, subst, arith}
+use Rattle.std.proofs.Common.{◌≡◌, false, length, map, take, Some, None, IfSome, refl, sym, ◌∙◌, ap, subst, arith}
 use Rattle.std.proofs.Math.Seq.{take-length}
 use Rattle.std.proofs.lemmas.Option.{same_Some}
-use Rattle.sd_areas.specs.Memory.{memory_of}
 use Rattle.sd_gate.specs.declared.worker.Worker.TheVariants as its
 use Rattle.sd_gate.specs.Laws.{found_phase}
 use Rattle.sd_command.specs.declared.refusal.Refusal.TheVariants.{Damaged as DamagedStore}
 use Rattle.sd_command.specs.declared.reply.Reply.TheVariants as reply
-use Rattle.sd_journal.specs.declared.origin.Origin.TheVariants as origins
 use Rattle.sd_journal.specs.History.{Base}
 use Rattle.sd_opener.specs.Looking.{Looking, out_of}
 use Rattle.sd_belief.specs.declared.standing.Standing.TheVariants.{Open}
 use Rattle.sd_belief.specs.View.{CoreView}
+use Rattle.sd_core.specs.Opening.{IsExpected}
 use Rattle.sd_core.specs.Sound.{AreNumbers, IsOpening, held_for, out_of_opener}
+use Rattle.sd_core.specs.Starts.{base_of}
 use Rattle.sd_core.proofs.CoreLemmas.{held_idle, held_opening, nobody_is, none_out}
-use Rattle.sd_core.proofs.JournalLemmas.{found_used, reopened_journal, reopened_numbers}
+use Rattle.sd_core.proofs.JournalLemmas.{expected_may, found_used, reopened_journal, reopened_numbers}
 use Rattle.sd_core.proofs.MergeLemmas.{no_merge, none_merges}
 use Rattle.sd_core.proofs.OpeningLemmas.{ends_refused, starts_anew, step_seen}
 use Rattle.sd_core.proofs.WorkLemmas.{none_closed, none_works}
+use Rattle.sd_core.proofs.SettledLemmas.{not_swept}
 use Rattle.sd_core.proofs.state.Core.finish_opening.Goals as goal
 
 pub invariant_of-self-2 : goal.invariant_of-self-2
 invariant_of-self-2 c =
-    let base : Base = record { number = c.self.inside.number; memory = memory_of c.self.inside.base; origin = origins.Opened } in
+    let base : Base = base_of c.self.inside.base in
     let o = c.in-Some.opener in
     let is : c.self.inside.opener ≡ Some o = sym c.take_opener.ensures.taken ∙ c.in-Some.is in
     let same : c.requires.looking ≡ o = same_Some c.requires.looking o (sym c.requires.is ∙ sym (ap (λ (v : CoreView). v.opener) c.self.view_is) ∙ is) in
     let rests : out_of_opener c.self.inside.opener ≡ None = ap out_of_opener is ∙ subst (λ (l : Looking). out_of l.stage ≡ None) same c.requires.rests in
     let opening = subst (λ x. IfSome x (IsOpening c.self.inside.standing c.self.inside.phases.items)) is c.self.invariant.opening in
     let none = none_closed _ c.self.invariant opening.closed in
-    let expected = c.in-Some-read_by.ensures.expected in
+    let expected = expected_may c.self.inside.pending c.self.inside.last c.in-Some-read_by.found c.self.inside.swept
+    (subst (λ p. IsExpected c.self.inside.last p c.in-Some-read_by.found) c.swept_checkpoint.ensures c.in-Some-read_by.ensures.expected) in
     let used = found_used c.self.inside.pending c.self.inside.last c.in-Some-read_by.found c.self.inside.numbers.begun expected c.self.invariant.numbers_are.newest_used c.self.invariant.numbers_are.frozen_used in
     let held : c.self.inside.journal.held ≡ 1 = c.self.invariant.held ∙ ap (held_for c.self.inside.pending c.self.inside.dumper.running) is ∙ held_opening c.self.inside.pending c.self.inside.dumper.running o none in
     let less = c.append_held.ensures.held in
     let zero_is : c.append_held.new.self.held ≡ 0 = omega (arith, held, less) in
     record {
-      journal_is = (reopened_journal c.tracked_laws.ensures base c.self.inside.journal c.append_held.new.self c.self.inside.memory c.self.inside.pending c.self.inside.last c.in-Some-read_by.found
-          c.append_held.ensures.items c.append_held.ensures.numbers.first c.append_held.ensures.numbers.limit c.in-Some-read_by.ensures.expected c.self.invariant.journal_is).0;
+      journal_is = (reopened_journal c.tracked_laws.ensures c.plain_law.ensures base c.self.inside.journal c.append_held.new.self c.self.inside.memory c.self.inside.pending c.self.inside.last c.in-Some-read_by.found c.self.inside.swept
+          c.append_held.ensures.items c.append_held.ensures.numbers.first c.append_held.ensures.numbers.limit expected c.sound.ensures c.self.invariant.swept_is c.self.invariant.journal_is).0;
+      swept_is = not_swept false None c.self.inside.memory refl;
       held = zero_is ∙ sym (held_idle c.self.inside.dumper.running none) ∙ ap (held_for None c.self.inside.dumper.running) (sym c.take_opener.ensures.left);
       outs_are = none_out Open c.self.inside.outs c.in-Some-read_by.opened.phases.items c.self.inside.dumper.running c.self.inside.merger c.take_opener.new.opener none
           (none_merges _ c.self.invariant opening.closed) (ap out_of_opener c.take_opener.ensures.left)
@@ -66,7 +69,7 @@ returns-in_default-read_by-clause-takes c =
 
 pub returns-clause-takes : goal.returns-clause-takes
 returns-clause-takes c =
-    let base : Base = record { number = c.self.inside.number; memory = memory_of c.self.inside.base; origin = origins.Opened } in
+    let base : Base = base_of c.self.inside.base in
     let o = c.in-Some.opener in
     let is : c.self.inside.opener ≡ Some o = sym c.take_opener.ensures.taken ∙ c.in-Some.is in
     let same : c.requires.looking ≡ o = same_Some c.requires.looking o (sym c.requires.is ∙ sym (ap (λ (v : CoreView). v.opener) c.self.view_is) ∙ is) in
@@ -76,8 +79,10 @@ returns-clause-takes c =
     let all : length o.told ≡ o.slots = subst (λ (l : Looking). length l.told ≡ l.slots) same c.requires.all in
     let slots : o.slots ≡ length c.self.inside.phases.items = (subst (λ x. IfSome x (IsOpening c.self.inside.standing c.self.inside.phases.items)) is c.self.invariant.opening).slots in
     let opens = c.in-Some-read_by.ensures in
-    let legal = reopened_journal c.tracked_laws.ensures base c.self.inside.journal c.append_held.new.self c.self.inside.memory c.self.inside.pending c.self.inside.last c.in-Some-read_by.found
-    c.append_held.ensures.items c.append_held.ensures.numbers.first c.append_held.ensures.numbers.limit opens.expected c.self.invariant.journal_is in
+    let expected = expected_may c.self.inside.pending c.self.inside.last c.in-Some-read_by.found c.self.inside.swept
+    (subst (λ p. IsExpected c.self.inside.last p c.in-Some-read_by.found) c.swept_checkpoint.ensures opens.expected) in
+    let legal = reopened_journal c.tracked_laws.ensures c.plain_law.ensures base c.self.inside.journal c.append_held.new.self c.self.inside.memory c.self.inside.pending c.self.inside.last c.in-Some-read_by.found c.self.inside.swept
+    c.append_held.ensures.items c.append_held.ensures.numbers.first c.append_held.ensures.numbers.limit expected c.sound.ensures c.self.invariant.swept_is c.self.invariant.journal_is in
     step_seen its.Opener (reply.Reopened c.in-Some-read_by.found) _ _ _ c.self.view_is
     (starts_anew c.reopened_law.ensures c.opener_steps.ensures _ _ o c.in-Some-read_by.found (record {
       base = refl;
@@ -92,7 +97,7 @@ returns-clause-takes c =
       count = ap length opens.told ∙ all ∙ slots;
     }) (λ files sees count. opens.told ∙ sees.told ∙ ap (λ k. map found_phase (take k files)) count ∙ ap (map found_phase) (take-length files)) opens.number (λ files sees count shown shows. record {
       catalog = (opens.read files sees count shown shows).catalog;
-      order = c.sound.ensures.order;
+      order = c.sound-2.ensures.order;
       serials = c.found.ensures.serials;
       grows = refl;
       idle = none;

@@ -1,11 +1,9 @@
 use Rattle.std.proofs.Common.{◌≡◌, ◌+◌, ◌<◌, ◌≤◌, ◌^◌, if◌then◌else◌, ◌||◌, ◌&&◌, length, Some, None, IfSome, slice_get, slice_set, ◌∷◌, refl, sym, ◌∙◌, ap, subst, arith}
-use Rattle.sd_areas.specs.Memory.{memory_of}
 use Rattle.std.proofs.lemmas.Option.{slice_get_within}
 use Rattle.sd_gate.specs.declared.request_id.RequestId.{RequestId}
 use Rattle.sd_gate.specs.declared.worker.Worker.TheVariants as its
 use Rattle.sd_command.specs.declared.reply.Reply.TheVariants as reply
 use Rattle.sd_journal.specs.declared.entry.Entry.TheVariants.{Freeze}
-use Rattle.sd_journal.specs.declared.origin.Origin.TheVariants as origins
 use Rattle.sd_journal.specs.History.{Base}
 use Rattle.sd_journal.specs.Legal.{IsLegal}
 use Rattle.sd_journal.specs.declared.mark.Mark.TheVariants.{Table, Visit}
@@ -22,6 +20,8 @@ use Rattle.sd_core.specs.Dumping.{StepsOn}
 use Rattle.sd_core.specs.Images.{begun_as}
 use Rattle.sd_core.specs.LittleWork.{TakesLittle}
 use Rattle.sd_core.specs.Sound.{AreNumbers, IsImageOf, IsJournal, IsMerging, begun_images, due_serials, held_for}
+use Rattle.sd_core.specs.Starts.{base_of}
+use Rattle.sd_core.specs.Visited.{HasSwept}
 use Rattle.sd_core.proofs.ImageLemmas.{image_asked, image_frozen, image_page, image_table, image_visited, image_copied}
 use Rattle.sd_core.proofs.LaneLemmas.{lane_free, none_written, outs_asked, outs_kept, outs_resting, outs_writing, page_apart, page_beside}
 use Rattle.sd_core.proofs.LittleLemmas.{freeze_little, little_of, step_little, visit_more}
@@ -29,12 +29,14 @@ use Rattle.sd_core.proofs.MarkLemmas.{before_freeze, freeze_journal, freeze_numb
 use Rattle.sd_core.proofs.OpeningLemmas.{hands_seen, step_seen}
 use Rattle.sd_core.proofs.PreDumpLemmas.{same_stay}
 use Rattle.sd_core.proofs.WorkLemmas.{SameNumbers, asked_on, at_work, core_working, counted_same, free_beside, grown_core, held_at_work, image_of_work, image_within, its_serial, merging_turned, numbers_noted, numbers_same, out_at_work, own_order, own_slot, same_numbers, same_places, sound_writes, turned}
+use Rattle.sd_core.proofs.SettledLemmas.{clean_cleared, none_swept, swept_same}
 use Rattle.sd_core.proofs.StepLemmas.{freezes_it, hands_asked, hands_page, works_on}
+use Rattle.sd_core.proofs.SweptLemmas.{table_swept}
 use Rattle.sd_core.proofs.state.Core.go_on_image.Goals as goal
 
 pub invariant_of-self-in-Copied : goal.invariant_of-self-in-Copied
 invariant_of-self-in-Copied c =
-    let base : Base = record { number = c.self.inside.number; memory = memory_of c.self.inside.base; origin = origins.Opened } in
+    let base : Base = base_of c.self.inside.base in
     let w = subst (λ step. StepsOn c.self.inside.numbers.ticket c.self.inside.dumper c.self.inside.memory step c.step_on.new.dumper c.step_on.new.memory) c.in-Copied.is c.in-Ok-step_on.ensures.steps in
     let core = grown_core _ c.reserve_mark.new.self c.self.invariant c.in-Ok.ensures.grown in
     let rests = ap (λ v. slice_get v.outs 0) c.self.view_is ∙ c.requires.rests in
@@ -60,6 +62,7 @@ invariant_of-self-in-Copied c =
       held = refl;
       journal_is = subst (λ m. IsJournal base c.reserve_mark.new.self m c.self.inside.pending c.self.inside.last) (sym w.steps.1) core.journal_is;
       numbers_are = core.numbers_are;
+      swept_is = swept_same c.self.inside.swept c.self.inside.swept c.self.inside.pending c.self.inside.pending c.self.inside.memory c.step_on.new.memory refl refl w.steps.1 core.swept_is;
       counted = core.counted;
       outs = outs_kept w.running w.image w.next (merger.out_of_merge c.self.inside.merger) c.self.inside.outs out.1 w.making (ap (λ (m : Making). m.writes) w.steps.0.passes.1) t.out_is;
       whose = subst (λ o. IfSome o (λ i. i.worker ≡ its.Dumper)) (sym t.out_is) tt;
@@ -74,7 +77,7 @@ invariant_of-self-in-Copied c =
 
 pub invariant_of-self-in-Visited : goal.invariant_of-self-in-Visited
 invariant_of-self-in-Visited c =
-    let base : Base = record { number = c.self.inside.number; memory = memory_of c.self.inside.base; origin = origins.Opened } in
+    let base : Base = base_of c.self.inside.base in
     let w = subst (λ step. StepsOn c.self.inside.numbers.ticket c.self.inside.dumper c.self.inside.memory step c.step_on.new.dumper c.step_on.new.memory) c.in-Visited.is c.in-Ok-step_on.ensures.steps in
     let core = grown_core _ c.reserve_mark.new.self c.self.invariant c.in-Ok.ensures.grown in
     let rests = ap (λ v. slice_get v.outs 0) c.self.view_is ∙ c.requires.rests in
@@ -104,6 +107,7 @@ invariant_of-self-in-Visited c =
       journal_is = visit_journal c.tracked_laws.ensures _ w.running w.image w.next _ _ c.note-in-Visited.new.self core w.was w.making w.steps items c.note-in-Visited.ensures.numbers.first c.note-in-Visited.ensures.numbers.limit;
       numbers_are = subst (λ all. AreNumbers base all c.self.inside.pending c.self.inside.last c.self.inside.numbers) (sym items)
           (numbers_noted base c.reserve_mark.new.self.items c.self.inside.pending c.self.inside.last c.self.inside.numbers (Visit w.image.order.serial c.in-Visited.visit.space c.in-Visited.visit.page) (omega (arith, given)) core.numbers_are);
+      swept_is = λ is. ((core.swept_is is).0, clean_cleared c.clear_law.ensures c.self.inside.memory c.step_on.new.memory c.in-Visited.visit.space c.in-Visited.visit.page w.steps.tests.cleared (core.swept_is is).1);
       counted = core.counted;
       outs = outs_kept w.running w.image w.next (merger.out_of_merge c.self.inside.merger) c.self.inside.outs out.1 w.making (ap (λ (m : Making). m.writes) w.steps.passes.1) t.out_is;
       whose = subst (λ o. IfSome o (λ i. i.worker ≡ its.Dumper)) (sym t.out_is) tt;
@@ -119,7 +123,7 @@ invariant_of-self-in-Visited c =
 
 pub invariant_of-self-in-Call : goal.invariant_of-self-in-Call
 invariant_of-self-in-Call c =
-    let base : Base = record { number = c.self.inside.number; memory = memory_of c.self.inside.base; origin = origins.Opened } in
+    let base : Base = base_of c.self.inside.base in
     let w = subst (λ step. StepsOn c.self.inside.numbers.ticket c.self.inside.dumper c.self.inside.memory step c.step_on.new.dumper c.step_on.new.memory) c.in-Call.is c.in-Ok-step_on.ensures.steps in
     let core = grown_core _ c.reserve_mark.new.self c.self.invariant c.in-Ok.ensures.grown in
     let rests = ap (λ v. slice_get v.outs 0) c.self.view_is ∙ c.requires.rests in
@@ -146,6 +150,7 @@ invariant_of-self-in-Call c =
       held = refl;
       journal_is = subst (λ m. IsJournal base c.reserve_mark.new.self m c.self.inside.pending c.self.inside.last) (sym w.steps.2) core.journal_is;
       numbers_are = numbers_same base c.reserve_mark.new.self.items c.self.inside.pending c.self.inside.last c.self.inside.numbers c.tick-in-Call.new.self numbers core.numbers_are;
+      swept_is = swept_same c.self.inside.swept c.self.inside.swept c.self.inside.pending c.self.inside.pending c.self.inside.memory c.step_on.new.memory refl refl w.steps.2 core.swept_is;
       counted = counted_same c.self.inside.catalog c.self.inside.numbers c.tick-in-Call.new.self numbers core.counted;
       outs = c.put_out-in-Call.ensures ∙ ap (λ id. slice_set c.self.inside.outs 0 (Some id)) c.id-in-Call.ensures
           ∙ outs_asked w.running w.image w.next (merger.out_of_merge c.self.inside.merger) c.self.inside.outs out.1 w.making c.in-Call.request.id (ap (λ (m : Making). m.writes) w.steps.0.is) t.out_is;
@@ -161,7 +166,7 @@ invariant_of-self-in-Call c =
 
 pub invariant_of-self-in-PageCall : goal.invariant_of-self-in-PageCall
 invariant_of-self-in-PageCall c =
-    let base : Base = record { number = c.self.inside.number; memory = memory_of c.self.inside.base; origin = origins.Opened } in
+    let base : Base = base_of c.self.inside.base in
     let w = subst (λ step. StepsOn c.self.inside.numbers.ticket c.self.inside.dumper c.self.inside.memory step c.step_on.new.dumper c.step_on.new.memory) c.in-PageCall.is c.in-Ok-step_on.ensures.steps in
     let core = grown_core _ c.reserve_mark.new.self c.self.invariant c.in-Ok.ensures.grown in
     let rests = ap (λ v. slice_get v.outs 0) c.self.view_is ∙ c.requires.rests in
@@ -188,6 +193,7 @@ invariant_of-self-in-PageCall c =
       held = refl;
       journal_is = subst (λ m. IsJournal base c.reserve_mark.new.self m c.self.inside.pending c.self.inside.last) (sym w.steps.2) core.journal_is;
       numbers_are = numbers_same base c.reserve_mark.new.self.items c.self.inside.pending c.self.inside.last c.self.inside.numbers c.tick.new.self numbers core.numbers_are;
+      swept_is = swept_same c.self.inside.swept c.self.inside.swept c.self.inside.pending c.self.inside.pending c.self.inside.memory c.step_on.new.memory refl refl w.steps.2 core.swept_is;
       counted = counted_same c.self.inside.catalog c.self.inside.numbers c.tick.new.self numbers core.counted;
       outs = c.put_out.ensures ∙ ap (λ k. slice_set c.self.inside.outs k (Some c.id.result)) c.page_lane.ensures.lane ∙ ap (λ id. slice_set c.self.inside.outs (page_lane c.in-PageCall.lane) (Some id)) c.id.ensures
           ∙ outs_writing w.running w.image w.next (merger.out_of_merge c.self.inside.merger) c.self.inside.outs out.1 w.making c.in-PageCall.lane c.in-PageCall.request.id w.steps.0.writes t.out_is;
@@ -203,7 +209,7 @@ invariant_of-self-in-PageCall c =
 
 pub invariant_of-self-in-TableCall : goal.invariant_of-self-in-TableCall
 invariant_of-self-in-TableCall c =
-    let base : Base = record { number = c.self.inside.number; memory = memory_of c.self.inside.base; origin = origins.Opened } in
+    let base : Base = base_of c.self.inside.base in
     let w = subst (λ step. StepsOn c.self.inside.numbers.ticket c.self.inside.dumper c.self.inside.memory step c.step_on.new.dumper c.step_on.new.memory) c.in-TableCall.is c.in-Ok-step_on.ensures.steps in
     let core = grown_core _ c.reserve_mark.new.self c.self.invariant c.in-Ok.ensures.grown in
     let rests = ap (λ v. slice_get v.outs 0) c.self.view_is ∙ c.requires.rests in
@@ -236,6 +242,10 @@ invariant_of-self-in-TableCall c =
       numbers_are = subst (λ all. AreNumbers base all c.self.inside.pending c.self.inside.last c.tick-in-TableCall.new.self) (sym items)
           (numbers_same base _ c.self.inside.pending c.self.inside.last c.self.inside.numbers c.tick-in-TableCall.new.self numbers
           (numbers_noted base c.reserve_mark.new.self.items c.self.inside.pending c.self.inside.last c.self.inside.numbers (Table w.image.order.serial) (omega (arith, given)) core.numbers_are));
+      swept_is = subst (λ now. HasSwept now c.self.inside.pending c.step_on.new.memory) (sym (c.is_swept-self-inside.ensures ∙ ap (λ r. c.self.inside.swept || is_dumping r) w.is))
+          (table_swept _ w.running w.image w.next c.in-TableCall.request c.step_on.new.memory _ core w.was w.making (own_order c.self.inside.dumper.since_freeze _ w.running w.image c.sound.ensures.running w.was w.making) w.steps.0 w.steps.2 t.still
+          (step_little c.little_law.ensures base c.reserve_mark.new.self.items (Noted (Table w.image.order.serial) ∷ c.reserve_mark.new.self.items) c.self.inside.memory c.step_on.new.memory w.running.number c.self.inside.numbers.ticket w.image w.next (TableCall c.in-TableCall.request) w.steps
+          (sound_image _ w.running w.image c.sound.ensures.image w.was w.making).rising t.still refl refl (little_of base c.reserve_mark.new.self.items c.self.inside.memory c.self.inside.dumper.running w.running w.image core.little w.was w.making)));
       counted = counted_same c.self.inside.catalog c.self.inside.numbers c.tick-in-TableCall.new.self numbers core.counted;
       outs = c.put_out-in-TableCall.ensures ∙ ap (λ id. slice_set c.self.inside.outs 0 (Some id)) c.id-in-TableCall.ensures
           ∙ outs_asked w.running w.image w.next (merger.out_of_merge c.self.inside.merger) c.self.inside.outs out.1 w.making c.in-TableCall.request.id (ap (λ (m : Making). m.writes) w.steps.0.is) t.out_is;
@@ -252,7 +262,7 @@ invariant_of-self-in-TableCall c =
 
 pub invariant_of-self-in-Frozen : goal.invariant_of-self-in-Frozen
 invariant_of-self-in-Frozen c =
-    let base : Base = record { number = c.self.inside.number; memory = memory_of c.self.inside.base; origin = origins.Opened } in
+    let base : Base = base_of c.self.inside.base in
     let w = subst (λ step. StepsOn c.self.inside.numbers.ticket c.self.inside.dumper c.self.inside.memory step c.step_on.new.dumper c.step_on.new.memory) c.in-Frozen.is c.in-Ok-step_on.ensures.steps in
     let core = grown_core _ c.reserve_mark.new.self c.self.invariant c.in-Ok.ensures.grown in
     let rests = ap (λ v. slice_get v.outs 0) c.self.view_is ∙ c.requires.rests in
@@ -283,6 +293,7 @@ invariant_of-self-in-Frozen c =
       numbers_are = subst (λ all. AreNumbers base all (Some c.self.inside.numbers.begun) c.self.inside.last c.self.inside.numbers) (sym c.append_held.ensures.items)
           (freeze_numbers base c.reserve_mark.new.self.items c.self.inside.last c.self.inside.numbers
           (subst (λ f. AreNumbers base c.reserve_mark.new.self.items f c.self.inside.last c.self.inside.numbers) b.none core.numbers_are));
+      swept_is = none_swept c.self.inside.swept c.self.inside.pending (Some c.self.inside.numbers.begun) c.self.inside.memory c.step_on.new.memory b.none core.swept_is;
       counted = core.counted;
       work = record {
         stands = work.stands;
@@ -320,6 +331,7 @@ invariant_of-self-in-Frozen c =
             room = c.self.inside.room;
             opener = c.self.inside.opener;
             numbers = c.self.inside.numbers;
+            swept = c.self.inside.swept;
           }) w.running w.image w.next core (record {
             was = w.was;
             making = w.making;
@@ -337,7 +349,7 @@ invariant_of-self-in-Frozen c =
 
 pub returns-in-Copied-clause-takes : goal.returns-in-Copied-clause-takes
 returns-in-Copied-clause-takes c =
-    let base : Base = record { number = c.self.inside.number; memory = memory_of c.self.inside.base; origin = origins.Opened } in
+    let base : Base = base_of c.self.inside.base in
     let w = subst (λ step. StepsOn c.self.inside.numbers.ticket c.self.inside.dumper c.self.inside.memory step c.step_on.new.dumper c.step_on.new.memory) c.in-Copied.is c.in-Ok-step_on.ensures.steps in
     let rests = ap (λ v. slice_get v.outs 0) c.self.view_is ∙ c.requires.rests in
     let out = out_at_work _ w.running None c.self.invariant w.was rests in
@@ -360,7 +372,7 @@ returns-in-Copied-clause-takes c =
 
 pub returns-in-Visited-clause-takes : goal.returns-in-Visited-clause-takes
 returns-in-Visited-clause-takes c =
-    let base : Base = record { number = c.self.inside.number; memory = memory_of c.self.inside.base; origin = origins.Opened } in
+    let base : Base = base_of c.self.inside.base in
     let w = subst (λ step. StepsOn c.self.inside.numbers.ticket c.self.inside.dumper c.self.inside.memory step c.step_on.new.dumper c.step_on.new.memory) c.in-Visited.is c.in-Ok-step_on.ensures.steps in
     let rests = ap (λ v. slice_get v.outs 0) c.self.view_is ∙ c.requires.rests in
     let out = out_at_work _ w.running None c.self.invariant w.was rests in
@@ -383,7 +395,7 @@ returns-in-Visited-clause-takes c =
 
 pub returns-in-Frozen-clause-takes : goal.returns-in-Frozen-clause-takes
 returns-in-Frozen-clause-takes c =
-    let base : Base = record { number = c.self.inside.number; memory = memory_of c.self.inside.base; origin = origins.Opened } in
+    let base : Base = base_of c.self.inside.base in
     let w = subst (λ step. StepsOn c.self.inside.numbers.ticket c.self.inside.dumper c.self.inside.memory step c.step_on.new.dumper c.step_on.new.memory) c.in-Frozen.is c.in-Ok-step_on.ensures.steps in
     let rests = ap (λ v. slice_get v.outs 0) c.self.view_is ∙ c.requires.rests in
     let out = out_at_work _ w.running None c.self.invariant w.was rests in
@@ -411,7 +423,7 @@ returns-in-Frozen-clause-takes c =
 
 pub returns-in-TableCall-clause-takes : goal.returns-in-TableCall-clause-takes
 returns-in-TableCall-clause-takes c =
-    let base : Base = record { number = c.self.inside.number; memory = memory_of c.self.inside.base; origin = origins.Opened } in
+    let base : Base = base_of c.self.inside.base in
     let w = subst (λ step. StepsOn c.self.inside.numbers.ticket c.self.inside.dumper c.self.inside.memory step c.step_on.new.dumper c.step_on.new.memory) c.in-TableCall.is c.in-Ok-step_on.ensures.steps in
     let rests = ap (λ v. slice_get v.outs 0) c.self.view_is ∙ c.requires.rests in
     let out = out_at_work _ w.running None c.self.invariant w.was rests in
@@ -440,7 +452,7 @@ returns-in-TableCall-clause-takes c =
 
 pub returns-in-Call-clause-takes : goal.returns-in-Call-clause-takes
 returns-in-Call-clause-takes c =
-    let base : Base = record { number = c.self.inside.number; memory = memory_of c.self.inside.base; origin = origins.Opened } in
+    let base : Base = base_of c.self.inside.base in
     let w = subst (λ step. StepsOn c.self.inside.numbers.ticket c.self.inside.dumper c.self.inside.memory step c.step_on.new.dumper c.step_on.new.memory) c.in-Call.is c.in-Ok-step_on.ensures.steps in
     let rests = ap (λ v. slice_get v.outs 0) c.self.view_is ∙ c.requires.rests in
     let out = out_at_work _ w.running None c.self.invariant w.was rests in
@@ -471,7 +483,7 @@ returns-in-Call-clause-takes c =
 
 pub returns-in-PageCall-clause-takes : goal.returns-in-PageCall-clause-takes
 returns-in-PageCall-clause-takes c =
-    let base : Base = record { number = c.self.inside.number; memory = memory_of c.self.inside.base; origin = origins.Opened } in
+    let base : Base = base_of c.self.inside.base in
     let w = subst (λ step. StepsOn c.self.inside.numbers.ticket c.self.inside.dumper c.self.inside.memory step c.step_on.new.dumper c.step_on.new.memory) c.in-PageCall.is c.in-Ok-step_on.ensures.steps in
     let rests = ap (λ v. slice_get v.outs 0) c.self.view_is ∙ c.requires.rests in
     let out = out_at_work _ w.running None c.self.invariant w.was rests in

@@ -1,6 +1,5 @@
-use Rattle.std.proofs.Common.{◌≡◌, ◌↔◌, ◌+◌, ◌^◌, ◌<◌, ◌≤◌, ◌==◌, ◌∷◌, Contains, length, Some, None, IfSome, slice_get, slice_index_or, refl, sym, ◌∙◌, ap, subst, inl, inr, arith}
+use Rattle.std.proofs.Common.{◌≡◌, ◌↔◌, ◌+◌, ◌^◌, ◌<◌, ◌≤◌, ◌==◌, ◌∷◌, Contains, length, Some, None, IfSome, slice_get, slice_index_or, refl, sym, ◌∙◌, ap, subst, inl, inr, arith, false}
 use Rattle.std.proofs.lemmas.Option.{same_Some, slice_get-get_or}
-use Rattle.sd_areas.specs.Memory.{memory_of}
 use Rattle.sd_chain.specs.Catalog.{Changes, Opened}
 use Rattle.sd_image.specs.declared.run.RunKind.{RunKind}
 use Rattle.sd_image.specs.Shows.{pages_of}
@@ -15,7 +14,6 @@ use Rattle.sd_gate.specs.Phases.{phases_after}
 use Rattle.sd_command.specs.declared.refusal.Refusal.TheVariants.{StoreDown}
 use Rattle.sd_command.specs.declared.reply.Reply.TheVariants as reply
 use Rattle.sd_journal.specs.declared.entry.Entry.TheVariants.{Acked}
-use Rattle.sd_journal.specs.declared.origin.Origin.TheVariants as origins
 use Rattle.sd_journal.specs.History.{Base}
 use Rattle.sd_journal.specs.Marked.{Told, entries_of}
 use Rattle.sd_rounds.specs.Dumper.{Hands, HasCounted, HasSlot, after_pre_dump, out_of_running, slot_of, writes_of_running}
@@ -31,18 +29,20 @@ use Rattle.sd_rounds.specs.Left.{left_of}
 use Rattle.sd_rounds.specs.declared.progress.Progress.TheVariants.{More}
 use Rattle.sd_core.specs.LittleWork.{HasLittle, visits_of, way_due}
 use Rattle.sd_core.specs.Sound.{AreNumbers, IsAtWork, AreOuts, IsMerging, IsOpening, begun_images, due_serials, held_for}
+use Rattle.sd_core.specs.Starts.{base_of}
 use Rattle.sd_core.proofs.CoreLemmas.{after_count}
 use Rattle.sd_core.proofs.EnteredLemmas.{entered_merge, fills_after, left_places}
 use Rattle.sd_core.proofs.FallenLemmas.{apart_after, fallen_core, free_after, let_go_two}
 use Rattle.sd_core.proofs.ImageLemmas.{image_more}
 use Rattle.sd_core.proofs.LaneLemmas.{goes_out, handed_at, more_outs, opens_lane, opens_outs, outcome_at, plan_lane, slot_at, out_there, write_closes_none, write_lane}
 use Rattle.sd_core.proofs.OutsLemmas.{DumperOuts, IsOfDumper, dumper_none, dumper_outs, far, no_write, open_outs}
-use Rattle.sd_core.proofs.LittleLemmas.{dump_ways, freeze_memory, little_of, more_little, round_took, seen_before}
+use Rattle.sd_core.proofs.LittleLemmas.{dump_ways, freeze_memory, little_of, more_little, round_took, seen_before, dump_clean}
 use Rattle.sd_core.proofs.MarkLemmas.{sound_image}
 use Rattle.sd_core.proofs.OpeningLemmas.{handed_seen}
 use Rattle.sd_core.proofs.OutcomeLemmas.{has_image, acked_journal, acked_numbers, checkpoint_used, counted_opened, dump_pends, handed_dumper, left_counted, left_held, opened_now, pre_dump_pends}
 use Rattle.sd_core.proofs.PreDumpLemmas.{all_pre_dumps, change_stays, few_opened, leave_stays, none_held, pre_dump_entered, pre_dumps_stay}
 use Rattle.sd_core.proofs.WorkLemmas.{at_work, core_working, held_at_work, held_same, image_of_work, merger_out, own_order, own_slot, same_numbers, sound_writes, turned}
+use Rattle.sd_core.proofs.SettledLemmas.{not_swept}
 use Rattle.sd_core.proofs.state.Core.hand_in_dumper.Goals as goal
 
 pub invariant_of-self : goal.invariant_of-self
@@ -65,7 +65,7 @@ invariant_of-self c =
 
 pub invariant_of-self-in-More : goal.invariant_of-self-in-More
 invariant_of-self-in-More c =
-    let base : Base = record { number = c.self.inside.number; memory = memory_of c.self.inside.base; origin = origins.Opened } in
+    let base : Base = base_of c.self.inside.base in
     let made = c.args.outcome in
     let id = made.request.id in
     let phases = c.self.inside.phases.items in
@@ -101,6 +101,7 @@ invariant_of-self-in-More c =
       held = refl;
       journal_is = c.self.invariant.journal_is;
       numbers_are = c.self.invariant.numbers_are;
+      swept_is = c.self.invariant.swept_is;
       counted = left_counted c.closes_for_sure-closed.result c.id-id.result.slot c.self.inside.catalog c.leave_catalog.new.catalog c.self.inside.numbers c.leave_catalog.ensures c.self.invariant.counted;
       outs = c.put_out.ensures ∙ more_outs _ h.running h.hands.image h.hands.next c.args.lane made c.self.invariant h.was h.hands.was own t.out_is h.hands.hands;
       stay = leave_stays h.running c.closes_for_sure-closed.result c.id-id.result.slot c.self.inside.catalog c.leave_catalog.new.catalog c.leave_catalog.ensures
@@ -117,7 +118,7 @@ invariant_of-self-in-More c =
 
 pub invariant_of-self-in-PreDump : goal.invariant_of-self-in-PreDump
 invariant_of-self-in-PreDump c =
-    let base : Base = record { number = c.self.inside.number; memory = memory_of c.self.inside.base; origin = origins.Opened } in
+    let base : Base = base_of c.self.inside.base in
     let made = c.args.outcome in
     let id = made.request.id in
     let phases = c.self.inside.phases.items in
@@ -151,6 +152,7 @@ invariant_of-self-in-PreDump c =
           (λ other is. (let its = merger_out _ other c.self.invariant work.stands is in (subst (λ n. other.slot < n) (sym count) its.0, its.1)))
           (λ other one is at same. elim is [ inl plan ↦ (let no : None ≡ Some other = plan in cc) | inr page ↦ no_write page.0 other page.1 ]));
       numbers_are = c.self.invariant.numbers_are;
+      swept_is = c.self.invariant.swept_is;
       counted = counted;
       work = record {
         stands = work.stands;
@@ -191,6 +193,7 @@ invariant_of-self-in-PreDump c =
             room = c.self.inside.room;
             opener = c.self.inside.opener;
             numbers = c.self.inside.numbers;
+            swept = c.self.inside.swept;
           }) h.running h.hands.0.image (record { slot = opened.slot; header = opened.header; spaces = opened.table }) c.self.invariant (record {
             was = h.was;
             making = h.hands.0.was;
@@ -210,7 +213,7 @@ invariant_of-self-in-PreDump c =
 
 pub invariant_of-self-in-Dump : goal.invariant_of-self-in-Dump
 invariant_of-self-in-Dump c =
-    let base : Base = record { number = c.self.inside.number; memory = memory_of c.self.inside.base; origin = origins.Opened } in
+    let base : Base = base_of c.self.inside.base in
     let made = c.args.outcome in
     let id = made.request.id in
     let phases = c.self.inside.phases.items in
@@ -234,11 +237,15 @@ invariant_of-self-in-Dump c =
     let pends = dump_pends _ c.self.inside.dumper.since_freeze h.running h.hands.0.image made opened c.self.invariant c.sound.ensures.running h.was h.hands.0.was h.hands.1 h.hands.0.hands
     ∙ ap Some work.number in
     let gone = ap (λ d. d.running) h.is in
+    let clean = dump_clean base c.self.inside.journal.items c.self.inside.memory h.running h.hands.0.image made opened h.hands.1
+    (own_order c.self.inside.dumper.since_freeze _ h.running h.hands.0.image c.sound.ensures.running h.was h.hands.0.was) h.hands.0.hands
+    (little_of base c.self.inside.journal.items c.self.inside.memory c.self.inside.dumper.running h.running h.hands.0.image c.self.invariant.little h.was h.hands.0.was) in
     let held = c.append_held.ensures.held in
     let one = held_at_work _ h.running c.self.invariant h.was ∙ ap (λ f. held_for f (Some h.running) None) pends in
     let free : c.append_held.new.self.held ≡ 0 = omega (arith, held, one) in
     record {
-      journal_is = acked_journal c.tracked_laws.ensures _ c.append_held.new.self c.self.invariant pends c.append_held.ensures.items c.append_held.ensures.numbers.first c.append_held.ensures.numbers.limit;
+      journal_is = acked_journal c.tracked_laws.ensures c.plain_law.ensures _ c.append_held.new.self c.self.invariant pends c.append_held.ensures.items c.append_held.ensures.numbers.first c.append_held.ensures.numbers.limit
+          c.sound-in-Dump.ensures clean;
       held = free ∙ ap (λ r. held_for None r None) (sym gone) ∙ ap (held_for None c.hand_in.new.self.running) (sym work.closed);
       outs_are = subst (λ st. AreOuts st c.put_out.new.outs c.follow_call.new.phases.items c.hand_in.new.self.running c.self.inside.merger c.self.inside.opener) (sym work.stands)
           (subst (λ o. AreOuts Open c.put_out.new.outs c.follow_call.new.phases.items c.hand_in.new.self.running c.self.inside.merger o) (sym work.closed)
@@ -250,6 +257,7 @@ invariant_of-self-in-Dump c =
       opening = subst (λ o. IfSome o (IsOpening c.self.inside.standing c.follow_call.new.phases.items)) (sym work.closed) tt;
       numbers_are = subst (λ all. AreNumbers base all None (Some c.self.inside.numbers.begun) c.self.inside.numbers) (sym c.append_held.ensures.items)
           (acked_numbers base c.self.inside.journal.items c.self.inside.pending c.self.inside.last c.self.inside.numbers c.self.invariant.numbers_are);
+      swept_is = not_swept false None c.self.inside.memory refl;
       counted = counted;
       rests = λ none open_. refl;
       work = subst (λ r. IfSome r (IsAtWork base c.append_held.new.self.items None c.self.inside.standing c.follow_call.new.phases.items c.enter_catalog-in-Dump.new.catalog c.self.inside.merger c.self.inside.opener c.self.inside.numbers)) (sym gone) tt;
@@ -269,6 +277,7 @@ invariant_of-self-in-Dump c =
         room = c.self.inside.room;
         opener = c.self.inside.opener;
         numbers = c.self.inside.numbers;
+        swept = false;
       }) h.running h.hands.0.image (record { slot = opened.slot; header = opened.header; spaces = opened.table }) c.self.invariant (record {
         was = h.was;
         making = h.hands.0.was;
@@ -288,7 +297,7 @@ invariant_of-self-in-Dump c =
 
 pub returns-in-Failed-clause-handed : goal.returns-in-Failed-clause-handed
 returns-in-Failed-clause-handed c =
-    let base : Base = record { number = c.self.inside.number; memory = memory_of c.self.inside.base; origin = origins.Opened } in
+    let base : Base = base_of c.self.inside.base in
     let made = c.args.outcome in
     let id = made.request.id in
     let phases = c.self.inside.phases.items in
@@ -323,7 +332,7 @@ returns-in-Failed-clause-handed c =
 
 pub returns-in-More-clause-handed : goal.returns-in-More-clause-handed
 returns-in-More-clause-handed c =
-    let base : Base = record { number = c.self.inside.number; memory = memory_of c.self.inside.base; origin = origins.Opened } in
+    let base : Base = base_of c.self.inside.base in
     let made = c.args.outcome in
     let id = made.request.id in
     let phases = c.self.inside.phases.items in
@@ -398,7 +407,7 @@ returns-in-More-clause-handed c =
 
 pub returns-in-PreDump-clause-handed : goal.returns-in-PreDump-clause-handed
 returns-in-PreDump-clause-handed c =
-    let base : Base = record { number = c.self.inside.number; memory = memory_of c.self.inside.base; origin = origins.Opened } in
+    let base : Base = base_of c.self.inside.base in
     let made = c.args.outcome in
     let id = made.request.id in
     let phases = c.self.inside.phases.items in
@@ -455,7 +464,7 @@ returns-in-PreDump-clause-handed c =
 
 pub returns-in-Dump-clause-handed : goal.returns-in-Dump-clause-handed
 returns-in-Dump-clause-handed c =
-    let base : Base = record { number = c.self.inside.number; memory = memory_of c.self.inside.base; origin = origins.Opened } in
+    let base : Base = base_of c.self.inside.base in
     let made = c.args.outcome in
     let id = made.request.id in
     let phases = c.self.inside.phases.items in
@@ -543,7 +552,7 @@ returns-in-Dump-clause-acked c n is =
 
 pub returns-in-Dump-clause-little : goal.returns-in-Dump-clause-little
 returns-in-Dump-clause-little c n is =
-    let base : Base = record { number = c.self.inside.number; memory = memory_of c.self.inside.base; origin = origins.Opened } in
+    let base : Base = base_of c.self.inside.base in
     let made = c.args.outcome in
     let h = subst (λ p. Hands c.self.inside.dumper made p c.hand_in.new.self) c.in-Dump.is c.hand_in.ensures.hands in
     let work = at_work _ h.running c.self.invariant h.was in
@@ -571,7 +580,7 @@ returns-in-Dump-clause-little c n is =
 
 pub returns-in-PreDump-clause-round : goal.returns-in-PreDump-clause-round
 returns-in-PreDump-clause-round c running opens =
-    let base : Base = record { number = c.self.inside.number; memory = memory_of c.self.inside.base; origin = origins.Opened } in
+    let base : Base = base_of c.self.inside.base in
     let made = c.args.outcome in
     let h = subst (λ p. Hands c.self.inside.dumper made p c.hand_in.new.self) c.in-PreDump.is c.hand_in.ensures.hands in
     let opened = c.in-PreDump.image in

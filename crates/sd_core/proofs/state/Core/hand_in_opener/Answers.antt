@@ -1,6 +1,4 @@
 use Rattle.std.proofs.Common.{◌≡◌, ◌≢◌, ◌<◌, is_none, Some, None, IfSome, slice_get, refl, sym, ◌∙◌, ap, subst}
-use Rattle.sd_areas.specs.Memory.{memory_of}
-use Rattle.sd_journal.specs.declared.origin.Origin.TheVariants as origins
 use Rattle.sd_journal.specs.History.{Base}
 use Rattle.sd_gate.specs.declared.phase.Phase.{Phase}
 use Rattle.sd_gate.specs.declared.request_id.RequestId.{RequestId}
@@ -12,6 +10,7 @@ use Rattle.sd_belief.specs.View.{CoreView}
 use Rattle.sd_core.specs.Sound.{AreNumbers, IsOpening, held_for, out_of_opener}
 use Rattle.sd_core.specs.Working.{opener_left}
 use Rattle.sd_belief.specs.declared.standing.Standing.TheVariants.{Open}
+use Rattle.sd_core.specs.Starts.{base_of}
 use Rattle.sd_core.proofs.CoreLemmas.{alone_is, after_count, closed_by, held_let_go, held_opening, none_out, not_taught, set_nobody, taught_opener}
 use Rattle.sd_core.proofs.FallenLemmas.{by_worker, fallen_same, opener_left_some, runs_by}
 use Rattle.sd_core.proofs.JournalLemmas.{same_journal}
@@ -52,6 +51,7 @@ invariant_of-self c =
       work = none_works _ c.self.inside.dumper.running none;
       little = none_works _ c.self.inside.dumper.running none;
       merging = no_merge _ c.self.inside.merger (none_merges _ c.self.invariant closed);
+      swept_is = c.self.invariant.swept_is;
     }
 
 pub returns-then-teach-clause-handed : goal.returns-then-teach-clause-handed
@@ -128,7 +128,7 @@ invariant_of-self-2 c =
     let ended = c.let_go.ensures.opener in
     let none_now = c.put_out.ensures ∙ set_nobody c.self.inside.outs id alone.1 in
     let gone = c.let_go.ensures.journal in
-    let base : Base = record { number = c.self.inside.number; memory = memory_of c.self.inside.base; origin = origins.Opened } in
+    let base : Base = base_of c.self.inside.base in
     record {
       journal_is = same_journal base c.self.inside.journal c.let_go.new.journal c.self.inside.memory c.self.inside.pending c.self.inside.last gone.first gone.items gone.limit c.self.invariant.journal_is;
       held = held_let_go c.self.inside.pending c.self.inside.dumper.running looking.0 c.self.inside.journal c.let_go.new.journal none
@@ -142,6 +142,7 @@ invariant_of-self-2 c =
       work = none_works _ c.self.inside.dumper.running none;
       little = none_works _ c.self.inside.dumper.running none;
       merging = no_merge _ c.self.inside.merger (none_merges _ c.self.invariant closed);
+      swept_is = c.self.invariant.swept_is;
     }
 
 pub returns-clause-leaves : goal.returns-clause-leaves

@@ -1,4 +1,4 @@
-use Rattle.std.proofs.Common.{◌≡◌, None, Some, ◌∙◌, ap, sym, refl, subst}
+use Rattle.std.proofs.Common.{◌≡◌, false, None, Some, ◌∙◌, ap, sym, refl, subst}
 use Rattle.sd_areas.specs.Memory.{memory_of}
 use Rattle.sd_journal.specs.declared.origin.Origin.TheVariants as origins
 use Rattle.sd_journal.specs.Allowed.{IsLastPair}
@@ -11,6 +11,7 @@ use Rattle.sd_core.specs.Starts.{nothing_asked, shown_base}
 use Rattle.sd_core.proofs.CoreLemmas.{none_out}
 use Rattle.sd_core.proofs.MergeLemmas.{no_merge}
 use Rattle.sd_chain.specs.Catalog.{place_of}
+use Rattle.sd_core.proofs.SettledLemmas.{not_swept}
 use Rattle.sd_core.proofs.StartLemmas.{start_journal, start_numbers, base_is_last, none_of}
 use Rattle.sd_core.proofs.WorkLemmas.{none_works}
 use Rattle.sd_core.proofs.state.Core.new.Goals as goal
@@ -19,7 +20,7 @@ pub invariant_of-result : goal.invariant_of-result
 invariant_of-result c =
     let idle = ap (λ (d : Dumping). d.running) c.new-3.ensures in
     record {
-      journal_is = start_journal _ c.new.result c.args.start.memory c.args.start.number refl c.requires.begins c.requires.same refl c.new.ensures.items c.new.ensures.first c.new.ensures.limit;
+      journal_is = start_journal _ c.new.result c.args.start.memory c.args.start.number refl c.requires.begins c.requires.same refl refl c.new.ensures.items c.new.ensures.first c.new.ensures.limit;
       held = c.new.ensures.held ∙ ap (λ r. held_for None r None) (sym idle);
       outs_are = none_out NotOpen nobody c.args.start.phases.items c.new-3.result.running c.new-4.result None idle c.new-4.ensures refl refl;
       opening = tt;
@@ -29,6 +30,7 @@ invariant_of-result c =
       work = none_works _ c.new-3.result.running idle;
       little = none_works _ c.new-3.result.running idle;
       merging = no_merge _ c.new-4.result c.new-4.ensures;
+      swept_is = not_swept false None c.args.start.memory refl;
     }
 
 pub returns-clause-believes : goal.returns-clause-believes
@@ -36,5 +38,5 @@ returns-clause-believes c files found shows =
     let number = c.args.start.number in
     let base = memory_of c.args.start.base in
     c.found_law.ensures _ nothing_asked files (shown_base number base) found refl none_of refl (λ is. absurd (let no : NotOpen ≡ Open = is in cc)) shows
-    (subst (λ items. IsLastPair (record { number = number; memory = base; origin = origins.Opened }) (entries_of items) (shown_base number base))
+    (subst (λ items. IsLastPair (record { number = number; memory = base; origin = origins.Opened; folded = 0 }) (entries_of items) (shown_base number base))
     (sym c.new.ensures.items) (base_is_last number base))

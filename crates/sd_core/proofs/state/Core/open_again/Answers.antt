@@ -1,9 +1,8 @@
 use Rattle.std.proofs.Common.{length, IfSome, Some, refl, sym, ◌∙◌, ap, subst}
-use Rattle.sd_areas.specs.Memory.{memory_of}
-use Rattle.sd_journal.specs.declared.origin.Origin.TheVariants as origins
 use Rattle.sd_journal.specs.History.{Base}
 use Rattle.sd_core.specs.Opening.{HoldsForOpening}
 use Rattle.sd_core.specs.Sound.{AreNumbers, IsOpening, held_for, out_of_opener}
+use Rattle.sd_core.specs.Starts.{base_of}
 use Rattle.sd_core.proofs.CoreLemmas.{none_out}
 use Rattle.sd_core.proofs.JournalLemmas.{same_journal}
 use Rattle.sd_core.proofs.MergeLemmas.{no_merge, none_merges}
@@ -14,7 +13,7 @@ use Rattle.sd_core.proofs.state.Core.open_again.Goals as goal
 
 pub invariant_of-self-2 : goal.invariant_of-self-2
 invariant_of-self-2 c =
-    let base : Base = record { number = c.self.inside.number; memory = memory_of c.self.inside.base; origin = origins.Opened } in
+    let base : Base = base_of c.self.inside.base in
     let may = subst MayReopen (sym c.self.view_is) (may_reopen c.args.self.now c.requires) in
     let inside = c.self.invariant in
     let nobody_out = nobody_rests _ inside may.rest in
@@ -39,6 +38,7 @@ invariant_of-self-2 c =
       work = none_works _ c.self.inside.dumper.running none;
       little = none_works _ c.self.inside.dumper.running none;
       merging = no_merge _ c.self.inside.merger (none_merges _ inside may.closed);
+      swept_is = inside.swept_is;
     }
 
 pub returns-clause-keeps : goal.returns-clause-keeps

@@ -1,14 +1,13 @@
 use Rattle.std.proofs.Common.{IfSome, refl, sym, ◌∙◌, ap, subst, arith}
-use Rattle.sd_areas.specs.Memory.{memory_of}
 use Rattle.sd_gate.specs.declared.worker.Worker.TheVariants as its
 use Rattle.sd_command.specs.declared.reply.Reply.TheVariants as reply
 use Rattle.sd_command.specs.declared.refusal.Refusal.TheVariants.{Damaged as DamagedStore}
-use Rattle.sd_journal.specs.declared.origin.Origin.TheVariants as origins
 use Rattle.sd_journal.specs.History.{Base}
 use Rattle.sd_belief.specs.OpenerSteps.{opener_alone}
 use Rattle.sd_opener.specs.Looking.{out_of}
 use Rattle.sd_core.specs.Opening.{WorksOpener}
 use Rattle.sd_core.specs.Sound.{IsOpening, held_for, out_of_opener}
+use Rattle.sd_core.specs.Starts.{base_of}
 use Rattle.sd_core.proofs.CoreLemmas.{held_opening, nobody_is, one_out, set_alone}
 use Rattle.sd_core.proofs.MergeLemmas.{no_merge, none_merges}
 use Rattle.sd_core.proofs.OpeningLemmas.{decoded, ends_refused, hands_out, hands_seen, step_seen}
@@ -17,7 +16,7 @@ use Rattle.sd_core.proofs.state.Core.take_up_opener.Goals as goal
 
 pub invariant_of-self-in-Call : goal.invariant_of-self-in-Call
 invariant_of-self-in-Call c =
-    let base : Base = record { number = c.self.inside.number; memory = memory_of c.self.inside.base; origin = origins.Opened } in
+    let base : Base = base_of c.self.inside.base in
     let w = subst (λ step. WorksOpener c.self.inside.opener c.self.inside.numbers.ticket step c.step_opener.new.opener) c.in-Call.is c.in-Ok.ensures.works in
     let inside = c.self.invariant in
     let opening = subst (λ x. IfSome x (IsOpening c.self.inside.standing c.self.inside.phases.items)) w.was inside.opening in
@@ -40,6 +39,7 @@ invariant_of-self-in-Call c =
       work = none_works _ c.self.inside.dumper.running none;
       little = none_works _ c.self.inside.dumper.running none;
       merging = no_merge _ c.self.inside.merger (none_merges _ inside opening.closed);
+      swept_is = inside.swept_is;
     }
 
 pub returns-in-Call-clause-takes : goal.returns-in-Call-clause-takes

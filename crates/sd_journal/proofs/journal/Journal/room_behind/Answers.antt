@@ -1,4 +1,4 @@
-use Rattle.std.proofs.Common.{◌≡◌, ◌+◌, ◌-◌, ◌≤◌, length, vec_len, vec_capacity, sym, ◌∙◌, ap, arith}
+use Rattle.std.proofs.Common.{◌≡◌, ◌≤◌, length, vec_len, sym, ◌∙◌, ap, arith}
 use Rattle.sd_journal.specs.Kept.{Kept, entry_count}
 use Rattle.sd_journal.proofs.KeptLemmas.{count_in}
 use Rattle.sd_journal.proofs.journal.Journal.room_behind.Goals as goal
