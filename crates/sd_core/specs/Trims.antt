@@ -37,12 +37,16 @@ pub record FoldsFront (n : ℕ) (folded : Folded) (old : CoreBase) (before : Kep
 abbrev pub folded_with : CoreView → Marked → ℕ
 folded_with core front = core.base.folded + length (entries_of front)
 
+-- why a trim of this front may be refused
+abbrev pub MayRefuse : CoreView → Marked → Refusal → Type 0
+MayRefuse old front NumbersUsed = 2 ^ 62 < folded_with old front
+MayRefuse old front OutOfMemory = folded_with old front ≤ 2 ^ 62
+MayRefuse old front _ = ⊥
+
 -- what a trim of this front leaves
 abbrev pub TrimsFront : ℕ → CoreView → Marked → Marked → Result Folded Refusal → CoreView → Type 0
 TrimsFront n old kept front (Ok folded) new = (folded_with old front ≤ 2 ^ 62) × HandsOutFront old.base.folded front folded × (new ≡ trimmed old n kept front)
-TrimsFront n old kept front (Err NumbersUsed) new = (2 ^ 62 < folded_with old front) × (new ≡ old)
-TrimsFront n old kept front (Err OutOfMemory) new = (folded_with old front ≤ 2 ^ 62) × (new ≡ old)
-TrimsFront n old kept front (Err _) new = ⊥
+TrimsFront n old kept front (Err why) new = MayRefuse old front why × (new ≡ old)
 
 -- Up to and with the entry that ended the pending of the last checkpoint the journal is folded, nothing else changes; or this is refused and
 -- nothing changes.

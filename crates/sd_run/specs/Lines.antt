@@ -7,7 +7,7 @@ use Rattle.sd_script.specs.declared.answer.Answer.{Answer}
 use Rattle.sd_script.specs.declared.answer.Answer.TheVariants as answer
 use Rattle.sd_script.specs.declared.line.Line.{Line}
 use Rattle.sd_script.specs.declared.line.Line.TheVariants as line
-use Rattle.sd_world.specs.declared.event.Event.TheVariants.{Command, Begin, Work, Perform, PerformAt, Merge, Cancel, Reopen}
+use Rattle.sd_world.specs.declared.event.Event.TheVariants.{Command, Begin, Work, Perform, PerformAt, Merge, Cancel, Reopen, Trim}
 use Rattle.sd_world.specs.Runs.{IsStep}
 use Rattle.sd_world.specs.View.{WorldView}
 use Rattle.sd_run.specs.Jobs.{IsDriven, IsFinished, IsJob}
@@ -37,6 +37,7 @@ AnswersLine g (line.Finish worker) first given last = IsReplyOf (λ r. IsFinishe
 AnswersLine g (line.Checkpoint rounds) first given last = IsReplyOf (λ r. IsJob g (Begin rounds) Dumper first r last) given
 AnswersLine g line.Merge first given last = IsReplyOf (λ r. IsJob g Merge Merger first r last) given
 AnswersLine g line.Reopen first given last = IsReplyOf (λ r. IsJob g Reopen Opener first r last) given
+AnswersLine g line.Trim first given last = IsReplyOf (λ r. IsStep g Trim first r last) given
 
 -- the lines, one after the other, each with its answer
 abbrev pub AnswersLines : {D : Type 0} → Ghosts D → WorldView D → List Line → List Answer → WorldView D → Type 0

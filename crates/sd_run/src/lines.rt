@@ -45,6 +45,7 @@ fn answer<D: Disk, S: Watch>(
         Line::Begin(rounds) => make(world, Event::Begin(rounds)),
         Line::BeginMerge => make(world, Event::Merge),
         Line::Cancel => make(world, Event::Cancel),
+        Line::Trim => make(world, Event::Trim),
         Line::Work(worker) => make(world, Event::Work(worker)),
         Line::Perform(worker) => make(world, Event::Perform(worker)),
         Line::PerformAt { worker, place } => make(world, Event::PerformAt(worker, place)),

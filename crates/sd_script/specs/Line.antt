@@ -11,7 +11,7 @@ use Rattle.sd_command.specs.declared.command.Command.TheVariants.{Mmap, Munmap, 
 use Rattle.sd_gate.specs.declared.worker.Worker.{Worker}
 use Rattle.sd_gate.specs.declared.worker.Worker.TheVariants.{Dumper, Merger, Opener}
 use Rattle.sd_script.specs.declared.line.Line.{Line}
-use Rattle.sd_script.specs.declared.line.Line.TheVariants.{Command, Words, Begin, BeginMerge, Cancel, Work, Perform, PerformAt, Step, Finish, Checkpoint, Merge, Reopen}
+use Rattle.sd_script.specs.declared.line.Line.TheVariants.{Command, Words, Begin, BeginMerge, Cancel, Work, Perform, PerformAt, Step, Finish, Checkpoint, Merge, Reopen, Trim}
 use Rattle.sd_script.specs.declared.line_error.LineError.{LineError}
 use Rattle.sd_script.specs.declared.line_error.LineError.TheVariants.{Unfit, OutOfMemory}
 
@@ -236,6 +236,11 @@ abbrev pub reopen_of : List (List ℕ) → Option Line
 reopen_of [] = Some Reopen
 reopen_of (_ ∷ _) = None
 
+-- `trim`, with nothing behind the word
+abbrev pub trim_of : List (List ℕ) → Option Line
+trim_of [] = Some Trim
+trim_of (_ ∷ _) = None
+
 -- what a word and its arguments ask for
 abbrev pub asked_by_word : List ℕ → List (List ℕ) → Option Line
 asked_by_word word arguments =
@@ -260,6 +265,7 @@ asked_by_word word arguments =
     else if bytes_eq word (codes "checkpoint") then checkpoint_of arguments
     else if bytes_eq word (codes "merge") then merge_of arguments
     else if bytes_eq word (codes "reopen") then reopen_of arguments
+    else if bytes_eq word (codes "trim") then trim_of arguments
     else None
 
 -- what fields ask for: the first is the word

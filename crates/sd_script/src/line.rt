@@ -2,7 +2,7 @@
 
 ghost use Rattle.std.specs.Prelude.{◌≡◌, ◌==◌, ◌≤◌, map, OnOk};
 ghost use Rattle.std.specs.List.{slice_split};
-ghost use Rattle.sd_script.specs.Line.{Gives, GivesBytes, asked_by, asked_by_word, at_least_one, begin_of, begin_merge_of, cancel_of, checkpoint_of, exit_of, fault_of, finish_of, fork_of, hex_of, load_of, merge_of, mmap_of, mprotect_of, munmap_of, number_of, numeral_of, perform_at_of, perform_of, prot_of, reopen_of, step_of, store_of, try_of, words_of, work_of, worker_of};
+ghost use Rattle.sd_script.specs.Line.{Gives, GivesBytes, asked_by, asked_by_word, at_least_one, begin_of, begin_merge_of, cancel_of, checkpoint_of, exit_of, fault_of, finish_of, fork_of, hex_of, load_of, merge_of, mmap_of, mprotect_of, munmap_of, number_of, numeral_of, perform_at_of, perform_of, prot_of, reopen_of, step_of, store_of, trim_of, try_of, words_of, work_of, worker_of};
 
 use crate::digits::{decode_into, digit};
 use crate::line_error::LineError;
@@ -49,6 +49,8 @@ pub enum Line {
     Merge,
     /// The store opened again, up to the end of that.
     Reopen,
+    /// The order to trim the journal.
+    Trim,
 }
 
 /// What a line asks for. Its fields, separated by single spaces, take the place of those in the list.
@@ -106,6 +108,7 @@ fn request(alloc: Global, word: &str, arguments: &[&str]) -> Result<Line, LineEr
         "checkpoint" => checkpoint(arguments).ok_or(LineError::Unfit),
         "merge" => merge(arguments).ok_or(LineError::Unfit),
         "reopen" => reopen(arguments).ok_or(LineError::Unfit),
+        "trim" => trim(arguments).ok_or(LineError::Unfit),
         _ => Err(LineError::Unfit),
     }
 }
@@ -334,6 +337,12 @@ fn reopen(arguments: &[&str]) -> Option<Line>
     ensures { result ≡ reopen_of (map (λ field. field.now) arguments.now) }
 {
     arguments.is_empty().then_some(Line::Reopen)
+}
+
+fn trim(arguments: &[&str]) -> Option<Line>
+    ensures { result ≡ trim_of (map (λ field. field.now) arguments.now) }
+{
+    arguments.is_empty().then_some(Line::Trim)
 }
 
 /// The worker of this name.

@@ -19,7 +19,7 @@ fn fields_behind(word: &str) -> Option<&'static [FieldKind]> {
         "work" | "perform" | "finish" => Some(&[WorkerName]),
         "perform-at" => Some(&[WorkerName, Number]),
         "step" => Some(&[WorkerName, Positive]),
-        "begin-merge" | "cancel" | "merge" | "reopen" => Some(&[]),
+        "begin-merge" | "cancel" | "merge" | "reopen" | "trim" => Some(&[]),
         _ => None,
     }
 }

@@ -14,9 +14,9 @@ use sd_receipts::check_receipts;
 /// The first fault, as `check_receipts`.
 fn check_core(core: &Core, receipts: &[Receipt], acks: &[u64]) -> Result<(), CloseFault>
     ensures exact { IsOk result
-        ↔ Accounts 0 (reverse (history_of core.now)) receipts.now acks.now }
+        ↔ Accounts core.now.base.folded (reverse (history_of core.now)) receipts.now acks.now }
     ensures fault { IfErr result
-        (IsFault 0 (reverse (history_of core.now)) receipts.now acks.now) }
+        (IsFault core.now.base.folded (reverse (history_of core.now)) receipts.now acks.now) }
 {
     check_receipts(core.journal(), receipts, acks)
 }
@@ -39,8 +39,8 @@ pub(crate) fn settle<D: Drop>(
     receipts: &[Receipt],
     acks: &[u64],
 ) -> Result<(Core, D), CloseFault>
-    ensures exact { IsOk result ↔ Accounts 0 (reverse (history_of core)) receipts.now acks.now }
-    ensures fault { IfErr result (IsFault 0 (reverse (history_of core)) receipts.now acks.now) }
+    ensures exact { IsOk result ↔ Accounts core.base.folded (reverse (history_of core)) receipts.now acks.now }
+    ensures fault { IfErr result (IsFault core.base.folded (reverse (history_of core)) receipts.now acks.now) }
     ensures core { IfOk result (λ parts. parts.0 ≡ core) }
     ensures disk { IfOk result (λ parts. parts.1 ≡ disk) }
 {

@@ -25,6 +25,7 @@ use sd_core::{Core, Taken};
 use sd_disk::Disk;
 use sd_gate::{Outcome, Request, Worker, perform};
 use sd_journal::{CloseFault, Receipt};
+use sd_receipts::Folded;
 use sd_relay::relay;
 use sd_world::{OpenError, OpenFault, World};
 use std::alloc::{AllocError, Global};
@@ -256,6 +257,17 @@ impl<D: Disk + Drop> Shared<D> {
         reply
     }
 
+    /// Trims the journal, as `Core::trim`. It waits for the core's lock alone.
+    ///
+    /// # Errors
+    ///
+    /// `Idle` where no checkpoint was acknowledged, or named by a reopening, since the run started or the journal was
+    /// trimmed; `NumbersUsed` where over 2^62 entries would have been folded in all; `OutOfMemory` where a growth was
+    /// refused. Nothing changed.
+    pub fn trim(&self, rt: &impl Wait) -> Result<Folded, Refusal> {
+        self.core.lock(rt).trim()
+    }
+
     /// Wakes all that wait for a thaw, unless commands are still held up.
     fn wake(&self, core: &Core) {
         if !holds_commands(core) {
@@ -333,11 +345,11 @@ impl<D: Disk + Drop> Shared<D> {
     ///
     /// The first fault, as `check_receipts`.
     pub fn close(self, receipts: &[Receipt], acks: &[u64]) -> Result<(Core, D), CloseFault>
-        ensures accounts { IfOk result (λ parts. Accounts 0 (reverse (history_of parts.0))
+        ensures accounts { IfOk result (λ parts. Accounts parts.0.base.folded (reverse (history_of parts.0))
             receipts.now acks.now) }
         // The fault is that of the core which was behind the lock.
         ensures fault { IfErr result (λ fault. (core : CoreView)
-            × IsFault 0 (reverse (history_of core)) receipts.now acks.now fault) }
+            × IsFault core.base.folded (reverse (history_of core)) receipts.now acks.now fault) }
     {
         let Shared { core, disk, .. } = self;
         settle(core.into_inner(), disk.into_inner(), receipts, acks)

@@ -1,5 +1,5 @@
 -- What each event adds to the journal, and where it leaves the disk.
-use Rattle.std.proofs.Common.{◌≡◌, ℕ, List, Some, slice_get, sym, ◌∙◌, ap, subst, inl, inr}
+use Rattle.std.proofs.Common.{◌≡◌, ◌≢◌, ℕ, List, [], ◌∷◌, ◌++◌, Some, refl, slice_get, sym, ◌∙◌, ap, subst, inl, inr}
 use Rattle.sd_command.specs.declared.reply.Reply.{Reply}
 use Rattle.sd_command.specs.declared.reply.Reply.TheVariants as reply
 use Rattle.sd_disk.specs.Crash.{Within}
@@ -10,17 +10,20 @@ use Rattle.sd_gate.specs.declared.answer.Answer.TheVariants.{Done, Len, Failed}
 use Rattle.sd_gate.specs.declared.worker.Worker.{Worker}
 use Rattle.sd_gate.specs.Requests.{Made}
 use Rattle.sd_journal.specs.History.{History}
+use Rattle.sd_journal.specs.Marked.{Marked, Noted, Told, entries_of}
 use Rattle.sd_belief.specs.Calls.{AddsByOutcome, AddsByStep, IsOut}
 use Rattle.sd_belief.specs.View.{CoreView, history_of}
 use Rattle.sd_world.specs.declared.event.Event.{Event}
-use Rattle.sd_world.specs.declared.event.Event.TheVariants.{Command, Begin, Work, TakeUp, HandInAt, Perform, PerformAt, Merge, Cancel, Reopen}
+use Rattle.sd_world.specs.declared.event.Event.TheVariants.{Command, Begin, Work, TakeUp, HandInAt, Perform, PerformAt, Merge, Cancel, Reopen, Trim}
 use Rattle.sd_world.specs.declared.kept.Kept.TheVariants.{Outcome}
-use Rattle.sd_world.specs.Adds.{Adds, AddsByPerform, AddsByWork}
+use Rattle.sd_world.specs.Adds.{Adds, AddsByPerform, AddsByTrim, AddsByWork}
 use Rattle.sd_world.specs.Consistent.{IsWorld}
 use Rattle.sd_world.specs.Steps.{Does, HandsInAt, HandsInIfAny, Performs, TakesUp, Works, reply_of}
 use Rattle.sd_world.specs.View.{WorldView, id_of}
+use Rattle.sd_world.specs.Trims.{TrimsJournal}
 use Rattle.sd_world.proofs.KeptLemmas.{whose}
 use Rattle.sd_world.proofs.Lists.{get_map}
+use Rattle.sd_world.proofs.TrimLemmas.{trim_cases}
 
 adds_by_step : (worker : Worker) (core : CoreView) (answer : Reply) (old new : History) → AddsByStep worker core answer old new
     → AddsByWork worker core answer old new
@@ -97,6 +100,21 @@ module _ {D : Type 0} (g : Ghosts D) (old new : WorldView D) (world : IsWorld g 
       subst (λ a. AddsByPerform a (history_of old.core) (history_of new.core)) (sym performs.keeps.replied)
       (adds_by_perform performs.keeps.made.answer (history_of old.core) (history_of new.core) (ap history_of core))
 
+  trim_adds : (answer : Reply) → TrimsJournal old.core answer new.core → AddsByTrim answer (history_of old.core) (history_of new.core)
+  trim_adds answer trims = elim (trim_cases old.core answer new.core trims) [
+    | inl gone ↦ subst (λ a. AddsByTrim a (history_of old.core) (history_of new.core)) (sym gone.answered) (record {
+      taken = entries_of gone.front;
+      parts = ap entries_of gone.parts ∙ both gone.kept gone.front ∙ ap (λ (c : CoreView). history_of c ++ entries_of gone.front) (sym gone.is);
+      many = refl;
+    })
+    | inr all ↦ subst (λ a. AddsByTrim a (history_of old.core) (history_of new.core)) (sym all.answered) (ap history_of all.is)
+  ]
+    where
+      both : (kept front : Marked) → entries_of (kept ++ front) ≡ entries_of kept ++ entries_of front
+      both [] front = refl
+      both (Told entry ∷ kept) front = ap (λ h. entry ∷ h) (both kept front)
+      both (Noted mark ∷ kept) front = both kept front
+
   pub step_adds : (event : Event) (answer : Reply) → Does g event old answer new → Adds event answer old.core new.core
   step_adds (Command seat command) answer does = does.1
   step_adds (Begin rounds) answer does = does.1
@@ -108,6 +126,7 @@ module _ {D : Type 0} (g : Ghosts D) (old new : WorldView D) (world : IsWorld g 
   step_adds Merge answer does = does.1
   step_adds Cancel answer does = does.1
   step_adds Reopen answer does = does.1
+  step_adds Trim answer does = trim_adds answer does.trims
 
   -- ---- the base
 
@@ -126,17 +145,18 @@ module _ {D : Type 0} (g : Ghosts D) (old new : WorldView D) (world : IsWorld g 
   hand_in_base worker place answer (HandsInIfAny.hands_in hands) = handed_base worker place answer hands
   hand_in_base worker place answer (HandsInIfAny.none none idle) = ap (λ (c : CoreView). c.base) idle.core
 
-  pub step_base : (event : Event) (answer : Reply) → Does g event old answer new → new.core.base ≡ old.core.base
-  step_base (Command seat command) answer does = does.0.stays.base
-  step_base (Begin rounds) answer does = does.0.stays.base
-  step_base (Work worker) answer does = work_base worker answer does.works
-  step_base (TakeUp worker) answer does = taken_base worker answer does.takes
-  step_base (HandInAt worker place) answer does = hand_in_base worker place answer does.hands
-  step_base (Perform worker) answer does = ap (λ (c : CoreView). c.base) does.core
-  step_base (PerformAt worker place) answer does = ap (λ (c : CoreView). c.base) does.core
-  step_base Merge answer does = does.0.stays.base
-  step_base Cancel answer does = does.0.stays.base
-  step_base Reopen answer does = does.0.stays.base
+  pub step_base : (event : Event) (answer : Reply) → Does g event old answer new → event ≢ Trim → new.core.base ≡ old.core.base
+  step_base (Command seat command) answer does other = does.0.stays.base
+  step_base (Begin rounds) answer does other = does.0.stays.base
+  step_base (Work worker) answer does other = work_base worker answer does.works
+  step_base (TakeUp worker) answer does other = taken_base worker answer does.takes
+  step_base (HandInAt worker place) answer does other = hand_in_base worker place answer does.hands
+  step_base (Perform worker) answer does other = ap (λ (c : CoreView). c.base) does.core
+  step_base (PerformAt worker place) answer does other = ap (λ (c : CoreView). c.base) does.core
+  step_base Merge answer does other = does.0.stays.base
+  step_base Cancel answer does other = does.0.stays.base
+  step_base Reopen answer does other = does.0.stays.base
+  step_base Trim answer does other = absurd (other refl)
 
   -- ---- the disk
 
@@ -156,6 +176,7 @@ module _ {D : Type 0} (g : Ghosts D) (old new : WorldView D) (world : IsWorld g 
   step_honest Merge answer does = subst g.is_honest does.0.disk
   step_honest Cancel answer does = subst g.is_honest does.0.disk
   step_honest Reopen answer does = subst g.is_honest does.0.disk
+  step_honest Trim answer does = subst g.is_honest does.disk
 
   module _ (P : List (List ℕ) → Type 0) (only_now : Within (g.left_since old.disk (g.moment old.disk)) (g.may_leave old.disk))
       (before : Within (g.may_leave old.disk) P) where
@@ -184,3 +205,4 @@ module _ {D : Type 0} (g : Ghosts D) (old new : WorldView D) (world : IsWorld g 
     step_span Merge answer does after = no_call does.0.disk
     step_span Cancel answer does after = no_call does.0.disk
     step_span Reopen answer does after = no_call does.0.disk
+    step_span Trim answer does after = no_call does.disk

@@ -1,5 +1,5 @@
 -- What an audit is lent is the base and the history of a core.
-use Rattle.std.proofs.Common.{◌≡◌, ◌↔◌, ℕ, Bool, List, Option, Result, Ok, Err, IfOk, IsTrue, reverse, sym, ◌∙◌, ap, subst}
+use Rattle.std.proofs.Common.{◌≡◌, ◌↔◌, ℕ, Bool, List, Result, Ok, Err, IfOk, IsTrue, reverse, sym, ◌∙◌, ap}
 use Rattle.std.proofs.lemmas.List.{reverse-reverse}
 use Rattle.sd_audit.specs.ShowsOne.{ShowsOne}
 use Rattle.sd_belief.specs.Shown.{ShowsAllowed}

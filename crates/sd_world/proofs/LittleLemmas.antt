@@ -10,7 +10,7 @@ use Rattle.sd_journal.specs.History.{History}
 use Rattle.sd_belief.specs.Calls.{AddsByStep, IsOut}
 use Rattle.sd_belief.specs.View.{CoreView, history_of}
 use Rattle.sd_world.specs.declared.event.Event.{Event}
-use Rattle.sd_world.specs.declared.event.Event.TheVariants.{Command, Begin, Work, TakeUp, HandInAt, Perform, PerformAt, Merge, Cancel, Reopen}
+use Rattle.sd_world.specs.declared.event.Event.TheVariants.{Command, Begin, Work, TakeUp, HandInAt, Perform, PerformAt, Merge, Cancel, Reopen, Trim}
 use Rattle.sd_world.specs.Consistent.{IsWorld}
 use Rattle.sd_world.specs.Little.{DoesLittle, WorksLittle}
 use Rattle.sd_world.specs.Steps.{Does, HandsInAt, HandsInIfAny, TakesUp, Works}
@@ -73,3 +73,4 @@ module _ {D : Type 0} (g : Ghosts D) (old new : WorldView D) (world : IsWorld g 
   step_little Merge answer does = tt
   step_little Cancel answer does = tt
   step_little Reopen answer does = tt
+  step_little Trim answer does = tt

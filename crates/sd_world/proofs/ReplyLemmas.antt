@@ -22,8 +22,8 @@ use Rattle.sd_belief.specs.Shown.{ShowsAllowed}
 use Rattle.sd_belief.specs.View.{CoreView, history_of}
 use Rattle.sd_gate.specs.declared.worker.Worker.{Worker}
 use Rattle.sd_world.specs.declared.event.Event.{Event}
-use Rattle.sd_world.specs.declared.event.Event.TheVariants.{Command as CommandEvent, Begin, Work, TakeUp, HandInAt, Perform, PerformAt, Merge, Cancel, Reopen}
-use Rattle.sd_world.specs.Adds.{Adds, AddsByCommand, AddsByPerform, AddsByWork}
+use Rattle.sd_world.specs.declared.event.Event.TheVariants.{Command as CommandEvent, Begin, Work, TakeUp, HandInAt, Perform, PerformAt, Merge, Cancel, Reopen, Trim}
+use Rattle.sd_world.specs.Adds.{Adds, AddsByCommand, AddsByPerform, AddsByTrim, AddsByWork}
 use Rattle.sd_world.specs.Runs.{ShowsFreeze, ShowsReply}
 
 pub marked_legal : (base : Base) (items : Marked) → IsMarked base items → IsLegal base (entries_of items)
@@ -199,6 +199,21 @@ says_command base contents seat asked answer old new adds legal = elim adds [
   | inr (unjournaled, is) ↦ subst (λ a. ShowsReply a base new contents) (sym unjournaled.is) tt
 ]
 
+says_trim : (base : Base) (history : History) (contents : List (List ℕ)) (answer : Reply) (old new : History) → AddsByTrim answer old new → ShowsReply answer base history contents
+says_trim base history contents (reply.Trimmed count) old new adds = tt
+says_trim base history contents (reply.Refused why) old new adds = tt
+says_trim base history contents reply.Done old new adds = absurd adds
+says_trim base history contents (reply.Bytes bytes) old new adds = absurd adds
+says_trim base history contents (reply.Child space) old new adds = absurd adds
+says_trim base history contents reply.NeedsFault old new adds = absurd adds
+says_trim base history contents (reply.Segv why) old new adds = absurd adds
+says_trim base history contents (reply.Begun n) old new adds = absurd adds
+says_trim base history contents reply.Worked old new adds = absurd adds
+says_trim base history contents (reply.Acked n) old new adds = absurd adds
+says_trim base history contents (reply.Cancelled n) old new adds = absurd adds
+says_trim base history contents (reply.Merged serial) old new adds = absurd adds
+says_trim base history contents (reply.Reopened m) old new adds = absurd adds
+
 pub says : (event : Event) (answer : Reply) (old new : CoreView) (contents : List (List ℕ)) → Adds event answer old new → IsLegal new.base (history_of new)
     → ShowsAllowed new.base (history_of new) contents → ShowsReply answer new.base (history_of new) contents
 says (CommandEvent seat asked) answer old new contents adds legal allowed =
@@ -215,3 +230,4 @@ says (PerformAt worker place) answer old new contents adds legal allowed = says_
 says Merge answer old new contents adds legal allowed = says_order new.base (history_of new) contents answer (history_of old) (history_of new) adds
 says Cancel answer old new contents adds legal allowed = says_cancel new.base (history_of new) contents answer (history_of old) (history_of new) adds
 says Reopen answer old new contents adds legal allowed = says_order new.base (history_of new) contents answer (history_of old) (history_of new) adds
+says Trim answer old new contents adds legal allowed = says_trim new.base (history_of new) contents answer (history_of old) (history_of new) adds

@@ -1,20 +1,23 @@
 -- What each event does to a world.
-use Rattle.std.proofs.Common.{◌≡◌, ℕ, slice_set, sym, ◌∙◌, ap, subst, inl, inr}
+use Rattle.std.proofs.Common.{◌≡◌, ℕ, Some, length, map, slice_get, slice_set, sym, ◌∙◌, ap, subst, inl, inr}
 use Rattle.sd_command.specs.declared.reply.Reply.{Reply}
+use Rattle.sd_disk.specs.Contents.{file_at}
 use Rattle.sd_disk.specs.declared.disk.Disk.{Ghosts}
+use Rattle.sd_gate.specs.declared.phase.Phase.{Phase}
 use Rattle.sd_gate.specs.declared.worker.Worker.{Worker}
 use Rattle.sd_gate.specs.Laws.{GivenUpFits, WritesCommute}
 use Rattle.sd_store_laws.specs.GateSteps.{SyncedIsFound}
 use Rattle.sd_belief.specs.Laws.{PerformedIsBelieved}
 use Rattle.sd_world.specs.declared.event.Event.{Event}
-use Rattle.sd_world.specs.declared.event.Event.TheVariants.{Command, Begin, Work, TakeUp, HandInAt, Perform, PerformAt, Merge, Cancel, Reopen}
+use Rattle.sd_world.specs.declared.event.Event.TheVariants.{Command, Begin, Work, TakeUp, HandInAt, Perform, PerformAt, Merge, Cancel, Reopen, Trim}
 use Rattle.sd_world.specs.declared.kept.Kept.TheVariants.{Nothing, Request, Outcome}
-use Rattle.sd_world.specs.Consistent.{IsWorld}
-use Rattle.sd_world.specs.Steps.{Does, HandsInAt, HandsInIfAny, IsOrder, Performs, TakesUp, Works}
-use Rattle.sd_world.specs.View.{WorldView}
+use Rattle.sd_world.specs.Consistent.{FitsNow, IsWorld, slot_now}
+use Rattle.sd_world.specs.Steps.{Does, HandsInAt, HandsInIfAny, IsOrder, IsTrim, Performs, TakesUp, Works}
+use Rattle.sd_world.specs.View.{WorldView, asked_of}
 use Rattle.sd_world.proofs.AnewLemmas.{anew_world}
 use Rattle.sd_world.proofs.HandInLemmas.{handed_world}
 use Rattle.sd_world.proofs.PerformLemmas.{performed_world}
+use Rattle.sd_world.proofs.TrimLemmas.{trim_outs, trim_phases}
 use Rattle.sd_world.proofs.Worlds.{hands_out_world, same_lane, stays_world}
 
 module _ {D : Type 0} (g : Ghosts D) (old new : WorldView D) (gives : GivenUpFits (g.contents old.disk) (g.may_leave old.disk))
@@ -26,6 +29,23 @@ module _ {D : Type 0} (g : Ghosts D) (old new : WorldView D) (gives : GivenUpFit
 
   order_world : IsOrder old new → IsWorld g new
   order_world order = same_rest order.disk order.kept (stays_world g old.disk old.core new.core old.kept gives order.stays world)
+
+  trim_world : (answer : Reply) → IsTrim old answer new → IsWorld g new
+  trim_world answer trim = same_rest trim.disk trim.kept (record {
+    count = world.count ∙ ap length (sym (trim_phases old.core answer new.core trim.trims));
+    outs = trim_outs old.core answer new.core trim.trims ∙ world.outs;
+    places = world.places;
+    consistent = λ honest.
+        let was = world.consistent honest in
+        record {
+          bodies = was.bodies;
+          believes = trim.goes_on (map asked_of old.kept) was.bodies (g.contents old.disk) was.believes;
+          stands = subst (λ phases. (slot : ℕ) (phase : Phase) → slice_get phases slot ≡ Some phase
+              → FitsNow g old.disk slot (slot_now old.kept slot (record { phase = phase; body = file_at was.bodies slot })))
+              (sym (trim_phases old.core answer new.core trim.trims)) was.stands;
+          told = was.told;
+        };
+  })
 
   takes_world : (worker : Worker) (answer : Reply) → TakesUp worker old.core old.kept answer new.core new.kept → new.disk ≡ old.disk → IsWorld g new
   takes_world worker answer (TakesUp.step makes job left) disk = same_rest disk left (elim makes.keeps [
@@ -72,3 +92,4 @@ module _ {D : Type 0} (g : Ghosts D) (old new : WorldView D) (gives : GivenUpFit
   step_world Merge answer does = order_world does.0
   step_world Cancel answer does = order_world does.0
   step_world Reopen answer does = order_world does.0
+  step_world Trim answer does = trim_world answer does

@@ -1,5 +1,5 @@
 -- What an event and its reply add to the journal.
-use Rattle.std.specs.Prelude.{◌≡◌, ◌⊎◌, ℕ, ◌∷◌}
+use Rattle.std.specs.Prelude.{◌≡◌, ◌⊎◌, ℕ, ◌∷◌, ◌++◌, length}
 use Rattle.sd_command.specs.declared.command.Command.{Command}
 use Rattle.sd_command.specs.declared.refusal.Refusal.{Refusal}
 use Rattle.sd_command.specs.declared.reply.Reply.{Reply}
@@ -11,7 +11,7 @@ use Rattle.sd_journal.specs.History.{History}
 use Rattle.sd_belief.specs.Calls.{AddsByCancel, AddsByOrder, AddsByWorked, IsJournaled, IsUnjournaled}
 use Rattle.sd_belief.specs.View.{CoreView, history_of}
 use Rattle.sd_world.specs.declared.event.Event.{Event}
-use Rattle.sd_world.specs.declared.event.Event.TheVariants.{Command as CommandEvent, Begin, Work, TakeUp, HandInAt, Perform, PerformAt, Merge, Cancel, Reopen}
+use Rattle.sd_world.specs.declared.event.Event.TheVariants.{Command as CommandEvent, Begin, Work, TakeUp, HandInAt, Perform, PerformAt, Merge, Cancel, Reopen, Trim}
 
 -- refused with a full journal or for want of memory
 pub record IsUnjournaledReply (answer : Reply) : Type 0 where
@@ -39,6 +39,17 @@ AddsByPerform reply.Worked old new = new ≡ old
 AddsByPerform (reply.Refused why) old new = new ≡ old
 AddsByPerform _ old new = ⊥
 
+-- the order to trim the journal adds nothing, and takes as many entries from the front as it answers
+pub record TakesEntries (count : ℕ) (old new : History) : Type 0 where
+  pub taken : History
+  pub parts : old ≡ new ++ taken
+  pub many : length taken ≡ count
+
+abbrev pub AddsByTrim : Reply → History → History → Type 0
+AddsByTrim (reply.Trimmed count) old new = TakesEntries count old new
+AddsByTrim (reply.Refused why) old new = new ≡ old
+AddsByTrim _ old new = ⊥
+
 abbrev pub AddsBy : Event → CoreView → Reply → History → History → Type 0
 AddsBy (CommandEvent seat command) core answer old new = AddsByCommand seat command answer old new
 AddsBy (Begin rounds) core answer old new = AddsByOrder answer old new
@@ -50,7 +61,8 @@ AddsBy (PerformAt worker place) core answer old new = AddsByPerform answer old n
 AddsBy Merge core answer old new = AddsByOrder answer old new
 AddsBy Cancel core answer old new = AddsByCancel answer old new
 AddsBy Reopen core answer old new = AddsByOrder answer old new
+AddsBy Trim core answer old new = AddsByTrim answer old new
 
--- what an event with this reply adds to the journal of a core
+-- what an event with this reply adds to the journal of a core, or takes from its front
 abbrev pub Adds : Event → Reply → CoreView → CoreView → Type 0
 Adds event answer old new = AddsBy event old answer (history_of old) (history_of new)

@@ -8,7 +8,7 @@ use Rattle.sd_rounds.specs.Dumper.{Running}
 use Rattle.sd_core.specs.Images.{IsAcked}
 use Rattle.sd_core.specs.LittleWork.{IsLittleDump, IsLittlePreDump, OpensPreDump}
 use Rattle.sd_world.specs.declared.event.Event.{Event}
-use Rattle.sd_world.specs.declared.event.Event.TheVariants.{Command, Begin, Work, TakeUp, HandInAt, Perform, PerformAt, Merge, Cancel, Reopen}
+use Rattle.sd_world.specs.declared.event.Event.TheVariants.{Command, Begin, Work, TakeUp, HandInAt, Perform, PerformAt, Merge, Cancel, Reopen, Trim}
 use Rattle.sd_world.specs.declared.call_state.CallState.TheVariants as its
 use Rattle.sd_world.specs.View.{IsAt, WorldView}
 
@@ -34,3 +34,4 @@ DoesLittle (PerformAt worker place) old answer new = Unit {0}
 DoesLittle Merge old answer new = Unit {0}
 DoesLittle Cancel old answer new = Unit {0}
 DoesLittle Reopen old answer new = Unit {0}
+DoesLittle Trim old answer new = Unit {0}

@@ -7,6 +7,7 @@ use Rattle.sd_disk.specs.declared.disk.Disk.{Ghosts}
 use Rattle.sd_image.specs.Shows.{Shows}
 use Rattle.sd_journal.specs.History.{Base, History, at_freeze}
 use Rattle.sd_belief.specs.Shown.{ShowsAllowed}
+use Rattle.sd_belief.specs.View.{history_of}
 use Rattle.sd_world.specs.declared.event.Event.{Event}
 use Rattle.sd_world.specs.Adds.{Adds}
 use Rattle.sd_world.specs.Little.{DoesLittle}
@@ -26,20 +27,7 @@ ShowsReply (reply.Reopened (Some n)) base history contents = ShowsFreeze base hi
 ShowsReply (reply.Reopened None) base history contents = Shows contents None
 ShowsReply _ base history contents = Unit {0}
 
--- a journal that begins with the first, and with which the last begins
-pub record IsBetween (first some last : History) : Type 0 where
-  pub added : History
-  pub grown : some ≡ added ++ first
-  pub more : History
-  pub grows : last ≡ more ++ some
-
--- contents show what such a journal allows
-pub record ShowsAllowedBetween (base : Base) (first last : History) (contents : List (List ℕ)) : Type 0 where
-  pub history : History
-  pub between : IsBetween first history last
-  pub shows : ShowsAllowed base history contents
-
--- what an event does to a world, what it adds to the journal, and what it makes of a checkpoint
+-- what an event does to a world, what it adds to the journal or takes from it, and what it makes of a checkpoint
 pub record IsStep {D : Type 0} (g : Ghosts D) (event : Event) (old : WorldView D) (answer : Reply) (new : WorldView D) : Type 0 where
   pub does : Does g event old answer new
   pub adds : Adds event answer old.core new.core
@@ -51,3 +39,17 @@ Runs g first [] [] last = last ≡ first
 Runs {D} g first (event ∷ events) (answer ∷ answers) last = (next : WorldView D) × IsStep g event first answer next × Runs g next events answers last
 Runs g first [] (answer ∷ answers) last = ⊥
 Runs g first (event ∷ events) [] last = ⊥
+
+-- Contents show what the journal allowed with which a run began, or with which one of its steps ended: that run makes these events, which are
+-- answered so.
+pub record ShowsAllowedWithin {D : Type 0} (g : Ghosts D) (first : WorldView D) (events : List Event) (answers : List Reply) (last : WorldView D) (contents : List (List ℕ)) : Type 0 where
+  pub before : List Event
+  pub told : List Reply
+  pub mid : WorldView D
+  pub there : Runs g first before told mid
+  pub after : List Event
+  pub more : List Reply
+  pub goes_on : Runs g mid after more last
+  pub events_are : events ≡ before ++ after
+  pub answers_are : answers ≡ told ++ more
+  pub shows : ShowsAllowed mid.core.base (history_of mid.core) contents

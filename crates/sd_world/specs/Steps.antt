@@ -18,7 +18,7 @@ use Rattle.sd_gate.specs.Fits.{SlotFits}
 use Rattle.sd_gate.specs.Phases.{after, body_after, is_ready}
 use Rattle.sd_gate.specs.Requests.{Asked, Made}
 use Rattle.sd_rounds.specs.Dumper.{Running}
-use Rattle.sd_belief.specs.Calls.{HandedIn, HandsOut, IsOut, MakesStep, Stays}
+use Rattle.sd_belief.specs.Calls.{GoesOn, HandedIn, HandsOut, IsOut, MakesStep, Stays}
 use Rattle.sd_belief.specs.Laws.{IsMadeOf}
 use Rattle.sd_belief.specs.View.{CoreView}
 use Rattle.sd_core.specs.declared.taken.Taken.{Taken}
@@ -28,11 +28,12 @@ use Rattle.sd_core.specs.LittleWork.{IsLittleDump, IsLittlePreDump, OpensPreDump
 use Rattle.sd_core.specs.Refusals.{work_refusal}
 use Rattle.sd_core.specs.Working.{Leaves, LeavesByOutcome}
 use Rattle.sd_world.specs.declared.event.Event.{Event}
-use Rattle.sd_world.specs.declared.event.Event.TheVariants.{Command, Begin, Work, TakeUp, HandInAt, Perform, PerformAt, Merge, Cancel, Reopen}
+use Rattle.sd_world.specs.declared.event.Event.TheVariants.{Command, Begin, Work, TakeUp, HandInAt, Perform, PerformAt, Merge, Cancel, Reopen, Trim}
 use Rattle.sd_world.specs.declared.kept.Kept.{Kept}
 use Rattle.sd_world.specs.declared.kept.Kept.TheVariants.{Nothing, Request, Outcome}
 use Rattle.sd_world.specs.Adds.{Adds}
 use Rattle.sd_world.specs.declared.call_state.CallState.TheVariants as its
+use Rattle.sd_world.specs.Trims.{TrimsJournal}
 use Rattle.sd_world.specs.View.{IsAt, IsNowhere, WorldView}
 
 -- ---- a worker's event
@@ -161,6 +162,13 @@ pub record IsOrder {D : Type 0} (old new : WorldView D) : Type 0 where
   pub disk : new.disk ≡ old.disk
   pub kept : new.kept ≡ old.kept
 
+-- a trim touches the base and the journal of the core alone, and what that believes of the store stays
+pub record IsTrim {D : Type 0} (old : WorldView D) (answer : Reply) (new : WorldView D) : Type 0 where
+  pub trims : TrimsJournal old.core answer new.core
+  pub goes_on : (asked : List (Option Asked)) → GoesOn old.core asked new.core asked
+  pub disk : new.disk ≡ old.disk
+  pub kept : new.kept ≡ old.kept
+
 pub record IsWork {D : Type 0} (worker : Worker) (old : WorldView D) (answer : Reply) (new : WorldView D) : Type 0 where
   pub works : Works worker old.core old.kept answer new.core new.kept
   pub disk : new.disk ≡ old.disk
@@ -188,3 +196,4 @@ Does g (PerformAt worker place) old answer new = IsPerform g worker place old an
 Does g Merge old answer new = IsOrder old new × Adds Merge answer old.core new.core
 Does g Cancel old answer new = IsOrder old new × Adds Cancel answer old.core new.core
 Does g Reopen old answer new = IsOrder old new × Adds Reopen answer old.core new.core
+Does g Trim old answer new = IsTrim old answer new

@@ -25,4 +25,7 @@ pub enum Event {
     Cancel,
     /// The order to open the store again.
     Reopen,
+    /// The order to trim the journal: up to and with the entry that ended the pending of the last checkpoint it is folded
+    /// into the memory that the run goes on from.
+    Trim,
 }

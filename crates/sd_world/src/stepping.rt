@@ -1,9 +1,11 @@
 //! What an event does to a core, a disk and what is kept.
-ghost use Rattle.std.specs.Prelude.{◌≡◌, ◌<◌, ℕ, Some, length, MatchResult, slice_get};
+ghost use Rattle.std.specs.Prelude.{◌≡◌, ◌<◌, ℕ, List, Option, Some, length, MatchResult, slice_get};
 ghost use Rattle.sd_command.specs.declared.reply.Reply.TheVariants as reply;
 ghost use Rattle.sd_gate.specs.Requests.{Asked, Made};
 ghost use Rattle.sd_rounds.specs.Writes.{IsInLane};
+ghost use Rattle.sd_belief.specs.Calls.{GoesOn};
 ghost use Rattle.sd_world.specs.Steps.{Does, HandsIn, HandsInIfAny, KeepsOutcome, KeepsRequest, Performs, TakesUp, Works, reply_of};
+ghost use Rattle.sd_world.specs.Trims.{TrimsJournal};
 ghost use Rattle.sd_world.specs.declared.kept.Kept.TheVariants.{Outcome as OutcomeKept, Request as RequestKept};
 
 use crate::call_state::CallState;
@@ -122,6 +124,17 @@ fn perform_at<D: Disk>(disk: &mut D, kept: &mut [Kept; LANES], worker: Worker, p
     }
 }
 
+/// Trims the core's journal, and answers how many entries were folded. They are dropped.
+fn trim(core: &mut Core) -> Reply
+    ensures trims { TrimsJournal core.old result core.new }
+    ensures goes_on { (asked : List (Option Asked)) → GoesOn core.old asked core.new asked }
+{
+    match core.trim() {
+        Ok(folded) => Reply::Trimmed(folded.entries.len() as u64),
+        Err(why) => Reply::Refused(why),
+    }
+}
+
 /// Makes one event.
 pub(crate) fn make_step<D: Disk>(
     core: &mut Core,
@@ -145,5 +158,6 @@ pub(crate) fn make_step<D: Disk>(
         Event::Merge => core.merge(),
         Event::Cancel => core.cancel(),
         Event::Reopen => core.reopen(),
+        Event::Trim => trim(core),
     }
 }

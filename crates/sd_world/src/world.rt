@@ -15,11 +15,11 @@ ghost use Rattle.sd_gate.specs.declared.worker.Worker.{Worker as WorkerKind};
 ghost use Rattle.sd_journal.specs.Marked.{IsTracked};
 ghost use Rattle.sd_belief.specs.Shown.{ShowsAllowed};
 ghost use Rattle.sd_belief.specs.View.{history_of};
-ghost use Rattle.sd_world.specs.declared.event.Event.TheVariants.{HandInAt, Perform, PerformAt, TakeUp, Work};
+ghost use Rattle.sd_world.specs.declared.event.Event.TheVariants.{HandInAt, Perform, PerformAt, TakeUp, Trim, Work};
 ghost use Rattle.sd_world.specs.Adds.{Adds};
 ghost use Rattle.sd_world.specs.Little.{DoesLittle};
 ghost use Rattle.sd_world.specs.Restored.{IsRestored};
-ghost use Rattle.sd_world.specs.Runs.{Runs, ShowsAllowedBetween, ShowsReply};
+ghost use Rattle.sd_world.specs.Runs.{Runs, ShowsAllowedWithin, ShowsReply};
 ghost use Rattle.sd_world.specs.Steps.{Does, IsAnswered, LeavesLess};
 ghost use Rattle.sd_world.specs.View.{asked_count, is_asked, nothing_kept};
 
@@ -213,9 +213,9 @@ impl<D: Disk> World<D> {
         // data or zeros those that something touched since their last visit; and a pre-dump has such pages alone.
         ensures little { DoesLittle event.now self.old result self.new }
 
-        // What it adds to the journal. What the run started from stays.
+        // What it adds to the journal, or takes from it. What the run goes on from stays, but by a trim.
         ensures adds { Adds event.now result self.old.core self.new.core }
-        ensures base { self.new.core.base ≡ self.old.core.base }
+        ensures base { event.now ≢ Trim → self.new.core.base ≡ self.old.core.base }
         ensures honest { D.is_honest self.new.disk → D.is_honest self.old.disk }
 
         // At any moment of it a crash leaves what the journal allowed with which it began.
@@ -257,14 +257,12 @@ impl<D: Disk> World<D> {
         ensures runs { IfOk result
             (λ replies. Runs D.Disk self.old events.now replies.items self.new) }
         ensures refused { IfErr result (λ why. (why ≡ OutOfMemory) × (self.new ≡ self.old)) }
-        ensures base { self.new.core.base ≡ self.old.core.base }
         ensures honest { D.is_honest self.new.disk → D.is_honest self.old.disk }
 
         // At any moment of it a crash leaves what the journal allowed with which it began, or with which a step ended.
-        ensures any_moment { D.is_honest self.new.disk
+        ensures any_moment { IfOk result (λ replies. D.is_honest self.new.disk
             → LeavesOnly D.Disk self.old.disk self.new.disk
-            (ShowsAllowedBetween self.old.core.base (history_of self.old.core)
-            (history_of self.new.core)) }
+            (ShowsAllowedWithin D.Disk self.old events.now replies.items self.new)) }
         // At its end a crash leaves what the journal allows then, and so do the contents as read.
         ensures at_end { D.is_honest self.new.disk → Within (D.may_leave self.new.disk)
             (ShowsAllowed self.new.core.base (history_of self.new.core)) }

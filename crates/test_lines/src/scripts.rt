@@ -60,7 +60,7 @@ const LINES: [(&str, &str); 19] = [
     ("checkpoint 0", "[Checkpoint(0)]"),
     ("begin 0x9\ncheckpoint 8", "[Begin(9), Checkpoint(8)]"),
     ("begin-merge\ncancel", "[BeginMerge, Cancel]"),
-    ("merge\nreopen", "[Merge, Reopen]"),
+    ("merge\nreopen\ntrim", "[Merge, Reopen, Trim]"),
     ("work dumper", "[Work(Dumper)]"),
     ("perform merger", "[Perform(Merger)]"),
     ("step opener 1", "[Step { worker: Opener, count: 1 }]"),

@@ -3,7 +3,7 @@ use Rattle.std.proofs.Common.{sym, subst}
 use Rattle.sd_run.specs.Goes.{GoesOn}
 use Rattle.sd_run.specs.Jobs.{IsDriven}
 use Rattle.sd_run.proofs.LineLemmas.{answered_as}
-use Rattle.sd_run.proofs.lines.answer.Goals.{in-Command, in-Begin, in-BeginMerge, in-Cancel, in-Work, in-Perform, in-PerformAt, in-Step, in-Finish, in-Checkpoint, in-Merge, in-Reopen}
+use Rattle.sd_run.proofs.lines.answer.Goals.{in-Command, in-Begin, in-BeginMerge, in-Cancel, in-Work, in-Perform, in-PerformAt, in-Step, in-Finish, in-Checkpoint, in-Merge, in-Reopen, in-Trim}
 use Rattle.sd_run.proofs.lines.answer.Goals as goal
 
 pub returns-clause-answered : goal.returns-clause-answered
@@ -37,6 +37,8 @@ returns-clause-answered g c =
           w.do_job-reply-in-Merge.ensures.job
       | in-Reopen w ↦ answered_as g.D.Disk first last w.do_job-reply-in-Reopen.new.world line _ reply w.do_job-reply-in-Reopen.result w.in-Reopen.is w.reply-is w.world-is
           w.do_job-reply-in-Reopen.ensures.job
+      | in-Trim w ↦ answered_as g.D.Disk first last w.make-reply-in-Trim.new.world line _ reply w.make-reply-in-Trim.result w.in-Trim.is w.reply-is w.world-is
+          w.make-reply-in-Trim.ensures.step
     ]
 
 pub returns-clause-goes_on : goal.returns-clause-goes_on
@@ -55,4 +57,5 @@ returns-clause-goes_on g c =
       | in-Checkpoint w ↦ subst (GoesOn g.D.Disk first) (sym w.world-is) w.do_job-reply.ensures.goes_on
       | in-Merge w ↦ subst (GoesOn g.D.Disk first) (sym w.world-is) w.do_job-reply-in-Merge.ensures.goes_on
       | in-Reopen w ↦ subst (GoesOn g.D.Disk first) (sym w.world-is) w.do_job-reply-in-Reopen.ensures.goes_on
+      | in-Trim w ↦ subst (GoesOn g.D.Disk first) (sym w.world-is) w.make-reply-in-Trim.ensures.goes_on
     ]

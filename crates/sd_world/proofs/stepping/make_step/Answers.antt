@@ -18,3 +18,8 @@ pub returns-in-PerformAt : goal.returns-in-PerformAt
 returns-in-PerformAt g c = subst (λ e. Does g.D.Disk e (record { core = c.args.core.now; disk = c.args.disk.now; kept = c.args.kept.now }) c.perform_at-in-PerformAt.result
     (record { core = c.args.core.now; disk = c.perform_at-in-PerformAt.new.disk; kept = c.perform_at-in-PerformAt.new.kept })) (sym c.in-PerformAt.is)
     (record { performs = c.perform_at-in-PerformAt.ensures; core = refl })
+
+pub returns-in-Trim : goal.returns-in-Trim
+returns-in-Trim g c = subst (λ e. Does g.D.Disk e (record { core = c.args.core.now; disk = c.args.disk.now; kept = c.args.kept.now }) c.trim.result
+    (record { core = c.trim.new.core; disk = c.args.disk.now; kept = c.args.kept.now })) (sym c.in-Trim.is)
+    (record { trims = c.trim.ensures.trims; goes_on = c.trim.ensures.goes_on; disk = refl; kept = refl })

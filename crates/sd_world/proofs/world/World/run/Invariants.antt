@@ -1,8 +1,6 @@
 use Rattle.std.proofs.Common.{◌≡◌, length, take, vec_len, vec_capacity}
 use Rattle.sd_disk.specs.Spans.{LeavesOnly}
-use Rattle.sd_belief.specs.View.{history_of}
-use Rattle.sd_world.specs.Runs.{Runs, ShowsAllowedBetween}
-use Rattle.sd_world.proofs.RunLemmas.{HasGrown}
+use Rattle.sd_world.specs.Runs.{Runs, ShowsAllowedWithin}
 use Rattle.sd_world.proofs.world.World.run.Given as goal
 
 abbrev pub invariant-loop-event : goal.invariant-loop-event
@@ -10,9 +8,7 @@ invariant-loop-event g l = record {
   runs : Runs g.D.Disk l.fn.self (take l.event-index l.events) l.replies.items l.self;
   count : vec_len l.replies ≡ l.event-index;
   room : vec_capacity l.replies ≡ length l.events;
-  base : l.self.core.base ≡ l.fn.self.core.base;
-  grown : HasGrown (history_of l.fn.self.core) (history_of l.self.core);
   honest : g.D.Disk.is_honest l.self.disk → g.D.Disk.is_honest l.fn.self.disk;
   span : g.D.Disk.is_honest l.self.disk → LeavesOnly g.D.Disk l.fn.self.disk l.self.disk
-      (ShowsAllowedBetween l.fn.self.core.base (history_of l.fn.self.core) (history_of l.self.core));
+      (ShowsAllowedWithin g.D.Disk l.fn.self (take l.event-index l.events) l.replies.items l.self);
 }
