@@ -1,5 +1,5 @@
 -- How a run goes on, step by step.
-use Rattle.std.proofs.Common.{◌≡◌, List, [], ◌∷◌, ◌++◌, refl, sym, ◌∙◌, ap, subst}
+use Rattle.std.proofs.Common.{List, [], ◌∷◌, ◌++◌, refl, sym, ◌∙◌, ap, subst}
 use Rattle.std.proofs.lemmas.List.{append_assoc}
 use Rattle.sd_command.specs.declared.reply.Reply.{Reply}
 use Rattle.sd_disk.specs.Crash.{Within}

@@ -16,4 +16,6 @@ mod rows;
 #[cfg(test)]
 mod run;
 #[cfg(test)]
+mod trims;
+#[cfg(test)]
 mod writes;

@@ -8,6 +8,7 @@ use crate::holds::{Free, merges_in_13_calls, saves_in_16_calls};
 use crate::jobs::Job;
 use crate::mutator::Mutator;
 use crate::told::Told;
+use crate::trimming::trims_beside;
 use crate::writers::{falls_beside, writes_beside};
 use sd_command::{Refusal, Reply};
 use sd_core::Core;
@@ -53,6 +54,8 @@ enum Case {
     Relayed,
     /// One of which the first page's write fails, and another one.
     RelayFalls,
+    /// Checkpoints beside two mutators, each of which is trimmed.
+    Trimmed,
 }
 
 impl Case {
@@ -157,6 +160,7 @@ fn act<R: Threads + Wait + Clock + Abort + Sync>(
             falls_beside(rt, shared);
             Ok(acks.push(2)?)
         }
+        Case::Trimmed => trims_beside(rt, alloc, shared, mutators),
         Case::Cancelled => {
             let ended = cancel_beside(rt, shared, acks);
             assert_eq!(rt; ended, (Some(Refusal::Idle), true));
@@ -250,7 +254,8 @@ fn audits(
     let mut other = empty(alloc)?;
     let is_kept = !disk.drops;
     assert_eq!(rt; audit_again(alloc, core, disk), Ok(is_kept));
-    assert_eq!(rt; audit_again(alloc, core, &mut other), Ok(acks.is_empty()));
+    let is_empty = core.base_number().is_none() && acks.is_empty();
+    assert_eq!(rt; audit_again(alloc, core, &mut other), Ok(is_empty));
     Ok(())
 }
 
@@ -343,4 +348,10 @@ fn two_writers(rt: HostRuntime) -> Result<(), Fail> {
 #[test]
 fn a_write_of_another_thread_fails(rt: HostRuntime) -> Result<(), Fail> {
     run(&rt, rt.alloc(), Case::RelayFalls)
+}
+
+/// Each checkpoint is trimmed behind its acknowledgement, while two mutators store.
+#[test]
+fn trims_while_threads_store(rt: HostRuntime) -> Result<(), Fail> {
+    run(&rt, rt.alloc(), Case::Trimmed)
 }

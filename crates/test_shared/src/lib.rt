@@ -20,4 +20,6 @@ mod mutator;
 #[cfg(test)]
 mod told;
 #[cfg(test)]
+mod trimming;
+#[cfg(test)]
 mod writers;

@@ -29,6 +29,15 @@ pub(crate) fn steps(world: &mut Tested, count: u64) -> Reply {
     last
 }
 
+/// One event so often. Returns the last reply.
+pub(crate) fn repeat(world: &mut Tested, event: &Event, count: u64) -> Reply {
+    let mut last = Reply::Worked;
+    for _ in 0..count {
+        last = world.step(event);
+    }
+    last
+}
+
 /// The events of a worker until one is answered by more than that it was made. Returns that reply.
 pub(crate) fn finish(world: &mut Tested, worker: Worker) -> Reply {
     for _ in 0..MOST {

@@ -10,6 +10,8 @@ mod commands;
 #[cfg(test)]
 mod driver;
 #[cfg(test)]
+mod full;
+#[cfg(test)]
 mod lines;
 #[cfg(test)]
 mod opening;

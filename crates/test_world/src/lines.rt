@@ -1,5 +1,5 @@
 //! Scripts of a test: each line is what a world is asked, and what it has to answer.
-use crate::driver::{Tested, cancel_or_finish, finish, steps};
+use crate::driver::{Tested, cancel_or_finish, finish, repeat, steps};
 use sd_areas::{Prot, SpaceId};
 use sd_command::{Bytes, Command, Reply};
 use sd_gate::Worker;
@@ -33,6 +33,14 @@ fn load() -> Command {
         space: first(),
         address: ADDRESS,
         count: 1,
+    }
+}
+
+/// The event of a load.
+fn loading() -> Event {
+    Event::Command {
+        seat: 0,
+        command: load(),
     }
 }
 
@@ -71,6 +79,7 @@ fn event(alloc: Global, word: &str, number: u64) -> Result<Event, AllocError> {
         "begin" => Event::Begin(number),
         "reopen" => Event::Reopen,
         "cancel" => Event::Cancel,
+        "trim" => Event::Trim,
         "merge" => Event::Merge,
         "work-dumper" => Event::Work(Worker::Dumper),
         "work-merger" => Event::Work(Worker::Merger),
@@ -101,6 +110,7 @@ fn ask(alloc: Global, world: &mut Tested, request: &str) -> Result<Reply, AllocE
     let (word, number) = parts(request);
     match word {
         "steps" => Ok(steps(world, number)),
+        "loads" => Ok(repeat(world, &loading(), number)),
         "finish" => Ok(finish(world, Worker::Dumper)),
         "open" => Ok(finish(world, Worker::Opener)),
         "cancel-or-finish" => Ok(cancel_or_finish(world)),

@@ -1,4 +1,4 @@
-use Rattle.std.proofs.Common.{◌≡◌, ◌≤◌, ◌<◌, ◌+◌, ℕ, Bool, true, false, refl, sym, ◌∙◌, ap, subst, arith}
+use Rattle.std.proofs.Common.{◌≡◌, Bool, true, false, refl, sym, ◌∙◌, ap, arith}
 use Rattle.sd_core.specs.Working.{left_by}
 use Rattle.sd_run.specs.Jobs.{is_end}
 use Rattle.sd_run.proofs.DriveLemmas.{driven_on}
