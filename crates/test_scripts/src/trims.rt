@@ -26,8 +26,7 @@ checkpoint 0 => acked 2
 trim => trimmed 3
 words 1 0x10000 1 => words 8100000000000000";
 
-const TRIMMED_LISTED: &str =
-    "slot 000 dump serial 1 stands 1 parent 0 checkpoint 1 pages 1
+const TRIMMED_LISTED: &str = "slot 000 dump serial 1 stands 1 parent 0 checkpoint 1 pages 1
 slot 001 dump serial 2 stands 2 parent 1 checkpoint 2 pages 0
 tip 2
 ";
@@ -59,8 +58,7 @@ checkpoint 0 => acked 3
 trim => trimmed 4
 load 1 0x10000 5 => bytes 68656c6c6f";
 
-const AFTER_CANCEL_LISTED: &str =
-    "slot 000 dump serial 1 stands 1 parent 0 checkpoint 1 pages 1
+const AFTER_CANCEL_LISTED: &str = "slot 000 dump serial 1 stands 1 parent 0 checkpoint 1 pages 1
 slot 001 dump serial 3 stands 3 parent 0 checkpoint 3 pages 1
 tip 3
 ";
@@ -78,8 +76,7 @@ begin-merge => worked
 trim => trimmed 2
 finish merger => merged 4";
 
-const BESIDE_MERGE_LISTED: &str =
-    "slot 002 merged serial 4 stands 3 parent 0 checkpoint 2 pages 1
+const BESIDE_MERGE_LISTED: &str = "slot 002 merged serial 4 stands 3 parent 0 checkpoint 2 pages 1
 tip 4
 ";
 
@@ -106,11 +103,7 @@ checkpoint 0 => acked 3
 trim => trimmed 4";
 
 /// What a store is restored to.
-fn is_saved(
-    rt: &(impl Abort + AllocGlobal),
-    disk: &mut MemDisk,
-    number: u64,
-) -> Result<(), Fail> {
+fn is_saved(rt: &(impl Abort + AllocGlobal), disk: &mut MemDisk, number: u64) -> Result<(), Fail> {
     let wanted = format!(in rt.alloc(); "checkpoint {number}\n{HELLO}")?;
     is_shown(rt, disk, wanted.as_str())
 }
@@ -160,18 +153,23 @@ const STEPS: u64 = 36;
 
 /// The rows of a checkpoint that is trimmed behind so many of its steps.
 fn trimmed_behind(alloc: Global, steps: u64) -> Result<String, Fail> {
-    let mut rows = String::from_str(alloc, "mmap 1 0x10000 4096 rw => done
+    let mut rows = String::from_str(
+        alloc,
+        "mmap 1 0x10000 4096 rw => done
 store 1 0x10000 61 => done
 checkpoint 0 => acked 1
 store 1 0x10000 68656c6c6f => done
 begin 0 => begun 2
-")?;
+",
+    )?;
     write!(rows, "step dumper {steps} => worked\n")?;
-    rows.push_str("trim => trimmed 5
+    rows.push_str(
+        "trim => trimmed 5
 trim => refused 14 idle
 finish dumper => acked 2
 trim => trimmed 3
-load 1 0x10000 5 => bytes 68656c6c6f")?;
+load 1 0x10000 5 => bytes 68656c6c6f",
+    )?;
     Ok(rows)
 }
 

@@ -7,11 +7,10 @@ use sd_journal::{CloseFault, Receipt};
 use sd_receipts::Folded;
 use sd_shared::{Shared, Thaw};
 use std::alloc::{AllocError, Global};
-use std::mem;
 use std::process::Abort;
 use std::sync::Wait;
-use std::thread;
 use std::thread::Threads;
+use std::{mem, thread};
 
 /// How many numbers each mutator stores, and loads back.
 const STORES: u64 = 300;
@@ -85,7 +84,10 @@ pub(crate) struct Part {
 }
 
 /// Makes a checkpoint of one round, and trims the journal.
-fn save_and_trim(rt: &(impl Threads + Wait + Sync), shared: &Shared<Store>) -> Result<Part, Refusal> {
+fn save_and_trim(
+    rt: &(impl Threads + Wait + Sync),
+    shared: &Shared<Store>,
+) -> Result<Part, Refusal> {
     match shared.run_dumper(rt, 1, &Free) {
         Reply::Acked(acked) => Ok(Part {
             folded: shared.trim(rt)?,

@@ -23,7 +23,9 @@ const MOST: u64 = 20_000;
 
 /// How many slots the store has, how many bytes each, and how many calls are recorded.
 const SLOTS: usize = 4;
+
 const BYTES: usize = 400_000;
+
 const CALLS: usize = 20_000;
 
 fn command(command: Command) -> Event {

@@ -105,6 +105,7 @@ impl Account {
                 Ok(self.take_work(*worker, reply))
             }
             Event::Cancel => Ok(self.take_cancel(reply)),
+            Event::Trim => Ok(self.take_trim(reply)),
             Event::Perform(_) | Event::PerformAt(..) | Event::Merge | Event::Reopen => {
                 Ok(is_plain(reply))
             }
@@ -128,6 +129,14 @@ impl Account {
             return Ok(false);
         }
         self.memory.apply(command, reply)
+    }
+
+    /// Entries are folded only up to a checkpoint.
+    fn take_trim(&self, reply: &Reply) -> bool {
+        match reply {
+            Reply::Trimmed(_) => self.last.is_some(),
+            _ => is_plain(reply),
+        }
     }
 
     fn take_begin(&mut self, reply: &Reply) -> bool {

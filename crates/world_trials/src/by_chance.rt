@@ -140,6 +140,7 @@ fn event(alloc: Global, course: &Course, chance: &mut Chance) -> Result<Event, A
         69..=98 => Event::TakeUp(worker(chance)),
         99..=106 => Event::PerformAt(worker(chance), chance.below(4)),
         107..=112 => Event::HandInAt(worker(chance), chance.below(4)),
+        113..=115 => Event::Trim,
         _ => for_job(course, chance),
     })
 }
