@@ -33,9 +33,6 @@ module _ {X Y : Type 0} (f : X → Y) where
     pub rises : Rise all
     pub same : mapped f copy ++ mapped f rest ≡ mapped f all
 
-  pub none_copied : (all rest copy : List (ℕ × X)) → rest ≡ all → copy ≡ [] → Rise all → IsCopied all rest copy
-  none_copied all rest copy e none rises = record { rises = rises; same = ap (λ es. mapped f es ++ mapped f rest) none ∙ ap (mapped f) e }
-
   keys_joined : (es fs : List (ℕ × X)) → keys_of (mapped f es ++ mapped f fs) ≡ keys_of (es ++ fs)
   keys_joined [] fs = keys_of-map_values f fs
   keys_joined (e ∷ es) fs = ap (λ ks. e.0 ∷ ks) (keys_joined es fs)

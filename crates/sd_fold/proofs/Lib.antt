@@ -1,2 +1,10 @@
+pub mod AddedLemmas
 pub mod CopyLemmas
+pub mod LegalLemmas
+pub mod OverLemmas
+pub mod OverlayLemmas
+pub mod RoomLemmas
 pub mod Seen
+pub mod SettledLemmas
+pub mod Tables
+pub mod WalkLemmas

@@ -21,18 +21,6 @@ use Rattle.sd_areas.specs.PlainMemory.{Space}
 abbrev pub Rise : {X : Type 0} → List (ℕ × X) → Type 0
 Rise es = IsStrictlySortedBy nat_cmp (keys_of es)
 
-both : (a b : Bool) → T a → T b → T (a && b)
-both true b p q = q
-both false b p q = p
-
-below : {X : Type 0} (k : ℕ) (es : List (ℕ × X)) → AllByRecursion (λ y. nat_cmp k y ≡ Less) (keys_of es) → T (below_all nat_cmp k es)
-below k [] h = tt
-below k (e ∷ es) h = both _ _ (subst (λ o. T (is_lt o)) (sym h.0) tt) (below k es h.1)
-
-is_in_order : {X : Type 0} (es : List (ℕ × X)) → Rise es → T (is_sorted nat_cmp es)
-is_in_order [] h = tt
-is_in_order (e ∷ es) h = both _ _ (below e.0 es (sorted_head nat_cmp e.0 (keys_of es) h)) (is_in_order es (sorted_tail nat_cmp e.0 (keys_of es) h))
-
 module _ {X Y : Type 0} (f : X → Y) where
   -- the entries as they are seen
   abbrev pub mapped : List (ℕ × X) → List (ℕ × Y)
@@ -40,15 +28,6 @@ module _ {X Y : Type 0} (f : X → Y) where
 
   abbrev pub seen : List (ℕ × X) → finmap.FinMap nat_cmp Y
   seen es = finmap.from_entries (mapped es)
-
-  pub rise_mapped : (es : List (ℕ × X)) → Rise es → Rise (mapped es)
-  rise_mapped es h = subst (IsStrictlySortedBy nat_cmp) (sym (keys_of-map_values f es)) h
-
-  -- equal maps have equal entries
-  pub same_mapped : (es fs : List (ℕ × X)) → Rise es → Rise fs → seen es ≡ seen fs → mapped es ≡ mapped fs
-  same_mapped es fs rises others e = same_entries nat_cmp nat_cmp_total nat_cmp-IsAntisymmetric (mapped es) (mapped fs)
-      (is_in_order (mapped es) (rise_mapped es rises)) (is_in_order (mapped fs) (rise_mapped fs others))
-      (λ q. sym (get-from_entries nat_cmp_total (mapped es) q) ∙ ap (λ m. finmap.get m q) e ∙ get-from_entries nat_cmp_total (mapped fs) q)
 
 -- the pages of one of a snapshot's spaces
 abbrev pub pages_in : BTreeMap ℕ SnapshotPage → Space

@@ -1,41 +1,22 @@
-//! Copies of snapshots.
+//! Pages that are made anew.
 ghost use Rattle.std.specs.Prelude.{◌≡◌, IfOk};
-ghost use Rattle.sd_areas.specs.Memory.{memory_of, page_of_snapshot, space_of};
+ghost use Rattle.std.specs.Option.{option_copied, option_map};
+ghost use Rattle.sd_areas.specs.Memory.{page_of_snapshot};
+ghost use Rattle.sd_pagetable.specs.Page.{zeros};
 
-use sd_areas::{PageNo, Snapshot, SnapshotPage};
+use sd_areas::{PAGE_SIZE, Prot, SnapshotPage};
 use std::alloc::{AllocError, Global};
-use std::collections::BTreeMap;
 
-/// The pages of a space by their numbers.
-pub(crate) type Pages = BTreeMap<PageNo, SnapshotPage>;
-
-/// A copy of a snapshot.
-pub(crate) fn copy_of(alloc: Global, snapshot: &Snapshot) -> Result<Snapshot, AllocError>
-    ensures { IfOk result (λ copy. memory_of copy ≡ memory_of snapshot.now) }
+/// A page of zeros.
+pub(crate) fn zero_page(alloc: Global, prot: Prot) -> Result<SnapshotPage, AllocError>
+    ensures { IfOk result (λ page. page_of_snapshot page ≡ record { prot = prot; bytes = zeros }) }
 {
-    let mut spaces = BTreeMap::new(alloc);
-    for (space, pages) in &snapshot.spaces {
-        spaces.insert(*space, copy_of_space(alloc, pages)?)?;
-    }
-    Ok(Snapshot {
-        checkpoint: snapshot.checkpoint,
-        spaces,
-    })
-}
-
-/// A copy of the pages of a space.
-fn copy_of_space(alloc: Global, pages: &Pages) -> Result<Pages, AllocError>
-    ensures { IfOk result (λ copy. space_of copy.entries ≡ space_of pages.now.entries) }
-{
-    let mut copy = BTreeMap::new(alloc);
-    for (page, found) in pages {
-        copy.insert(*page, copy_of_page(alloc, found)?)?;
-    }
-    Ok(copy)
+    let bytes = Box::new(alloc, [0; PAGE_SIZE])?;
+    Ok(SnapshotPage { prot, bytes })
 }
 
 /// A copy of a page.
-fn copy_of_page(alloc: Global, page: &SnapshotPage) -> Result<SnapshotPage, AllocError>
+pub(crate) fn copy_of_page(alloc: Global, page: &SnapshotPage) -> Result<SnapshotPage, AllocError>
     ensures { IfOk result (λ copy. page_of_snapshot copy ≡ page_of_snapshot page.now) }
 {
     let bytes = Box::new(alloc, *page.bytes)?;
@@ -43,4 +24,18 @@ fn copy_of_page(alloc: Global, page: &SnapshotPage) -> Result<SnapshotPage, Allo
         prot: page.prot,
         bytes,
     })
+}
+
+/// A copy of a page, where there is one.
+pub(crate) fn copy_of_found(
+    alloc: Global,
+    found: Option<&SnapshotPage>,
+) -> Result<Option<SnapshotPage>, AllocError>
+    ensures { IfOk result (λ copy. option_map page_of_snapshot copy
+        ≡ option_map page_of_snapshot (option_copied found.entry)) }
+{
+    match found {
+        Some(page) => Ok(Some(copy_of_page(alloc, page)?)),
+        None => Ok(None),
+    }
 }

@@ -4,13 +4,18 @@ ghost use Rattle.sd_areas.specs.Memory.{memory_of};
 ghost use Rattle.sd_journal.specs.History.{Base, memory_after};
 ghost use Rattle.sd_journal.specs.Legal.{IsLegal};
 
-use crate::copying::copy_of;
+use crate::effects::changes_by;
+use crate::room::make_room;
+use crate::settling::settle;
 use sd_areas::Snapshot;
-use sd_journal::{Entry, replay};
+use sd_journal::Entry;
 use std::alloc::{AllocError, Global};
 
 /// Makes of a memory what the entries of a legal journal make of it. The checkpoint number that stands beside the memory
 /// stays.
+///
+/// What the entries change is made beside the memory, then room is made in it for all that is new, and then the changes
+/// are put in, which needs no memory. So the time is that of the entries and of the pages that they touch.
 ///
 /// # Errors
 ///
@@ -23,8 +28,8 @@ pub fn fold(alloc: Global, base: &mut Snapshot, entries: &[Entry]) -> Result<(),
     ensures err { OnErr result (memory_of base.new ≡ memory_of base.old) }
     ensures checkpoint { base.new.checkpoint ≡ base.old.checkpoint }
 {
-    let copy = copy_of(alloc, base)?;
-    let made = replay(alloc, copy, entries)?;
-    base.spaces = made.spaces;
+    let overlay = changes_by(alloc, base, entries)?;
+    let left = make_room(alloc, base, overlay)?;
+    settle(base, left);
     Ok(())
 }

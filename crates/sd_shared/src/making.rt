@@ -19,7 +19,7 @@ use sd_journal::Receipt;
 pub(crate) fn make(core: &mut Core, seat: usize, command: Command) -> Result<Receipt, Refusal>
     ensures seat { IfOk result (λ receipt. receipt.seat ≡ seat) }
     ensures command { IfOk result (λ receipt. receipt.command ≡ command) }
-    ensures number { IfOk result (λ receipt. receipt.number ≡ length (history_of core.old)) }
+    ensures number { IfOk result (λ receipt. receipt.number ≡ core.old.base.folded + length (history_of core.old)) }
     ensures applies { Applies seat command (told result) core.old core.new }
     ensures refuses { IfErr result IsUnjournaled }
     ensures full { result ≡ Err JournalFull

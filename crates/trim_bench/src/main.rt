@@ -97,12 +97,11 @@ fn save(world: &mut World<MemDisk>) -> Option<u64> {
     let Reply::Acked(_) = finish(world, Worker::Dumper) else {
         return None;
     };
-    let Reply::Worked = world.step(&Event::Merge) else {
-        return None;
-    };
-    let Reply::Merged(_) = finish(world, Worker::Merger) else {
-        return None;
-    };
+    if world.step(&Event::Merge) == Reply::Worked {
+        let Reply::Merged(_) = finish(world, Worker::Merger) else {
+            return None;
+        };
+    }
     match world.step(&Event::Trim) {
         Reply::Trimmed(count) => Some(count),
         _ => None,

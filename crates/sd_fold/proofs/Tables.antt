@@ -1,0 +1,418 @@
+-- Finite maps by number: the code's maps seen as such, and runs of pages that change one after the other.
+use Rattle.std.proofs.Common.{Bor, ◌≡◌, ℕ, zero, suc, ◌+◌, ◌-◌, ◌%◌, ◌<◌, ◌≤◌, Bool, true, false, not, cond, nat_eq, nat_le, ◌||◌, is_some, List, [], ◌∷◌, ◌++◌, map, length, Option, Some, None, IsSome, unwrap_or, refl, sym, ◌∙◌, ap, subst, inl, inr, arith}
+use Rattle.std.proofs.lemmas.Bool.Decides.{nat_tests}
+use Rattle.std.proofs.lemmas.Bool.{cases_Bool, cond-false}
+use Rattle.std.specs.Option.{option_copied, option_map, option_map_or}
+use Rattle.std.specs.Ordering.{nat_cmp, eq_by_cmp, is_lt}
+use Rattle.std.specs.Cmp.{nat_cmp_total}
+use Rattle.std.specs.FinMap as finmap
+use Rattle.std.specs.FinMap.{find, same_map, get-insert, get-remove, get-from_entries, get-entries, get-retain_keys, nat_cmp-IsAntisymmetric}
+use Rattle.std.specs.Prelude.{Result, Ok, Err, is_err, OnOk, OnErr, IfOk}
+use Rattle.std.specs.Map.{lookup}
+use Rattle.std.specs.BTreeMap.{BTreeMap, is_at}
+use Rattle.std.specs.BTreeMap.Range.{IsFromStart, IsLeBy}
+use Rattle.std.specs.declared.ops.Bound.TheVariants.{Included}
+use Rattle.sd_areas.specs.declared.snapshot_page.SnapshotPage.{SnapshotPage}
+use Rattle.sd_areas.specs.declared.snapshot.Snapshot.{Snapshot}
+use Rattle.sd_areas.specs.Memory.{memory_of, space_of, page_of_snapshot}
+use Rattle.sd_areas.specs.declared.prot.Prot.{Prot}
+use Rattle.sd_areas.specs.Pages.{page_of, pages_for, pages_from, is_within}
+use Rattle.sd_areas.specs.PlainMemory.{Page, Space, PlainMemory}
+use Rattle.sd_pagetable.specs.Access.{stored_at}
+use Rattle.sd_pagetable.specs.Effects.{after_mprotect, after_store}
+use Rattle.sd_pagetable.specs.Nested.{Table, inside, is_alive, value_at, put_at, map_entries, set_within, remove_within, change_within}
+
+pub same_test : (a b : ℕ) → eq_by_cmp nat_cmp a b ≡ nat_eq a b
+same_test a b = grind (arith, nat_tests)
+
+pub turned_test : (a b : ℕ) → eq_by_cmp nat_cmp a b ≡ nat_eq b a
+turned_test a b = grind (arith, nat_tests)
+
+pub tied : (a b : ℕ) → eq_by_cmp nat_cmp a b ≡ true → a ≡ b
+tied a b is = grind (arith, nat_tests)
+
+pub same_key : (q k : ℕ) → is_at (nat_cmp q) k ≡ nat_eq q k
+same_key q k = grind (arith, nat_tests)
+
+pub same_of : (a b : ℕ) → nat_eq a b ≡ true → a ≡ b
+same_of a b e = grind (arith, nat_tests)
+
+module _ {X : Type 0} where
+  pub same_table : (m n : Table X) → ((q : ℕ) → finmap.get m q ≡ finmap.get n q) → m ≡ n
+  same_table m n is = same_map nat_cmp_total nat_cmp-IsAntisymmetric m n is
+
+  pub get_put : (m : Table X) (k : ℕ) (v : X) (q : ℕ) → finmap.get (finmap.insert m k v) q ≡ cond (nat_eq q k) (Some v) (finmap.get m q)
+  get_put m k v q = get-insert nat_cmp_total m k v q ∙ ap (λ b. cond b (Some v) (finmap.get m q)) (same_test q k)
+
+  pub get_removed : (m : Table X) (k q : ℕ) → finmap.get (finmap.remove m k) q ≡ cond (nat_eq q k) None (finmap.get m q)
+  get_removed m k q = get-remove nat_cmp_total m k q ∙ ap (λ b. cond b None (finmap.get m q)) (same_test q k)
+
+  pub twice : (b : Bool) (x : Option X) (y z : Option X) → cond b x (cond b y z) ≡ cond b x z
+  twice true x y z = refl
+  twice false x y z = refl
+
+  -- what was taken out and put back
+  pub put_back : (m : Table X) (k : ℕ) (v : X) → finmap.insert (finmap.remove m k) k v ≡ finmap.insert m k v
+  put_back m k v = same_table _ _ (λ q. get_put (finmap.remove m k) k v q ∙ ap (cond (nat_eq q k) (Some v)) (get_removed m k q)
+      ∙ twice (nat_eq q k) (Some v) None (finmap.get m q) ∙ sym (get_put m k v q))
+
+  pub taken_by : (b : Bool) (o : Option X) → (b ≡ true → o ≡ None) → cond b None o ≡ o
+  taken_by true o none = sym (none refl)
+  taken_by false o none = refl
+
+  -- what isn't there is taken out
+  pub none_taken : (m : Table X) (k : ℕ) → finmap.get m k ≡ None → finmap.remove m k ≡ m
+  none_taken m k none = same_table _ _ (λ q. get_removed m k q ∙ taken_by (nat_eq q k) (finmap.get m q) (λ here. ap (finmap.get m) (same_of q k here) ∙ none))
+
+-- ---- the code's maps
+
+module _ {X Y : Type 0} (f : X → Y) where
+  abbrev pub seen : List (ℕ × X) → Table Y
+  seen es = finmap.from_entries (map (λ e. (e.0, f e.1)) es)
+
+  pub mapped_cond : (b : Bool) (x : X) (o : Option X) → cond b (Some (f x)) (option_map f o) ≡ option_map f (cond b (Some x) o)
+  mapped_cond true x o = refl
+  mapped_cond false x o = refl
+
+  pub mapped_none : (b : Bool) (o : Option X) → option_map f (cond b None o) ≡ cond b None (option_map f o)
+  mapped_none true o = refl
+  mapped_none false o = refl
+
+  pub find_lookup : (es : List (ℕ × X)) (q : ℕ) → find nat_cmp q (map (λ e. (e.0, f e.1)) es) ≡ option_map f (lookup (is_at (nat_cmp q)) es)
+  find_lookup [] q = refl
+  find_lookup (e ∷ es) q = ap (cond (eq_by_cmp nat_cmp q e.0) (Some (f e.1))) (find_lookup es q) ∙ mapped_cond (eq_by_cmp nat_cmp q e.0) e.1 (lookup (is_at (nat_cmp q)) es)
+
+  pub get_seen : (es : List (ℕ × X)) (q : ℕ) → finmap.get (seen es) q ≡ option_map f (lookup (is_at (nat_cmp q)) es)
+  get_seen es q = get-from_entries nat_cmp_total _ q ∙ find_lookup es q
+
+  pub seen_put : (old new : List (ℕ × X)) (k : ℕ) (v : X) → ((q : ℕ) → lookup (is_at (nat_cmp q)) new ≡ cond (is_at (nat_cmp k) q) (Some v) (lookup (is_at (nat_cmp q)) old))
+      → seen new ≡ finmap.insert (seen old) k (f v)
+  seen_put old new k v is = same_table _ _ (λ q. get_seen new q ∙ ap (option_map f) (is q)
+      ∙ sym (mapped_cond (is_at (nat_cmp k) q) v (lookup (is_at (nat_cmp q)) old))
+      ∙ ap (λ b. cond b (Some (f v)) (option_map f (lookup (is_at (nat_cmp q)) old))) (turned_test k q)
+      ∙ ap (cond (nat_eq q k) (Some (f v))) (sym (get_seen old q)) ∙ sym (get_put (seen old) k (f v) q))
+
+  pub seen_removed : (old new : List (ℕ × X)) (k : ℕ) → ((q : ℕ) → lookup (is_at (nat_cmp q)) new ≡ cond (is_at (nat_cmp k) q) None (lookup (is_at (nat_cmp q)) old))
+      → seen new ≡ finmap.remove (seen old) k
+  seen_removed old new k is = same_table _ _ (λ q. get_seen new q ∙ ap (option_map f) (is q)
+      ∙ mapped_none (is_at (nat_cmp k) q) (lookup (is_at (nat_cmp q)) old)
+      ∙ ap (λ b. cond b None (option_map f (lookup (is_at (nat_cmp q)) old))) (turned_test k q)
+      ∙ ap (cond (nat_eq q k) None) (sym (get_seen old q)) ∙ sym (get_removed (seen old) k q))
+
+pub get_space : (es : List (ℕ × SnapshotPage)) (q : ℕ) → finmap.get (space_of es) q ≡ option_map page_of_snapshot (lookup (is_at (nat_cmp q)) es)
+unfolding space_of
+get_space es q = get_seen page_of_snapshot es q
+
+pub space_put : (old new : List (ℕ × SnapshotPage)) (k : ℕ) (v : SnapshotPage)
+    → ((q : ℕ) → lookup (is_at (nat_cmp q)) new ≡ cond (is_at (nat_cmp k) q) (Some v) (lookup (is_at (nat_cmp q)) old))
+    → space_of new ≡ finmap.insert (space_of old) k (page_of_snapshot v)
+unfolding space_of
+space_put old new k v is = seen_put page_of_snapshot old new k v is
+
+pub space_removed : (old new : List (ℕ × SnapshotPage)) (k : ℕ)
+    → ((q : ℕ) → lookup (is_at (nat_cmp q)) new ≡ cond (is_at (nat_cmp k) q) None (lookup (is_at (nat_cmp q)) old))
+    → space_of new ≡ finmap.remove (space_of old) k
+unfolding space_of
+space_removed old new k is = seen_removed page_of_snapshot old new k is
+
+pub no_pages : (es : List (ℕ × SnapshotPage)) → es ≡ [] → space_of es ≡ finmap.empty
+unfolding space_of
+no_pages es e = ap (λ l. finmap.from_entries {R = nat_cmp} (map (λ e. (e.0, page_of_snapshot e.1)) l)) e
+
+-- the pages of a snapshot's space
+abbrev pub pages_in : BTreeMap ℕ SnapshotPage → Space
+pages_in pages = space_of pages.entries
+
+pub get_memory : (memory : Snapshot) (s : ℕ) → finmap.get (memory_of memory) s ≡ option_map pages_in (lookup (is_at (nat_cmp s)) memory.spaces.entries)
+unfolding memory_of
+get_memory memory s = get_seen pages_in memory.spaces.entries s
+
+pub memory_put : (old new : Snapshot) (k : ℕ) (v : BTreeMap ℕ SnapshotPage)
+    → ((q : ℕ) → lookup (is_at (nat_cmp q)) new.spaces.entries ≡ cond (is_at (nat_cmp k) q) (Some v) (lookup (is_at (nat_cmp q)) old.spaces.entries))
+    → memory_of new ≡ finmap.insert (memory_of old) k (space_of v.entries)
+unfolding memory_of
+memory_put old new k v is = seen_put pages_in old.spaces.entries new.spaces.entries k v is
+
+pub memory_removed : (old new : Snapshot) (k : ℕ)
+    → ((q : ℕ) → lookup (is_at (nat_cmp q)) new.spaces.entries ≡ cond (is_at (nat_cmp k) q) None (lookup (is_at (nat_cmp q)) old.spaces.entries))
+    → memory_of new ≡ finmap.remove (memory_of old) k
+unfolding memory_of
+memory_removed old new k is = seen_removed pages_in old.spaces.entries new.spaces.entries k is
+
+-- ---- what a map has after a run was changed
+
+pub within_next : (first count q : ℕ) → is_within first (suc count) q ≡ (nat_eq q first || is_within (suc first) count q)
+within_next first count q = grind (arith, nat_tests)
+
+pub none_within : (first q : ℕ) → is_within first 0 q ≡ false
+none_within first q = grind (arith, nat_tests)
+
+pub alike : (first count q x : ℕ) → q ≡ x → not (is_within first count x) ≡ not (is_within first count q)
+alike first count q x e = ap (λ n. not (is_within first count n)) (sym e)
+
+pub within_none : (first q : ℕ) → is_within first (first - first) q ≡ false
+within_none first q = grind (arith, nat_tests)
+
+pub within_more : (first k q : ℕ) → first ≤ k → is_within first (k + 1 - first) q ≡ (nat_eq q k || is_within first (k - first) q)
+within_more first k q le = grind (arith, nat_tests)
+
+pub not_behind : (first k : ℕ) → is_within first (k - first) k ≡ false
+not_behind first k = grind (arith, nat_tests)
+
+module _ {X : Type 0} where
+  pub cond-or : (a b : Bool) (x : X) (o : Option X) → cond a (Some x) (cond b (Some x) o) ≡ cond (a || b) (Some x) o
+  cond-or true b x o = refl
+  cond-or false b x o = refl
+
+  pub find_run : (first count : ℕ) (x : X) (es : List (ℕ × X)) (q : ℕ) → find nat_cmp q (map (λ page. (page, x)) (pages_from first count) ++ es) ≡ cond (is_within first count q) (Some x) (find nat_cmp q es)
+  unfolding pages_from
+  find_run first zero x es q = sym (cond-false (is_within first 0 q) (Some x) (find nat_cmp q es) (none_within first q))
+  find_run first (suc count) x es q = ap (λ o. cond (eq_by_cmp nat_cmp q first) (Some x) o) (find_run (suc first) count x es q)
+      ∙ ap (λ b. cond b (Some x) (cond (is_within (suc first) count q) (Some x) (find nat_cmp q es))) (same_test q first)
+      ∙ cond-or (nat_eq q first) (is_within (suc first) count q) x (find nat_cmp q es)
+      ∙ ap (λ b. cond b (Some x) (find nat_cmp q es)) (sym (within_next first count q))
+
+  pub get-set_within : (m : Table X) (first count : ℕ) (x : X) (q : ℕ) → finmap.get (set_within m first count x) q ≡ cond (is_within first count q) (Some x) (finmap.get m q)
+  unfolding set_within
+  get-set_within m first count x q = get-from_entries nat_cmp_total _ q ∙ find_run first count x (finmap.entries m) q ∙ ap (cond (is_within first count q) (Some x)) (sym (get-entries m q))
+
+  pub not_turned : (b : Bool) (o : Option X) → cond (not b) o None ≡ cond b None o
+  not_turned true o = refl
+  not_turned false o = refl
+
+  pub get-remove_within : (m : Table X) (first count q : ℕ) → finmap.get (remove_within m first count) q ≡ cond (is_within first count q) None (finmap.get m q)
+  unfolding remove_within
+  get-remove_within m first count q =
+      get-retain_keys m (λ p. not (is_within first count p)) q (λ x e. alike first count q x (nat_cmp-IsAntisymmetric q x e))
+      ∙ not_turned (is_within first count q) (finmap.get m q)
+
+  module _ (f : ℕ → X → X) where
+    found_changed : (es : List (ℕ × X)) (q : ℕ) → find nat_cmp q (map (λ (e : ℕ × X). (e.0, f e.0 e.1)) es) ≡ option_map (f q) (find nat_cmp q es)
+    found_changed [] q = refl
+    found_changed (e ∷ es) q = elim (cases_Bool (eq_by_cmp nat_cmp q e.0)) [
+      | inl here ↦ ap (λ b. cond b (Some (f e.0 e.1)) (find nat_cmp q (map (λ (e : ℕ × X). (e.0, f e.0 e.1)) es))) here
+          ∙ ap (λ k. Some (f k e.1)) (sym (tied q e.0 here)) ∙ ap (λ b. option_map (f q) (cond b (Some e.1) (find nat_cmp q es))) (sym here)
+      | inr there ↦ ap (λ b. cond b (Some (f e.0 e.1)) (find nat_cmp q (map (λ (e : ℕ × X). (e.0, f e.0 e.1)) es))) there
+          ∙ found_changed es q ∙ ap (λ b. option_map (f q) (cond b (Some e.1) (find nat_cmp q es))) (sym there)
+    ]
+
+    get-map_entries : (m : Table X) (q : ℕ) → finmap.get (map_entries f m) q ≡ option_map (f q) (finmap.get m q)
+    unfolding map_entries
+    get-map_entries m q = get-from_entries nat_cmp_total _ q ∙ found_changed (finmap.entries m) q ∙ ap (option_map (f q)) (sym (get-entries m q))
+
+  pub get-change_within : (change : X → X) (m : Table X) (first count q : ℕ) → finmap.get (change_within change m first count) q ≡ option_map (λ x. cond (is_within first count q) (change x) x) (finmap.get m q)
+  unfolding change_within
+  get-change_within change m first count q = get-map_entries (λ page x. cond (is_within first count page) (change x) x) m q
+
+  -- ---- a run that grows by a page
+
+  pub set_none : (t : Table X) (first : ℕ) (x : X) → set_within t first (first - first) x ≡ t
+  set_none t first x = same_table _ _ (λ q. get-set_within t first (first - first) x q ∙ ap (λ b. cond b (Some x) (finmap.get t q)) (within_none first q))
+
+  pub set_more : (t : Table X) (first k : ℕ) (x : X) → first ≤ k → finmap.insert (set_within t first (k - first) x) k x ≡ set_within t first (k + 1 - first) x
+  set_more t first k x le = same_table _ _ (λ q. get_put (set_within t first (k - first) x) k x q ∙ ap (cond (nat_eq q k) (Some x)) (get-set_within t first (k - first) x q)
+      ∙ cond-or (nat_eq q k) (is_within first (k - first) q) x (finmap.get t q) ∙ ap (λ b. cond b (Some x) (finmap.get t q)) (sym (within_more first k q le)) ∙ sym (get-set_within t first (k + 1 - first) x q))
+
+  pub change_by : (change : X → X) (o : Option X) (here before : Bool) → (here ≡ true → before ≡ false)
+      → (y : X) → (here ≡ true → o ≡ Some y) → cond here (Some (change y)) (option_map (λ x. cond before (change x) x) o) ≡ option_map (λ x. cond (here || before) (change x) x) o
+  change_by change o true before apart y is = sym (ap (option_map change) (is refl))
+  change_by change o false before apart y is = refl
+
+  pub mapped_itself : (o : Option X) → option_map (λ x. x) o ≡ o
+  mapped_itself None = refl
+  mapped_itself (Some x) = refl
+
+  -- the page behind the run is as it was
+  pub change_outside : (change : X → X) (t : Table X) (first k : ℕ) → finmap.get (change_within change t first (k - first)) k ≡ finmap.get t k
+  change_outside change t first k = get-change_within change t first (k - first) k ∙ ap (λ b. option_map (λ x. cond b (change x) x) (finmap.get t k)) (not_behind first k) ∙ mapped_itself (finmap.get t k)
+
+  pub change_none : (change : X → X) (t : Table X) (first : ℕ) → change_within change t first (first - first) ≡ t
+  change_none change t first = same_table _ _ (λ q. get-change_within change t first (first - first) q ∙ ap (λ b. option_map (λ x. cond b (change x) x) (finmap.get t q)) (within_none first q) ∙ mapped_itself (finmap.get t q))
+
+  pub change_more : (change : X → X) (t : Table X) (first k : ℕ) (y : X) → first ≤ k → finmap.get t k ≡ Some y
+      → finmap.insert (change_within change t first (k - first)) k (change y) ≡ change_within change t first (k + 1 - first)
+  change_more change t first k y le there = same_table _ _ (λ q. get_put (change_within change t first (k - first)) k (change y) q
+      ∙ ap (cond (nat_eq q k) (Some (change y))) (get-change_within change t first (k - first) q)
+      ∙ change_by change (finmap.get t q) (nat_eq q k) (is_within first (k - first) q) (λ here. apart first k q here) y (λ here. ap (finmap.get t) (same_of q k here) ∙ there)
+      ∙ ap (λ b. option_map (λ x. cond b (change x) x) (finmap.get t q)) (sym (within_more first k q le)) ∙ sym (get-change_within change t first (k + 1 - first) q))
+    where
+      apart : (first k q : ℕ) → nat_eq q k ≡ true → is_within first (k - first) q ≡ false
+      apart first k q here = grind (arith, nat_tests)
+
+  pub stays_by : (change : X → X) (o : Option X) (here before : Bool) → (here ≡ true → o ≡ None) → option_map (λ x. cond before (change x) x) o ≡ option_map (λ x. cond (here || before) (change x) x) o
+  stays_by change None here before none = refl
+  stays_by change (Some x) true before none = absurd (let f : Some x ≡ None = none refl in cc)
+  stays_by change (Some x) false before none = refl
+
+  pub change_skips : (change : X → X) (t : Table X) (first k : ℕ) → first ≤ k → finmap.get t k ≡ None → change_within change t first (k - first) ≡ change_within change t first (k + 1 - first)
+  change_skips change t first k le none = same_table _ _ (λ q. get-change_within change t first (k - first) q
+      ∙ stays_by change (finmap.get t q) (nat_eq q k) (is_within first (k - first) q) (λ here. ap (finmap.get t) (same_of q k here) ∙ none)
+      ∙ ap (λ b. option_map (λ x. cond b (change x) x) (finmap.get t q)) (sym (within_more first k q le)) ∙ sym (get-change_within change t first (k + 1 - first) q))
+
+  -- ---- a run that is taken out
+
+  pub not_some : (o : Option X) → (IsSome o → ⊥) → o ≡ None
+  not_some None never = refl
+  not_some (Some x) never = absurd (never refl)
+
+  -- outside of the run nothing changed, and in it nothing is left
+  pub removed_run : (old now : Table X) (first count : ℕ) → ((q : ℕ) → is_within first count q ≡ false → finmap.get now q ≡ finmap.get old q)
+      → ((q : ℕ) → is_within first count q ≡ true → IsSome (finmap.get now q) → ⊥) → now ≡ remove_within old first count
+  removed_run old now first count outside none = same_table _ _ (λ q. at q (is_within first count q) refl ∙ sym (get-remove_within old first count q))
+    where
+      at : (q : ℕ) (b : Bool) → is_within first count q ≡ b → finmap.get now q ≡ cond (is_within first count q) None (finmap.get old q)
+      at q true here = not_some (finmap.get now q) (none q here) ∙ ap (λ b. cond b None (finmap.get old q)) (sym here)
+      at q false there = outside q there ∙ ap (λ b. cond b None (finmap.get old q)) (sym there)
+
+  pub still_outside : (old now : Table X) (p first count : ℕ) → is_within first count p ≡ true
+      → ((q : ℕ) → is_within first count q ≡ false → finmap.get now q ≡ finmap.get old q)
+      → (q : ℕ) → is_within first count q ≡ false → finmap.get (finmap.remove now p) q ≡ finmap.get old q
+  still_outside old now p first count within was q outside =
+      get_removed now p q ∙ taken_by (nat_eq q p) (finmap.get now q) (λ here. absurd (apart here)) ∙ was q outside
+    where
+      apart : nat_eq q p ≡ true → ⊥
+      apart here = absurd (let f : true ≡ false = sym within ∙ ap (is_within first count) (sym (same_of q p here)) ∙ outside in cc)
+
+pub not_none : {A : Type 0} (o : Option A) → o ≡ None → IsSome o → ⊥
+not_none None e some = (let f : false ≡ true = some in cc)
+not_none (Some a) e some = cc
+
+pub from_start : (start q : ℕ) → nat_le start q ≡ true → IsFromStart nat_cmp (Included start) q
+from_start start q e = grind (arith, nat_tests)
+
+pub is_from_start : (start q : ℕ) → IsFromStart nat_cmp (Included start) q → nat_le start q ≡ true
+is_from_start start q e = grind (arith, nat_tests)
+
+pub in_run : (first end page : ℕ) → nat_le first page ≡ true → page < end → is_within first (end - first) page ≡ true
+in_run first end page from below = grind (arith, nat_tests)
+
+pub from_first : (first end q : ℕ) → is_within first (end - first) q ≡ true → nat_le first q ≡ true
+from_first first end q within = grind (arith, nat_tests)
+
+pub below_end : (first end q : ℕ) → is_within first (end - first) q ≡ true → q < end
+below_end first end q within = grind (arith, nat_tests)
+
+pub le_by : (a b : ℕ) → IsLeBy nat_cmp a b → a ≤ b
+le_by a b h = grind (arith, nat_tests)
+
+pub some_within : {A B : Type 0} (f : A → B) (o : Option A) → IsSome (option_map f o) → IsSome o
+some_within f None some = absurd (let e : false ≡ true = some in cc)
+some_within f (Some a) some = refl
+
+pub on_ok : {A E : Type 0} (r : Result A E) (P Q : Type 0) → (P → Q) → OnOk r P → OnOk r Q
+on_ok (Ok x) P Q f p = f p
+on_ok (Err e) P Q f p = p
+
+pub some_is : {A : Type 0} (a b : A) → Some a ≡ Some b → a ≡ b
+some_is a b e = cc
+
+-- a page that was taken out, changed and put back
+pub put_changed : (old mid new : Space) (k : ℕ) (change : Page → Page) (found : Page) → mid ≡ finmap.remove old k → Some found ≡ finmap.get old k
+    → new ≡ finmap.insert mid k (change found) → (before : Page) → finmap.get old k ≡ Some before → new ≡ finmap.insert old k (change before)
+put_changed old mid new k change found taken there put before e =
+    put ∙ ap (λ m. finmap.insert m k (change found)) taken ∙ put_back old k (change found)
+    ∙ ap (λ page. finmap.insert old k (change page)) (some_is found before (there ∙ e))
+
+-- a page of a run was changed, where it is there
+pub changed_step : (change : Page → Page) (old now new : Space) (first k : ℕ) → first ≤ k → now ≡ change_within change old first (k - first)
+    → ((before : Page) → finmap.get now k ≡ Some before → new ≡ finmap.insert now k (change before)) → (finmap.get now k ≡ None → new ≡ now)
+    → new ≡ change_within change old first (k + 1 - first)
+changed_step change old now new first k le done mapped hole = go (finmap.get old k) refl
+  where
+    here : finmap.get now k ≡ finmap.get old k
+    here = ap (λ m. finmap.get m k) done ∙ change_outside change old first k
+
+    go : (o : Option Page) → finmap.get old k ≡ o → new ≡ change_within change old first (k + 1 - first)
+    go None e = hole (here ∙ e) ∙ done ∙ change_skips change old first k le e
+    go (Some y) e = mapped y (here ∙ e) ∙ ap (λ m. finmap.insert m k (change y)) done ∙ change_more change old first k y le e
+
+-- ---- spaces of a memory
+
+pub same_run : (change : Space → ℕ → ℕ → Space) (now old result : Space) (first end start count : ℕ) → result ≡ change now first (end - first)
+    → now ≡ old → first ≡ start → end ≡ start + count → result ≡ change old start count
+same_run change now old result first end start count run is at to =
+    let long : end - first ≡ count = omega arith in
+    run ∙ ap (λ p. change p first (end - first)) is ∙ ap (λ n. change old first n) long ∙ ap (λ n. change old n count) at
+
+pub zero_within : (first q : ℕ) → is_within first 0 q ≡ false
+zero_within first q = grind (arith, nat_tests)
+
+pub change_zero : (change : Page → Page) (pages : Space) (first : ℕ) → change_within change pages first 0 ≡ pages
+change_zero change pages first = same_table _ _ (λ q. get-change_within change pages first 0 q
+    ∙ ap (λ b. option_map (λ x. cond b (change x) x) (finmap.get pages q)) (zero_within first q) ∙ mapped_itself (finmap.get pages q))
+
+pub itself : (memory : PlainMemory) (s : ℕ) → is_some (finmap.get memory s) ≡ true → finmap.insert memory s (inside memory s) ≡ memory
+itself memory s alive = same_table _ _ (λ q. get_put memory s (inside memory s) q ∙ at (finmap.get memory s) refl alive q (nat_eq q s) refl)
+  where
+    at : (o : Option Space) → finmap.get memory s ≡ o → is_some o ≡ true → (q : ℕ) (b : Bool) → nat_eq q s ≡ b
+        → cond b (Some (inside memory s)) (finmap.get memory q) ≡ finmap.get memory q
+    at o e alive q false is = refl
+    at None e alive q true is = absurd (let f : false ≡ true = alive in cc)
+    at (Some pages) e alive q true is = ap (λ o. Some (unwrap_or o finmap.empty)) e ∙ sym e ∙ ap (finmap.get memory) (sym (same_of q s is))
+
+pub none_protected : (memory : PlainMemory) (s address bytes : ℕ) (prot : Prot) → is_alive memory s ≡ true → bytes ≡ 0
+    → memory ≡ after_mprotect memory s address bytes prot
+none_protected memory s address bytes prot alive none =
+    let change : Page → Page = λ page. record page { prot = prot } in
+    sym (ap (λ n. finmap.insert memory s (change_within change (inside memory s) (page_of address) (pages_for n))) none
+    ∙ ap (finmap.insert memory s) (change_zero change (inside memory s) (page_of address)) ∙ itself memory s alive)
+
+pub stored_memory : (old new : PlainMemory) (s address : ℕ) (bytes : List ℕ) (pages changed : Space) → pages ≡ inside old s
+    → ((before : Page) → finmap.get pages (page_of address) ≡ Some before
+    → changed ≡ finmap.insert pages (page_of address) (record before { bytes = stored_at before.bytes (address % 4096) bytes }))
+    → IsSome (value_at old s (page_of address)) → new ≡ finmap.insert old s changed → new ≡ after_store old s address bytes
+unfolding put_at
+stored_memory old new s address bytes pages changed is mapped there put = go (value_at old s (page_of address)) refl there
+  where
+    go : (o : Option Page) → value_at old s (page_of address) ≡ o → IsSome o
+        → new ≡ option_map_or (λ (page : Page). put_at old s (page_of address) (record page { bytes = stored_at page.bytes (address % 4096) bytes })) o old
+    go None e some = absurd (let f : false ≡ true = some in cc)
+    go (Some before) e some =
+        let page : Page = record before { bytes = stored_at before.bytes (address % 4096) bytes } in
+        put ∙ ap (finmap.insert old s) (mapped before (ap (λ (p : Space). finmap.get p (page_of address)) is ∙ e) ∙ ap (λ (p : Space). finmap.insert p (page_of address) page) is)
+
+pub if_ok : {A E : Type 0} (r : Result A E) (P Q : A → Type 0) → ((a : A) → P a → Q a) → IfOk r P → IfOk r Q
+if_ok (Ok a) P Q f p = f a p
+if_ok (Err e) P Q f p = p
+
+pub found_pages : (memory : Snapshot) (s : ℕ) (pages : BTreeMap ℕ SnapshotPage) → Some pages ≡ lookup (is_at (nat_cmp s)) memory.spaces.entries
+    → space_of pages.entries ≡ inside (memory_of memory) s
+found_pages memory s pages e = sym (ap (λ o. unwrap_or o finmap.empty) (get_memory memory s ∙ ap (option_map pages_in) (sym e)))
+
+pub missing_pages : (memory : Snapshot) (s : ℕ) (none : BTreeMap ℕ SnapshotPage) → none.entries ≡ [] → None ≡ lookup (is_at (nat_cmp s)) memory.spaces.entries
+    → space_of none.entries ≡ inside (memory_of memory) s
+missing_pages memory s none empty e =
+    no_pages none.entries empty ∙ sym (ap (λ o. unwrap_or o finmap.empty) (get_memory memory s ∙ ap (option_map pages_in) (sym e)))
+
+pub always : {A E : Type 0} (r : Result A E) (P : Type 0) → P → OnOk r P
+always (Ok x) P p = p
+always (Err e) P p = tt
+
+pub none_of : {A : Type 0} (o : Option A) → is_some o ≡ false → o ≡ None
+none_of None e = refl
+none_of (Some a) e = absurd (let f : true ≡ false = e in cc)
+
+pub lent_pages : (memory : Snapshot) (s : ℕ) (found : Option (Bor (BTreeMap ℕ SnapshotPage))) (none result : Bor (BTreeMap ℕ SnapshotPage))
+    → option_copied found ≡ lookup (is_at (nat_cmp s)) memory.spaces.entries → none.now.entries ≡ [] → result ≡ unwrap_or found none
+    → space_of result.now.entries ≡ inside (memory_of memory) s
+lent_pages memory s None none result e empty is = ap (λ (r : Bor (BTreeMap ℕ SnapshotPage)). space_of r.now.entries) is ∙ missing_pages memory s none.now empty e
+lent_pages memory s (Some pages) none result e empty is = ap (λ (r : Bor (BTreeMap ℕ SnapshotPage)). space_of r.now.entries) is ∙ found_pages memory s pages.now e
+
+is_below : (a b : ℕ) → a < b → is_lt (nat_cmp a b) ≡ true
+is_below a b less = grind (arith, nat_tests)
+
+pub no_entry : {X : Type 0} (es : List (ℕ × X)) (q : ℕ) → (0 < length es → ⊥) → lookup (is_at (nat_cmp q)) es ≡ None
+no_entry [] q none = refl
+no_entry (e ∷ es) q none = absurd (none (omega arith))
+
+pub past_last : {X : Type 0} (es : List (ℕ × X)) (last number : ℕ) → last < number → ((q : ℕ) → IsSome (lookup (is_at (nat_cmp q)) es) → is_lt (nat_cmp last q) ≡ false)
+    → lookup (is_at (nat_cmp number)) es ≡ None
+past_last {X} es last number past greatest = gone (lookup (is_at (nat_cmp number)) es) refl
+  where
+    gone : (o : Option X) → lookup (is_at (nat_cmp number)) es ≡ o → o ≡ None
+    gone None e = refl
+    gone (Some page) e = absurd (let f : false ≡ true = sym (greatest number (subst IsSome (sym e) refl)) ∙ is_below last number past in cc)
+
+pub on_failure : {A E : Type 0} (r : Result A E) (P : Type 0) → is_err r ≡ true → OnErr r P → P
+on_failure (Ok x) P e p = absurd (let f : false ≡ true = e in cc)
+on_failure (Err x) P e p = p

@@ -1,0 +1,3 @@
+pub mod Overlay
+pub mod Room
+pub mod Told
