@@ -12,7 +12,7 @@ use Rattle.sd_fold.specs.declared.added.Added.{Added}
 use Rattle.sd_fold.specs.Overlay.{Changes, Layers, changes_of, with_page, pages_over, memory_over}
 use Rattle.sd_fold.specs.Room.{before, HasPages, HasRoom}
 use Rattle.sd_fold.proofs.OverLemmas.{change_of, over_put, over_apart}
-use Rattle.sd_fold.proofs.OverlayLemmas.{Layer, space_under, space_under_same, get_memory_over, next_memory}
+use Rattle.sd_fold.proofs.OverlayLemmas.{space_under, space_under_same, get_memory_over, next_memory}
 use Rattle.sd_fold.proofs.RoomLemmas.{inside_put, put_twice, put_alive, space_stays}
 use Rattle.sd_fold.proofs.Tables.{same_table, get_put, same_of}
 use Rattle.sd_fold.proofs.WalkLemmas.{Rising, at_head, gone_on, not_left, later, still_later}

@@ -99,14 +99,6 @@ page_undone (Err e) old new s q found alive none ok err =
     ap (λ m. without_page m s q) err ∙ alive_without old s q alive
     ∙ ap (finmap.insert old s) (none_taken (inside old s) q (not_some_none (value_at old s q) none)) ∙ itself old s alive
 
-    go : (o : Option Page) → value_at memory s q ≡ o → is_some o ≡ true → (found : Page) × (memory ≡ put_at memory s q found)
-    go None e h = absurd (let f : false ≡ true = h in cc)
-    go (Some found) e h = (
-      found,
-      sym (itself memory s alive) ∙ ap (finmap.insert memory s) (same_table (inside memory s) (finmap.insert (inside memory s) q found) (λ n.
-          same_by (nat_eq n q) found (finmap.get (inside memory s) n) (λ here. ap (finmap.get (inside memory s)) (same_of n q here) ∙ e) ∙ sym (get_put (inside memory s) q found n))),
-    )
-
 -- ---- pages of the code's spaces
 
 pub page_there : (memory : Snapshot) (s q : ℕ) (pages : BTreeMap ℕ SnapshotPage) → Some pages ≡ lookup (is_at (nat_cmp s)) memory.spaces.entries

@@ -1,17 +1,9 @@
 -- Maps of the code, seen entry by entry.
-use Rattle.std.proofs.Common.{◌≡◌, ℕ, Bool, true, false, ◌&&◌, List, [], ◌∷◌, map, sym, ◌∙◌, ap, subst}
-use Rattle.std.proofs.lemmas.Map.Keys.{sorted_head, sorted_tail}
-use Rattle.std.proofs.lemmas.Map.Made.{keys_of-map_values}
-use Rattle.std.specs.Cmp.{nat_cmp_total}
+use Rattle.std.proofs.Common.{ℕ, List, map}
 use Rattle.std.specs.FinMap as finmap
-use Rattle.std.specs.FinMap.{is_sorted, get-from_entries, nat_cmp-IsAntisymmetric}
-use Rattle.std.specs.FinMap.Entries.{below_all, same_entries}
-use Rattle.std.specs.List.{AllByRecursion}
 use Rattle.std.specs.List.Sorted.{IsStrictlySortedBy}
 use Rattle.std.specs.Map.{keys_of}
-use Rattle.std.specs.Ordering.{nat_cmp, is_lt}
-use Rattle.std.specs.Prelude.{T}
-use Rattle.std.specs.declared.cmp.Ordering.TheVariants.{Less}
+use Rattle.std.specs.Ordering.{nat_cmp}
 use Rattle.std.specs.BTreeMap.{BTreeMap}
 use Rattle.sd_areas.specs.declared.snapshot_page.SnapshotPage.{SnapshotPage}
 use Rattle.sd_areas.specs.Memory.{space_of}
