@@ -8,7 +8,7 @@ prints() {  # prints STORE NAME
 
 examples_print_what_stands_beside_them() {
   local name
-  for name in first two-areas copy-on-write rounds torn-copy cancelled; do
+  for name in first two-areas copy-on-write rounds torn-copy cancelled trimmed; do
     prints "store-$name" "$name" || return 1
   done
   prints store-first second-run
