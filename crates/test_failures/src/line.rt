@@ -30,6 +30,8 @@ pub(crate) enum Line {
     Merge,
     /// The checkpoint that runs is cancelled.
     Cancel,
+    /// The journal is trimmed.
+    Trim,
 }
 
 /// Two checkpoints.
@@ -84,6 +86,22 @@ pub(crate) const MERGE_BESIDE_ROUND: &[Line] = &[
     Line::Finish(Worker::Dumper),
 ];
 
+/// Two checkpoints, with a trim behind each.
+pub(crate) const TRIMMED: &[Line] = &[
+    Line::Open,
+    Line::Map,
+    Line::Store(HELLO),
+    Line::Begin(0),
+    Line::Finish(Worker::Dumper),
+    Line::Trim,
+    Line::Store(b"b"),
+    Line::Begin(0),
+    Line::Store(b"c"),
+    Line::Finish(Worker::Dumper),
+    Line::Map,
+    Line::Trim,
+];
+
 /// The event of a command of seat 0.
 fn command(command: Command) -> Event {
     Event::Command { seat: 0, command }
@@ -128,6 +146,7 @@ impl Line {
             Line::Steps(_, _) | Line::Finish(_) => Ok(None),
             Line::Merge => Ok(Some(Event::Merge)),
             Line::Cancel => Ok(Some(Event::Cancel)),
+            Line::Trim => Ok(Some(Event::Trim)),
         }
     }
 

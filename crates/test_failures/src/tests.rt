@@ -1,6 +1,6 @@
 //! Scripts under refused memory, with a device call that fails, and with a stop at each call.
 use crate::crashes::shown_by_stops;
-use crate::line::{HELLO, Line, MERGE_BESIDE_ROUND, MERGED, STALE_BITS, TWO};
+use crate::line::{HELLO, Line, MERGE_BESIDE_ROUND, MERGED, STALE_BITS, TRIMMED, TWO};
 use crate::picks::ALL;
 use crate::told::{Ended, Told};
 use crate::worlds::{MOST, Run, empty, fused, make};
@@ -57,6 +57,11 @@ fn stale_bits_under_refused_memory(rt: HostRuntime) -> Result<(), Fail> {
 #[test]
 fn a_merge_beside_a_round_under_refused_memory(rt: HostRuntime) -> Result<(), Fail> {
     is_answered(&rt, MERGE_BESIDE_ROUND, 194, Reply::Acked(2))
+}
+
+#[test]
+fn trims_under_refused_memory(rt: HostRuntime) -> Result<(), Fail> {
+    is_answered(&rt, TRIMMED, 133, Reply::Trimmed(4))
 }
 
 /// The call that failed was answered as one of the device, and the worker's next event as down. The store was opened again
