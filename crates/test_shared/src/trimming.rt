@@ -128,7 +128,10 @@ fn is_checked(
     part: &Part,
     mutators: (&mut Mutator<'_>, &mut Mutator<'_>),
 ) -> Result<Result<(), CloseFault>, AllocError> {
-    let end = part.folded.first + part.folded.entries.len() as u64;
+    let end = part
+        .folded
+        .first
+        .saturating_add(part.folded.entries.len() as u64);
     let mut receipts = take_below(&mut mutators.0.receipts, end)?;
     receipts.append(&mut take_below(&mut mutators.1.receipts, end)?)?;
     Ok(part.folded.check(&receipts, &[part.acked]))
