@@ -235,23 +235,33 @@ fn inspections_read_what_is_there(rt: HostRuntime) -> Result<(), Fail> {
     Ok(())
 }
 
-#[test]
-fn a_dropped_request_stays_out(rt: HostRuntime) -> Result<(), Fail> {
-    let mut disk = MemDisk::new(rt.alloc(), 1, 16, 16)?;
-    let mut plan = Plan::retire(0);
-    let mut other = Plan::retire(0);
+/// A plan whose request was dropped asks for nothing more, and takes no other plan's outcome.
+fn is_left_out(
+    rt: &impl Abort,
+    disk: &mut MemDisk,
+    plan: &mut Plan,
+    other: &mut Plan,
+) -> Result<(), Fail> {
     assert!(rt; plan.take(Worker::Merger, 1)?.is_some());
     assert!(rt; plan.take(Worker::Merger, 2)?.is_none());
     let Some(request) = other.take(Worker::Merger, 2)? else {
         return Err(Fail::from("no request"));
     };
     assert!(rt; request.id().slot < disk.slots());
-    let outcome = perform(&mut disk, request);
+    let outcome = perform(disk, request);
     assert!(rt; outcome.answer() == Answer::Done && outcome.id().ticket == 2);
     assert!(rt; plan.settle(outcome) == Settled::Strange);
     assert!(rt; plan.take(Worker::Merger, 3)?.is_none());
     assert!(rt; other.take(Worker::Merger, 3)?.is_none());
     Ok(())
+}
+
+#[test]
+fn a_dropped_request_stays_out(rt: HostRuntime) -> Result<(), Fail> {
+    let mut disk = MemDisk::new(rt.alloc(), 1, 16, 16)?;
+    let mut plan = Plan::retire(0);
+    let mut other = Plan::retire(0);
+    is_left_out(&rt, &mut disk, &mut plan, &mut other)
 }
 
 #[test]
