@@ -23,7 +23,7 @@ pass_without() {  # pass_without CRATE TEST STEP
 memory_is_refused_to_worlds() {
   growths_can_be_refused || return
   local name
-  for name in two_checkpoints a_merge stale_bits a_merge_beside_a_round trims; do
+  for name in two_checkpoints a_merge stale_bits a_merge_beside_a_round trims an_opening_of_images; do
     pass_without test_failures "tests::${name}_under_refused_memory" 1 || return
   done
 }

@@ -27,7 +27,8 @@ acked 2"
 an_empty_store_is_not_merged() {
   same "the status" "$(ends "$ckpt" merge store)" 1 || return 1
   same "the output" "$(cat out)" "refused 14 idle" || return 1
-  same "the files that are made" "$(ls store | wc -l)" 64
+  same "the files that are made" "$(ls store | wc -l)" 64 || return 1
+  same "restore" "$("$ckpt" restore store)" "empty chain"
 }
 
 a_store_that_cannot_be_merged_is_told() {

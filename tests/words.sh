@@ -67,6 +67,7 @@ missing_script_is_told() {
 }
 
 script_beyond_memory() {
+  [ -z "${CHECKED:-}" ] || { echo "a build with checks needs more memory"; return 77; }
   truncate -s 8G script || { echo "needs a sparse file"; return 77; }
   same "the status" "$( (ulimit -v 1000000; ends "$ckpt" run store script) )" 1 || return 1
   same "the line" "$(cat out)" "out-of-memory"

@@ -4,20 +4,22 @@
 use cause::{Causes, tell, tell_device, tell_line};
 use clap::ArgMatches;
 use progress::ProgressLine;
+use reading::{Reader, read_store};
 use sd_disk::{DirDisk, Disk, Folder, OpenError};
 use sd_mutate::{Tally, mutate};
-use sd_report::{print_list, print_report, print_restored};
+use sd_report::print_restored;
 use sd_restore::Fault;
 use sd_run::{Watch, merge_store, run_lines};
 use sd_script::{Script, ScriptError};
 use std::alloc::Global;
 use std::fs::File;
-use std::io;
 use std::io::{BufWriter, IsTerminal, Lock, Write};
 use std::process::ExitCode;
 use std::rt::{Env, Files};
 use std::sync::Wait;
 use std::thread::Threads;
+use std::time::{Clock, Duration};
+use std::{io, thread};
 use stop::{FAILED, Stop, UNFIT};
 
 mod cause;
@@ -25,18 +27,55 @@ mod command_line;
 mod progress;
 #[cfg(test)]
 mod progress_tests;
+mod reading;
 mod stop;
-#[cfg(test)]
-mod tests;
 
-/// Opens the store in a folder.
+/// How long a writer waits before each try to open a store, in milliseconds: a reader asks for its lock for a moment.
+const PAUSES: [u64; 4] = [0, 1, 5, 20];
+
+/// Opens the files of a folder that may be written, also where a reader asks for its lock just then.
+fn open_folder<R: Clock + Wait>(
+    rt: &(impl Files<File = File> + AllocGlobal),
+    clock: &R,
+    folder: &str,
+) -> Result<Folder, OpenError> {
+    for pause in PAUSES {
+        thread::sleep(clock, Duration::from_millis(pause));
+        match Folder::open(rt, folder, true) {
+            Err(OpenError::Folder(fault)) if fault.error.kind() == io::ErrorKind::WouldBlock => {}
+            ended => return ended,
+        }
+    }
+    Folder::open(rt, folder, true)
+}
+
+/// Opens the store in a folder, which is made where it is missing.
+fn make_store<R: Clock + Wait>(
+    rt: &(impl Files<File = File> + Eprint + AllocGlobal),
+    clock: &R,
+    causes: Causes,
+    folder: &str,
+) -> Result<DirDisk, Stop> {
+    disk_over(rt, causes, folder, open_folder(rt, clock, folder))
+}
+
+/// Opens the store in a folder to read it.
 fn open_store(
     rt: &(impl Files<File = File> + Eprint + AllocGlobal),
     causes: Causes,
     folder: &str,
-    make: bool,
 ) -> Result<DirDisk, Stop> {
-    match Folder::open(rt, folder, make) {
+    disk_over(rt, causes, folder, Folder::open(rt, folder, false))
+}
+
+/// A disk over the files of a folder, or why they weren't opened.
+fn disk_over(
+    rt: &impl Eprint,
+    causes: Causes,
+    folder: &str,
+    opened: Result<Folder, OpenError>,
+) -> Result<DirDisk, Stop> {
+    match opened {
         Ok(files) => Ok(DirDisk::new(files)),
         Err(OpenError::OutOfMemory) => Err(Stop::Fault(Fault::OutOfMemory)),
         Err(OpenError::Folder(fault)) => {
@@ -99,15 +138,16 @@ fn causes_asked(words: &ArgMatches<'_>) -> Causes {
 }
 
 /// `ckpt run`: a script that can't be taken makes no file.
-fn run_program<W: Write>(
+fn run_program<R: Clock + Wait, W: Write>(
     rt: &HostRuntime,
+    threads: &R,
     words: &ArgMatches<'_>,
     out: &mut W,
 ) -> Result<(), Stop> {
     let folder = words.get_str("DIR").unwrap_or("");
     let causes = causes_asked(words);
     let script = read_script(rt, causes, words.get_str("SCRIPT").unwrap_or(""))?;
-    let disk = open_store(rt, causes, folder, true)?;
+    let disk = make_store(rt, threads, causes, folder)?;
     let is_watched = causes == Causes::Told && rt.stderr().is_terminal();
     let mut watch = ProgressLine::new(rt, rt.stderr().lock(), is_watched);
     let restores = words.get_flag("restore");
@@ -117,14 +157,15 @@ fn run_program<W: Write>(
 }
 
 /// `ckpt merge`: files that are missing are made.
-fn merge_program<W: Write>(
+fn merge_program<R: Clock + Wait, W: Write>(
     rt: &HostRuntime,
+    threads: &R,
     words: &ArgMatches<'_>,
     out: &mut W,
 ) -> Result<(), Stop> {
     let folder = words.get_str("DIR").unwrap_or("");
     let causes = causes_asked(words);
-    let disk = open_store(rt, causes, folder, true)?;
+    let disk = make_store(rt, threads, causes, folder)?;
     let is_watched = causes == Causes::Told && rt.stderr().is_terminal();
     let mut watch = ProgressLine::new(rt, rt.stderr().lock(), is_watched);
     let (disk, ended) = merge_store(rt.alloc(), disk, out, &mut watch);
@@ -133,7 +174,7 @@ fn merge_program<W: Write>(
 }
 
 /// `ckpt mutate`: files that are missing are made.
-fn mutate_program<R: Threads + Wait + Sync, W: Write>(
+fn mutate_program<R: Clock + Threads + Wait + Sync, W: Write>(
     rt: &HostRuntime,
     threads: &R,
     words: &ArgMatches<'_>,
@@ -142,7 +183,7 @@ fn mutate_program<R: Threads + Wait + Sync, W: Write>(
     let folder = words.get_str("DIR").unwrap_or("");
     let causes = causes_asked(words);
     let count = words.get_one::<usize>("THREADS").unwrap_or(1);
-    let disk = open_store(rt, causes, folder, true)?;
+    let disk = make_store(rt, threads, causes, folder)?;
     let (disk, ended) = mutate(threads, rt.alloc(), disk, count);
     if let Some(disk) = &disk {
         tell_device(rt, causes, folder, disk);
@@ -160,42 +201,36 @@ fn print_tally<W: Write>(tally: &Tally, out: &mut W) -> Result<(), Stop> {
     }
 }
 
-/// The programs that only read a store, by their names.
-fn read_program<W: Write>(
-    rt: &(impl Files<File = File> + Eprint + AllocGlobal),
-    name: &str,
-    words: &ArgMatches<'_>,
-    out: &mut W,
-) -> Result<(), Stop> {
-    let folder = words.get_str("DIR").unwrap_or("");
-    let mut disk = open_store(rt, Causes::Told, folder, false)?;
-    let ended = match name {
-        "list" => print_list(rt.alloc(), &mut disk, out),
-        "verify" => print_report(rt.alloc(), &mut disk, out),
-        _ => print_restored(rt.alloc(), &mut disk, out),
-    };
-    tell_device(rt, Causes::Told, folder, &disk);
-    Ok(ended?)
+/// The program that only reads a store, by its name.
+fn reader_of(name: &str) -> Reader {
+    match name {
+        "list" => Reader::List,
+        "verify" => Reader::Verify,
+        _ => Reader::Restore,
+    }
 }
 
 /// Runs the program that the words ask for.
-fn run_matches<R: Threads + Wait + Sync, W: Write>(
+fn run_matches<R: Clock + Threads + Wait + Sync, W: Write>(
     rt: &HostRuntime,
     threads: &R,
     matches: &ArgMatches<'_>,
     out: &mut W,
 ) -> Result<(), Stop> {
     match matches.subcommand() {
-        Some(("run", words)) => run_program(rt, words, out),
-        Some(("merge", words)) => merge_program(rt, words, out),
+        Some(("run", words)) => run_program(rt, threads, words, out),
+        Some(("merge", words)) => merge_program(rt, threads, words, out),
         Some(("mutate", words)) => mutate_program(rt, threads, words, out),
-        Some((name, words)) => read_program(rt, name, words, out),
+        Some((name, words)) => {
+            let folder = words.get_str("DIR").unwrap_or("");
+            read_store(rt, threads, reader_of(name), folder, out)
+        }
         None => Ok(()),
     }
 }
 
 /// Runs the program that the words ask for, and returns its exit status. The error is a fault of the words.
-fn run_words<R: Threads + Wait + Sync, W: Write>(
+fn run_words<R: Clock + Threads + Wait + Sync, W: Write>(
     rt: &HostRuntime,
     threads: &R,
     words: &[String],
@@ -225,7 +260,7 @@ fn finish<W: Write>(rt: &impl Eprint, out: &mut W, status: u8) -> u8 {
 }
 
 /// Runs the program that the words ask for, or prints what is wrong with them, or the help; and returns the status.
-fn run_command<R: Threads + Wait + Sync>(
+fn run_command<R: Clock + Threads + Wait + Sync>(
     rt: &HostRuntime,
     threads: &R,
     words: &[String],
@@ -274,7 +309,7 @@ fn words_of(rt: &(impl Env + Eprint + AllocGlobal)) -> Result<Vec<String>, u8> {
 }
 
 /// The exit status.
-fn status_of<R: Threads + Wait + Sync>(rt: &HostRuntime, threads: &R) -> u8 {
+fn status_of<R: Clock + Threads + Wait + Sync>(rt: &HostRuntime, threads: &R) -> u8 {
     let held = hold_descriptors(rt);
     if let Err(error) = &held {
         tell(rt, Causes::Told, NOTHING, error);

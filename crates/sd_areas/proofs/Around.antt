@@ -158,6 +158,15 @@ gap_fits old new placed first count gap e few =
     let now : HasGap old new first count = subst (λ (l : List Area). HasGap old l first count) (sym e) gap in
     ap within_areas (gap_is old new first count now) ∙ within_ok new now.maximal few
 
+-- without areas nothing is unmapped
+bare_gap : (page : ℕ) (b : Bool) → prot_in [] page ≡ cond b None (prot_in [] page)
+bare_gap page true = refl
+bare_gap page false = refl
+
+pub bare_fits : (areas : List Area) (first count : ℕ) → length areas ≡ 0 → within_areas (remove_pages (pages_of areas) first count) ≡ Ok (pages_of areas)
+bare_fits [] first count e = gap_fits [] [] [] first count (record { maximal = tt; same = λ page. bare_gap page (is_within first count page) }) refl (omega arith)
+bare_fits (area ∷ areas) first count e = absurd (omega (arith, e))
+
 refused_by : (r : Result PageMap Errno) (e : AreaError) (long : Type 0) → (long → r ≡ Err Enomem) → (e ≡ OutOfMemory) ⊎ ((e ≡ Refused Enomem) × long) → Answers r e
 refused_by r e long full (inl out) = subst (Answers r) (sym out) tt
 refused_by r e long full (inr many) = subst (Answers r) (sym many.0) (full many.1)

@@ -1,4 +1,4 @@
-ghost use Rattle.std.specs.Prelude.{◌≡◌, ◌≢◌, ◌==◌, ◌%◌, ◌≤◌, IsTrue, IsFalse, length, None, Ok, Err, IfOk, IfErr, OnOk, OnErr};
+ghost use Rattle.std.specs.Prelude.{◌≡◌, ◌≢◌, ◌==◌, ◌%◌, ◌≤◌, [], IsTrue, IsFalse, length, None, Ok, Err, IfOk, IfErr, OnOk, OnErr};
 ghost use Rattle.std.specs.FinMap as finmap;
 ghost use Rattle.sd_areas.specs.Pages.{is_invalid, is_outside, page_of, pages_for};
 
@@ -47,7 +47,7 @@ impl AreaMap {
     ghost use Rattle.sd_areas.specs.Areas.{AreAreasOf, AreMaximal, areas_of, pages_of};
     ghost use Rattle.sd_areas.specs.Calls.{map_result, unmap_result, protect_result, within_areas, has_hole, Answers};
     ghost use Rattle.sd_areas.specs.Memory.{prots_of};
-    ghost use Rattle.sd_areas.specs.declared.errno.AreaError.TheVariants.{Refused};
+    ghost use Rattle.sd_areas.specs.declared.errno.AreaError.TheVariants.{Refused, OutOfMemory};
     ghost use Rattle.sd_areas.specs.declared.errno.Errno.TheVariants.{Einval, Enomem};
 
     /// A space without pages.
@@ -65,13 +65,14 @@ impl AreaMap {
     /// # Errors
     ///
     /// ENOMEM where the space would have over 1,024 areas.
-    /// Out of memory where the list of areas can't grow.
+    /// Out of memory where the list of areas can't grow, which is only where there is a page.
     pub fn from_pages(
         alloc: Global,
         pages: &BTreeMap<PageNo, SnapshotPage>,
     ) -> Result<Self, AreaError>
         ensures ok { IfOk result (λ map. within_areas (prots_of pages.now.entries) ≡ Ok map) }
         ensures refused { IfErr result (Answers (within_areas (prots_of pages.now.entries))) }
+        ensures some { result ≡ Err OutOfMemory → pages.now.entries ≢ [] }
     {
         let areas = areas_in(alloc, pages)?;
         AreaMap::from_areas(alloc, areas)
@@ -124,13 +125,16 @@ impl AreaMap {
     /// EINVAL for a length of 0, an address that is no multiple of 4,096, or a range that ends
     /// past 2^47.
     /// ENOMEM where the space would have over 1,024 areas, since the range lies within one.
-    /// Out of memory where the list of areas can't grow. An error changes nothing.
+    /// Out of memory where the list of areas can't grow, which is only where a page is mapped. An error changes
+    /// nothing.
     pub fn unmap(&mut self, address: u64, bytes: u64) -> Result<(), AreaError>
         ensures ok { OnOk result (unmap_result self.old address bytes ≡ Ok self.new) }
         ensures refused { IfErr result (Answers (unmap_result self.old address bytes)) }
         ensures invalid { IsTrue (is_invalid address bytes) → result ≡ Err (Refused Einval) }
         ensures outside { IsFalse (is_invalid address bytes) → IsTrue (is_outside address bytes)
             → result ≡ Err (Refused Einval) }
+        ensures bare { IsFalse (is_invalid address bytes) → IsFalse (is_outside address bytes)
+            → self.old ≡ finmap.empty → result ≡ Ok tt }
         ensures err { OnErr result (self.new ≡ self.old) }
     {
         let range = PageRange::for_unmap(address, bytes)?;
@@ -183,6 +187,7 @@ impl AreaMap {
         requires { AreMaximal None areas.items }
         ensures ok { IfOk result (λ map. within_areas (pages_of areas.items) ≡ Ok map) }
         ensures refused { IfErr result (Answers (within_areas (pages_of areas.items))) }
+        ensures granted { result ≢ Err OutOfMemory }
     {
         if AREA_LIMIT < areas.len() {
             return Err(AreaError::Refused(Errno::Enomem));

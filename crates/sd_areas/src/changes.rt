@@ -1,6 +1,6 @@
 //! Changes of a list of areas in place. A change reads and replaces the areas that meet a run of
 //! pages or touch it; the areas behind them move as a whole.
-ghost use Rattle.std.specs.Prelude.{◌≡◌, ◌⊎◌, ◌+◌, ◌<◌, ◌≤◌, ◌^◌, nat_lt, length, Ok, OnOk, OnErr, IfErr, None};
+ghost use Rattle.std.specs.Prelude.{◌≡◌, ◌≢◌, ◌⊎◌, ◌+◌, ◌<◌, ◌≤◌, ◌^◌, [], nat_lt, length, Ok, OnOk, OnErr, IfErr, None};
 ghost use Rattle.std.specs.List.{splice, AllWithin, position};
 ghost use Rattle.sd_areas.specs.Areas.{AreMaximal, pages_of};
 ghost use Rattle.sd_areas.specs.Calls.{set_pages, remove_pages, within_areas, Answers};
@@ -152,8 +152,8 @@ pub(crate) fn set_run(alloc: Global, areas: &mut Vec<Area>, area: Area) -> Resul
 ///
 /// # Errors
 ///
-/// ENOMEM where the areas would be over 1,024. Out of memory where the list can't grow.
-/// An error changes nothing.
+/// ENOMEM where the areas would be over 1,024. Out of memory where the list can't grow, which is only where there is an
+/// area. An error changes nothing.
 pub(crate) fn remove_run(
     alloc: Global,
     areas: &mut Vec<Area>,
@@ -169,8 +169,12 @@ pub(crate) fn remove_run(
         ≡ Ok (pages_of areas.new.items)) }
     ensures refused { IfErr result (Answers
         (within_areas (remove_pages (pages_of areas.old.items) range.first range.count))) }
+    ensures some { OnErr result (areas.old.items ≢ []) }
     ensures err { OnErr result (areas.new.items ≡ areas.old.items) }
 {
+    if areas.is_empty() {
+        return Ok(());
+    }
     let (from, to) = neighbours(areas, &range);
     let pieces = without_pages(alloc, &areas[from..to], range)?;
     replace(areas, from, to, pieces)

@@ -1,4 +1,4 @@
-ghost use Rattle.std.specs.Prelude.{◌≡◌, ◌<◌, ◌%◌, ◌==◌, not, is_some, IfSome, IfOk, IfErr, IsTrue, IsFalse, Err, ◌+◌, ◌≤◌, ◌^◌};
+ghost use Rattle.std.specs.Prelude.{◌≡◌, ◌<◌, ◌%◌, ◌==◌, not, is_some, IfSome, IsOk, IfOk, IfErr, IsTrue, IsFalse, Err, ◌+◌, ◌≤◌, ◌^◌};
 ghost use Rattle.sd_areas.specs.Pages.{page_of, pages_for, is_invalid, is_outside};
 ghost use Rattle.sd_areas.specs.Areas.{PageMap};
 ghost use Rattle.sd_areas.specs.Calls.{map_result, unmap_result, within_areas, set_pages, remove_pages};
@@ -76,6 +76,7 @@ impl PageRange {
         ensures invalid { IsTrue (is_invalid address bytes) → result ≡ Err Einval }
         ensures outside { IsFalse (is_invalid address bytes) → IsTrue (is_outside address bytes)
             → result ≡ Err Einval }
+        ensures inside { IsFalse (is_invalid address bytes) → IsFalse (is_outside address bytes) → IsOk result }
     {
         if !is_range(address, bytes) {
             return Err(Errno::Einval);

@@ -1,4 +1,4 @@
-ghost use Rattle.std.specs.Prelude.{◌≡◌, OnOk, OnErr, IfOk, IsTrue};
+ghost use Rattle.std.specs.Prelude.{◌≡◌, [], OnOk, OnErr, IsOk, IfOk, IsTrue};
 ghost use Rattle.std.specs.FinMap as finmap;
 ghost use Rattle.sd_areas.specs.Areas.{AreAreasOf};
 ghost use Rattle.sd_areas.specs.Memory.{prots_of};
@@ -81,12 +81,13 @@ impl Snapshot {
 ///
 /// # Errors
 ///
-/// Out of memory where the list of areas can't grow.
+/// Out of memory where the list of areas can't grow, which is only where there is a page.
 pub fn areas_in(
     alloc: Global,
     pages: &BTreeMap<PageNo, SnapshotPage>,
 ) -> Result<Vec<Area>, AllocError>
-    ensures { IfOk result (λ areas. AreAreasOf (prots_of pages.now.entries) areas.items) }
+    ensures areas { IfOk result (λ areas. AreAreasOf (prots_of pages.now.entries) areas.items) }
+    ensures bare { pages.now.entries ≡ [] → IsOk result }
 {
     let mut areas = Vec::new(alloc);
     for (page, found) in pages {

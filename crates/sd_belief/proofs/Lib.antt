@@ -8,6 +8,7 @@ mod BeginsLaw
 mod BeginsMerge
 mod CancelLaw
 mod CoreSteps
+mod Finds
 mod Found
 mod FoundInUse
 mod GateSteps

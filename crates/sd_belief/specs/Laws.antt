@@ -1,5 +1,5 @@
 -- What a core goes on believing.
-use Rattle.std.specs.Prelude.{◌≡◌, ℕ, List, ◌∷◌, ◌≤◌, drop, false, length, map, Option, Some, None, slice_get, slice_set}
+use Rattle.std.specs.Prelude.{◌≡◌, ◌⊎◌, ℕ, List, ◌∷◌, ◌≤◌, drop, true, false, length, map, Option, Some, None, slice_get, slice_set}
 use Rattle.sd_chain.specs.Catalog.{AreInOrder, Opened, place_of}
 use Rattle.sd_chain.specs.Store.{IsCatalogOf}
 use Rattle.sd_gate.specs.Calls.{AreKept, IsLook}
@@ -8,9 +8,11 @@ use Rattle.sd_gate.specs.Laws.{found_phase}
 use Rattle.sd_gate.specs.Requests.{Asked, Made}
 use Rattle.sd_image.specs.Shows.{Shows}
 use Rattle.sd_journal.specs.declared.entry.Entry.TheVariants.{Reopened}
-use Rattle.sd_journal.specs.Allowed.{Shown, IsLastPair, shown_number}
+use Rattle.sd_journal.specs.Allowed.{Shown, IsLastPair, IsPendingPair, shown_number}
 use Rattle.sd_journal.specs.Legal.{IsLegal}
 use Rattle.sd_journal.specs.Marked.{Told}
+use Rattle.sd_opener.specs.Looking.{Looking}
+use Rattle.sd_opener.specs.Sees.{Sees}
 use Rattle.sd_belief.specs.declared.standing.Standing.TheVariants.{Open}
 use Rattle.sd_belief.specs.Believes.{Believes}
 use Rattle.sd_belief.specs.Calls.{NoneOut}
@@ -56,6 +58,21 @@ abbrev pub LeftShowsAllowed : Type 0
 LeftShowsAllowed = (core : CoreView) (asked : List (Option Asked)) (bodies files left : List (List ℕ))
     → Believes core asked bodies files → DiskLeaves core.phases bodies left
     → ShowsAllowed core.base (history_of core) left
+
+-- files that show the last pair; or, where the opening of the dump's gate was taken up, the pending one
+pub record ShowsAwaited (core : CoreView) (files : List (List ℕ)) : Type 0 where
+  pub shown : Shown
+  pub shows : Shows files shown
+  pub awaited : IsLastPair core.base (history_of core) shown ⊎ ((core.committing ≡ true) × IsPendingPair core.base (history_of core) shown)
+
+-- What an opener finds in a store that is as it is believed to be.
+pub record OpenerFinds : Type 0 where
+  -- while none of its requests is out it sees the files
+  pub sees : (core : CoreView) (opener : Looking) (asked : List (Option Asked)) (bodies files : List (List ℕ))
+      → core.opener ≡ Some opener → slice_get core.outs 2 ≡ Some None → Believes core asked bodies files → Sees files None opener
+  -- and these show the last pair, or the pending one
+  pub shows : (core : CoreView) (asked : List (Option Asked)) (bodies files left : List (List ℕ))
+      → Believes core asked bodies files → DiskLeaves core.phases bodies left → ShowsAwaited core left
 
 -- a store was opened again: the journal has the checkpoint that its files show, and each slot is in the phase that its file tells
 pub record IsReopened (old new : CoreView) (files : List (List ℕ)) (found : Option ℕ) : Type 0 where

@@ -23,6 +23,10 @@ pub record Numbers : Type 0 where
   pub checkpoint : ℕ
   -- the greatest serial that was given out in this run, or found at the last opening
   pub serial : ℕ
+  -- the greatest checkpoint number that was begun in this run, or the one that it started from
+  pub begun : ℕ
+  -- the greatest serial that was given out in this run
+  pub given : ℕ
   -- the ticket of the next request
   pub ticket : ℕ
 

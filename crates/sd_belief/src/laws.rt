@@ -4,7 +4,7 @@ ghost use Rattle.sd_belief.specs.CoreSteps.{CoreSteps};
 ghost use Rattle.sd_belief.specs.DumperOutcomes.{DumperOutcomes};
 ghost use Rattle.sd_belief.specs.DumperSteps.{DumperSteps};
 ghost use Rattle.sd_belief.specs.GateSteps.{GateSteps};
-ghost use Rattle.sd_belief.specs.Laws.{FoundIsBelieved, LeftShowsAllowed, PerformedIsBelieved, ReopenedIsBelieved};
+ghost use Rattle.sd_belief.specs.Laws.{FoundIsBelieved, LeftShowsAllowed, OpenerFinds, PerformedIsBelieved, ReopenedIsBelieved};
 ghost use Rattle.sd_belief.specs.MergerOutcomes.{MergerOutcomes};
 ghost use Rattle.sd_belief.specs.MergerSteps.{MergeBeginningIsBelieved, MergerSteps};
 ghost use Rattle.sd_belief.specs.OpenerSteps.{OpenerSteps};
@@ -45,6 +45,15 @@ pub fn found_law()
 /// Whatever a crash leaves of the slots shows a pair that the journal allows.
 pub fn left_law()
     ensures { LeftShowsAllowed }
+{
+    left_as_believed();
+    contents_show();
+}
+
+/// An opener that rests sees the files, and what a crash could have left of them shows the last checkpoint, or, where the
+/// opening of its dump's gate was taken up, the pending one.
+pub fn opener_finds()
+    ensures { OpenerFinds }
 {
     left_as_believed();
     contents_show();

@@ -1,8 +1,14 @@
 -- The page table's event of a command and its reply, and what the frames and the writable bits decide of the reply.
-use Rattle.std.specs.Prelude.{◌≡◌, ◌≢◌, ◌↔◌, ◌%◌, ℕ, Bool, true, false, length, Option, Some, None, IfSome}
+use Rattle.std.specs.Prelude.{◌≡◌, ◌≢◌, ◌↔◌, ◌≤◌, ◌%◌, ℕ, true, false, length, Option, Some, None, IfSome}
+use Rattle.std.specs.FinMap as finmap
 use Rattle.sd_areas.specs.Pages.{page_of, pages_for}
-use Rattle.sd_pagetable.specs.Contents.{Contents, page_at, plain_of}
-use Rattle.sd_pagetable.specs.Due.{frame_due}
+use Rattle.sd_areas.specs.Calls.{has_hole}
+use Rattle.sd_pagetable.specs.Contents.{Contents, page_at, page_count, plain_of}
+use Rattle.sd_pagetable.specs.Due.{access_due, fault_due, fork_due, frame_due, needs_frame, prots_in, store_due}
+use Rattle.sd_pagetable.specs.Effects.{after_mmap}
+use Rattle.sd_pagetable.specs.Nested.{inside, is_alive}
+use Rattle.sd_pagetable.specs.RangeCalls.{IsRangeIn}
+use Rattle.sd_pagetable.specs.declared.access.Access.TheVariants.{Read}
 use Rattle.sd_pagetable.specs.Page.{Page}
 use Rattle.sd_pagetable.specs.Tracking.{Event, Mapped, Unmapped, Protected, Forked, Exited, Faulted, Tried, Stored, Passed, Step}
 use Rattle.sd_command.specs.declared.command.Command.{Command}
@@ -42,11 +48,26 @@ Chooses memory (command.Store space address bytes) answer =
     → (answer ≡ reply.Refused refusal.NoFrame) ↔ (frame_due memory (page_under memory space address) ≢ None)
 Chooses memory _ answer = Unit {0}
 
--- whether a command takes memory, and so may find none: an exit and a try of a store take none
-abbrev pub takes_memory : Command → Bool
-takes_memory (command.Exit space) = false
-takes_memory (command.TryStore space address bytes) = false
-takes_memory _ = true
+-- Where a command takes memory, and so may find none: behind all that is tested before. An exit and a try of a store take
+-- none; a load takes it for the bytes that it returns; a fault and a store for a frame that the page needs; the areas of a
+-- space without pages don't grow.
+abbrev pub TakesMemory : Contents → Command → Type 0
+TakesMemory memory (command.Mmap space address bytes prot) =
+    IsRangeIn (is_alive memory.spaces space ≡ true) address bytes
+    × (page_count (after_mmap (plain_of memory) space address bytes prot) ≤ 65536)
+TakesMemory memory (command.Munmap space address bytes) =
+    IsRangeIn (is_alive memory.spaces space ≡ true) address bytes × (inside memory.spaces space ≢ finmap.empty)
+TakesMemory memory (command.Mprotect space address bytes prot) =
+    IsRangeIn (is_alive memory.spaces space ≡ true) address bytes
+    × (has_hole (prots_in (inside (plain_of memory) space)) (page_of address) (pages_for bytes) ≡ false)
+TakesMemory memory (command.Fork space) = fork_due (plain_of memory) space ≡ None
+TakesMemory memory (command.Exit space) = ⊥
+TakesMemory memory (command.Load space address count) = access_due (plain_of memory) space address count Read ≡ None
+TakesMemory memory (command.TryStore space address bytes) = ⊥
+TakesMemory memory (command.Fault space address) =
+    (fault_due memory space address ≡ None) × (needs_frame memory (page_under memory space address) ≡ true)
+TakesMemory memory (command.Store space address bytes) =
+    (store_due memory space address (length bytes) ≡ None) × (needs_frame memory (page_under memory space address) ≡ true)
 
 -- the event of a command and its reply makes of the plain memory what the command makes of it
 abbrev pub EffectLaw : Type 0

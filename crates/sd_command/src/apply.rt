@@ -1,11 +1,11 @@
 //! Commands on a memory.
-ghost use Rattle.std.specs.Prelude.{◌≡◌, false, Err, IsErr, OnErr, IfOk, IsTrue};
+ghost use Rattle.std.specs.Prelude.{◌≡◌, false, None, Err, OnErr, IfOk};
 ghost use Rattle.sd_pagetable.specs.Contents.{plain_of};
 ghost use Rattle.sd_pagetable.specs.Due.{Answers, access_due};
 ghost use Rattle.sd_pagetable.specs.Tracking.{Step};
 ghost use Rattle.sd_pagetable.specs.declared.access.Access.TheVariants.{Read};
 ghost use Rattle.sd_command.specs.Attempts.{Does, IsLoaded, denial, done_reply, try_reply};
-ghost use Rattle.sd_command.specs.Events.{Chooses, event_of, takes_memory};
+ghost use Rattle.sd_command.specs.Events.{Chooses, TakesMemory, event_of};
 ghost use Rattle.sd_command.specs.Replies.{IsLegalReply, effect};
 
 use crate::bytes::Bytes;
@@ -17,13 +17,15 @@ use sd_pagetable::{AccessError, Memory, MemoryError, StoreOutcome, plain_law};
 use std::alloc::{AllocError, Global};
 
 /// One byte more than a load can have.
-const TOO_MANY: u64 = 65;
+const TOO_MANY: usize = 65;
 
 /// Applies a command to a memory that isn't frozen, and returns the reply. Refusals and faults are replies.
 ///
 /// # Errors
 ///
-/// Out of memory where a growth was refused: nothing changes. An exit and a try of a store take no memory.
+/// Out of memory where a growth was refused: nothing changes. An exit and a try of a store take no memory, and the other
+/// commands only behind what needs none: a load that is refused takes none, nor a fault or a store of a page that is alone
+/// in its frame.
 pub fn apply_to(alloc: Global, memory: &mut Memory, command: &Command) -> Result<Reply, AllocError>
     // The reply is legal in the plain memory, and what that leaves open is as the frames and writable bits have it.
     ensures legal { IfOk result (IsLegalReply (plain_of memory.old) false command.now) }
@@ -34,7 +36,7 @@ pub fn apply_to(alloc: Global, memory: &mut Memory, command: &Command) -> Result
     ensures effect { IfOk result (λ reply.
         plain_of memory.new ≡ effect command.now reply (plain_of memory.old)) }
 
-    ensures takes_memory { IsErr result → IsTrue (takes_memory command.now) }
+    ensures takes_memory { OnErr result (TakesMemory memory.old command.now) }
     ensures err { OnErr result (memory.new ≡ memory.old) }
 {
     plain_law();
@@ -48,8 +50,7 @@ pub fn apply_to(alloc: Global, memory: &mut Memory, command: &Command) -> Result
 /// Makes the call of a command on a memory.
 fn attempt(alloc: Global, memory: &mut Memory, command: &Command) -> Result<Reply, MemoryError>
     ensures due { Answers (denial memory.old command.now) result }
-    ensures takes_memory { result ≡ Err MemoryError.OutOfMemory
-        → IsTrue (takes_memory command.now) }
+    ensures takes_memory { result ≡ Err MemoryError.OutOfMemory → TakesMemory memory.old command.now }
     ensures does { IfOk result (λ reply. Does command.now reply memory.old memory.new) }
     ensures effect { IfOk result (λ reply.
         plain_of memory.new ≡ effect command.now reply (plain_of memory.old)) }
@@ -115,7 +116,7 @@ fn tried(outcome: StoreOutcome) -> Reply
     }
 }
 
-/// Loads so many bytes. The memory itself refuses a load of more than 64.
+/// Loads so many bytes, and takes memory for those that it returns. The memory itself refuses a load of more than 64.
 fn load(
     alloc: Global,
     memory: &Memory,
@@ -124,11 +125,14 @@ fn load(
     count: u64,
 ) -> Result<Reply, MemoryError>
     ensures due { Answers (access_due (plain_of memory.now) space address count Read) result }
+    ensures tested { result ≡ Err MemoryError.OutOfMemory
+        → access_due (plain_of memory.now) space address count Read ≡ None }
     ensures bytes { IfOk result (IsLoaded memory.now space address count) }
 {
-    let mut bytes = vec![in alloc; 0; count.min(TOO_MANY) as usize]?;
-    memory.load(space, address, &mut bytes)?;
-    Ok(Reply::Bytes(Bytes::new(bytes)))
+    let mut buffer = [0; TOO_MANY];
+    let bytes = &mut buffer[..count.min(TOO_MANY as u64) as usize];
+    memory.load(space, address, bytes)?;
+    Ok(Reply::Bytes(Bytes::new(Vec::from_slice(alloc, bytes)?)))
 }
 
 impl From<AccessError> for Reply {

@@ -193,6 +193,8 @@ core_beside core outs phases places room numbers merge sound stands closed count
   counted = counted;
   rests = sound.rests;
   swept_is = sound.swept_is;
+  flags_are = sound.flags_are;
+  gated = sound.gated;
   work = work_beside core phases places numbers merge sound count l;
   little = sound.little;
   merging = merging;

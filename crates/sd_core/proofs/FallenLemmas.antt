@@ -14,6 +14,7 @@ use Rattle.sd_belief.specs.Calls.{IsFree}
 use Rattle.sd_belief.specs.declared.standing.Standing.{Standing}
 use Rattle.sd_belief.specs.declared.standing.Standing.TheVariants.{NotOpen, Open, Down}
 use Rattle.sd_belief.specs.View.{CoreView}
+use Rattle.sd_core.specs.Grown.{AreFlags, IsGated}
 use Rattle.sd_core.specs.Dumping.{LetsGoOfTwo}
 use Rattle.sd_core.specs.LittleWork.{HasLittle}
 use Rattle.sd_core.specs.Merging.{EndsCheckpoint}
@@ -106,6 +107,8 @@ fallen_core core journal stands phases outs dumper merge room place sound closed
   counted = sound.counted;
   rests = λ resting open_. absurd (let no : Down ≡ Open = sym is_down ∙ open_ in cc);
   swept_is = sound.swept_is;
+  flags_are = subst (λ all. AreFlags core.base all core.swept core.grows core.committing) (sym items) sound.flags_are;
+  gated = subst (λ r. IfSome r (IsGated core.swept)) (sym idle) tt;
   work = subst (λ r. IfSome r (IsAtWork core.base journal.items core.frozen stands phases core.places merge core.opener core.numbers)) (sym idle) tt;
   little = subst (λ r. IfSome r (HasLittle core.base journal.items core.memory)) (sym idle) tt;
   merging = subst (λ m. IfSome m (IsMerging stands phases core.places core.opener core.numbers room dumper.running)) (sym none) tt;

@@ -7,7 +7,9 @@ mod CancelLemmas
 mod CoreLemmas
 mod EnteredLemmas
 mod FallenLemmas
+mod FlagLemmas
 mod GiveUp
+mod GoOnLemmas
 mod HandedLemmas
 mod ImageLemmas
 mod JournalLemmas
@@ -33,6 +35,7 @@ mod SlotLemmas
 mod StageLemmas
 mod StartLemmas
 mod StepLemmas
+mod StrangeLemmas
 mod TipLemmas
 mod WorkLemmas
 pub mod FrontLemmas

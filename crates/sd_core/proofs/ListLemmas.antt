@@ -27,6 +27,7 @@ use Rattle.sd_core.specs.Merging.{AreCut, FixesList, HasItsList, IsAsBelieved, I
 use Rattle.sd_core.specs.Refusals.{is_idle}
 use Rattle.sd_core.specs.Sound.{IsCore, IsDoing, Parts}
 use Rattle.sd_core.proofs.BesideLemmas.{free_spared, merger_works}
+use Rattle.sd_core.proofs.OwnLemmas.{spared_of}
 use Rattle.sd_core.proofs.MergerHands.{EndsList, HandsBeside, IsHandedOn, IsMore, ended_goes_on}
 use Rattle.sd_core.proofs.OpenedLemmas.{OpensAs, OpensBeside, image_of, merged_image, merged_opens}
 use Rattle.sd_core.proofs.PreDumpLemmas.{none_held}
@@ -165,7 +166,39 @@ module _ (places : Places) (laws : MergerOutcomes places) (core : Parts) (old ne
       (λ slot spared. subst (λ all. IsFree (slice_set all 1 None) slot) (sym outs_are) (free_spared core slot sound (merger_works core merge sound runs).stands (subst (λ r. IsSpared r slot) a.old_running spared)))
       b.out b.believes))
 
+  pub opened_image : (other : merger.Running) (serial : ℕ) → OpensMerged other serial old new → IsMergedImage other new.catalog serial
+  opened_image other serial opens =
+      let is = the_merge other serial opens in
+      let here : IsMergedImage merge places serial_now = merged_image core merge made image doing places o changes in
+      subst (λ n. IsMergedImage other new.catalog n) (sym is.1)
+      (subst (λ m. IsMergedImage m new.catalog serial_now) (sym is.0) (subst (λ p. IsMergedImage merge p serial_now) (sym a.its_catalog) here))
+
+  pub opened_free : (other : merger.Running) (serial : ℕ) → OpensMerged other serial old new → IsFree new.outs other.slot
+  opened_free other serial opens =
+      let m = merger_works core merge sound runs in
+      subst (λ (x : merger.Running). IsFree new.outs x.slot) (sym (the_merge other serial opens).0)
+      (subst (λ all. IsFree all merge.slot) (sym (a.outcome.outs ∙ ap (λ all. slice_set all 1 None) outs_are))
+      (free_spared core merge.slot sound m.stands (spared_of core.dumper.running merge.slot m.spared)))
+
+  pub opened_enters : (other : merger.Running) (serial : ℕ) (bodies : List (List ℕ)) → OpensMerged other serial old new → IsAsBelieved old made.request bodies
+      → IsCopyThere other.source.serial serial old.catalog new (bodies_after bodies made.request.id made.request.bytes) × IsMergedImage other new.catalog serial × IsFree new.outs other.slot
+  opened_enters other serial bodies opens b = (opened_copies other serial bodies opens b, opened_image other serial opens, opened_free other serial opens)
+
 -- ---- the end
+
+place_in : (list : List Retired) (one : Retired) → Contains list one → (place : ℕ) × (slice_get list place ≡ Some one)
+place_in [] one c = absurd (let within = c.1 in omega (arith, within))
+place_in (x ∷ list) one (zero, within, is) = (0, ap Some is)
+place_in (x ∷ list) one (suc k, within, is) = let rest = place_in list one (k, omega (arith, within), is) in (suc rest.0, rest.1)
+
+-- no request is out on the slots of its list
+closes_free : (core : Parts) (merge : merger.Running) (r : Retiring) → IsCore core → core.merger ≡ Some merge → merge.doing ≡ retiring r
+    → (one : Retired) → Contains r.list one → IsFree (slice_set core.outs 1 None) one.slot
+closes_free core merge r sound is doing one listed =
+    let m = merger_works core merge sound is in
+    let d = subst (IsDoing core.phases core.places core.numbers core.room core.dumper.running merge) doing m.doing in
+    let at = place_in r.list one listed in
+    free_spared core one.slot sound m.stands (spared_of core.dumper.running one.slot (d.each at.0 one at.1).spared)
 
 one_byte : (phases : List Phase) (slot : ℕ) → slice_get phases slot ≡ Some Bare → IsOneByte phases slot
 one_byte phases slot bare = record {
@@ -176,15 +209,14 @@ one_byte phases slot bare = record {
   );
 }
 
-place_in : (list : List Retired) (one : Retired) → Contains list one → (place : ℕ) × (slice_get list place ≡ Some one)
-place_in [] one c = absurd (let within = c.1 in omega (arith, within))
-place_in (x ∷ list) one (zero, within, is) = (0, ap Some is)
-place_in (x ∷ list) one (suc k, within, is) = let rest = place_in list one (k, omega (arith, within), is) in (suc rest.0, rest.1)
-
 -- behind the last of its calls
 pub ended_cut : (places : Places) → MergerOutcomes places → (old new : CoreView) (merge : merger.Running) (made : Made) (phase : Phase) (serial : ℕ) (bodies : List (List ℕ))
-    → HandsBeside old merge made phase new → EndsList merge made serial → IsAsBelieved old made.request bodies → AreCut old new
-ended_cut places laws old new merge made phase serial bodies h e b = record {
+    → HandsBeside old merge made phase new → EndsList merge made serial → IsAsBelieved old made.request bodies
+    → (core : Parts) → IsCore core → core.merger ≡ Some merge → new.outs ≡ slice_set core.outs 1 None → AreCut old new
+ended_cut places laws old new merge made phase serial bodies h e b core sound runs outs = record {
+  free = λ one listed.
+      let is : list_of old.merger ≡ e.r.list = ap list_of h.was ∙ ap list_in e.was in
+      subst (λ all. IsFree all one.slot) (sym outs) (closes_free core merge e.r sound runs e.was one (subst (λ all. Contains all one) is listed));
   each = λ one listed.
       let is : list_of old.merger ≡ e.r.list = ap list_of h.was ∙ ap list_in e.was in
       let at = place_in e.r.list one (subst (λ all. Contains all one) is listed) in
@@ -196,6 +228,9 @@ ended_cut places laws old new merge made phase serial bodies h e b = record {
 pub none_cut : (old new : CoreView) (merge : merger.Running) (copy : Copying) → old.merger ≡ Some merge → merge.doing ≡ copying copy → AreCut old new
 none_cut old new merge copy was doing = record {
   each = λ one listed. absurd (
+      let within = listed.1 in
+      let none : length (list_of old.merger) ≡ 0 = ap (λ m. length (list_of m)) was ∙ ap (λ d. length (list_in d)) doing in omega (arith, within, none));
+  free = λ one listed. absurd (
       let within = listed.1 in
       let none : length (list_of old.merger) ≡ 0 = ap (λ m. length (list_of m)) was ∙ ap (λ d. length (list_in d)) doing in omega (arith, within, none));
 }
@@ -210,6 +245,11 @@ believed_seen request bodies seen now is b = subst (λ old. IsAsBelieved old req
 
 pub copies_seen : (source serial : ℕ) (bodies : List (List ℕ)) (seen now new : CoreView) → seen ≡ now → IsCopyThere source serial seen.catalog new bodies → IsCopyThere source serial now.catalog new bodies
 copies_seen source serial bodies seen now new is copies = subst (λ (old : CoreView). IsCopyThere source serial old.catalog new bodies) is copies
+
+pub enters_seen : (merge : merger.Running) (serial : ℕ) (bodies : List (List ℕ)) (seen now new : CoreView) → seen ≡ now
+    → IsCopyThere merge.source.serial serial seen.catalog new bodies × IsMergedImage merge new.catalog serial × IsFree new.outs merge.slot
+    → IsCopyThere merge.source.serial serial now.catalog new bodies × IsMergedImage merge new.catalog serial × IsFree new.outs merge.slot
+enters_seen merge serial bodies seen now new is enters = (copies_seen merge.source.serial serial bodies seen now new is enters.0, enters.1, enters.2)
 
 pub cut_seen : (seen now new : CoreView) → seen ≡ now → AreCut seen new → AreCut now new
 cut_seen seen now new is cut = subst (λ old. AreCut old new) is cut

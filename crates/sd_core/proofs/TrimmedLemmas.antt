@@ -17,6 +17,8 @@ use Rattle.sd_rounds.specs.Dumper.{Running, is_frozen_image}
 use Rattle.sd_rounds.specs.LittleWork.{TakesVisited}
 use Rattle.sd_rounds.specs.Making.{Making, is_frozen}
 use Rattle.sd_rounds.specs.Pass.{Pass}
+use Rattle.sd_core.proofs.FlagLemmas.{grown_trims}
+use Rattle.sd_core.specs.Grown.{has_grown}
 use Rattle.sd_core.specs.LittleWork.{HasLittle, IsFrozenFor, TakesLittle, visits_of}
 use Rattle.sd_core.specs.Sound.{AreNumbers, IsAtWork, IsCore, IsImageOf, IsVisiting, IsVisitingIn, Parts}
 use Rattle.sd_core.specs.Visited.{HasSettled, is_begun}
@@ -297,4 +299,10 @@ trimmed_core laws marked_laws tracked_laws core base journal n front sound t = r
       (has_little laws marked_laws tracked_laws core journal.items front n sound t.newest t.other t.parts t.ended core.dumper.running refl sound.little);
   merging = sound.merging;
   swept_is = sound.swept_is;
+  flags_are = record {
+    grown = sound.flags_are.grown ∙ ap (has_grown core.base) (history laws marked_laws tracked_laws core journal.items front n sound t.newest t.other t.parts t.ended)
+        ∙ sym (grown_trims core.base (entries_of journal.items) (entries_of front) n t.ended.ended) ∙ ap (λ b. has_grown b (entries_of journal.items)) (sym t.base_is);
+    sure = sound.flags_are.sure;
+  };
+  gated = sound.gated;
 }

@@ -29,6 +29,7 @@ use Rattle.sd_belief.specs.Calls.{IsFree}
 use Rattle.sd_belief.specs.declared.standing.Standing.{Standing}
 use Rattle.sd_belief.specs.declared.standing.Standing.TheVariants.{Open}
 use Rattle.sd_belief.specs.Merges.{IsOtherImage, IsSpared, MakesOther}
+use Rattle.sd_core.specs.Grown.{AreFlags, IsGated}
 use Rattle.sd_core.specs.declared.numbers.Numbers.{Numbers}
 use Rattle.sd_core.specs.Visited.{HasSwept}
 use Rattle.sd_core.proofs.JournalLemmas.{same_journal}
@@ -88,6 +89,8 @@ pub record IsWorking (core : Parts) (running : Running) : Type 0 where
   pub little : HasLittle core.base core.journal.items core.memory running
   pub merging : IfSome core.merger (IsMerging core.standing core.phases core.places core.opener core.numbers core.room (Some running))
   pub swept_is : HasSwept core.swept core.frozen core.memory
+  pub flags_are : AreFlags core.base core.journal.items core.swept core.grows core.committing
+  pub gated : IsGated core.swept running
 
 pub core_working : (core : Parts) (running : Running) → core.dumper.running ≡ Some running → IsWorking core running → IsCore core
 core_working core running is w = record {
@@ -100,6 +103,8 @@ core_working core running is w = record {
   counted = w.counted;
   rests = λ none. absurd (let no : None ≡ Some running = sym none ∙ is in cc);
   swept_is = w.swept_is;
+  flags_are = w.flags_are;
+  gated = subst (λ r. IfSome r (IsGated core.swept)) (sym is) w.gated;
   work = subst (λ r. IfSome r (IsAtWork core.base core.journal.items core.frozen core.standing core.phases core.places core.merger core.opener core.numbers)) (sym is) w.work;
   little = subst (λ r. IfSome r (HasLittle core.base core.journal.items core.memory)) (sym is) w.little;
   merging = subst (λ r. IfSome core.merger (IsMerging core.standing core.phases core.places core.opener core.numbers core.room r)) (sym is) w.merging;
@@ -210,6 +215,8 @@ pub record Turns (old new : Parts) (running : Running) (image next : Making) : T
   pub still : is_frozen next ≡ is_frozen image
   pub little : TakesLittle new.base new.journal.items new.memory running.number next
   pub swept_is : HasSwept new.swept new.frozen new.memory
+  pub flags_are : AreFlags new.base new.journal.items new.swept new.grows new.committing
+  pub gated : IsGated new.swept (record running { image = Some next })
 
 -- ---- requests that are out while the store is open
 
@@ -306,6 +313,8 @@ turned old new running image next sound t =
       };
       little = t.little;
       swept_is = t.swept_is;
+      flags_are = t.flags_are;
+      gated = t.gated;
       merging = subst (λ r. IfSome new.merger (IsMerging new.standing new.phases new.places new.opener new.numbers new.room r)) t.is (merging_turned old new running image next sound (record {
         was = t.was;
         making = t.making;
@@ -333,6 +342,8 @@ grown_core core journal sound grown = record {
   counted = sound.counted;
   rests = sound.rests;
   swept_is = sound.swept_is;
+  flags_are = subst (λ all. AreFlags core.base all core.swept core.grows core.committing) (sym grown.items) sound.flags_are;
+  gated = sound.gated;
   work = subst (λ all. IfSome core.dumper.running (IsAtWork core.base all core.frozen core.standing core.phases core.places core.merger core.opener core.numbers)) (sym grown.items) sound.work;
   little = subst (λ all. IfSome core.dumper.running (HasLittle core.base all core.memory)) (sym grown.items) sound.little;
   merging = sound.merging;

@@ -1,7 +1,11 @@
 pub mod Answering
 pub mod Beginning
+pub mod Called
 pub mod Dumping
 pub mod Entering
+pub mod Flags
+pub mod GoingOn
+pub mod Grown
 pub mod Images
 pub mod Lasting
 pub mod LittleWork

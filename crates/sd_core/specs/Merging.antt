@@ -28,6 +28,7 @@ use Rattle.sd_merge.specs.Merger.{CopiesOn, Retires, RetiresOn, begun_merge, cop
 use Rattle.sd_merge.specs.Sources.{source_from}
 use Rattle.sd_rounds.specs.Dumper.{Running}
 use Rattle.sd_belief.specs.Believes.{Believes}
+use Rattle.sd_belief.specs.Calls.{IsFree}
 use Rattle.sd_belief.specs.Copies.{IsCopyThere}
 use Rattle.sd_belief.specs.Merges.{IsSpared}
 use Rattle.sd_belief.specs.View.{CoreView, index}
@@ -192,10 +193,11 @@ abbrev pub ListsTheUnneeded : CoreView → Asked → CoreView → Type 0
 ListsTheUnneeded old request new = (merge : merger.Running) (serial : ℕ) (bodies : List (List ℕ)) → OpensMerged merge serial old new → IsAsBelieved old request bodies
     → RetiresThese (opened_merge merge serial) new (list_of new.merger)
 
--- and the image that entered is a copy of its source, with its areas: it holds at each page what the source then holds
+-- and the image that entered is a copy of its source, with its areas: it holds at each page what the source then holds; it stands in the
+-- merge's slot, on which no request is out
 abbrev pub EntersAsCopy : CoreView → Asked → CoreView → Type 0
 EntersAsCopy old request new = (merge : merger.Running) (serial : ℕ) (bodies : List (List ℕ)) → OpensMerged merge serial old new → IsAsBelieved old request bodies
-    → IsCopyThere merge.source.serial serial old.catalog new (bodies_after bodies request.id request.bytes)
+    → IsCopyThere merge.source.serial serial old.catalog new (bodies_after bodies request.id request.bytes) × IsMergedImage merge new.catalog serial × IsFree new.outs merge.slot
 
 -- ---- the end of a merge
 
@@ -204,9 +206,10 @@ pub record IsOneByte (phases : List Phase) (slot : ℕ) : Type 0 where
   pub bare : slice_get phases slot ≡ Some Bare
   pub reads : (body file : List ℕ) → Reads Bare body file → IsClosed file × (length file ≡ 1)
 
--- so is the slot of each image that was on the list
+-- so is the slot of each image that was on the list, and no request is out on it
 pub record AreCut (old new : CoreView) : Type 0 where
   pub each : (one : Retired) → Contains (list_of old.merger) one → IsOneByte new.phases one.slot
+  pub free : (one : Retired) → Contains (list_of old.merger) one → IsFree new.outs one.slot
 
 -- where the store is as it is believed to be
 abbrev pub EndsCut : CoreView → Asked → CoreView → Type 0

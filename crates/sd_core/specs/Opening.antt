@@ -1,20 +1,30 @@
 -- The opener of a core.
-use Rattle.std.specs.Prelude.{◌≡◌, ◌≢◌, ◌⊎◌, ℕ, ◌+◌, Bool, true, false, List, [], length, Option, Some, None, Result, Ok, Err}
+use Rattle.std.specs.Prelude.{◌≡◌, ◌≢◌, ◌⊎◌, ℕ, ◌+◌, Bool, true, false, if◌then◌else◌, List, [], length, Contains, Option, Some, None, Result, Ok, Err}
 use Rattle.sd_disk.specs.Contents.{file_at}
 use Rattle.sd_gate.specs.Calls.{is_done}
 use Rattle.sd_gate.specs.Inspections.{the_length}
 use Rattle.sd_gate.specs.Plans.{begun}
-use Rattle.sd_gate.specs.Requests.{Made}
+use Rattle.sd_command.specs.declared.refusal.Refusal.TheVariants.{Damaged}
+use Rattle.sd_command.specs.declared.reply.Reply.{Reply}
+use Rattle.sd_command.specs.declared.reply.Reply.TheVariants as reply
+use Rattle.sd_gate.specs.Fits.{DiskLeaves}
+use Rattle.sd_gate.specs.Requests.{Asked, Made}
 use Rattle.sd_gate.specs.Sequences.{first_looks}
 use Rattle.sd_opener.specs.declared.stage.Stage.TheVariants.{Asking}
-use Rattle.sd_image.specs.Shows.{Shows}
+use Rattle.sd_image.specs.Image.{Image}
+use Rattle.sd_image.specs.Shows.{IsRestorable, IsStore, IsTip, Shows}
 use Rattle.sd_journal.specs.Allowed.{Shown, shown_number}
+use Rattle.sd_journal.specs.History.{last, pending}
 use Rattle.sd_journal.specs.Kept.{Kept}
 use Rattle.sd_opener.specs.declared.opened.Opened.{Opened}
 use Rattle.sd_opener.specs.declared.opener_step.OpenerStep.{OpenerStep}
 use Rattle.sd_opener.specs.Left.{Lowers, LowersByStep}
 use Rattle.sd_opener.specs.Looking.{IsDoneAsAsked, Looking, MovesOn, StepMoves, out_of}
 use Rattle.sd_opener.specs.Sees.{IsOpened, IsToldOf, Sees, SeesAfter}
+use Rattle.sd_belief.specs.Believes.{Believes}
+use Rattle.sd_belief.specs.View.{CoreView, history_of}
+use Rattle.sd_core.specs.declared.taken.Taken.{Taken}
+use Rattle.sd_core.specs.declared.taken.Taken.TheVariants.{Step, Call}
 
 -- a step of the opener
 pub record WorksOpener (old : Option Looking) (number : ℕ) (step : OpenerStep) (new : Option Looking) : Type 0 where
@@ -66,6 +76,41 @@ pub record LetsGo (pending : Option ℕ) (old new : Kept) : Type 0 where
 -- the number that a store shows is the last or the pending one
 abbrev pub IsExpected : Option ℕ → Option ℕ → Option ℕ → Type 0
 IsExpected last pending found = (found ≡ last) ⊎ ((pending ≢ None) × (found ≡ pending))
+
+-- the checkpoint of the newest dump or merged image of these, or none where there is none
+abbrev pub IsTipNumber : List Image → Option ℕ → Type 0
+IsTipNumber images None = (i : Image) → Contains images i → IsRestorable i → ⊥
+IsTipNumber images (Some n) = (i : Image) × IsTip images i × (i.header.checkpoint ≡ n)
+
+-- every open slot of the files is an image with a serial of its own, and the tip has the last checkpoint's number, or the pending one's
+pub record IsOwnStore (last pending : Option ℕ) (files : List (List ℕ)) : Type 0 where
+  pub images : List Image
+  pub store : IsStore files images
+  pub number : Option ℕ
+  pub tip : IsTipNumber images number
+  pub expected : IsExpected last pending number
+
+-- the files that an opener saw are no such store
+abbrev pub SawStrange : Looking → Option ℕ → Option ℕ → Type 0
+SawStrange opener last pending = (files : List (List ℕ)) → Sees files None opener → length opener.told ≡ length files → IsOwnStore last pending files → ⊥
+
+-- the pending checkpoint, once the opening of its dump's gate was taken up: then the store may show it
+abbrev pub awaited : CoreView → Option ℕ
+awaited core = if core.committing then pending (history_of core) else None
+
+-- A store is refused as damaged only where it isn't one that shows the last checkpoint or the one that is awaited.
+abbrev pub RefusesStrange : CoreView → Reply → Type 0
+RefusesStrange core answer = answer ≡ reply.Refused Damaged → (opener : Looking) → core.opener ≡ Some opener → (files : List (List ℕ)) → Sees files None opener
+    → IsOwnStore (last core.base (history_of core)) (awaited core) files → ⊥
+
+abbrev pub RefusesRightly : CoreView → Taken → Type 0
+RefusesRightly core (Step answer) = RefusesStrange core answer
+RefusesRightly core (Call request) = Unit {0}
+
+-- Where the store is as it is believed to be, it isn't refused as damaged.
+abbrev pub OpensBelieved : CoreView → Taken → Type 0
+OpensBelieved core made = (asked : List (Option Asked)) (bodies files : List (List ℕ)) → Believes core asked bodies files → DiskLeaves core.phases bodies files
+    → made ≢ Step (reply.Refused Damaged)
 
 -- What was read of a store that shows the last checkpoint or the pending one.
 pub record OpensAnew (opener : Looking) (last pending : Option ℕ) (opened : Opened) (found : Option ℕ) : Type 0 where

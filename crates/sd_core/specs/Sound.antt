@@ -35,6 +35,7 @@ use Rattle.sd_belief.specs.Calls.{AreOtherPages}
 use Rattle.sd_belief.specs.Merges.{IsSpared, MakesOther}
 use Rattle.sd_belief.specs.OpenerSteps.{nobody}
 use Rattle.sd_core.specs.declared.numbers.Numbers.{Numbers}
+use Rattle.sd_core.specs.Grown.{AreFlags, IsGated}
 use Rattle.sd_core.specs.Images.{AreApart, HasPreDumps, begun_as}
 use Rattle.sd_core.specs.LittleWork.{HasLittle}
 use Rattle.sd_core.specs.Merging.{IsMergedImage}
@@ -273,6 +274,8 @@ pub record Parts : Type 0 where
   pub room : ℕ
   pub opener : Option Looking
   pub numbers : Numbers
+  pub grows : Bool
+  pub committing : Bool
   -- the pass of the pending checkpoint's dump is over
   pub swept : Bool
 
@@ -289,3 +292,5 @@ pub record IsCore (core : Parts) : Type 0 where
   pub little : IfSome core.dumper.running (HasLittle core.base core.journal.items core.memory)
   pub merging : IfSome core.merger (IsMerging core.standing core.phases core.places core.opener core.numbers core.room core.dumper.running)
   pub swept_is : HasSwept core.swept core.frozen core.memory
+  pub flags_are : AreFlags core.base core.journal.items core.swept core.grows core.committing
+  pub gated : IfSome core.dumper.running (IsGated core.swept)

@@ -1,5 +1,5 @@
 -- A core as it starts, and what a worker's step is.
-use Rattle.std.specs.Prelude.{◌≡◌, ℕ, List, [], replicate, Option, Some, None}
+use Rattle.std.specs.Prelude.{◌≡◌, ℕ, false, List, [], replicate, Option, Some, None}
 use Rattle.sd_areas.specs.Memory.{memory_of}
 use Rattle.sd_areas.specs.PlainMemory.{PlainMemory}
 use Rattle.sd_gate.specs.declared.phase.Phase.{Phase}
@@ -15,6 +15,7 @@ use Rattle.sd_belief.specs.Calls.{HandsOut, MakesStep}
 use Rattle.sd_belief.specs.OpenerSteps.{nobody}
 use Rattle.sd_belief.specs.View.{CoreView}
 use Rattle.sd_core.specs.declared.base.CoreBase.{CoreBase}
+use Rattle.sd_core.specs.Flags.{HasFlags, numbers_from}
 use Rattle.sd_core.specs.declared.taken.Taken.{Taken}
 use Rattle.sd_core.specs.declared.taken.Taken.TheVariants.{Step, Call}
 
@@ -39,7 +40,9 @@ pub record IsStart (number : Option ℕ) (saved : PlainMemory) (loaded : Content
   pub outs : core.outs ≡ nobody
   pub catalog : core.catalog ≡ []
   pub dumper : core.dumper ≡ idle 0
+  pub merger : core.merger ≡ None
   pub opener : core.opener ≡ None
+  pub flags : HasFlags false false (numbers_from number) core
 
 -- nothing was asked for in any lane
 abbrev pub nothing_asked : List (Option Asked)

@@ -1,13 +1,14 @@
 //! The opener of a core: its steps, and what it leaves.
-ghost use Rattle.std.specs.Prelude.{◌≡◌, ◌↔◌, ◌<◌, ◌≤◌, ◌+◌, None, Some, Err, IfOk, IfSome, OnErr, length, map, true, IsTrue, List, ℕ, if◌then◌else◌};
+ghost use Rattle.std.specs.Prelude.{◌≡◌, ◌↔◌, ◌<◌, ◌≤◌, ◌+◌, Option, None, Some, Err, IfOk, IfSome, OnErr, length, map, true, IsTrue, List, ℕ, if◌then◌else◌};
 ghost use Rattle.sd_chain.specs.Store.{IsCatalogOf};
-ghost use Rattle.sd_image.specs.Shows.{Shows};
+ghost use Rattle.sd_image.specs.Image.{Image};
+ghost use Rattle.sd_image.specs.Shows.{IsStore, Shows};
 ghost use Rattle.sd_journal.specs.Allowed.{Shown, shown_number};
 ghost use Rattle.sd_gate.specs.Phases.{given_up, phases_after};
 ghost use Rattle.sd_gate.specs.declared.phase.Phase.{Phase};
 ghost use Rattle.std.specs.Prelude.{slice_get};
 ghost use Rattle.sd_journal.specs.Kept.{entry_count};
-ghost use Rattle.sd_core.specs.Opening.{HoldsForOpening, IsExpected, IsFresh, IsResting, LetsGo, OpensAnew, TeachesOpener, WorksOpener};
+ghost use Rattle.sd_core.specs.Opening.{HoldsForOpening, IsExpected, IsFresh, IsResting, IsTipNumber, LetsGo, OpensAnew, SawStrange, TeachesOpener, WorksOpener};
 ghost use Rattle.sd_core.specs.Refusals.{is_open};
 ghost use Rattle.sd_core.specs.Working.{opener_left};
 
@@ -164,8 +165,10 @@ pub(crate) fn left_of_opener(opener: &Option<Opener>) -> u128
 
 /// The checkpoint that a catalog shows, if any.
 fn shown_by(catalog: &Catalog) -> Option<u64>
-    ensures { (files : List (List ℕ)) → IsCatalogOf files catalog.now
+    ensures shown { (files : List (List ℕ)) → IsCatalogOf files catalog.now
         → (shown : Shown) → Shows files shown → shown_number shown ≡ result }
+    ensures tip { (files : List (List ℕ)) → IsCatalogOf files catalog.now → (images : List Image)
+        → IsStore files images → (number : Option ℕ) → IsTipNumber images number → number ≡ result }
 {
     one_store();
     tip_once();
@@ -196,7 +199,8 @@ pub(crate) fn read_by(
     last: Option<u64>,
     pending: Option<u64>,
 ) -> Option<(Opened, Option<u64>)>
-    ensures { IfSome result (λ read. OpensAnew opener last pending read.0 read.1) }
+    ensures opens { IfSome result (λ read. OpensAnew opener last pending read.0 read.1) }
+    ensures strange { result ≡ None → SawStrange opener last pending }
 {
     store_is_rightly_digested();
     let Ok(opened) = opener.finish() else {

@@ -20,9 +20,12 @@ ghost use Rattle.sd_core.specs.Answering.{IsAnswered};
 ghost use Rattle.sd_core.specs.Beginning.{BeginsAs, FreeSlots, begin_refusal};
 ghost use Rattle.sd_core.specs.Images.{IsAcked};
 ghost use Rattle.sd_core.specs.LittleWork.{IsLittleDump, IsLittlePreDump, OpensPreDump};
+ghost use Rattle.sd_core.specs.Called.{IsApplied, IsBegun, IsCancelOrder, IsHandedIn, IsMergeOrder, IsReopenOrder, IsTakenUp};
 ghost use Rattle.sd_core.specs.Entering.{EntersFirst};
+ghost use Rattle.sd_core.specs.Flags.{FlagsByBegin, FlagsByCancel, FlagsByOutcome, FlagsByStep, KeepsFlags};
 ghost use Rattle.sd_core.specs.Lasting.{MergeLasts};
 ghost use Rattle.sd_core.specs.Merging.{EndsCut, EntersAsCopy, FixesItsList, IsMerged, ListsTheUnneeded, MergesAs, OpensMerged, merge_refusal};
+ghost use Rattle.sd_core.specs.Opening.{OpensBelieved, RefusesRightly};
 ghost use Rattle.sd_core.specs.Orders.{BeginsToOpen, IsCancelled};
 ghost use Rattle.sd_core.specs.Refusals.{cancel_refusal, is_idle, reopen_refusal, work_refusal};
 ghost use Rattle.sd_core.specs.Starts.{TakesUp, IsStart, nothing_asked, shown_base};
@@ -117,7 +120,7 @@ impl Model for Core {
       dumper = c.dumper;
       merger = c.merger;
       opener = c.opener;
-      numbers = record { checkpoint = c.numbers.checkpoint; serial = c.numbers.serial; ticket = c.numbers.ticket };
+      numbers = record { checkpoint = c.numbers.checkpoint; serial = c.numbers.serial; begun = c.numbers.begun; given = c.numbers.given; ticket = c.numbers.ticket };
       grows = c.grows;
       committing = c.committing;
     } };
@@ -137,6 +140,8 @@ impl Model for Core {
       room = c.room;
       opener = c.opener;
       numbers = c.numbers;
+      grows = c.grows;
+      committing = c.committing;
       swept = c.swept;
     }) };
 }
@@ -213,16 +218,7 @@ impl Core {
     ///
     /// `JournalFull` where no entry is free beside those held. `OutOfMemory` where a growth was refused. Nothing changes.
     pub fn apply(&mut self, seat: usize, command: &Command) -> Result<(u64, Reply), Refusal>
-        ensures applies { Applies seat command.now result self.old self.new }
-        ensures number { IfOk result (λ told. told.0 ≡ self.old.base.folded + length (history_of self.old)) }
-        ensures full { result ≡ Err JournalFull
-            ↔ length (history_of self.old) + self.old.held ≡ self.old.limit }
-        ensures stands { self.new.standing ≡ self.old.standing }
-        ensures job { self.new.dumper ≡ self.old.dumper }
-        ensures merge { self.new.merger ≡ self.old.merger }
-        ensures answered { IfOk result (λ told. IsAnswered (is_some (pending (history_of self.old)))
-            command.now told.1 self.old.memory self.new.memory) }
-        ensures keeps { Stays self.old self.new }
+        ensures { IsApplied seat command.now result self.old self.new }
     {
         core_steps();
         tracked_laws();
@@ -279,11 +275,7 @@ impl Core {
     /// number or a serial of 2^63 or more was used; `NoSlot` where fewer slots are free than pre-dumps and two;
     /// `OutOfMemory` where a growth was refused. Nothing changed.
     pub fn begin(&mut self, rounds: u64) -> Reply
-        ensures adds { AddsByOrder result (history_of self.old) (history_of self.new) }
-        ensures keeps { Stays self.old self.new }
-        ensures refused { (why : Why) → begin_refusal self.old rounds ≡ Some why
-            → (result ≡ reply.Refused why) × (self.new ≡ self.old) }
-        ensures begins { begin_refusal self.old rounds ≡ None → BeginsAs self.old rounds result self.new }
+        ensures { IsBegun rounds result self.old self.new }
     {
         core_steps();
         match self.refusal_of_begin(rounds) {
@@ -302,6 +294,7 @@ impl Core {
         ensures adds { AddsByOrder result (history_of self.old) (history_of self.new) }
         ensures keeps { Stays self.old self.new }
         ensures begins { BeginsAs self.old rounds result self.new }
+        ensures flags { FlagsByBegin self.old result self.new }
     {
         core_steps();
         beginning_law(&self.catalog);
@@ -352,11 +345,7 @@ impl Core {
     /// shows no checkpoint; `NumbersUsed` where a serial of 2^63 or more was used; `NoSlot` where no slot is free;
     /// `OutOfMemory` where a growth was refused. Nothing changed.
     pub fn merge(&mut self) -> Reply
-        ensures adds { AddsByOrder result (history_of self.old) (history_of self.new) }
-        ensures keeps { Stays self.old self.new }
-        ensures refused { (why : Why) → merge_refusal self.old ≡ Some why
-            → (result ≡ reply.Refused why) × (self.new ≡ self.old) }
-        ensures merges { merge_refusal self.old ≡ None → MergesAs self.old result self.new }
+        ensures { IsMergeOrder result self.old self.new }
     {
         core_steps();
         match self.refusal_of_merge() {
@@ -373,11 +362,7 @@ impl Core {
     /// The first of these whose condition holds: `Idle` where none runs or is pending; `Busy` where an opener runs, a request
     /// of the dumper is out, or the opening of the dump's gate was ever taken up. Nothing changed.
     pub fn cancel(&mut self) -> Reply
-        ensures adds { AddsByCancel result (history_of self.old) (history_of self.new) }
-        ensures keeps { Stays self.old self.new }
-        ensures refused { (why : Why) → cancel_refusal self.old ≡ Some why
-            → (result ≡ reply.Refused why) × (self.new ≡ self.old) }
-        ensures cancelled { cancel_refusal self.old ≡ None → IsCancelled self.old result self.new }
+        ensures { IsCancelOrder result self.old self.new }
     {
         core_steps();
         match self.refusal_of_cancel() {
@@ -392,6 +377,7 @@ impl Core {
         ensures adds { AddsByCancel result (history_of self.old) (history_of self.new) }
         ensures keeps { Stays self.old self.new }
         ensures cancelled { IsCancelled self.old result self.new }
+        ensures flags { FlagsByCancel self.old result self.new }
     {
         core_steps();
         cancelling_law();
@@ -416,11 +402,7 @@ impl Core {
     /// `JournalFull` where no checkpoint is pending and no entry is free; `OutOfMemory` where a growth was refused. Nothing
     /// changed.
     pub fn reopen(&mut self) -> Reply
-        ensures adds { AddsByOrder result (history_of self.old) (history_of self.new) }
-        ensures keeps { Stays self.old self.new }
-        ensures refused { (why : Why) → reopen_refusal self.old ≡ Some why
-            → (result ≡ reply.Refused why) × (self.new ≡ self.old) }
-        ensures begun { reopen_refusal self.old ≡ None → BeginsToOpen self.old result self.new }
+        ensures { IsReopenOrder result self.old self.new }
     {
         core_steps();
         match self.refusal_of_reopen() {
@@ -439,6 +421,7 @@ impl Core {
         ensures adds { AddsByOrder result (history_of self.old) (history_of self.new) }
         ensures keeps { Stays self.old self.new }
         ensures begun { BeginsToOpen self.old result self.new }
+        ensures flags { KeepsFlags self.old self.new }
     {
         core_steps();
         opener_steps();
@@ -475,12 +458,7 @@ impl Core {
     /// where the store can't be read, or shows neither the last checkpoint nor the pending one. `Damaged` of the merger,
     /// where its source isn't there to be read.
     pub fn take_up(&mut self, worker: Worker) -> Taken
-        ensures takes { TakesUp self.old worker result self.new }
-        ensures refused { (why : Why) → work_refusal self.old worker ≡ Some why
-            → (result ≡ taken.Step (reply.Refused why)) × (self.new ≡ self.old) }
-        ensures leaves { work_refusal self.old worker ≡ None → Leaves self.old worker result self.new }
-        ensures lasts { MergeLasts self.old self.new }
-        ensures finds { worker ≡ its.Merger → FindsSource self.old result }
+        ensures { IsTakenUp worker self.old result self.new }
     {
         core_steps();
         match self.refusal_of_work(worker) {
@@ -497,6 +475,7 @@ impl Core {
     fn take_up_dumper(&mut self) -> Taken
         requires { work_refusal self.old its.Dumper ≡ None }
         ensures takes { TakesUp self.old its.Dumper result self.new }
+        ensures flags { FlagsByStep self.old its.Dumper result self.new }
         ensures leaves { Leaves self.old its.Dumper result self.new }
         ensures merger { self.new.merger ≡ self.old.merger }
     {
@@ -514,6 +493,7 @@ impl Core {
     fn begin_image(&mut self, slot: usize) -> Taken
         requires next { next_slot self.old.dumper.running ≡ Some slot }
         ensures takes { TakesUp self.old its.Dumper result self.new }
+        ensures flags { FlagsByStep self.old its.Dumper result self.new }
         ensures leaves { Leaves self.old its.Dumper result self.new }
         ensures merger { self.new.merger ≡ self.old.merger }
     {
@@ -560,6 +540,7 @@ impl Core {
         requires rests { slice_get self.old.outs 0 ≡ Some None }
         requires goes { dumper_must_wait self.old.dumper.running (plain_of self.old.memory) ≡ false }
         ensures takes { TakesUp self.old its.Dumper result self.new }
+        ensures flags { FlagsByStep self.old its.Dumper result self.new }
         ensures leaves { Leaves self.old its.Dumper result self.new }
         ensures merger { self.new.merger ≡ self.old.merger }
     {
@@ -623,43 +604,7 @@ impl Core {
     ///
     /// `StoreDown` where the call failed, and where its job has ended, since the store went down meanwhile.
     pub fn hand_in(&mut self, outcome: Outcome) -> Reply
-        ensures strange { (IsOut self.old outcome.request.id → ⊥)
-            → (result ≡ reply.Refused Idle) × (self.new ≡ self.old) }
-        ensures handed { (out : IsOut self.old outcome.request.id)
-            → HandedIn self.old out.lane outcome result self.new }
-        ensures failed { IsOut self.old outcome.request.id → is_done outcome.answer ≡ false
-            → result ≡ reply.Refused StoreDown }
-        ensures down { IsOut self.old outcome.request.id → outcome.request.id.worker ≢ its.Opener
-            → is_idle self.old outcome.request.id.worker ≡ false
-            → result ≡ reply.Refused StoreDown → is_done outcome.answer ≡ false }
-        ensures late { IsOut self.old outcome.request.id → is_idle self.old outcome.request.id.worker ≡ true
-            → result ≡ reply.Refused StoreDown }
-        // One of the opener that is done as it was asked for never ends it.
-        ensures goes_on { IsOut self.old outcome.request.id → outcome.request.id.worker ≡ its.Opener
-            → IsDoneAsAsked outcome → result ≡ reply.Worked }
-        ensures leaves { IsOut self.old outcome.request.id
-            → LeavesByOutcome self.old outcome.request.id.worker result self.new }
-        ensures lasts { MergeLasts self.old self.new }
-        ensures acked { (n : ℕ) → IsOut self.old outcome.request.id → result ≡ reply.Acked n
-            → IsAcked n self.old self.new }
-        ensures little { (n : ℕ) → IsOut self.old outcome.request.id → result ≡ reply.Acked n
-            → IsLittleDump n self.old self.new }
-        ensures round { IsOut self.old outcome.request.id → outcome.request.id.worker ≡ its.Dumper
-            → (running : Running) → OpensPreDump running self.old self.new
-            → IsLittlePreDump running self.old self.new }
-        ensures merged { (serial : ℕ) → IsOut self.old outcome.request.id → result ≡ reply.Merged serial
-            → IsMerged serial self.old self.new }
-        // By the outcome with which the merged image enters the catalog.
-        ensures opens { IsOut self.old outcome.request.id → outcome.request.id.worker ≡ its.Merger
-            → EntersFirst self.old result self.new }
-        ensures lists { IsOut self.old outcome.request.id → outcome.request.id.worker ≡ its.Merger
-            → FixesItsList self.old self.new }
-        ensures retires { IsOut self.old outcome.request.id → outcome.request.id.worker ≡ its.Merger
-            → ListsTheUnneeded self.old outcome.request self.new }
-        ensures copies { IsOut self.old outcome.request.id → outcome.request.id.worker ≡ its.Merger
-            → EntersAsCopy self.old outcome.request self.new }
-        ensures cuts { (serial : ℕ) → IsOut self.old outcome.request.id → result ≡ reply.Merged serial
-            → EndsCut self.old outcome.request self.new }
+        ensures { IsHandedIn outcome result self.old self.new }
     {
         let id = outcome.id();
         let Some(lane) = lane_of(&self.outs, &id) else {
@@ -684,6 +629,7 @@ impl Core {
         ensures leaves { LeavesByOutcome self.old outcome.request.id.worker result self.new }
         ensures merger { self.new.merger ≡ self.old.merger }
         ensures late { result ≡ reply.Refused StoreDown }
+        ensures flags { FlagsByOutcome self.old result self.new }
         ensures closed { outcome.request.id.worker ≢ its.Opener }
         ensures images { (running : Running) → OpensPreDump running self.old self.new → ⊥ }
         ensures merges { outcome.request.id.worker ≡ its.Merger → (merge : RunningMerge) (serial : ℕ)
@@ -707,6 +653,7 @@ impl Core {
         ensures handed { HandedIn self.old lane outcome result self.new }
         ensures failed { is_done outcome.answer ≡ false ↔ result ≡ reply.Refused StoreDown }
         ensures leaves { LeavesByOutcome self.old its.Dumper result self.new }
+        ensures flags { FlagsByOutcome self.old result self.new }
         ensures lasts { MergeLasts self.old self.new }
         ensures acked { (n : ℕ) → result ≡ reply.Acked n → IsAcked n self.old self.new }
         ensures little { (n : ℕ) → result ≡ reply.Acked n → IsLittleDump n self.old self.new }

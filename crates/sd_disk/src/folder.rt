@@ -9,10 +9,12 @@ use crate::call_log::CallLog;
 use crate::file_fault::FileFault;
 use crate::file_limit::FileLimit;
 use crate::open_error::OpenError;
-use std::fs::{File, OpenOptions, TryLockError};
+use crate::retry::uninterrupted;
+use crate::slot_files::{are_own, make_missing, of_folder, open_present, prepare, sync_folder};
+use std::fs::File;
+use std::io;
 use std::os::unix::fs::FileExt;
 use std::rt::Files;
-use std::{fs, io};
 
 /// How many slots a folder has.
 pub const FOLDER_SLOTS: usize = 64;
@@ -34,6 +36,13 @@ impl Folder {
     /// Opens the files. With `make` they may be written: the folder, its parents and the files that are missing are
     /// made, and another folder that may be written is refused meanwhile. Without it the files are opened for reading
     /// alone, nothing is made, and the folder has to be there.
+    ///
+    /// # Errors
+    ///
+    /// The folder or the first file at fault, with what the system answered: it can't be made, opened or synced; a file
+    /// isn't regular, or is a symbolic link that leads nowhere; with `make`, another folder has the lock, or a file has
+    /// another name or is that of two slots, since a run would change both. No file was made or changed where a file that
+    /// is there is at fault. Out of memory where the list of files found no room.
     pub fn open(
         rt: &(impl Files<File = File> + AllocGlobal),
         path: &str,
@@ -42,15 +51,10 @@ impl Folder {
         ensures { IfOk result (λ folder. folder_slots folder ≡ FOLDER_SLOTS) }
     {
         let lock = prepare(rt, path, make).map_err(of_folder)?;
-        let mut images = Vec::with_capacity(rt.alloc(), FOLDER_SLOTS)?;
-        for slot in 0..FOLDER_SLOTS {
-            let name = format!(in rt.alloc(); "{path}/img-{slot:03}").map_err(
-                |_| OpenError::OutOfMemory,
-            )?;
-            let image = open_image(rt, name.as_str(), make).map_err(|error| of_slot(slot, error))?;
-            images.push(image)?;
-        }
+        let mut images = open_present(rt, path, make)?;
         if make {
+            are_own(rt.alloc(), &images)?;
+            make_missing(rt, path, &mut images)?;
             sync_folder(rt, path).map_err(of_folder)?;
         }
         let limit = FileLimit::of_process(rt);
@@ -74,72 +78,6 @@ impl Folder {
     {
         &self.images[slot]
     }
-}
-
-fn of_folder(error: io::Error) -> OpenError {
-    OpenError::Folder(FileFault::of_folder(error))
-}
-
-fn of_slot(slot: usize, error: io::Error) -> OpenError {
-    OpenError::Folder(FileFault::of_slot(slot, error))
-}
-
-/// Makes the folder and locks it, or sees that it is there.
-fn prepare(rt: &impl Files<File = File>, folder: &str, make: bool) -> io::Result<Option<File>> {
-    if make {
-        fs::create_dir_all(rt, folder)?;
-        sync_folder(rt, parent_of(folder))?;
-        return lock_folder(rt, folder).map(Some);
-    }
-    if fs::metadata(rt, folder)?.is_dir() {
-        Ok(None)
-    } else {
-        Err(io::ErrorKind::NotADirectory.into())
-    }
-}
-
-/// Takes the advisory lock of a folder, or fails where another program has it.
-fn lock_folder(rt: &impl Files<File = File>, folder: &str) -> io::Result<File> {
-    let lock = File::open(rt, folder)?;
-    match lock.try_lock() {
-        Ok(()) => Ok(lock),
-        Err(TryLockError::WouldBlock) => Err(io::Error::new(
-            io::ErrorKind::WouldBlock,
-            "another run has this store open",
-        )),
-        Err(TryLockError::Error(error)) => Err(error),
-    }
-}
-
-/// The folder in which a path's last name stands.
-fn parent_of(path: &str) -> &str {
-    match path.trim_end_matches('/').rsplit_once('/') {
-        Some(("", _)) => "/",
-        Some((parent, _)) => parent,
-        None => ".",
-    }
-}
-
-/// Waits until the names in a folder are on the device.
-fn sync_folder(rt: &impl Files<File = File>, path: &str) -> io::Result<()> {
-    File::open(rt, path)?.sync_all()
-}
-
-fn open_image(rt: &impl Files<File = File>, path: &str, make: bool) -> io::Result<Option<File>> {
-    match fs::metadata(rt, path) {
-        Ok(found) if found.is_file() => open_found(rt, path, make).map(Some),
-        Ok(_) => Err(io::ErrorKind::Unsupported.into()),
-        Err(error) if error.kind() == io::ErrorKind::NotFound && !make => Ok(None),
-        Err(error) if error.kind() == io::ErrorKind::NotFound => {
-            File::create_new(rt, path).map(Some)
-        }
-        Err(error) => Err(error),
-    }
-}
-
-/// Opens a file that is there, for reading alone unless it may be written.
-fn open_found(rt: &impl Files<File = File>, path: &str, write: bool) -> io::Result<File> {
-    OpenOptions::new().read(true).write(write).open(rt, path)
 }
 
 /// A call that was made on a slot's file, and how it ended. The five functions below alone make one.
@@ -275,7 +213,7 @@ pub(crate) fn sync(folder: &Folder, slot: usize) -> Result<Made, Made>
 
 fn len_of(image: &Option<File>) -> io::Result<usize> {
     match image {
-        Some(file) => Ok(file.metadata()?.len() as usize),
+        Some(file) => Ok(uninterrupted(|| file.metadata())?.len() as usize),
         None => Ok(0),
     }
 }
@@ -300,14 +238,14 @@ fn cut_to(image: &Option<File>, size: usize) -> io::Result<()> {
         return Err(io::ErrorKind::InvalidInput.into());
     }
     match image {
-        Some(file) => file.set_len(size as u64),
+        Some(file) => uninterrupted(|| file.set_len(size as u64)),
         None => Ok(()),
     }
 }
 
 fn sync_of(image: &Option<File>) -> io::Result<()> {
     match image {
-        Some(file) => file.sync_all(),
+        Some(file) => uninterrupted(|| file.sync_all()),
         None => Ok(()),
     }
 }

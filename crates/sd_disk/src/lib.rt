@@ -17,8 +17,10 @@ mod laws;
 mod mem_disk;
 mod open_error;
 mod pick;
+mod retry;
 mod shadow;
 mod slot_file;
+mod slot_files;
 
 pub use dir_disk::DirDisk;
 pub use disk::Disk;
@@ -30,3 +32,4 @@ pub use laws::crash_outcomes;
 pub use mem_disk::MemDisk;
 pub use open_error::OpenError;
 pub use pick::Pick;
+pub use slot_files::is_being_written;

@@ -7,7 +7,7 @@ use Rattle.std.specs.Ordering.{nat_cmp, eq_by_cmp, is_lt}
 use Rattle.std.specs.Cmp.{nat_cmp_total}
 use Rattle.std.specs.FinMap as finmap
 use Rattle.std.specs.FinMap.{find, same_map, get-insert, get-remove, get-from_entries, get-entries, get-retain_keys, nat_cmp-IsAntisymmetric}
-use Rattle.std.specs.Prelude.{Result, Ok, Err, is_err, OnOk, OnErr, IfOk}
+use Rattle.std.specs.Prelude.{Result, Ok, Err, OnOk, IfOk}
 use Rattle.std.specs.Map.{lookup}
 use Rattle.std.specs.BTreeMap.{BTreeMap, is_at}
 use Rattle.std.specs.BTreeMap.Range.{IsFromStart, IsLeBy}
@@ -412,7 +412,3 @@ past_last {X} es last number past greatest = gone (lookup (is_at (nat_cmp number
     gone : (o : Option X) → lookup (is_at (nat_cmp number)) es ≡ o → o ≡ None
     gone None e = refl
     gone (Some page) e = absurd (let f : false ≡ true = sym (greatest number (subst IsSome (sym e) refl)) ∙ is_below last number past in cc)
-
-pub on_failure : {A E : Type 0} (r : Result A E) (P : Type 0) → is_err r ≡ true → OnErr r P → P
-on_failure (Ok x) P e p = absurd (let f : false ≡ true = e in cc)
-on_failure (Err x) P e p = p

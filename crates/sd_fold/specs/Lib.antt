@@ -1,3 +1,2 @@
 pub mod Overlay
 pub mod Room
-pub mod Told

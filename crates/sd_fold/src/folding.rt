@@ -1,5 +1,5 @@
 //! Folding entries into a base.
-ghost use Rattle.std.specs.Prelude.{◌≡◌, reverse, OnOk, OnErr};
+ghost use Rattle.std.specs.Prelude.{◌≡◌, ◌≢◌, [], reverse, OnOk, OnErr};
 ghost use Rattle.sd_areas.specs.Memory.{memory_of};
 ghost use Rattle.sd_journal.specs.History.{Base, memory_after};
 ghost use Rattle.sd_journal.specs.Legal.{IsLegal};
@@ -19,15 +19,19 @@ use std::alloc::{AllocError, Global};
 ///
 /// # Errors
 ///
-/// Out of memory where a growth was refused: the memory is as before.
+/// Out of memory where a growth was refused, which is only where there is an entry: the memory is as before.
 pub fn fold(alloc: Global, base: &mut Snapshot, entries: &[Entry]) -> Result<(), AllocError>
     requires legal { (start : Base) × (start.memory ≡ memory_of base.old)
         × IsLegal start (reverse entries.now) }
     ensures ok { (start : Base) → start.memory ≡ memory_of base.old
         → OnOk result (memory_of base.new ≡ memory_after start (reverse entries.now)) }
+    ensures some { OnErr result (entries.now ≢ []) }
     ensures err { OnErr result (memory_of base.new ≡ memory_of base.old) }
     ensures checkpoint { base.new.checkpoint ≡ base.old.checkpoint }
 {
+    if entries.is_empty() {
+        return Ok(());
+    }
     let overlay = changes_by(alloc, base, entries)?;
     let left = make_room(alloc, base, overlay)?;
     settle(base, left);

@@ -9,7 +9,5 @@ mod folding;
 mod overlay;
 mod room;
 mod settling;
-#[cfg(test)]
-mod tests;
 
 pub use folding::fold;

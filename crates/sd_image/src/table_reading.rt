@@ -1,10 +1,11 @@
 //! Reading a table, item by item from front to back.
 
-ghost use Rattle.std.specs.Prelude.{◌≡◌, ◌⊎◌, ℕ, ◌+◌, ◌^◌, ◌<◌, ◌≤◌, ◌&&◌, nat_lt, nat_le, List, None, Some, Ok, true, false, length, map, IfOk, MatchOption, option_copied};
+ghost use Rattle.std.specs.Prelude.{◌≡◌, ◌⊎◌, ℕ, ◌+◌, ◌^◌, ◌<◌, ◌≤◌, ◌&&◌, nat_lt, nat_le, List, None, Some, Ok, Err, true, false, length, map, IsOk, IfOk, MatchOption, option_copied};
 ghost use Rattle.sd_areas.specs.Areas.{begins_after, is_area_after};
 ghost use Rattle.sd_image.specs.declared.header.Header.{Header};
 ghost use Rattle.sd_image.specs.Reading.{Reads, Gives, number_at, prot_of, item_at, many, head_at, area_of, area_holds, area_from, area_at, run_kind_of, run_of, run_holds, run_from, run_at, area_limit, space_head_of, space_head_at, covers, space_at, ends_rightly, table_in};
 ghost use Rattle.sd_image.specs.Words.{run_kind_number};
+ghost use Rattle.sd_image.specs.declared.table_error.TableError.TheVariants.{OutOfMemory};
 ghost use Rattle.sd_image.specs.Table.{Listed, listing_of, begins_behind, has_source, is_run_after, table_text, IsTable};
 
 use crate::coverage::have_same_pages;
@@ -326,7 +327,8 @@ fn ends_rightly(header: &Header, spaces: &[SpaceTable], rest: &[u8]) -> bool
 /// The table that all of the bytes spell: the reading, and nothing else.
 #[tactic(auto, unfolding(crate::specs::Reading::table_in))]
 fn table_of(alloc: Global, header: &Header, bytes: &[u8]) -> Result<Table, TableError>
-    ensures { Gives (λ t. map listing_of t.spaces.items) result (table_in header.now bytes.now) }
+    ensures exact { Gives (λ t. map listing_of t.spaces.items) result (table_in header.now bytes.now) }
+    ensures tested { result ≡ Err OutOfMemory → IsOk (head_at bytes.now) }
 {
     let (count, rest) = head_of(bytes)?;
     let (spaces, rest) = spaces_of(alloc, header, count, rest)?;
@@ -337,7 +339,7 @@ fn table_of(alloc: Global, header: &Header, bytes: &[u8]) -> Result<Table, Table
 }
 
 /// The table that the bytes spell, all of them, behind this header; or the least reason that applies to the
-/// first item at which a rule breaks.
+/// first item at which a rule breaks. Out of memory comes only behind the table's head.
 pub fn decode_table(alloc: Global, header: &Header, bytes: &[u8]) -> Result<Table, TableError>
     // What is read is spelled so, and is a table.
     ensures found { IfOk result
@@ -350,6 +352,8 @@ pub fn decode_table(alloc: Global, header: &Header, bytes: &[u8]) -> Result<Tabl
     // Which reason it is.
     ensures exact { Gives (λ t. map listing_of t.spaces.items) result
         (table_in header.now bytes.now) }
+    // Memory is taken behind the head.
+    ensures tested { result ≡ Err OutOfMemory → IsOk (head_at bytes.now) }
 {
     table_of(alloc, header, bytes)
 }

@@ -115,9 +115,10 @@ impl Journal {
     ///
     /// # Errors
     ///
-    /// Out of memory where the list of entries can't grow: nothing changes.
+    /// Out of memory where there is no room and the list of entries can't grow: nothing changes.
     pub fn reserve(&mut self) -> Result<(), AllocError>
         ensures ok { OnOk result (self.new.held < self.new.room) }
+        ensures full { OnErr result (self.old.room ≤ self.old.held) }
         ensures grown { HasGrown self.old self.new }
         ensures err { OnErr result (self.new ≡ self.old) }
     {
@@ -141,10 +142,11 @@ impl Journal {
     ///
     /// # Errors
     ///
-    /// Out of memory where the list of entries can't grow: nothing changes.
+    /// Out of memory where there is no room and the list of entries can't grow: nothing changes.
     pub fn hold(&mut self, count: usize) -> Result<(), AllocError>
         requires { entry_count self.old + self.old.held + count ≤ self.old.limit }
         ensures ok { OnOk result (HasGrown (record self.old { held = self.old.held + count }) self.new) }
+        ensures full { OnErr result (self.old.room < self.old.held + count) }
         ensures err { OnErr result (self.new ≡ self.old) }
     {
         let wanted = self.held + count;
@@ -177,9 +179,10 @@ impl Journal {
     ///
     /// # Errors
     ///
-    /// Out of memory where the list of marks can't grow: nothing changes.
+    /// Out of memory where there is no room and the list of marks can't grow: nothing changes.
     pub fn reserve_mark(&mut self) -> Result<(), AllocError>
         ensures ok { OnOk result (0 < self.new.mark_room) }
+        ensures full { OnErr result (self.old.mark_room ≡ 0) }
         ensures grown { HasGrown self.old self.new }
         ensures err { OnErr result (self.new ≡ self.old) }
     {
@@ -214,11 +217,12 @@ impl Journal {
     ///
     /// # Errors
     ///
-    /// Out of memory where the list finds no room.
+    /// Out of memory where the list finds no room, which is only where some entries are left or held.
     pub fn room_behind(&self, alloc: Global, count: usize) -> Result<Vec<Entry>, AllocError>
         requires { count ≤ entry_count self.now }
         ensures empty { IfOk result (λ room. room.items ≡ []) }
         ensures room { IfOk result (λ room. entry_count self.now + self.now.held ≤ vec_capacity room + count) }
+        ensures some { OnErr result (count < entry_count self.now + self.now.held) }
     {
         let mut room = Vec::new(alloc);
         room.try_reserve(self.entries.len() - count + self.held)?;

@@ -6,6 +6,7 @@ use Rattle.std.specs.Ordering.{nat_cmp}
 use Rattle.std.specs.BTreeMap.{BTreeMap, get}
 use Rattle.std.specs.Option.{option_map, option_or}
 use Rattle.std.specs.FinMap as finmap
+use Rattle.std.specs.FinMap.{get-empty}
 use Rattle.sd_areas.specs.declared.prot.Prot.{Prot}
 use Rattle.sd_areas.specs.declared.errno.Errno.{Errno}
 use Rattle.sd_areas.specs.declared.errno.Errno.TheVariants.{Einval, Enomem}
@@ -57,6 +58,17 @@ pub mmap_seen : (c : Contents) (s address bytes : ℕ) (prot : Prot)
 mmap_seen c s address bytes prot =
     seen_due c s (λ p. or_else (area_due (map_result p address bytes prot)) (cond (nat_lt 65536 (page_count (after_mmap (plain_of c) s address bytes prot))) (Some (Refused NoMemory)) None)) _ (prots_seen c s)
     ∙ ap (λ n. in_space c.spaces s (or_else (area_due (map_result (prots_of (inside c.spaces s)) address bytes prot)) (cond (nat_lt 65536 n) (Some (Refused NoMemory)) None))) (mapped_pages c s address bytes prot)
+
+-- where they are few after the call, they are few in the plain memory
+pub mapped_fits : (c : Contents) (s address bytes : ℕ) (prot : Prot)
+    → page_count (with_space c s (set_within (inside c.spaces s) (page_of address) (pages_for bytes) (fresh_page prot))).spaces ≤ 65536
+    → page_count (after_mmap (plain_of c) s address bytes prot) ≤ 65536
+mapped_fits c s address bytes prot few = subst (λ n. n ≤ 65536) (sym (mapped_pages c s address bytes prot)) few
+
+-- a space without pages has none in its areas
+pub prots_none : (c : Contents) (s : ℕ) → inside c.spaces s ≡ finmap.empty → prots_of (inside c.spaces s) ≡ finmap.empty
+prots_none c s none = same_table _ _ (λ q. get-map_values (λ (page : Page). page.prot) (inside c.spaces s) q ∙ ap (λ (t : Table Page). option_map (λ (page : Page). page.prot) (finmap.get t q)) none
+    ∙ ap (option_map (λ (page : Page). page.prot)) (get-empty nat_cmp q) ∙ sym (get-empty nat_cmp q))
 
 -- an accepted call is due nothing
 pub nothing_due : (c : Contents) (s : ℕ) (answer : Result PageMap Errno) (own : PageMap) → is_alive c.spaces s ≡ true → answer ≡ Ok own → in_space c.spaces s (area_due answer) ≡ None

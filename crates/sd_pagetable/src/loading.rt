@@ -147,6 +147,8 @@ pub(crate) fn areas_of(
         → get nat_cmp areas space
         ≡ option_map prots_in (finmap.get (memory_of snapshot.now) space)) }
     ensures due { Answers (snapshot_due frames (memory_of snapshot.now)) result }
+    ensures tested { result ≡ Err OutOfMemory
+        → (nonzero_pages (memory_of snapshot.now) ≤ frames) × (page_count (memory_of snapshot.now) ≤ 65536) }
 {
     if is_short(frames, snapshot) {
         return Err(MemoryRefusal::NoFrame.into());

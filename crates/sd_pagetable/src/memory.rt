@@ -1,5 +1,5 @@
 ghost use Rattle.sd_pagetable.specs.Access.{allows, is_bad_access};
-ghost use Rattle.std.specs.Prelude.{◌≡◌, ◌%◌, ◌+◌, ◌*◌, ◌<◌, ◌≤◌, ℕ, true, false, None, Some, Ok, Err, length, slice_range, is_some, IsSome, OnOk, OnErr, IfOk, IfSome, IfErr};
+ghost use Rattle.std.specs.Prelude.{◌≡◌, ◌≢◌, ◌%◌, ◌+◌, ◌*◌, ◌<◌, ◌≤◌, ℕ, true, false, None, Some, Ok, Err, length, slice_range, is_some, IsSome, OnOk, OnErr, IfOk, IfSome, IfErr};
 
 use crate::access::Access;
 use crate::access_error::AccessError;
@@ -47,17 +47,18 @@ impl Memory {
     ghost use Rattle.std.specs.FinMap as finmap;
     ghost use Rattle.std.specs.Option.{option_map};
     ghost use Rattle.sd_areas.specs.Pages.{page_of, pages_for};
+    ghost use Rattle.sd_areas.specs.Calls.{has_hole};
     ghost use Rattle.sd_areas.specs.Memory.{memory_of};
-    ghost use Rattle.sd_pagetable.specs.Nested.{is_alive, value_at};
+    ghost use Rattle.sd_pagetable.specs.Nested.{inside, is_alive, value_at};
     ghost use Rattle.sd_pagetable.specs.Page.{Page};
-    ghost use Rattle.sd_pagetable.specs.Contents.{page_at, plain_of, word_at, AreWhole, IsSound};
+    ghost use Rattle.sd_pagetable.specs.Contents.{page_at, page_count, plain_of, word_at, AreWhole, IsSound};
     ghost use Rattle.sd_pagetable.specs.Effects.{after_mmap, after_munmap, after_mprotect, after_fork, after_exit, after_store, IsLeastFree};
-    ghost use Rattle.sd_pagetable.specs.Due.{answer, Answers, needs_frame, page_due, access_due, fault_due, store_due, try_outcome, mmap_due, munmap_due, mprotect_due, fork_due, exit_due};
+    ghost use Rattle.sd_pagetable.specs.Due.{answer, Answers, needs_frame, prots_in, page_due, access_due, fault_due, store_due, try_outcome, mmap_due, munmap_due, mprotect_due, fork_due, exit_due};
     ghost use Rattle.sd_pagetable.specs.Tracking.{Step, IsBeginning, Mapped, Unmapped, Protected, Forked, Exited, Faulted, Tried as TriedEvent, Stored, Cleared};
     ghost use Rattle.sd_pagetable.specs.Order.{IsNextPage, IsFirstPage, IsFirstIn};
     ghost use Rattle.sd_pagetable.specs.RangeCalls.{IsRangeIn};
     ghost use Rattle.sd_pagetable.specs.Kept.{prots_of};
-    ghost use Rattle.sd_pagetable.specs.Loaded.{snapshot_due, IsLoaded};
+    ghost use Rattle.sd_pagetable.specs.Loaded.{nonzero_pages, snapshot_due, IsLoaded};
     ghost use Rattle.sd_pagetable.specs.declared.memory_error.MemoryError.TheVariants.{OutOfMemory};
     ghost use Rattle.sd_pagetable.specs.declared.access.Access.TheVariants.{Read, Write};
     ghost use Rattle.sd_pagetable.specs.declared.store_outcome.StoreOutcome.TheVariants.{Done, NeedsFault};
@@ -93,7 +94,7 @@ impl Memory {
     ///
     /// In this order: no-frame where more pages than the pool has frames aren't all zeros; ENOMEM
     /// where a space has a number outside 1 to 16 or over 1,024 areas, or over 65,536 pages are
-    /// mapped. Out of memory where a growth was refused.
+    /// mapped. Out of memory where a growth was refused, behind the numbers of frames and pages.
     pub fn from_snapshot(
         alloc: Global,
         frames: usize,
@@ -102,6 +103,8 @@ impl Memory {
         requires least { 1 ≤ frames }
         requires greatest { frames ≤ 65536 }
         ensures due { Answers (snapshot_due frames (memory_of snapshot.now)) result }
+        ensures tested { result ≡ Err OutOfMemory
+            → (nonzero_pages (memory_of snapshot.now) ≤ frames) × (page_count (memory_of snapshot.now) ≤ 65536) }
         ensures loaded { IfOk result (IsLoaded frames (memory_of snapshot.now)) }
     {
         let areas = loading::areas_of(alloc, frames, snapshot)?;
@@ -118,8 +121,8 @@ impl Memory {
     ///
     /// In this order: no-such-space; EINVAL for a length of 0 or an address that is no multiple of
     /// 4,096; ENOMEM for a range that ends past 2^47, and where there would be over 1,024 areas in
-    /// the space or over 65,536 pages. Out of memory where a growth was refused. An error changes
-    /// nothing.
+    /// the space or over 65,536 pages. Out of memory where a growth was refused, and only behind all of these but the
+    /// number of areas. An error changes nothing.
     pub fn mmap(
         &mut self,
         space: SpaceId,
@@ -130,6 +133,8 @@ impl Memory {
         ensures due { Answers (mmap_due (plain_of self.old) space address bytes prot) result }
         ensures tested { result ≡ Err OutOfMemory
             → IsRangeIn (is_alive self.old.spaces space ≡ true) address bytes }
+        ensures fits { result ≡ Err OutOfMemory
+            → page_count (after_mmap (plain_of self.old) space address bytes prot) ≤ 65536 }
         ensures step { OnOk result
             (Step self.old (Mapped space (page_of address) (pages_for bytes) prot) self.new) }
         ensures memory { OnOk result
@@ -153,11 +158,13 @@ impl Memory {
     ///
     /// In this order: no-such-space; EINVAL for a length of 0, an address that is no multiple of
     /// 4,096, or a range that ends past 2^47; ENOMEM where there would be over 1,024 areas in the
-    /// space. Out of memory where a growth was refused. An error changes nothing.
+    /// space. Out of memory where a growth was refused, and only in a space that has pages, behind all of these but the
+    /// number of areas. An error changes nothing.
     pub fn munmap(&mut self, space: SpaceId, address: u64, bytes: u64) -> Result<(), MemoryError>
         ensures due { Answers (munmap_due (plain_of self.old) space address bytes) result }
         ensures tested { result ≡ Err OutOfMemory
             → IsRangeIn (is_alive self.old.spaces space ≡ true) address bytes }
+        ensures some { result ≡ Err OutOfMemory → inside self.old.spaces space ≢ finmap.empty }
         ensures step { OnOk result
             (Step self.old (Unmapped space (page_of address) (pages_for bytes)) self.new) }
         ensures memory { OnOk result
@@ -175,7 +182,8 @@ impl Memory {
     ///
     /// In this order: no-such-space; EINVAL for an address that is no multiple of 4,096; ENOMEM for
     /// a range that ends past 2^47, where a page of it isn't mapped, and where there would be over
-    /// 1,024 areas in the space. Out of memory where a growth was refused. An error changes nothing.
+    /// 1,024 areas in the space. Out of memory where a growth was refused, and only behind all of these but the number
+    /// of areas. An error changes nothing.
     pub fn mprotect(
         &mut self,
         space: SpaceId,
@@ -186,6 +194,8 @@ impl Memory {
         ensures due { Answers (mprotect_due (plain_of self.old) space address bytes prot) result }
         ensures tested { result ≡ Err OutOfMemory
             → IsRangeIn (is_alive self.old.spaces space ≡ true) address bytes }
+        ensures whole { result ≡ Err OutOfMemory
+            → has_hole (prots_in (inside (plain_of self.old) space)) (page_of address) (pages_for bytes) ≡ false }
         ensures step { OnOk result
             (Step self.old (Protected space (page_of address) (pages_for bytes) prot) self.new) }
         ensures memory { OnOk result

@@ -6,7 +6,8 @@
 ghost use Rattle.std.specs.Prelude.{◌≡◌, ◌≢◌, ◌⊎◌, ◌+◌, ◌-◌, ◌<◌, ◌≤◌, ◌^◌, ℕ, ◌==◌, if◌then◌else◌, true, false, not, is_some, count_by, None, Some, Ok, Err, IsSome, IfOk, IfErr, OnOk, OnErr, IfSome};
 ghost use Rattle.std.specs.Ordering.{nat_cmp};
 ghost use Rattle.std.specs.BTreeMap.{get};
-ghost use Rattle.sd_areas.specs.Calls.{map_result, unmap_result, protect_result};
+ghost use Rattle.std.specs.FinMap as finmap;
+ghost use Rattle.sd_areas.specs.Calls.{map_result, unmap_result, protect_result, has_hole};
 ghost use Rattle.sd_areas.specs.Areas.{PageMap};
 ghost use Rattle.sd_areas.specs.Pages.{page_of, pages_for, pages_from, is_invalid, is_outside};
 ghost use Rattle.sd_pagetable.specs.declared.access_error.AccessError.TheVariants.{Refused};
@@ -15,7 +16,7 @@ ghost use Rattle.sd_pagetable.specs.declared.memory_refusal.MemoryRefusal.TheVar
 ghost use Rattle.sd_pagetable.specs.Nested.{inside, is_alive, set_within, change_within, fill_within};
 ghost use Rattle.sd_pagetable.specs.Page.{Page, fresh_page, protected_page};
 ghost use Rattle.sd_pagetable.specs.Contents.{Contents, page_at, page_count, plain_of};
-ghost use Rattle.sd_pagetable.specs.Due.{Answers, answer, or_else, area_due, in_space, mmap_due, munmap_due, mprotect_due};
+ghost use Rattle.sd_pagetable.specs.Due.{Answers, answer, or_else, area_due, in_space, prots_in, mmap_due, munmap_due, mprotect_due};
 ghost use Rattle.sd_pagetable.specs.Effects.{after_mmap, after_munmap, after_mprotect};
 ghost use Rattle.sd_pagetable.specs.Kept.{HasAreas, prots_of};
 ghost use Rattle.sd_pagetable.specs.RangeCalls.{IsRangeIn, Refuses, HasPut, HasSame, pages_due};
@@ -73,6 +74,8 @@ fn unmap_areas(
         (area_due (unmap_result (prots_of (inside contents.spaces space)) address bytes)))) }
     ensures tested { result ≡ Err OutOfMemory
         → IsRangeIn (IsSome (get nat_cmp areas.old space)) address bytes }
+    ensures some { result ≡ Err OutOfMemory → (contents : Contents) → HasAreas areas.old contents
+        → inside contents.spaces space ≢ finmap.empty }
     ensures err { OnErr result (HasSame areas.old areas.new) }
 {
     let Some(own) = areas.get_mut(&space) else {
@@ -100,6 +103,8 @@ fn protect_areas(
         (prots_of (inside contents.spaces space)) address bytes prot)))) }
     ensures tested { result ≡ Err OutOfMemory
         → IsRangeIn (IsSome (get nat_cmp areas.old space)) address bytes }
+    ensures whole { result ≡ Err OutOfMemory → (contents : Contents) → HasAreas areas.old contents
+        → has_hole (prots_of (inside contents.spaces space)) (page_of address) (pages_for bytes) ≡ false }
     ensures err { OnErr result (HasSame areas.old areas.new) }
 {
     let Some(own) = areas.get_mut(&space) else {
@@ -116,6 +121,10 @@ fn has_room(paging: &Paging, space: SpaceId, first: u64, end: u64) -> bool
         → page_count paging.now.spaces + count_by
         (λ page. not (is_some (page_at paging.now space page)))
         (pages_from first (end - first)) ≤ 65536 }
+    ensures holds { (page : Page) → result ≡ true
+        → page_count
+        (with_space paging.now space
+        (set_within (inside paging.now.spaces space) first (end - first) page)).spaces ≤ 65536 }
     ensures full { (page : Page) → result ≡ false
         → 65536 < page_count
         (with_space paging.now space
@@ -148,6 +157,11 @@ fn fill_holes(
         (with_space paging.old space
         (set_within (inside paging.old.spaces space) first (end - first)
         (fresh_page prot))).spaces }
+    ensures fits { result ≢ Err (DeniedError (Refused Enomem))
+        → page_count
+        (with_space paging.old space
+        (set_within (inside paging.old.spaces space) first (end - first)
+        (fresh_page prot))).spaces ≤ 65536 }
     ensures errors { IfErr result (λ e. (e ≡ OutOfMemory) ⊎ (e ≡ DeniedError (Refused Enomem))) }
     ensures err { OnErr result (paging.new ≡ paging.old) }
 {
@@ -186,6 +200,11 @@ fn map_in(
         (fresh_page prot)))))) }
     ensures tested { result ≡ Err OutOfMemory
         → (is_invalid address bytes ≡ false) × (is_outside address bytes ≡ false) }
+    ensures fits { result ≡ Err OutOfMemory
+        → page_count
+        (with_space paging.old space
+        (set_within (inside paging.old.spaces space) (page_of address) (pages_for bytes)
+        (fresh_page prot))).spaces ≤ 65536 }
     ensures err { OnErr result ((own.new ≡ own.old) × (paging.new ≡ paging.old)) }
 {
     let range = PageRange::for_map(address, bytes).map_err(AreaError::Refused)?;
@@ -214,6 +233,7 @@ pub(crate) fn munmap(
     ensures due { Answers (munmap_due (plain_of paging.old) space address bytes) result }
     ensures tested { result ≡ Err OutOfMemory
         → IsRangeIn (is_alive paging.old.spaces space ≡ true) address bytes }
+    ensures some { result ≡ Err OutOfMemory → inside paging.old.spaces space ≢ finmap.empty }
     ensures step { OnOk result
         (Step paging.old (Unmapped space (page_of address) (pages_for bytes)) paging.new) }
     ensures memory { OnOk result
@@ -272,6 +292,8 @@ fn protect_some(
     ensures due { Answers (mprotect_due (plain_of paging.old) space address bytes prot) result }
     ensures tested { result ≡ Err OutOfMemory
         → IsRangeIn (is_alive paging.old.spaces space ≡ true) address bytes }
+    ensures whole { result ≡ Err OutOfMemory
+        → has_hole (prots_in (inside (plain_of paging.old) space)) (page_of address) (pages_for bytes) ≡ false }
     ensures step { OnOk result
         (Step paging.old (Protected space (page_of address) (pages_for bytes) prot) paging.new) }
     ensures memory { OnOk result
@@ -298,6 +320,8 @@ pub(crate) fn mprotect(
     ensures due { Answers (mprotect_due (plain_of paging.old) space address bytes prot) result }
     ensures tested { result ≡ Err OutOfMemory
         → IsRangeIn (is_alive paging.old.spaces space ≡ true) address bytes }
+    ensures whole { result ≡ Err OutOfMemory
+        → has_hole (prots_in (inside (plain_of paging.old) space)) (page_of address) (pages_for bytes) ≡ false }
     ensures step { OnOk result
         (Step paging.old (Protected space (page_of address) (pages_for bytes) prot) paging.new) }
     ensures memory { OnOk result
@@ -324,6 +348,8 @@ pub(crate) fn mmap(
     ensures due { Answers (mmap_due (plain_of paging.old) space address bytes prot) result }
     ensures tested { result ≡ Err OutOfMemory
         → IsRangeIn (is_alive paging.old.spaces space ≡ true) address bytes }
+    ensures fits { result ≡ Err OutOfMemory
+        → page_count (after_mmap (plain_of paging.old) space address bytes prot) ≤ 65536 }
     ensures step { OnOk result
         (Step paging.old (Mapped space (page_of address) (pages_for bytes) prot) paging.new) }
     ensures memory { OnOk result

@@ -1,7 +1,7 @@
 //! The areas of a space as text.
-ghost use Rattle.std.specs.Prelude.{◌≡◌, ◌+◌, ◌≤◌, ◌^◌, ◌++◌, None, IfOk, OnOk};
+ghost use Rattle.std.specs.Prelude.{◌≡◌, ◌≢◌, ◌+◌, ◌≤◌, ◌^◌, ◌++◌, [], None, IfOk, OnOk, OnErr};
 ghost use Rattle.std.specs.List.{flat_map};
-ghost use Rattle.sd_areas.specs.Areas.{AreMaximal};
+ghost use Rattle.sd_areas.specs.Areas.{AreMaximal, areas_of};
 ghost use Rattle.sd_procfs.specs.Listing.{area_line, listing_text};
 
 use sd_areas::{Area, AreaMap, PAGE_BYTES};
@@ -12,9 +12,10 @@ use std::fmt::Write;
 ///
 /// # Errors
 ///
-/// Out of memory where the text can't grow.
+/// Out of memory where the text can't grow, which is only where there is an area.
 pub fn listing(alloc: Global, areas: &AreaMap) -> Result<String, AllocError>
-    ensures { IfOk result (λ text. text.bytes.items ≡ listing_text areas.now) }
+    ensures text { IfOk result (λ text. text.bytes.items ≡ listing_text areas.now) }
+    ensures some { OnErr result (areas_of areas.now ≢ []) }
 {
     areas_text(alloc, areas.areas())
 }
@@ -23,10 +24,11 @@ pub fn listing(alloc: Global, areas: &AreaMap) -> Result<String, AllocError>
 ///
 /// # Errors
 ///
-/// Out of memory where the text can't grow.
+/// Out of memory where the text can't grow, which is only where there is an area.
 pub fn areas_text(alloc: Global, areas: &[Area]) -> Result<String, AllocError>
     requires { AreMaximal None areas.now }
-    ensures { IfOk result (λ text. text.bytes.items ≡ flat_map area_line areas.now) }
+    ensures text { IfOk result (λ text. text.bytes.items ≡ flat_map area_line areas.now) }
+    ensures some { OnErr result (areas.now ≢ []) }
 {
     let mut text = String::new(alloc);
     for area in areas {

@@ -1,5 +1,7 @@
 -- What each event adds to the journal, and where it leaves the disk.
-use Rattle.std.proofs.Common.{◌≡◌, ◌≢◌, ℕ, List, [], ◌∷◌, ◌++◌, Some, refl, slice_get, sym, ◌∙◌, ap, subst, inl, inr}
+use Rattle.std.proofs.Common.{◌≡◌, ◌≢◌, ℕ, List, [], ◌∷◌, ◌++◌, Some, Result, Ok, Err, refl, slice_get, sym, ◌∙◌, ap, subst, inl, inr}
+use Rattle.sd_command.specs.declared.command.Command.{Command as CommandOf}
+use Rattle.sd_command.specs.declared.refusal.Refusal.{Refusal}
 use Rattle.sd_command.specs.declared.reply.Reply.{Reply}
 use Rattle.sd_command.specs.declared.reply.Reply.TheVariants as reply
 use Rattle.sd_disk.specs.Crash.{Within}
@@ -11,14 +13,14 @@ use Rattle.sd_gate.specs.declared.worker.Worker.{Worker}
 use Rattle.sd_gate.specs.Requests.{Made}
 use Rattle.sd_journal.specs.History.{History}
 use Rattle.sd_journal.specs.Marked.{Marked, Noted, Told, entries_of}
-use Rattle.sd_belief.specs.Calls.{AddsByOutcome, AddsByStep, IsOut}
+use Rattle.sd_belief.specs.Calls.{AddsByOutcome, AddsByStep, Applies, IsOut}
 use Rattle.sd_belief.specs.View.{CoreView, history_of}
 use Rattle.sd_world.specs.declared.event.Event.{Event}
 use Rattle.sd_world.specs.declared.event.Event.TheVariants.{Command, Begin, Work, TakeUp, HandInAt, Perform, PerformAt, Merge, Cancel, Reopen, Trim}
 use Rattle.sd_world.specs.declared.kept.Kept.TheVariants.{Outcome}
-use Rattle.sd_world.specs.Adds.{Adds, AddsByPerform, AddsByTrim, AddsByWork}
+use Rattle.sd_world.specs.Adds.{Adds, AddsByCommand, AddsByPerform, AddsByTrim, AddsByWork}
 use Rattle.sd_world.specs.Consistent.{IsWorld}
-use Rattle.sd_world.specs.Steps.{Does, HandsInAt, HandsInIfAny, Performs, TakesUp, Works, reply_of}
+use Rattle.sd_world.specs.Steps.{Does, HandsInAt, HandsInIfAny, IsCommand, Performs, TakesUp, Works, answer_of, reply_of}
 use Rattle.sd_world.specs.View.{WorldView, id_of}
 use Rattle.sd_world.specs.Trims.{TrimsJournal}
 use Rattle.sd_world.proofs.KeptLemmas.{whose}
@@ -62,6 +64,11 @@ adds_by_perform Done old new same = same
 adds_by_perform (Len len) old new same = same
 adds_by_perform Failed old new same = same
 
+told_adds : (seat : ℕ) (command : CommandOf) (told : Result (ℕ × Reply) Refusal) (old new : CoreView) → Applies seat command told old new
+    → AddsByCommand seat command (answer_of told) (history_of old) (history_of new)
+told_adds seat command (Ok told) old new applies = inl applies
+told_adds seat command (Err why) old new applies = inr (record { why = why; either = applies.0; is = refl }, ap history_of applies.1)
+
 module _ {D : Type 0} (g : Ghosts D) (old new : WorldView D) (world : IsWorld g old) where
   -- the outcome that is kept in a lane is out in it
   pub is_out : (lane : ℕ) (made : Made) → slice_get old.kept lane ≡ Some (Outcome made) → IsOut old.core made.request.id
@@ -71,14 +78,14 @@ module _ {D : Type 0} (g : Ghosts D) (old new : WorldView D) (world : IsWorld g 
 
   taken_adds : (worker : Worker) (answer : Reply) → TakesUp worker old.core old.kept answer new.core new.kept
       → AddsByWork worker old.core answer (history_of old.core) (history_of new.core)
-  taken_adds worker answer (TakesUp.step makes job left) = adds_by_step worker old.core answer (history_of old.core) (history_of new.core) makes.adds
-  taken_adds worker answer (TakesUp.call request hands job left worked) =
-      subst (λ a. AddsByWork worker old.core a (history_of old.core) (history_of new.core)) (sym worked) (inl hands.history)
+  taken_adds worker answer (TakesUp.step taken left) = adds_by_step worker old.core answer (history_of old.core) (history_of new.core) taken.takes.adds
+  taken_adds worker answer (TakesUp.call request taken left worked) =
+      subst (λ a. AddsByWork worker old.core a (history_of old.core) (history_of new.core)) (sym worked) (inl taken.takes.history)
 
   handed_adds : (worker : Worker) (place : ℕ) (answer : Reply) → HandsInAt worker place old.core old.kept answer new.core new.kept
       → AddsByWork worker old.core answer (history_of old.core) (history_of new.core)
   handed_adds worker place answer hands =
-      let handed = hands.hands.handed (is_out hands.lane hands.made hands.is) in
+      let handed = hands.hands.does.handed (is_out hands.lane hands.made hands.is) in
       adds_by_outcome worker old.core answer (history_of old.core) (history_of new.core)
       (subst (λ w. AddsByOutcome w answer (history_of old.core) (history_of new.core)) (whose old.kept worker place hands.lane hands.made hands.at hands.is) handed.adds)
 
@@ -115,27 +122,32 @@ module _ {D : Type 0} (g : Ghosts D) (old new : WorldView D) (world : IsWorld g 
       both (Told entry ∷ kept) front = ap (λ h. entry ∷ h) (both kept front)
       both (Noted mark ∷ kept) front = both kept front
 
+  command_adds : (seat : ℕ) (command : CommandOf) (answer : Reply) → IsCommand seat command old answer new
+      → AddsByCommand seat command answer (history_of old.core) (history_of new.core)
+  command_adds seat command answer does = subst (λ a. AddsByCommand seat command a (history_of old.core) (history_of new.core)) (sym does.answered)
+      (told_adds seat command does.told old.core new.core does.applied.applies)
+
   pub step_adds : (event : Event) (answer : Reply) → Does g event old answer new → Adds event answer old.core new.core
-  step_adds (Command seat command) answer does = does.1
-  step_adds (Begin rounds) answer does = does.1
+  step_adds (Command seat command) answer does = command_adds seat command answer does
+  step_adds (Begin rounds) answer does = does.1.adds
   step_adds (Work worker) answer does = work_adds worker answer does.works
   step_adds (TakeUp worker) answer does = taken_adds worker answer does.takes
   step_adds (HandInAt worker place) answer does = hand_in_adds worker place answer does.hands
   step_adds (Perform worker) answer does = perform_adds worker 0 answer does.performs does.core
   step_adds (PerformAt worker place) answer does = perform_adds worker place answer does.performs does.core
-  step_adds Merge answer does = does.1
-  step_adds Cancel answer does = does.1
-  step_adds Reopen answer does = does.1
+  step_adds Merge answer does = does.1.adds
+  step_adds Cancel answer does = does.1.adds
+  step_adds Reopen answer does = does.1.adds
   step_adds Trim answer does = trim_adds answer does.trims
 
   -- ---- the base
 
   taken_base : (worker : Worker) (answer : Reply) → TakesUp worker old.core old.kept answer new.core new.kept → new.core.base ≡ old.core.base
-  taken_base worker answer (TakesUp.step makes job left) = elim makes.keeps [ inl stays ↦ stays.base | inr anew ↦ anew.base ]
-  taken_base worker answer (TakesUp.call request hands job left worked) = hands.base
+  taken_base worker answer (TakesUp.step taken left) = elim taken.takes.keeps [ inl stays ↦ stays.base | inr anew ↦ anew.base ]
+  taken_base worker answer (TakesUp.call request taken left worked) = taken.takes.base
 
   handed_base : (worker : Worker) (place : ℕ) (answer : Reply) → HandsInAt worker place old.core old.kept answer new.core new.kept → new.core.base ≡ old.core.base
-  handed_base worker place answer hands = (hands.hands.handed (is_out hands.lane hands.made hands.is)).base
+  handed_base worker place answer hands = (hands.hands.does.handed (is_out hands.lane hands.made hands.is)).base
 
   work_base : (worker : Worker) (answer : Reply) → Works worker old.core old.kept answer new.core new.kept → new.core.base ≡ old.core.base
   work_base worker answer (Works.hands_in hands) = handed_base worker 0 answer hands
@@ -146,16 +158,16 @@ module _ {D : Type 0} (g : Ghosts D) (old new : WorldView D) (world : IsWorld g 
   hand_in_base worker place answer (HandsInIfAny.none none idle) = ap (λ (c : CoreView). c.base) idle.core
 
   pub step_base : (event : Event) (answer : Reply) → Does g event old answer new → event ≢ Trim → new.core.base ≡ old.core.base
-  step_base (Command seat command) answer does other = does.0.stays.base
-  step_base (Begin rounds) answer does other = does.0.stays.base
+  step_base (Command seat command) answer does other = does.applied.keeps.base
+  step_base (Begin rounds) answer does other = does.1.keeps.base
   step_base (Work worker) answer does other = work_base worker answer does.works
   step_base (TakeUp worker) answer does other = taken_base worker answer does.takes
   step_base (HandInAt worker place) answer does other = hand_in_base worker place answer does.hands
   step_base (Perform worker) answer does other = ap (λ (c : CoreView). c.base) does.core
   step_base (PerformAt worker place) answer does other = ap (λ (c : CoreView). c.base) does.core
-  step_base Merge answer does other = does.0.stays.base
-  step_base Cancel answer does other = does.0.stays.base
-  step_base Reopen answer does other = does.0.stays.base
+  step_base Merge answer does other = does.1.keeps.base
+  step_base Cancel answer does other = does.1.keeps.base
+  step_base Reopen answer does other = does.1.keeps.base
   step_base Trim answer does other = absurd (other refl)
 
   -- ---- the disk
@@ -166,7 +178,7 @@ module _ {D : Type 0} (g : Ghosts D) (old new : WorldView D) (world : IsWorld g 
   perform_honest worker place answer (Performs.performs performs) = performs.keeps.performed.one_call.honest
 
   pub step_honest : (event : Event) (answer : Reply) → Does g event old answer new → g.is_honest new.disk → g.is_honest old.disk
-  step_honest (Command seat command) answer does = subst g.is_honest does.0.disk
+  step_honest (Command seat command) answer does = subst g.is_honest does.rest.disk
   step_honest (Begin rounds) answer does = subst g.is_honest does.0.disk
   step_honest (Work worker) answer does = subst g.is_honest does.disk
   step_honest (TakeUp worker) answer does = subst g.is_honest does.disk
@@ -195,7 +207,7 @@ module _ {D : Type 0} (g : Ghosts D) (old new : WorldView D) (world : IsWorld g 
     -- a crash at any moment of the event leaves what it may leave before, or after a device call
     pub step_span : (event : Event) (answer : Reply) → Does g event old answer new
         → (new.core ≡ old.core → Within (g.may_leave new.disk) P) → LeavesOnly g old.disk new.disk P
-    step_span (Command seat command) answer does after = no_call does.0.disk
+    step_span (Command seat command) answer does after = no_call does.rest.disk
     step_span (Begin rounds) answer does after = no_call does.0.disk
     step_span (Work worker) answer does after = no_call does.disk
     step_span (TakeUp worker) answer does after = no_call does.disk

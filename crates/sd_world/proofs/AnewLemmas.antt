@@ -16,7 +16,7 @@ use Rattle.sd_world.specs.declared.kept.Kept.{Kept}
 use Rattle.sd_world.specs.declared.kept.Kept.TheVariants.{Outcome}
 use Rattle.sd_world.specs.Consistent.{IsConsistent, IsWorld, SlotNow, slot_now}
 use Rattle.sd_world.specs.View.{asked_of, id_of}
-use Rattle.sd_world.proofs.KeptLemmas.{asked_id_of, free_now}
+use Rattle.sd_world.proofs.RestingLemmas as resting
 use Rattle.sd_world.proofs.Lists.{get_map, map_get}
 use Rattle.sd_world.proofs.Worlds.{Fits, slot_as}
 
@@ -26,23 +26,21 @@ module _ {D : Type 0} (g : Ghosts D) (disk : D) (old new : CoreView) (kept : Lis
   files = g.contents disk
 
   idle : (worker : ℕ) (id : RequestId) → slice_get (map id_of kept) worker ≡ Some (Some id) → ⊥
-  idle worker id is = anew.none worker id (ap (λ outs. slice_get outs worker) world.outs ∙ is)
+  idle = resting.idle g disk old kept anew.none world
 
   none_asked : NoneOut (map asked_of kept)
-  none_asked worker request is =
-      let at = map_get asked_of kept worker (Some request) is in
-      idle worker request.id (get_map id_of kept worker at.0 at.1 ∙ ap Some (asked_id_of at.0 request at.2))
+  none_asked = resting.none_asked g disk old kept anew.none world
 
   none_kept : (slot : ℕ) (now : SlotNow) → slot_now kept slot now ≡ now
-  none_kept slot now = free_now kept slot now (λ lane id is. absurd (idle lane id is))
+  none_kept = resting.none_kept g disk old kept anew.none world
 
   module _ (was : IsConsistent g (record { core = old; disk = disk; kept = kept })) where
     fits : (slot : ℕ) (phase : Phase) → slice_get old.phases slot ≡ Some phase
         → SlotFits phase (file_at was.bodies slot) slot (g.contents disk) (g.may_leave disk)
-    fits slot phase is = subst (Fits (g.contents disk) (g.may_leave disk) slot) (none_kept slot (slot_as phase (file_at was.bodies slot))) (was.stands slot phase is)
+    fits = resting.fits g disk old kept anew.none world was
 
     left : g.may_leave disk (g.contents disk) → DiskLeaves old.phases was.bodies (g.contents disk)
-    left as_read = record { count = world.count; each = λ slot phase is. (fits slot phase is).leaves (g.contents disk) as_read }
+    left = resting.left g disk old kept anew.none world was
 
     refound : g.may_leave disk (g.contents disk) → (slot : ℕ) (phase : Phase) → slice_get old.phases slot ≡ Some phase → IsRefound phase
     refound as_read = anew.refound (map asked_of kept) was.bodies (g.contents disk) none_asked was.believes

@@ -26,7 +26,7 @@ use Rattle.sd_world.specs.View.{IsAt, WorldView, asked_count, asked_id, id_in, i
 
 -- ---- tests of lists
 
-any_at : {X : Type 0} (test : X → Bool) (xs : List X) (i : ℕ) (x : X) → slice_get xs i ≡ Some x → test x ≡ true → list_any test xs ≡ true
+pub any_at : {X : Type 0} (test : X → Bool) (xs : List X) (i : ℕ) (x : X) → slice_get xs i ≡ Some x → test x ≡ true → list_any test xs ≡ true
 any_at test [] i x at passes = absurd (let no : None ≡ Some x = at in cc)
 any_at test (y ∷ xs) zero x at passes = ap (λ b. b || list_any test xs) (ap test (same_Some y x at) ∙ passes)
 any_at test (y ∷ xs) (suc i) x at passes = later (test y) (any_at test xs i x at passes)
@@ -89,7 +89,7 @@ same_worker Opener Dumper e = absurd cc
 same_worker Opener Merger e = absurd cc
 same_worker Opener Opener e = refl
 
-same_number : (n : ℕ) → (n == n) ≡ true
+pub same_number : (n : ℕ) → (n == n) ≡ true
 same_number n = grind (arith, nat_tests)
 
 same_index : (m n : ℕ) → (m == n) ≡ true → m ≡ n
@@ -114,7 +114,7 @@ of_at worker None is = absurd (false≢true is)
 of_at worker (Some id) is = (id, refl, same_worker id.worker worker (same_index (index id.worker) (index worker) is))
 
 -- where a worker has a call in this state, it has one at the first place
-first_at : (more : ℕ) (kept : List Kept) (state : CallState) (worker : Worker) (lane : ℕ) (k : Kept) (id : RequestId) → slice_get kept lane ≡ Some k
+pub first_at : (more : ℕ) (kept : List Kept) (state : CallState) (worker : Worker) (lane : ℕ) (k : Kept) (id : RequestId) → slice_get kept lane ≡ Some k
     → id_in state k ≡ Some id → id.worker ≡ worker → id.ticket < more → (first : ℕ) × IsAt kept state worker 0 first
 first_at zero kept state worker lane k id at is whose less = absurd (omega (arith, less))
 first_at (suc more) kept state worker lane k id at is whose less = elim (count_has (λ one. is_before worker id.ticket (id_in state one)) kept) [

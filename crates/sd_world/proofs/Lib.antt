@@ -18,3 +18,6 @@ mod RunLemmas
 mod StepLemmas
 mod Worlds
 pub mod TrimLemmas
+mod MergesLemmas
+mod RefusedLemmas
+mod RestingLemmas

@@ -33,14 +33,14 @@ refused_apart why n e = cc
 
 module _ {D : Type 0} (g : Ghosts D) (old new : WorldView D) (world : IsWorld g old) where
   none_taken : (worker : Worker) (answer : Reply) (n : ℕ) → TakesUp worker old.core old.kept answer new.core new.kept → answer ≡ reply.Acked n → ⊥
-  none_taken worker answer n (TakesUp.step makes job left) is = no_step worker old.core answer n (history_of old.core) (history_of new.core) is makes.adds
-  none_taken worker answer n (TakesUp.call request hands job left worked) is = not_acked answer reply.Worked n worked (worked_apart n) is
+  none_taken worker answer n (TakesUp.step taken left) is = no_step worker old.core answer n (history_of old.core) (history_of new.core) is taken.takes.adds
+  none_taken worker answer n (TakesUp.call request taken left worked) is = not_acked answer reply.Worked n worked (worked_apart n) is
 
   handed_little : (worker : Worker) (place : ℕ) (answer : Reply) → HandsInAt worker place old.core old.kept answer new.core new.kept → WorksLittle worker place old answer new
   handed_little worker place answer hands = record {
-    acked = λ n is. hands.hands.acked n out is;
-    little = λ n is. hands.hands.little n out is;
-    round = λ lane running dumper at opens. hands.hands.round out (whose old.kept worker place hands.lane hands.made hands.at hands.is ∙ dumper) running opens;
+    acked = λ n is. hands.hands.does.acked n out is;
+    little = λ n is. hands.hands.does.little n out is;
+    round = λ lane running dumper at opens. hands.hands.does.round out (whose old.kept worker place hands.lane hands.made hands.at hands.is ∙ dumper) running opens;
   }
     where
       out : IsOut old.core hands.made.request.id

@@ -9,10 +9,11 @@ use Rattle.sd_gate.specs.declared.worker.Worker.{Worker}
 use Rattle.sd_gate.specs.Requests.{Asked}
 use Rattle.sd_belief.specs.View.{CoreView}
 use Rattle.sd_core.specs.declared.taken.Taken.TheVariants.{Step as StepTaken, Call as CallTaken}
+use Rattle.sd_core.specs.Called.{IsTakenUp}
 use Rattle.sd_core.specs.Refusals.{work_refusal}
 use Rattle.sd_core.specs.Working.{LeavesByOutcome, LeavesByStep, left_by}
 use Rattle.sd_world.specs.Consistent.{IsWorld}
-use Rattle.sd_world.specs.Steps.{HandsInAt, HandsInIfAny, IsHandIn, IsTakeUp, IsWork, LeavesLess, TakesUp, TurnsJob, Works}
+use Rattle.sd_world.specs.Steps.{HandsInAt, HandsInIfAny, IsHandIn, IsTakeUp, IsWork, LeavesLess, TakesUp, Works}
 use Rattle.sd_world.specs.View.{WorldView}
 use Rattle.sd_world.proofs.AddsLemmas.{is_out}
 use Rattle.sd_world.proofs.KeptLemmas.{whose}
@@ -53,7 +54,7 @@ refused : (old : CoreView) (worker : Worker) (answer : Reply) (new : CoreView) (
 refused old worker answer new why is = subst (λ a. LeavesLess a (left_by old worker) (left_by new worker)) (sym is) tt
 
 step_lowers : (old : CoreView) (worker : Worker) (answer : Reply) (new : CoreView) (why : Option Refusal) → work_refusal old worker ≡ why
-    → TurnsJob old worker (StepTaken answer) new → LeavesLess answer (left_by old worker) (left_by new worker)
+    → IsTakenUp worker old (StepTaken answer) new → LeavesLess answer (left_by old worker) (left_by new worker)
 step_lowers old worker answer new None is job = by_step old worker answer new (job.leaves is)
 step_lowers old worker answer new (Some why) is job = refused old worker answer new why (same ((job.refused why is).0))
   where
@@ -61,7 +62,7 @@ step_lowers old worker answer new (Some why) is job = refused old worker answer 
     same e = cc
 
 call_lowers : (old : CoreView) (worker : Worker) (request : Asked) (answer : Reply) (new : CoreView) (why : Option Refusal) → work_refusal old worker ≡ why
-    → TurnsJob old worker (CallTaken request) new → answer ≡ reply.Worked → LeavesLess answer (left_by old worker) (left_by new worker)
+    → IsTakenUp worker old (CallTaken request) new → answer ≡ reply.Worked → LeavesLess answer (left_by old worker) (left_by new worker)
 call_lowers old worker request answer new None is job worked =
     subst (λ a. LeavesLess a (left_by old worker) (left_by new worker)) (sym worked) (job.leaves is).lowers
 call_lowers old worker request answer new (Some why) is job worked =
@@ -70,8 +71,8 @@ call_lowers old worker request answer new (Some why) is job worked =
 module _ {D : Type 0} (g : Ghosts D) (old new : WorldView D) (world : IsWorld g old) where
   taken_lowers : (worker : Worker) (answer : Reply) → TakesUp worker old.core old.kept answer new.core new.kept
       → LeavesLess answer (left_by old.core worker) (left_by new.core worker)
-  taken_lowers worker answer (TakesUp.step makes job left) = step_lowers old.core worker answer new.core (work_refusal old.core worker) refl job
-  taken_lowers worker answer (TakesUp.call request hands job left worked) =
+  taken_lowers worker answer (TakesUp.step job left) = step_lowers old.core worker answer new.core (work_refusal old.core worker) refl job
+  taken_lowers worker answer (TakesUp.call request job left worked) =
       call_lowers old.core worker request answer new.core (work_refusal old.core worker) refl job worked
 
   handed_lowers : (worker : Worker) (place : ℕ) (answer : Reply) → HandsInAt worker place old.core old.kept answer new.core new.kept
@@ -79,7 +80,7 @@ module _ {D : Type 0} (g : Ghosts D) (old new : WorldView D) (world : IsWorld g 
   handed_lowers worker place answer hands =
       by_outcome old.core worker answer new.core
       (subst (λ w. LeavesByOutcome old.core w answer new.core) (whose old.kept worker place hands.lane hands.made hands.at hands.is)
-      (hands.hands.leaves (is_out g old new world hands.lane hands.made hands.is)))
+      (hands.hands.does.leaves (is_out g old new world hands.lane hands.made hands.is)))
 
   works_lowers : (worker : Worker) (answer : Reply) → Works worker old.core old.kept answer new.core new.kept
       → LeavesLess answer (left_by old.core worker) (left_by new.core worker)

@@ -7,6 +7,7 @@ use Rattle.sd_gate.specs.declared.phase.Phase.{Phase}
 use Rattle.sd_gate.specs.declared.worker.Worker.{Worker}
 use Rattle.sd_gate.specs.Laws.{GivenUpFits, WritesCommute}
 use Rattle.sd_store_laws.specs.GateSteps.{SyncedIsFound}
+use Rattle.sd_belief.specs.Calls.{HandsOut, Stays}
 use Rattle.sd_belief.specs.Laws.{PerformedIsBelieved}
 use Rattle.sd_world.specs.declared.event.Event.{Event}
 use Rattle.sd_world.specs.declared.event.Event.TheVariants.{Command, Begin, Work, TakeUp, HandInAt, Perform, PerformAt, Merge, Cancel, Reopen, Trim}
@@ -27,8 +28,8 @@ module _ {D : Type 0} (g : Ghosts D) (old new : WorldView D) (gives : GivenUpFit
   same_rest disk kept it = subst (λ k. IsWorld g (record { core = new.core; disk = new.disk; kept = k })) (sym kept)
       (subst (λ d. IsWorld g (record { core = new.core; disk = d; kept = old.kept })) (sym disk) it)
 
-  order_world : IsOrder old new → IsWorld g new
-  order_world order = same_rest order.disk order.kept (stays_world g old.disk old.core new.core old.kept gives order.stays world)
+  order_world : IsOrder old new → Stays old.core new.core → IsWorld g new
+  order_world order stays = same_rest order.disk order.kept (stays_world g old.disk old.core new.core old.kept gives stays world)
 
   trim_world : (answer : Reply) → IsTrim old answer new → IsWorld g new
   trim_world answer trim = same_rest trim.disk trim.kept (record {
@@ -48,11 +49,12 @@ module _ {D : Type 0} (g : Ghosts D) (old new : WorldView D) (gives : GivenUpFit
   })
 
   takes_world : (worker : Worker) (answer : Reply) → TakesUp worker old.core old.kept answer new.core new.kept → new.disk ≡ old.disk → IsWorld g new
-  takes_world worker answer (TakesUp.step makes job left) disk = same_rest disk left (elim makes.keeps [
+  takes_world worker answer (TakesUp.step taken left) disk = same_rest disk left (elim taken.takes.keeps [
     | inl stays ↦ stays_world g old.disk old.core new.core old.kept gives stays world
     | inr anew ↦ anew_world g old.disk old.core new.core old.kept anew world found as_read
   ])
-  takes_world worker answer (TakesUp.call request hands job keeps worked) disk =
+  takes_world worker answer (TakesUp.call request taken keeps worked) disk =
+      let hands : HandsOut old.core worker request new.core = taken.takes in
       let left = keeps.left ∙ ap (λ lane. slice_set old.kept lane (Request request)) (same_lane old.core new.core old.kept new.kept worker request hands keeps) in
       subst (λ k. IsWorld g (record { core = new.core; disk = new.disk; kept = k })) (sym left)
       (subst (λ d. IsWorld g (record { core = new.core; disk = d; kept = slice_set old.kept hands.lane (Request request) })) (sym disk)
@@ -62,7 +64,7 @@ module _ {D : Type 0} (g : Ghosts D) (old new : WorldView D) (gives : GivenUpFit
   handed_in_world worker place answer hands disk =
       subst (λ k. IsWorld g (record { core = new.core; disk = new.disk; kept = k })) (sym hands.hands.left)
       (subst (λ d. IsWorld g (record { core = new.core; disk = d; kept = slice_set old.kept hands.lane Nothing })) (sym disk)
-      (handed_world g old.disk old.core new.core old.kept hands.lane hands.made answer law hands.is gives hands.hands.handed world))
+      (handed_world g old.disk old.core new.core old.kept hands.lane hands.made answer law hands.is gives hands.hands.does.handed world))
 
   works_world : (worker : Worker) (answer : Reply) → Works worker old.core old.kept answer new.core new.kept → new.disk ≡ old.disk → IsWorld g new
   works_world worker answer (Works.hands_in hands) disk = handed_in_world worker 0 answer hands disk
@@ -82,14 +84,14 @@ module _ {D : Type 0} (g : Ghosts D) (old new : WorldView D) (gives : GivenUpFit
       (performed_world law g old.core old.kept it.lane it.request old.disk it.keeps.made new.disk it.is it.keeps.performed world performed))
 
   pub step_world : (event : Event) (answer : Reply) → Does g event old answer new → IsWorld g new
-  step_world (Command seat command) answer does = order_world does.0
-  step_world (Begin rounds) answer does = order_world does.0
+  step_world (Command seat command) answer does = order_world does.rest does.applied.keeps
+  step_world (Begin rounds) answer does = order_world does.0 does.1.keeps
   step_world (Work worker) answer does = works_world worker answer does.works does.disk
   step_world (TakeUp worker) answer does = takes_world worker answer does.takes does.disk
   step_world (HandInAt worker place) answer does = hand_in_world worker place answer does.hands does.disk
   step_world (Perform worker) answer does = performs_world worker 0 answer does.performs does.core
   step_world (PerformAt worker place) answer does = performs_world worker place answer does.performs does.core
-  step_world Merge answer does = order_world does.0
-  step_world Cancel answer does = order_world does.0
-  step_world Reopen answer does = order_world does.0
+  step_world Merge answer does = order_world does.0 does.1.keeps
+  step_world Cancel answer does = order_world does.0 does.1.keeps
+  step_world Reopen answer does = order_world does.0 does.1.keeps
   step_world Trim answer does = trim_world answer does

@@ -1,7 +1,9 @@
 pub mod Adds
 pub mod Consistent
 pub mod Little
+pub mod Merges
 pub mod Opens
+pub mod Refused
 pub mod Restored
 pub mod Runs
 pub mod Steps

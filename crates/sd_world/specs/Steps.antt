@@ -1,7 +1,8 @@
 -- What an event does to a core, a disk and what is kept.
-use Rattle.std.specs.Prelude.{◌≡◌, ◌≢◌, ◌⊎◌, ℕ, ◌<◌, true, false, List, Option, Some, None, slice_get, slice_set, length}
+use Rattle.std.specs.Prelude.{◌≡◌, ◌≢◌, ◌⊎◌, ℕ, ◌<◌, true, false, List, Option, Some, Result, Ok, Err, slice_get, slice_set, length}
+use Rattle.sd_command.specs.declared.command.Command.{Command as CommandOf}
 use Rattle.sd_command.specs.declared.refusal.Refusal.{Refusal}
-use Rattle.sd_command.specs.declared.refusal.Refusal.TheVariants.{Idle, Device, StoreDown}
+use Rattle.sd_command.specs.declared.refusal.Refusal.TheVariants.{Idle, Device}
 use Rattle.sd_command.specs.declared.reply.Reply.{Reply}
 use Rattle.sd_command.specs.declared.reply.Reply.TheVariants as reply
 use Rattle.sd_disk.specs.Contents.{file_at}
@@ -12,37 +13,24 @@ use Rattle.sd_gate.specs.declared.answer.Answer.TheVariants.{Done, Len, Failed}
 use Rattle.sd_gate.specs.declared.phase.Phase.{Phase}
 use Rattle.sd_gate.specs.declared.request_id.RequestId.{RequestId}
 use Rattle.sd_gate.specs.declared.worker.Worker.{Worker}
-use Rattle.sd_gate.specs.declared.worker.Worker.TheVariants.{Dumper}
 use Rattle.sd_gate.specs.Calls.{HasCause, IsAnswerTo, Tells, is_done}
 use Rattle.sd_gate.specs.Fits.{SlotFits}
 use Rattle.sd_gate.specs.Phases.{after, body_after, is_ready}
 use Rattle.sd_gate.specs.Requests.{Asked, Made}
-use Rattle.sd_rounds.specs.Dumper.{Running}
-use Rattle.sd_belief.specs.Calls.{GoesOn, HandedIn, HandsOut, IsOut, MakesStep, Stays}
+use Rattle.sd_belief.specs.Calls.{GoesOn}
 use Rattle.sd_belief.specs.Laws.{IsMadeOf}
 use Rattle.sd_belief.specs.View.{CoreView}
-use Rattle.sd_core.specs.declared.taken.Taken.{Taken}
 use Rattle.sd_core.specs.declared.taken.Taken.TheVariants.{Step as StepTaken, Call as CallTaken}
-use Rattle.sd_core.specs.Images.{IsAcked}
-use Rattle.sd_core.specs.LittleWork.{IsLittleDump, IsLittlePreDump, OpensPreDump}
-use Rattle.sd_core.specs.Refusals.{work_refusal}
-use Rattle.sd_core.specs.Working.{Leaves, LeavesByOutcome}
+use Rattle.sd_core.specs.Called.{IsApplied, IsBegun, IsCancelOrder, IsHandedIn, IsMergeOrder, IsReopenOrder, IsTakenUp}
 use Rattle.sd_world.specs.declared.event.Event.{Event}
 use Rattle.sd_world.specs.declared.event.Event.TheVariants.{Command, Begin, Work, TakeUp, HandInAt, Perform, PerformAt, Merge, Cancel, Reopen, Trim}
 use Rattle.sd_world.specs.declared.kept.Kept.{Kept}
 use Rattle.sd_world.specs.declared.kept.Kept.TheVariants.{Nothing, Request, Outcome}
-use Rattle.sd_world.specs.Adds.{Adds}
 use Rattle.sd_world.specs.declared.call_state.CallState.TheVariants as its
 use Rattle.sd_world.specs.Trims.{TrimsJournal}
 use Rattle.sd_world.specs.View.{IsAt, IsNowhere, WorldView}
 
 -- ---- a worker's event
-
--- A worker without a job is refused, and nothing changes; the step of one that has a job lowers what is left of it, or ends it, or
--- wants memory and changes nothing.
-pub record TurnsJob (old : CoreView) (worker : Worker) (taken : Taken) (new : CoreView) : Type 0 where
-  pub refused : (why : Refusal) → work_refusal old worker ≡ Some why → (taken ≡ StepTaken (reply.Refused why)) × (new ≡ old)
-  pub leaves : work_refusal old worker ≡ None → Leaves old worker taken new
 
 -- what is left of a worker's job behind its event: less, unless that ended the job or was refused
 abbrev pub LeavesLess : Reply → ℕ → ℕ → Type 0
@@ -61,19 +49,13 @@ pub record KeepsRequest (outs : List (Option RequestId)) (kept : List Kept) (req
 
 -- its next step is made, or its next request is kept
 pub data TakesUp (worker : Worker) (old : CoreView) (kept : List Kept) (answer : Reply) (new : CoreView) (later : List Kept) : Type 0 where
-  step : MakesStep old worker answer new → TurnsJob old worker (StepTaken answer) new → later ≡ kept → TakesUp worker old kept answer new later
-  call : (request : Asked) → HandsOut old worker request new → TurnsJob old worker (CallTaken request) new
-      → KeepsRequest new.outs kept request later → answer ≡ reply.Worked → TakesUp worker old kept answer new later
+  step : IsTakenUp worker old (StepTaken answer) new → later ≡ kept → TakesUp worker old kept answer new later
+  call : (request : Asked) → IsTakenUp worker old (CallTaken request) new → KeepsRequest new.outs kept request later → answer ≡ reply.Worked
+      → TakesUp worker old kept answer new later
 
 -- the outcome in this lane is handed in, and not kept any more
 pub record HandsIn (lane : ℕ) (old : CoreView) (kept : List Kept) (made : Made) (answer : Reply) (new : CoreView) (later : List Kept) : Type 0 where
-  pub handed : (out : IsOut old made.request.id) → HandedIn old out.lane made answer new
-  pub failed : IsOut old made.request.id → is_done made.answer ≡ false → answer ≡ reply.Refused StoreDown
-  pub leaves : IsOut old made.request.id → LeavesByOutcome old made.request.id.worker answer new
-  pub acked : (n : ℕ) → IsOut old made.request.id → answer ≡ reply.Acked n → IsAcked n old new
-  pub little : (n : ℕ) → IsOut old made.request.id → answer ≡ reply.Acked n → IsLittleDump n old new
-  pub round : IsOut old made.request.id → made.request.id.worker ≡ Dumper → (running : Running) → OpensPreDump running old new
-      → IsLittlePreDump running old new
+  pub does : IsHandedIn made answer old new
   pub left : later ≡ slice_set kept lane Nothing
 
 -- the outcome of the worker at this place is handed in
@@ -156,11 +138,22 @@ pub data Performs {D : Type 0} (g : Ghosts D) (worker : Worker) (place : ℕ) (o
 
 -- ---- all events
 
--- an order or a command touches neither the disk nor what is kept
+-- a call of the core alone touches neither the disk nor what is kept
 pub record IsOrder {D : Type 0} (old new : WorldView D) : Type 0 where
-  pub stays : Stays old.core new.core
   pub disk : new.disk ≡ old.disk
   pub kept : new.kept ≡ old.kept
+
+-- how a command is answered, without its entry's number
+abbrev pub answer_of : Result (ℕ × Reply) Refusal → Reply
+answer_of (Ok told) = told.1
+answer_of (Err why) = reply.Refused why
+
+-- a command is applied, and answered by what the core told
+pub record IsCommand {D : Type 0} (seat : ℕ) (command : CommandOf) (old : WorldView D) (answer : Reply) (new : WorldView D) : Type 0 where
+  pub told : Result (ℕ × Reply) Refusal
+  pub applied : IsApplied seat command told old.core new.core
+  pub answered : answer ≡ answer_of told
+  pub rest : IsOrder old new
 
 -- a trim touches the base and the journal of the core alone, and what that believes of the store stays
 pub record IsTrim {D : Type 0} (old : WorldView D) (answer : Reply) (new : WorldView D) : Type 0 where
@@ -186,14 +179,14 @@ pub record IsPerform {D : Type 0} (g : Ghosts D) (worker : Worker) (place : ℕ)
   pub core : new.core ≡ old.core
 
 abbrev pub Does : {D : Type 0} → Ghosts D → Event → WorldView D → Reply → WorldView D → Type 0
-Does g (Command seat command) old answer new = IsOrder old new × Adds (Command seat command) answer old.core new.core
-Does g (Begin rounds) old answer new = IsOrder old new × Adds (Begin rounds) answer old.core new.core
+Does g (Command seat command) old answer new = IsCommand seat command old answer new
+Does g (Begin rounds) old answer new = IsOrder old new × IsBegun rounds answer old.core new.core
 Does g (Work worker) old answer new = IsWork worker old answer new
 Does g (TakeUp worker) old answer new = IsTakeUp worker old answer new
 Does g (HandInAt worker place) old answer new = IsHandIn worker place old answer new
 Does g (Perform worker) old answer new = IsPerform g worker 0 old answer new
 Does g (PerformAt worker place) old answer new = IsPerform g worker place old answer new
-Does g Merge old answer new = IsOrder old new × Adds Merge answer old.core new.core
-Does g Cancel old answer new = IsOrder old new × Adds Cancel answer old.core new.core
-Does g Reopen old answer new = IsOrder old new × Adds Reopen answer old.core new.core
+Does g Merge old answer new = IsOrder old new × IsMergeOrder answer old.core new.core
+Does g Cancel old answer new = IsOrder old new × IsCancelOrder answer old.core new.core
+Does g Reopen old answer new = IsOrder old new × IsReopenOrder answer old.core new.core
 Does g Trim old answer new = IsTrim old answer new

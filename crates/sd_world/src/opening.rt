@@ -83,6 +83,7 @@ fn load(alloc: Global, frames: usize, snapshot: &Snapshot) -> Result<Memory, Ope
     requires greatest { frames ≤ 65536 }
     ensures memory { IfOk result (λ memory. plain_of memory ≡ memory_of snapshot.now) }
     ensures begins { IfOk result IsBeginning }
+    ensures pool { IfOk result (λ memory. memory.pool ≡ frames) }
     ensures fault { IfErr result (IsWantOf frames (memory_of snapshot.now)) }
 {
     match Memory::from_snapshot(alloc, frames, snapshot) {
@@ -101,6 +102,7 @@ pub(crate) fn start_of<D: Disk>(
     requires least { 1 ≤ frames }
     requires greatest { frames ≤ 65536 }
     ensures begins { IfOk result (λ start. IsBeginning start.memory) }
+    ensures pool { IfOk result (λ start. start.memory.pool ≡ frames) }
     ensures memory { IfOk result (λ start. plain_of start.memory ≡ memory_of start.base) }
     ensures shows { D.is_honest disk.new → IfOk result (λ start. Shows (D.contents disk.old)
         (shown_base start.number (memory_of start.base))) }

@@ -1,10 +1,9 @@
 //! What an event does to a core, a disk and what is kept.
-ghost use Rattle.std.specs.Prelude.{◌≡◌, ◌<◌, ℕ, List, Option, Some, length, MatchResult, slice_get};
-ghost use Rattle.sd_command.specs.declared.reply.Reply.TheVariants as reply;
+ghost use Rattle.std.specs.Prelude.{◌≡◌, ◌<◌, ℕ, List, Option, Some, length, slice_get};
 ghost use Rattle.sd_gate.specs.Requests.{Asked, Made};
 ghost use Rattle.sd_rounds.specs.Writes.{IsInLane};
 ghost use Rattle.sd_belief.specs.Calls.{GoesOn};
-ghost use Rattle.sd_world.specs.Steps.{Does, HandsIn, HandsInIfAny, KeepsOutcome, KeepsRequest, Performs, TakesUp, Works, reply_of};
+ghost use Rattle.sd_world.specs.Steps.{Does, HandsIn, HandsInIfAny, KeepsOutcome, KeepsRequest, Performs, TakesUp, Works, answer_of, reply_of};
 ghost use Rattle.sd_world.specs.Trims.{TrimsJournal};
 ghost use Rattle.sd_world.specs.declared.kept.Kept.TheVariants.{Outcome as OutcomeKept, Request as RequestKept};
 
@@ -18,7 +17,7 @@ use sd_gate::{Answer, Request, Worker, perform};
 
 /// How a command is answered.
 fn answer_of(told: Result<(u64, Reply), Refusal>) -> Reply
-    ensures { MatchResult told (λ t. result ≡ t.1) (λ why. result ≡ reply.Refused why) }
+    ensures { result ≡ answer_of told }
 {
     match told {
         Ok((_, answer)) => answer,

@@ -18,6 +18,8 @@ ghost use Rattle.sd_belief.specs.View.{history_of};
 ghost use Rattle.sd_world.specs.declared.event.Event.TheVariants.{HandInAt, Perform, PerformAt, TakeUp, Trim, Work};
 ghost use Rattle.sd_world.specs.Adds.{Adds};
 ghost use Rattle.sd_world.specs.Little.{DoesLittle};
+ghost use Rattle.sd_world.specs.Merges.{DoesMerge, KeepsMerged};
+ghost use Rattle.sd_world.specs.Refused.{GoesOnUnless};
 ghost use Rattle.sd_world.specs.Restored.{IsRestored};
 ghost use Rattle.sd_world.specs.Runs.{Runs, ShowsAllowedWithin, ShowsReply};
 ghost use Rattle.sd_world.specs.Steps.{Does, IsAnswered, LeavesLess};
@@ -92,6 +94,9 @@ impl<D: Disk> World<D> {
         // The memory that the run starts with is the base's.
         ensures memory { IfOk result
             (λ world. plain_of world.core.memory ≡ world.core.base.memory) }
+
+        // It has so many frames.
+        ensures frames { IfOk result (λ world. world.core.memory.pool ≡ frames) }
 
         // It only reads: the contents stay, and no crash, afterwards or within it, leaves more than one before it.
         ensures reads { IfOk result (λ world. OnlyReads D.Disk disk world.disk) }
@@ -213,6 +218,15 @@ impl<D: Disk> World<D> {
         // data or zeros those that something touched since their last visit; and a pre-dump has such pages alone.
         ensures little { DoesLittle event.now self.old result self.new }
 
+        // Where a merge's image enters the catalog it is open in its slot, a copy of its source, and stays so while the merge
+        // closes images; and behind the merge those that it was to close are closed, and cut to one byte.
+        ensures merges { D.is_honest self.new.disk
+            → DoesMerge D.Disk event.now self.old result self.new }
+        ensures keeps { KeepsMerged D.Disk self.old self.new }
+        // While a worker's job runs, its next step is refused only for want of memory, or where a device call failed; and the
+        // opener's where it finds the store damaged.
+        ensures jobs { D.is_honest self.new.disk → GoesOnUnless event.now self.old result }
+
         // What it adds to the journal, or takes from it. What the run goes on from stays, but by a trim.
         ensures adds { Adds event.now result self.old.core self.new.core }
         ensures base { event.now ≢ Trim → self.new.core.base ≡ self.old.core.base }
@@ -243,6 +257,8 @@ impl<D: Disk> World<D> {
         contents_show();
         given_up_fits(&self.disk);
         synced_is_found(&self.disk);
+        self.core.goes_on();
+        self.core.merged_stands();
         let answer = make_step(&mut self.core, &mut self.disk, &mut self.kept, event);
         self.core.sound();
         answer

@@ -1,10 +1,11 @@
-//! Seats that store beside a dumper.
+//! Seats that store beside a dumper. What they share isn't dropped: the process ends with it.
 use crate::fault::BenchFault;
 use crate::place::{mmap, store};
 use sd_command::{Refusal, Reply};
 use sd_disk::{Disk, MemDisk};
 use sd_shared::{Hold, Seat, Shared};
 use std::alloc::{AllocError, Global};
+use std::mem::forget;
 use std::sync::Wait;
 use std::sync::atomic::{AtomicU64, Ordering};
 use std::thread::Threads;
@@ -176,6 +177,36 @@ fn sum(mutators: &[Mutator], took: Duration) -> Beside {
     beside
 }
 
+/// Makes a checkpoint of many rounds beside these seats, which store.
+fn save_shared<R: Threads + Wait + Clock + Sync>(
+    rt: &R,
+    alloc: Global,
+    shared: &Shared<MemDisk>,
+    seats: Vec<Seat>,
+) -> Result<Beside, BenchFault> {
+    let mut mutators = mutators_of(alloc, seats)?;
+    if let Some(first) = mutators.first_mut() {
+        prepare(rt, alloc, shared, &mut first.seat)?;
+    }
+    let over = AtomicU64::new(0);
+    let ((reply, took), ()) = thread::join(
+        rt,
+        || save(rt, shared, &over),
+        || {
+            thread::for_each_mut(
+                rt,
+                &mut mutators,
+                SEATS,
+                &|_index, mutator| { mutator.run(rt, shared, &over) },
+            )
+        },
+    );
+    match reply {
+        Reply::Refused(why) => Err(BenchFault::Refused(why)),
+        _ => Ok(sum(&mutators, took)),
+    }
+}
+
 /// Makes a checkpoint of many rounds beside four seats that store.
 pub(crate) fn save_beside<R: Threads + Wait + Clock + Sync>(
     rt: &R,
@@ -185,25 +216,7 @@ pub(crate) fn save_beside<R: Threads + Wait + Clock + Sync>(
     let Ok((shared, seats)) = Shared::open(alloc, disk, 65_536, SEATS) else {
         return Err(BenchFault::NotOpened);
     };
-    let mut mutators = mutators_of(alloc, seats)?;
-    if let Some(first) = mutators.first_mut() {
-        prepare(rt, alloc, &shared, &mut first.seat)?;
-    }
-    let over = AtomicU64::new(0);
-    let ((reply, took), ()) = thread::join(
-        rt,
-        || save(rt, &shared, &over),
-        || {
-            thread::for_each_mut(
-                rt,
-                &mut mutators,
-                SEATS,
-                &|_index, mutator| { mutator.run(rt, &shared, &over) },
-            )
-        },
-    );
-    match reply {
-        Reply::Refused(why) => Err(BenchFault::Refused(why)),
-        _ => Ok(sum(&mutators, took)),
-    }
+    let beside = save_shared(rt, alloc, &shared, seats);
+    forget(shared);
+    beside
 }

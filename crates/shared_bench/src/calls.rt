@@ -1,4 +1,4 @@
-//! Calls of one seat, and the same commands as events of a world.
+//! Calls of one seat, and the same commands as events of a world. Neither is dropped: the process ends with it.
 use crate::fault::BenchFault;
 use crate::place::{mmap, store};
 use sd_command::{Command, Refusal, Reply};
@@ -6,6 +6,7 @@ use sd_disk::MemDisk;
 use sd_shared::{Seat, Shared};
 use sd_world::{Event, World};
 use std::alloc::{AllocError, Global};
+use std::mem::forget;
 use std::sync::Wait;
 
 /// A small store in memory.
@@ -41,10 +42,14 @@ fn call_all(
 /// Makes so many stores by one seat of a shared core.
 pub(crate) fn make_calls(rt: &impl Wait, alloc: Global, count: u64) -> Result<u64, BenchFault> {
     match Shared::open(alloc, small(alloc)?, 16, 1) {
-        Ok((shared, mut seats)) => match seats.first_mut() {
-            Some(seat) => call_all(rt, alloc, &shared, seat, count),
-            None => Err(BenchFault::NotOpened),
-        },
+        Ok((shared, mut seats)) => {
+            let made = match seats.first_mut() {
+                Some(seat) => call_all(rt, alloc, &shared, seat, count),
+                None => Err(BenchFault::NotOpened),
+            };
+            forget(shared);
+            made
+        }
         Err(_) => Err(BenchFault::NotOpened),
     }
 }
@@ -66,7 +71,11 @@ fn step_all(alloc: Global, world: &mut World<MemDisk>, count: u64) -> Result<u64
 /// Makes so many stores as events of a world.
 pub(crate) fn make_steps(alloc: Global, count: u64) -> Result<u64, BenchFault> {
     match World::open(alloc, small(alloc)?, 16) {
-        Ok(mut world) => step_all(alloc, &mut world, count),
+        Ok(mut world) => {
+            let made = step_all(alloc, &mut world, count);
+            forget(world);
+            made
+        }
         Err(_) => Err(BenchFault::NotOpened),
     }
 }

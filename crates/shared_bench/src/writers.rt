@@ -1,11 +1,13 @@
-//! A dump over a disk whose writes take time, by one writer or more.
+//! A dump over a disk whose writes take time, by one writer or more. What they share isn't dropped: the process ends with
+//! it.
 use crate::beside::{Free, prepare};
 use crate::fault::BenchFault;
 use crate::slow::Slow;
 use sd_command::Reply;
 use sd_disk::MemDisk;
-use sd_shared::Shared;
+use sd_shared::{Seat, Shared};
 use std::alloc::Global;
+use std::mem::forget;
 use std::sync::Wait;
 use std::thread::Threads;
 use std::time::{Clock, Duration, Instant};
@@ -26,7 +28,27 @@ fn save<R: Threads + Wait + Clock + Sync>(
     }
 }
 
-/// How long a dump of all pages takes with so many writers, where each write takes a tenth of a millisecond.
+/// How long a dump of all pages takes with so many writers.
+fn dump<R: Threads + Wait + Clock + Sync>(
+    rt: &R,
+    alloc: Global,
+    shared: &Shared<Slow<'_, R, MemDisk>>,
+    seats: &mut [Seat],
+    writers: usize,
+) -> Result<Duration, BenchFault> {
+    if let Some(seat) = seats.first_mut() {
+        prepare(rt, alloc, shared, seat)?;
+    }
+    let from = Instant::now(rt);
+    let reply = save(rt, shared, writers);
+    match (reply, from, Instant::now(rt)) {
+        (Reply::Refused(why), _, _) => Err(BenchFault::Refused(why)),
+        (_, Ok(from), Ok(now)) => Ok(now.duration_since(from)),
+        _ => Err(BenchFault::NotTimed),
+    }
+}
+
+/// How long it takes where each write takes a tenth of a millisecond.
 pub(crate) fn write_pages<R: Threads + Wait + Clock + Sync>(
     rt: &R,
     alloc: Global,
@@ -36,14 +58,7 @@ pub(crate) fn write_pages<R: Threads + Wait + Clock + Sync>(
     let Ok((shared, mut seats)) = Shared::open(alloc, Slow { rt, disk }, 65_536, 1) else {
         return Err(BenchFault::NotOpened);
     };
-    if let Some(seat) = seats.first_mut() {
-        prepare(rt, alloc, &shared, seat)?;
-    }
-    let from = Instant::now(rt);
-    let reply = save(rt, &shared, writers);
-    match (reply, from, Instant::now(rt)) {
-        (Reply::Refused(why), _, _) => Err(BenchFault::Refused(why)),
-        (_, Ok(from), Ok(now)) => Ok(now.duration_since(from)),
-        _ => Err(BenchFault::NotTimed),
-    }
+    let took = dump(rt, alloc, &shared, &mut seats, writers);
+    forget(shared);
+    took
 }

@@ -105,3 +105,42 @@ fn a_store_that_fell_is_opened_again(rt: HostRuntime) -> Result<(), Fail> {
     let case = Case::Answers(&OPENED_WHEN_DOWN);
     Ok(run(&rt, rt.alloc(), store, case)?)
 }
+
+/// A checkpoint is acknowledged and the next one cancelled, so that the third takes every page; the sync behind the gate of its
+/// dump fails. Whether it stands is in doubt, and it can't be cancelled. The store is opened again and names it. What was in
+/// doubt is over then: the next checkpoint has the next number and may be cancelled, and so may the one behind it.
+const DOUBTFUL: [Row; 19] = [
+    (Order::Open, Answer::Reopened(None)),
+    (Order::Map, Answer::Journaled),
+    (Order::Save, Answer::Acked(1)),
+    (Order::Begin(0), Answer::Begun(2)),
+    (Order::Cancel, Answer::Cancelled(2)),
+    (Order::Save, DOWN),
+    (Order::Cancel, BUSY),
+    (Order::Begin(0), DOWN),
+    (Order::Merge, DOWN),
+    (Order::Open, Answer::Reopened(Some(3))),
+    (Order::Cancel, IDLE),
+    (Order::Begin(0), Answer::Begun(4)),
+    (Order::Cancel, Answer::Cancelled(4)),
+    (Order::Cancel, IDLE),
+    (Order::Save, Answer::Acked(5)),
+    (Order::Begin(0), Answer::Begun(6)),
+    (Order::Cancel, Answer::Cancelled(6)),
+    (Order::Save, Answer::Acked(7)),
+    (Order::Cancel, IDLE),
+];
+
+/// The calls before that sync: the opening makes six, and the first checkpoint of a page of zeros eight; of the third one three
+/// form its slot, and four are its table, its header, their sync and its gate.
+const DOUBTFUL_CALLS: u64 = 21;
+
+#[test]
+fn a_doubtful_commit_is_over_once_opened(rt: HostRuntime) -> Result<(), Fail> {
+    let store = Store {
+        slots: 3,
+        calls: DOUBTFUL_CALLS,
+    };
+    let case = Case::Answers(&DOUBTFUL);
+    Ok(run(&rt, rt.alloc(), store, case)?)
+}

@@ -1,96 +1,87 @@
-//! The calls of each disk.
+//! Disks in folders, and the texts of errors.
+ghost use Rattle.std.specs.Prelude.{◌≡◌, length, IfOk};
+ghost use Rattle.sd_disk.specs.Folder.{folder_files};
 
-use crate::builders::{flush, fresh, holds, open, put, shorten, synced};
-use sd_disk::{DeviceError, Disk, FileFault, Folder, Fused, MemDisk, OpenError};
-use std::process::Abort;
+use crate::cases::EXERCISE;
+use crate::steps::{Call, Step, first_wrong};
+use sd_disk::{DeviceError, DirDisk, FileFault, Folder, Fused, MemDisk, OpenError};
 use std::test::Fail;
-use std::{fs, io};
+use std::{fmt, fs, io, process};
 
-/// Each call, with a write past the end and one over the end.
-fn exercise<D: Disk>(rt: &(impl Abort + AllocGlobal), disk: &mut D) -> Result<(), Fail> {
-    holds(rt, disk, 3, b"")?;
-    put(rt, disk, 3, 2, b"abcd")?;
-    holds(rt, disk, 3, b"\0\0abcd")?;
-    put(rt, disk, 3, 1, b"xy")?;
-    shorten(rt, disk, 3, 4)?;
-    holds(rt, disk, 3, b"\0xyb")?;
-    put(rt, disk, 0, 0, b"head")?;
-    holds(rt, disk, 0, b"head")?;
-    holds(rt, disk, 1, b"")?;
-    assert_eq!(rt; disk.failures(), 0);
-    refuses_past_the_end(rt, disk)
+/// A path in the system's folder for temporary files that no other process uses.
+fn fresh(rt: &HostRuntime, name: &str) -> Result<String, Fail> {
+    let id = process::id(rt.process());
+    let path = format!(in rt.alloc(); "/tmp/test_disk-{id}-{name}")?;
+    let _ = fs::remove_dir_all(rt, path.as_str());
+    Ok(path)
 }
 
-/// A read past the end and a cut that would lengthen fail, and each is counted.
-fn refuses_past_the_end<D: Disk>(
-    rt: &(impl Abort + AllocGlobal),
-    disk: &mut D,
-) -> Result<(), Fail> {
-    assert!(rt; 0 < disk.slots());
-    let mut buffer = [0; 2];
-    assert!(rt; matches!(disk.read(0, 3, &mut buffer), Err(DeviceError)));
-    assert!(rt; matches!(disk.read(0, 9, &mut buffer), Err(DeviceError)));
-    assert!(rt; matches!(disk.cut(0, 5), Err(DeviceError)));
-    holds(rt, disk, 0, b"head")?;
-    assert_eq!(rt; disk.failures(), 3);
-    Ok(())
+fn open(rt: &HostRuntime, path: &str, makes: bool) -> Result<DirDisk, OpenError>
+    ensures { IfOk result (λ disk. length (folder_files disk) ≡ 64) }
+{
+    Ok(DirDisk::new(Folder::open(rt, path, makes)?))
 }
 
-#[test]
-fn memory_reads_back_what_was_written(rt: HostRuntime) -> Result<(), Fail> {
-    let mut disk = MemDisk::new(rt.alloc(), 4, 6, 5)?;
-    assert_eq!(rt; disk.slots(), 4);
-    exercise(&rt, &mut disk)?;
-    assert_eq!(rt; disk.reads(), 8);
-    Ok(())
+/// Opens a folder's disk and makes calls on it. Returns whether each ends as it has to, and the cause of the failure.
+fn drive(
+    rt: &HostRuntime,
+    path: &str,
+    makes: bool,
+    steps: &[Step],
+) -> Result<(bool, Option<FileFault>), OpenError> {
+    let mut disk = open(rt, path, makes)?;
+    let wrong = first_wrong(&mut disk, steps);
+    Ok((wrong.is_none(), disk.fault()))
 }
 
-#[test]
-fn a_call_without_room_is_counted(rt: HostRuntime) -> Result<(), Fail> {
-    let mut disk = MemDisk::new(rt.alloc(), 1, 4, 2)?;
-    disk.write_at(0, 0, b"abcd")?;
-    assert!(rt; matches!(disk.write_at(0, 3, b"xy"), Err(DeviceError)));
-    assert!(rt; matches!(disk.write_at(0, usize::MAX, b"x"), Err(DeviceError)));
-    disk.sync(0)?;
-    assert!(rt; matches!(disk.cut(0, 0), Err(DeviceError)));
-    assert_eq!(rt; disk.failures(), 3);
-    holds(&rt, &mut disk, 0, b"abcd")
+fn goes(rt: &HostRuntime, path: &str, makes: bool, steps: &[Step]) -> bool {
+    matches!(drive(rt, path, makes, steps), Ok((true, _)))
 }
+
+fn is_not_opened(rt: &HostRuntime, path: &str, makes: bool) -> bool {
+    matches!(drive(rt, path, makes, &[]), Err(OpenError::Folder(_)))
+}
+
+/// A new folder has all its slots.
+const ALL_SLOTS: &[Step] = &[(0, Call::Slots(64), true), (63, Call::Holds(b""), true)];
+
+/// What is there once the calls of the exercise were made.
+const KEPT: &[Step] = &[
+    (3, Call::Holds(b"\0xyb"), true),
+    (0, Call::Holds(b"head"), true),
+];
 
 #[test]
 fn a_folder_keeps_what_was_written(rt: HostRuntime) -> Result<(), Fail> {
     let parent = fresh(&rt, "kept")?;
     let path = format!(in rt.alloc(); "{}/within", parent.as_str())?;
-    let mut disk = open(&rt, path.as_str(), true)?;
-    assert_eq!(rt; disk.slots(), 64);
-    exercise(&rt, &mut disk)?;
-    drop(disk);
-    let mut again = open(&rt, path.as_str(), false)?;
-    holds(&rt, &mut again, 3, b"\0xyb")?;
-    holds(&rt, &mut again, 0, b"head")?;
+    let is_made = goes(&rt, path.as_str(), true, ALL_SLOTS);
+    let is_written = goes(&rt, path.as_str(), true, EXERCISE);
+    let is_kept = goes(&rt, path.as_str(), false, KEPT);
     fs::remove_dir_all(&rt, parent.as_str())?;
+    assert!(rt; is_made && is_written && is_kept);
     Ok(())
 }
+
+/// A file that is missing.
+const MISSING: &[Step] = &[
+    (63, Call::Measures(0), true),
+    (63, Call::Sync, true),
+    (63, Call::Cut(0), true),
+    (63, Call::Cut(1), false),
+    (63, Call::Read(0, 1), false),
+    (63, Call::Write(0, b"x"), false),
+    (63, Call::Failures(3), true),
+];
 
 #[test]
 fn a_missing_file_is_empty(rt: HostRuntime) -> Result<(), Fail> {
     let path = fresh(&rt, "missing")?;
-    assert!(rt;
-        matches!(
-            Folder::open(&rt, path.as_str(), false),
-            Err(OpenError::Folder(_))
-        )
-    );
+    let is_missing = is_not_opened(&rt, path.as_str(), false);
     fs::create_dir(&rt, path.as_str())?;
-    let mut disk = open(&rt, path.as_str(), false)?;
-    assert_eq!(rt; disk.len(63)?, 0);
-    disk.sync(63)?;
-    disk.cut(63, 0)?;
-    assert!(rt; matches!(disk.cut(63, 1), Err(DeviceError)));
-    assert!(rt; matches!(disk.read(63, 0, &mut [0]), Err(DeviceError)));
-    assert!(rt; matches!(disk.write_at(63, 0, b"x"), Err(DeviceError)));
-    assert_eq!(rt; disk.failures(), 3);
+    let is_empty = goes(&rt, path.as_str(), false, MISSING);
     fs::remove_dir_all(&rt, path.as_str())?;
+    assert!(rt; is_missing && is_empty);
     Ok(())
 }
 
@@ -99,85 +90,58 @@ fn a_folder_in_place_of_a_file_is_not_opened(rt: HostRuntime) -> Result<(), Fail
     let path = fresh(&rt, "folder")?;
     let name = format!(in rt.alloc(); "{}/img-007", path.as_str())?;
     fs::create_dir_all(&rt, name.as_str())?;
-    assert!(rt;
-        matches!(
-            Folder::open(&rt, path.as_str(), true),
-            Err(OpenError::Folder(_))
-        )
-    );
+    let is_refused = is_not_opened(&rt, path.as_str(), true);
     fs::remove_dir_all(&rt, path.as_str())?;
+    assert!(rt; is_refused);
     Ok(())
 }
 
-#[test]
-fn errors_have_their_texts(rt: HostRuntime) -> Result<(), Fail> {
-    let device = format!(in rt.alloc(); "{}", DeviceError)?;
-    assert_eq!(rt; device.as_str(), "device");
-    let memory = format!(in rt.alloc(); "{}", OpenError::OutOfMemory)?;
-    assert_eq!(rt; memory.as_str(), "out-of-memory");
-    let file = FileFault {
-        slot: Some(7),
-        error: io::Error::from_raw_os_error(28),
-    };
-    let folder = format!(in rt.alloc(); "{}", OpenError::Folder(file))?;
-    assert_eq!(rt; folder.as_str(), "cannot open DIR");
-    let cause = format!(in rt.alloc(); "{file}")?;
-    assert_eq!(rt;
-        cause.as_str(),
-        "img-007: No space left on device (os error 28)"
-    );
-    Ok(())
+/// Whether a fault is that of a read past the end of the file of slot 5.
+fn is_past_the_end(fault: Option<FileFault>) -> bool {
+    match fault {
+        Some(fault) => {
+            fault.slot == Some(5) && fault.error.kind() == io::ErrorKind::UnexpectedEof
+        }
+        None => false,
+    }
 }
 
 #[test]
 fn a_failed_call_leaves_its_cause(rt: HostRuntime) -> Result<(), Fail> {
     let path = fresh(&rt, "cause")?;
-    let mut disk = open(&rt, path.as_str(), true)?;
-    assert!(rt; disk.fault().is_none());
-    assert!(rt; matches!(disk.read(5, 0, &mut [0]), Err(DeviceError)));
-    let fault = disk.fault().ok_or("a cause")?;
-    assert_eq!(rt; fault.slot, Some(5));
-    assert_eq!(rt; fault.error.kind(), io::ErrorKind::UnexpectedEof);
+    let (_, before) = drive(&rt, path.as_str(), true, ALL_SLOTS)?;
+    let (is_refused, fault) = drive(&rt, path.as_str(), true, &[(5, Call::Read(0, 1), false)])?;
     fs::remove_dir_all(&rt, path.as_str())?;
+    assert!(rt; before.is_none() && is_refused && is_past_the_end(fault));
     Ok(())
 }
 
-#[test]
-fn one_call_fails_and_the_others_pass(rt: HostRuntime) -> Result<(), Fail> {
-    let mut disk = Fused::new(synced(&rt, b"abcd")?, 2);
-    holds(&rt, &mut disk, 0, b"abcd")?;
-    assert!(rt; 0 < disk.slots());
-    assert!(rt; matches!(disk.len(0), Err(DeviceError)));
-    assert_eq!(rt; disk.failures(), 1);
-    holds(&rt, &mut disk, 0, b"abcd")?;
-    put(&rt, &mut disk, 0, 0, b"X")?;
-    flush(&rt, &mut disk, 0)?;
-    assert_eq!(rt; disk.failures(), 1);
-    let mut within = disk.into_inner();
-    assert_eq!(rt; within.failures(), 0);
-    holds(&rt, &mut within, 0, b"Xbcd")
+fn is_shown<T: fmt::Display>(rt: &impl AllocGlobal, value: &T, text: &str) -> Result<bool, Fail> {
+    let shown = format!(in rt.alloc(); "{value}")?;
+    Ok(shown.as_str() == text)
 }
 
 #[test]
-fn a_failed_read_is_not_made(rt: HostRuntime) -> Result<(), Fail> {
-    let mut disk = Fused::dropping(synced(&rt, b"abcd")?, 0);
-    assert!(rt; 0 < disk.slots());
-    let mut buffer = [7; 4];
-    assert!(rt; matches!(disk.read(0, 0, &mut buffer), Err(DeviceError)));
-    assert_eq!(rt; disk.failures(), 1);
-    assert_eq!(rt; disk.into_inner().reads(), 0);
+fn errors_have_their_texts(rt: HostRuntime) -> Result<(), Fail> {
+    let file = FileFault {
+        slot: Some(7),
+        error: io::Error::from_raw_os_error(28),
+    };
+    let cause = "img-007: No space left on device (os error 28)";
+    let are_shown = is_shown(&rt, &DeviceError, "device")?
+        && is_shown(&rt, &OpenError::OutOfMemory, "out-of-memory")?
+        && is_shown(&rt, &OpenError::Folder(file), "cannot open DIR")?
+        && is_shown(&rt, &file, cause)?;
+    assert!(rt; are_shown);
     Ok(())
 }
 
-/// A value that can be handed to another thread.
-fn moves<T: Send>(_value: &T) {}
+/// A type whose values can be handed to another thread.
+fn moves<T: Send>() {}
 
 #[test]
-fn a_disk_can_be_moved_to_another_thread(rt: HostRuntime) -> Result<(), Fail> {
-    let path = fresh(&rt, "moved")?;
-    moves(&open(&rt, path.as_str(), true)?);
-    moves(&synced(&rt, b"a")?);
-    moves(&Fused::new(synced(&rt, b"a")?, 1));
-    fs::remove_dir_all(&rt, path.as_str())?;
-    Ok(())
+fn a_disk_can_be_moved_to_another_thread() {
+    moves::<DirDisk>();
+    moves::<MemDisk>();
+    moves::<Fused<MemDisk>>();
 }

@@ -2,7 +2,7 @@
 #![tactic(auto)]
 
 #[cfg(test)]
-mod builders;
+mod cases;
 #[cfg(test)]
 mod crashes;
 #[cfg(test)]
@@ -11,3 +11,7 @@ mod devices;
 mod gates;
 #[cfg(test)]
 mod picks;
+#[cfg(test)]
+mod plans;
+#[cfg(test)]
+mod steps;

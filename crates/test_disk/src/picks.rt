@@ -12,8 +12,6 @@ pub(crate) enum Length {
     Exactly(u64),
 }
 
-pub(crate) const LEAST: Length = Length::Least;
-
 pub(crate) const GREATEST: Length = Length::Greatest;
 
 #[derive(Clone, Copy)]
@@ -26,8 +24,8 @@ pub(crate) enum Byte {
 /// One rule for all lengths, and one for all bytes.
 #[derive(Clone, Copy)]
 pub(crate) struct Rule {
-    length: Length,
-    byte: Byte,
+    pub(crate) length: Length,
+    pub(crate) byte: Byte,
 }
 
 /// What stood at the last sync.
@@ -42,27 +40,35 @@ pub(crate) const NOW: Rule = Rule {
     byte: Byte::Now,
 };
 
-/// One byte at each place that may hold any.
-pub(crate) fn all(length: Length, byte: u8) -> Rule {
-    Rule {
-        length,
-        byte: Byte::All(byte),
-    }
-}
-
 /// The rules under which each call of a plan is crashed.
-pub(crate) fn rules() -> [Rule; 8] {
-    [
-        NOW,
-        SYNCED,
-        all(LEAST, 0),
-        all(LEAST, 0xA5),
-        all(LEAST, 0xFF),
-        all(GREATEST, 0),
-        all(GREATEST, 0xA5),
-        all(GREATEST, 0xFF),
-    ]
-}
+pub(crate) const RULES: [Rule; 8] = [
+    NOW,
+    SYNCED,
+    Rule {
+        length: Length::Least,
+        byte: Byte::All(0),
+    },
+    Rule {
+        length: Length::Least,
+        byte: Byte::All(0xA5),
+    },
+    Rule {
+        length: Length::Least,
+        byte: Byte::All(0xFF),
+    },
+    Rule {
+        length: GREATEST,
+        byte: Byte::All(0),
+    },
+    Rule {
+        length: GREATEST,
+        byte: Byte::All(0xA5),
+    },
+    Rule {
+        length: GREATEST,
+        byte: Byte::All(0xFF),
+    },
+];
 
 impl Pick for Rule {
     ghost aims = { λ _ _. ⊥ };

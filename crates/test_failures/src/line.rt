@@ -45,6 +45,9 @@ pub(crate) const TWO: &[Line] = &[
     Line::Finish(Worker::Dumper),
 ];
 
+/// A store is opened, and takes a checkpoint.
+pub(crate) const REOPENED: &[Line] = &[Line::Open, Line::Begin(0), Line::Finish(Worker::Dumper)];
+
 /// A checkpoint, and a merge of it.
 pub(crate) const MERGED: &[Line] = &[
     Line::Open,

@@ -1,6 +1,6 @@
 //! Scripts under refused memory, with a device call that fails, and with a stop at each call.
 use crate::crashes::shown_by_stops;
-use crate::line::{HELLO, Line, MERGE_BESIDE_ROUND, MERGED, STALE_BITS, TRIMMED, TWO};
+use crate::line::{HELLO, Line, MERGE_BESIDE_ROUND, MERGED, REOPENED, STALE_BITS, TRIMMED, TWO};
 use crate::picks::ALL;
 use crate::told::{Ended, Told};
 use crate::worlds::{MOST, Run, empty, fused, make};
@@ -14,25 +14,27 @@ use std::test::Fail;
 /// What is done once the device has failed.
 const AFTERWARDS: &[Line] = &[Line::Open, Line::Begin(0), Line::Finish(Worker::Dumper)];
 
-/// A script's replies.
-fn replies(rt: &(impl Abort + Eprint + AllocGlobal), lines: &[Line]) -> Result<Told, Fail> {
+/// The replies of scripts, one after the other over one store.
+fn replies(rt: &(impl Abort + Eprint + AllocGlobal), scripts: &[&[Line]]) -> Result<Told, Fail> {
     let mut told = Told::new(rt.alloc())?;
-    let run = Run { lines, then: None };
-    let disk = Fused::new(empty(rt.alloc())?, u64::MAX);
-    drop(make(rt, rt.alloc(), disk, run, &mut told));
+    let mut disk = empty(rt.alloc())?;
+    for lines in scripts {
+        let run = Run { lines, then: None };
+        disk = make(rt, rt.alloc(), Fused::new(disk, u64::MAX), run, &mut told);
+    }
     assert!(rt; !told.is_lost);
     Ok(told)
 }
 
-/// A script that is run twice is answered alike, though memory may be refused in one of the runs.
+/// Scripts that are run twice are answered alike, though memory may be refused in one of the runs.
 fn is_answered(
     rt: &(impl Abort + Eprint + AllocGlobal),
-    lines: &[Line],
+    scripts: &[&[Line]],
     count: usize,
     last: Reply,
 ) -> Result<(), Fail> {
-    let first = replies(rt, lines)?;
-    let again = replies(rt, lines)?;
+    let first = replies(rt, scripts)?;
+    let again = replies(rt, scripts)?;
     assert_eq!(rt; first.replies, again.replies);
     assert_eq!(rt; again.replies.len(), count);
     assert_eq!(rt; again.replies.last(), Some(&last));
@@ -41,27 +43,35 @@ fn is_answered(
 
 #[test]
 fn two_checkpoints_under_refused_memory(rt: HostRuntime) -> Result<(), Fail> {
-    is_answered(&rt, TWO, 117, Reply::Acked(2))
+    is_answered(&rt, &[TWO], 117, Reply::Acked(2))
 }
 
 #[test]
 fn a_merge_under_refused_memory(rt: HostRuntime) -> Result<(), Fail> {
-    is_answered(&rt, MERGED, 130, Reply::Merged(2))
+    is_answered(&rt, &[MERGED], 130, Reply::Merged(2))
 }
 
 #[test]
 fn stale_bits_under_refused_memory(rt: HostRuntime) -> Result<(), Fail> {
-    is_answered(&rt, STALE_BITS, 135, Reply::Acked(3))
+    is_answered(&rt, &[STALE_BITS], 135, Reply::Acked(3))
 }
 
 #[test]
 fn a_merge_beside_a_round_under_refused_memory(rt: HostRuntime) -> Result<(), Fail> {
-    is_answered(&rt, MERGE_BESIDE_ROUND, 194, Reply::Acked(2))
+    is_answered(&rt, &[MERGE_BESIDE_ROUND], 194, Reply::Acked(2))
 }
 
 #[test]
 fn trims_under_refused_memory(rt: HostRuntime) -> Result<(), Fail> {
-    is_answered(&rt, TRIMMED, 133, Reply::Trimmed(4))
+    is_answered(&rt, &[TRIMMED], 133, Reply::Trimmed(4))
+}
+
+/// The second run's opener reads the pre-dump, the merged image and the dump that the first one left: six events for each of
+/// eight slots, seven more for each image, and the one that ends it. Its checkpoint takes the page in 37 events.
+#[test]
+fn an_opening_of_images_under_refused_memory(rt: HostRuntime) -> Result<(), Fail> {
+    let count = 194 + (1 + 8 * 6 + 3 * 7 + 1) + (1 + 37);
+    is_answered(&rt, &[MERGE_BESIDE_ROUND, REOPENED], count, Reply::Acked(3))
 }
 
 /// The call that failed was answered as one of the device, and the worker's next event as down. The store was opened again

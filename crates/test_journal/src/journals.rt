@@ -31,7 +31,8 @@ fn a_fresh_journal_is_empty(rt: HostRuntime) {
     assert_eq!(rt; journal.free(), ENTRY_LIMIT);
 }
 
-/// A journal with a checkpoint that was acknowledged, named again by a reopening, and a mark behind the acknowledgement.
+/// A journal with a checkpoint that was acknowledged, named again by a reopening, and a mark behind the
+/// acknowledgement.
 fn saved_once(rt: &impl AllocGlobal) -> Result<Journal, AllocError> {
     let mut journal = Journal::with_limit(rt.alloc(), 8);
     journal.hold(5)?;

@@ -1,11 +1,13 @@
-//! Tests of journals by their public names.
+//! Tests of journals, of the commands that they hold, and of folds of their entries, by their public names.
 #![tactic(auto)]
 
+#[cfg(test)]
+mod commands;
+#[cfg(test)]
+mod folds;
 #[cfg(test)]
 mod journals;
 #[cfg(test)]
 mod replays;
-#[cfg(test)]
-mod rows;
 #[cfg(test)]
 mod told;

@@ -2,28 +2,24 @@
 #![tactic(auto)]
 
 #[cfg(test)]
-mod area_tests;
+mod areas;
 #[cfg(test)]
-mod growth_tests;
+mod bits;
 #[cfg(test)]
-mod kernel_scripts;
+mod deeds;
+#[cfg(test)]
+mod growths;
 #[cfg(test)]
 mod line;
 #[cfg(test)]
-mod loading_tests;
+mod loading;
 #[cfg(test)]
-mod memory_tests;
+mod memories;
 #[cfg(test)]
-mod plain_page;
-#[cfg(test)]
-mod plain_spaces;
-#[cfg(test)]
-mod procfs_tests;
-#[cfg(test)]
-mod run;
-#[cfg(test)]
-mod space_tests;
+mod procfs;
 #[cfg(test)]
 mod support;
 #[cfg(test)]
-mod table_tests;
+mod tables;
+#[cfg(test)]
+mod texts;

@@ -4,12 +4,6 @@ use sd_pagetable::{AccessError, MemoryError, MemoryRefusal, Segv};
 use std::alloc::{AllocError, Global};
 use std::process::Abort;
 
-pub(crate) const NONE: Prot = Prot {
-    read: false,
-    write: false,
-    execute: false,
-};
-
 pub(crate) const READ: Prot = Prot {
     read: true,
     write: false,
@@ -25,12 +19,6 @@ pub(crate) const READ_WRITE: Prot = Prot {
 pub(crate) const READ_EXECUTE: Prot = Prot {
     read: true,
     write: false,
-    execute: true,
-};
-
-pub(crate) const ALL: Prot = Prot {
-    read: true,
-    write: true,
     execute: true,
 };
 
@@ -70,10 +58,8 @@ pub(crate) const LAST_SPACE: MemoryError = MemoryError::Denied(AccessError::Refu
     MemoryRefusal::LastSpace,
 ));
 
-/// What a store returns to a page that isn't mapped, and to one that can't be written.
+/// What a store returns to a page that isn't mapped.
 pub(crate) const NOT_MAPPED: MemoryError = MemoryError::Denied(AccessError::Segv(Segv::Maperr));
-
-pub(crate) const NOT_PERMITTED: MemoryError = MemoryError::Denied(AccessError::Segv(Segv::Accerr));
 
 /// What a call on a memory returned. Want of memory alone is an error: it ends a test that is refused memory.
 pub(crate) fn told<T: Drop>(

@@ -1,7 +1,7 @@
-//! What a drive does, and what it shows then. Only this file owns one. It isn't dropped: the process of a test ends with it,
-//! and a drop of its memory takes the prover minutes.
+//! What a drive does, and what it shows then. Only this file owns one. It isn't dropped: the process of a test ends
+//! with it, and a drop of its memory takes the prover minutes.
 use crate::drive::Drive;
-use crate::facts::{Fact, NOTHING, Shown, is_so, room_of, shown};
+use crate::facts::{Fact, NOTHING, is_so, room_of};
 use crate::parts::retire;
 use crate::stop::Stop;
 use sd_rounds::PageBuffers;
@@ -26,8 +26,6 @@ pub(crate) enum Deed {
     MergeSteps(usize),
     /// The merge comes to its end, with an image of this serial.
     FinishMerge(u64),
-    /// It comes to its end step by step, and behind each the disk shows this.
-    WatchMerge(u64, Shown),
     /// It goes on until none runs.
     RunMerge,
     /// It goes on until its image is open, and its list is awaited.
@@ -38,21 +36,6 @@ pub(crate) enum Deed {
     CancelMerge,
     /// This is so.
     Is(Fact),
-}
-
-/// Makes the steps of a merge, and restores the disk behind each. Returns the serial of the merged image, where each
-/// showed this.
-fn watch_merge(alloc: Global, drive: &mut Drive, wanted: Shown) -> Result<Option<u64>, Stop> {
-    for _ in 0..100 {
-        let merged = drive.merge_step(alloc)?;
-        if shown(alloc, &mut drive.disk)? != wanted {
-            return Ok(None);
-        }
-        if merged.is_some() {
-            return Ok(merged);
-        }
-    }
-    Err(Stop::NoEnd)
 }
 
 /// Makes so many steps of a merge.
@@ -88,17 +71,6 @@ fn begin_dump(
     Ok(())
 }
 
-/// Does what concerns a merge. Returns whether it came to what the deed says.
-fn merges(alloc: Global, drive: &mut Drive, deed: Deed) -> Result<bool, Stop> {
-    match deed {
-        Deed::FinishMerge(serial) => Ok(drive.finish_merge(alloc)? == serial),
-        Deed::WatchMerge(serial, wanted) => {
-            Ok(watch_merge(alloc, drive, wanted)? == Some(serial))
-        }
-        _ => Ok(false),
-    }
-}
-
 /// Does what comes to nothing that is compared.
 fn goes_on(alloc: Global, drive: &mut Drive, deed: Deed) -> Result<(), Stop> {
     match deed {
@@ -120,7 +92,7 @@ fn goes_on(alloc: Global, drive: &mut Drive, deed: Deed) -> Result<(), Stop> {
 fn does(alloc: Global, drive: &mut Drive, deed: Deed) -> Result<bool, Stop> {
     match deed {
         Deed::Is(fact) => is_so(alloc, drive, fact),
-        Deed::FinishMerge(_) | Deed::WatchMerge(..) => merges(alloc, drive, deed),
+        Deed::FinishMerge(serial) => Ok(drive.finish_merge(alloc)? == serial),
         Deed::CancelDump => {
             drive.dumper.cancel();
             Ok(true)
@@ -158,7 +130,8 @@ fn does_both(
     does_all(rt, alloc, drive, deeds.1)
 }
 
-/// Does deeds, and others behind them, with a memory of some pages over an empty disk of which a call fails behind so many.
+/// Does deeds, and others behind them, with a memory of some pages over an empty disk of which a call fails behind
+/// so many.
 pub(crate) fn run(
     rt: &impl Abort,
     alloc: Global,

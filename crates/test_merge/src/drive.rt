@@ -167,7 +167,8 @@ impl Drive {
         )
     }
 
-    /// Makes one step of the merger, with its device call. Returns the serial of the merged image where the merge ends.
+    /// Makes one step of the merger, with its device call. Returns the serial of the merged image where the merge
+    /// ends.
     pub(crate) fn merge_step(&mut self, alloc: Global) -> Result<Option<u64>, Stop> {
         match self.merge_on()? {
             MergeProgress::More => Ok(None),

@@ -71,7 +71,7 @@ fn shown_by(snapshot: &Snapshot) -> Shown {
 }
 
 /// What the disk is restored to.
-pub(crate) fn shown(alloc: Global, disk: &mut Device) -> Result<Shown, Stop> {
+fn shown(alloc: Global, disk: &mut Device) -> Result<Shown, Stop> {
     match restore(alloc, disk) {
         Ok(snapshot) => Ok(shown_by(&snapshot)),
         Err(_) => Err(Stop::Unrestored),

@@ -43,27 +43,8 @@ pub(crate) const CHAIN: [Deed; 6] = [
 
 const AS_SAVED: Shown = (3, Some(0x63), Some(0x62), Some(0));
 
-/// The chain is merged, and its files are closed.
-const WATCHED: [Deed; 9] = [
-    Deed::Is(Fact::Shows(AS_SAVED)),
-    Deed::BeginMerge(3),
-    Deed::WatchMerge(4, AS_SAVED),
-    Deed::Is(Fact::Len(0, 1)),
-    Deed::Is(Fact::Len(1, 1)),
-    Deed::Is(Fact::Len(2, 1)),
-    Deed::Is(Fact::Images(1)),
-    Deed::Is(Fact::Fell),
-    Deed::Is(Fact::Image(4, Some((Kind::Merged, 4, 3, 0, 3, 2)))),
-];
-
-/// The memory that a chain shows stays before, during and after its merge.
-#[test]
-fn merge_shows_the_same(rt: HostRuntime) -> Result<(), Fail> {
-    Ok(run(&rt, rt.alloc(), 3, NEVER, (&CHAIN, &WATCHED))?)
-}
-
 /// Six steps of a merge are made and it is given up, and another one is made into another slot.
-const GIVEN_UP: [Deed; 8] = [
+const GIVEN_UP: [Deed; 13] = [
     Deed::BeginMerge(3),
     Deed::MergeSteps(6),
     Deed::CancelMerge,
@@ -72,28 +53,17 @@ const GIVEN_UP: [Deed; 8] = [
     Deed::BeginMerge(4),
     Deed::FinishMerge(5),
     Deed::Is(Fact::Shows(AS_SAVED)),
+    Deed::Is(Fact::Len(0, 1)),
+    Deed::Is(Fact::Len(2, 1)),
+    Deed::Is(Fact::Images(1)),
+    Deed::Is(Fact::Fell),
+    Deed::Is(Fact::Image(5, Some((Kind::Merged, 5, 3, 0, 3, 2)))),
 ];
 
-/// A merge that is given up leaves the chain as it is, and another may begin.
+/// A merge that is given up leaves the chain as it is, and another may begin, which closes the chain's files.
 #[test]
 fn merge_cancelled(rt: HostRuntime) -> Result<(), Fail> {
     Ok(run(&rt, rt.alloc(), 3, NEVER, (&CHAIN, &GIVEN_UP))?)
-}
-
-/// The chain is merged, and a checkpoint is made above the merged image.
-const ABOVE: [Deed; 6] = [
-    Deed::BeginMerge(3),
-    Deed::FinishMerge(4),
-    Deed::Store(2, 0x64),
-    Deed::Checkpoint(4, 4),
-    Deed::Is(Fact::Shows((4, Some(0x63), Some(0x62), Some(0x64)))),
-    Deed::Is(Fact::Image(5, Some((Kind::Dump, 5, 5, 3, 4, 1)))),
-];
-
-/// A checkpoint above a merged image names it by the number that it stands for.
-#[test]
-fn checkpoint_above_a_merge(rt: HostRuntime) -> Result<(), Fail> {
-    Ok(run(&rt, rt.alloc(), 3, NEVER, (&CHAIN, &ABOVE))?)
 }
 
 /// A call of the merge fails, and the merge ends.
@@ -104,8 +74,8 @@ const FAILS: [Deed; 4] = [
     Deed::Is(Fact::Shows((1, Some(0x61), None, None))),
 ];
 
-/// The first checkpoint takes nine device calls, and its merge thirteen. Whichever call of the merge fails, the merge ends,
-/// and what the disk shows stays.
+/// The first checkpoint takes nine device calls, and its merge thirteen. Whichever call of the merge fails, the
+/// merge ends, and what the disk shows stays.
 #[test]
 fn each_call_fails(rt: HostRuntime) -> Result<(), Fail> {
     for calls in 9..22 {

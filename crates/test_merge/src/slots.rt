@@ -6,8 +6,8 @@ use sd_merge::Retired;
 use sd_slots::free_law;
 use std::test::Fail;
 
-/// The tip reaches the images in the slots 0 to 2 of eight. The merge has slot 3, the checkpoint 5 and 6. Once the merged
-/// image is open, the chain's slots are free, until the merge has its list, and again behind its end.
+/// The tip reaches the images in the slots 0 to 2 of eight. The merge has slot 3, the checkpoint 5 and 6. Once the
+/// merged image is open, the chain's slots are free, until the merge has its list, and again behind its end.
 const FREE: [Deed; 12] = [
     Deed::Is(Fact::Free(None, &[3, 4, 5, 6, 7])),
     Deed::BeginMerge(3),
@@ -37,9 +37,9 @@ const TWO: Retired = Retired { serial: 2, slot: 1 };
 
 const THREE: Retired = Retired { serial: 3, slot: 2 };
 
-/// All three images are listed, where nothing else is at work, and the first two where the store has two slots. An image
-/// isn't listed whose slot a checkpoint has, or on whose slot a request is out. A checkpoint above the second image needs it
-/// and what it reaches.
+/// All three images are listed, where nothing else is at work, and the first two where the store has two slots. An
+/// image isn't listed whose slot a checkpoint has, or on whose slot a request is out. A checkpoint above the second
+/// image needs it and what it reaches.
 const LISTED: [Deed; 11] = [
     Deed::BeginMerge(3),
     Deed::OpenMerged,

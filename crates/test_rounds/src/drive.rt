@@ -1,13 +1,14 @@
 //! A dumper that is driven by hand over a memory and a disk.
-use sd_areas::{PageNo, Prot, Snapshot, SpaceId};
+use crate::moment::Moment;
+use crate::stop::Stop;
+use sd_areas::{Prot, SpaceId};
 use sd_disk::{Disk, MemDisk};
 use sd_gate::{Request, SlotState, perform};
 use sd_image::Header;
 use sd_pagetable::{Memory, StoreOutcome};
 use sd_restore::restore;
-use sd_rounds::{Dumper, ImageStep, NextImage, PageBuffers, Progress};
-use std::alloc::Global;
-use std::test::Fail;
+use sd_rounds::{Dumper, ImageStep, NextImage, PageBuffers, Progress, WorkError};
+use std::alloc::{AllocError, Global};
 
 pub(crate) const SPACE: u64 = 1;
 
@@ -47,20 +48,33 @@ pub(crate) struct Drive {
 }
 
 impl Drive {
-    /// An empty disk, and a memory of one page.
-    pub(crate) fn new(alloc: Global) -> Result<Self, Fail> {
-        let mut drive = Drive {
+    fn over(alloc: Global, memory: Memory, disk: MemDisk) -> Drive {
+        Drive {
             alloc,
-            memory: Memory::new(alloc, 16)?,
-            disk: MemDisk::new(alloc, SLOTS, SLOT_SIZE, CALLS)?,
+            memory,
+            disk,
             dumper: Dumper::new(alloc),
             serials: 0,
             events: 0,
             frozen: 0,
             last: None,
-        };
-        drive.memory.mmap(SpaceId::new(SPACE), FIRST, PAGE, PROT)?;
-        Ok(drive)
+        }
+    }
+
+    /// An empty disk, and a memory without a page.
+    pub(crate) fn new(alloc: Global) -> Result<Drive, AllocError> {
+        let disk = MemDisk::new(alloc, SLOTS, SLOT_SIZE, CALLS)?;
+        match Memory::new(alloc, 16) {
+            Ok(memory) => Ok(Drive::over(alloc, memory, disk)),
+            Err(error) => Err(error),
+        }
+    }
+
+    /// Maps so many pages.
+    pub(crate) fn map(&mut self, pages: u64) -> Result<(), Stop> {
+        self.memory
+            .mmap(SpaceId::new(SPACE), FIRST, pages.wrapping_mul(PAGE), PROT)?;
+        Ok(())
     }
 
     /// Begins a checkpoint above the parent with this number: pre-dumps in these slots, and a dump.
@@ -70,7 +84,7 @@ impl Drive {
         rounds: Vec<usize>,
         dump: usize,
         parent: u64,
-    ) -> Result<(), Fail> {
+    ) -> Result<(), Stop> {
         self.events = 0;
         self.frozen = 0;
         let buffers = PageBuffers::reserve(self.alloc)?;
@@ -78,8 +92,27 @@ impl Drive {
         Ok(())
     }
 
+    /// Asks the dumper for a step.
+    pub(crate) fn work(&mut self, image: NextImage, ticket: u64) -> Result<ImageStep, WorkError> {
+        self.dumper.work(&mut self.memory, image, ticket)
+    }
+
+    /// How much the checkpoint has before it.
+    pub(crate) fn left(&self) -> u128 {
+        self.dumper.left(&self.memory)
+    }
+
+    /// Makes a device call, and hands its outcome in.
+    pub(crate) fn perform(&mut self, request: Request) -> Result<Progress, Stop> {
+        if self.disk.slots() <= request.id().slot {
+            return Err(Stop::Missing);
+        }
+        let outcome = perform(&mut self.disk, request);
+        Ok(self.dumper.hand_in(outcome))
+    }
+
     /// Makes one step, with its device call. Returns whether the dump is open then.
-    pub(crate) fn step(&mut self) -> Result<bool, Fail> {
+    pub(crate) fn step(&mut self) -> Result<bool, Stop> {
         if self.dumper.next_slot().is_some() {
             self.serials = self.serials.wrapping_add(1);
         }
@@ -88,10 +121,8 @@ impl Drive {
             serial: self.serials,
             state: SlotState::Raw,
         };
-        let step = self
-            .dumper
-            .work(&mut self.memory, image, self.events as u64)?;
-        match step {
+        let ticket = self.events as u64;
+        match self.work(image, ticket)? {
             ImageStep::Call(request)
             | ImageStep::PageCall { request, .. }
             | ImageStep::TableCall(request) => self.call(request),
@@ -103,14 +134,10 @@ impl Drive {
         }
     }
 
-    /// Makes a device call, and hands its outcome in.
-    fn call(&mut self, request: Request) -> Result<bool, Fail> {
+    /// Makes the device call of a step.
+    fn call(&mut self, request: Request) -> Result<bool, Stop> {
         self.events = self.events.wrapping_add(2);
-        if self.disk.slots() <= request.id().slot {
-            return Err(Fail::from("a slot of the disk"));
-        }
-        let outcome = perform(&mut self.disk, request);
-        match self.dumper.hand_in(outcome) {
+        match self.perform(request)? {
             Progress::More => Ok(false),
             Progress::PreDump(image) => {
                 self.last = Some(image.header);
@@ -120,31 +147,31 @@ impl Drive {
                 self.last = Some(image.header);
                 Ok(true)
             }
-            Progress::Strange | Progress::Failed => Err(Fail::from("an outcome that is done")),
+            Progress::Strange | Progress::Failed => Err(Stop::Strange),
         }
     }
 
     /// Makes the steps up to so many events. None of them may end the checkpoint.
-    pub(crate) fn up_to(&mut self, events: usize) -> Result<(), Fail> {
+    pub(crate) fn up_to(&mut self, events: usize) -> Result<(), Stop> {
         for _ in 0..events {
             if events <= self.events {
                 return Ok(());
             }
             if self.step()? {
-                return Err(Fail::from("a step that ends nothing"));
+                return Err(Stop::Strange);
             }
         }
         Ok(())
     }
 
     /// Makes the steps up to the one with which the dump is open.
-    pub(crate) fn finish(&mut self) -> Result<(), Fail> {
+    pub(crate) fn finish(&mut self) -> Result<(), Stop> {
         for _ in 0..MOST {
             if self.step()? {
                 return Ok(());
             }
         }
-        Err(Fail::from("the end of the checkpoint"))
+        Err(Stop::NoEnd)
     }
 
     /// How many outcomes were handed in since the freeze.
@@ -157,24 +184,21 @@ impl Drive {
         self.serials
     }
 
-    /// The memory that the disk is restored to.
-    pub(crate) fn restore(&mut self, alloc: Global) -> Result<Snapshot, Fail> {
-        Ok(restore(alloc, &mut self.disk)?)
+    /// The number of the checkpoint that the disk is restored to, and its memory.
+    pub(crate) fn restore(&mut self, alloc: Global) -> Result<(u64, Moment), Stop> {
+        let snapshot = restore(alloc, &mut self.disk)?;
+        let moment = Moment::of_snapshot(alloc, &snapshot)?;
+        Ok((snapshot.checkpoint, moment))
     }
 
     /// The checkpoint that the disk is restored to, and the first bytes of two sectors of its page, if it has one.
-    pub(crate) fn restored(&mut self, alloc: Global) -> Result<(u64, Option<(u8, u8)>), Fail> {
-        let page = PageNo::new(FIRST / PAGE).ok_or("a page")?;
-        let snapshot = self.restore(alloc)?;
-        let own = snapshot.spaces.get(&SpaceId::new(SPACE)).ok_or("a space")?;
-        let bytes = own
-            .get(&page)
-            .map(|found| (found.bytes[0], found.bytes[0x200]));
-        Ok((snapshot.checkpoint, bytes))
+    pub(crate) fn restored(&mut self, alloc: Global) -> Result<(u64, Option<(u8, u8)>), Stop> {
+        let (number, moment) = self.restore(alloc)?;
+        Ok((number, moment.first_bytes()))
     }
 
     /// Stores a byte where the page is writable, and returns whether it is.
-    pub(crate) fn store(&mut self, address: u64, byte: u8) -> Result<bool, Fail> {
+    pub(crate) fn store(&mut self, address: u64, byte: u8) -> Result<bool, Stop> {
         let outcome = self
             .memory
             .try_store(SpaceId::new(SPACE), address, &[byte])?;

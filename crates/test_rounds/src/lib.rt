@@ -6,6 +6,8 @@ mod by_chance;
 #[cfg(test)]
 mod calls;
 #[cfg(test)]
+mod cases;
+#[cfg(test)]
 mod chance;
 #[cfg(test)]
 mod countdown;
@@ -19,3 +21,5 @@ mod passes;
 mod questions;
 #[cfg(test)]
 mod rows;
+#[cfg(test)]
+mod stop;

@@ -8,7 +8,7 @@ use std::collections::BTreeMap;
 const MOST: usize = 64;
 
 /// A mapped page: where it is, its permissions and its bytes.
-#[derive(Debug, PartialEq, Eq, Drop)]
+#[derive(PartialEq, Drop)]
 struct MomentPage {
     space: SpaceId,
     page: PageNo,
@@ -17,7 +17,7 @@ struct MomentPage {
 }
 
 /// The memory of a moment: the living spaces, and all their pages.
-#[derive(Debug, PartialEq, Eq, Drop)]
+#[derive(PartialEq, Drop)]
 pub(crate) struct Moment {
     spaces: Vec<SpaceId>,
     pages: Vec<MomentPage>,
@@ -37,6 +37,12 @@ impl Moment {
         }
         let spaces = living(alloc, memory)?;
         Ok(Moment { spaces, pages })
+    }
+
+    /// The first bytes of two sectors of the first page, if there is one.
+    pub(crate) fn first_bytes(&self) -> Option<(u8, u8)> {
+        let page = self.pages.first()?;
+        Some((*page.bytes.first()?, *page.bytes.get(0x200)?))
     }
 
     /// What a snapshot has.

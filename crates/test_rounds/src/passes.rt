@@ -1,49 +1,30 @@
 //! Passes over a memory, step by step.
-use sd_areas::{Prot, SpaceId};
+use crate::drive::{FIRST, PAGE, PROT, SPACE};
+use crate::stop::Stop;
+use sd_areas::SpaceId;
 use sd_pagetable::Memory;
 use sd_rounds::{Round, Standing};
 use std::alloc::Global;
-use std::process::Abort;
-use std::test::Fail;
-
-const SPACE: u64 = 1;
-
-const FIRST: u64 = 0x10000;
-
-const PAGE: u64 = 4096;
 
 /// More steps than a pass over three pages has.
 const STEPS: usize = 100;
 
-const PROT: Prot = Prot {
-    read: true,
-    write: true,
-    execute: false,
-};
-
 /// What a pass did: how it found each page, and the pages that it took as data.
-#[derive(Debug, Drop)]
+#[derive(Drop)]
 struct Taken {
     visits: Vec<(u64, bool)>,
     pages: Vec<Vec<u8>>,
 }
 
 /// Maps three pages, with a byte in the first.
-fn map_three(memory: &mut Memory) -> Result<(), Fail> {
+fn map_three(memory: &mut Memory) -> Result<(), Stop> {
     memory.mmap(SpaceId::new(SPACE), FIRST, 3 * PAGE, PROT)?;
     memory.store_now(SpaceId::new(SPACE), FIRST, &[0x61])?;
     Ok(())
 }
 
-/// A memory of three pages, with a byte in the first.
-fn memory(alloc: Global) -> Result<Memory, Fail> {
-    let mut memory = Memory::new(alloc, 16)?;
-    map_three(&mut memory)?;
-    Ok(memory)
-}
-
 /// Makes a step of a pass, and returns whether there was one.
-fn step(round: &mut Round, memory: &mut Memory, taken: &mut Taken) -> Result<bool, Fail> {
+fn step(round: &mut Round, memory: &mut Memory, taken: &mut Taken) -> Result<bool, Stop> {
     match round.standing() {
         Standing::Free => match round.visit(memory)? {
             Some(visit) => taken.visits.push((visit.page.number(), visit.soft_dirty))?,
@@ -58,17 +39,17 @@ fn step(round: &mut Round, memory: &mut Memory, taken: &mut Taken) -> Result<boo
 }
 
 /// Makes the steps of a pass to its end.
-fn steps(round: &mut Round, memory: &mut Memory, taken: &mut Taken) -> Result<(), Fail> {
+fn steps(round: &mut Round, memory: &mut Memory, taken: &mut Taken) -> Result<(), Stop> {
     for _ in 0..STEPS {
         if !step(round, memory, taken)? {
             return Ok(());
         }
     }
-    Ok(())
+    Err(Stop::NoEnd)
 }
 
 /// Makes a pass to its end.
-fn pass(alloc: Global, memory: &mut Memory, takes_all: bool) -> Result<Taken, Fail> {
+fn pass(alloc: Global, memory: &mut Memory, takes_all: bool) -> Result<Taken, Stop> {
     let mut round = Round::new(alloc, takes_all);
     let mut taken = Taken {
         visits: Vec::new(alloc),
@@ -78,57 +59,45 @@ fn pass(alloc: Global, memory: &mut Memory, takes_all: bool) -> Result<Taken, Fa
     Ok(taken)
 }
 
-/// A pass found the pages so, and took one that begins with these bytes.
-fn has_taken(rt: &impl Abort, taken: &Taken, visits: &[(u64, bool)], bytes: &[u8]) {
-    assert_eq!(rt; taken.visits.as_slice(), visits);
-    assert_eq!(rt; taken.pages.len(), 1);
-    assert!(rt; taken.pages[0].starts_with(bytes));
-}
-
+/// Whether a pass finds the pages so, and takes one, which begins with these bytes.
 fn takes(
-    rt: &(impl Abort + AllocGlobal),
+    alloc: Global,
     memory: &mut Memory,
     takes_all: bool,
     visits: &[(u64, bool)],
     bytes: &[u8],
-) -> Result<(), Fail> {
-    let taken = pass(rt.alloc(), memory, takes_all)?;
-    has_taken(rt, &taken, visits, bytes);
-    Ok(())
+) -> Result<bool, Stop> {
+    let taken = pass(alloc, memory, takes_all)?;
+    let is_one = taken.pages.len() == 1 && taken.pages[0].starts_with(bytes);
+    Ok(is_one && taken.visits.as_slice() == visits)
 }
 
-fn takes_what_was_touched(
-    rt: &(impl Abort + AllocGlobal),
-    memory: &mut Memory,
-) -> Result<(), Fail> {
-    let all = [(0x10, true), (0x11, true), (0x12, true)];
-    takes(rt, memory, true, &all, &[0x61, 0])?;
+/// How the first pass finds the pages.
+const ALL: [(u64, bool); 3] = [(0x10, true), (0x11, true), (0x12, true)];
+
+/// How the second finds them.
+const TOUCHED: [(u64, bool); 3] = [(0x10, false), (0x11, true), (0x12, false)];
+
+/// A second pass takes what was touched.
+pub(crate) fn takes_what_was_touched(alloc: Global, memory: &mut Memory) -> Result<bool, Stop> {
+    map_three(memory)?;
+    let first = takes(alloc, memory, true, &ALL, &[0x61, 0])?;
     memory.store_now(SpaceId::new(SPACE), FIRST + PAGE, &[0x62, 0x63])?;
-    let touched = [(0x10, false), (0x11, true), (0x12, false)];
-    takes(rt, memory, false, &touched, &[0x62, 0x63, 0])
-}
-
-#[test]
-fn a_second_pass_takes_what_was_touched(rt: HostRuntime) -> Result<(), Fail> {
-    let mut memory = memory(rt.alloc())?;
-    takes_what_was_touched(&rt, &mut memory)
+    let second = takes(alloc, memory, false, &TOUCHED, &[0x62, 0x63, 0])?;
+    Ok(first && second)
 }
 
 /// Unmaps the page that a pass copies, which is then free of it.
-fn drops_unmapped(rt: &impl Abort, round: &mut Round, memory: &mut Memory) -> Result<(), Fail> {
-    assert!(rt; matches!(round.standing(), Standing::Free));
+pub(crate) fn drops_unmapped(alloc: Global, memory: &mut Memory) -> Result<bool, Stop> {
+    map_three(memory)?;
+    let mut round = Round::new(alloc, true);
+    if !matches!(round.standing(), Standing::Free) {
+        return Ok(false);
+    }
     round.visit(memory)?;
     memory.munmap(SpaceId::new(SPACE), FIRST, PAGE)?;
     if let Standing::Copying = round.standing() {
         round.copy_sector(memory)?;
     }
-    assert_eq!(rt; round.standing(), Standing::Free);
-    Ok(())
-}
-
-#[test]
-fn an_unmapped_page_is_dropped(rt: HostRuntime) -> Result<(), Fail> {
-    let mut memory = memory(rt.alloc())?;
-    let mut round = Round::new(rt.alloc(), true);
-    drops_unmapped(&rt, &mut round, &mut memory)
+    Ok(round.standing() == Standing::Free)
 }

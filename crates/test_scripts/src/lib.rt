@@ -1,21 +1,19 @@
-//! Tests of whole runs of scripts by their public names.
+//! Tests of runs of scripts, and of the programs that read their stores, by their public names.
 #![tactic(auto)]
 
 #[cfg(test)]
-mod checkpoints;
-#[cfg(test)]
 mod crashes;
 #[cfg(test)]
-mod little_work;
+mod failing;
 #[cfg(test)]
 mod merges;
 #[cfg(test)]
 mod opening;
 #[cfg(test)]
-mod rows;
-#[cfg(test)]
 mod run;
 #[cfg(test)]
-mod trims;
+mod runs;
 #[cfg(test)]
-mod writes;
+mod small;
+#[cfg(test)]
+mod trims;

@@ -1,27 +1,36 @@
-//! Runs of scripts, and what they leave.
-use sd_areas::{Area, PAGE_BYTES, PAGE_SIZE, PageNo, Snapshot, SnapshotPage, areas_in};
-use sd_chain::{Catalog, OpenImage};
+//! Runs of scripts, and what is printed of the stores that they leave.
 use sd_disk::{DirDisk, Disk, Folder, MemDisk, OpenError};
-use sd_image::Kind;
-use sd_procfs::areas_text;
-use sd_restore::{restore, scan};
+use sd_report::{list_to, restore_to, verify_to};
 use sd_run::run_script;
 use std::alloc::{AllocError, Global};
-use std::fmt::Write;
 use std::process::{self, Abort};
 use std::test::Fail;
 use std::{fs, str};
 
-/// The front of the header, before its digest, and the table of the image of checkpoint 1: page 0x10 of space 1 begins with
-/// `hello`. The header of version 1 ends with zeros, as it has no digest.
-pub(crate) const HEADER: &str =
-    "a55344434841494e0200020000000000010000000000000001000000000000000000000000000000010000000000000001000000000000004800000000000000";
+/// A page that begins with `hello`.
+pub(crate) const FIRST: &str = "mmap 1 0x10000 4096 rw => done
+store 1 0x10000 68656c6c6f => done
+checkpoint 0 => acked 1";
 
-pub(crate) const HEADER_ONE: &str =
-    "a55344434841494e0100020000000000010000000000000001000000000000000000000000000000010000000000000001000000000000004800000000000000";
+/// What `restore` prints of the store that it leaves.
+pub(crate) const FIRST_SHOWN: &str = "checkpoint 1
+space 1
+area 0x10000 0x11000 rw-
+bytes 0x10000 68656c6c6f000000000000000000000000000000000000000000000000000000
+";
 
-pub(crate) const TABLE: &str =
-    "010000000000000001000000010000000100000000000000100000000000000001000000000000000300000000000000100000000000000001000000000000000100000000000000";
+/// A chain of two images, of which the second leaves its page to the first.
+pub(crate) const CHAIN: &str = "mmap 1 0x10000 4096 rw => done
+store 1 0x10000 68656c6c6f => done
+checkpoint 0 => acked 1
+checkpoint 0 => acked 2";
+
+/// What `restore` prints of it.
+pub(crate) const CHAIN_SHOWN: &str = "checkpoint 2
+space 1
+area 0x10000 0x11000 rw-
+bytes 0x10000 68656c6c6f000000000000000000000000000000000000000000000000000000
+";
 
 /// An empty disk.
 pub(crate) fn empty(alloc: Global) -> Result<MemDisk, Fail> {
@@ -107,131 +116,27 @@ pub(crate) fn fresh(rt: &(impl Abort + AllocGlobal), rows: &str) -> Result<MemDi
     answers(rt, empty(rt.alloc())?, "reopened none", rows)
 }
 
-/// What a store is restored to, as `ckpt restore` prints it.
-pub(crate) fn shown<D: Disk>(alloc: Global, disk: &mut D) -> Result<String, Fail> {
-    match restore(alloc, disk) {
-        Ok(snapshot) => text_of(alloc, &snapshot),
-        Err(fault) => Ok(format!(in alloc; "{fault}\n")?),
-    }
-}
-
-/// A store is restored to this.
-pub(crate) fn is_shown<D: Disk>(
-    rt: &(impl Abort + AllocGlobal),
-    disk: &mut D,
-    wanted: &str,
-) -> Result<(), Fail> {
-    assert_eq!(rt; shown(rt.alloc(), disk)?.as_str(), wanted);
-    Ok(())
-}
-
-fn text_of(alloc: Global, snapshot: &Snapshot) -> Result<String, Fail> {
-    let mut text = format!(in alloc; "checkpoint {}\n", snapshot.checkpoint)?;
-    push_spaces(alloc, &mut text, snapshot)?;
-    Ok(text)
-}
-
-fn push_spaces(alloc: Global, text: &mut String, snapshot: &Snapshot) -> Result<(), Fail> {
-    for (space, pages) in &snapshot.spaces {
-        writeln!(text, "space {}", space.number())?;
-        push_areas(text, &areas_in(alloc, pages)?)?;
-        for (page, found) in pages {
-            push_page(alloc, text, *page, found)?;
-        }
-    }
-    Ok(())
-}
-
-fn push_areas(text: &mut String, areas: &[Area]) -> Result<(), AllocError> {
-    for area in areas {
-        let first = PAGE_BYTES.wrapping_mul(area.first.number());
-        let end = first.wrapping_add(PAGE_BYTES.wrapping_mul(area.count));
-        writeln!(text, "area 0x{first:x} 0x{end:x} {}", area.prot)?;
-    }
-    Ok(())
-}
-
-/// A line for each 32 bytes of a page that aren't all zeros.
-fn push_page(
-    alloc: Global,
-    text: &mut String,
-    page: PageNo,
-    found: &SnapshotPage,
-) -> Result<(), Fail> {
-    let mut address = PAGE_BYTES.wrapping_mul(page.number());
-    let bytes: &[u8; PAGE_SIZE] = &found.bytes;
-    for line in bytes.chunks(32) {
-        push_bytes(alloc, text, address, line)?;
-        address = address.wrapping_add(32);
-    }
-    Ok(())
-}
-
-fn push_bytes(alloc: Global, text: &mut String, address: u64, line: &[u8]) -> Result<(), Fail> {
-    if line.iter().all(|byte| *byte == 0) {
-        return Ok(());
-    }
-    let digits = hex::encode(alloc, line)?;
-    writeln!(text, "bytes 0x{address:x} {digits}")?;
-    Ok(())
-}
-
-/// The images of a store, as `ckpt list` prints them.
-fn listed<D: Disk>(alloc: Global, disk: &mut D) -> Result<String, Fail> {
-    match scan(alloc, disk) {
-        Ok(catalog) => list_of(alloc, &catalog),
-        Err(fault) => Ok(format!(in alloc; "{fault}\n")?),
-    }
-}
-
-/// A store has these images.
-pub(crate) fn is_listed<D: Disk>(
-    rt: &(impl Abort + AllocGlobal),
-    disk: &mut D,
-    wanted: &str,
-) -> Result<(), Fail> {
-    assert_eq!(rt; listed(rt.alloc(), disk)?.as_str(), wanted);
-    Ok(())
-}
-
-fn list_of(alloc: Global, catalog: &Catalog) -> Result<String, Fail> {
-    let mut text = String::new(alloc);
-    push_images(&mut text, &catalog.list()?)?;
-    push_tip(&mut text, catalog)?;
-    Ok(text)
-}
-
-fn push_images(text: &mut String, images: &[&OpenImage]) -> Result<(), AllocError> {
-    for image in images {
-        push_image(text, image)?;
-    }
-    Ok(())
-}
-
-fn push_tip(text: &mut String, catalog: &Catalog) -> Result<(), AllocError> {
-    match catalog.tip() {
-        Some(tip) => writeln!(text, "tip {}", tip.header().serial),
-        None => writeln!(text, "tip none"),
-    }
-}
-
-fn push_image(text: &mut String, image: &OpenImage) -> Result<(), AllocError> {
-    let header = image.header();
-    let kind = match header.kind {
-        Kind::PreDump => "pre-dump",
-        Kind::Dump => "dump",
-        Kind::Merged => "merged",
+/// What a program prints of a store, and its exit status.
+pub(crate) fn printed<D: Disk>(alloc: Global, disk: &mut D, program: &str) -> (Vec<u8>, u8) {
+    let mut out = Vec::new(alloc);
+    let status = match program {
+        "restore" => restore_to(alloc, disk, &mut out),
+        "list" => list_to(alloc, disk, &mut out),
+        _ => verify_to(alloc, disk, &mut out),
     };
-    writeln!(
-        text,
-        "slot {:03} {kind} serial {} stands {} parent {} checkpoint {} pages {}",
-        image.slot(),
-        header.serial,
-        header.stands_for,
-        header.parent,
-        header.checkpoint,
-        header.pages,
-    )
+    (out, status)
+}
+
+/// A program prints this of a store, and ends with status 0.
+pub(crate) fn is_printed<D: Disk>(
+    rt: &(impl Abort + AllocGlobal),
+    disk: &mut D,
+    program: &str,
+    wanted: &str,
+) {
+    let (out, status) = printed(rt.alloc(), disk, program);
+    assert_eq!(rt; str::from_utf8(&out).ok(), Some(wanted));
+    assert_eq!(rt; status, 0);
 }
 
 /// The whole file of a slot.
@@ -246,29 +151,4 @@ pub(crate) fn file<D: Disk>(
     let mut bytes = vec![in alloc; 0; len]?;
     disk.read(slot, 0, &mut bytes)?;
     Ok(bytes)
-}
-
-/// The file of a slot that a script over an empty disk leaves.
-pub(crate) fn file_behind(
-    rt: &(impl Abort + AllocGlobal),
-    rows: &str,
-    slot: usize,
-) -> Result<Vec<u8>, Fail> {
-    let mut disk = fresh(rt, rows)?;
-    file(rt, rt.alloc(), &mut disk, slot)
-}
-
-/// Slot 0 has the whole file of checkpoint 1.
-pub(crate) fn has_first<D: Disk>(rt: &impl Abort, disk: &mut D) -> Result<(), Fail> {
-    assert!(rt; 0 < disk.slots());
-    assert_eq!(rt; disk.len(0)?, 8264);
-    Ok(())
-}
-
-/// Cuts the last byte off the file of checkpoint 1.
-pub(crate) fn cut_first<D: Disk>(rt: &impl Abort, disk: &mut D) -> Result<(), Fail> {
-    assert!(rt; 0 < disk.slots());
-    assert_eq!(rt; disk.len(0)?, 8264);
-    disk.cut(0, 8263)?;
-    Ok(())
 }

@@ -71,13 +71,6 @@ pub(crate) fn dump(serial: u64, checkpoint: u64, parent: u64) -> Header {
     }
 }
 
-pub(crate) fn pre_dump(serial: u64, checkpoint: u64, parent: u64) -> Header {
-    Header {
-        kind: Kind::PreDump,
-        ..dump(serial, checkpoint, parent)
-    }
-}
-
 /// The merged image of a dump.
 pub(crate) fn merged(serial: u64, stands_for: u64, checkpoint: u64) -> Header {
     Header {

@@ -1,91 +1,11 @@
 //! What is done to a catalog, and what it shows then. Only this file owns one.
-use crate::builders::{Unbuilt, dump, merged, page, pre_dump, runs, table};
+use crate::builders::{Unbuilt, dump, merged, page, runs, table};
+use crate::catalog_rows::{Alike, Deed, Fact, Numbers, Place, Rows};
 use sd_areas::SpaceId;
 use sd_chain::{Catalog, CatalogError, Chain, Found, PlacedTable, Trace, TraceRun};
 use sd_image::{Header, RunKind};
 use std::alloc::{AllocError, Global};
 use std::process::Abort;
-
-/// The first pages, the counts and the kinds of runs.
-pub(crate) type Rows = &'static [(u64, u64, RunKind)];
-
-/// A space and a page of it.
-pub(crate) type Place = (u64, u64);
-
-/// A serial, a checkpoint and a parent; of a merged image a serial, what it stands for and a checkpoint.
-pub(crate) type Numbers = (u64, u64, u64);
-
-/// What a chain tells of a space's page and of so many at most: its trace, and how many pages lie so, where that is
-/// compared.
-pub(crate) type Alike = (Place, u64, Option<Trace>, Option<u64>);
-
-/// What is done to a catalog.
-#[derive(Clone, Copy)]
-pub(crate) enum Deed {
-    /// A dump is added in a slot, with these runs of space 1, or of no space where there are none.
-    Dump(usize, Numbers, Rows),
-    /// A pre-dump is added.
-    PreDump(usize, Numbers, Rows),
-    /// A merged image is added.
-    Merged(usize, Numbers, Rows),
-    /// A dump is added with these runs in each of two spaces.
-    InTwoSpaces(usize, Numbers, Rows),
-    /// A dump isn't added, since its serial is there.
-    IsTaken(usize, Numbers),
-    /// The image of a slot is removed.
-    Remove(usize),
-    /// A place is held for a serial.
-    Hold(u64),
-    /// None is held, since the serial is there.
-    IsThere(u64),
-    /// The place of a serial is released.
-    Release(u64),
-    /// A place is held; where memory is refused nothing has changed, and it is held then.
-    HoldAgain(u64),
-    /// An image is added in the same way.
-    AddAgain(u64),
-    /// The catalog shows this.
-    Shows(Fact),
-}
-
-/// What a catalog shows.
-#[derive(Clone, Copy)]
-pub(crate) enum Fact {
-    /// The chain of a serial has a page of space 1 there.
-    Has(u64, u64, Option<Found>),
-    /// It has the page in a slot, as the data page behind so many others.
-    At(u64, u64, usize, u64),
-    /// It has a place there.
-    HasIn(u64, Place, Option<Found>),
-    /// This is traced of a page of space 1.
-    Traces(u64, u64, Trace),
-    /// These pages lie alike in a serial's chain.
-    Alike(u64, &'static [Alike]),
-    /// The newest image has this serial.
-    Tip(Option<u64>),
-    /// The image that stands for a number has this serial.
-    Finds(u64, Option<u64>),
-    /// The greatest serial and checkpoint.
-    Greatest(u64, u64),
-    /// The parent of an image is in this slot.
-    Parent(u64, Option<usize>),
-    /// The chain of a serial goes through these.
-    GoesThrough(u64, &'static [u64]),
-    /// It goes through so many images.
-    Reaches(u64, usize),
-    /// So many images are listed.
-    Counts(usize),
-    /// Images with these serials are listed, in this order.
-    Lists(&'static [u64]),
-    /// Whether a place is held for a serial.
-    IsHeld(u64, bool),
-    /// Whether a serial has an image.
-    HasImage(u64, bool),
-    /// The pages of a serial's image, from the first on.
-    InOrder(u64, &'static [Place]),
-    /// The page of a serial's image behind a place.
-    Next(u64, Place, Option<Place>),
-}
 
 /// A table of the spaces up to a number, each with these runs.
 pub(crate) fn placed(
@@ -166,10 +86,6 @@ fn is_added_so(catalog: &mut Catalog, alloc: Global, deed: Deed) -> Result<bool,
     match deed {
         Deed::Dump(slot, numbers, rows) => {
             is_added(catalog, alloc, slot, dump_of(numbers), rows)
-        }
-        Deed::PreDump(slot, (serial, checkpoint, parent), rows) => {
-            let header = pre_dump(serial, checkpoint, parent);
-            is_added(catalog, alloc, slot, header, rows)
         }
         Deed::Merged(slot, (serial, stands_for, checkpoint), rows) => {
             let header = merged(serial, stands_for, checkpoint);
@@ -372,10 +288,11 @@ fn shows(catalog: &Catalog, fact: Fact) -> Result<bool, Unbuilt> {
 fn does(catalog: &mut Catalog, alloc: Global, deed: Deed) -> Result<bool, Unbuilt> {
     match deed {
         Deed::Shows(fact) => shows(catalog, fact),
-        Deed::Remove(_) | Deed::Hold(_) | Deed::IsThere(_) | Deed::Release(_) => {
-            Ok(is_changed(catalog, deed))
-        }
-        Deed::HoldAgain(_) => Ok(is_changed(catalog, deed)),
+        Deed::Remove(_)
+        | Deed::Hold(_)
+        | Deed::IsThere(_)
+        | Deed::Release(_)
+        | Deed::HoldAgain(_) => Ok(is_changed(catalog, deed)),
         _ => is_added_so(catalog, alloc, deed),
     }
 }
@@ -385,11 +302,12 @@ fn does_all(
     rt: &impl Abort,
     alloc: Global,
     catalog: &mut Catalog,
+    name: &str,
     deeds: &[Deed],
 ) -> Result<(), Unbuilt> {
     for (index, deed) in deeds.iter().enumerate() {
         let is = does(catalog, alloc, *deed)?;
-        assert!(rt; is, "deed {index}");
+        assert!(rt; is, "{name}: deed {index}");
     }
     Ok(())
 }
@@ -398,10 +316,11 @@ fn does_all(
 pub(crate) fn run(
     rt: &impl Abort,
     alloc: Global,
+    name: &str,
     first: &[Deed],
     then: &[Deed],
 ) -> Result<(), Unbuilt> {
     let mut catalog = Catalog::new(alloc);
-    does_all(rt, alloc, &mut catalog, first)?;
-    does_all(rt, alloc, &mut catalog, then)
+    does_all(rt, alloc, &mut catalog, name, first)?;
+    does_all(rt, alloc, &mut catalog, name, then)
 }

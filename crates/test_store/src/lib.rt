@@ -6,16 +6,14 @@ mod builders;
 #[cfg(test)]
 mod catalog_deeds;
 #[cfg(test)]
-mod catalog_tests;
+mod catalog_rows;
 #[cfg(test)]
-mod codec_tests;
+mod catalogs;
 #[cfg(test)]
-mod damage_tests;
+mod codec;
 #[cfg(test)]
 mod example;
 #[cfg(test)]
-mod reason_tests;
-#[cfg(test)]
-mod restore_tests;
-#[cfg(test)]
 mod store_deeds;
+#[cfg(test)]
+mod stores;

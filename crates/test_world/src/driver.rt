@@ -48,14 +48,3 @@ pub(crate) fn finish(world: &mut Tested, worker: Worker) -> Reply {
     }
     Reply::Worked
 }
-
-/// Cancels the checkpoint that runs, or finishes it where it can't be cancelled.
-pub(crate) fn cancel_or_finish(world: &mut Tested) -> Reply {
-    match world.step(&Event::Cancel) {
-        Reply::Cancelled(_) => Reply::Done,
-        _ => match finish(world, Worker::Dumper) {
-            Reply::Acked(_) => Reply::Done,
-            reply => reply,
-        },
-    }
-}

@@ -6,8 +6,6 @@ mod again;
 #[cfg(test)]
 mod checkpoints;
 #[cfg(test)]
-mod commands;
-#[cfg(test)]
 mod driver;
 #[cfg(test)]
 mod full;

@@ -1,5 +1,5 @@
 //! Scripts of a test: each line is what a world is asked, and what it has to answer.
-use crate::driver::{Tested, cancel_or_finish, finish, repeat, steps};
+use crate::driver::{Tested, finish, repeat, steps};
 use sd_areas::{Prot, SpaceId};
 use sd_command::{Bytes, Command, Reply};
 use sd_gate::Worker;
@@ -50,24 +50,14 @@ fn byte(alloc: Global, number: u64) -> Result<Bytes, AllocError> {
     Ok(Bytes::new(vec![in alloc; byte; 1]?))
 }
 
-/// The command of a word: a page is mapped, a byte is stored at its front, or is loaded; or a space that isn't there ends.
+/// The command of a word: a page is mapped, a byte is stored at its front, or is loaded.
 fn command(alloc: Global, word: &str, number: u64) -> Result<Command, AllocError> {
-    let space = first();
-    let address = ADDRESS;
     Ok(match word {
         "map" => map(),
         "store" => Command::Store {
-            space,
-            address,
+            space: first(),
+            address: ADDRESS,
             bytes: byte(alloc, number)?,
-        },
-        "try-store" => Command::TryStore {
-            space,
-            address,
-            bytes: byte(alloc, number)?,
-        },
-        "exit" => Command::Exit {
-            space: SpaceId::new(number),
         },
         _ => load(),
     })
@@ -113,7 +103,6 @@ fn ask(alloc: Global, world: &mut Tested, request: &str) -> Result<Reply, AllocE
         "loads" => Ok(repeat(world, &loading(), number)),
         "finish" => Ok(finish(world, Worker::Dumper)),
         "open" => Ok(finish(world, Worker::Opener)),
-        "cancel-or-finish" => Ok(cancel_or_finish(world)),
         _ => step(alloc, world, word, number),
     }
 }

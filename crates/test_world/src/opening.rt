@@ -7,8 +7,10 @@ use std::alloc::{AllocError, Global};
 use std::process::Abort;
 use std::test::Fail;
 
-/// Of an empty store no worker has anything to do.
+/// A page that is mapped and loaded before the store is opened. Of an empty store no worker has anything to do.
 const REFUSED: &str = "\
+map = done
+load = bytes 00
 perform-dumper = refused 14 idle
 work-merger = refused 14 idle
 perform-opener = refused 14 idle

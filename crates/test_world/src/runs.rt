@@ -1,5 +1,5 @@
 //! A world over a store, what is asked of it, and a second world over what it left. Only this file owns a world.
-use crate::driver::{Tested, steps};
+use crate::driver::Tested;
 use crate::lines::{play, play_at_once};
 use crate::store::{Device, Store, empty};
 use sd_gate::Worker;
@@ -14,8 +14,6 @@ pub(crate) enum Part<'a> {
     Lines(&'a str),
     /// The events of a script, at once.
     AtOnce(&'a str),
-    /// So many events of the dumper, however they are answered.
-    Steps(u64),
     /// Whether no call of a worker is out.
     NoCall(Worker),
 }
@@ -29,10 +27,6 @@ fn ask(
     match part {
         Part::Lines(script) => play(rt, alloc, world, script),
         Part::AtOnce(script) => play_at_once(rt, alloc, world, script),
-        Part::Steps(count) => {
-            let _last = steps(world, count);
-            Ok(())
-        }
         Part::NoCall(worker) => {
             assert!(rt; !world.is_out(worker));
             Ok(())

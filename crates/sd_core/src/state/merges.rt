@@ -8,6 +8,7 @@ ghost use Rattle.sd_merge.specs.Merger.{slot_before};
 ghost use Rattle.sd_belief.specs.Calls.{AddsByOrder, HandedIn, Stays};
 ghost use Rattle.sd_belief.specs.View.{history_of};
 ghost use Rattle.sd_core.specs.Entering.{EntersFirst};
+ghost use Rattle.sd_core.specs.Flags.{FlagsByOutcome, FlagsByStep, KeepsFlags};
 ghost use Rattle.sd_core.specs.Lasting.{MergeLasts};
 ghost use Rattle.sd_core.specs.Merging.{EndsCut, EntersAsCopy, FixesItsList, IsMerged, ListsTheUnneeded, MergesAs, merge_refusal};
 ghost use Rattle.sd_core.specs.Refusals.{is_idle, work_refusal};
@@ -54,6 +55,7 @@ impl Core {
         ensures adds { AddsByOrder result (history_of self.old) (history_of self.new) }
         ensures keeps { Stays self.old self.new }
         ensures merges { MergesAs self.old result self.new }
+        ensures flags { KeepsFlags self.old self.new }
     {
         core_steps();
         merge_beginning_law(&self.catalog);
@@ -85,6 +87,7 @@ impl Core {
     pub(super) fn take_up_merger(&mut self) -> Taken
         requires { work_refusal self.old its.Merger ≡ None }
         ensures takes { TakesUp self.old its.Merger result self.new }
+        ensures flags { FlagsByStep self.old its.Merger result self.new }
         ensures leaves { Leaves self.old its.Merger result self.new }
         ensures lasts { MergeLasts self.old self.new }
         ensures finds { FindsSource self.old result }
@@ -103,6 +106,7 @@ impl Core {
     fn begin_merged(&mut self, slot: usize) -> Taken
         requires next { slot_before self.old.merger ≡ Some slot }
         ensures takes { TakesUp self.old its.Merger result self.new }
+        ensures flags { FlagsByStep self.old its.Merger result self.new }
         ensures leaves { Leaves self.old its.Merger result self.new }
         ensures lasts { MergeLasts self.old self.new }
         ensures finds { FindsSource self.old result }
@@ -136,6 +140,7 @@ impl Core {
         requires runs { IsSome self.old.merger }
         requires rests { slice_get self.old.outs 1 ≡ Some None }
         ensures takes { TakesUp self.old its.Merger result self.new }
+        ensures flags { FlagsByStep self.old its.Merger result self.new }
         ensures leaves { Leaves self.old its.Merger result self.new }
         ensures lasts { MergeLasts self.old self.new }
         ensures finds { FindsSource self.old result }
@@ -180,6 +185,7 @@ impl Core {
         ensures handed { HandedIn self.old 1 outcome result self.new }
         ensures failed { is_done outcome.answer ≡ false ↔ result ≡ reply.Refused StoreDown }
         ensures leaves { LeavesByOutcome self.old its.Merger result self.new }
+        ensures flags { FlagsByOutcome self.old result self.new }
         ensures lasts { MergeLasts self.old self.new }
         ensures merged { (serial : ℕ) → result ≡ reply.Merged serial → IsMerged serial self.old self.new }
         ensures opens { EntersFirst self.old result self.new }

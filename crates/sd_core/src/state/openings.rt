@@ -6,7 +6,8 @@ ghost use Rattle.sd_gate.specs.Calls.{is_done};
 ghost use Rattle.sd_gate.specs.declared.worker.Worker.TheVariants as its;
 ghost use Rattle.sd_opener.specs.Looking.{IsDoneAsAsked};
 ghost use Rattle.sd_belief.specs.Calls.{HandedIn, MakesStep};
-ghost use Rattle.sd_core.specs.Opening.{IsAllRead};
+ghost use Rattle.sd_core.specs.Flags.{FlagsByOutcome, FlagsByReply, FlagsByStep};
+ghost use Rattle.sd_core.specs.Opening.{IsAllRead, OpensBelieved, RefusesRightly, RefusesStrange};
 ghost use Rattle.sd_core.specs.Refusals.{work_refusal};
 ghost use Rattle.sd_core.specs.Starts.{TakesUp};
 ghost use Rattle.sd_core.specs.Working.{Leaves, LeavesByOutcome, LeavesByStep};
@@ -18,7 +19,7 @@ use crate::opening::{
     teach,
 };
 use crate::taken::Taken;
-use sd_belief::{Standing, opener_steps, reopened_law};
+use sd_belief::{Standing, opener_finds, opener_steps, reopened_law};
 use sd_command::{Refusal, Reply};
 use sd_gate::{Outcome, Worker};
 use sd_journal::{Entry, tracked_laws};
@@ -30,10 +31,14 @@ impl Core {
     pub(super) fn take_up_opener(&mut self) -> Taken
         requires { work_refusal self.old its.Opener ≡ None }
         ensures takes { TakesUp self.old its.Opener result self.new }
+        ensures flags { FlagsByStep self.old its.Opener result self.new }
+        ensures refuses { RefusesRightly self.old result }
+        ensures opens { OpensBelieved self.old result }
         ensures leaves { Leaves self.old its.Opener result self.new }
         ensures merger { self.new.merger ≡ self.old.merger }
     {
         opener_steps();
+        opener_finds();
         let Ok(step) = step_opener(&mut self.opener, self.numbers.ticket) else {
             return Taken::Step(Reply::Refused(Refusal::OutOfMemory));
         };
@@ -61,6 +66,8 @@ impl Core {
     fn finish_opening(&mut self) -> Reply
         requires { IsAllRead self.old.opener }
         ensures takes { MakesStep self.old its.Opener result self.new }
+        ensures flags { FlagsByReply self.old result self.new }
+        ensures refuses { RefusesStrange self.old result }
         ensures leaves { LeavesByStep self.old its.Opener result self.new }
         ensures merger { self.new.merger ≡ self.old.merger }
     {
@@ -103,6 +110,7 @@ impl Core {
         ensures failed { is_done outcome.answer ≡ false → result ≡ reply.Refused StoreDown }
         ensures goes_on { IsDoneAsAsked outcome → result ≡ reply.Worked }
         ensures leaves { LeavesByOutcome self.old its.Opener result self.new }
+        ensures flags { FlagsByOutcome self.old result self.new }
         ensures merger { self.new.merger ≡ self.old.merger }
     {
         opener_steps();

@@ -1,11 +1,15 @@
 //! What a core tells of its run, and what is so of every core.
-ghost use Rattle.std.specs.Prelude.{◌≡◌, ◌↔◌, ◌<◌, Some, IfSome, IsTrue, MatchOption, is_some, slice_get};
+ghost use Rattle.std.specs.Prelude.{◌≡◌, ◌↔◌, ◌<◌, ◌≤◌, ℕ, true, Some, IfSome, IsSome, IsTrue, MatchOption, is_some, slice_get};
 ghost use Rattle.sd_areas.specs.Memory.{memory_of};
+ghost use Rattle.sd_chain.specs.Catalog.{Opened, place_of};
 ghost use Rattle.sd_journal.specs.History.{pending};
+ghost use Rattle.sd_journal.specs.Legal.{IsAbove};
 ghost use Rattle.sd_journal.specs.Marked.{IsTracked};
 ghost use Rattle.sd_rounds.specs.Writes.{IsInLane};
 ghost use Rattle.sd_belief.specs.View.{history_of};
 ghost use Rattle.sd_core.specs.Beginning.{is_down};
+ghost use Rattle.sd_core.specs.GoingOn.{AreOwnLanes, CanGoOn, OpenerAsksAlone};
+ghost use Rattle.sd_core.specs.Grown.{has_grown};
 ghost use Rattle.sd_core.specs.Lasting.{LeavesMerged};
 ghost use Rattle.sd_core.specs.Refusals.{IsPageOut};
 
@@ -95,10 +99,36 @@ impl Core {
         let _memory = &self.memory;
     }
 
+    /// A law: the next checkpoint goes on from the tip exactly where the journal has an acknowledgement since its latest
+    /// reopening and its latest cancelling; a gate's opening was taken up only while a checkpoint is pending; and the
+    /// numbers that the journal and the catalog speak of are those that were used.
+    pub fn flags(&self)
+        ensures grows { self.now.grows ≡ has_grown self.now.base (history_of self.now) }
+        ensures committing { self.now.committing ≡ true → IsSome (pending (history_of self.now)) }
+        ensures begun { self.now.numbers.begun ≤ self.now.numbers.checkpoint }
+        ensures given { self.now.numbers.given ≤ self.now.numbers.serial }
+        ensures used { (n : ℕ) → self.now.numbers.begun < n → IsAbove self.now.base (history_of self.now) n }
+        ensures pending { IfSome (pending (history_of self.now)) (λ n. n ≡ self.now.numbers.begun) }
+        ensures counted { (serial : ℕ) (image : Opened) → place_of self.now.catalog serial ≡ Some (Some image)
+            → image.header.checkpoint ≤ self.now.numbers.checkpoint }
+    {
+        let _memory = &self.memory;
+    }
+
     /// A law: while a merge closes images, its own image stands in its slot, and no device call is out on that slot.
     pub fn merged_stands(&self)
         ensures { LeavesMerged self.now }
     {
         let _merger = &self.merger;
+    }
+
+    /// A law: a request that is out in a lane is of the worker whose lane that is, while an opener runs it alone has one out,
+    /// and a worker that has a job, and of which no request is out, can go on.
+    pub fn goes_on(&self)
+        ensures lanes { AreOwnLanes self.now.outs }
+        ensures alone { OpenerAsksAlone self.now }
+        ensures goes { CanGoOn self.now }
+    {
+        let _outs = &self.outs;
     }
 }

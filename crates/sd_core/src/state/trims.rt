@@ -4,6 +4,7 @@ ghost use Rattle.sd_command.specs.declared.refusal.Refusal.TheVariants.{Idle};
 ghost use Rattle.sd_journal.specs.History.{last};
 ghost use Rattle.sd_belief.specs.Calls.{GoesOn};
 ghost use Rattle.sd_belief.specs.View.{history_of};
+ghost use Rattle.sd_core.specs.Flags.{KeepsFlags};
 ghost use Rattle.sd_core.specs.Trims.{Trims, unfolded};
 
 use super::Core;
@@ -29,6 +30,7 @@ impl Core {
             → (result ≡ Err Idle) × (self.new ≡ self.old) }
         ensures trims { (n : ℕ) → unfolded (last self.old.base (history_of self.old)) self.old.base.number ≡ Some n
             → Trims n self.old result self.new }
+        ensures flags { KeepsFlags self.old self.new }
         // It believes of its store what it believed.
         ensures goes_on { (asked : _) → GoesOn self.old asked self.new asked }
     {

@@ -1,11 +1,11 @@
-use Rattle.std.proofs.Common.{List, subst, sym, ◌≡◌}
+use Rattle.std.proofs.Common.{List, subst, sym, ◌≡◌, rules}
 use Rattle.std.specs.Prelude.{slice_range, None}
 use Rattle.std.specs.List.{splice}
 use Rattle.std.proofs.lemmas.Result.{on_ok_weaker}
 use Rattle.sd_areas.specs.declared.area.Area.{Area}
 use Rattle.sd_areas.specs.Areas.{AreMaximal}
 use Rattle.sd_areas.specs.Runs.{HasGap}
-use Rattle.sd_areas.proofs.Around.{middle_maximal, gap_spliced_at, gap_fits, gap_refused, on_ok_both, if_err_weaker}
+use Rattle.sd_areas.proofs.Around.{bare_fits, middle_maximal, gap_spliced_at, gap_fits, gap_refused, on_ok_both, if_err_weaker}
 use Rattle.sd_areas.proofs.changes.remove_run.Goals as goal
 
 pub without_pages-requires-clause-maximal : goal.without_pages-requires-clause-maximal
@@ -27,3 +27,6 @@ returns-clause-ok c = on_ok_both c.replace.result (λ e few. gap_fits _ _ _ c.ar
 
 pub returns-clause-refused : goal.returns-clause-refused
 returns-clause-refused c = if_err_weaker c.replace.result (λ e why. gap_refused _ _ c.args.range.first c.args.range.count e (gap c) why) c.replace.ensures.refused
+
+pub returns-then-is_empty-clause-ok : goal.returns-then-is_empty-clause-ok
+returns-then-is_empty-clause-ok c = bare_fits c.args.areas.now.items c.args.range.first c.args.range.count (search rules)

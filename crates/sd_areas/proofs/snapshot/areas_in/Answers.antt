@@ -13,5 +13,5 @@ push_page-requires-clause-behind c = built_behind _ _ _ _ _ _ c.loop-page.invari
 pub loop-page-preserved : goal.loop-page-preserved
 loop-page-preserved c = built_next _ _ _ _ _ _ _ c.loop-page.invariant c.in-Some.ensures.steps c.in_ok-push_page.ensures.maximal c.in_ok-push_page.ensures.ends c.in_ok-push_page.ensures.same
 
-pub returns : goal.returns
-returns c = built_all _ _ _ c.loop-page.invariant c.in-None.ensures.steps.0
+pub returns-clause-areas : goal.returns-clause-areas
+returns-clause-areas c = built_all _ _ _ c.loop-page.invariant c.in-None.ensures.steps.0

@@ -18,3 +18,9 @@ returns-clause-full c = λ page full.
     let more = is_above (c.mapped.result + c.holes.result) full in
     let count = mapped_count c.args.paging.now c.args.space c.args.first c.args.end page c.requires.ordered in
     omega (arith, more, count, c.holes.ensures.counted, c.mapped.ensures.value)
+
+pub returns-clause-holds : goal.returns-clause-holds
+returns-clause-holds c = λ page fits.
+    let le = is_at_most (c.mapped.result + c.holes.result) fits in
+    let count = mapped_count c.args.paging.now c.args.space c.args.first c.args.end page c.requires.ordered in
+    omega (arith, le, count, c.holes.ensures.counted, c.mapped.ensures.value)

@@ -50,3 +50,17 @@ returns-clause-pages c =
     let t = inside c.args.paging.now.spaces c.args.space in
     done ∙ ap (λ n. with_space c.args.paging.now c.args.space (set_within t c.number-first.result n (fresh_page c.args.prot))) count
     ∙ ap (λ n. with_space c.args.paging.now c.args.space (set_within t n (pages_for c.args.bytes) (fresh_page c.args.prot))) first
+
+pub returns-in_err-fill_holes-clause-fits : goal.returns-in_err-fill_holes-clause-fits
+returns-in_err-fill_holes-clause-fits c = λ out.
+    let first : c.number-first.result ≡ page_of c.args.address = search rules in
+    let count : c.number-first.result + c.in_ok-range.range.count - c.number-first.result ≡ pages_for c.args.bytes = search rules in
+    let few = c.fill_holes.ensures.fits (search rules) in
+    rw (← first, ← count) few
+
+pub returns-in-Err-clause-fits : goal.returns-in-Err-clause-fits
+returns-in-Err-clause-fits c = λ out.
+    let first : c.number-first.result ≡ page_of c.args.address = search rules in
+    let count : c.number-first.result + c.in_ok-range.range.count - c.number-first.result ≡ pages_for c.args.bytes = search rules in
+    let few = c.fill_holes.ensures.fits (search rules) in
+    rw (← first, ← count) few

@@ -10,7 +10,7 @@ use Rattle.sd_pagetable.specs.Kept.{HasAreas, prots_of}
 use Rattle.sd_pagetable.specs.Tracking.{with_space}
 use Rattle.std.proofs.lemmas.Result.{on_ok_weaker}
 use Rattle.sd_pagetable.proofs.PlainRanges.{areas_with, plain_mapped}
-use Rattle.sd_pagetable.proofs.RangeDue.{mmap_seen, own_mapped}
+use Rattle.sd_pagetable.proofs.RangeDue.{mmap_seen, mapped_fits, own_mapped}
 use Rattle.sd_pagetable.proofs.AreaCalls.{areas_put, areas_same, areas_found, areas_absent, still_kept, dead_due, nothing_over, on_both, by_result, answers_by, mmap_due_is}
 use Rattle.sd_pagetable.proofs.range_calls.mmap.Goals as goal
 
@@ -52,3 +52,6 @@ returns-clause-due c =
 
 pub returns-clause-memory : goal.returns-clause-memory
 returns-clause-memory c = on_ok_weaker c.map_in.result (λ done. ap plain_of done ∙ plain_mapped c.args.paging.now c.args.space c.args.address c.args.bytes c.args.prot) c.map_in.ensures.pages
+
+pub returns-clause-fits : goal.returns-clause-fits
+returns-clause-fits c = λ out. mapped_fits c.args.paging.now c.args.space c.args.address c.args.bytes c.args.prot (c.map_in.ensures.fits out)

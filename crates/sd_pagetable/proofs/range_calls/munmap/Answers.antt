@@ -48,3 +48,6 @@ pub returns-clause-memory : goal.returns-clause-memory
 returns-clause-memory c =
     let done : c.unmap.new.paging ≡ with_space c.args.paging.now c.args.space (remove_within (inside c.args.paging.now.spaces c.args.space) (page_of c.args.address) (pages_for c.args.bytes)) = search rules in
     ap plain_of done ∙ plain_unmapped c.args.paging.now c.args.space c.args.address c.args.bytes
+
+pub returns-in_err-unmap_areas-clause-some : goal.returns-in_err-unmap_areas-clause-some
+returns-in_err-unmap_areas-clause-some c = λ out. c.unmap_areas.ensures.some (search rules) c.args.paging.now c.requires.kept

@@ -5,7 +5,7 @@ use Rattle.sd_pagetable.specs.Contents.{plain_of}
 use Rattle.sd_pagetable.specs.Due.{mprotect_due}
 use Rattle.sd_pagetable.specs.Kept.{HasAreas, prots_of}
 use Rattle.sd_pagetable.specs.RangeCalls.{Refuses}
-use Rattle.sd_pagetable.proofs.PlainRanges.{areas_with, plain_protected}
+use Rattle.sd_pagetable.proofs.PlainRanges.{areas_with, plain_protected, prots_seen}
 use Rattle.sd_pagetable.proofs.RangeDue.{mprotect_seen, nothing_due, protected_within, own_protected}
 use Rattle.sd_pagetable.proofs.AreaCalls.{still_kept}
 use Rattle.sd_pagetable.proofs.range_calls.protect_some.Goals as goal
@@ -43,3 +43,8 @@ returns-clause-due c =
 
 pub returns-clause-memory : goal.returns-clause-memory
 returns-clause-memory c = ap plain_of c.protect_range.ensures ∙ plain_protected c.args.paging.now c.args.space c.args.address c.args.bytes c.args.prot
+
+pub returns-in_err-protect_areas-clause-whole : goal.returns-in_err-protect_areas-clause-whole
+returns-in_err-protect_areas-clause-whole c = λ out.
+    let whole = c.protect_areas.ensures.whole (search rules) c.args.paging.now c.requires.kept in
+    rw (prots_seen c.args.paging.now c.args.space) whole

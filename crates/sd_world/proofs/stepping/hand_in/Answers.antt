@@ -7,12 +7,4 @@ pub returns-in-Outcome : goal.returns-in-Outcome
 returns-in-Outcome c = λ made is.
     subst (λ m. HandsIn c.args.lane c.args.core.now c.args.kept.now m c.hand_in.result c.hand_in.new.self c.take_kept.new.kept)
     (same_outcome c.in-Outcome.outcome made (sym c.in-Outcome.ensures.taken ∙ is))
-    (record {
-      handed = c.hand_in.ensures.handed;
-      failed = c.hand_in.ensures.failed;
-      leaves = c.hand_in.ensures.leaves;
-      acked = c.hand_in.ensures.acked;
-      little = c.hand_in.ensures.little;
-      round = c.hand_in.ensures.round;
-      left = c.in-Outcome.ensures.left;
-    })
+    (record { does = c.hand_in.ensures; left = c.in-Outcome.ensures.left })

@@ -1,8 +1,10 @@
-use Rattle.std.proofs.Common.{◌≡◌, ◌∷◌, length, IfSome, sym, refl, ◌∙◌, ap, subst, arith}
+use Rattle.std.proofs.Common.{◌≡◌, ◌∷◌, length, IfSome, sym, refl, ◌∙◌, ap, subst, arith, rules}
 use Rattle.sd_journal.specs.History.{Base}
 use Rattle.sd_journal.specs.declared.entry.Entry.TheVariants.{Applied}
 use Rattle.sd_journal.specs.Marked.{Told, entries_of}
 use Rattle.sd_belief.specs.View.{CoreView, history_of}
+use Rattle.sd_core.proofs.FlagLemmas.{same_flags}
+use Rattle.sd_core.specs.Grown.{has_grown}
 use Rattle.sd_core.specs.Answering.{IsAnswered}
 use Rattle.sd_core.specs.LittleWork.{HasLittle}
 use Rattle.sd_core.specs.Sound.{AreNumbers, IsAtWork, IsJournal}
@@ -36,18 +38,30 @@ invariant_of-self-in_default-copy_reply c =
       little = subst (λ m. IfSome c.self.inside.dumper.running (HasLittle base c.reserve.new.self.items m)) (sym same)
           (subst (λ all. IfSome c.self.inside.dumper.running (HasLittle base all c.self.inside.memory)) (sym before) c.self.invariant.little);
       swept_is = subst (λ m. HasSwept c.self.inside.swept c.self.inside.pending m) (sym same) c.self.invariant.swept_is;
+      flags_are = same_flags base c.self.inside.journal.items c.reserve.new.self.items c.self.inside.swept c.self.inside.grows c.self.inside.committing before c.self.invariant.flags_are;
+      gated = c.self.invariant.gated;
       merging = c.self.invariant.merging;
     }
 
-pub returns-in_default-copy_reply-clause-keeps : goal.returns-in_default-copy_reply-clause-keeps
-returns-in_default-copy_reply-clause-keeps c =
+pub returns-in_default-copy_reply : goal.returns-in_default-copy_reply
+returns-in_default-copy_reply c =
     let bytes = c.in_default-copy_reply.ensures.bytes refl in
     let same = bytes_pass c.is_some.result c.in-Ok-copy_command.command c.in-Ok-answer.reply bytes.0 c.self.inside.memory c.answer.new.memory bytes.1 c.in-Ok-answer.ensures.answered in
-    stays_seen _ _ _ c.self.view_is (stays_same c.core_steps.ensures _ _ (record {
-      store = record { base = refl; phases = refl; outs = refl; opener = refl; standing = refl; catalog = refl; grows = refl; committing = refl; dumper = refl; merger = refl; serial = refl };
-      history = ap entries_of c.reserve.ensures.grown.items;
-      memory = same;
-    }))
+    record {
+      applies = search rules;
+      number = search rules;
+      full = search rules;
+      stands = search rules;
+      job = search rules;
+      merge = search rules;
+      answered = search rules;
+      flags = search rules;
+      keeps = stays_seen _ _ _ c.self.view_is (stays_same c.core_steps.ensures _ _ (record {
+        store = record { base = refl; phases = refl; outs = refl; opener = refl; standing = refl; catalog = refl; grows = refl; committing = refl; dumper = refl; merger = refl; serial = refl };
+        history = ap entries_of c.reserve.ensures.grown.items;
+        memory = same;
+      }));
+    }
 
 pub invariant_of-self-2 : goal.invariant_of-self-2
 invariant_of-self-2 c =
@@ -71,24 +85,32 @@ invariant_of-self-2 c =
       little = subst (λ all. IfSome c.self.inside.dumper.running (HasLittle base all c.answer.new.memory)) (sym items)
           (applied_little base c.self.inside.journal.items c.self.inside.memory c.answer.new.memory c.self.inside.dumper.running c.args.seat c.in-Ok-copy_command.command c.in-Ok-answer.reply
           (still_while_frozen _ c.answer.new.memory c.in-Ok-copy_command.command c.in-Ok-answer.reply c.self.invariant answered) c.self.invariant.little);
+      flags_are = record { grown = c.self.invariant.flags_are.grown ∙ ap (λ all. has_grown base (entries_of all)) (sym items); sure = c.self.invariant.flags_are.sure };
+      gated = c.self.invariant.gated;
       swept_is = swept_answered c.self.inside.swept c.self.inside.pending c.in-Ok-copy_command.command c.in-Ok-answer.reply c.self.inside.memory c.answer.new.memory answered c.self.invariant.swept_is;
       merging = c.self.invariant.merging;
     }
 
-pub returns-clause-number : goal.returns-clause-number
-returns-clause-number c =
+pub returns : goal.returns
+returns c =
     let count : length (entries_of c.reserve.new.self.items) ≡ length (history_of c.args.self.now) =
     ap (λ items. length (entries_of items)) c.reserve.ensures.grown.items ∙ ap (λ (v : CoreView). length (history_of v)) c.self.view_is in
     let number = c.next_number-number.ensures in
     let folded : c.reserve.new.self.first ≡ c.args.self.now.base.folded = c.reserve.ensures.grown.first ∙ c.self.invariant.journal_is.first ∙ ap (λ (v : CoreView). v.base.folded) c.self.view_is in
-    omega (arith, count, number, folded)
-
-pub returns-clause-keeps : goal.returns-clause-keeps
-returns-clause-keeps c =
     let answered = subst (λ frozen. IsAnswered frozen c.in-Ok-copy_command.command c.in-Ok-answer.reply c.self.inside.memory c.answer.new.memory) c.is_some.ensures c.in-Ok-answer.ensures.answered in
-    stays_seen _ _ _ c.self.view_is (stays_applied c.core_steps.ensures _ _ c.args.seat c.in-Ok-copy_command.command c.in-Ok-answer.reply (record {
-      store = record { base = refl; phases = refl; outs = refl; opener = refl; standing = refl; catalog = refl; grows = refl; committing = refl; dumper = refl; merger = refl; serial = refl };
-      items = c.append.ensures.items ∙ ap (λ all. Told (Applied c.args.seat c.in-Ok-copy_command.command c.in-Ok-answer.reply) ∷ all) c.reserve.ensures.grown.items;
-      memory = subst (λ waiting. IsCommanded waiting c.in-Ok-copy_command.command c.in-Ok-answer.reply c.self.inside.memory c.answer.new.memory) c.self.invariant.journal_is.frozen_for
-          (commanded c.self.inside.pending c.in-Ok-copy_command.command c.in-Ok-answer.reply c.self.inside.memory c.answer.new.memory c.sound.ensures answered);
-    }))
+    record {
+      applies = search rules;
+      number = omega (arith, count, number, folded);
+      full = search rules;
+      stands = search rules;
+      job = search rules;
+      merge = search rules;
+      answered = search rules;
+      flags = search rules;
+      keeps = stays_seen _ _ _ c.self.view_is (stays_applied c.core_steps.ensures _ _ c.args.seat c.in-Ok-copy_command.command c.in-Ok-answer.reply (record {
+        store = record { base = refl; phases = refl; outs = refl; opener = refl; standing = refl; catalog = refl; grows = refl; committing = refl; dumper = refl; merger = refl; serial = refl };
+        items = c.append.ensures.items ∙ ap (λ all. Told (Applied c.args.seat c.in-Ok-copy_command.command c.in-Ok-answer.reply) ∷ all) c.reserve.ensures.grown.items;
+        memory = subst (λ waiting. IsCommanded waiting c.in-Ok-copy_command.command c.in-Ok-answer.reply c.self.inside.memory c.answer.new.memory) c.self.invariant.journal_is.frozen_for
+            (commanded c.self.inside.pending c.in-Ok-copy_command.command c.in-Ok-answer.reply c.self.inside.memory c.answer.new.memory c.sound.ensures answered);
+      }));
+    }

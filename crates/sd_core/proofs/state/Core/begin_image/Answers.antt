@@ -19,6 +19,8 @@ use Rattle.sd_rounds.specs.Making.{Making, begun_image, out_of}
 use Rattle.sd_rounds.specs.Writes.{no_writes}
 use Rattle.sd_belief.specs.DumperSteps.{opens_gate}
 use Rattle.sd_belief.specs.View.{CoreView}
+use Rattle.sd_core.proofs.FlagLemmas.{format_has_no_open, gate_swept, gated_asked, sure_asked}
+use Rattle.sd_core.specs.Grown.{IsGatedStage, has_grown}
 use Rattle.sd_core.specs.declared.numbers.Numbers.{Numbers}
 use Rattle.sd_core.specs.Images.{begun_as}
 use Rattle.sd_core.specs.LittleWork.{TakesLittle}
@@ -118,6 +120,17 @@ invariant_of-self-2 c =
       numbers_are = subst (λ all. AreNumbers base all c.self.inside.pending c.self.inside.last c.tick.new.self) (sym c.note.ensures.items)
           (start_numbers base c.reserve_mark.new.self.items c.self.inside.pending c.self.inside.last old c.tick.new.self begun checkpoint given now core.numbers_are);
       swept_is = swept_same c.self.inside.swept c.self.inside.swept c.self.inside.pending c.self.inside.pending c.self.inside.memory c.begin_next-request.new.memory refl refl w.steps.2 core.swept_is;
+      flags_are = record {
+        grown = core.flags_are.grown ∙ ap (λ all. has_grown base (entries_of all)) (sym c.note.ensures.items);
+        sure = λ commits. sure_asked c.self.inside.committing (is_last w.running) (opens_gate c.begin_next-request.result.id.call) c.self.inside.swept core.flags_are.sure
+            (gate_swept (is_last w.running) c.self.inside.swept (begun_image (order_of w.running serial c.state.result)).stage w.steps.0.plan w.steps.0.next c.begin_next-request.result
+            (format_has_no_open c.state.result) w.steps.0.was w.steps.0.gives)
+            (sym (c.is_committing-self-inside.ensures ∙ ap (λ r. c.self.inside.committing || is_dumping r && opens_gate c.id-2.result.call) w.is
+            ∙ ap (λ (i : RequestId). c.self.inside.committing || is_last w.running && opens_gate i.call) c.id-2.ensures) ∙ commits);
+      };
+      gated = subst (IsGatedStage (is_last w.running) c.self.inside.swept) (sym (ap (λ (m : Making). m.stage) w.steps.0.is))
+          (gated_asked (is_last w.running) c.self.inside.swept (begun_image (order_of w.running serial c.state.result)).stage w.steps.0.plan w.steps.0.next c.begin_next-request.result
+          (format_has_no_open c.state.result) w.steps.0.was w.steps.0.gives);
       counted = subst (λ n. (s : ℕ) (o : Opened) → place_of c.hold.new.self s ≡ Some (Some o) → o.header.checkpoint ≤ n) (sym checkpoint)
           (counted_held old c.self.inside.catalog c.hold.new.self serial c.in-Ok-hold.ensures.held core.counted);
       work = record {
@@ -157,6 +170,8 @@ invariant_of-self-2 c =
             room = c.self.inside.room;
             opener = c.self.inside.opener;
             numbers = old;
+            grows = c.self.inside.grows;
+            committing = c.self.inside.committing;
             swept = c.self.inside.swept;
           }) (record {
             base = base;
@@ -173,6 +188,8 @@ invariant_of-self-2 c =
             room = c.self.inside.room;
             opener = c.self.inside.opener;
             numbers = c.tick.new.self;
+            grows = c.self.inside.grows;
+            committing = c.is_committing-self-inside.result;
             swept = c.self.inside.swept;
           }) (record {
             merger_is = refl;
@@ -218,7 +235,7 @@ returns-clause-takes c =
       dumper = record { running = Some (record w.running { image = Some (begun_image order) }); since_freeze = 0 };
       merger = c.self.inside.merger;
       opener = c.self.inside.opener;
-      numbers = record { checkpoint = c.self.inside.numbers.checkpoint; serial = serial; ticket = c.self.inside.numbers.ticket };
+      numbers = record { checkpoint = c.self.inside.numbers.checkpoint; serial = serial; begun = c.self.inside.numbers.begun; given = serial; ticket = c.self.inside.numbers.ticket };
       grows = c.self.inside.grows;
       committing = c.self.inside.committing;
     } in

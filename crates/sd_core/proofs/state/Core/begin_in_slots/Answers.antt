@@ -7,6 +7,7 @@ use Rattle.sd_merge.specs.Merger as merger
 use Rattle.sd_rounds.specs.Dumper.{begun_checkpoint, out_of_running, slot_of, writes_of_running}
 use Rattle.sd_belief.specs.CheckpointSteps.{HasParent}
 use Rattle.sd_belief.specs.View.{CoreView}
+use Rattle.sd_core.proofs.FlagLemmas.{same_flags}
 use Rattle.sd_core.specs.Beginning.{AreReserved, IsFirstParent}
 use Rattle.sd_core.specs.declared.numbers.Numbers.{Numbers}
 use Rattle.sd_core.specs.Sound.{AreNumbers, AreOuts, held_for}
@@ -67,6 +68,8 @@ invariant_of-self-2 c =
           (begun_numbers base c.self.inside.journal.items c.self.inside.last c.self.inside.numbers c.begin-number.new.self begun checkpoint given serial
           (subst (λ f. AreNumbers base c.self.inside.journal.items f c.self.inside.last c.self.inside.numbers) none inside.numbers_are)));
       swept_is = inside.swept_is;
+      flags_are = same_flags base c.self.inside.journal.items c.hold.new.self.items c.self.inside.swept c.self.inside.grows c.self.inside.committing grown.items inside.flags_are;
+      gated = tt;
       counted = begun_counted c.self.inside.catalog c.self.inside.numbers c.begin-number.new.self checkpoint inside.counted;
       work = record {
         stands = may.stands;

@@ -106,7 +106,7 @@ returns-clause-takes c =
       dumper = c.self.inside.dumper;
       merger = Some begun;
       opener = c.self.inside.opener;
-      numbers = record { checkpoint = c.self.inside.numbers.checkpoint; serial = serial; ticket = c.self.inside.numbers.ticket };
+      numbers = record { checkpoint = c.self.inside.numbers.checkpoint; serial = serial; begun = c.self.inside.numbers.begun; given = serial; ticket = c.self.inside.numbers.ticket };
       grows = c.self.inside.grows;
       committing = c.self.inside.committing;
     } in

@@ -1,4 +1,4 @@
-use Rattle.std.proofs.Common.{◌≡◌, false, length, map, take, Some, None, IfSome, refl, sym, ◌∙◌, ap, subst, arith}
+use Rattle.std.proofs.Common.{◌≡◌, false, if◌then◌else◌, length, map, take, Some, None, IfSome, refl, sym, ◌∙◌, ap, subst, arith}
 use Rattle.std.proofs.Math.Seq.{take-length}
 use Rattle.std.proofs.lemmas.Option.{same_Some}
 use Rattle.sd_gate.specs.declared.worker.Worker.TheVariants as its
@@ -6,10 +6,15 @@ use Rattle.sd_gate.specs.Laws.{found_phase}
 use Rattle.sd_command.specs.declared.refusal.Refusal.TheVariants.{Damaged as DamagedStore}
 use Rattle.sd_command.specs.declared.reply.Reply.TheVariants as reply
 use Rattle.sd_journal.specs.History.{Base}
+use Rattle.sd_journal.specs.History.{pending}
 use Rattle.sd_opener.specs.Looking.{Looking, out_of}
+use Rattle.sd_opener.specs.Sees.{Sees}
 use Rattle.sd_belief.specs.declared.standing.Standing.TheVariants.{Open}
 use Rattle.sd_belief.specs.View.{CoreView}
-use Rattle.sd_core.specs.Opening.{IsExpected}
+use Rattle.sd_journal.specs.Marked.{entries_of}
+use Rattle.sd_core.proofs.FlagLemmas.{set_flags}
+use Rattle.sd_core.specs.Grown.{has_grown}
+use Rattle.sd_core.specs.Opening.{IsExpected, RefusesStrange}
 use Rattle.sd_core.specs.Sound.{AreNumbers, IsOpening, held_for, out_of_opener}
 use Rattle.sd_core.specs.Starts.{base_of}
 use Rattle.sd_core.proofs.CoreLemmas.{held_idle, held_opening, nobody_is, none_out}
@@ -18,6 +23,7 @@ use Rattle.sd_core.proofs.MergeLemmas.{no_merge, none_merges}
 use Rattle.sd_core.proofs.OpeningLemmas.{ends_refused, starts_anew, step_seen}
 use Rattle.sd_core.proofs.WorkLemmas.{none_closed, none_works}
 use Rattle.sd_core.proofs.SettledLemmas.{not_swept}
+use Rattle.sd_core.proofs.StrangeLemmas.{awaits, same_own}
 use Rattle.sd_core.proofs.state.Core.finish_opening.Goals as goal
 
 pub invariant_of-self-2 : goal.invariant_of-self-2
@@ -30,7 +36,7 @@ invariant_of-self-2 c =
     let opening = subst (λ x. IfSome x (IsOpening c.self.inside.standing c.self.inside.phases.items)) is c.self.invariant.opening in
     let none = none_closed _ c.self.invariant opening.closed in
     let expected = expected_may c.self.inside.pending c.self.inside.last c.in-Some-read_by.found c.self.inside.swept
-    (subst (λ p. IsExpected c.self.inside.last p c.in-Some-read_by.found) c.swept_checkpoint.ensures c.in-Some-read_by.ensures.expected) in
+    (subst (λ p. IsExpected c.self.inside.last p c.in-Some-read_by.found) c.swept_checkpoint.ensures c.in-Some-read_by.ensures.opens.expected) in
     let used = found_used c.self.inside.pending c.self.inside.last c.in-Some-read_by.found c.self.inside.numbers.begun expected c.self.invariant.numbers_are.newest_used c.self.invariant.numbers_are.frozen_used in
     let held : c.self.inside.journal.held ≡ 1 = c.self.invariant.held ∙ ap (held_for c.self.inside.pending c.self.inside.dumper.running) is ∙ held_opening c.self.inside.pending c.self.inside.dumper.running o none in
     let less = c.append_held.ensures.held in
@@ -39,6 +45,8 @@ invariant_of-self-2 c =
       journal_is = (reopened_journal c.tracked_laws.ensures c.plain_law.ensures base c.self.inside.journal c.append_held.new.self c.self.inside.memory c.self.inside.pending c.self.inside.last c.in-Some-read_by.found c.self.inside.swept
           c.append_held.ensures.items c.append_held.ensures.numbers.first c.append_held.ensures.numbers.limit expected c.sound.ensures c.self.invariant.swept_is c.self.invariant.journal_is).0;
       swept_is = not_swept false None c.self.inside.memory refl;
+      flags_are = set_flags base c.append_held.new.self.items false false false (ap (λ all. has_grown base (entries_of all)) (sym c.append_held.ensures.items)) refl;
+      gated = none_works _ c.self.inside.dumper.running none;
       held = zero_is ∙ sym (held_idle c.self.inside.dumper.running none) ∙ ap (held_for None c.self.inside.dumper.running) (sym c.take_opener.ensures.left);
       outs_are = none_out Open c.self.inside.outs c.in-Some-read_by.opened.phases.items c.self.inside.dumper.running c.self.inside.merger c.take_opener.new.opener none
           (none_merges _ c.self.invariant opening.closed) (ap out_of_opener c.take_opener.ensures.left)
@@ -78,7 +86,7 @@ returns-clause-takes c =
     let rests : out_of_opener c.self.inside.opener ≡ None = ap out_of_opener is ∙ subst (λ (l : Looking). out_of l.stage ≡ None) same c.requires.rests in
     let all : length o.told ≡ o.slots = subst (λ (l : Looking). length l.told ≡ l.slots) same c.requires.all in
     let slots : o.slots ≡ length c.self.inside.phases.items = (subst (λ x. IfSome x (IsOpening c.self.inside.standing c.self.inside.phases.items)) is c.self.invariant.opening).slots in
-    let opens = c.in-Some-read_by.ensures in
+    let opens = c.in-Some-read_by.ensures.opens in
     let expected = expected_may c.self.inside.pending c.self.inside.last c.in-Some-read_by.found c.self.inside.swept
     (subst (λ p. IsExpected c.self.inside.last p c.in-Some-read_by.found) c.swept_checkpoint.ensures opens.expected) in
     let legal = reopened_journal c.tracked_laws.ensures c.plain_law.ensures base c.self.inside.journal c.append_held.new.self c.self.inside.memory c.self.inside.pending c.self.inside.last c.in-Some-read_by.found c.self.inside.swept
@@ -104,3 +112,17 @@ returns-clause-takes c =
       unmerged = none_merges _ c.self.invariant opening.closed;
       outs = nobody_is _ o c.self.invariant is rests;
     }))
+
+pub returns-in_default-read_by-clause-refuses : goal.returns-in_default-read_by-clause-refuses
+returns-in_default-read_by-clause-refuses c =
+    let o = c.in-Some.opener in
+    let is : c.self.inside.opener ≡ Some o = sym c.take_opener.ensures.taken ∙ c.in-Some.is in
+    let same : c.requires.looking ≡ o = same_Some c.requires.looking o (sym c.requires.is ∙ sym (ap (λ (v : CoreView). v.opener) c.self.view_is) ∙ is) in
+    let all : length o.told ≡ o.slots = subst (λ (l : Looking). length l.told ≡ l.slots) same c.requires.all in
+    subst (λ v. RefusesStrange v (reply.Refused DamagedStore)) c.self.view_is (λ told opener there files sees own.
+    let own_opener : opener ≡ o = same_Some opener o (sym there ∙ is) in
+    let seen : Sees files None o = subst (Sees files None) own_opener sees in
+    c.in_default-read_by.ensures.strange refl files seen (all ∙ sym seen.count) (same_own _ _ _ _ files (λ found expected.
+    subst (λ p. IsExpected c.self.inside.last p found) (sym c.swept_checkpoint.ensures) (awaits c.self.inside.committing c.self.inside.swept c.self.inside.pending c.self.inside.last found c.self.invariant.flags_are.sure
+    (subst (λ p. IsExpected c.self.inside.last (if c.self.inside.committing then p else None) found) (sym c.self.invariant.journal_is.frozen_for)
+    (subst (λ l. IsExpected l (if c.self.inside.committing then pending (entries_of c.self.inside.journal.items) else None) found) (sym c.self.invariant.journal_is.newest_is) expected)))) own))

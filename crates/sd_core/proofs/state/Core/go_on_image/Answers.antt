@@ -16,6 +16,8 @@ use Rattle.sd_rounds.specs.Dumper.{is_dumping, is_last, slot_of}
 use Rattle.sd_rounds.specs.Making.{Making}
 use Rattle.sd_belief.specs.DumperSteps.{opens_gate}
 use Rattle.sd_belief.specs.View.{page_lane}
+use Rattle.sd_core.proofs.FlagLemmas.{gate_swept, gated_asked, gated_of, sure_asked, table_gated, table_sure}
+use Rattle.sd_core.specs.Grown.{IsGatedStage, has_grown}
 use Rattle.sd_core.specs.Dumping.{StepsOn}
 use Rattle.sd_core.specs.Images.{begun_as}
 use Rattle.sd_core.specs.LittleWork.{TakesLittle}
@@ -62,6 +64,8 @@ invariant_of-self-in-Copied c =
       held = refl;
       journal_is = subst (λ m. IsJournal base c.reserve_mark.new.self m c.self.inside.pending c.self.inside.last) (sym w.steps.1) core.journal_is;
       numbers_are = core.numbers_are;
+      flags_are = core.flags_are;
+      gated = subst (IsGatedStage (is_last w.running) c.self.inside.swept) (sym (ap (λ (m : Making). m.stage) w.steps.0.passes.1 ∙ w.steps.0.passes.0)) tt;
       swept_is = swept_same c.self.inside.swept c.self.inside.swept c.self.inside.pending c.self.inside.pending c.self.inside.memory c.step_on.new.memory refl refl w.steps.1 core.swept_is;
       counted = core.counted;
       outs = outs_kept w.running w.image w.next (merger.out_of_merge c.self.inside.merger) c.self.inside.outs out.1 w.making (ap (λ (m : Making). m.writes) w.steps.0.passes.1) t.out_is;
@@ -107,6 +111,8 @@ invariant_of-self-in-Visited c =
       journal_is = visit_journal c.tracked_laws.ensures _ w.running w.image w.next _ _ c.note-in-Visited.new.self core w.was w.making w.steps items c.note-in-Visited.ensures.numbers.first c.note-in-Visited.ensures.numbers.limit;
       numbers_are = subst (λ all. AreNumbers base all c.self.inside.pending c.self.inside.last c.self.inside.numbers) (sym items)
           (numbers_noted base c.reserve_mark.new.self.items c.self.inside.pending c.self.inside.last c.self.inside.numbers (Visit w.image.order.serial c.in-Visited.visit.space c.in-Visited.visit.page) (omega (arith, given)) core.numbers_are);
+      flags_are = record { grown = core.flags_are.grown ∙ ap (λ all. has_grown base (entries_of all)) (sym items); sure = core.flags_are.sure };
+      gated = subst (IsGatedStage (is_last w.running) c.self.inside.swept) (sym (ap (λ (m : Making). m.stage) w.steps.passes.1 ∙ w.steps.passes.0)) tt;
       swept_is = λ is. ((core.swept_is is).0, clean_cleared c.clear_law.ensures c.self.inside.memory c.step_on.new.memory c.in-Visited.visit.space c.in-Visited.visit.page w.steps.tests.cleared (core.swept_is is).1);
       counted = core.counted;
       outs = outs_kept w.running w.image w.next (merger.out_of_merge c.self.inside.merger) c.self.inside.outs out.1 w.making (ap (λ (m : Making). m.writes) w.steps.passes.1) t.out_is;
@@ -150,6 +156,15 @@ invariant_of-self-in-Call c =
       held = refl;
       journal_is = subst (λ m. IsJournal base c.reserve_mark.new.self m c.self.inside.pending c.self.inside.last) (sym w.steps.2) core.journal_is;
       numbers_are = numbers_same base c.reserve_mark.new.self.items c.self.inside.pending c.self.inside.last c.self.inside.numbers c.tick-in-Call.new.self numbers core.numbers_are;
+      flags_are = record {
+        grown = core.flags_are.grown;
+        sure = λ commits. sure_asked c.self.inside.committing (is_last w.running) (opens_gate c.in-Call.request.id.call) c.self.inside.swept core.flags_are.sure
+            (gate_swept (is_last w.running) c.self.inside.swept w.image.stage w.steps.0.plan w.steps.0.next c.in-Call.request (gated_of c.self.inside.swept c.self.inside.dumper.running w.running w.image core.gated w.was w.making) w.steps.0.was w.steps.0.gives)
+            (sym (c.is_committing-self-inside.ensures ∙ ap (λ r. c.self.inside.committing || is_dumping r && opens_gate c.id-in-Call-2.result.call) w.is
+            ∙ ap (λ (i : RequestId). c.self.inside.committing || is_last w.running && opens_gate i.call) c.id-in-Call-2.ensures) ∙ commits);
+      };
+      gated = subst (IsGatedStage (is_last w.running) c.self.inside.swept) (sym (ap (λ (m : Making). m.stage) w.steps.0.is))
+          (gated_asked (is_last w.running) c.self.inside.swept w.image.stage w.steps.0.plan w.steps.0.next c.in-Call.request (gated_of c.self.inside.swept c.self.inside.dumper.running w.running w.image core.gated w.was w.making) w.steps.0.was w.steps.0.gives);
       swept_is = swept_same c.self.inside.swept c.self.inside.swept c.self.inside.pending c.self.inside.pending c.self.inside.memory c.step_on.new.memory refl refl w.steps.2 core.swept_is;
       counted = counted_same c.self.inside.catalog c.self.inside.numbers c.tick-in-Call.new.self numbers core.counted;
       outs = c.put_out-in-Call.ensures ∙ ap (λ id. slice_set c.self.inside.outs 0 (Some id)) c.id-in-Call.ensures
@@ -193,6 +208,8 @@ invariant_of-self-in-PageCall c =
       held = refl;
       journal_is = subst (λ m. IsJournal base c.reserve_mark.new.self m c.self.inside.pending c.self.inside.last) (sym w.steps.2) core.journal_is;
       numbers_are = numbers_same base c.reserve_mark.new.self.items c.self.inside.pending c.self.inside.last c.self.inside.numbers c.tick.new.self numbers core.numbers_are;
+      flags_are = core.flags_are;
+      gated = subst (IsGatedStage (is_last w.running) c.self.inside.swept) (sym (w.steps.0.still)) tt;
       swept_is = swept_same c.self.inside.swept c.self.inside.swept c.self.inside.pending c.self.inside.pending c.self.inside.memory c.step_on.new.memory refl refl w.steps.2 core.swept_is;
       counted = counted_same c.self.inside.catalog c.self.inside.numbers c.tick.new.self numbers core.counted;
       outs = c.put_out.ensures ∙ ap (λ k. slice_set c.self.inside.outs k (Some c.id.result)) c.page_lane.ensures.lane ∙ ap (λ id. slice_set c.self.inside.outs (page_lane c.in-PageCall.lane) (Some id)) c.id.ensures
@@ -242,6 +259,15 @@ invariant_of-self-in-TableCall c =
       numbers_are = subst (λ all. AreNumbers base all c.self.inside.pending c.self.inside.last c.tick-in-TableCall.new.self) (sym items)
           (numbers_same base _ c.self.inside.pending c.self.inside.last c.self.inside.numbers c.tick-in-TableCall.new.self numbers
           (numbers_noted base c.reserve_mark.new.self.items c.self.inside.pending c.self.inside.last c.self.inside.numbers (Table w.image.order.serial) (omega (arith, given)) core.numbers_are));
+      flags_are = record {
+        grown = core.flags_are.grown ∙ ap (λ all. has_grown base (entries_of all)) (sym items);
+        sure = λ commits. table_sure c.self.inside.committing (is_last w.running) (opens_gate c.in-TableCall.request.id.call) c.self.inside.swept c.is_swept-self-inside.result
+            (c.is_swept-self-inside.ensures ∙ ap (λ r. c.self.inside.swept || is_dumping r) w.is) core.flags_are.sure
+            (sym (c.is_committing-self-inside-in-TableCall.ensures ∙ ap (λ r. c.self.inside.committing || is_dumping r && opens_gate c.id-in-TableCall-2.result.call) w.is
+            ∙ ap (λ (i : RequestId). c.self.inside.committing || is_last w.running && opens_gate i.call) c.id-in-TableCall-2.ensures) ∙ commits);
+      };
+      gated = subst (IsGatedStage (is_last w.running) c.is_swept-self-inside.result) (sym (ap (λ (m : Making). m.stage) w.steps.0.is))
+          (table_gated (is_last w.running) c.self.inside.swept c.is_swept-self-inside.result (c.is_swept-self-inside.ensures ∙ ap (λ r. c.self.inside.swept || is_dumping r) w.is));
       swept_is = subst (λ now. HasSwept now c.self.inside.pending c.step_on.new.memory) (sym (c.is_swept-self-inside.ensures ∙ ap (λ r. c.self.inside.swept || is_dumping r) w.is))
           (table_swept _ w.running w.image w.next c.in-TableCall.request c.step_on.new.memory _ core w.was w.making (own_order c.self.inside.dumper.since_freeze _ w.running w.image c.sound.ensures.running w.was w.making) w.steps.0 w.steps.2 t.still
           (step_little c.little_law.ensures base c.reserve_mark.new.self.items (Noted (Table w.image.order.serial) ∷ c.reserve_mark.new.self.items) c.self.inside.memory c.step_on.new.memory w.running.number c.self.inside.numbers.ticket w.image w.next (TableCall c.in-TableCall.request) w.steps
@@ -293,6 +319,8 @@ invariant_of-self-in-Frozen c =
       numbers_are = subst (λ all. AreNumbers base all (Some c.self.inside.numbers.begun) c.self.inside.last c.self.inside.numbers) (sym c.append_held.ensures.items)
           (freeze_numbers base c.reserve_mark.new.self.items c.self.inside.last c.self.inside.numbers
           (subst (λ f. AreNumbers base c.reserve_mark.new.self.items f c.self.inside.last c.self.inside.numbers) b.none core.numbers_are));
+      flags_are = record { grown = core.flags_are.grown ∙ ap (λ all. has_grown base (entries_of all)) (sym c.append_held.ensures.items); sure = core.flags_are.sure };
+      gated = subst (IsGatedStage (is_last w.running) c.self.inside.swept) (sym (ap (λ (m : Making). m.stage) w.steps.0.is)) tt;
       swept_is = none_swept c.self.inside.swept c.self.inside.pending (Some c.self.inside.numbers.begun) c.self.inside.memory c.step_on.new.memory b.none core.swept_is;
       counted = core.counted;
       work = record {
@@ -331,6 +359,8 @@ invariant_of-self-in-Frozen c =
             room = c.self.inside.room;
             opener = c.self.inside.opener;
             numbers = c.self.inside.numbers;
+            grows = c.self.inside.grows;
+            committing = c.self.inside.committing;
             swept = c.self.inside.swept;
           }) w.running w.image w.next core (record {
             was = w.was;

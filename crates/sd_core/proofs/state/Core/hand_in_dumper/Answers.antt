@@ -1,4 +1,4 @@
-use Rattle.std.proofs.Common.{◌≡◌, ◌↔◌, ◌+◌, ◌^◌, ◌<◌, ◌≤◌, ◌==◌, ◌∷◌, Contains, length, Some, None, IfSome, slice_get, slice_index_or, refl, sym, ◌∙◌, ap, subst, inl, inr, arith, false}
+use Rattle.std.proofs.Common.{◌≡◌, ◌↔◌, ◌+◌, ◌^◌, ◌<◌, ◌≤◌, ◌==◌, ◌∷◌, Contains, length, Some, None, IfSome, slice_get, slice_index_or, refl, sym, ◌∙◌, ap, subst, inl, inr, arith, true, false}
 use Rattle.std.proofs.lemmas.Option.{same_Some, slice_get-get_or}
 use Rattle.sd_chain.specs.Catalog.{Changes, Opened}
 use Rattle.sd_image.specs.declared.run.RunKind.{RunKind}
@@ -16,12 +16,14 @@ use Rattle.sd_command.specs.declared.reply.Reply.TheVariants as reply
 use Rattle.sd_journal.specs.declared.entry.Entry.TheVariants.{Acked}
 use Rattle.sd_journal.specs.History.{Base}
 use Rattle.sd_journal.specs.Marked.{Told, entries_of}
-use Rattle.sd_rounds.specs.Dumper.{Hands, HasCounted, HasSlot, after_pre_dump, out_of_running, slot_of, writes_of_running}
+use Rattle.sd_rounds.specs.Dumper.{Hands, HasCounted, HasSlot, after_pre_dump, is_last, out_of_running, slot_of, writes_of_running}
 use Rattle.sd_belief.specs.DumperOutcomes.{IsDumpersOutcome, LeavesCatalog, closes_for_sure}
 use Rattle.sd_belief.specs.View.{CoreView, page_lane}
 use Rattle.sd_belief.specs.declared.standing.Standing.TheVariants.{Open}
 use Rattle.sd_belief.specs.Merges.{IsSpared, MakesOther}
 use Rattle.sd_merge.specs.Merger as merger
+use Rattle.sd_core.proofs.FlagLemmas.{gated_more, gated_of, set_flags}
+use Rattle.sd_core.specs.Grown.{IsGated, has_grown}
 use Rattle.sd_core.specs.Images.{HasImage, HasPreDumps, begun_as, job_of}
 use Rattle.sd_core.specs.Refusals.{is_idle}
 use Rattle.sd_pagetable.specs.Contents.{plain_of}
@@ -102,6 +104,9 @@ invariant_of-self-in-More c =
       journal_is = c.self.invariant.journal_is;
       numbers_are = c.self.invariant.numbers_are;
       swept_is = c.self.invariant.swept_is;
+      flags_are = c.self.invariant.flags_are;
+      gated = gated_more (is_last h.running) c.self.inside.swept h.hands.image h.hands.next made (sound_image _ h.running h.hands.image c.sound.ensures.image h.was h.hands.was) h.hands.hands
+          (gated_of c.self.inside.swept c.self.inside.dumper.running h.running h.hands.image c.self.invariant.gated h.was h.hands.was);
       counted = left_counted c.closes_for_sure-closed.result c.id-id.result.slot c.self.inside.catalog c.leave_catalog.new.catalog c.self.inside.numbers c.leave_catalog.ensures c.self.invariant.counted;
       outs = c.put_out.ensures ∙ more_outs _ h.running h.hands.image h.hands.next c.args.lane made c.self.invariant h.was h.hands.was own t.out_is h.hands.hands;
       stay = leave_stays h.running c.closes_for_sure-closed.result c.id-id.result.slot c.self.inside.catalog c.leave_catalog.new.catalog c.leave_catalog.ensures
@@ -153,6 +158,8 @@ invariant_of-self-in-PreDump c =
           (λ other one is at same. elim is [ inl plan ↦ (let no : None ≡ Some other = plan in cc) | inr page ↦ no_write page.0 other page.1 ]));
       numbers_are = c.self.invariant.numbers_are;
       swept_is = c.self.invariant.swept_is;
+      flags_are = c.self.invariant.flags_are;
+      gated = tt;
       counted = counted;
       work = record {
         stands = work.stands;
@@ -193,6 +200,8 @@ invariant_of-self-in-PreDump c =
             room = c.self.inside.room;
             opener = c.self.inside.opener;
             numbers = c.self.inside.numbers;
+            grows = c.self.inside.grows;
+            committing = c.self.inside.committing;
             swept = c.self.inside.swept;
           }) h.running h.hands.0.image (record { slot = opened.slot; header = opened.header; spaces = opened.table }) c.self.invariant (record {
             was = h.was;
@@ -258,6 +267,8 @@ invariant_of-self-in-Dump c =
       numbers_are = subst (λ all. AreNumbers base all None (Some c.self.inside.numbers.begun) c.self.inside.numbers) (sym c.append_held.ensures.items)
           (acked_numbers base c.self.inside.journal.items c.self.inside.pending c.self.inside.last c.self.inside.numbers c.self.invariant.numbers_are);
       swept_is = not_swept false None c.self.inside.memory refl;
+      flags_are = set_flags base c.append_held.new.self.items false true false (ap (λ all. has_grown base (entries_of all)) (sym c.append_held.ensures.items)) refl;
+      gated = subst (λ r. IfSome r (IsGated false)) (sym gone) tt;
       counted = counted;
       rests = λ none open_. refl;
       work = subst (λ r. IfSome r (IsAtWork base c.append_held.new.self.items None c.self.inside.standing c.follow_call.new.phases.items c.enter_catalog-in-Dump.new.catalog c.self.inside.merger c.self.inside.opener c.self.inside.numbers)) (sym gone) tt;
@@ -277,6 +288,8 @@ invariant_of-self-in-Dump c =
         room = c.self.inside.room;
         opener = c.self.inside.opener;
         numbers = c.self.inside.numbers;
+        grows = true;
+        committing = false;
         swept = false;
       }) h.running h.hands.0.image (record { slot = opened.slot; header = opened.header; spaces = opened.table }) c.self.invariant (record {
         was = h.was;

@@ -19,7 +19,7 @@ use Rattle.sd_core.proofs.BesideLemmas.{merger_works}
 use Rattle.sd_core.proofs.CoreLemmas.{after_count}
 use Rattle.sd_core.proofs.FallenLemmas.{fallen_core, free_after, let_go_all}
 use Rattle.sd_core.proofs.HandedLemmas.{handed_merger, sync_of}
-use Rattle.sd_core.proofs.ListLemmas.{believed_seen, copies_seen, cut_seen, ended_cut, none_cut, not_copying, not_opened, opened_copies, opened_list, opened_now, opened_retires, opens_seen, still_copies}
+use Rattle.sd_core.proofs.ListLemmas.{believed_seen, cut_seen, ended_cut, enters_seen, none_cut, not_copying, not_opened, opened_enters, opened_list, opened_now, opened_retires, opens_seen, still_copies}
 use Rattle.sd_core.proofs.MergerHands.{IsMore, core_goes_on, handed_on, its_out, list_free, core_merged, ends_list, goes_on_believed, goes_rests, merged_believed}
 use Rattle.sd_core.proofs.OpenedLemmas.{core_opened, opened_believed, opens_beside}
 use Rattle.sd_core.proofs.OpeningLemmas.{handed_seen}
@@ -391,7 +391,7 @@ returns-in-Merged-clause-cuts c =
       running = subst AreRunning h.was c.sound.ensures.running;
       copied = subst HasSoundCopy h.was c.sound.ensures.copy;
       free = list_free _ h.running c.self.invariant h.was;
-    }) (ends_list h.running made c.in-Merged.serial _ h.hands.hands) (believed_seen made.request bodies _ _ c.self.view_is b))
+    }) (ends_list h.running made c.in-Merged.serial _ h.hands.hands) (believed_seen made.request bodies _ _ c.self.view_is b) _ c.self.invariant h.was c.put_out.ensures)
 
 pub returns-after-fix_list-clause-lists : goal.returns-after-fix_list-clause-lists
 returns-after-fix_list-clause-lists c =
@@ -489,8 +489,8 @@ returns-after-fix_list-clause-copies c =
       phase_is = phase_is;
       phases = follows phase phase_is;
     } in
-    λ merge serial bodies opens b. copies_seen merge.source.serial serial (bodies_after bodies id made.request.bytes) _ _ _ c.self.view_is
-    (opened_copies _ c.merger_outcomes-in-Opened.ensures _ (the_view c.self.inside) _ h.running made phase c.in-Opened.image h.next.doing c.hand_in-progress.new.self c.fix_list.result c.self.invariant h.was (record {
+    λ merge serial bodies opens b. enters_seen merge serial (bodies_after bodies id made.request.bytes) _ _ _ c.self.view_is
+    (opened_enters _ c.merger_outcomes-in-Opened.ensures _ (the_view c.self.inside) _ h.running made phase c.in-Opened.image h.next.doing c.hand_in-progress.new.self c.fix_list.result c.self.invariant h.was (record {
       outcome = outcome;
       rest = record { stands = m.stands; base = refl; history = refl; memory = refl; closed = m.closed; grows = refl; committing = refl; dumper = refl; makes = makes_in c.self.inside.dumper.since_freeze c.self.inside.dumper.running c.sound-2.ensures.running };
       serial = refl;

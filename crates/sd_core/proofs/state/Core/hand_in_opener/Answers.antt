@@ -7,6 +7,7 @@ use Rattle.sd_gate.specs.Phases.{phases_after}
 use Rattle.sd_command.specs.declared.reply.Reply.TheVariants as reply
 use Rattle.sd_command.specs.declared.refusal.Refusal.TheVariants.{StoreDown}
 use Rattle.sd_belief.specs.View.{CoreView}
+use Rattle.sd_core.proofs.FlagLemmas.{same_flags}
 use Rattle.sd_core.specs.Sound.{AreNumbers, IsOpening, held_for, out_of_opener}
 use Rattle.sd_core.specs.Working.{opener_left}
 use Rattle.sd_belief.specs.declared.standing.Standing.TheVariants.{Open}
@@ -51,6 +52,8 @@ invariant_of-self c =
       work = none_works _ c.self.inside.dumper.running none;
       little = none_works _ c.self.inside.dumper.running none;
       merging = no_merge _ c.self.inside.merger (none_merges _ c.self.invariant closed);
+      flags_are = c.self.invariant.flags_are;
+      gated = none_works _ c.self.inside.dumper.running none;
       swept_is = c.self.invariant.swept_is;
     }
 
@@ -142,6 +145,8 @@ invariant_of-self-2 c =
       work = none_works _ c.self.inside.dumper.running none;
       little = none_works _ c.self.inside.dumper.running none;
       merging = no_merge _ c.self.inside.merger (none_merges _ c.self.invariant closed);
+      flags_are = same_flags base c.self.inside.journal.items c.let_go.new.journal.items c.self.inside.swept c.self.inside.grows c.self.inside.committing gone.items c.self.invariant.flags_are;
+      gated = none_works _ c.self.inside.dumper.running none;
       swept_is = c.self.invariant.swept_is;
     }
 

@@ -1,5 +1,6 @@
 use Rattle.std.proofs.Common.{length, IfSome, Some, refl, sym, ◌∙◌, ap, subst}
 use Rattle.sd_journal.specs.History.{Base}
+use Rattle.sd_core.proofs.FlagLemmas.{same_flags}
 use Rattle.sd_core.specs.Opening.{HoldsForOpening}
 use Rattle.sd_core.specs.Sound.{AreNumbers, IsOpening, held_for, out_of_opener}
 use Rattle.sd_core.specs.Starts.{base_of}
@@ -39,6 +40,8 @@ invariant_of-self-2 c =
       little = none_works _ c.self.inside.dumper.running none;
       merging = no_merge _ c.self.inside.merger (none_merges _ inside may.closed);
       swept_is = inside.swept_is;
+      flags_are = same_flags base c.self.inside.journal.items c.fresh_opener.new.journal.items c.self.inside.swept c.self.inside.grows c.self.inside.committing held.items inside.flags_are;
+      gated = none_works _ c.self.inside.dumper.running none;
     }
 
 pub returns-clause-keeps : goal.returns-clause-keeps

@@ -1,16 +1,21 @@
-use Rattle.std.proofs.Common.{IfSome, refl, sym, ◌∙◌, ap, subst, arith}
+use Rattle.std.proofs.Common.{◌≡◌, None, Some, IfSome, slice_get, refl, sym, ◌∙◌, ap, subst, arith}
+use Rattle.std.proofs.lemmas.Option.{same_Some}
 use Rattle.sd_gate.specs.declared.worker.Worker.TheVariants as its
 use Rattle.sd_command.specs.declared.reply.Reply.TheVariants as reply
 use Rattle.sd_command.specs.declared.refusal.Refusal.TheVariants.{Damaged as DamagedStore}
 use Rattle.sd_journal.specs.History.{Base}
 use Rattle.sd_belief.specs.OpenerSteps.{opener_alone}
 use Rattle.sd_opener.specs.Looking.{out_of}
-use Rattle.sd_core.specs.Opening.{WorksOpener}
+use Rattle.sd_opener.specs.Sees.{Sees}
+use Rattle.sd_core.specs.contracts.state.Core.{the_view}
+use Rattle.sd_core.specs.declared.taken.Taken.TheVariants.{Step}
+use Rattle.sd_core.specs.Opening.{OpensBelieved, RefusesStrange, WorksOpener}
 use Rattle.sd_core.specs.Sound.{IsOpening, held_for, out_of_opener}
 use Rattle.sd_core.specs.Starts.{base_of}
 use Rattle.sd_core.proofs.CoreLemmas.{held_opening, nobody_is, one_out, set_alone}
 use Rattle.sd_core.proofs.MergeLemmas.{no_merge, none_merges}
 use Rattle.sd_core.proofs.OpeningLemmas.{decoded, ends_refused, hands_out, hands_seen, step_seen}
+use Rattle.sd_core.proofs.StrangeLemmas.{believed_opens}
 use Rattle.sd_core.proofs.WorkLemmas.{SameNumbers, counted_same, none_closed, none_works, numbers_same}
 use Rattle.sd_core.proofs.state.Core.take_up_opener.Goals as goal
 
@@ -40,6 +45,8 @@ invariant_of-self-in-Call c =
       little = none_works _ c.self.inside.dumper.running none;
       merging = no_merge _ c.self.inside.merger (none_merges _ inside opening.closed);
       swept_is = inside.swept_is;
+      flags_are = inside.flags_are;
+      gated = none_works _ c.self.inside.dumper.running none;
     }
 
 pub returns-in-Call-clause-takes : goal.returns-in-Call-clause-takes
@@ -89,3 +96,27 @@ returns-in-Damaged-clause-takes c =
       phases = refl;
       opener = c.let_go.ensures.opener;
     }))
+
+pub returns-in-Damaged-clause-refuses : goal.returns-in-Damaged-clause-refuses
+returns-in-Damaged-clause-refuses c =
+    let w = subst (λ step. WorksOpener c.self.inside.opener c.self.inside.numbers.ticket step c.step_opener.new.opener) c.in-Damaged.is c.in-Ok.ensures.works in
+    subst (λ v. RefusesStrange v (reply.Refused DamagedStore)) c.self.view_is (λ told opener there files sees own.
+    let own_opener : opener ≡ w.opener = same_Some opener w.opener (sym there ∙ w.was) in
+    w.sees files (subst (Sees files None) own_opener sees) own.images own.store)
+
+pub returns-in-Damaged-clause-opens : goal.returns-in-Damaged-clause-opens
+returns-in-Damaged-clause-opens c =
+    let w = subst (λ step. WorksOpener c.self.inside.opener c.self.inside.numbers.ticket step c.step_opener.new.opener) c.in-Damaged.is c.in-Ok.ensures.works in
+    let none = nobody_is _ w.opener c.self.invariant w.was (ap out_of_opener w.was ∙ w.rests) in
+    subst (λ v. OpensBelieved v (Step (reply.Refused DamagedStore))) c.self.view_is
+    (believed_opens c.opener_finds.ensures (the_view c.self.inside) (Step (reply.Refused DamagedStore)) w.opener w.was (ap (λ outs. slice_get outs 2) none) (λ told opener there files sees own.
+    w.sees files (subst (Sees files None) (same_Some opener w.opener (sym there ∙ w.was)) sees) own.images own.store))
+
+pub returns-in-AllRead-clause-opens : goal.returns-in-AllRead-clause-opens
+returns-in-AllRead-clause-opens c =
+    let w = subst (λ step. WorksOpener c.self.inside.opener c.self.inside.numbers.ticket step c.step_opener.new.opener) c.in-AllRead.is c.in-Ok.ensures.works in
+    let none = nobody_is _ w.opener c.self.invariant w.was (ap out_of_opener w.was ∙ w.rests) in
+    let same : c.step_opener.new.opener ≡ c.self.inside.opener = w.is ∙ ap Some w.moves.0 ∙ sym w.was in
+    subst (λ v. OpensBelieved v (Step c.finish_opening.result)) c.self.view_is
+    (believed_opens c.opener_finds.ensures (the_view c.self.inside) (Step c.finish_opening.result) w.opener w.was (ap (λ outs. slice_get outs 2) none)
+    (subst (λ o. RefusesStrange (the_view (record c.self.inside { opener = o })) c.finish_opening.result) same c.finish_opening.ensures.refuses))

@@ -1,6 +1,9 @@
 use Rattle.std.proofs.Common.{refl, subst}
 use Rattle.sd_disk.specs.Crash.{Within}
 use Rattle.sd_belief.specs.Shown.{ShowsAllowed}
+use Rattle.sd_gate.specs.Laws.{GivenUpFits}
+use Rattle.sd_core.specs.GoingOn.{AreOwnLanes, CanGoOn, OpenerAsksAlone}
+use Rattle.sd_core.specs.Lasting.{LeavesMerged}
 use Rattle.sd_belief.specs.View.{CoreView, history_of}
 use Rattle.sd_world.specs.declared.kept.Kept.TheVariants.{Request}
 use Rattle.sd_world.specs.Consistent.{IsWorld}
@@ -10,6 +13,8 @@ use Rattle.sd_world.proofs.AddsLemmas.{step_adds, step_base, step_honest, step_s
 use Rattle.sd_world.proofs.AllowedLemmas.{world_allows}
 use Rattle.sd_world.proofs.FirstLemmas.{device_step, idle_step, made_step}
 use Rattle.sd_world.proofs.LittleLemmas.{step_little}
+use Rattle.sd_world.proofs.MergesLemmas.{step_keeps, step_merges}
+use Rattle.sd_world.proofs.RefusedLemmas.{job_refused}
 use Rattle.sd_world.proofs.LowersLemmas.{hand_in_lowers, take_up_lowers, work_lowers}
 use Rattle.sd_world.proofs.ReplyLemmas.{marked_legal, says}
 use Rattle.sd_world.proofs.StepLemmas.{step_world}
@@ -74,6 +79,40 @@ returns-clause-little g c =
     let new : WorldView g.row.D.Denot = record { core = c.make_step-answer.new.core; disk = c.make_step-answer.new.disk; kept = c.make_step-answer.new.kept } in
     step_little g.D.Disk c.args.self.now new (subst (IsWorld g.D.Disk) c.self.view_is c.self.invariant) c.args.event.now c.make_step-answer.result
     (subst (λ w. Does g.D.Disk c.args.event.now w c.make_step-answer.result new) c.self.view_is c.make_step-answer.ensures)
+
+pub returns-clause-merges : goal.returns-clause-merges
+returns-clause-merges g c = λ honest.
+    let new : WorldView g.row.D.Denot = record { core = c.make_step-answer.new.core; disk = c.make_step-answer.new.disk; kept = c.make_step-answer.new.kept } in
+    let old = c.args.self.now in
+    let world = subst (IsWorld g.D.Disk) c.self.view_is c.self.invariant in
+    let does = subst (λ w. Does g.D.Disk c.args.event.now w c.make_step-answer.result new) c.self.view_is c.make_step-answer.ensures in
+    step_merges g.D.Disk old new world c.writes_commute.ensures
+    (subst (λ (w : WorldView g.row.D.Denot). GivenUpFits (g.D.Disk.contents w.disk) (g.D.Disk.may_leave w.disk)) c.self.view_is c.given_up_fits.ensures)
+    (subst (λ (w : WorldView g.row.D.Denot). AreOwnLanes w.core.outs) c.self.view_is c.goes_on.ensures.lanes)
+    c.args.event.now c.make_step-answer.result does (step_honest g.D.Disk old new world c.args.event.now c.make_step-answer.result does honest)
+
+pub returns-clause-keeps : goal.returns-clause-keeps
+returns-clause-keeps g c =
+    let new : WorldView g.row.D.Denot = record { core = c.make_step-answer.new.core; disk = c.make_step-answer.new.disk; kept = c.make_step-answer.new.kept } in
+    let old = c.args.self.now in
+    let does = subst (λ w. Does g.D.Disk c.args.event.now w c.make_step-answer.result new) c.self.view_is c.make_step-answer.ensures in
+    step_keeps g.D.Disk old new (subst (IsWorld g.D.Disk) c.self.view_is c.self.invariant) c.writes_commute.ensures
+    (subst (λ (w : WorldView g.row.D.Denot). GivenUpFits (g.D.Disk.contents w.disk) (g.D.Disk.may_leave w.disk)) c.self.view_is c.given_up_fits.ensures)
+    (subst (λ (w : WorldView g.row.D.Denot). AreOwnLanes w.core.outs) c.self.view_is c.goes_on.ensures.lanes)
+    (subst (λ (w : WorldView g.row.D.Denot). LeavesMerged w.core) c.self.view_is c.merged_stands.ensures) c.args.event.now c.make_step-answer.result does
+
+pub returns-clause-jobs : goal.returns-clause-jobs
+returns-clause-jobs g c = λ honest worker why is unasked busy refused.
+    let new : WorldView g.row.D.Denot = record { core = c.make_step-answer.new.core; disk = c.make_step-answer.new.disk; kept = c.make_step-answer.new.kept } in
+    let old = c.args.self.now in
+    let world = subst (IsWorld g.D.Disk) c.self.view_is c.self.invariant in
+    let does = subst (λ w. Does g.D.Disk c.args.event.now w c.make_step-answer.result new) c.self.view_is c.make_step-answer.ensures in
+    job_refused g.D.Disk old new world (subst (λ (w : WorldView g.row.D.Denot). CanGoOn w.core) c.self.view_is c.goes_on.ensures.goes)
+    (subst (λ (w : WorldView g.row.D.Denot). OpenerAsksAlone w.core) c.self.view_is c.goes_on.ensures.alone)
+    (subst (λ (w : WorldView g.row.D.Denot). g.D.Disk.may_leave w.disk (g.D.Disk.contents w.disk)) c.self.view_is (g.met.D.Disk.as_read c.self.inside.disk))
+    worker c.make_step-answer.result why busy refused
+    unasked (step_honest g.D.Disk old new world c.args.event.now c.make_step-answer.result does honest)
+    (subst (λ e. Does g.D.Disk e old c.make_step-answer.result new) is does)
 
 pub returns-clause-base : goal.returns-clause-base
 returns-clause-base g c =

@@ -1,0 +1,148 @@
+-- Whether the next checkpoint goes on from the tip, and whether a gate's opening was taken up.
+use Rattle.std.proofs.Common.{◌≡◌, ◌⊎◌, ℕ, Bool, true, false, ◌||◌, ◌&&◌, if◌then◌else◌, List, [], ◌∷◌, ◌++◌, Option, Some, None, IfSome, refl, sym, ◌∙◌, ap, subst, inl, inr}
+use Rattle.std.proofs.lemmas.Option.{same_Some}
+use Rattle.sd_gate.specs.declared.answer.Answer.{Answer}
+use Rattle.sd_gate.specs.declared.slot_state.SlotState.{SlotState}
+use Rattle.sd_gate.specs.declared.slot_state.SlotState.TheVariants.{Raw, Closed, Open as OpenSlot, Writing}
+use Rattle.sd_gate.specs.Calls.{buffer_back, is_done}
+use Rattle.sd_gate.specs.Inspections.{calls_then, nothing}
+use Rattle.sd_gate.specs.Plans.{Gives, Planned, plan_after}
+use Rattle.sd_gate.specs.Requests.{Asked, Made}
+use Rattle.sd_gate.specs.Sequences.{Calls, format_calls}
+use Rattle.sd_image.specs.declared.header.Kind.{Kind}
+use Rattle.sd_image.specs.declared.header.Kind.TheVariants.{PreDump, Dump, Merged}
+use Rattle.sd_journal.specs.declared.entry.Entry.TheVariants.{Applied, Freeze, Acked, Cancelled, Reopened}
+use Rattle.sd_journal.specs.History.{Base, History}
+use Rattle.sd_journal.specs.Marked.{Marked, entries_of}
+use Rattle.sd_journal.specs.Trimming.{IsEnded, base_after}
+use Rattle.sd_rounds.specs.declared.image_order.ImageOrder.{ImageOrder}
+use Rattle.sd_rounds.specs.declared.stage.Stage.{Stage}
+use Rattle.sd_rounds.specs.declared.stage.Stage.TheVariants.{Format, Freeze as FreezeStage, Pass as PassStage, Close}
+use Rattle.sd_rounds.specs.Dumper.{Running, is_last}
+use Rattle.sd_rounds.specs.Making.{GoesOn, IsReadyFor, IsWritten, Making, plan_of, stage_after, stage_behind, with_plan}
+use Rattle.sd_rounds.specs.Pass.{Pass}
+use Rattle.sd_rounds.specs.Sound.{IsSoundImage}
+use Rattle.sd_belief.specs.DumperSteps.{opens_gate}
+use Rattle.sd_core.specs.Grown.{AreFlags, HasNoOpen, IsGated, IsGatedImage, IsGatedStage, has_grown}
+
+-- ---- by the journal
+
+-- a trim leaves it
+pub grown_trims : (base : Base) (kept folded : History) (n : ℕ) → IsEnded n folded → has_grown (base_after base n folded) kept ≡ has_grown base (kept ++ folded)
+grown_trims base [] [] n ended = absurd ended
+grown_trims base [] (Applied seat command reply ∷ before) n ended = absurd ended
+grown_trims base [] (Freeze m ∷ before) n ended = absurd ended
+grown_trims base [] (Acked m ∷ before) n ended = refl
+grown_trims base [] (Cancelled m ∷ before) n ended = absurd ended
+grown_trims base [] (Reopened m ∷ before) n ended = refl
+grown_trims base (Applied seat command reply ∷ kept) folded n ended = grown_trims base kept folded n ended
+grown_trims base (Freeze m ∷ kept) folded n ended = grown_trims base kept folded n ended
+grown_trims base (Acked m ∷ kept) folded n ended = refl
+grown_trims base (Cancelled m ∷ kept) folded n ended = refl
+grown_trims base (Reopened m ∷ kept) folded n ended = refl
+
+no_true : {P : Type 0} → false ≡ true → P
+no_true is = absurd (let no : false ≡ true = is in cc)
+
+-- the entries are as before
+pub same_flags : (base : Base) (items now : Marked) (swept grows committing : Bool) → now ≡ items → AreFlags base items swept grows committing → AreFlags base now swept grows committing
+same_flags base items now swept grows committing same was = subst (λ all. AreFlags base all swept grows committing) (sym same) was
+
+-- nothing was committed
+pub set_flags : (base : Base) (items : Marked) (swept grows committing : Bool) → grows ≡ has_grown base (entries_of items) → committing ≡ false → AreFlags base items swept grows committing
+set_flags base items swept grows committing grown none = record { grown = grown; sure = λ is. no_true (sym none ∙ is) }
+
+-- ---- the gate of the image in the making
+
+pub gated_of : (swept : Bool) (all : Option Running) (running : Running) (image : Making) → IfSome all (IsGated swept) → all ≡ Some running → running.image ≡ Some image
+    → IsGatedStage (is_last running) swept image.stage
+gated_of swept all running image gated was making = subst (IsGatedImage (is_last running) swept) making (subst (λ r. IfSome r (IsGated swept)) was gated)
+
+-- the calls that make a slot ready
+pub format_has_no_open : (state : SlotState) → HasNoOpen (format_calls state)
+format_has_no_open Raw = (refl, (refl, (refl, tt)))
+format_has_no_open Closed = (refl, tt)
+format_has_no_open OpenSlot = (refl, (refl, (refl, tt)))
+format_has_no_open Writing = (refl, tt)
+
+same_plan : (plan other : Planned) → Some plan ≡ Some other → plan ≡ other
+same_plan plan other e = same_Some plan other e
+
+-- the next call is asked for, and more are left
+pub gated_asked : (last swept : Bool) (stage : Stage) (plan next : Planned) (request : Asked) → IsGatedStage last swept stage → plan_of stage ≡ Some plan → Gives plan next request
+    → IsGatedStage last swept (with_plan stage next)
+gated_asked last swept (Format own) plan next request gated is gives = (subst HasNoOpen (ap (λ (p : Planned). p.calls) (same_plan own plan is) ∙ gives.next) gated).1
+gated_asked last swept FreezeStage plan next request gated is gives = tt
+gated_asked last swept PassStage plan next request gated is gives = tt
+gated_asked last swept (Close own header tables) plan next request gated is gives = gated
+
+-- where it opens the gate of the last image, that one's pass is over
+pub gate_swept : (last swept : Bool) (stage : Stage) (plan next : Planned) (request : Asked) → IsGatedStage last swept stage → plan_of stage ≡ Some plan → Gives plan next request
+    → last ≡ true → opens_gate request.id.call ≡ true → swept ≡ true
+gate_swept last swept (Format own) plan next request gated is gives dump opens =
+    no_true (sym (subst HasNoOpen (ap (λ (p : Planned). p.calls) (same_plan own plan is) ∙ gives.next) gated).0 ∙ opens)
+gate_swept last swept FreezeStage plan next request gated is gives dump opens = absurd (let no : None ≡ Some plan = is in cc)
+gate_swept last swept PassStage plan next request gated is gives dump opens = absurd (let no : None ≡ Some plan = is in cc)
+gate_swept last swept (Close own header tables) plan next request gated is gives dump opens = gated dump
+
+-- the opening of a gate may be taken up
+pub sure_asked : (committing last opens swept : Bool) → (committing ≡ true → swept ≡ true) → (last ≡ true → opens ≡ true → swept ≡ true) → (committing || last && opens) ≡ true → swept ≡ true
+sure_asked true last opens swept sure new is = sure refl
+sure_asked false true true swept sure new is = new refl refl
+sure_asked false true false swept sure new is = no_true is
+sure_asked false false opens swept sure new is = no_true is
+
+-- an outcome comes, and the plan goes on or the next stage begins
+gated_behind : (last swept : Bool) (kind : Kind) (stage : Stage) → IsGatedStage last swept (stage_behind kind stage)
+gated_behind last swept PreDump (Format plan) = tt
+gated_behind last swept Dump (Format plan) = tt
+gated_behind last swept Merged (Format plan) = tt
+gated_behind last swept kind FreezeStage = tt
+gated_behind last swept kind PassStage = tt
+gated_behind last swept kind (Close plan header tables) = tt
+
+calls_kept : (calls : Calls) (answer : Answer) (buffer : Option (List ℕ)) → HasNoOpen calls → HasNoOpen (calls_then calls nothing answer buffer).0
+calls_kept [] answer buffer none = tt
+calls_kept (call ∷ calls) answer buffer none = none
+
+open_after : (plan : Planned) (made : Made) → plan.awaits ≡ nothing → HasNoOpen plan.calls → HasNoOpen (plan_after plan made).calls
+open_after plan made known none = by (is_done made.answer)
+  where
+    buffer : Option (List ℕ)
+    buffer = buffer_back made.request.id.call made.request.bytes
+
+    by : (done : Bool) → HasNoOpen (if done then calls_then plan.calls plan.awaits made.answer buffer else ([], nothing)).0
+    by true = subst (λ a. HasNoOpen (calls_then plan.calls a made.answer buffer).0) (sym known) (calls_kept plan.calls made.answer buffer none)
+    by false = tt
+
+gated_after : (last swept : Bool) (order : ImageOrder) (pass : Pass) (stage : Stage) (plan : Planned) (made : Made) (calls : Calls) → plan_of stage ≡ Some plan → IsReadyFor order pass stage
+    → IsGatedStage last swept stage → IsGatedStage last swept (stage_after order.kind stage (plan_after plan made) calls)
+gated_after last swept order pass stage plan made [] is ready gated = gated_behind last swept order.kind stage
+gated_after last swept order pass (Format own) plan made (call ∷ calls) is ready gated =
+    subst (λ p. HasNoOpen (plan_after p made).calls) (same_plan own plan is) (open_after own made ready.1.known gated)
+gated_after last swept order pass FreezeStage plan made (call ∷ calls) is ready gated = tt
+gated_after last swept order pass PassStage plan made (call ∷ calls) is ready gated = tt
+gated_after last swept order pass (Close own header tables) plan made (call ∷ calls) is ready gated = gated
+
+pub gated_more : (last swept : Bool) (image next : Making) (made : Made) → IsSoundImage image → GoesOn image made next ⊎ IsWritten image made next
+    → IsGatedStage last swept image.stage → IsGatedStage last swept next.stage
+gated_more last swept image next made sound (inl goes) gated = subst (IsGatedStage last swept) (sym (ap (λ (m : Making). m.stage) goes.is))
+    (gated_after last swept image.order image.pass image.stage goes.plan made (plan_after goes.plan made).calls goes.awaited.was sound.ready gated)
+gated_more last swept image next made sound (inr written) gated = subst (IsGatedStage last swept) (sym (ap (λ (m : Making). m.stage) written.is)) gated
+
+-- once the table is asked for, the pass is over
+pub table_sure : (committing last opens swept now : Bool) → now ≡ (swept || last) → (committing ≡ true → swept ≡ true) → (committing || last && opens) ≡ true → now ≡ true
+table_sure committing last opens swept now is sure commits = is ∙ by committing last swept sure commits
+  where
+    by : (c l s : Bool) → (c ≡ true → s ≡ true) → (c || l && opens) ≡ true → (s || l) ≡ true
+    by c l true had commits_now = refl
+    by c true false had commits_now = refl
+    by true false false had commits_now = no_true (had refl)
+    by false false false had commits_now = no_true commits_now
+
+pub table_gated : (last swept now : Bool) → now ≡ (swept || last) → last ≡ true → now ≡ true
+table_gated last swept now is dump = is ∙ ap (λ l. swept || l) dump ∙ by swept
+  where
+    by : (s : Bool) → (s || true) ≡ true
+    by true = refl
+    by false = refl

@@ -1,0 +1,7 @@
+use Rattle.std.proofs.Common.{◌≡◌, subst}
+use Rattle.sd_belief.specs.View.{CoreView, history_of}
+use Rattle.sd_core.specs.Grown.{has_grown}
+use Rattle.sd_core.proofs.state.Core.flags.Goals as goal
+
+pub returns-clause-grows : goal.returns-clause-grows
+returns-clause-grows c = subst (λ (v : CoreView). v.grows ≡ has_grown v.base (history_of v)) c.self.view_is c.self.invariant.flags_are.grown

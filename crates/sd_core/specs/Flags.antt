@@ -1,0 +1,114 @@
+-- What each call of a core does to the numbers that were used, to whether the next checkpoint goes on from the tip, and to whether the
+-- opening of the gate of the pending checkpoint's dump was taken up.
+use Rattle.std.specs.Prelude.{◌≡◌, ℕ, ◌+◌, ◌%◌, ◌^◌, max, Bool, true, false, ◌&&◌, ◌||◌, is_some, Option, Some, None}
+use Rattle.sd_chain.specs.Catalog.{IsGreatest, Opened, Places, checkpoint_of, images, serial_of}
+use Rattle.sd_command.specs.declared.reply.Reply.{Reply}
+use Rattle.sd_command.specs.declared.reply.Reply.TheVariants as reply
+use Rattle.sd_gate.specs.declared.call.Call.{Call as DeviceCall}
+use Rattle.sd_gate.specs.declared.worker.Worker.{Worker}
+use Rattle.sd_gate.specs.declared.worker.Worker.TheVariants.{Dumper, Merger, Opener}
+use Rattle.sd_gate.specs.Requests.{Asked}
+use Rattle.sd_merge.specs.Merger.{slot_before}
+use Rattle.sd_rounds.specs.Dumper.{is_dumping, next_slot}
+use Rattle.sd_belief.specs.DumperSteps.{opens_gate}
+use Rattle.sd_belief.specs.View.{CoreView, Numbers}
+use Rattle.sd_core.specs.declared.taken.Taken.{Taken}
+use Rattle.sd_core.specs.declared.taken.Taken.TheVariants.{Step, Call}
+
+-- whether the next checkpoint goes on from the tip, whether the opening of the dump's gate was taken up, and the numbers that were used
+pub record HasFlags (grows committing : Bool) (numbers : Numbers) (core : CoreView) : Type 0 where
+  pub grows_is : core.grows ≡ grows
+  pub committing_is : core.committing ≡ committing
+  pub numbers_are : core.numbers ≡ numbers
+
+-- all these are as before
+abbrev pub KeepsFlags : CoreView → CoreView → Type 0
+KeepsFlags old new = HasFlags old.grows old.committing old.numbers new
+
+-- ---- a start
+
+abbrev pub number_of : Option ℕ → ℕ
+number_of None = 0
+number_of (Some n) = n
+
+-- the numbers of a run that starts from this checkpoint
+abbrev pub numbers_from : Option ℕ → Numbers
+numbers_from base = record { checkpoint = number_of base; serial = 0; begun = number_of base; given = 0; ticket = 0 }
+
+-- ---- orders
+
+-- a checkpoint of this number begins
+abbrev pub numbers_begun : Numbers → ℕ → Numbers
+numbers_begun numbers n = record numbers { checkpoint = n; begun = n }
+
+abbrev pub FlagsByBegin : CoreView → Reply → CoreView → Type 0
+FlagsByBegin old (reply.Begun n) new = HasFlags old.grows old.committing (numbers_begun old.numbers n) new
+FlagsByBegin old _ new = KeepsFlags old new
+
+-- the next checkpoint takes every page; nothing was committed
+abbrev pub FlagsByCancel : CoreView → Reply → CoreView → Type 0
+FlagsByCancel old (reply.Cancelled n) new = HasFlags false false old.numbers new
+FlagsByCancel old _ new = KeepsFlags old new
+
+-- ---- steps
+
+-- the greater of a number and the greatest of a catalog's images
+pub record IsFound (number : Opened → ℕ) (own : ℕ) (places : Places) (found : ℕ) : Type 0 where
+  pub greatest : ℕ
+  pub is_greatest : IsGreatest number greatest (images places)
+  pub is : found ≡ max own greatest
+
+-- A store was opened, whose images are these. What was found at an earlier opening counts no more.
+pub record FindsNumbers (old : Numbers) (places : Places) (new : Numbers) : Type 0 where
+  pub checkpoint : IsFound checkpoint_of old.begun places new.checkpoint
+  pub serial : IsFound serial_of old.given places new.serial
+  pub begun : new.begun ≡ old.begun
+  pub given : new.given ≡ old.given
+  pub ticket : new.ticket ≡ old.ticket
+
+-- the store is open: the next checkpoint takes every page, and nothing is committed
+pub record OpensFlags (old new : CoreView) : Type 0 where
+  pub grows_is : new.grows ≡ false
+  pub committing_is : new.committing ≡ false
+  pub finds : FindsNumbers old.numbers new.catalog new.numbers
+
+-- the ticket behind this one; it has 64 bits
+abbrev pub ticket_after : ℕ → ℕ
+ticket_after ticket = (ticket + 1) % 2 ^ 64
+
+-- the next call of a worker is the first of an image
+abbrev pub begins_image : CoreView → Worker → Bool
+begins_image core Dumper = is_some (next_slot core.dumper.running)
+begins_image core Merger = is_some (slot_before core.merger)
+begins_image core Opener = false
+
+-- a request was handed out; where it is the first of an image, that got the next serial
+abbrev pub numbers_asked : Bool → Numbers → Numbers
+numbers_asked false numbers = record numbers { ticket = ticket_after numbers.ticket }
+numbers_asked true numbers = record numbers { serial = numbers.serial + 1; given = numbers.serial + 1; ticket = ticket_after numbers.ticket }
+
+-- the call opens the gate of a checkpoint's dump
+abbrev pub commits : CoreView → Worker → DeviceCall → Bool
+commits core Dumper call = is_dumping core.dumper.running && opens_gate call
+commits core Merger call = false
+commits core Opener call = false
+
+-- A request has the next ticket.
+pub record AsksFlags (old : CoreView) (worker : Worker) (request : Asked) (new : CoreView) : Type 0 where
+  pub ticket : request.id.ticket ≡ old.numbers.ticket
+  pub flags : HasFlags old.grows (old.committing || commits new worker request.id.call) (numbers_asked (begins_image old worker) old.numbers) new
+
+abbrev pub FlagsByReply : CoreView → Reply → CoreView → Type 0
+FlagsByReply old (reply.Reopened m) new = OpensFlags old new
+FlagsByReply old _ new = KeepsFlags old new
+
+abbrev pub FlagsByStep : CoreView → Worker → Taken → CoreView → Type 0
+FlagsByStep old worker (Step answer) new = FlagsByReply old answer new
+FlagsByStep old worker (Call request) new = AsksFlags old worker request new
+
+-- ---- outcomes
+
+-- the next checkpoint goes on from the one that was acknowledged
+abbrev pub FlagsByOutcome : CoreView → Reply → CoreView → Type 0
+FlagsByOutcome old (reply.Acked n) new = HasFlags true false old.numbers new
+FlagsByOutcome old _ new = KeepsFlags old new

@@ -1,0 +1,201 @@
+//! The folder of a store and its slots' files: how they are made and opened.
+ghost use Rattle.std.specs.Prelude.{◌≡◌, length, IfOk};
+ghost use Rattle.sd_disk.specs.declared.folder.TheConstants.{FOLDER_SLOTS};
+
+use crate::file_fault::FileFault;
+use crate::folder::FOLDER_SLOTS;
+use crate::open_error::OpenError;
+use crate::retry::uninterrupted;
+use std::alloc::Global;
+use std::fs::{File, Metadata, OpenOptions, TryLockError};
+use std::os::unix::fs::MetadataExt;
+use std::rt::Files;
+use std::{fs, io};
+
+pub(crate) fn of_folder(error: io::Error) -> OpenError {
+    OpenError::Folder(FileFault::of_folder(error))
+}
+
+fn of_slot(slot: usize, error: io::Error) -> OpenError {
+    OpenError::Folder(FileFault::of_slot(slot, error))
+}
+
+/// Makes the folder and locks it, or sees that it is there.
+pub(crate) fn prepare(
+    rt: &impl Files<File = File>,
+    folder: &str,
+    make: bool,
+) -> io::Result<Option<File>> {
+    if make {
+        make_folders(rt, folder)?;
+        sync_folder(rt, parent_of(folder))?;
+        return lock_folder(rt, folder).map(Some);
+    }
+    if look(rt, folder)?.is_dir() {
+        Ok(None)
+    } else {
+        Err(io::ErrorKind::NotADirectory.into())
+    }
+}
+
+/// What the system tells of a path, behind symbolic links.
+fn look(rt: &impl Files, path: &str) -> io::Result<Metadata> {
+    uninterrupted(|| fs::metadata(rt, path))
+}
+
+/// Makes each folder of a path that is missing, and waits until its name is on the device.
+fn make_folders(rt: &impl Files<File = File>, path: &str) -> io::Result<()> {
+    for (end, byte) in path.bytes().enumerate() {
+        if byte == b'/' && end > 0 {
+            make_folder(rt, path.get(..end).unwrap_or(path))?;
+        }
+    }
+    make_folder(rt, path)
+}
+
+fn make_folder(rt: &impl Files<File = File>, path: &str) -> io::Result<()> {
+    match uninterrupted(|| fs::create_dir(rt, path)) {
+        Ok(()) => sync_folder(rt, parent_of(path)),
+        Err(_) if look(rt, path).is_ok_and(|found| found.is_dir()) => Ok(()),
+        Err(error) => Err(error),
+    }
+}
+
+/// Takes the advisory lock of a folder, or fails where another program has it.
+fn lock_folder(rt: &impl Files<File = File>, folder: &str) -> io::Result<File> {
+    let lock = uninterrupted(|| File::open(rt, folder))?;
+    match lock.try_lock() {
+        Ok(()) => Ok(lock),
+        Err(TryLockError::WouldBlock) => Err(io::Error::new(
+            io::ErrorKind::WouldBlock,
+            "another run has this store open",
+        )),
+        Err(TryLockError::Error(error)) => Err(error),
+    }
+}
+
+/// Whether a run has the lock of a folder now. It asks for the lock, and gives it back at once.
+pub fn is_being_written(rt: &impl Files<File = File>, folder: &str) -> bool {
+    match uninterrupted(|| File::open(rt, folder)) {
+        Ok(lock) => matches!(lock.try_lock_shared(), Err(TryLockError::WouldBlock)),
+        Err(_) => false,
+    }
+}
+
+/// The folder in which a path's last name stands.
+fn parent_of(path: &str) -> &str {
+    match path.trim_end_matches('/').rsplit_once('/') {
+        Some(("", _)) => "/",
+        Some((parent, _)) => parent,
+        None => ".",
+    }
+}
+
+/// Waits until the names in a folder are on the device.
+pub(crate) fn sync_folder(rt: &impl Files<File = File>, path: &str) -> io::Result<()> {
+    let folder = uninterrupted(|| File::open(rt, path))?;
+    uninterrupted(|| folder.sync_all())
+}
+
+/// The path of a slot's file.
+fn path_of(alloc: Global, folder: &str, slot: usize) -> Result<String, OpenError> {
+    format!(in alloc; "{folder}/img-{slot:03}").map_err(|_| OpenError::OutOfMemory)
+}
+
+/// Opens the slots' files that are there, for reading alone unless they may be written.
+pub(crate) fn open_present(
+    rt: &(impl Files<File = File> + AllocGlobal),
+    folder: &str,
+    write: bool,
+) -> Result<Vec<Option<File>>, OpenError>
+    ensures { IfOk result (λ images. length images.items ≡ FOLDER_SLOTS) }
+{
+    let mut images = Vec::with_capacity(rt.alloc(), FOLDER_SLOTS)?;
+    for slot in 0..FOLDER_SLOTS {
+        let path = path_of(rt.alloc(), folder, slot)?;
+        let image = open_image(rt, path.as_str(), write).map_err(|error| of_slot(slot, error))?;
+        images.push(image)?;
+    }
+    Ok(images)
+}
+
+/// Opens a slot's file, or tells that it is missing.
+fn open_image(rt: &impl Files<File = File>, path: &str, write: bool) -> io::Result<Option<File>> {
+    match look(rt, path) {
+        Ok(found) if found.is_file() => open_found(rt, path, write).map(Some),
+        Ok(_) => Err(io::Error::new(io::ErrorKind::Unsupported, "not a regular file")),
+        Err(error) if error.kind() != io::ErrorKind::NotFound => Err(error),
+        Err(_) if is_link(rt, path)? => Err(io::Error::new(
+            io::ErrorKind::NotFound,
+            "a symbolic link to a file that is missing",
+        )),
+        Err(_) => Ok(None),
+    }
+}
+
+/// Whether something is there under a path whose file is missing: a symbolic link that leads nowhere.
+fn is_link(rt: &impl Files, path: &str) -> io::Result<bool> {
+    match uninterrupted(|| fs::symlink_metadata(rt, path)) {
+        Ok(_) => Ok(true),
+        Err(error) if error.kind() == io::ErrorKind::NotFound => Ok(false),
+        Err(error) => Err(error),
+    }
+}
+
+/// Opens a file that is there, for reading alone unless it may be written.
+fn open_found(rt: &impl Files<File = File>, path: &str, write: bool) -> io::Result<File> {
+    uninterrupted(|| OpenOptions::new().read(true).write(write).open(rt, path))
+}
+
+/// A file, by its device and its number there.
+#[derive(Clone, Copy, Debug, PartialEq, Eq)]
+struct FileId {
+    device: u64,
+    number: u64,
+}
+
+/// Sees that each file is its slot's alone: it has no other name, and is no other slot's.
+pub(crate) fn are_own(alloc: Global, images: &[Option<File>]) -> Result<(), OpenError> {
+    let mut seen = Vec::with_capacity(alloc, FOLDER_SLOTS)?;
+    for (slot, image) in images.iter().enumerate() {
+        if let Some(file) = image {
+            let id = own_id(file, &seen).map_err(|error| of_slot(slot, error))?;
+            seen.push(id)?;
+        }
+    }
+    Ok(())
+}
+
+/// Which file it is, where it has one name and isn't among others.
+fn own_id(file: &File, others: &[FileId]) -> io::Result<FileId> {
+    let found = uninterrupted(|| file.metadata())?;
+    let id = FileId {
+        device: found.dev(),
+        number: found.ino(),
+    };
+    if found.nlink() > 1 || others.contains(&id) {
+        return Err(io::Error::new(
+            io::ErrorKind::InvalidData,
+            "this file has another name, under which a run would change it too: give each slot a copy (cp -a)",
+        ));
+    }
+    Ok(id)
+}
+
+/// Makes the slots' files that are missing.
+pub(crate) fn make_missing(
+    rt: &(impl Files<File = File> + AllocGlobal),
+    folder: &str,
+    images: &mut Vec<Option<File>>,
+) -> Result<(), OpenError>
+    ensures { length images.new.items ≡ length images.old.items }
+{
+    for (slot, image) in images.iter_mut().enumerate() {
+        if image.is_none() {
+            let path = path_of(rt.alloc(), folder, slot)?;
+            let made = uninterrupted(|| File::create_new(rt, path.as_str()));
+            *image = Some(made.map_err(|error| of_slot(slot, error))?);
+        }
+    }
+    Ok(())
+}

@@ -1,6 +1,0 @@
-use Rattle.sd_fold.specs.Told.{IsTold}
-use Rattle.sd_fold.proofs.tests.a_fold_makes_what_a_replay_makes.Given as goal
-
--- the entries so far led to the memory
-abbrev pub invariant-loop-command : goal.invariant-loop-command
-invariant-loop-command g l = IsTold l.entries.items l.memory

@@ -1,0 +1,104 @@
+-- Why the next step of a job is refused.
+use Rattle.std.proofs.Common.{◌≡◌, ◌≢◌, ℕ, true, false, List, map, Some, None, slice_get, suc, refl, sym, ◌∙◌, ap, subst, arith}
+use Rattle.std.proofs.lemmas.Bool.{false≢true}
+use Rattle.std.proofs.lemmas.Option.{same_Some}
+use Rattle.sd_command.specs.declared.refusal.Refusal.{Refusal}
+use Rattle.sd_command.specs.declared.refusal.Refusal.TheVariants.{Damaged, OutOfMemory, StoreDown}
+use Rattle.sd_command.specs.declared.reply.Reply.{Reply}
+use Rattle.sd_command.specs.declared.reply.Reply.TheVariants as reply
+use Rattle.sd_disk.specs.declared.disk.Disk.{Ghosts}
+use Rattle.sd_gate.specs.declared.request_id.RequestId.{RequestId}
+use Rattle.sd_gate.specs.declared.worker.Worker.{Worker}
+use Rattle.sd_gate.specs.declared.worker.Worker.TheVariants.{Dumper, Merger, Opener}
+use Rattle.sd_belief.specs.View.{CoreView, index}
+use Rattle.sd_core.specs.declared.taken.Taken.TheVariants.{Step as StepTaken}
+use Rattle.sd_core.specs.GoingOn.{CanGoOn, HasNoneOut, OpenerAsksAlone}
+use Rattle.sd_core.specs.Refusals.{is_idle}
+use Rattle.sd_core.specs.Working.{LeavesByOutcome, LeavesByStep}
+use Rattle.sd_world.specs.declared.call_state.CallState.TheVariants as its
+use Rattle.sd_world.specs.declared.kept.Kept.{Kept}
+use Rattle.sd_world.specs.declared.kept.Kept.TheVariants.{Nothing, Request, Outcome}
+use Rattle.sd_world.specs.Consistent.{IsConsistent, IsWorld}
+use Rattle.sd_world.specs.Refused.{MayBeRefused}
+use Rattle.sd_world.specs.Steps.{HandsInAt, IsWork, TakesUp, Works}
+use Rattle.sd_world.specs.View.{IsNowhere, WorldView, asked_id, asked_of, id_of, is_asked, is_of}
+use Rattle.sd_world.proofs.AddsLemmas.{is_out}
+use Rattle.sd_world.proofs.FirstLemmas.{any_at, first_at, same_number}
+use Rattle.sd_world.proofs.KeptLemmas.{whose}
+use Rattle.sd_world.proofs.Lists.{map_get}
+use Rattle.sd_world.proofs.RestingLemmas.{left}
+
+-- an outcome is refused only since the store is down
+outcome_refused : (old : CoreView) (worker : Worker) (why : Refusal) (new : CoreView) → LeavesByOutcome old worker (reply.Refused why) new → why ≡ StoreDown
+outcome_refused old worker StoreDown new leaves = refl
+outcome_refused old worker why new leaves = absurd leaves
+
+-- and a step for want of memory
+step_refused : (kept : List Kept) (old : CoreView) (worker : Worker) (why : Refusal) (new : CoreView) → LeavesByStep old worker (reply.Refused why) new
+    → (worker ≡ Merger → why ≢ Damaged) → (worker ≡ Opener → why ≢ Damaged) → MayBeRefused kept worker why
+step_refused kept old worker OutOfMemory new leaves found opens = tt
+step_refused kept old Dumper Damaged new leaves found opens = absurd leaves
+step_refused kept old Merger Damaged new leaves found opens = absurd (found refl refl)
+step_refused kept old Opener Damaged new leaves found opens = absurd (opens refl refl)
+step_refused kept old worker why new leaves found opens = absurd leaves
+
+-- a worker of which no call waits, and no outcome is kept, has none out
+none_out : (kept : List Kept) (worker : Worker) → is_asked kept worker ≡ false → IsNowhere kept its.Made worker 0 → HasNoneOut (map id_of kept) worker
+none_out kept worker unasked none lane id at own = by there.0 there.1 there.2
+  where
+    there : (k : Kept) × (slice_get kept lane ≡ Some k) × (id_of k ≡ Some id)
+    there = map_get id_of kept lane (Some id) at
+
+    by : (k : Kept) → slice_get kept lane ≡ Some k → id_of k ≡ Some id → ⊥
+    by Nothing is has = (let no : None ≡ Some id = has in cc)
+    by (Request request) is has =
+        let its_own : request.id.worker ≡ worker = ap (λ (i : RequestId). i.worker) (same_Some request.id id has) ∙ own in
+        false≢true (sym unasked ∙ any_at (λ k. is_of worker (asked_id k)) kept lane (Request request) is
+        (ap (λ w. is_of worker (Some (record request.id { worker = w }))) its_own ∙ same_number (index worker)))
+    by (Outcome made) is has =
+        let its_own : made.request.id.worker ≡ worker = ap (λ (i : RequestId). i.worker) (same_Some made.request.id id has) ∙ own in
+        let first = first_at (suc made.request.id.ticket) kept its.Made worker lane (Outcome made) made.request.id is refl its_own (omega arith) in
+        none first.0 first.1
+
+module _ {D : Type 0} (g : Ghosts D) (old new : WorldView D) (world : IsWorld g old) (can : CanGoOn old.core) (alone : OpenerAsksAlone old.core)
+    (as_read : g.may_leave old.disk (g.contents old.disk)) (worker : Worker) (answer : Reply) (why : Refusal)
+    (busy : is_idle old.core worker ≡ false) (is : answer ≡ reply.Refused why) where
+  handed_refused : HandsInAt worker 0 old.core old.kept answer new.core new.kept → MayBeRefused old.kept worker why
+  handed_refused hands =
+      let own = whose old.kept worker 0 hands.lane hands.made hands.at hands.is in
+      let out = is_out g old new world hands.lane hands.made hands.is in
+      let down = outcome_refused old.core hands.made.request.id.worker why new.core
+      (subst (λ a. LeavesByOutcome old.core hands.made.request.id.worker a new.core) is (hands.hands.does.leaves out)) in
+      let refused : answer ≡ reply.Refused StoreDown = is ∙ ap reply.Refused down in
+      subst (MayBeRefused old.kept worker) (sym down) (record {
+        lane = hands.lane;
+        at = hands.at;
+        made = hands.made;
+        is = hands.is;
+        failed = λ other. hands.hands.does.down out (λ its. other (sym own ∙ its)) (subst (λ w. is_idle old.core w ≡ false) (sym own) busy) refused;
+        unlike = λ opener done. (let no : reply.Worked ≡ reply.Refused StoreDown = sym (hands.hands.does.goes_on out (own ∙ opener) done) ∙ refused in cc);
+      })
+
+  -- beside an opener that has none out nobody has
+  nobody_out : is_asked old.kept worker ≡ false → IsNowhere old.kept its.Made worker 0 → worker ≡ Opener
+      → (lane : ℕ) (id : RequestId) → slice_get old.core.outs lane ≡ Some (Some id) → ⊥
+  nobody_out unasked none opener lane id at =
+      none_out old.kept worker unasked none lane id (ap (λ outs. slice_get outs lane) (sym world.outs) ∙ at)
+      (alone (subst (λ w. is_idle old.core w ≡ false) opener busy) lane id at ∙ sym opener)
+
+  taken_refused : is_asked old.kept worker ≡ false → IsNowhere old.kept its.Made worker 0 → IsConsistent g old
+      → TakesUp worker old.core old.kept answer new.core new.kept → MayBeRefused old.kept worker why
+  taken_refused unasked none was (TakesUp.step taken later) =
+      let free = can worker busy (subst (λ outs. HasNoneOut outs worker) (sym world.outs) (none_out old.kept worker unasked none)) in
+      step_refused old.kept old.core worker why new.core (subst (λ a. LeavesByStep old.core worker a new.core) is (taken.leaves free))
+      (λ merger damaged. taken.finds merger (map asked_of old.kept) was.bodies (g.contents old.disk) was.believes (ap StepTaken (is ∙ ap reply.Refused damaged)))
+      (λ opener damaged. taken.opens opener (map asked_of old.kept) was.bodies (g.contents old.disk) was.believes
+      (left g old.disk old.core old.kept (nobody_out unasked none opener) world was as_read) (ap StepTaken (is ∙ ap reply.Refused damaged)))
+  taken_refused unasked none was (TakesUp.call request taken later worked) = absurd (let no : reply.Worked ≡ reply.Refused why = sym worked ∙ is in cc)
+
+  works_refused : is_asked old.kept worker ≡ false → IsConsistent g old → Works worker old.core old.kept answer new.core new.kept → MayBeRefused old.kept worker why
+  works_refused unasked was (Works.hands_in hands) = handed_refused hands
+  works_refused unasked was (Works.takes_up none takes) = taken_refused unasked none was takes
+
+  pub job_refused : is_asked old.kept worker ≡ false → g.is_honest old.disk → IsWork worker old answer new → MayBeRefused old.kept worker why
+  job_refused unasked honest work = works_refused unasked (world.consistent honest) work.works

@@ -1,0 +1,105 @@
+# File calls that fail, by fail_call.c put before the C library: each call of a run in turn, in each way. What was
+# acknowledged is there afterwards, and the next run goes on.
+
+# The script: three checkpoints and a merge.
+write_calls_script() {
+  printf '%s\n' 'mmap 1 0x10000 8192 rw' 'store 1 0x10000 61' 'checkpoint 0' 'store 1 0x11000 62' 'checkpoint 1' \
+    'store 1 0x10000 63' 'checkpoint 0' merge > calls.ckpt
+}
+
+# Every answer that the script may give where calls fail.
+answers_of_calls='reopened none|done|acked [123]|merged 5|refused (6 frozen|10 not-open|11 busy|13 store-down|14 idle|22 device)|device'
+answers_of_calls="$answers_of_calls|cannot open DIR|cannot read SCRIPT"
+
+# Makes the library, the answers of a run without failures, and what is restored behind each checkpoint: memory-0 to memory-3.
+prepare_calls() {
+  local number=0 line
+  command -v cc > /dev/null || { echo "no C compiler"; return 77; }
+  cc -O2 -shared -fPIC -o fail.so "$here/fail_call.c" || return 1
+  export ASAN_OPTIONS=verify_asan_link_order=0
+  write_calls_script
+  echo "empty chain" > memory-0
+  : > part.ckpt
+  while read -r line; do
+    echo "$line" >> part.ckpt
+    [ "${line%% *}" = checkpoint ] || continue
+    number=$((number + 1))
+    rm -rf store
+    "$ckpt" run store part.ckpt > part.out || return 1
+    "$ckpt" restore store > "memory-$number" || return 1
+  done < calls.ckpt
+  rm -rf store
+  COUNTED=count LD_PRELOAD=./fail.so "$ckpt" run store calls.ckpt > whole.out || return 1
+  same "the last answer" "$(tail -n 1 whole.out)" "merged 5"
+}
+
+# Runs the script over an empty store while a call fails.
+run_failing() {  # run_failing NUMBER HOW
+  rm -rf store
+  FAILED=$1 HOW=$2 LD_PRELOAD=./fail.so "$ckpt" run --quiet store calls.ckpt > out 2> err
+}
+
+# The number of the checkpoint that a store shows, 0 for none.
+shown_number() {
+  local verdict
+  verdict=$("$ckpt" verify store) || { echo "$verdict"; return 1; }
+  case $verdict in
+    "ok empty") echo 0 ;;
+    *) set -- $verdict; echo "$3" ;;
+  esac
+}
+
+# A store shows the last acknowledged checkpoint, or the next one, and a run goes on from it.
+keeps_what_was_acknowledged() {
+  local acked shown opened
+  acked=$(sed -n 's/^acked //p' out | tail -n 1)
+  acked=${acked:-0}
+  [ -d store ] || return "$acked"
+  shown=$(shown_number) || { echo "verify: $shown"; return 1; }
+  [ "$shown" -eq "$acked" ] || [ "$shown" -eq $((acked + 1)) ] || { echo "acked $acked, shown $shown"; return 1; }
+  "$ckpt" restore store > memory
+  cmp -s memory "memory-$shown" || { echo "another memory than that of $shown"; cat memory; return 1; }
+  [ "$shown" -eq 0 ] && opened=none || opened=$shown
+  echo 'checkpoint 0' > next.ckpt
+  "$ckpt" run store next.ckpt > next || { cat next; return 1; }
+  same "the opening of the next run" "$(head -n 1 next)" "reopened $opened" || return 1
+  has "the next run" "$(tail -n 1 next)" "acked "
+}
+
+# One call fails: each answer is a named one, and nothing that was acknowledged is lost.
+call_may_fail() {  # call_may_fail NUMBER HOW
+  run_failing "$1" "$2"
+  [ $? -le 1 ] || { echo "another status"; return 1; }
+  grep -vxE "$answers_of_calls" out && { echo "no such answer"; return 1; }
+  keeps_what_was_acknowledged
+}
+
+# One call is interrupted, or moves half of its bytes: nothing changes.
+call_may_be_repeated() {  # call_may_be_repeated NUMBER HOW
+  run_failing "$1" "$2"
+  cmp -s out whole.out || { cat out; return 1; }
+  "$ckpt" restore store > memory
+  cmp -s memory memory-3 || { echo "another memory"; return 1; }
+}
+
+# Tries each call of the run, or each 41st in a build with checks.
+each_call() {  # each_call CHECK HOW
+  local number step=1
+  prepare_calls || return
+  [ -z "${CHECKED:-}" ] || step=41
+  for number in $(seq 1 "$step" "$(($(cat count)))"); do
+    "$1" "$number" "$2" || { echo "call $number, $2"; return 1; }
+  done
+}
+
+calls_that_are_not_made() { each_call call_may_fail unmade; }
+calls_that_are_made_and_fail() { each_call call_may_fail made; }
+device_that_is_full_from_a_call_on() { each_call call_may_fail full; }
+calls_that_are_interrupted() { each_call call_may_be_repeated interrupted; }
+calls_that_move_half() { each_call call_may_be_repeated short; }
+
+try calls_that_are_not_made
+try calls_that_are_made_and_fail
+try device_that_is_full_from_a_call_on
+try calls_that_are_interrupted
+try calls_that_move_half

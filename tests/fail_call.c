@@ -1,0 +1,122 @@
+/* Put before the C library (LD_PRELOAD), this counts the file calls of a program (open, statx, pread, pwrite, ftruncate,
+   fsync, fdatasync), from 1, and makes some fail. It takes from the environment:
+     COUNTED   a file to which the count is written at each call, since a program may end by _exit
+     FAILED    the number of the call that fails
+     HOW       how it fails: `unmade` (EIO, and nothing is done), `made` (done, and then EIO), `full` (ENOSPC, and all later
+               calls that make or change a file too), `interrupted` (EINTR once, and nothing is done), `short` (a read or a
+               write of half the bytes) */
+#define _GNU_SOURCE
+#include <dlfcn.h>
+#include <errno.h>
+#include <fcntl.h>
+#include <stdarg.h>
+#include <stdio.h>
+#include <stdlib.h>
+#include <string.h>
+#include <sys/stat.h>
+#include <unistd.h>
+
+enum how { UNMADE, MADE, FULL, INTERRUPTED, SHORT };
+
+static const char *const ways[] = {"unmade", "made", "full", "interrupted", "short"};
+
+static unsigned long calls, failed;
+static enum how how;
+static int counted = -1;
+
+static int (*next_open)(const char *, int, ...);
+static int (*next_statx)(int, const char *, int, unsigned, struct statx *);
+static ssize_t (*next_pread)(int, void *, size_t, off_t);
+static ssize_t (*next_pwrite)(int, const void *, size_t, off_t);
+static int (*next_ftruncate)(int, off_t);
+static int (*next_fsync)(int);
+static int (*next_fdatasync)(int);
+
+__attribute__((constructor)) static void begin(void) {
+  const char *number = getenv("FAILED"), *way = getenv("HOW"), *file = getenv("COUNTED");
+  next_open = dlsym(RTLD_NEXT, "open");
+  next_statx = dlsym(RTLD_NEXT, "statx");
+  next_pread = dlsym(RTLD_NEXT, "pread");
+  next_pwrite = dlsym(RTLD_NEXT, "pwrite");
+  next_ftruncate = dlsym(RTLD_NEXT, "ftruncate");
+  next_fsync = dlsym(RTLD_NEXT, "fsync");
+  next_fdatasync = dlsym(RTLD_NEXT, "fdatasync");
+  failed = number ? strtoul(number, NULL, 10) : 0;
+  for (size_t at = 0; way && at < sizeof ways / sizeof *ways; at++)
+    if (strcmp(way, ways[at]) == 0)
+      how = at;
+  if (file)
+    counted = next_open(file, O_WRONLY | O_CREAT | O_CLOEXEC, 0666);
+}
+
+/* Counts a call. Returns whether it is to fail; `changes` tells whether it makes or changes a file. */
+static int fails(int changes) {
+  char text[24];
+  calls++;
+  if (counted >= 0)
+    next_pwrite(counted, text, snprintf(text, sizeof text, "%20lu\n", calls), 0);
+  if (failed == 0 || calls < failed)
+    return 0;
+  return how == FULL ? changes : calls == failed;
+}
+
+/* The call is to fail, and isn't made: why. */
+static int refuse(void) {
+  errno = how == FULL ? ENOSPC : how == INTERRUPTED ? EINTR : EIO;
+  return -1;
+}
+
+/* The call was made, and is to fail. */
+static int forget(void) {
+  errno = EIO;
+  return -1;
+}
+
+#define FAIL_OR(changes, call)                                                                                         \
+  do {                                                                                                                 \
+    if (!fails(changes) || how == SHORT)                                                                               \
+      return call;                                                                                                     \
+    if (how != MADE)                                                                                                   \
+      return refuse();                                                                                                 \
+    call;                                                                                                              \
+    return forget();                                                                                                   \
+  } while (0)
+
+int open(const char *path, int flags, ...) {
+  mode_t mode = 0;
+  if (flags & O_CREAT) {
+    va_list rest;
+    va_start(rest, flags);
+    mode = va_arg(rest, mode_t);
+    va_end(rest);
+  }
+  FAIL_OR((flags & O_CREAT) != 0, next_open(path, flags, mode));
+}
+
+int statx(int folder, const char *restrict path, int flags, unsigned mask, struct statx *restrict found) {
+  FAIL_OR(0, next_statx(folder, path, flags, mask, found));
+}
+
+int ftruncate(int file, off_t length) { FAIL_OR(1, next_ftruncate(file, length)); }
+
+int fsync(int file) { FAIL_OR(1, next_fsync(file)); }
+
+int fdatasync(int file) { FAIL_OR(1, next_fdatasync(file)); }
+
+/* How many bytes a read or a write moves that is to fail. */
+static size_t half(size_t length) { return length > 1 ? length / 2 : length; }
+
+ssize_t pread(int file, void *bytes, size_t length, off_t at) {
+  int is_short = how == SHORT && calls + 1 == failed;
+  FAIL_OR(0, next_pread(file, bytes, is_short ? half(length) : length, at));
+}
+
+ssize_t pwrite(int file, const void *bytes, size_t length, off_t at) {
+  int is_short = how == SHORT && calls + 1 == failed;
+  FAIL_OR(1, next_pwrite(file, bytes, is_short ? half(length) : length, at));
+}
+
+int open64(const char *, int, ...) __attribute__((alias("open")));
+ssize_t pread64(int, void *, size_t, off_t) __attribute__((alias("pread")));
+ssize_t pwrite64(int, const void *, size_t, off_t) __attribute__((alias("pwrite")));
+int ftruncate64(int, off_t) __attribute__((alias("ftruncate")));

@@ -1,0 +1,104 @@
+# How the folder of a store and its files are made and opened: what is synced, in which order, and what is refused.
+
+# The file calls of a run, one a line, as strace tells them with the paths of descriptors: the file calls-of-run.
+trace_run() {  # trace_run STORE SCRIPT
+  command -v strace > /dev/null || { echo "needs strace"; return 77; }
+  strace -y -o calls-of-run -e trace=mkdir,openat,open,pwrite64,ftruncate,fsync,fdatasync,write \
+    "$ckpt" run "$1" "$2" > answers 2> err || { echo "strace can't run here"; return 77; }
+}
+
+# Each folder that is made is synced into the one in which it stands.
+folders_are_synced_into_their_parents() {
+  echo 'checkpoint 0' > script
+  trace_run x1/x2/x3 script || return
+  local made parent
+  for made in x1 x1/x2 x1/x2/x3; do
+    parent=$(dirname "$made")
+    parent=$([ "$parent" = . ] && pwd || echo "$(pwd)/$parent")
+    awk -v made="mkdir(\"$made\"" -v parent="<$parent>" '
+      index($0, made) { seen = 1 }
+      seen && /^fsync/ && index($0, parent) { found = 1 }
+      END { exit !found }' calls-of-run || { echo "$made isn't synced into $parent"; return 1; }
+  done
+}
+
+# The names of the files are on the device before the store is said to be opened.
+files_are_synced_before_the_store_is_opened() {
+  echo 'checkpoint 0' > script
+  trace_run store script || return
+  awk -v folder="<$(pwd)/store>" '
+    /O_CREAT/ && /img-[0-9]+"/ { made++; synced = 0 }
+    /^fsync/ && index($0, folder) { synced = 1 }
+    /^fsync/ && /img-000>/ { exit }
+    END { exit !(made == 64 && synced) }' calls-of-run || { grep -c O_CREAT calls-of-run; return 1; }
+}
+
+# The calls on a slot's file, a letter each: z a 0 and o an open gate at its first byte, h the header, d what stands behind
+# it, t a cut, s a sync.
+calls_on() {  # calls_on SLOT
+  awk -v file="img-$1>" '
+    !index($0, file) { next }
+    /^fsync|^fdatasync/ { printf "s"; next }
+    /^ftruncate/ { printf "t"; next }
+    /, 1, 0\) = 1$/ { printf index($0, "\"\\245\"") ? "o" : "z"; next }
+    /, 4095, 1\) = 4095$/ { printf "h"; next }
+    /^pwrite64/ { printf "d" }' calls-of-run
+}
+
+# The opening syncs each file twice. Then a file is closed, synced and cut, its body written and synced, and it is opened and
+# synced; one that isn't needed any more is closed, synced and cut.
+calls_on_a_slot_have_their_order() {
+  printf '%s\n' 'mmap 1 0x10000 8192 rw' 'store 1 0x10000 61' 'store 1 0x11000 62' 'checkpoint 0' 'store 1 0x11000 63' \
+    'checkpoint 0' merge > script
+  trace_run store script || return
+  same "the last answer" "$(tail -n 1 answers)" "merged 3" || return 1
+  same "the first image, which the merge closes" "$(calls_on 000)" "sszstdddhsoszst" || return 1
+  same "the second image, which the merge closes" "$(calls_on 001)" "sszstddhsoszst" || return 1
+  same "the merged image" "$(calls_on 002)" "sszstdddhsos"
+}
+
+slots_that_share_a_file_are_not_written() {
+  make_store store || return 1
+  cp -al store linked || { echo "needs hard links"; return 77; }
+  same "the status" "$(ends "$ckpt" run linked script)" 1 || return 1
+  same "the line" "$(cat out)" "cannot open DIR" || return 1
+  has "its cause" "$(cat err)" "linked: img-000: this file has another name" || return 1
+  same "the status of merge" "$(ends "$ckpt" merge linked)" 1 || return 1
+  same "a reader" "$("$ckpt" verify linked)" "ok checkpoint 1 images 1" || return 1
+  cp -a store copied
+  same "a copy" "$("$ckpt" run copied script | tail -n 1)" "acked 2" || return 1
+  rm linked/img-0*
+  ln -s ../copied/img-000 linked/img-000
+  ln -s ../copied/img-000 linked/img-001
+  same "the status of two links to a file" "$(ends "$ckpt" run linked script)" 1 || return 1
+  has "its cause" "$(cat err)" "linked: img-001: this file has another name"
+  same "the files that were made" "$(ls linked | wc -l)" 2
+}
+
+a_link_that_leads_nowhere_is_told() {
+  make_store store || return 1
+  ln -s missing store/img-001 2> /dev/null || { rm store/img-001; ln -s missing store/img-001; }
+  local program
+  for program in restore list verify merge "run --quiet"; do
+    same "the status of $program" "$(ends "$ckpt" $program store $([ "$program" != "run --quiet" ] || echo script))" 1 || return 1
+    same "$program" "$(cat out)" "cannot open DIR" || return 1
+  done
+  ends "$ckpt" verify store > status
+  has "its cause" "$(cat err)" "store: img-001: a symbolic link to a file that is missing"
+}
+
+a_slot_that_is_no_file_is_told() {
+  make_store store || return 1
+  rm -f store/img-005
+  mkdir store/img-005
+  same "the status" "$(ends "$ckpt" verify store)" 1 || return 1
+  same "the line" "$(cat out)" "cannot open DIR" || return 1
+  has "its cause" "$(cat err)" "store: img-005: not a regular file"
+}
+
+try folders_are_synced_into_their_parents
+try files_are_synced_before_the_store_is_opened
+try calls_on_a_slot_have_their_order
+try slots_that_share_a_file_are_not_written
+try a_link_that_leads_nowhere_is_told
+try a_slot_that_is_no_file_is_told
