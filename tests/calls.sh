@@ -8,7 +8,7 @@ write_calls_script() {
 }
 
 # Every answer that the script may give where calls fail.
-answers_of_calls='reopened none|done|acked [123]|merged 5|refused (6 frozen|10 not-open|11 busy|13 store-down|14 idle|22 device)|device'
+answers_of_calls='reopened none|done|acked [123]|merged [345]|refused (6 frozen|10 not-open|11 busy|13 store-down|14 idle|22 device)|device'
 answers_of_calls="$answers_of_calls|cannot open DIR|cannot read SCRIPT"
 
 # Makes the library, the answers of a run without failures, and what is restored behind each checkpoint: memory-0 to memory-3.
