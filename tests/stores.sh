@@ -108,6 +108,7 @@ sixteen_spaces_are_restored() {
 }
 
 # A dump with a page of zeros and one that is filled with 8, and 59 images above it that leave both to their parents.
+# A merge of it closes all sixty images.
 a_chain_of_sixty_is_followed() {
   local slot serial
   make_image store/img-000 "2 2 1000 1000 0 1" 1 8 "1 0,1 1 2,15 2 3 0,15 1 3 0,16 1 1 0"
@@ -119,7 +120,10 @@ a_chain_of_sixty_is_followed() {
   same "the images" "$(wc -l < listed) $(tail -n 1 listed)" "61 tip 1000" || return 1
   make_image store/img-059 "2 2 1059 1059 1058 2" 0 0 "1 0,1 1 1,15 2 3 0,15 2 2 0"
   reader_prints 0 "ok checkpoint 2 images 60" verify || return 1
-  reader_prints 0 "$(filled 2 1 8 | sed 's/area 0x10000/area 0xf000/')" restore
+  reader_prints 0 "$(filled 2 1 8 | sed 's/area 0x10000/area 0xf000/')" restore || return 1
+  same "the merge" "$("$ckpt" merge --quiet store)" "merged 1060" || return 1
+  reader_prints 0 "slot 060 merged serial 1060 stands 1059 parent 0 checkpoint 2 pages 1
+tip 1060" list
 }
 
 # Without an image, and with a file of one byte, also where that is an open gate.
