@@ -63,7 +63,7 @@ class Machine:
     def words(self, accelerator, boot):
         kernel, initramfs = boot
         return [QEMU, "-nodefaults", "-no-user-config", "-no-reboot", "-display", "none", "-machine", "pc",
-                "-accel", accelerator, "-smp", "1", "-m", "512",
+                "-accel", accelerator, "-cpu", "max", "-smp", "1", "-m", "512",
                 "-kernel", str(kernel), "-initrd", str(initramfs), "-append", COMMAND_LINE,
                 "-chardev", f"socket,id=line,path={self.room}/line", "-serial", "chardev:line",
                 "-chardev", f"socket,id=control,path={self.room}/control", "-mon", "chardev=control,mode=control",
