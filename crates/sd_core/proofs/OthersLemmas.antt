@@ -1,7 +1,7 @@
 -- What a call leaves beside the job that it is made for.
-use Rattle.std.proofs.Common.{◌≡◌, ℕ, ◌+◌, ◌==◌, ◌&&◌, Bool, true, false, not, if◌then◌else◌, Option, Some, None, IfSome, is_some, refl, sym, ◌∙◌, ap, subst, inl, inr}
+use Rattle.std.proofs.Common.{◌≡◌, ℕ, ◌&&◌, Bool, true, false, not, if◌then◌else◌, Option, Some, None, IfSome, is_some, refl, sym, ◌∙◌, ap, subst, inl, inr}
 use Rattle.std.proofs.lemmas.Bool.Decides.{eqb_tells}
-use Rattle.sd_chain.specs.Catalog.{Changes, IsHeld, Opened, Places, is_elsewhere, place_of, without_slot}
+use Rattle.sd_chain.specs.Catalog.{Changes, Opened, Places, is_elsewhere, place_of, without_slot}
 use Rattle.sd_command.specs.declared.refusal.Refusal.{Refusal}
 use Rattle.sd_command.specs.declared.reply.Reply.TheVariants as reply
 use Rattle.sd_gate.specs.declared.worker.Worker.{Worker}
@@ -17,7 +17,7 @@ use Rattle.sd_belief.specs.View.{CoreView}
 use Rattle.sd_core.specs.declared.taken.Taken.{Taken}
 use Rattle.sd_core.specs.declared.taken.Taken.TheVariants.{Step}
 use Rattle.sd_core.specs.Beside.{LeavesOthers, OrdersBeside, StepsBeside}
-use Rattle.sd_core.specs.Counted.{counted_by_step, is_frozen}
+use Rattle.sd_core.specs.Counted.{is_frozen}
 use Rattle.sd_core.specs.Images.{HasPreDumps, begun_as}
 use Rattle.sd_core.specs.Kept.{KeepsEach}
 use Rattle.sd_core.specs.Noted.{KeepsMarks, NotesBy, NotesByCall, NotesMark}

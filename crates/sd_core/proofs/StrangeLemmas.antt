@@ -1,15 +1,12 @@
 -- When an opener refuses a store as damaged.
-use Rattle.std.proofs.Common.{◌≡◌, ◌≢◌, ◌⊎◌, ℕ, Bool, true, false, if◌then◌else◌, List, Option, Some, None, slice_get, refl, sym, ◌∙◌, ap, subst, inl, inr}
-use Rattle.sd_command.specs.declared.refusal.Refusal.TheVariants.{Damaged}
-use Rattle.sd_command.specs.declared.reply.Reply.TheVariants as reply
+use Rattle.std.proofs.Common.{◌≡◌, ◌⊎◌, ℕ, true, if◌then◌else◌, List, Option, Some, None, slice_get, refl, sym, ◌∙◌, ap, subst, inl, inr}
 use Rattle.sd_image.specs.Shows.{Shows}
 use Rattle.sd_journal.specs.Allowed.{IsLastPair, IsPendingPair, Shown}
 use Rattle.sd_journal.specs.History.{last, pending}
 use Rattle.sd_opener.specs.Looking.{Looking}
-use Rattle.sd_belief.specs.Laws.{OpenerFinds, ShowsAwaited}
+use Rattle.sd_belief.specs.Laws.{OpenerFinds}
 use Rattle.sd_belief.specs.View.{CoreView, history_of}
 use Rattle.sd_core.specs.declared.taken.Taken.{Taken}
-use Rattle.sd_core.specs.declared.taken.Taken.TheVariants.{Step}
 use Rattle.sd_core.specs.Grown.{has_swept}
 use Rattle.sd_core.specs.Opening.{IsExpected, IsOwnStore, OpensBelieved, RefusesRightly, awaited}
 

@@ -139,11 +139,11 @@ pub record IsMergedImage (merge : merger.Running) (places : Places) (serial : �
   pub checkpoint : image.header.checkpoint ≡ merge.source.checkpoint
   pub parent : image.header.parent ≡ 0
 
--- the serial of the merged image, from its beginning on
+-- Between calls a merge that began its image makes it, or closes images; the image has this serial.
 abbrev pub IsSerialOf : merger.Doing → ℕ → Type 0
 IsSerialOf due serial = ⊥
 IsSerialOf (copying copy) serial = serial ≡ copy.order.serial
-IsSerialOf (opened number) serial = serial ≡ number
+IsSerialOf (opened number) serial = ⊥
 IsSerialOf (retiring r) serial = serial ≡ r.serial
 
 -- a merge ends with its image, under its serial

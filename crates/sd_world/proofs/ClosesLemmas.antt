@@ -1,5 +1,5 @@
 -- How a merge comes to close images, and to its end.
-use Rattle.std.proofs.Common.{◌≡◌, ◌≢◌, ◌⊎◌, ℕ, Bool, true, false, List, ◌∷◌, map, Option, Some, None, MatchOption, IfOk, IfSome, is_none, Result, Ok, Err, refl, sym, ◌∙◌, ap, subst, inl, inr}
+use Rattle.std.proofs.Common.{◌≡◌, ℕ, Bool, true, false, List, [], ◌∷◌, map, Option, Some, None, MatchOption, IfOk, IfSome, is_none, is_some, Result, Ok, Err, refl, sym, ◌∙◌, ap, subst, inl, inr}
 use Rattle.std.proofs.lemmas.Option.{same_Some}
 use Rattle.sd_areas.specs.PlainMemory.{PlainMemory}
 use Rattle.sd_command.specs.declared.command.Command.{Command as CommandOf}
@@ -9,7 +9,7 @@ use Rattle.sd_command.specs.declared.refusal.Refusal.TheVariants.{Busy, Device, 
 use Rattle.sd_command.specs.declared.refusal.Refusal.TheVariants as refusal
 use Rattle.sd_command.specs.declared.reply.Reply.{Reply}
 use Rattle.sd_command.specs.declared.reply.Reply.TheVariants as reply
-use Rattle.sd_command.specs.Replies.{Accepts, IsLegalReply, denial_in, reply_of as denied_as}
+use Rattle.sd_command.specs.Replies.{Accepts, denial_in, reply_of as denied_as}
 use Rattle.sd_disk.specs.declared.disk.Disk.{Ghosts}
 use Rattle.sd_gate.specs.declared.answer.Answer.{Answer}
 use Rattle.sd_gate.specs.declared.answer.Answer.TheVariants.{Done, Len, Failed}
@@ -25,15 +25,16 @@ use Rattle.sd_pagetable.specs.Contents.{Contents, plain_of}
 use Rattle.sd_pagetable.specs.declared.access_error.AccessError.{AccessError}
 use Rattle.sd_pagetable.specs.declared.access_error.AccessError.TheVariants.{Refused, Segv}
 use Rattle.sd_belief.specs.Calls.{AddsByCancel, AddsByOrder, AddsByStep, IsOut}
+use Rattle.sd_journal.specs.History.{pending}
 use Rattle.sd_belief.specs.View.{CoreView, history_of}
 use Rattle.sd_core.specs.declared.taken.Taken.{Taken}
 use Rattle.sd_core.specs.declared.taken.Taken.TheVariants.{Step as StepTaken, Call as CallTaken}
 use Rattle.sd_core.specs.Answering.{IsAnswered}
-use Rattle.sd_core.specs.Beginning.{BeginsAs, first_of}
+use Rattle.sd_core.specs.Beginning.{first_of}
 use Rattle.sd_core.specs.Beside.{LeavesOthers}
 use Rattle.sd_core.specs.Called.{IsHandedIn, IsMergeOrder, IsTakenUp}
 use Rattle.sd_core.specs.Lasting.{fixed_in}
-use Rattle.sd_core.specs.Merging.{IsMerged, IsSerialOf, MergesAs, OpensMerged, merge_refusal}
+use Rattle.sd_core.specs.Merging.{IsSerialOf, MergesAs, OpensMerged, merge_refusal}
 use Rattle.sd_core.specs.Refusals.{is_idle, must_wait, work_refusal}
 use Rattle.sd_core.specs.Working.{LeavesByOutcome}
 use Rattle.sd_world.specs.declared.event.Event.{Event}
@@ -134,8 +135,11 @@ module _ {D : Type 0} (g : Ghosts D) (old new : WorldView D) (world : IsWorld g 
   commands_merge_none : (seat : ℕ) (asked : CommandOf) (answer : Reply) (serial : ℕ) → IsCommand seat asked old answer new → answer ≡ reply.Merged serial → ⊥
   commands_merge_none seat asked answer serial does is = by does.told does.answered does.applied.answered
     where
-      by : (told : Result (ℕ × Reply) Refusal) → answer ≡ answer_of told → IfOk told (λ t. IsAnswered _ asked t.1 old.core.memory new.core.memory) → ⊥
-      by (Ok told) answered legal = none_answered _ asked serial old.core.memory new.core.memory (subst (λ a. IsAnswered _ asked a old.core.memory new.core.memory) (sym answered ∙ is) legal)
+      frozen : Bool
+      frozen = is_some (pending (history_of old.core))
+
+      by : (told : Result (ℕ × Reply) Refusal) → answer ≡ answer_of told → IfOk told (λ t. IsAnswered frozen asked t.1 old.core.memory new.core.memory) → ⊥
+      by (Ok told) answered legal = none_answered frozen asked serial old.core.memory new.core.memory (subst (λ a. IsAnswered frozen asked a old.core.memory new.core.memory) (sym answered ∙ is) legal)
       by (Err why) answered legal = (let no : reply.Refused why ≡ reply.Merged serial = sym answered ∙ is in cc)
 
   module _ (worker : Worker) (place : ℕ) (answer : Reply) (hands : HandsInAt worker place old.core old.kept answer new.core new.kept) (there : MergesThere g worker place old answer new) where
@@ -189,26 +193,26 @@ module _ {D : Type 0} (g : Ghosts D) (old new : WorldView D) (world : IsWorld g 
 
     ends_from : (serial : ℕ) → answer ≡ reply.Merged serial → worker ≡ Merger → is_idle new.core Merger ≡ true → (merge : merger.Running) → old.core.merger ≡ Some merge
         → (doing : Doing) → merge.doing ≡ doing → IsSerialOf doing serial → EndsIn g old new serial
-    ends_from serial is merger idle merge was due doing own_serial = absurd own_serial
-    ends_from serial is merger idle merge was (copying copy) doing own_serial = record {
+    ends_from serial is own_worker idle merge was due doing own_serial = absurd own_serial
+    ends_from serial is own_worker idle merge was (copying copy) doing own_serial = record {
       slot = merge.slot;
-      comes = inr (enters_in merger merge serial merge.slot (subst (λ s. OpensMerged merge s old.core new.core) (sym own_serial)
-          (it.opens out (own ∙ merger) merge copy was doing (gone new.core.merger idle) (λ down. (let no : reply.Merged serial ≡ reply.Refused StoreDown = sym is ∙ down in cc)))) refl);
+      comes = inr (enters_in own_worker merge serial merge.slot (subst (λ s. OpensMerged merge s old.core new.core) (sym own_serial)
+          (it.opens out (own ∙ own_worker) merge copy was doing (gone new.core.merger idle) (λ down. (let no : reply.Merged serial ≡ reply.Refused StoreDown = sym is ∙ down in cc)))) refl);
       cut = there.cuts serial is;
     }
       where
         gone : (o : Option merger.Running) → is_none o ≡ true → source_of o ≡ None
         gone None none = refl
         gone (Some running) none = absurd (let no : false ≡ true = none in cc)
-    ends_from serial is merger idle merge was (opened number) doing own_serial = absurd own_serial
-    ends_from serial is merger idle merge was (retiring r) doing own_serial =
+    ends_from serial is own_worker idle merge was (opened number) doing own_serial = absurd own_serial
+    ends_from serial is own_worker idle merge was (retiring r) doing own_serial =
         record { slot = merge.slot; comes = inl (record { merge = merge; r = r; runs = was; doing = doing; in_slot = refl; own = sym own_serial }); cut = there.cuts serial is }
 
     handed_ends : (serial : ℕ) → answer ≡ reply.Merged serial → EndsIn g old new serial
     handed_ends serial is =
         let leaves = subst (λ a. LeavesByOutcome old.core hands.made.request.id.worker a new.core) is (it.leaves out) in
         let merged = it.merged serial out is in
-        ends_from serial is (sym own ∙ leaves.0) leaves.1.idle merged.merge merged.was merged.merge.doing refl merged.own
+        ends_from serial is (sym own ∙ leaves.0) (subst (λ w. is_idle new.core w ≡ true) leaves.0 leaves.1.idle) merged.merge merged.was merged.merge.doing refl merged.own
 
   same_core : new.core.merger ≡ old.core.merger → ClosesBehind g old new
   same_core same slot serial c = inl (closing_same old.core new.core slot serial same c)
@@ -219,11 +223,11 @@ module _ {D : Type 0} (g : Ghosts D) (old new : WorldView D) (world : IsWorld g 
 
   hand_in_closes : (worker : Worker) (place : ℕ) (answer : Reply) → MergesThere g worker place old answer new → HandsInIfAny worker place old.core old.kept answer new.core new.kept → ClosesBehind g old new
   hand_in_closes worker place answer there (HandsInIfAny.hands_in hands) slot serial c = handed_closes worker place answer hands there (is_done hands.made.answer) refl slot serial c
-  hand_in_closes worker place answer there (HandsInIfAny.none none idle) = same_core (ap (λ (v : CoreView). v.merger) idle.core)
+  hand_in_closes worker place answer there (HandsInIfAny.none none idle) slot serial c = same_core (ap (λ (v : CoreView). v.merger) idle.core) slot serial c
 
   work_closes : (worker : Worker) (answer : Reply) → MergesThere g worker 0 old answer new → Works worker old.core old.kept answer new.core new.kept → ClosesBehind g old new
   work_closes worker answer there (Works.hands_in hands) slot serial c = handed_closes worker 0 answer hands there (is_done hands.made.answer) refl slot serial c
-  work_closes worker answer there (Works.takes_up none takes) = taken_closes worker answer takes
+  work_closes worker answer there (Works.takes_up none takes) slot serial c = taken_closes worker answer takes slot serial c
 
   order_closes : (answer : Reply) → IsMergeOrder answer old.core new.core → ClosesBehind g old new
   order_closes answer order = by (merge_refusal old.core) refl
@@ -255,18 +259,18 @@ module _ {D : Type 0} (g : Ghosts D) (old new : WorldView D) (world : IsWorld g 
       begun : (a : Reply) → MergesAs old.core a new.core → ClosesBehind g old new
       begun reply.Worked merges slot serial c =
           absurd (let no : due ≡ retiring c.r = ap (λ (m : merger.Running). m.doing) (same_Some (begun_merge (source_from merges.tip) merges.slot (map serial_of (images old.core.catalog))) c.merge (sym merges.is ∙ c.runs)) ∙ c.doing in cc)
-      begun (reply.Refused why) merges = refused why merges
-      begun reply.Done merges = absurd merges
-      begun (reply.Bytes bytes) merges = absurd merges
-      begun (reply.Child space) merges = absurd merges
-      begun reply.NeedsFault merges = absurd merges
-      begun (reply.Segv why) merges = absurd merges
-      begun (reply.Begun n) merges = absurd merges
-      begun (reply.Acked n) merges = absurd merges
-      begun (reply.Cancelled n) merges = absurd merges
-      begun (reply.Merged serial) merges = absurd merges
-      begun (reply.Trimmed count) merges = absurd merges
-      begun (reply.Reopened m) merges = absurd merges
+      begun (reply.Refused why) merges slot serial c = refused why merges slot serial c
+      begun reply.Done merges slot serial c = absurd merges
+      begun (reply.Bytes bytes) merges slot serial c = absurd merges
+      begun (reply.Child space) merges slot serial c = absurd merges
+      begun reply.NeedsFault merges slot serial c = absurd merges
+      begun (reply.Segv why) merges slot serial c = absurd merges
+      begun (reply.Begun n) merges slot serial c = absurd merges
+      begun (reply.Acked n) merges slot serial c = absurd merges
+      begun (reply.Cancelled n) merges slot serial c = absurd merges
+      begun (reply.Merged number) merges slot serial c = absurd merges
+      begun (reply.Trimmed count) merges slot serial c = absurd merges
+      begun (reply.Reopened m) merges slot serial c = absurd merges
 
       by : (why : Option Refusal) → merge_refusal old.core ≡ why → ClosesBehind g old new
       by (Some why) is = same_core (ap (λ (v : CoreView). v.merger) (order.refused why is).1)
@@ -322,9 +326,9 @@ module _ {D : Type 0} (g : Ghosts D) (old new : WorldView D) (world : IsWorld g 
   pub step_ends : (event : Event) (answer : Reply) → Does g event old answer new → DoesMerge g event old answer new → EndsBehind g old answer new
   step_ends (Command seat command) answer does merges serial is = absurd (commands_merge_none seat command answer serial does is)
   step_ends (Begin rounds) answer does merges serial is = absurd (subst (λ a. AddsByOrder a (history_of old.core) (history_of new.core)) is does.1.adds)
-  step_ends (Work worker) answer does merges = work_ends worker answer merges does.works
+  step_ends (Work worker) answer does merges serial is = work_ends worker answer merges does.works serial is
   step_ends (TakeUp worker) answer does merges serial is = absurd (take_up_ends worker answer serial does.takes is)
-  step_ends (HandInAt worker place) answer does merges = hand_in_ends worker place answer merges does.hands
+  step_ends (HandInAt worker place) answer does merges serial is = hand_in_ends worker place answer merges does.hands serial is
   step_ends (Perform worker) answer does merges serial is = absurd (perform_ends worker 0 answer serial does.performs is)
   step_ends (PerformAt worker place) answer does merges serial is = absurd (perform_ends worker place answer serial does.performs is)
   step_ends Merge answer does merges serial is = absurd (subst (λ a. AddsByOrder a (history_of old.core) (history_of new.core)) is does.1.adds)

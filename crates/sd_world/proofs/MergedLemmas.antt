@@ -1,5 +1,5 @@
 -- How a merge ends over a run.
-use Rattle.std.proofs.Common.{◌≡◌, ◌⊎◌, ℕ, List, [], ◌∷◌, ◌++◌, Some, refl, sym, ◌∙◌, ap, subst, inl, inr}
+use Rattle.std.proofs.Common.{◌≡◌, ℕ, List, [], ◌∷◌, ◌++◌, refl, sym, ◌∙◌, ap, subst, inl, inr}
 use Rattle.std.proofs.lemmas.List.{append_assoc}
 use Rattle.sd_command.specs.declared.reply.Reply.{Reply}
 use Rattle.sd_command.specs.declared.reply.Reply.TheVariants as reply
@@ -100,7 +100,7 @@ module _ {D : Type 0} (g : Ghosts D) where
       → Runs g mid after more last → g.is_honest last.disk → Entered first (before ++ after) (told ++ more) last × g.is_honest mid.disk
   entered_all first mid last before told [] [] runs entered rest honest = (
     subst (λ events. Entered first events (told ++ []) last) (sym (append_none before)) (subst (λ answers. Entered first before answers last) (sym (append_none told))
-    (subst (Entered first before told) (sym rest) entered)),
+        (subst (Entered first before told) (sym rest) entered)),
     subst (λ (w : WorldView D). g.is_honest w.disk) rest honest,
   )
   entered_all first mid last before told [] (r ∷ rs) runs entered rest honest = absurd rest
@@ -109,10 +109,9 @@ module _ {D : Type 0} (g : Ghosts D) where
       let next = rest.0 in
       let ahead = honest_before next last es rs rest.2 honest in
       let more = entered_all first next last (before ++ e ∷ []) (told ++ r ∷ []) es rs (runs_more g first mid next before told e r runs rest.1)
-          (λ slot serial c. came first mid next before told e r slot serial runs rest.1 entered (rest.1.closes ahead slot serial c)) rest.2 honest in
-      (
+      (λ slot serial c. came first mid next before told e r slot serial runs rest.1 entered (rest.1.closes ahead slot serial c)) rest.2 honest in (
         subst (λ events. Entered first events (told ++ r ∷ rs) last) (append_assoc before (e ∷ []) es)
-        (subst (λ answers. Entered first ((before ++ e ∷ []) ++ es) answers last) (append_assoc told (r ∷ []) rs) more.0),
+            (subst (λ answers. Entered first ((before ++ e ∷ []) ++ es) answers last) (append_assoc told (r ∷ []) rs) more.0),
         rest.1.honest ahead,
       )
     where
