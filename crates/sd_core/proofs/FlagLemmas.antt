@@ -1,5 +1,5 @@
 -- Whether the next checkpoint goes on from the tip, and whether a gate's opening was taken up.
-use Rattle.std.proofs.Common.{◌≡◌, ◌⊎◌, ℕ, Bool, true, false, ◌||◌, ◌&&◌, if◌then◌else◌, List, [], ◌∷◌, ◌++◌, Option, Some, None, IfSome, refl, sym, ◌∙◌, ap, subst, inl, inr}
+use Rattle.std.proofs.Common.{◌≡◌, ◌⊎◌, ℕ, Bool, true, false, ◌||◌, ◌&&◌, if◌then◌else◌, List, [], ◌∷◌, ◌++◌, Option, Some, None, IfSome, IsSome, is_some, refl, sym, ◌∙◌, ap, subst, inl, inr}
 use Rattle.std.proofs.lemmas.Option.{same_Some}
 use Rattle.sd_gate.specs.declared.answer.Answer.{Answer}
 use Rattle.sd_gate.specs.declared.slot_state.SlotState.{SlotState}
@@ -11,10 +11,12 @@ use Rattle.sd_gate.specs.Requests.{Asked, Made}
 use Rattle.sd_gate.specs.Sequences.{Calls, format_calls}
 use Rattle.sd_image.specs.declared.header.Kind.{Kind}
 use Rattle.sd_image.specs.declared.header.Kind.TheVariants.{PreDump, Dump, Merged}
+use Rattle.sd_journal.specs.declared.entry.Entry.{Entry}
 use Rattle.sd_journal.specs.declared.entry.Entry.TheVariants.{Applied, Freeze, Acked, Cancelled, Reopened}
-use Rattle.sd_journal.specs.History.{Base, History}
-use Rattle.sd_journal.specs.Marked.{Marked, entries_of}
-use Rattle.sd_journal.specs.Trimming.{IsEnded, base_after}
+use Rattle.sd_journal.specs.declared.mark.Mark.TheVariants.{Start, Visit, Table}
+use Rattle.sd_journal.specs.History.{Base, History, pending}
+use Rattle.sd_journal.specs.Marked.{Marked, Noted, Told, entries_of}
+use Rattle.sd_journal.specs.Trimming.{Ends, IsEnded, IsFolded, MarkedTrimLaws, TrimLaws, base_after}
 use Rattle.sd_rounds.specs.declared.image_order.ImageOrder.{ImageOrder}
 use Rattle.sd_rounds.specs.declared.stage.Stage.{Stage}
 use Rattle.sd_rounds.specs.declared.stage.Stage.TheVariants.{Format, Freeze as FreezeStage, Pass as PassStage, Close}
@@ -23,7 +25,7 @@ use Rattle.sd_rounds.specs.Making.{GoesOn, IsReadyFor, IsWritten, Making, plan_o
 use Rattle.sd_rounds.specs.Pass.{Pass}
 use Rattle.sd_rounds.specs.Sound.{IsSoundImage}
 use Rattle.sd_belief.specs.DumperSteps.{opens_gate}
-use Rattle.sd_core.specs.Grown.{AreFlags, HasNoOpen, IsGated, IsGatedImage, IsGatedStage, has_grown}
+use Rattle.sd_core.specs.Grown.{AreFlags, HasNoOpen, IsGated, IsGatedImage, IsGatedStage, has_grown, has_swept}
 
 -- ---- by the journal
 
@@ -49,8 +51,35 @@ pub same_flags : (base : Base) (items now : Marked) (swept grows committing : Bo
 same_flags base items now swept grows committing same was = subst (λ all. AreFlags base all swept grows committing) (sym same) was
 
 -- nothing was committed
-pub set_flags : (base : Base) (items : Marked) (swept grows committing : Bool) → grows ≡ has_grown base (entries_of items) → committing ≡ false → AreFlags base items swept grows committing
-set_flags base items swept grows committing grown none = record { grown = grown; sure = λ is. no_true (sym none ∙ is) }
+pub set_flags : (base : Base) (items : Marked) (swept grows committing : Bool) → grows ≡ has_grown base (entries_of items) → committing ≡ false → swept ≡ has_swept items
+    → AreFlags base items swept grows committing
+set_flags base items swept grows committing grown none by = record { grown = grown; swept_by = by; sure = λ is. no_true (sym none ∙ is) }
+
+-- whether the pending checkpoint was swept stays so over a trim
+ends_unswept : (n : ℕ) (entry : Entry) (earlier : Marked) → Ends n (entries_of earlier) entry → has_swept (Told entry ∷ earlier) ≡ false
+ends_unswept n (Applied seat command reply) earlier is = absurd is
+ends_unswept n (Freeze m) earlier is = refl
+ends_unswept n (Acked m) earlier is = refl
+ends_unswept n (Cancelled m) earlier is = refl
+ends_unswept n (Reopened m) earlier is = refl
+
+pub swept_trims : TrimLaws → MarkedTrimLaws → (kept front : Marked) (n : ℕ) → IsFolded n front → has_swept (kept ++ front) ≡ has_swept kept
+swept_trims laws marked [] front n f =
+    ap has_swept f.newest.2 ∙ ends_unswept n f.newest.0 f.newest.1 (subst (λ all. IsEnded n (entries_of all)) f.newest.2 f.ended)
+swept_trims laws marked (Told (Applied seat command reply) ∷ kept) front n f = swept_trims laws marked kept front n f
+swept_trims laws marked (Told (Freeze m) ∷ kept) front n f = refl
+swept_trims laws marked (Told (Acked m) ∷ kept) front n f = refl
+swept_trims laws marked (Told (Cancelled m) ∷ kept) front n f = refl
+swept_trims laws marked (Told (Reopened m) ∷ kept) front n f = refl
+swept_trims laws marked (Noted (Start serial) ∷ kept) front n f = swept_trims laws marked kept front n f
+swept_trims laws marked (Noted (Visit serial space page) ∷ kept) front n f = swept_trims laws marked kept front n f
+swept_trims laws marked (Noted (Table serial) ∷ kept) front n f =
+    ap (λ all. is_some (pending all)) (marked.entries kept front) ∙ ap is_some (sym (laws.pending_stays (entries_of kept) (entries_of front) n f.ended))
+
+-- behind the table of the pending checkpoint's dump it is swept
+pub table_swept_by : (swept last : Bool) (frozen : Option ℕ) → (swept ≡ true → IsSome frozen) → is_some frozen ≡ last → (swept || last) ≡ is_some frozen
+table_swept_by true last frozen some is = sym (some refl)
+table_swept_by false last frozen some is = sym is
 
 -- ---- the gate of the image in the making
 

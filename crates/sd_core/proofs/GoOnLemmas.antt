@@ -1,8 +1,7 @@
 -- A worker that has a job, and of which no request is out, can go on.
-use Rattle.std.proofs.Common.{◌≡◌, ◌≢◌, ℕ, ◌<◌, ◌&&◌, ◌||◌, Bool, true, false, not, if◌then◌else◌, is_none, is_some, zero, suc, List, [], ◌∷◌, length, drop, slice_index_or, Option, Some, None, slice_get, refl, sym, ◌∙◌, ap, subst, arith}
+use Rattle.std.proofs.Common.{◌≡◌, ℕ, ◌<◌, ◌&&◌, ◌||◌, Bool, true, false, not, if◌then◌else◌, is_none, is_some, zero, suc, List, [], ◌∷◌, length, slice_index_or, Option, Some, None, slice_get, refl, sym, ◌∙◌, ap, subst, arith}
 use Rattle.std.specs.Prelude.{IfSome}
 use Rattle.std.proofs.lemmas.Option.{same_Some, slice_get-get_or}
-use Rattle.std.specs.List.{list_all}
 use Rattle.sd_areas.specs.PlainMemory.{PlainMemory}
 use Rattle.sd_command.specs.declared.refusal.Refusal.TheVariants as refusal
 use Rattle.sd_gate.specs.declared.request_id.RequestId.{RequestId}
@@ -18,7 +17,7 @@ use Rattle.sd_rounds.specs.Writes.{are_all_out, is_any_out, no_writes}
 use Rattle.sd_belief.specs.View.{CoreView}
 use Rattle.sd_core.specs.Beginning.{first_of}
 use Rattle.sd_core.specs.GoingOn.{AreOwnLanes, CanGoOn, HasNoneOut, OpenerAsksAlone}
-use Rattle.sd_core.specs.Refusals.{is_idle, is_page_out, is_resting, must_wait, none_at, work_refusal}
+use Rattle.sd_core.specs.Refusals.{is_idle, is_page_out, must_wait, none_at, work_refusal}
 use Rattle.sd_core.specs.Sound.{IsCore, Parts, out_of_opener, worker_of}
 use Rattle.sd_core.proofs.BesideLemmas.{jobs_out}
 use Rattle.sd_core.proofs.WorkLemmas.{at_work}

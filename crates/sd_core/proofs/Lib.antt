@@ -25,6 +25,7 @@ mod MergerHands
 mod MergerSteps
 mod OpenedLemmas
 mod OpeningLemmas
+mod OthersLemmas
 mod OutcomeLemmas
 mod OutsLemmas
 mod OwnLemmas

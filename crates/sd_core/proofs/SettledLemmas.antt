@@ -92,6 +92,10 @@ pub not_swept : (now : Bool) (frozen : Option ℕ) (memory : Contents) → now �
 not_swept now frozen memory none is = no_true (sym none ∙ is)
 
 -- while nothing is pending it isn't over
+pub unswept : (swept : Bool) (frozen : Option ℕ) (memory : Contents) → frozen ≡ None → HasSwept swept frozen memory → swept ≡ false
+unswept true frozen memory none was = no_true (subst IsSome none (was refl).0)
+unswept false frozen memory none was = refl
+
 pub none_swept : (swept : Bool) (frozen after : Option ℕ) (memory new : Contents) → frozen ≡ None → HasSwept swept frozen memory → HasSwept swept after new
 none_swept swept frozen after memory new none was is = no_true (subst IsSome none (was is).0)
 

@@ -1,37 +1,28 @@
 -- When an opener refuses a store as damaged.
-use Rattle.std.proofs.Common.{◌≡◌, ◌≢◌, ◌⊎◌, ℕ, Bool, true, false, if◌then◌else◌, List, Option, Some, None, slice_get, refl, sym, ◌∙◌, ap, subst, inl, inr}
-use Rattle.sd_command.specs.declared.refusal.Refusal.TheVariants.{Damaged}
-use Rattle.sd_command.specs.declared.reply.Reply.TheVariants as reply
+use Rattle.std.proofs.Common.{◌≡◌, ◌⊎◌, ℕ, true, if◌then◌else◌, List, Option, Some, None, slice_get, refl, sym, ◌∙◌, ap, subst, inl, inr}
 use Rattle.sd_image.specs.Shows.{Shows}
 use Rattle.sd_journal.specs.Allowed.{IsLastPair, IsPendingPair, Shown}
 use Rattle.sd_journal.specs.History.{last, pending}
 use Rattle.sd_opener.specs.Looking.{Looking}
-use Rattle.sd_belief.specs.Laws.{OpenerFinds, ShowsAwaited}
+use Rattle.sd_belief.specs.Laws.{OpenerFinds}
 use Rattle.sd_belief.specs.View.{CoreView, history_of}
 use Rattle.sd_core.specs.declared.taken.Taken.{Taken}
-use Rattle.sd_core.specs.declared.taken.Taken.TheVariants.{Step}
+use Rattle.sd_core.specs.Grown.{has_swept}
 use Rattle.sd_core.specs.Opening.{IsExpected, IsOwnStore, OpensBelieved, RefusesRightly, awaited}
-
--- a checkpoint whose dump's gate is being opened was swept
-pub awaits : (committing swept : Bool) (frozen newest found : Option ℕ) → (committing ≡ true → swept ≡ true) → IsExpected newest (if committing then frozen else None) found
-    → IsExpected newest (if swept then frozen else None) found
-awaits true swept frozen newest found sure is = subst (λ s. IsExpected newest (if s then frozen else None) found) (sym (sure refl)) is
-awaits false swept frozen newest found sure (inl is) = inl is
-awaits false swept frozen newest found sure (inr is) = absurd (is.0 refl)
 
 pub same_own : (last pending other_last other : Option ℕ) (files : List (List ℕ)) → ((found : Option ℕ) → IsExpected last pending found → IsExpected other_last other found)
     → IsOwnStore last pending files → IsOwnStore other_last other files
 same_own last pending other_last other files more own = record { images = own.images; store = own.store; number = own.number; tip = own.tip; expected = more own.number own.expected }
 
-is_own : (core : CoreView) (files : List (List ℕ)) (shown : Shown) → Shows files shown
+is_own : (core : CoreView) (files : List (List ℕ)) (shown : Shown) → (core.committing ≡ true → has_swept core.items ≡ true) → Shows files shown
     → IsLastPair core.base (history_of core) shown ⊎ ((core.committing ≡ true) × IsPendingPair core.base (history_of core) shown)
     → IsOwnStore (last core.base (history_of core)) (awaited core) files
-is_own core files None shows (inl is) = record { images = shows.images; store = shows.store; number = None; tip = shows.newest; expected = inl (sym is) }
-is_own core files None shows (inr is) = absurd is.1
-is_own core files (Some pair) shows (inl is) =
+is_own core files None sure shows (inl is) = record { images = shows.images; store = shows.store; number = None; tip = shows.newest; expected = inl (sym is) }
+is_own core files None sure shows (inr is) = absurd is.1
+is_own core files (Some pair) sure shows (inl is) =
     record { images = shows.images; store = shows.store; number = Some pair.0; tip = (shows.newest.0, shows.newest.1, shows.newest.2); expected = inl (sym is.0) }
-is_own core files (Some pair) shows (inr is) =
-    let pends : awaited core ≡ Some pair.0 = ap (λ b. if b then pending (history_of core) else None) is.0 ∙ is.1.0 in
+is_own core files (Some pair) sure shows (inr is) =
+    let pends : awaited core ≡ Some pair.0 = ap (λ b. if b then pending (history_of core) else None) (sure is.0) ∙ is.1.0 in
     record {
       images = shows.images;
       store = shows.store;
@@ -41,8 +32,8 @@ is_own core files (Some pair) shows (inr is) =
     }
 
 -- a store that is as it is believed to be isn't refused
-pub believed_opens : OpenerFinds → (core : CoreView) (made : Taken) (opener : Looking) → core.opener ≡ Some opener → slice_get core.outs 2 ≡ Some None → RefusesRightly core made
+pub believed_opens : OpenerFinds → (core : CoreView) (made : Taken) (opener : Looking) → (core.committing ≡ true → has_swept core.items ≡ true) → core.opener ≡ Some opener → slice_get core.outs 2 ≡ Some None → RefusesRightly core made
     → OpensBelieved core made
-believed_opens finds core made opener is rests refuses asked bodies files b left same =
+believed_opens finds core made opener sure is rests refuses asked bodies files b left same =
     let s = finds.shows core asked bodies files files b left in
-    subst (RefusesRightly core) same refuses refl opener is files (finds.sees core opener asked bodies files is rests b) (is_own core files s.shown s.shows s.awaited)
+    subst (RefusesRightly core) same refuses refl opener is files (finds.sees core opener asked bodies files is rests b) (is_own core files s.shown sure s.shows s.awaited)

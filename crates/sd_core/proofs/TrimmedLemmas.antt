@@ -17,8 +17,8 @@ use Rattle.sd_rounds.specs.Dumper.{Running, is_frozen_image}
 use Rattle.sd_rounds.specs.LittleWork.{TakesVisited}
 use Rattle.sd_rounds.specs.Making.{Making, is_frozen}
 use Rattle.sd_rounds.specs.Pass.{Pass}
-use Rattle.sd_core.proofs.FlagLemmas.{grown_trims}
-use Rattle.sd_core.specs.Grown.{has_grown}
+use Rattle.sd_core.proofs.FlagLemmas.{grown_trims, swept_trims}
+use Rattle.sd_core.specs.Grown.{has_grown, has_swept}
 use Rattle.sd_core.specs.LittleWork.{HasLittle, IsFrozenFor, TakesLittle, visits_of}
 use Rattle.sd_core.specs.Sound.{AreNumbers, IsAtWork, IsCore, IsImageOf, IsVisiting, IsVisitingIn, Parts}
 use Rattle.sd_core.specs.Visited.{HasSettled, is_begun}
@@ -302,6 +302,7 @@ trimmed_core laws marked_laws tracked_laws core base journal n front sound t = r
   flags_are = record {
     grown = sound.flags_are.grown ∙ ap (has_grown core.base) (history laws marked_laws tracked_laws core journal.items front n sound t.newest t.other t.parts t.ended)
         ∙ sym (grown_trims core.base (entries_of journal.items) (entries_of front) n t.ended.ended) ∙ ap (λ b. has_grown b (entries_of journal.items)) (sym t.base_is);
+    swept_by = sound.flags_are.swept_by ∙ ap has_swept t.parts ∙ swept_trims laws marked_laws journal.items front n t.ended;
     sure = sound.flags_are.sure;
   };
   gated = sound.gated;

@@ -11,6 +11,7 @@ use Rattle.sd_belief.specs.declared.standing.Standing.TheVariants as standing
 use Rattle.sd_belief.specs.View.{CoreView, Numbers, history_of}
 use Rattle.sd_slots.specs.Taken.{AreFree}
 use Rattle.sd_core.specs.declared.beginning.Slots.{Slots}
+use Rattle.sd_core.specs.Grown.{has_grown}
 
 -- ---- refusals, by priority
 
@@ -97,6 +98,8 @@ pub record Begins (old : CoreView) (rounds n : ℕ) (new : CoreView) : Type 0 wh
   pub parent : ℕ
   pub reserved : AreReserved old rounds pre_dumps dump
   pub first : IsFirstParent old.catalog old.grows parent
+  -- it takes every page exactly where none was acknowledged behind the latest reopening and the latest cancelling of the journal
+  pub since : IsFirstParent old.catalog (has_grown old.base (history_of old)) parent
   pub running : new.dumper.running ≡ Some (begun_checkpoint n pre_dumps dump parent)
   pub stands : new.standing ≡ old.standing
   pub merger : new.merger ≡ old.merger

@@ -18,13 +18,16 @@ use Rattle.sd_core.specs.declared.taken.Taken.{Taken}
 use Rattle.sd_core.specs.declared.taken.Taken.TheVariants.{Step}
 use Rattle.sd_core.specs.Answering.{IsAnswered}
 use Rattle.sd_core.specs.Beginning.{BeginsAs, begin_refusal}
+use Rattle.sd_core.specs.Beside.{HandsBeside, OrdersBeside, StepsBeside}
 use Rattle.sd_core.specs.Entering.{EntersFirst}
 use Rattle.sd_core.specs.Flags.{FlagsByBegin, FlagsByCancel, FlagsByOutcome, FlagsByStep, KeepsFlags}
 use Rattle.sd_core.specs.Images.{IsAcked}
-use Rattle.sd_core.specs.Lasting.{MergeLasts}
+use Rattle.sd_core.specs.Kept.{KeepsImages}
+use Rattle.sd_core.specs.Lasting.{FixesNoList, MergeLasts}
 use Rattle.sd_core.specs.LittleWork.{IsLittleDump, IsLittlePreDump, OpensPreDump}
 use Rattle.sd_core.specs.Merging.{EndsCut, EntersAsCopy, FixesItsList, IsMerged, ListsTheUnneeded, MergesAs, merge_refusal}
-use Rattle.sd_core.specs.Opening.{OpensBelieved, RefusesRightly}
+use Rattle.sd_core.specs.Noted.{KeepsMarks}
+use Rattle.sd_core.specs.Opening.{OpensBelieved, OpensOwn, RefusesRightly}
 use Rattle.sd_core.specs.Orders.{BeginsToOpen, IsCancelled}
 use Rattle.sd_core.specs.Refusals.{cancel_refusal, is_idle, reopen_refusal, work_refusal}
 use Rattle.sd_core.specs.Starts.{TakesUp}
@@ -41,6 +44,9 @@ pub record IsApplied (seat : ℕ) (command : Command) (told : Result (ℕ × Rep
   pub answered : IfOk told (λ t. IsAnswered (is_some (pending (history_of old))) command t.1 old.memory new.memory)
   pub keeps : Stays old new
   pub flags : KeepsFlags old new
+  pub opening : new.opener ≡ old.opener
+  pub marks : KeepsMarks old new
+  pub images : KeepsImages old new
 
 -- the order to begin a checkpoint of so many pre-dumps
 pub record IsBegun (rounds : ℕ) (answer : Reply) (old new : CoreView) : Type 0 where
@@ -49,6 +55,7 @@ pub record IsBegun (rounds : ℕ) (answer : Reply) (old new : CoreView) : Type 0
   pub refused : (why : Refusal) → begin_refusal old rounds ≡ Some why → (answer ≡ reply.Refused why) × (new ≡ old)
   pub begins : begin_refusal old rounds ≡ None → BeginsAs old rounds answer new
   pub flags : FlagsByBegin old answer new
+  pub beside : OrdersBeside Dumper old new
 
 -- the order to begin a merge
 pub record IsMergeOrder (answer : Reply) (old new : CoreView) : Type 0 where
@@ -57,6 +64,7 @@ pub record IsMergeOrder (answer : Reply) (old new : CoreView) : Type 0 where
   pub refused : (why : Refusal) → merge_refusal old ≡ Some why → (answer ≡ reply.Refused why) × (new ≡ old)
   pub merges : merge_refusal old ≡ None → MergesAs old answer new
   pub flags : KeepsFlags old new
+  pub beside : OrdersBeside Merger old new
 
 -- the order to cancel
 pub record IsCancelOrder (answer : Reply) (old new : CoreView) : Type 0 where
@@ -65,6 +73,7 @@ pub record IsCancelOrder (answer : Reply) (old new : CoreView) : Type 0 where
   pub refused : (why : Refusal) → cancel_refusal old ≡ Some why → (answer ≡ reply.Refused why) × (new ≡ old)
   pub cancelled : cancel_refusal old ≡ None → IsCancelled old answer new
   pub flags : FlagsByCancel old answer new
+  pub beside : OrdersBeside Dumper old new
 
 -- the order to open the store again
 pub record IsReopenOrder (answer : Reply) (old new : CoreView) : Type 0 where
@@ -73,6 +82,7 @@ pub record IsReopenOrder (answer : Reply) (old new : CoreView) : Type 0 where
   pub refused : (why : Refusal) → reopen_refusal old ≡ Some why → (answer ≡ reply.Refused why) × (new ≡ old)
   pub begun : reopen_refusal old ≡ None → BeginsToOpen old answer new
   pub flags : KeepsFlags old new
+  pub beside : OrdersBeside Opener old new
 
 -- a worker's next step, or its next device call
 pub record IsTakenUp (worker : Worker) (old : CoreView) (made : Taken) (new : CoreView) : Type 0 where
@@ -80,10 +90,13 @@ pub record IsTakenUp (worker : Worker) (old : CoreView) (made : Taken) (new : Co
   pub refused : (why : Refusal) → work_refusal old worker ≡ Some why → (made ≡ Step (reply.Refused why)) × (new ≡ old)
   pub leaves : work_refusal old worker ≡ None → Leaves old worker made new
   pub lasts : MergeLasts old new
+  pub fixes : FixesNoList old new
   pub finds : worker ≡ Merger → FindsSource old made
   pub flags : FlagsByStep old worker made new
+  pub beside : StepsBeside worker old made new
   pub refuses : worker ≡ Opener → RefusesRightly old made
   pub opens : worker ≡ Opener → OpensBelieved old made
+  pub shows : worker ≡ Opener → OpensOwn old made
 
 -- the outcome of a device call
 pub record IsHandedIn (made : Made) (answer : Reply) (old new : CoreView) : Type 0 where
@@ -109,3 +122,4 @@ pub record IsHandedIn (made : Made) (answer : Reply) (old new : CoreView) : Type
   pub copies : IsOut old made.request.id → made.request.id.worker ≡ Merger → EntersAsCopy old made.request new
   pub cuts : (serial : ℕ) → IsOut old made.request.id → answer ≡ reply.Merged serial → EndsCut old made.request new
   pub flags : FlagsByOutcome old answer new
+  pub beside : IsOut old made.request.id → HandsBeside made old new

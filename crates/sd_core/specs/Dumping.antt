@@ -1,5 +1,5 @@
 -- The dumper of a core.
-use Rattle.std.specs.Prelude.{◌≡◌, ℕ, ◌+◌, Option, Some, None}
+use Rattle.std.specs.Prelude.{◌≡◌, ℕ, ◌+◌, if◌then◌else◌, Option, Some, None}
 use Rattle.sd_chain.specs.Catalog.{Changes, IsHeld, Places}
 use Rattle.sd_gate.specs.declared.slot_state.SlotState.{SlotState}
 use Rattle.sd_gate.specs.Requests.{Asked}
@@ -7,7 +7,7 @@ use Rattle.sd_journal.specs.Kept.{Kept}
 use Rattle.sd_pagetable.specs.Contents.{Contents}
 use Rattle.sd_rounds.specs.declared.image_step.ImageStep.{ImageStep}
 use Rattle.sd_rounds.specs.declared.image_step.ImageStep.TheVariants.{Call}
-use Rattle.sd_rounds.specs.Dumper.{Dumping, Running, order_of}
+use Rattle.sd_rounds.specs.Dumper.{Dumping, Running, freezes, order_of}
 use Rattle.sd_rounds.specs.Making.{Making, Steps, begun_image}
 
 -- the next image begins, and asks for the first call of its slot's format
@@ -18,6 +18,7 @@ pub record BeginsNext (serial : ℕ) (state : SlotState) (ticket : ℕ) (old : D
   pub next : Making
   pub steps : Steps ticket (begun_image (order_of running serial state)) before (Call request) next after
   pub is : new.running ≡ Some (record running { image = Some next })
+  pub counted : new.since_freeze ≡ old.since_freeze
 
 -- a step of the image in the making
 pub record StepsOn (ticket : ℕ) (old : Dumping) (before : Contents) (step : ImageStep) (new : Dumping) (after : Contents) : Type 0 where
@@ -28,6 +29,7 @@ pub record StepsOn (ticket : ℕ) (old : Dumping) (before : Contents) (step : Im
   pub next : Making
   pub steps : Steps ticket image before step next after
   pub is : new.running ≡ Some (record running { image = Some next })
+  pub counted : new.since_freeze ≡ (if freezes step then 0 else old.since_freeze)
 
 -- the held entries with a running checkpoint's: where it is pending its own serves
 abbrev pub with_two : Option ℕ → ℕ → ℕ

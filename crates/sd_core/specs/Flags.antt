@@ -8,8 +8,9 @@ use Rattle.sd_gate.specs.declared.call.Call.{Call as DeviceCall}
 use Rattle.sd_gate.specs.declared.worker.Worker.{Worker}
 use Rattle.sd_gate.specs.declared.worker.Worker.TheVariants.{Dumper, Merger, Opener}
 use Rattle.sd_gate.specs.Requests.{Asked}
-use Rattle.sd_merge.specs.Merger.{slot_before}
-use Rattle.sd_rounds.specs.Dumper.{is_dumping, next_slot}
+use Rattle.sd_merge.specs.Merger as merger
+use Rattle.sd_merge.specs.Merger.{Doing, copying, due, opened, retiring, slot_before}
+use Rattle.sd_rounds.specs.Dumper.{is_dumping, next_slot, serial_of as serial_of_running}
 use Rattle.sd_belief.specs.DumperSteps.{opens_gate}
 use Rattle.sd_belief.specs.View.{CoreView, Numbers}
 use Rattle.sd_core.specs.declared.taken.Taken.{Taken}
@@ -82,6 +83,22 @@ begins_image core Dumper = is_some (next_slot core.dumper.running)
 begins_image core Merger = is_some (slot_before core.merger)
 begins_image core Opener = false
 
+-- the serial of the image that a worker makes
+abbrev pub serial_copied : Doing → Option ℕ
+serial_copied due = None
+serial_copied (copying copy) = Some copy.order.serial
+serial_copied (opened serial) = None
+serial_copied (retiring r) = None
+
+abbrev pub serial_of_merge : Option merger.Running → Option ℕ
+serial_of_merge None = None
+serial_of_merge (Some merge) = serial_copied merge.doing
+
+abbrev pub serial_made : CoreView → Worker → Option ℕ
+serial_made core Dumper = serial_of_running core.dumper.running
+serial_made core Merger = serial_of_merge core.merger
+serial_made core Opener = None
+
 -- a request was handed out; where it is the first of an image, that got the next serial
 abbrev pub numbers_asked : Bool → Numbers → Numbers
 numbers_asked false numbers = record numbers { ticket = ticket_after numbers.ticket }
@@ -93,10 +110,11 @@ commits core Dumper call = is_dumping core.dumper.running && opens_gate call
 commits core Merger call = false
 commits core Opener call = false
 
--- A request has the next ticket.
+-- A request has the next ticket, and an image that begins has the serial that was given out with it.
 pub record AsksFlags (old : CoreView) (worker : Worker) (request : Asked) (new : CoreView) : Type 0 where
   pub ticket : request.id.ticket ≡ old.numbers.ticket
   pub flags : HasFlags old.grows (old.committing || commits new worker request.id.call) (numbers_asked (begins_image old worker) old.numbers) new
+  pub image : begins_image old worker ≡ true → serial_made new worker ≡ Some new.numbers.serial
 
 abbrev pub FlagsByReply : CoreView → Reply → CoreView → Type 0
 FlagsByReply old (reply.Reopened m) new = OpensFlags old new

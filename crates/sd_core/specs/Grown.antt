@@ -1,11 +1,12 @@
 -- Whether the next checkpoint goes on from the tip, by the journal; and when the opening of a gate is asked for.
-use Rattle.std.specs.Prelude.{◌≡◌, Bool, true, false, [], ◌∷◌, Option, Some, None}
+use Rattle.std.specs.Prelude.{◌≡◌, Bool, true, false, [], ◌∷◌, is_some, Option, Some, None}
 use Rattle.sd_gate.specs.Sequences.{Calls}
 use Rattle.sd_journal.specs.declared.entry.Entry.TheVariants.{Applied, Freeze, Acked, Cancelled, Reopened}
 use Rattle.sd_journal.specs.declared.origin.Origin.{Origin}
 use Rattle.sd_journal.specs.declared.origin.Origin.TheVariants.{Opened, Trimmed}
-use Rattle.sd_journal.specs.History.{Base, History}
-use Rattle.sd_journal.specs.Marked.{Marked, entries_of}
+use Rattle.sd_journal.specs.History.{Base, History, pending}
+use Rattle.sd_journal.specs.declared.mark.Mark.TheVariants.{Start, Visit, Table}
+use Rattle.sd_journal.specs.Marked.{Marked, Noted, Told, entries_of}
 use Rattle.sd_rounds.specs.declared.stage.Stage.{Stage}
 use Rattle.sd_rounds.specs.declared.stage.Stage.TheVariants.{Format, Freeze as FreezeStage, Pass as PassStage, Close}
 use Rattle.sd_rounds.specs.Dumper.{Running, is_last}
@@ -26,10 +27,23 @@ has_grown base (Acked n ∷ earlier) = true
 has_grown base (Cancelled n ∷ earlier) = false
 has_grown base (Reopened m ∷ earlier) = false
 
+-- The pass of the pending checkpoint's dump is over: behind the freeze a table was begun, which visited each page.
+abbrev pub has_swept : Marked → Bool
+has_swept [] = false
+has_swept (Told (Applied seat command reply) ∷ earlier) = has_swept earlier
+has_swept (Told (Freeze n) ∷ earlier) = false
+has_swept (Told (Acked n) ∷ earlier) = false
+has_swept (Told (Cancelled n) ∷ earlier) = false
+has_swept (Told (Reopened m) ∷ earlier) = false
+has_swept (Noted (Start serial) ∷ earlier) = has_swept earlier
+has_swept (Noted (Visit serial space page) ∷ earlier) = has_swept earlier
+has_swept (Noted (Table serial) ∷ earlier) = is_some (pending (entries_of earlier))
+
 -- The next checkpoint goes on from the tip where one was acknowledged; and a gate's opening was taken up only behind the pass of the pending
 -- checkpoint's dump.
 pub record AreFlags (base : Base) (items : Marked) (swept grows committing : Bool) : Type 0 where
   pub grown : grows ≡ has_grown base (entries_of items)
+  pub swept_by : swept ≡ has_swept items
   pub sure : committing ≡ true → swept ≡ true
 
 -- none of these calls opens a gate

@@ -139,11 +139,19 @@ pub record IsMergedImage (merge : merger.Running) (places : Places) (serial : �
   pub checkpoint : image.header.checkpoint ≡ merge.source.checkpoint
   pub parent : image.header.parent ≡ 0
 
--- a merge ends with its image
+-- Between calls a merge that began its image makes it, or closes images; the image has this serial.
+abbrev pub IsSerialOf : merger.Doing → ℕ → Type 0
+IsSerialOf due serial = ⊥
+IsSerialOf (copying copy) serial = serial ≡ copy.order.serial
+IsSerialOf (opened number) serial = ⊥
+IsSerialOf (retiring r) serial = serial ≡ r.serial
+
+-- a merge ends with its image, under its serial
 pub record IsMerged (serial : ℕ) (old new : CoreView) : Type 0 where
   pub merge : merger.Running
   pub was : old.merger ≡ Some merge
   pub image : IsMergedImage merge new.catalog serial
+  pub own : IsSerialOf merge.doing serial
 
 -- ---- the outcome with which the merged image enters the catalog
 

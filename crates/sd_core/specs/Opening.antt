@@ -24,6 +24,7 @@ use Rattle.sd_opener.specs.Sees.{IsOpened, IsToldOf, Sees, SeesAfter}
 use Rattle.sd_belief.specs.Believes.{Believes}
 use Rattle.sd_belief.specs.View.{CoreView, history_of}
 use Rattle.sd_core.specs.declared.taken.Taken.{Taken}
+use Rattle.sd_core.specs.Grown.{has_swept}
 use Rattle.sd_core.specs.declared.taken.Taken.TheVariants.{Step, Call}
 
 -- a step of the opener
@@ -94,9 +95,9 @@ pub record IsOwnStore (last pending : Option ℕ) (files : List (List ℕ)) : Ty
 abbrev pub SawStrange : Looking → Option ℕ → Option ℕ → Type 0
 SawStrange opener last pending = (files : List (List ℕ)) → Sees files None opener → length opener.told ≡ length files → IsOwnStore last pending files → ⊥
 
--- the pending checkpoint, once the opening of its dump's gate was taken up: then the store may show it
+-- the pending checkpoint, once the pass of its dump is over: only then the store may show it
 abbrev pub awaited : CoreView → Option ℕ
-awaited core = if core.committing then pending (history_of core) else None
+awaited core = if has_swept core.items then pending (history_of core) else None
 
 -- A store is refused as damaged only where it isn't one that shows the last checkpoint or the one that is awaited.
 abbrev pub RefusesStrange : CoreView → Reply → Type 0
@@ -106,6 +107,10 @@ RefusesStrange core answer = answer ≡ reply.Refused Damaged → (opener : Look
 abbrev pub RefusesRightly : CoreView → Taken → Type 0
 RefusesRightly core (Step answer) = RefusesStrange core answer
 RefusesRightly core (Call request) = Unit {0}
+
+-- A store is opened only where it shows the last checkpoint or the one that is awaited.
+abbrev pub OpensOwn : CoreView → Taken → Type 0
+OpensOwn core made = (found : Option ℕ) → made ≡ Step (reply.Reopened found) → IsExpected (last core.base (history_of core)) (awaited core) found
 
 -- Where the store is as it is believed to be, it isn't refused as damaged.
 abbrev pub OpensBelieved : CoreView → Taken → Type 0

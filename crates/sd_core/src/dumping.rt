@@ -28,7 +28,8 @@ pub(crate) fn begin_checkpoint(
     buffers: PageBuffers,
 )
     requires { dumper.old.running ≡ None }
-    ensures { dumper.new.running ≡ Some (begun_checkpoint number slots.pre_dumps.items slots.dump parent) }
+    ensures running { dumper.new.running ≡ Some (begun_checkpoint number slots.pre_dumps.items slots.dump parent) }
+    ensures counted { dumper.new.since_freeze ≡ dumper.old.since_freeze }
 {
     dumper
         .begin(number, slots.pre_dumps, slots.dump, parent, buffers)

@@ -18,6 +18,7 @@ ghost use Rattle.sd_rounds.specs.Dumper.{Running, next_slot, pages_of};
 ghost use Rattle.sd_rounds.specs.Waits.{dumper_must_wait};
 ghost use Rattle.sd_core.specs.Answering.{IsAnswered};
 ghost use Rattle.sd_core.specs.Beginning.{BeginsAs, FreeSlots, begin_refusal};
+ghost use Rattle.sd_core.specs.Beside.{HandsBeside, OrdersBeside, StepsBeside};
 ghost use Rattle.sd_core.specs.Images.{IsAcked};
 ghost use Rattle.sd_core.specs.LittleWork.{IsLittleDump, IsLittlePreDump, OpensPreDump};
 ghost use Rattle.sd_core.specs.Called.{IsApplied, IsBegun, IsCancelOrder, IsHandedIn, IsMergeOrder, IsReopenOrder, IsTakenUp};
@@ -295,6 +296,7 @@ impl Core {
         ensures keeps { Stays self.old self.new }
         ensures begins { BeginsAs self.old rounds result self.new }
         ensures flags { FlagsByBegin self.old result self.new }
+        ensures beside { OrdersBeside its.Dumper self.old self.new }
     {
         core_steps();
         beginning_law(&self.catalog);
@@ -378,6 +380,7 @@ impl Core {
         ensures keeps { Stays self.old self.new }
         ensures cancelled { IsCancelled self.old result self.new }
         ensures flags { FlagsByCancel self.old result self.new }
+        ensures beside { OrdersBeside its.Dumper self.old self.new }
     {
         core_steps();
         cancelling_law();
@@ -422,6 +425,7 @@ impl Core {
         ensures keeps { Stays self.old self.new }
         ensures begun { BeginsToOpen self.old result self.new }
         ensures flags { KeepsFlags self.old self.new }
+        ensures beside { OrdersBeside its.Opener self.old self.new }
     {
         core_steps();
         opener_steps();
@@ -476,6 +480,7 @@ impl Core {
         requires { work_refusal self.old its.Dumper ≡ None }
         ensures takes { TakesUp self.old its.Dumper result self.new }
         ensures flags { FlagsByStep self.old its.Dumper result self.new }
+        ensures beside { StepsBeside its.Dumper self.old result self.new }
         ensures leaves { Leaves self.old its.Dumper result self.new }
         ensures merger { self.new.merger ≡ self.old.merger }
     {
@@ -494,6 +499,7 @@ impl Core {
         requires next { next_slot self.old.dumper.running ≡ Some slot }
         ensures takes { TakesUp self.old its.Dumper result self.new }
         ensures flags { FlagsByStep self.old its.Dumper result self.new }
+        ensures beside { StepsBeside its.Dumper self.old result self.new }
         ensures leaves { Leaves self.old its.Dumper result self.new }
         ensures merger { self.new.merger ≡ self.old.merger }
     {
@@ -541,6 +547,7 @@ impl Core {
         requires goes { dumper_must_wait self.old.dumper.running (plain_of self.old.memory) ≡ false }
         ensures takes { TakesUp self.old its.Dumper result self.new }
         ensures flags { FlagsByStep self.old its.Dumper result self.new }
+        ensures beside { StepsBeside its.Dumper self.old result self.new }
         ensures leaves { Leaves self.old its.Dumper result self.new }
         ensures merger { self.new.merger ≡ self.old.merger }
     {
@@ -630,6 +637,7 @@ impl Core {
         ensures merger { self.new.merger ≡ self.old.merger }
         ensures late { result ≡ reply.Refused StoreDown }
         ensures flags { FlagsByOutcome self.old result self.new }
+        ensures beside { HandsBeside outcome self.old self.new }
         ensures closed { outcome.request.id.worker ≢ its.Opener }
         ensures images { (running : Running) → OpensPreDump running self.old self.new → ⊥ }
         ensures merges { outcome.request.id.worker ≡ its.Merger → (merge : RunningMerge) (serial : ℕ)
@@ -654,6 +662,7 @@ impl Core {
         ensures failed { is_done outcome.answer ≡ false ↔ result ≡ reply.Refused StoreDown }
         ensures leaves { LeavesByOutcome self.old its.Dumper result self.new }
         ensures flags { FlagsByOutcome self.old result self.new }
+        ensures beside { HandsBeside outcome self.old self.new }
         ensures lasts { MergeLasts self.old self.new }
         ensures acked { (n : ℕ) → result ≡ reply.Acked n → IsAcked n self.old self.new }
         ensures little { (n : ℕ) → result ≡ reply.Acked n → IsLittleDump n self.old self.new }

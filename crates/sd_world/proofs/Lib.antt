@@ -21,3 +21,5 @@ pub mod TrimLemmas
 mod MergesLemmas
 mod RefusedLemmas
 mod RestingLemmas
+mod ClosesLemmas
+mod MergedLemmas

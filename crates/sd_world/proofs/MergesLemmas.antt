@@ -1,6 +1,5 @@
 -- What the events of a merge make of the contents of a disk.
-use Rattle.std.proofs.Common.{◌≡◌, ◌≢◌, ℕ, List, length, map, Option, Some, None, Contains, slice_get, slice_set, zero, suc, refl, sym, ◌∙◌, ap, subst}
-use Rattle.std.proofs.lemmas.Option.{same_Some}
+use Rattle.std.proofs.Common.{◌≡◌, ℕ, List, map, Option, Some, slice_get, zero, suc, refl, sym, ◌∙◌, ap, subst}
 use Rattle.sd_command.specs.declared.reply.Reply.{Reply}
 use Rattle.sd_command.specs.declared.reply.Reply.TheVariants as reply
 use Rattle.sd_command.specs.declared.refusal.Refusal.TheVariants.{Idle}
@@ -12,12 +11,11 @@ use Rattle.sd_gate.specs.declared.phase.Phase.TheVariants.{Bare, Whole}
 use Rattle.sd_gate.specs.declared.request_id.RequestId.{RequestId}
 use Rattle.sd_gate.specs.declared.worker.Worker.{Worker}
 use Rattle.sd_gate.specs.declared.worker.Worker.TheVariants.{Dumper, Merger, Opener}
-use Rattle.sd_gate.specs.Fits.{IsClosed, Reads}
+use Rattle.sd_gate.specs.Fits.{Reads}
 use Rattle.sd_gate.specs.Laws.{GivenUpFits, WritesCommute}
 use Rattle.sd_gate.specs.Phases.{bodies_after}
 use Rattle.sd_image.specs.Image.{IsImage}
 use Rattle.sd_journal.specs.History.{History}
-use Rattle.sd_merge.specs.declared.retired.Retired.{Retired}
 use Rattle.sd_merge.specs.Merger as merger
 use Rattle.sd_merge.specs.Merger.{Retiring, list_of, retiring}
 use Rattle.sd_belief.specs.Calls.{AddsByStep, IsFree, IsOut}
@@ -30,8 +28,8 @@ use Rattle.sd_core.specs.Working.{LeavesByOutcome}
 use Rattle.sd_world.specs.declared.event.Event.{Event}
 use Rattle.sd_world.specs.declared.event.Event.TheVariants.{Command, Begin, Work, TakeUp, HandInAt, Perform, PerformAt, Merge, Cancel, Reopen, Trim}
 use Rattle.sd_world.specs.declared.kept.Kept.{Kept}
-use Rattle.sd_world.specs.declared.kept.Kept.TheVariants.{Nothing, Request, Outcome}
-use Rattle.sd_world.specs.Consistent.{IsConsistent, IsWorld, SlotNow}
+use Rattle.sd_world.specs.declared.kept.Kept.TheVariants.{Request, Outcome}
+use Rattle.sd_world.specs.Consistent.{IsConsistent, IsWorld}
 use Rattle.sd_world.specs.Merges.{AreCutThere, DoesMerge, IsMergedThere, KeepsMerged, MergesThere}
 use Rattle.sd_world.specs.Steps.{Does, HandsInAt, HandsInIfAny, Performs, TakesUp, Works}
 use Rattle.sd_world.specs.View.{WorldView, asked_of, id_of}

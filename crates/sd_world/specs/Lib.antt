@@ -1,6 +1,8 @@
 pub mod Adds
+pub mod Closing
 pub mod Consistent
 pub mod Little
+pub mod Merged
 pub mod Merges
 pub mod Opens
 pub mod Refused

@@ -10,6 +10,7 @@ use Rattle.sd_belief.specs.Shown.{ShowsAllowed}
 use Rattle.sd_belief.specs.View.{history_of}
 use Rattle.sd_world.specs.declared.event.Event.{Event}
 use Rattle.sd_world.specs.Adds.{Adds}
+use Rattle.sd_world.specs.Closing.{ClosesBehind, EndsBehind}
 use Rattle.sd_world.specs.Little.{DoesLittle}
 use Rattle.sd_world.specs.Merges.{DoesMerge, KeepsMerged}
 use Rattle.sd_world.specs.Refused.{GoesOnUnless}
@@ -37,8 +38,12 @@ pub record IsStep {D : Type 0} (g : Ghosts D) (event : Event) (old : WorldView D
   -- what a merge's event makes of the disk, where that is honest, and that the merged image's file stays while images are closed
   pub merges : g.is_honest new.disk → DoesMerge g event old answer new
   pub keeps : KeepsMerged g old new
-  -- and for what alone the next step of a job is refused
+  pub closes : g.is_honest new.disk → ClosesBehind g old new
+  pub ends : g.is_honest new.disk → EndsBehind g old answer new
+  -- for what alone the next step of a job is refused
   pub jobs : g.is_honest new.disk → GoesOnUnless event old answer
+  -- and the disk was honest before it
+  pub honest : g.is_honest new.disk → g.is_honest old.disk
 
 -- the world goes from the first state to the last, event by event, each answered by its reply
 abbrev pub Runs : {D : Type 0} → Ghosts D → WorldView D → List Event → List Reply → WorldView D → Type 0

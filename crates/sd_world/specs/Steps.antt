@@ -1,5 +1,5 @@
 -- What an event does to a core, a disk and what is kept.
-use Rattle.std.specs.Prelude.{◌≡◌, ◌≢◌, ◌⊎◌, ℕ, ◌<◌, true, false, List, Option, Some, Result, Ok, Err, slice_get, slice_set, length}
+use Rattle.std.specs.Prelude.{◌≡◌, ◌≢◌, ◌⊎◌, ℕ, ◌<◌, true, List, Option, Some, Result, Ok, Err, slice_get, slice_set, length}
 use Rattle.sd_command.specs.declared.command.Command.{Command as CommandOf}
 use Rattle.sd_command.specs.declared.refusal.Refusal.{Refusal}
 use Rattle.sd_command.specs.declared.refusal.Refusal.TheVariants.{Idle, Device}

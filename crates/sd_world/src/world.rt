@@ -17,7 +17,9 @@ ghost use Rattle.sd_belief.specs.Shown.{ShowsAllowed};
 ghost use Rattle.sd_belief.specs.View.{history_of};
 ghost use Rattle.sd_world.specs.declared.event.Event.TheVariants.{HandInAt, Perform, PerformAt, TakeUp, Trim, Work};
 ghost use Rattle.sd_world.specs.Adds.{Adds};
+ghost use Rattle.sd_world.specs.Closing.{ClosesBehind, EndsBehind};
 ghost use Rattle.sd_world.specs.Little.{DoesLittle};
+ghost use Rattle.sd_world.specs.Merged.{MergesStand};
 ghost use Rattle.sd_world.specs.Merges.{DoesMerge, KeepsMerged};
 ghost use Rattle.sd_world.specs.Refused.{GoesOnUnless};
 ghost use Rattle.sd_world.specs.Restored.{IsRestored};
@@ -169,6 +171,15 @@ impl<D: Disk> World<D> {
         self.core.sound();
     }
 
+    /// A law: behind each event of a run that is answered `merged` the image of that serial stands in its slot of the
+    /// contents, a copy of its source, as it entered at one of the run's events; and the images of the merge's list are
+    /// closed, and cut to one byte.
+    pub fn merges_stand(&self)
+        ensures { MergesStand D.Disk }
+    {
+        let _core = &self.core;
+    }
+
     /// Restores a disk that holds what a crash of this world's disk may leave now: exactly a pair that the journal allows,
     /// or the empty chain where nothing was saved.
     ///
@@ -223,8 +234,10 @@ impl<D: Disk> World<D> {
         ensures merges { D.is_honest self.new.disk
             → DoesMerge D.Disk event.now self.old result self.new }
         ensures keeps { KeepsMerged D.Disk self.old self.new }
-        // While a worker's job runs, its next step is refused only for want of memory, or where a device call failed; and the
-        // opener's where it finds the store damaged.
+        // A merge that closes images behind it, or ends with it, did so before, or its image enters by it.
+        ensures closes { D.is_honest self.new.disk → ClosesBehind D.Disk self.old self.new }
+        ensures ends { D.is_honest self.new.disk → EndsBehind D.Disk self.old result self.new }
+        // While a worker's job runs, its next step is refused only for want of memory, or where a device call failed.
         ensures jobs { D.is_honest self.new.disk → GoesOnUnless event.now self.old result }
 
         // What it adds to the journal, or takes from it. What the run goes on from stays, but by a trim.

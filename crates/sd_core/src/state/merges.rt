@@ -7,9 +7,10 @@ ghost use Rattle.sd_gate.specs.declared.worker.Worker.TheVariants as its;
 ghost use Rattle.sd_merge.specs.Merger.{slot_before};
 ghost use Rattle.sd_belief.specs.Calls.{AddsByOrder, HandedIn, Stays};
 ghost use Rattle.sd_belief.specs.View.{history_of};
+ghost use Rattle.sd_core.specs.Beside.{HandsBeside, OrdersBeside, StepsBeside};
 ghost use Rattle.sd_core.specs.Entering.{EntersFirst};
 ghost use Rattle.sd_core.specs.Flags.{FlagsByOutcome, FlagsByStep, KeepsFlags};
-ghost use Rattle.sd_core.specs.Lasting.{MergeLasts};
+ghost use Rattle.sd_core.specs.Lasting.{FixesNoList, MergeLasts};
 ghost use Rattle.sd_core.specs.Merging.{EndsCut, EntersAsCopy, FixesItsList, IsMerged, ListsTheUnneeded, MergesAs, merge_refusal};
 ghost use Rattle.sd_core.specs.Refusals.{is_idle, work_refusal};
 ghost use Rattle.sd_core.specs.Starts.{TakesUp};
@@ -56,6 +57,7 @@ impl Core {
         ensures keeps { Stays self.old self.new }
         ensures merges { MergesAs self.old result self.new }
         ensures flags { KeepsFlags self.old self.new }
+        ensures beside { OrdersBeside its.Merger self.old self.new }
     {
         core_steps();
         merge_beginning_law(&self.catalog);
@@ -88,8 +90,10 @@ impl Core {
         requires { work_refusal self.old its.Merger ≡ None }
         ensures takes { TakesUp self.old its.Merger result self.new }
         ensures flags { FlagsByStep self.old its.Merger result self.new }
+        ensures beside { StepsBeside its.Merger self.old result self.new }
         ensures leaves { Leaves self.old its.Merger result self.new }
         ensures lasts { MergeLasts self.old self.new }
+        ensures fixes { FixesNoList self.old self.new }
         ensures finds { FindsSource self.old result }
     {
         match self.merger.next_slot() {
@@ -107,8 +111,10 @@ impl Core {
         requires next { slot_before self.old.merger ≡ Some slot }
         ensures takes { TakesUp self.old its.Merger result self.new }
         ensures flags { FlagsByStep self.old its.Merger result self.new }
+        ensures beside { StepsBeside its.Merger self.old result self.new }
         ensures leaves { Leaves self.old its.Merger result self.new }
         ensures lasts { MergeLasts self.old self.new }
+        ensures fixes { FixesNoList self.old self.new }
         ensures finds { FindsSource self.old result }
     {
         core_steps();
@@ -141,8 +147,10 @@ impl Core {
         requires rests { slice_get self.old.outs 1 ≡ Some None }
         ensures takes { TakesUp self.old its.Merger result self.new }
         ensures flags { FlagsByStep self.old its.Merger result self.new }
+        ensures beside { StepsBeside its.Merger self.old result self.new }
         ensures leaves { Leaves self.old its.Merger result self.new }
         ensures lasts { MergeLasts self.old self.new }
+        ensures fixes { FixesNoList self.old self.new }
         ensures finds { FindsSource self.old result }
     {
         core_steps();
@@ -186,6 +194,7 @@ impl Core {
         ensures failed { is_done outcome.answer ≡ false ↔ result ≡ reply.Refused StoreDown }
         ensures leaves { LeavesByOutcome self.old its.Merger result self.new }
         ensures flags { FlagsByOutcome self.old result self.new }
+        ensures beside { HandsBeside outcome self.old self.new }
         ensures lasts { MergeLasts self.old self.new }
         ensures merged { (serial : ℕ) → result ≡ reply.Merged serial → IsMerged serial self.old self.new }
         ensures opens { EntersFirst self.old result self.new }

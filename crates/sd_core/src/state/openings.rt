@@ -6,11 +6,13 @@ ghost use Rattle.sd_gate.specs.Calls.{is_done};
 ghost use Rattle.sd_gate.specs.declared.worker.Worker.TheVariants as its;
 ghost use Rattle.sd_opener.specs.Looking.{IsDoneAsAsked};
 ghost use Rattle.sd_belief.specs.Calls.{HandedIn, MakesStep};
+ghost use Rattle.sd_core.specs.Beside.{HandsBeside, StepsBeside};
 ghost use Rattle.sd_core.specs.Flags.{FlagsByOutcome, FlagsByReply, FlagsByStep};
-ghost use Rattle.sd_core.specs.Opening.{IsAllRead, OpensBelieved, RefusesRightly, RefusesStrange};
+ghost use Rattle.sd_core.specs.Opening.{IsAllRead, OpensBelieved, OpensOwn, RefusesRightly, RefusesStrange};
 ghost use Rattle.sd_core.specs.Refusals.{work_refusal};
 ghost use Rattle.sd_core.specs.Starts.{TakesUp};
 ghost use Rattle.sd_core.specs.Working.{Leaves, LeavesByOutcome, LeavesByStep};
+ghost use Rattle.sd_core.specs.declared.taken.Taken.TheVariants as taken;
 
 use super::Core;
 use crate::lanes::{OPENER, put_out};
@@ -32,8 +34,10 @@ impl Core {
         requires { work_refusal self.old its.Opener ≡ None }
         ensures takes { TakesUp self.old its.Opener result self.new }
         ensures flags { FlagsByStep self.old its.Opener result self.new }
+        ensures beside { StepsBeside its.Opener self.old result self.new }
         ensures refuses { RefusesRightly self.old result }
         ensures opens { OpensBelieved self.old result }
+        ensures shows { OpensOwn self.old result }
         ensures leaves { Leaves self.old its.Opener result self.new }
         ensures merger { self.new.merger ≡ self.old.merger }
     {
@@ -67,7 +71,9 @@ impl Core {
         requires { IsAllRead self.old.opener }
         ensures takes { MakesStep self.old its.Opener result self.new }
         ensures flags { FlagsByReply self.old result self.new }
+        ensures beside { StepsBeside its.Opener self.old (taken.Step result) self.new }
         ensures refuses { RefusesStrange self.old result }
+        ensures shows { OpensOwn self.old (taken.Step result) }
         ensures leaves { LeavesByStep self.old its.Opener result self.new }
         ensures merger { self.new.merger ≡ self.old.merger }
     {
@@ -111,6 +117,7 @@ impl Core {
         ensures goes_on { IsDoneAsAsked outcome → result ≡ reply.Worked }
         ensures leaves { LeavesByOutcome self.old its.Opener result self.new }
         ensures flags { FlagsByOutcome self.old result self.new }
+        ensures beside { HandsBeside outcome self.old self.new }
         ensures merger { self.new.merger ≡ self.old.merger }
     {
         opener_steps();

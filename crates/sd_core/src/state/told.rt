@@ -10,6 +10,7 @@ ghost use Rattle.sd_belief.specs.View.{history_of};
 ghost use Rattle.sd_core.specs.Beginning.{is_down};
 ghost use Rattle.sd_core.specs.GoingOn.{AreOwnLanes, CanGoOn, OpenerAsksAlone};
 ghost use Rattle.sd_core.specs.Grown.{has_grown};
+ghost use Rattle.sd_core.specs.Kept.{HasItsPreDumps};
 ghost use Rattle.sd_core.specs.Lasting.{LeavesMerged};
 ghost use Rattle.sd_core.specs.Refusals.{IsPageOut};
 
@@ -113,6 +114,14 @@ impl Core {
             → image.header.checkpoint ≤ self.now.numbers.checkpoint }
     {
         let _memory = &self.memory;
+    }
+
+    /// A law: the pre-dumps so far of the checkpoint that runs are in the catalog, each under the number that the next one
+    /// names as its parent.
+    pub fn pre_dumps(&self)
+        ensures { HasItsPreDumps self.now }
+    {
+        let _dumper = &self.dumper;
     }
 
     /// A law: while a merge closes images, its own image stands in its slot, and no device call is out on that slot.

@@ -1,4 +1,4 @@
-use Rattle.std.proofs.Common.{◌≡◌, IsTrue, true, false, sym, ◌∙◌, subst}
+use Rattle.std.proofs.Common.{◌≡◌, IsTrue, true, false, subst}
 use Rattle.sd_core.specs.Opening.{IsExpected}
 use Rattle.sd_core.proofs.opening.read_by.Goals as goal
 

@@ -4,7 +4,7 @@ use Rattle.sd_journal.specs.declared.entry.Entry.TheVariants.{Applied}
 use Rattle.sd_journal.specs.Marked.{Told, entries_of}
 use Rattle.sd_belief.specs.View.{CoreView, history_of}
 use Rattle.sd_core.proofs.FlagLemmas.{same_flags}
-use Rattle.sd_core.specs.Grown.{has_grown}
+use Rattle.sd_core.specs.Grown.{has_grown, has_swept}
 use Rattle.sd_core.specs.Answering.{IsAnswered}
 use Rattle.sd_core.specs.LittleWork.{HasLittle}
 use Rattle.sd_core.specs.Sound.{AreNumbers, IsAtWork, IsJournal}
@@ -56,6 +56,9 @@ returns-in_default-copy_reply c =
       merge = search rules;
       answered = search rules;
       flags = search rules;
+      opening = search rules;
+      marks = search rules;
+      images = search rules;
       keeps = stays_seen _ _ _ c.self.view_is (stays_same c.core_steps.ensures _ _ (record {
         store = record { base = refl; phases = refl; outs = refl; opener = refl; standing = refl; catalog = refl; grows = refl; committing = refl; dumper = refl; merger = refl; serial = refl };
         history = ap entries_of c.reserve.ensures.grown.items;
@@ -85,7 +88,7 @@ invariant_of-self-2 c =
       little = subst (λ all. IfSome c.self.inside.dumper.running (HasLittle base all c.answer.new.memory)) (sym items)
           (applied_little base c.self.inside.journal.items c.self.inside.memory c.answer.new.memory c.self.inside.dumper.running c.args.seat c.in-Ok-copy_command.command c.in-Ok-answer.reply
           (still_while_frozen _ c.answer.new.memory c.in-Ok-copy_command.command c.in-Ok-answer.reply c.self.invariant answered) c.self.invariant.little);
-      flags_are = record { grown = c.self.invariant.flags_are.grown ∙ ap (λ all. has_grown base (entries_of all)) (sym items); sure = c.self.invariant.flags_are.sure };
+      flags_are = record { grown = c.self.invariant.flags_are.grown ∙ ap (λ all. has_grown base (entries_of all)) (sym items); swept_by = c.self.invariant.flags_are.swept_by ∙ ap has_swept (sym items); sure = c.self.invariant.flags_are.sure };
       gated = c.self.invariant.gated;
       swept_is = swept_answered c.self.inside.swept c.self.inside.pending c.in-Ok-copy_command.command c.in-Ok-answer.reply c.self.inside.memory c.answer.new.memory answered c.self.invariant.swept_is;
       merging = c.self.invariant.merging;
@@ -107,6 +110,9 @@ returns c =
       merge = search rules;
       answered = search rules;
       flags = search rules;
+      opening = search rules;
+      marks = search rules;
+      images = search rules;
       keeps = stays_seen _ _ _ c.self.view_is (stays_applied c.core_steps.ensures _ _ c.args.seat c.in-Ok-copy_command.command c.in-Ok-answer.reply (record {
         store = record { base = refl; phases = refl; outs = refl; opener = refl; standing = refl; catalog = refl; grows = refl; committing = refl; dumper = refl; merger = refl; serial = refl };
         items = c.append.ensures.items ∙ ap (λ all. Told (Applied c.args.seat c.in-Ok-copy_command.command c.in-Ok-answer.reply) ∷ all) c.reserve.ensures.grown.items;

@@ -1,4 +1,4 @@
-use Rattle.std.proofs.Common.{◌≡◌, ℕ, ◌+◌, ◌^◌, ◌<◌, ◌≤◌, ◌||◌, ◌&&◌, if◌then◌else◌, ◌∷◌, Some, None, IsSome, IfSome, length, slice_get, slice_index_or, slice_set, refl, sym, ◌∙◌, ap, subst, inl, arith}
+use Rattle.std.proofs.Common.{◌≡◌, ℕ, ◌+◌, ◌^◌, ◌<◌, ◌≤◌, ◌||◌, ◌&&◌, if◌then◌else◌, ◌∷◌, Some, None, IsSome, IfSome, is_some, length, slice_get, slice_index_or, slice_set, refl, sym, ◌∙◌, ap, subst, inl, arith}
 use Rattle.std.proofs.lemmas.Option.{same_Some, slice_get-get_or}
 use Rattle.std.proofs.Math.Bool.{and-false}
 use Rattle.sd_chain.specs.Catalog.{Opened, place_of}
@@ -8,24 +8,27 @@ use Rattle.sd_gate.specs.declared.worker.Worker.TheVariants as its
 use Rattle.sd_command.specs.declared.refusal.Refusal.TheVariants.{OutOfMemory}
 use Rattle.sd_command.specs.declared.reply.Reply.TheVariants as reply
 use Rattle.sd_journal.specs.declared.mark.Mark.TheVariants.{Start}
-use Rattle.sd_journal.specs.History.{Base}
+use Rattle.sd_journal.specs.History.{Base, pending}
 use Rattle.sd_journal.specs.Legal.{IsAbove}
-use Rattle.sd_journal.specs.Marked.{entries_of}
+use Rattle.sd_journal.specs.Marked.{Noted, entries_of}
 use Rattle.sd_merge.specs.Merger as merger
 use Rattle.sd_rounds.specs.declared.image_order.ImageOrder.{ImageOrder}
 use Rattle.sd_belief.specs.Merges.{IsSpared, MakesOther}
-use Rattle.sd_rounds.specs.Dumper.{AreRunning, HasSlot, is_dumping, is_frozen_image, is_last, next_slot, order_of, slot_of}
+use Rattle.sd_rounds.specs.Dumper.{AreRunning, HasSlot, is_dumping, is_frozen_image, is_last, next_slot, order_of, serial_of, slot_of}
 use Rattle.sd_rounds.specs.Making.{Making, begun_image, out_of}
 use Rattle.sd_rounds.specs.Writes.{no_writes}
 use Rattle.sd_belief.specs.DumperSteps.{opens_gate}
 use Rattle.sd_belief.specs.View.{CoreView}
 use Rattle.sd_core.proofs.FlagLemmas.{format_has_no_open, gate_swept, gated_asked, sure_asked}
-use Rattle.sd_core.specs.Grown.{IsGatedStage, has_grown}
+use Rattle.sd_core.specs.Grown.{IsGatedStage, has_grown, has_swept}
 use Rattle.sd_core.specs.declared.numbers.Numbers.{Numbers}
 use Rattle.sd_core.specs.Images.{begun_as}
 use Rattle.sd_core.specs.LittleWork.{TakesLittle}
 use Rattle.sd_core.specs.Sound.{AreNumbers, AreOuts, IsImageOf, IsJournal, IsMerging, begun_images, due_serials}
 use Rattle.sd_core.specs.Starts.{base_of}
+use Rattle.sd_core.specs.declared.taken.Taken.TheVariants.{Call as CallTaken}
+use Rattle.sd_core.specs.Noted.{marks_of}
+use Rattle.sd_core.proofs.OthersLemmas.{beside_seen, counted_still, keeps_changed, notes_start}
 use Rattle.sd_core.proofs.ApplyLemmas.{stays_same}
 use Rattle.sd_core.proofs.ImageLemmas.{begun_asked}
 use Rattle.sd_core.proofs.LittleLemmas.{begun_little}
@@ -122,6 +125,7 @@ invariant_of-self-2 c =
       swept_is = swept_same c.self.inside.swept c.self.inside.swept c.self.inside.pending c.self.inside.pending c.self.inside.memory c.begin_next-request.new.memory refl refl w.steps.2 core.swept_is;
       flags_are = record {
         grown = core.flags_are.grown ∙ ap (λ all. has_grown base (entries_of all)) (sym c.note.ensures.items);
+        swept_by = core.flags_are.swept_by ∙ ap has_swept (sym c.note.ensures.items);
         sure = λ commits. sure_asked c.self.inside.committing (is_last w.running) (opens_gate c.begin_next-request.result.id.call) c.self.inside.swept core.flags_are.sure
             (gate_swept (is_last w.running) c.self.inside.swept (begun_image (order_of w.running serial c.state.result)).stage w.steps.0.plan w.steps.0.next c.begin_next-request.result
             (format_has_no_open c.state.result) w.steps.0.was w.steps.0.gives)
@@ -273,3 +277,21 @@ returns-clause-takes c =
           ∙ ap (λ (i : RequestId). c.self.inside.committing || is_last w.running && opens_gate i.call) c.id-2.ensures;
       is = w.is;
     }) w.steps.1 (subst (λ s. s < length c.self.inside.phases.items) (sym slot) within))
+
+pub returns-clause-beside : goal.returns-clause-beside
+returns-clause-beside c =
+    let serial = c.self.inside.numbers.serial + 1 in
+    let w = c.begin_next-request.ensures.begins in
+    let items = c.note.ensures.items ∙ ap (λ all. Noted (Start serial) ∷ all) c.in-Ok.ensures.grown.items in
+    beside_seen its.Dumper (CallTaken c.begin_next-request.result) _ _ _ c.self.view_is (record {
+      others = (refl, refl);
+      notes = notes_start _ _ (next_slot c.self.inside.dumper.running) c.args.slot _ (ap (λ v. next_slot v.dumper.running) c.self.view_is ∙ c.requires.next) (record {
+        serial = serial;
+        own = ap serial_of w.is ∙ ap (λ (m : Making). Some m.order.serial) w.steps.0.is;
+        noted = ap marks_of items;
+      });
+      images = λ none. keeps_changed c.self.inside.catalog c.hold.new.self serial (Some None) c.in-Ok-hold.ensures.held
+          (λ o is. (let double = c.hold.ensures.double.1 (subst IsSome (sym is) refl) in cc));
+      counted = counted_still (is_some (pending (entries_of c.self.inside.journal.items))) (is_some (pending (entries_of c.note.new.self.items))) c.self.inside.dumper.since_freeze _
+          (ap (λ all. is_some (pending (entries_of all))) items) w.counted;
+    })

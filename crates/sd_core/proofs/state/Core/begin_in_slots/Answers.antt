@@ -54,7 +54,7 @@ invariant_of-self-2 c =
     let number = c.begin-number.ensures.number in
     let below = inside.numbers_are.checkpoints in
     let running = begun_checkpoint c.begin-number.result slots.pre_dumps.items slots.dump c.first_parent-parent.result in
-    core_working _ _ c.begin_checkpoint.ensures (record {
+    core_working _ _ c.begin_checkpoint.ensures.running (record {
       journal_is = same_journal base c.self.inside.journal c.hold.new.self c.self.inside.memory c.self.inside.pending c.self.inside.last grown.first grown.items grown.limit inside.journal_is;
       held = two ∙ ap (λ f. held_for f (Some running) None) (sym none);
       outs_are = subst (λ st. AreOuts st c.self.inside.outs c.self.inside.phases.items (Some running) c.self.inside.merger None) (sym may.stands)
@@ -118,7 +118,7 @@ returns-clause-keeps c =
         its_catalog = refl;
         catalog = refl;
         was = may.idle;
-        is = c.begin_checkpoint.ensures;
+        is = c.begin_checkpoint.ensures.running;
         fresh = (refl, refl);
         some = omega (arith, number);
         newest = λ serial o at. (let below = inside.counted serial o at in omega (arith, number, below));

@@ -1,4 +1,4 @@
-use Rattle.std.proofs.Common.{◌≡◌, false, if◌then◌else◌, length, map, take, Some, None, IfSome, refl, sym, ◌∙◌, ap, subst, arith}
+use Rattle.std.proofs.Common.{◌≡◌, false, if◌then◌else◌, ℕ, length, map, take, Option, Some, None, IfSome, is_some, refl, sym, ◌∙◌, ap, subst, arith}
 use Rattle.std.proofs.Math.Seq.{take-length}
 use Rattle.std.proofs.lemmas.Option.{same_Some}
 use Rattle.sd_gate.specs.declared.worker.Worker.TheVariants as its
@@ -6,15 +6,18 @@ use Rattle.sd_gate.specs.Laws.{found_phase}
 use Rattle.sd_command.specs.declared.refusal.Refusal.TheVariants.{Damaged as DamagedStore}
 use Rattle.sd_command.specs.declared.reply.Reply.TheVariants as reply
 use Rattle.sd_journal.specs.History.{Base}
-use Rattle.sd_journal.specs.History.{pending}
+use Rattle.sd_journal.specs.History.{last, pending}
 use Rattle.sd_opener.specs.Looking.{Looking, out_of}
 use Rattle.sd_opener.specs.Sees.{Sees}
 use Rattle.sd_belief.specs.declared.standing.Standing.TheVariants.{Open}
 use Rattle.sd_belief.specs.View.{CoreView}
 use Rattle.sd_journal.specs.Marked.{entries_of}
+use Rattle.sd_core.specs.Noted.{marks_of}
+use Rattle.sd_core.proofs.OthersLemmas.{beside_seen, none_now}
 use Rattle.sd_core.proofs.FlagLemmas.{set_flags}
-use Rattle.sd_core.specs.Grown.{has_grown}
-use Rattle.sd_core.specs.Opening.{IsExpected, RefusesStrange}
+use Rattle.sd_core.specs.Grown.{has_grown, has_swept}
+use Rattle.sd_core.specs.declared.taken.Taken.TheVariants.{Step}
+use Rattle.sd_core.specs.Opening.{IsExpected, OpensOwn, RefusesStrange}
 use Rattle.sd_core.specs.Sound.{AreNumbers, IsOpening, held_for, out_of_opener}
 use Rattle.sd_core.specs.Starts.{base_of}
 use Rattle.sd_core.proofs.CoreLemmas.{held_idle, held_opening, nobody_is, none_out}
@@ -23,7 +26,7 @@ use Rattle.sd_core.proofs.MergeLemmas.{no_merge, none_merges}
 use Rattle.sd_core.proofs.OpeningLemmas.{ends_refused, starts_anew, step_seen}
 use Rattle.sd_core.proofs.WorkLemmas.{none_closed, none_works}
 use Rattle.sd_core.proofs.SettledLemmas.{not_swept}
-use Rattle.sd_core.proofs.StrangeLemmas.{awaits, same_own}
+use Rattle.sd_core.proofs.StrangeLemmas.{same_own}
 use Rattle.sd_core.proofs.state.Core.finish_opening.Goals as goal
 
 pub invariant_of-self-2 : goal.invariant_of-self-2
@@ -45,7 +48,7 @@ invariant_of-self-2 c =
       journal_is = (reopened_journal c.tracked_laws.ensures c.plain_law.ensures base c.self.inside.journal c.append_held.new.self c.self.inside.memory c.self.inside.pending c.self.inside.last c.in-Some-read_by.found c.self.inside.swept
           c.append_held.ensures.items c.append_held.ensures.numbers.first c.append_held.ensures.numbers.limit expected c.sound.ensures c.self.invariant.swept_is c.self.invariant.journal_is).0;
       swept_is = not_swept false None c.self.inside.memory refl;
-      flags_are = set_flags base c.append_held.new.self.items false false false (ap (λ all. has_grown base (entries_of all)) (sym c.append_held.ensures.items)) refl;
+      flags_are = set_flags base c.append_held.new.self.items false false false (ap (λ all. has_grown base (entries_of all)) (sym c.append_held.ensures.items)) refl (ap has_swept (sym c.append_held.ensures.items));
       gated = none_works _ c.self.inside.dumper.running none;
       held = zero_is ∙ sym (held_idle c.self.inside.dumper.running none) ∙ ap (held_for None c.self.inside.dumper.running) (sym c.take_opener.ensures.left);
       outs_are = none_out Open c.self.inside.outs c.in-Some-read_by.opened.phases.items c.self.inside.dumper.running c.self.inside.merger c.take_opener.new.opener none
@@ -119,10 +122,34 @@ returns-in_default-read_by-clause-refuses c =
     let is : c.self.inside.opener ≡ Some o = sym c.take_opener.ensures.taken ∙ c.in-Some.is in
     let same : c.requires.looking ≡ o = same_Some c.requires.looking o (sym c.requires.is ∙ sym (ap (λ (v : CoreView). v.opener) c.self.view_is) ∙ is) in
     let all : length o.told ≡ o.slots = subst (λ (l : Looking). length l.told ≡ l.slots) same c.requires.all in
+    let own_awaited : (if c.self.inside.swept then c.self.inside.pending else None) ≡ (if has_swept c.self.inside.journal.items then pending (entries_of c.self.inside.journal.items) else None) =
+    ap (λ b. if b then c.self.inside.pending else None) c.self.invariant.flags_are.swept_by ∙ ap (λ p. if has_swept c.self.inside.journal.items then p else None) c.self.invariant.journal_is.frozen_for in
     subst (λ v. RefusesStrange v (reply.Refused DamagedStore)) c.self.view_is (λ told opener there files sees own.
     let own_opener : opener ≡ o = same_Some opener o (sym there ∙ is) in
     let seen : Sees files None o = subst (Sees files None) own_opener sees in
     c.in_default-read_by.ensures.strange refl files seen (all ∙ sym seen.count) (same_own _ _ _ _ files (λ found expected.
-    subst (λ p. IsExpected c.self.inside.last p found) (sym c.swept_checkpoint.ensures) (awaits c.self.inside.committing c.self.inside.swept c.self.inside.pending c.self.inside.last found c.self.invariant.flags_are.sure
-    (subst (λ p. IsExpected c.self.inside.last (if c.self.inside.committing then p else None) found) (sym c.self.invariant.journal_is.frozen_for)
-    (subst (λ l. IsExpected l (if c.self.inside.committing then pending (entries_of c.self.inside.journal.items) else None) found) (sym c.self.invariant.journal_is.newest_is) expected)))) own))
+    subst (λ p. IsExpected c.self.inside.last p found) (sym (c.swept_checkpoint.ensures ∙ own_awaited))
+    (subst (λ l. IsExpected l (if has_swept c.self.inside.journal.items then pending (entries_of c.self.inside.journal.items) else None) found) (sym c.self.invariant.journal_is.newest_is) expected)) own))
+
+same_found : (a b : Option ℕ) → Step (reply.Reopened a) ≡ Step (reply.Reopened b) → a ≡ b
+same_found a b e = cc
+
+pub returns-clause-shows : goal.returns-clause-shows
+returns-clause-shows c =
+    let own_awaited : (if c.self.inside.swept then c.self.inside.pending else None) ≡ (if has_swept c.self.inside.journal.items then pending (entries_of c.self.inside.journal.items) else None) =
+    ap (λ b. if b then c.self.inside.pending else None) c.self.invariant.flags_are.swept_by ∙ ap (λ p. if has_swept c.self.inside.journal.items then p else None) c.self.invariant.journal_is.frozen_for in
+    let own_expected : IsExpected c.self.inside.last (if has_swept c.self.inside.journal.items then pending (entries_of c.self.inside.journal.items) else None) c.in-Some-read_by.found =
+    subst (λ p. IsExpected c.self.inside.last p c.in-Some-read_by.found) (c.swept_checkpoint.ensures ∙ own_awaited) c.in-Some-read_by.ensures.opens.expected in
+    subst (λ v. OpensOwn v (Step (reply.Reopened c.in-Some-read_by.found))) c.self.view_is (λ found is.
+    subst (IsExpected (last (base_of c.self.inside.base) (entries_of c.self.inside.journal.items)) (if has_swept c.self.inside.journal.items then pending (entries_of c.self.inside.journal.items) else None))
+    (same_found c.in-Some-read_by.found found is)
+    (subst (λ l. IsExpected l (if has_swept c.self.inside.journal.items then pending (entries_of c.self.inside.journal.items) else None) c.in-Some-read_by.found) c.self.invariant.journal_is.newest_is own_expected))
+
+pub returns-clause-beside : goal.returns-clause-beside
+returns-clause-beside c = beside_seen its.Opener (Step (reply.Reopened c.in-Some-read_by.found)) _ _ _ c.self.view_is (record {
+  others = (refl, refl, refl);
+  notes = ap marks_of c.append_held.ensures.items;
+  images = λ none. absurd (none c.in-Some-read_by.found refl);
+  counted = none_now (is_some (pending (entries_of c.self.inside.journal.items))) (is_some (pending (entries_of c.append_held.new.self.items))) c.self.inside.dumper.since_freeze
+      (ap (λ all. is_some (pending (entries_of all))) c.append_held.ensures.items);
+})

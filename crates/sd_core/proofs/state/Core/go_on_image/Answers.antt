@@ -1,10 +1,10 @@
-use Rattle.std.proofs.Common.{◌≡◌, ◌+◌, ◌<◌, ◌≤◌, ◌^◌, if◌then◌else◌, ◌||◌, ◌&&◌, length, Some, None, IfSome, slice_get, slice_set, ◌∷◌, refl, sym, ◌∙◌, ap, subst, arith}
+use Rattle.std.proofs.Common.{◌≡◌, ◌+◌, ◌<◌, ◌≤◌, ◌^◌, if◌then◌else◌, ◌||◌, ◌&&◌, length, Some, None, IfSome, is_some, slice_get, slice_set, ◌∷◌, refl, sym, ◌∙◌, ap, subst, inl, inr, arith}
 use Rattle.std.proofs.lemmas.Option.{slice_get_within}
 use Rattle.sd_gate.specs.declared.request_id.RequestId.{RequestId}
 use Rattle.sd_gate.specs.declared.worker.Worker.TheVariants as its
 use Rattle.sd_command.specs.declared.reply.Reply.TheVariants as reply
 use Rattle.sd_journal.specs.declared.entry.Entry.TheVariants.{Freeze}
-use Rattle.sd_journal.specs.History.{Base}
+use Rattle.sd_journal.specs.History.{Base, pending}
 use Rattle.sd_journal.specs.Legal.{IsLegal}
 use Rattle.sd_journal.specs.declared.mark.Mark.TheVariants.{Table, Visit}
 use Rattle.sd_journal.specs.Marked.{Noted, Told, entries_of}
@@ -12,12 +12,12 @@ use Rattle.sd_rounds.specs.declared.image_step.ImageStep.TheVariants.{Call, Page
 use Rattle.sd_pagetable.specs.Contents.{plain_of}
 use Rattle.sd_merge.specs.Merger as merger
 use Rattle.sd_rounds.specs.declared.image_order.ImageOrder.{ImageOrder}
-use Rattle.sd_rounds.specs.Dumper.{is_dumping, is_last, slot_of}
-use Rattle.sd_rounds.specs.Making.{Making}
+use Rattle.sd_rounds.specs.Dumper.{is_dumping, is_last, next_slot, slot_of}
+use Rattle.sd_rounds.specs.Making.{Making, is_passing, is_past_freeze}
 use Rattle.sd_belief.specs.DumperSteps.{opens_gate}
 use Rattle.sd_belief.specs.View.{page_lane}
-use Rattle.sd_core.proofs.FlagLemmas.{gate_swept, gated_asked, gated_of, sure_asked, table_gated, table_sure}
-use Rattle.sd_core.specs.Grown.{IsGatedStage, has_grown}
+use Rattle.sd_core.proofs.FlagLemmas.{gate_swept, gated_asked, gated_of, sure_asked, table_gated, table_sure, table_swept_by}
+use Rattle.sd_core.specs.Grown.{IsGatedStage, has_grown, has_swept}
 use Rattle.sd_core.specs.Dumping.{StepsOn}
 use Rattle.sd_core.specs.Images.{begun_as}
 use Rattle.sd_core.specs.LittleWork.{TakesLittle}
@@ -31,9 +31,12 @@ use Rattle.sd_core.proofs.MarkLemmas.{before_freeze, freeze_journal, freeze_numb
 use Rattle.sd_core.proofs.OpeningLemmas.{hands_seen, step_seen}
 use Rattle.sd_core.proofs.PreDumpLemmas.{same_stay}
 use Rattle.sd_core.proofs.WorkLemmas.{SameNumbers, asked_on, at_work, core_working, counted_same, free_beside, grown_core, held_at_work, image_of_work, image_within, its_serial, merging_turned, numbers_noted, numbers_same, out_at_work, own_order, own_slot, same_numbers, same_places, sound_writes, turned}
-use Rattle.sd_core.proofs.SettledLemmas.{clean_cleared, none_swept, swept_same}
+use Rattle.sd_core.proofs.SettledLemmas.{clean_cleared, none_swept, swept_same, unswept}
 use Rattle.sd_core.proofs.StepLemmas.{freezes_it, hands_asked, hands_page, works_on}
-use Rattle.sd_core.proofs.SweptLemmas.{table_swept}
+use Rattle.sd_core.proofs.SweptLemmas.{pends_last, table_swept}
+use Rattle.sd_core.specs.declared.taken.Taken.TheVariants.{Step as StepTaken, Call as CallTaken}
+use Rattle.sd_core.specs.Noted.{is_at_pass, is_passing_image, marks_of}
+use Rattle.sd_core.proofs.OthersLemmas.{beside_seen, counted_still, keeps_same, never_passed, none_passes, notes_none, notes_table, passed, still_passes}
 use Rattle.sd_core.proofs.state.Core.go_on_image.Goals as goal
 
 pub invariant_of-self-in-Copied : goal.invariant_of-self-in-Copied
@@ -111,7 +114,7 @@ invariant_of-self-in-Visited c =
       journal_is = visit_journal c.tracked_laws.ensures _ w.running w.image w.next _ _ c.note-in-Visited.new.self core w.was w.making w.steps items c.note-in-Visited.ensures.numbers.first c.note-in-Visited.ensures.numbers.limit;
       numbers_are = subst (λ all. AreNumbers base all c.self.inside.pending c.self.inside.last c.self.inside.numbers) (sym items)
           (numbers_noted base c.reserve_mark.new.self.items c.self.inside.pending c.self.inside.last c.self.inside.numbers (Visit w.image.order.serial c.in-Visited.visit.space c.in-Visited.visit.page) (omega (arith, given)) core.numbers_are);
-      flags_are = record { grown = core.flags_are.grown ∙ ap (λ all. has_grown base (entries_of all)) (sym items); sure = core.flags_are.sure };
+      flags_are = record { grown = core.flags_are.grown ∙ ap (λ all. has_grown base (entries_of all)) (sym items); swept_by = core.flags_are.swept_by ∙ ap has_swept (sym items); sure = core.flags_are.sure };
       gated = subst (IsGatedStage (is_last w.running) c.self.inside.swept) (sym (ap (λ (m : Making). m.stage) w.steps.passes.1 ∙ w.steps.passes.0)) tt;
       swept_is = λ is. ((core.swept_is is).0, clean_cleared c.clear_law.ensures c.self.inside.memory c.step_on.new.memory c.in-Visited.visit.space c.in-Visited.visit.page w.steps.tests.cleared (core.swept_is is).1);
       counted = core.counted;
@@ -158,6 +161,7 @@ invariant_of-self-in-Call c =
       numbers_are = numbers_same base c.reserve_mark.new.self.items c.self.inside.pending c.self.inside.last c.self.inside.numbers c.tick-in-Call.new.self numbers core.numbers_are;
       flags_are = record {
         grown = core.flags_are.grown;
+        swept_by = core.flags_are.swept_by;
         sure = λ commits. sure_asked c.self.inside.committing (is_last w.running) (opens_gate c.in-Call.request.id.call) c.self.inside.swept core.flags_are.sure
             (gate_swept (is_last w.running) c.self.inside.swept w.image.stage w.steps.0.plan w.steps.0.next c.in-Call.request (gated_of c.self.inside.swept c.self.inside.dumper.running w.running w.image core.gated w.was w.making) w.steps.0.was w.steps.0.gives)
             (sym (c.is_committing-self-inside.ensures ∙ ap (λ r. c.self.inside.committing || is_dumping r && opens_gate c.id-in-Call-2.result.call) w.is
@@ -261,6 +265,10 @@ invariant_of-self-in-TableCall c =
           (numbers_noted base c.reserve_mark.new.self.items c.self.inside.pending c.self.inside.last c.self.inside.numbers (Table w.image.order.serial) (omega (arith, given)) core.numbers_are));
       flags_are = record {
         grown = core.flags_are.grown ∙ ap (λ all. has_grown base (entries_of all)) (sym items);
+        swept_by = c.is_swept-self-inside.ensures ∙ ap (λ r. c.self.inside.swept || is_dumping r) w.is
+            ∙ table_swept_by c.self.inside.swept (is_last w.running) c.self.inside.pending (λ is. (core.swept_is is).0)
+            (pends_last _ w.running w.image core w.was w.making (own_order c.self.inside.dumper.since_freeze _ w.running w.image c.sound.ensures.running w.was w.making) (ap is_past_freeze w.steps.0.stage))
+            ∙ ap is_some core.journal_is.frozen_for ∙ ap has_swept (sym items);
         sure = λ commits. table_sure c.self.inside.committing (is_last w.running) (opens_gate c.in-TableCall.request.id.call) c.self.inside.swept c.is_swept-self-inside.result
             (c.is_swept-self-inside.ensures ∙ ap (λ r. c.self.inside.swept || is_dumping r) w.is) core.flags_are.sure
             (sym (c.is_committing-self-inside-in-TableCall.ensures ∙ ap (λ r. c.self.inside.committing || is_dumping r && opens_gate c.id-in-TableCall-2.result.call) w.is
@@ -319,7 +327,7 @@ invariant_of-self-in-Frozen c =
       numbers_are = subst (λ all. AreNumbers base all (Some c.self.inside.numbers.begun) c.self.inside.last c.self.inside.numbers) (sym c.append_held.ensures.items)
           (freeze_numbers base c.reserve_mark.new.self.items c.self.inside.last c.self.inside.numbers
           (subst (λ f. AreNumbers base c.reserve_mark.new.self.items f c.self.inside.last c.self.inside.numbers) b.none core.numbers_are));
-      flags_are = record { grown = core.flags_are.grown ∙ ap (λ all. has_grown base (entries_of all)) (sym c.append_held.ensures.items); sure = core.flags_are.sure };
+      flags_are = record { grown = core.flags_are.grown ∙ ap (λ all. has_grown base (entries_of all)) (sym c.append_held.ensures.items); swept_by = unswept c.self.inside.swept c.self.inside.pending c.self.inside.memory b.none core.swept_is ∙ ap has_swept (sym c.append_held.ensures.items); sure = core.flags_are.sure };
       gated = subst (IsGatedStage (is_last w.running) c.self.inside.swept) (sym (ap (λ (m : Making). m.stage) w.steps.0.is)) tt;
       swept_is = none_swept c.self.inside.swept c.self.inside.pending (Some c.self.inside.numbers.begun) c.self.inside.memory c.step_on.new.memory b.none core.swept_is;
       counted = core.counted;
@@ -548,3 +556,74 @@ page_lane-requires c =
     let within = slice_get_within w.image.writes c.in-PageCall.lane None w.steps.0.free in
     let eight = good.lanes.count in
     omega (arith, within, eight)
+
+pub returns-in-Call-clause-beside : goal.returns-in-Call-clause-beside
+returns-in-Call-clause-beside c =
+    let w = subst (λ step. StepsOn c.self.inside.numbers.ticket c.self.inside.dumper c.self.inside.memory step c.step_on.new.dumper c.step_on.new.memory) c.in-Call.is c.in-Ok-step_on.ensures.steps in
+    let none = ap (λ v. next_slot v.dumper.running) c.self.view_is ∙ c.requires.begun in
+    beside_seen its.Dumper (CallTaken c.in-Call.request) _ _ _ c.self.view_is (record {
+      others = (refl, refl);
+      notes = notes_none _ _ (next_slot c.self.inside.dumper.running) _ none
+          (never_passed (is_at_pass c.self.inside.dumper.running) (is_at_pass c.step_on.new.dumper.running) (ap is_at_pass w.was ∙ ap is_passing_image w.making ∙ none_passes w.image.stage w.steps.0.plan w.steps.0.was))
+          (ap marks_of c.in-Ok.ensures.grown.items);
+      images = λ none_opened. keeps_same c.self.inside.catalog c.self.inside.catalog refl;
+      counted = counted_still (is_some (pending (entries_of c.self.inside.journal.items))) (is_some (pending (entries_of c.reserve_mark.new.self.items))) c.self.inside.dumper.since_freeze _
+          (ap (λ all. is_some (pending (entries_of all))) c.in-Ok.ensures.grown.items) w.counted;
+    })
+
+pub returns-in-PageCall-clause-beside : goal.returns-in-PageCall-clause-beside
+returns-in-PageCall-clause-beside c =
+    let w = subst (λ step. StepsOn c.self.inside.numbers.ticket c.self.inside.dumper c.self.inside.memory step c.step_on.new.dumper c.step_on.new.memory) c.in-PageCall.is c.in-Ok-step_on.ensures.steps in
+    let none = ap (λ v. next_slot v.dumper.running) c.self.view_is ∙ c.requires.begun in
+    beside_seen its.Dumper (CallTaken c.in-PageCall.request) _ _ _ c.self.view_is (record {
+      others = (refl, refl);
+      notes = notes_none _ _ (next_slot c.self.inside.dumper.running) _ none
+          (still_passes (is_at_pass c.self.inside.dumper.running) (is_at_pass c.step_on.new.dumper.running) (ap is_at_pass w.is ∙ ap is_passing w.steps.0.still))
+          (ap marks_of c.in-Ok.ensures.grown.items);
+      images = λ none_opened. keeps_same c.self.inside.catalog c.self.inside.catalog refl;
+      counted = counted_still (is_some (pending (entries_of c.self.inside.journal.items))) (is_some (pending (entries_of c.reserve_mark.new.self.items))) c.self.inside.dumper.since_freeze _
+          (ap (λ all. is_some (pending (entries_of all))) c.in-Ok.ensures.grown.items) w.counted;
+    })
+
+pub returns-in-TableCall-clause-beside : goal.returns-in-TableCall-clause-beside
+returns-in-TableCall-clause-beside c =
+    let w = subst (λ step. StepsOn c.self.inside.numbers.ticket c.self.inside.dumper c.self.inside.memory step c.step_on.new.dumper c.step_on.new.memory) c.in-TableCall.is c.in-Ok-step_on.ensures.steps in
+    let none = ap (λ v. next_slot v.dumper.running) c.self.view_is ∙ c.requires.begun in
+    let items = c.note.ensures.items ∙ ap (λ all. Noted (Table c.in-Some.serial) ∷ all) c.in-Ok.ensures.grown.items in
+    beside_seen its.Dumper (CallTaken c.in-TableCall.request) _ _ _ c.self.view_is (record {
+      others = (refl, refl);
+      notes = notes_table _ _ (next_slot c.self.inside.dumper.running) _ none
+          (passed (is_at_pass c.self.inside.dumper.running) (is_at_pass c.step_on.new.dumper.running) (ap is_at_pass w.was ∙ ap is_passing_image w.making ∙ ap is_passing w.steps.0.stage)
+          (ap is_at_pass w.is ∙ ap (λ (m : Making). is_passing m.stage) w.steps.0.is))
+          (record { serial = c.in-Some.serial; own = sym c.serial.ensures ∙ c.in-Some.is; noted = ap marks_of items });
+      images = λ none_opened. keeps_same c.self.inside.catalog c.self.inside.catalog refl;
+      counted = counted_still (is_some (pending (entries_of c.self.inside.journal.items))) (is_some (pending (entries_of c.note.new.self.items))) c.self.inside.dumper.since_freeze _
+          (ap (λ all. is_some (pending (entries_of all))) items) w.counted;
+    })
+
+pub returns-in-Visited-clause-beside : goal.returns-in-Visited-clause-beside
+returns-in-Visited-clause-beside c =
+    let w = subst (λ step. StepsOn c.self.inside.numbers.ticket c.self.inside.dumper c.self.inside.memory step c.step_on.new.dumper c.step_on.new.memory) c.in-Visited.is c.in-Ok-step_on.ensures.steps in
+    let items = c.note-in-Visited.ensures.items ∙ ap (λ all. Noted (Visit c.in-Some.serial c.in-Visited.visit.space c.in-Visited.visit.page) ∷ all) c.in-Ok.ensures.grown.items in
+    beside_seen its.Dumper (StepTaken reply.Worked) _ _ _ c.self.view_is (record {
+      others = (refl, refl);
+      notes = inr (record {
+        space = c.in-Visited.visit.space;
+        page = c.in-Visited.visit.page;
+        notes = record { serial = c.in-Some.serial; own = sym c.serial.ensures ∙ c.in-Some.is; noted = ap marks_of items };
+      });
+      images = λ none_opened. keeps_same c.self.inside.catalog c.self.inside.catalog refl;
+      counted = counted_still (is_some (pending (entries_of c.self.inside.journal.items))) (is_some (pending (entries_of c.note-in-Visited.new.self.items))) c.self.inside.dumper.since_freeze _
+          (ap (λ all. is_some (pending (entries_of all))) items) w.counted;
+    })
+
+pub returns-in-Copied-clause-beside : goal.returns-in-Copied-clause-beside
+returns-in-Copied-clause-beside c =
+    let w = subst (λ step. StepsOn c.self.inside.numbers.ticket c.self.inside.dumper c.self.inside.memory step c.step_on.new.dumper c.step_on.new.memory) c.in-Copied.is c.in-Ok-step_on.ensures.steps in
+    beside_seen its.Dumper (StepTaken reply.Worked) _ _ _ c.self.view_is (record {
+      others = (refl, refl);
+      notes = inl (ap marks_of c.in-Ok.ensures.grown.items);
+      images = λ none_opened. keeps_same c.self.inside.catalog c.self.inside.catalog refl;
+      counted = counted_still (is_some (pending (entries_of c.self.inside.journal.items))) (is_some (pending (entries_of c.reserve_mark.new.self.items))) c.self.inside.dumper.since_freeze _
+          (ap (λ all. is_some (pending (entries_of all))) c.in-Ok.ensures.grown.items) w.counted;
+    })

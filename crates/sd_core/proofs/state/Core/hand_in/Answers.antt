@@ -29,6 +29,7 @@ returns-then-is_idle c = record {
   copies = search rules;
   cuts = search rules;
   flags = search rules;
+  beside = search rules;
 }
 
 pub returns-in-Dumper : goal.returns-in-Dumper
@@ -55,6 +56,7 @@ returns-in-Dumper c = record {
   copies = search rules;
   cuts = search rules;
   flags = search rules;
+  beside = search rules;
 }
 
 pub returns-in-Merger : goal.returns-in-Merger
@@ -82,6 +84,7 @@ returns-in-Merger c = record {
   copies = search rules;
   cuts = λ serial out is. c.hand_in_merger.ensures.cuts serial is;
   flags = search rules;
+  beside = search rules;
 }
 
 pub returns-in-Opener : goal.returns-in-Opener
@@ -109,6 +112,7 @@ returns-in-Opener c = record {
   copies = search rules;
   cuts = search rules;
   flags = search rules;
+  beside = search rules;
 }
 
 pub hand_in_merger-requires-clause-out : goal.hand_in_merger-requires-clause-out

@@ -23,7 +23,7 @@ use Rattle.sd_belief.specs.declared.standing.Standing.TheVariants.{Open}
 use Rattle.sd_belief.specs.Merges.{IsSpared, MakesOther}
 use Rattle.sd_merge.specs.Merger as merger
 use Rattle.sd_core.proofs.FlagLemmas.{gated_more, gated_of, set_flags}
-use Rattle.sd_core.specs.Grown.{IsGated, has_grown}
+use Rattle.sd_core.specs.Grown.{IsGated, has_grown, has_swept}
 use Rattle.sd_core.specs.Images.{HasImage, HasPreDumps, begun_as, job_of}
 use Rattle.sd_core.specs.Refusals.{is_idle}
 use Rattle.sd_pagetable.specs.Contents.{plain_of}
@@ -267,7 +267,7 @@ invariant_of-self-in-Dump c =
       numbers_are = subst (λ all. AreNumbers base all None (Some c.self.inside.numbers.begun) c.self.inside.numbers) (sym c.append_held.ensures.items)
           (acked_numbers base c.self.inside.journal.items c.self.inside.pending c.self.inside.last c.self.inside.numbers c.self.invariant.numbers_are);
       swept_is = not_swept false None c.self.inside.memory refl;
-      flags_are = set_flags base c.append_held.new.self.items false true false (ap (λ all. has_grown base (entries_of all)) (sym c.append_held.ensures.items)) refl;
+      flags_are = set_flags base c.append_held.new.self.items false true false (ap (λ all. has_grown base (entries_of all)) (sym c.append_held.ensures.items)) refl (ap has_swept (sym c.append_held.ensures.items));
       gated = subst (λ r. IfSome r (IsGated false)) (sym gone) tt;
       counted = counted;
       rests = λ none open_. refl;

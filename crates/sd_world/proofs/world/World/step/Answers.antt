@@ -11,6 +11,7 @@ use Rattle.sd_world.specs.Steps.{Does}
 use Rattle.sd_world.specs.View.{WorldView}
 use Rattle.sd_world.proofs.AddsLemmas.{step_adds, step_base, step_honest, step_span}
 use Rattle.sd_world.proofs.AllowedLemmas.{world_allows}
+use Rattle.sd_world.proofs.ClosesLemmas.{step_closes, step_ends}
 use Rattle.sd_world.proofs.FirstLemmas.{device_step, idle_step, made_step}
 use Rattle.sd_world.proofs.LittleLemmas.{step_little}
 use Rattle.sd_world.proofs.MergesLemmas.{step_keeps, step_merges}
@@ -100,6 +101,20 @@ returns-clause-keeps g c =
     (subst (λ (w : WorldView g.row.D.Denot). GivenUpFits (g.D.Disk.contents w.disk) (g.D.Disk.may_leave w.disk)) c.self.view_is c.given_up_fits.ensures)
     (subst (λ (w : WorldView g.row.D.Denot). AreOwnLanes w.core.outs) c.self.view_is c.goes_on.ensures.lanes)
     (subst (λ (w : WorldView g.row.D.Denot). LeavesMerged w.core) c.self.view_is c.merged_stands.ensures) c.args.event.now c.make_step-answer.result does
+
+pub returns-clause-closes : goal.returns-clause-closes
+returns-clause-closes g c = λ honest.
+    let new : WorldView g.row.D.Denot = record { core = c.make_step-answer.new.core; disk = c.make_step-answer.new.disk; kept = c.make_step-answer.new.kept } in
+    let old = c.args.self.now in
+    step_closes g.D.Disk old new (subst (IsWorld g.D.Disk) c.self.view_is c.self.invariant) c.args.event.now c.make_step-answer.result
+    (subst (λ w. Does g.D.Disk c.args.event.now w c.make_step-answer.result new) c.self.view_is c.make_step-answer.ensures) (returns-clause-merges g c honest)
+
+pub returns-clause-ends : goal.returns-clause-ends
+returns-clause-ends g c = λ honest.
+    let new : WorldView g.row.D.Denot = record { core = c.make_step-answer.new.core; disk = c.make_step-answer.new.disk; kept = c.make_step-answer.new.kept } in
+    let old = c.args.self.now in
+    step_ends g.D.Disk old new (subst (IsWorld g.D.Disk) c.self.view_is c.self.invariant) c.args.event.now c.make_step-answer.result
+    (subst (λ w. Does g.D.Disk c.args.event.now w c.make_step-answer.result new) c.self.view_is c.make_step-answer.ensures) (returns-clause-merges g c honest)
 
 pub returns-clause-jobs : goal.returns-clause-jobs
 returns-clause-jobs g c = λ honest worker why is unasked busy refused.

@@ -1,0 +1,337 @@
+-- How a merge comes to close images, and to its end.
+use Rattle.std.proofs.Common.{◌≡◌, ℕ, Bool, true, false, List, [], ◌∷◌, map, Option, Some, None, MatchOption, IfOk, IfSome, is_none, is_some, Result, Ok, Err, refl, sym, ◌∙◌, ap, subst, inl, inr}
+use Rattle.std.proofs.lemmas.Option.{same_Some}
+use Rattle.sd_areas.specs.PlainMemory.{PlainMemory}
+use Rattle.sd_command.specs.declared.command.Command.{Command as CommandOf}
+use Rattle.sd_command.specs.declared.command.Command.TheVariants as command
+use Rattle.sd_command.specs.declared.refusal.Refusal.{Refusal}
+use Rattle.sd_command.specs.declared.refusal.Refusal.TheVariants.{Busy, Device, Frozen, Idle, StoreDown}
+use Rattle.sd_command.specs.declared.refusal.Refusal.TheVariants as refusal
+use Rattle.sd_command.specs.declared.reply.Reply.{Reply}
+use Rattle.sd_command.specs.declared.reply.Reply.TheVariants as reply
+use Rattle.sd_command.specs.Replies.{Accepts, denial_in, reply_of as denied_as}
+use Rattle.sd_disk.specs.declared.disk.Disk.{Ghosts}
+use Rattle.sd_gate.specs.declared.answer.Answer.{Answer}
+use Rattle.sd_gate.specs.declared.answer.Answer.TheVariants.{Done, Len, Failed}
+use Rattle.sd_gate.specs.declared.worker.Worker.{Worker}
+use Rattle.sd_gate.specs.declared.worker.Worker.TheVariants.{Dumper, Merger, Opener}
+use Rattle.sd_gate.specs.Calls.{is_done}
+use Rattle.sd_merge.specs.declared.retired.Retired.{Retired}
+use Rattle.sd_merge.specs.Merger as merger
+use Rattle.sd_chain.specs.Catalog.{images, serial_of}
+use Rattle.sd_merge.specs.Sources.{source_from}
+use Rattle.sd_merge.specs.Merger.{Doing, Retiring, begun_merge, copying, due, opened, retiring, source_in, source_of}
+use Rattle.sd_pagetable.specs.Contents.{Contents, plain_of}
+use Rattle.sd_pagetable.specs.declared.access_error.AccessError.{AccessError}
+use Rattle.sd_pagetable.specs.declared.access_error.AccessError.TheVariants.{Refused, Segv}
+use Rattle.sd_belief.specs.Calls.{AddsByCancel, AddsByOrder, AddsByStep, IsOut}
+use Rattle.sd_journal.specs.History.{pending}
+use Rattle.sd_belief.specs.View.{CoreView, history_of}
+use Rattle.sd_core.specs.declared.taken.Taken.{Taken}
+use Rattle.sd_core.specs.declared.taken.Taken.TheVariants.{Step as StepTaken, Call as CallTaken}
+use Rattle.sd_core.specs.Answering.{IsAnswered}
+use Rattle.sd_core.specs.Beginning.{first_of}
+use Rattle.sd_core.specs.Beside.{LeavesOthers}
+use Rattle.sd_core.specs.Called.{IsHandedIn, IsMergeOrder, IsTakenUp}
+use Rattle.sd_core.specs.Lasting.{fixed_in}
+use Rattle.sd_core.specs.Merging.{IsSerialOf, MergesAs, OpensMerged, merge_refusal}
+use Rattle.sd_core.specs.Refusals.{is_idle, must_wait, work_refusal}
+use Rattle.sd_core.specs.Working.{LeavesByOutcome}
+use Rattle.sd_world.specs.declared.event.Event.{Event}
+use Rattle.sd_world.specs.declared.event.Event.TheVariants.{Command, Begin, Work, TakeUp, HandInAt, Perform, PerformAt, Merge, Cancel, Reopen, Trim}
+use Rattle.sd_world.specs.Closing.{ClosesBehind, ComesToClose, EndsBehind, EndsIn, EntersIn, IsClosing}
+use Rattle.sd_world.specs.Merges.{DoesMerge, MergesThere}
+use Rattle.sd_world.specs.Steps.{Does, HandsInAt, HandsInIfAny, IsCommand, Performs, TakesUp, Works, answer_of, reply_of}
+use Rattle.sd_world.specs.Consistent.{IsWorld}
+use Rattle.sd_world.specs.Trims.{TrimsJournal}
+use Rattle.sd_world.specs.View.{WorldView}
+use Rattle.sd_world.proofs.AddsLemmas.{is_out}
+use Rattle.sd_world.proofs.KeptLemmas.{whose}
+use Rattle.sd_world.proofs.TrimLemmas.{trim_cases}
+
+-- ---- the merger of one core and the next
+
+closing_same : (old new : CoreView) (slot serial : ℕ) → new.merger ≡ old.merger → IsClosing new slot serial → IsClosing old slot serial
+closing_same old new slot serial same c = record { merge = c.merge; r = c.r; runs = sym same ∙ c.runs; doing = c.doing; in_slot = c.in_slot; own = c.own }
+
+none_idle : (new : CoreView) (slot serial : ℕ) → IsClosing new slot serial → is_idle new Merger ≡ true → ⊥
+none_idle new slot serial c idle = let no : false ≡ true = sym (ap is_none c.runs) ∙ idle in cc
+
+retiring_in : (doing : Doing) (serial : ℕ) (list : List Retired) → fixed_in doing ≡ Some (serial, list) → (r : Retiring) × (doing ≡ retiring r) × (r.serial ≡ serial)
+retiring_in due serial list is = absurd (let no : None ≡ Some (serial, list) = is in cc)
+retiring_in (copying copy) serial list is = absurd (let no : None ≡ Some (serial, list) = is in cc)
+retiring_in (opened number) serial list is = absurd (let no : None ≡ Some (serial, list) = is in cc)
+retiring_in (retiring r) serial list is = (r, refl, ap (λ (p : ℕ × List Retired). p.0) (same_Some (r.serial, r.list) (serial, list) is))
+
+fixed_as : (doing : Doing) (r : Retiring) → doing ≡ retiring r → fixed_in doing ≡ Some (r.serial, r.list)
+fixed_as doing r is = ap fixed_in is
+
+idle_refused : (must : Bool) → (why : Refusal) × (first_of ((must, Busy) ∷ (true, Idle) ∷ []) ≡ Some why)
+idle_refused true = (Busy, refl)
+idle_refused false = (Idle, refl)
+
+-- ---- a step, or a call that is taken up
+
+module _ (old new : CoreView) (made : Taken) where
+  merger_taken : IsTakenUp Merger old made new → (before : Option merger.Running) → old.merger ≡ before → (slot serial : ℕ) → IsClosing new slot serial → IsClosing old slot serial
+  merger_taken taken None none slot serial c =
+      let idle = idle_refused (must_wait old Merger) in
+      let refused : work_refusal old Merger ≡ Some idle.0 = ap (λ o. first_of ((must_wait old Merger, Busy) ∷ (is_none o, Idle) ∷ [])) none ∙ idle.1 in
+      absurd (let no : None ≡ Some c.merge = sym none ∙ ap (λ (v : CoreView). v.merger) (sym (taken.refused idle.0 refused).1) ∙ c.runs in cc)
+  merger_taken taken (Some merge) was slot serial c =
+      let same = taken.fixes merge c.merge was c.runs in
+      let r = retiring_in merge.doing c.r.serial c.r.list (sym same ∙ fixed_as c.merge.doing c.r c.doing) in
+      record {
+        merge = merge;
+        r = r.0;
+        runs = was;
+        doing = r.1;
+        in_slot = sym (taken.lasts merge c.merge was c.runs).slot ∙ c.in_slot;
+        own = r.2 ∙ c.own;
+      }
+
+  taken_closing : (worker : Worker) → IsTakenUp worker old made new → (slot serial : ℕ) → IsClosing new slot serial → IsClosing old slot serial
+  taken_closing Dumper taken slot serial c = closing_same old new slot serial taken.beside.others.0 c
+  taken_closing Merger taken slot serial c = merger_taken taken old.merger refl slot serial c
+  taken_closing Opener taken slot serial c = closing_same old new slot serial taken.beside.others.1 c
+
+-- ---- which replies aren't `merged`
+
+none_accepted : (asked : CommandOf) (memory : PlainMemory) (serial : ℕ) → Accepts asked memory (reply.Merged serial) → ⊥
+none_accepted (command.Mmap space address bytes prot) memory serial is = (let no : reply.Merged serial ≡ reply.Done = is in cc)
+none_accepted (command.Munmap space address bytes) memory serial is = (let no : reply.Merged serial ≡ reply.Done = is in cc)
+none_accepted (command.Mprotect space address bytes prot) memory serial is = (let no : reply.Merged serial ≡ reply.Done = is in cc)
+none_accepted (command.Fork space) memory serial is = (let no : reply.Merged serial ≡ reply.Child is.0 = is.1 in cc)
+none_accepted (command.Exit space) memory serial is = (let no : reply.Merged serial ≡ reply.Done = is in cc)
+none_accepted (command.Load space address count) memory serial is = (let no = is.2 in cc)
+none_accepted (command.TryStore space address bytes) memory serial (inl is) = (let no : reply.Merged serial ≡ reply.Done = is in cc)
+none_accepted (command.TryStore space address bytes) memory serial (inr is) = (let no : reply.Merged serial ≡ reply.NeedsFault = is in cc)
+none_accepted (command.Fault space address) memory serial (inl is) = (let no : reply.Merged serial ≡ reply.Done = is in cc)
+none_accepted (command.Fault space address) memory serial (inr is) = (let no = is in cc)
+none_accepted (command.Store space address bytes) memory serial (inl is) = (let no : reply.Merged serial ≡ reply.Done = is in cc)
+none_accepted (command.Store space address bytes) memory serial (inr is) = (let no = is in cc)
+
+none_denied : (why : AccessError) (serial : ℕ) → reply.Merged serial ≡ denied_as why → ⊥
+none_denied (Refused why) serial is = (let no = is in cc)
+none_denied (Segv why) serial is = (let no = is in cc)
+
+none_legal : (memory : PlainMemory) (asked : CommandOf) (serial : ℕ) (denial : Option AccessError)
+    → MatchOption denial (Accepts asked memory (reply.Merged serial)) (λ why. reply.Merged serial ≡ denied_as why) → ⊥
+none_legal memory asked serial None is = none_accepted asked memory serial is
+none_legal memory asked serial (Some why) is = none_denied why serial is
+
+none_answered : (frozen : Bool) (asked : CommandOf) (serial : ℕ) (old new : Contents) → IsAnswered frozen asked (reply.Merged serial) old new → ⊥
+none_answered true asked serial old new is = (let no : reply.Merged serial ≡ reply.Refused Frozen = is.0 in cc)
+none_answered false asked serial old new is = none_legal (plain_of old) asked serial (denial_in (plain_of old) asked) is.legal
+
+none_replied : (answer : Answer) (serial : ℕ) → reply_of answer ≡ reply.Merged serial → ⊥
+none_replied Done serial is = (let no = is in cc)
+none_replied (Len len) serial is = (let no = is in cc)
+none_replied Failed serial is = (let no = is in cc)
+
+-- ---- an event
+
+module _ {D : Type 0} (g : Ghosts D) (old new : WorldView D) (world : IsWorld g old) where
+  commands_merge_none : (seat : ℕ) (asked : CommandOf) (answer : Reply) (serial : ℕ) → IsCommand seat asked old answer new → answer ≡ reply.Merged serial → ⊥
+  commands_merge_none seat asked answer serial does is = by does.told does.answered does.applied.answered
+    where
+      frozen : Bool
+      frozen = is_some (pending (history_of old.core))
+
+      by : (told : Result (ℕ × Reply) Refusal) → answer ≡ answer_of told → IfOk told (λ t. IsAnswered frozen asked t.1 old.core.memory new.core.memory) → ⊥
+      by (Ok told) answered legal = none_answered frozen asked serial old.core.memory new.core.memory (subst (λ a. IsAnswered frozen asked a old.core.memory new.core.memory) (sym answered ∙ is) legal)
+      by (Err why) answered legal = (let no : reply.Refused why ≡ reply.Merged serial = sym answered ∙ is in cc)
+
+  module _ (worker : Worker) (place : ℕ) (answer : Reply) (hands : HandsInAt worker place old.core old.kept answer new.core new.kept) (there : MergesThere g worker place old answer new) where
+    it : IsHandedIn hands.made answer old.core new.core
+    it = hands.hands.does
+
+    out : IsOut old.core hands.made.request.id
+    out = is_out g old new world hands.lane hands.made hands.is
+
+    own : hands.made.request.id.worker ≡ worker
+    own = whose old.kept worker place hands.lane hands.made hands.at hands.is
+
+    none_down : (slot serial : ℕ) → IsClosing new.core slot serial → answer ≡ reply.Refused StoreDown → ⊥
+    none_down slot serial c down =
+        none_idle new.core slot serial c ((subst (λ a. LeavesByOutcome old.core hands.made.request.id.worker a new.core) down (it.leaves out)).idle Merger)
+
+    enters_in : worker ≡ Merger → (merge : merger.Running) (serial slot : ℕ) → OpensMerged merge serial old.core new.core → merge.slot ≡ slot → EntersIn g old new slot serial
+    enters_in is merge serial slot opens at = record { merge = merge; opens = opens; in_slot = at; stands = there.enters hands.lane is hands.at merge serial opens }
+
+    source_gone : (o : Option merger.Running) (merge : merger.Running) (r : Retiring) → o ≡ Some merge → merge.doing ≡ retiring r → source_of o ≡ None
+    source_gone o merge r is doing = ap source_of is ∙ ap (source_in merge) doing
+
+    closes_from : worker ≡ Merger → (merge : merger.Running) → old.core.merger ≡ Some merge → (doing : Doing) → merge.doing ≡ doing → (slot serial : ℕ) → (c : IsClosing new.core slot serial)
+        → merge.slot ≡ slot → IsSerialOf doing serial → ComesToClose g old new slot serial
+    closes_from is merge was due doing slot serial c at own_serial = absurd own_serial
+    closes_from is merge was (copying copy) doing slot serial c at own_serial =
+        inr (enters_in is merge serial slot (subst (λ s. OpensMerged merge s old.core new.core) (sym own_serial)
+        (it.opens out (own ∙ is) merge copy was doing (source_gone new.core.merger c.merge c.r c.runs c.doing) (none_down slot serial c))) at)
+    closes_from is merge was (opened number) doing slot serial c at own_serial = absurd own_serial
+    closes_from is merge was (retiring r) doing slot serial c at own_serial = inl (record { merge = merge; r = r; runs = was; doing = doing; in_slot = at; own = sym own_serial })
+
+    merger_handed : worker ≡ Merger → (before : Option merger.Running) → old.core.merger ≡ before → (slot serial : ℕ) → IsClosing new.core slot serial → ComesToClose g old new slot serial
+    merger_handed is None none slot serial c = absurd (none_down slot serial c (it.late out (ap (is_idle old.core) (own ∙ is) ∙ ap is_none none)))
+    merger_handed is (Some merge) was slot serial c =
+        let same = it.lasts merge c.merge was c.runs in
+        closes_from is merge was merge.doing refl slot serial c (sym same.slot ∙ c.in_slot)
+        (subst (IsSerialOf merge.doing) c.own (subst (λ fixed. IfSome fixed (λ list. IsSerialOf merge.doing list.0)) (fixed_as c.merge.doing c.r c.doing) same.behind))
+
+    others_handed : (its : Worker) → worker ≡ its → is_done hands.made.answer ≡ true → (slot serial : ℕ) → IsClosing new.core slot serial → ComesToClose g old new slot serial
+    others_handed Dumper is done slot serial c =
+        inl (closing_same old.core new.core slot serial (subst (λ w. LeavesOthers w old.core new.core) (own ∙ is) ((it.beside out).others done)).0 c)
+    others_handed Merger is done slot serial c = merger_handed is old.core.merger refl slot serial c
+    others_handed Opener is done slot serial c =
+        inl (closing_same old.core new.core slot serial (subst (λ w. LeavesOthers w old.core new.core) (own ∙ is) ((it.beside out).others done)).1 c)
+
+    handed_closes : (done : Bool) → is_done hands.made.answer ≡ done → (slot serial : ℕ) → IsClosing new.core slot serial → ComesToClose g old new slot serial
+    handed_closes true done slot serial c = others_handed worker refl done slot serial c
+    handed_closes false failed slot serial c = absurd (none_down slot serial c (it.failed out failed))
+
+    -- ---- the end of a merge
+
+    ends_from : (serial : ℕ) → answer ≡ reply.Merged serial → worker ≡ Merger → is_idle new.core Merger ≡ true → (merge : merger.Running) → old.core.merger ≡ Some merge
+        → (doing : Doing) → merge.doing ≡ doing → IsSerialOf doing serial → EndsIn g old new serial
+    ends_from serial is own_worker idle merge was due doing own_serial = absurd own_serial
+    ends_from serial is own_worker idle merge was (copying copy) doing own_serial = record {
+      slot = merge.slot;
+      comes = inr (enters_in own_worker merge serial merge.slot (subst (λ s. OpensMerged merge s old.core new.core) (sym own_serial)
+          (it.opens out (own ∙ own_worker) merge copy was doing (gone new.core.merger idle) (λ down. (let no : reply.Merged serial ≡ reply.Refused StoreDown = sym is ∙ down in cc)))) refl);
+      cut = there.cuts serial is;
+    }
+      where
+        gone : (o : Option merger.Running) → is_none o ≡ true → source_of o ≡ None
+        gone None none = refl
+        gone (Some running) none = absurd (let no : false ≡ true = none in cc)
+    ends_from serial is own_worker idle merge was (opened number) doing own_serial = absurd own_serial
+    ends_from serial is own_worker idle merge was (retiring r) doing own_serial =
+        record { slot = merge.slot; comes = inl (record { merge = merge; r = r; runs = was; doing = doing; in_slot = refl; own = sym own_serial }); cut = there.cuts serial is }
+
+    handed_ends : (serial : ℕ) → answer ≡ reply.Merged serial → EndsIn g old new serial
+    handed_ends serial is =
+        let leaves = subst (λ a. LeavesByOutcome old.core hands.made.request.id.worker a new.core) is (it.leaves out) in
+        let merged = it.merged serial out is in
+        ends_from serial is (sym own ∙ leaves.0) (subst (λ w. is_idle new.core w ≡ true) leaves.0 leaves.1.idle) merged.merge merged.was merged.merge.doing refl merged.own
+
+  same_core : new.core.merger ≡ old.core.merger → ClosesBehind g old new
+  same_core same slot serial c = inl (closing_same old.core new.core slot serial same c)
+
+  taken_closes : (worker : Worker) (answer : Reply) → TakesUp worker old.core old.kept answer new.core new.kept → ClosesBehind g old new
+  taken_closes worker answer (TakesUp.step taken left) slot serial c = inl (taken_closing old.core new.core (StepTaken answer) worker taken slot serial c)
+  taken_closes worker answer (TakesUp.call request taken left worked) slot serial c = inl (taken_closing old.core new.core (CallTaken request) worker taken slot serial c)
+
+  hand_in_closes : (worker : Worker) (place : ℕ) (answer : Reply) → MergesThere g worker place old answer new → HandsInIfAny worker place old.core old.kept answer new.core new.kept → ClosesBehind g old new
+  hand_in_closes worker place answer there (HandsInIfAny.hands_in hands) slot serial c = handed_closes worker place answer hands there (is_done hands.made.answer) refl slot serial c
+  hand_in_closes worker place answer there (HandsInIfAny.none none idle) slot serial c = same_core (ap (λ (v : CoreView). v.merger) idle.core) slot serial c
+
+  work_closes : (worker : Worker) (answer : Reply) → MergesThere g worker 0 old answer new → Works worker old.core old.kept answer new.core new.kept → ClosesBehind g old new
+  work_closes worker answer there (Works.hands_in hands) slot serial c = handed_closes worker 0 answer hands there (is_done hands.made.answer) refl slot serial c
+  work_closes worker answer there (Works.takes_up none takes) slot serial c = taken_closes worker answer takes slot serial c
+
+  order_closes : (answer : Reply) → IsMergeOrder answer old.core new.core → ClosesBehind g old new
+  order_closes answer order = by (merge_refusal old.core) refl
+    where
+      stays : new.core ≡ old.core → ClosesBehind g old new
+      stays same = same_core (ap (λ (v : CoreView). v.merger) same)
+
+      refused : (why : Refusal) → MergesAs old.core (reply.Refused why) new.core → ClosesBehind g old new
+      refused refusal.NoSlot merges = stays merges.1
+      refused refusal.OutOfMemory merges = stays merges
+      refused refusal.Einval merges = absurd merges
+      refused refusal.Enomem merges = absurd merges
+      refused refusal.NoSuchSpace merges = absurd merges
+      refused refusal.TooManySpaces merges = absurd merges
+      refused refusal.NoFrame merges = absurd merges
+      refused refusal.Frozen merges = absurd merges
+      refused refusal.JournalFull merges = absurd merges
+      refused refusal.UnsupportedValue merges = absurd merges
+      refused refusal.NotOpen merges = absurd merges
+      refused refusal.Busy merges = absurd merges
+      refused refusal.StoreDown merges = absurd merges
+      refused refusal.Idle merges = absurd merges
+      refused refusal.LastSpace merges = absurd merges
+      refused refusal.LockBusy merges = absurd merges
+      refused refusal.NumbersUsed merges = absurd merges
+      refused refusal.Damaged merges = absurd merges
+      refused refusal.Device merges = absurd merges
+
+      begun : (a : Reply) → MergesAs old.core a new.core → ClosesBehind g old new
+      begun reply.Worked merges slot serial c =
+          absurd (let no : due ≡ retiring c.r = ap (λ (m : merger.Running). m.doing) (same_Some (begun_merge (source_from merges.tip) merges.slot (map serial_of (images old.core.catalog))) c.merge (sym merges.is ∙ c.runs)) ∙ c.doing in cc)
+      begun (reply.Refused why) merges slot serial c = refused why merges slot serial c
+      begun reply.Done merges slot serial c = absurd merges
+      begun (reply.Bytes bytes) merges slot serial c = absurd merges
+      begun (reply.Child space) merges slot serial c = absurd merges
+      begun reply.NeedsFault merges slot serial c = absurd merges
+      begun (reply.Segv why) merges slot serial c = absurd merges
+      begun (reply.Begun n) merges slot serial c = absurd merges
+      begun (reply.Acked n) merges slot serial c = absurd merges
+      begun (reply.Cancelled n) merges slot serial c = absurd merges
+      begun (reply.Merged number) merges slot serial c = absurd merges
+      begun (reply.Trimmed count) merges slot serial c = absurd merges
+      begun (reply.Reopened m) merges slot serial c = absurd merges
+
+      by : (why : Option Refusal) → merge_refusal old.core ≡ why → ClosesBehind g old new
+      by (Some why) is = same_core (ap (λ (v : CoreView). v.merger) (order.refused why is).1)
+      by None is = begun answer (order.merges is)
+
+  trim_closes : (answer : Reply) → TrimsJournal old.core answer new.core → ClosesBehind g old new
+  trim_closes answer trims = elim (trim_cases old.core answer new.core trims) [
+    | inl gone ↦ same_core (ap (λ (v : CoreView). v.merger) gone.is)
+    | inr all ↦ same_core (ap (λ (v : CoreView). v.merger) all.is)
+  ]
+
+  pub step_closes : (event : Event) (answer : Reply) → Does g event old answer new → DoesMerge g event old answer new → ClosesBehind g old new
+  step_closes (Command seat command) answer does merges = same_core does.applied.merge
+  step_closes (Begin rounds) answer does merges = same_core does.1.beside.others.0
+  step_closes (Work worker) answer does merges = work_closes worker answer merges does.works
+  step_closes (TakeUp worker) answer does merges = taken_closes worker answer does.takes
+  step_closes (HandInAt worker place) answer does merges = hand_in_closes worker place answer merges does.hands
+  step_closes (Perform worker) answer does merges = same_core (ap (λ (v : CoreView). v.merger) does.core)
+  step_closes (PerformAt worker place) answer does merges = same_core (ap (λ (v : CoreView). v.merger) does.core)
+  step_closes Merge answer does merges = order_closes answer does.1
+  step_closes Cancel answer does merges = same_core does.1.beside.others.0
+  step_closes Reopen answer does merges = same_core does.1.beside.others.1
+  step_closes Trim answer does merges = trim_closes answer does.trims
+
+  -- ---- what ends one
+
+  take_up_ends : (worker : Worker) (answer : Reply) (serial : ℕ) → TakesUp worker old.core old.kept answer new.core new.kept → answer ≡ reply.Merged serial → ⊥
+  take_up_ends worker answer serial (TakesUp.step taken left) is = subst (λ a. AddsByStep worker old.core a (history_of old.core) (history_of new.core)) is taken.takes.adds
+  take_up_ends worker answer serial (TakesUp.call request taken left worked) is = (let no : reply.Worked ≡ reply.Merged serial = sym worked ∙ is in cc)
+
+  none_kept_ends : (answer : Reply) (serial : ℕ) → answer ≡ reply.Refused Idle → answer ≡ reply.Merged serial → ⊥
+  none_kept_ends answer serial idle is = (let no : reply.Refused Idle ≡ reply.Merged serial = sym idle ∙ is in cc)
+
+  hand_in_ends : (worker : Worker) (place : ℕ) (answer : Reply) → MergesThere g worker place old answer new → HandsInIfAny worker place old.core old.kept answer new.core new.kept
+      → EndsBehind g old answer new
+  hand_in_ends worker place answer there (HandsInIfAny.hands_in hands) serial is = handed_ends worker place answer hands there serial is
+  hand_in_ends worker place answer there (HandsInIfAny.none none idle) serial is = absurd (none_kept_ends answer serial idle.refused is)
+
+  work_ends : (worker : Worker) (answer : Reply) → MergesThere g worker 0 old answer new → Works worker old.core old.kept answer new.core new.kept → EndsBehind g old answer new
+  work_ends worker answer there (Works.hands_in hands) serial is = handed_ends worker 0 answer hands there serial is
+  work_ends worker answer there (Works.takes_up none takes) serial is = absurd (take_up_ends worker answer serial takes is)
+
+  perform_ends : (worker : Worker) (place : ℕ) (answer : Reply) (serial : ℕ) → Performs g worker place old.disk old.kept answer new.disk new.kept → answer ≡ reply.Merged serial → ⊥
+  perform_ends worker place answer serial (Performs.none none idle) is = none_kept_ends answer serial idle.refused is
+  perform_ends worker place answer serial (Performs.performs performs) is = none_replied performs.keeps.made.answer serial (sym performs.keeps.replied ∙ is)
+
+  trim_ends : (answer : Reply) (serial : ℕ) → TrimsJournal old.core answer new.core → answer ≡ reply.Merged serial → ⊥
+  trim_ends answer serial trims is = elim (trim_cases old.core answer new.core trims) [
+    | inl gone ↦ (let no = sym gone.answered ∙ is in cc)
+    | inr all ↦ (let no = sym all.answered ∙ is in cc)
+  ]
+
+  pub step_ends : (event : Event) (answer : Reply) → Does g event old answer new → DoesMerge g event old answer new → EndsBehind g old answer new
+  step_ends (Command seat command) answer does merges serial is = absurd (commands_merge_none seat command answer serial does is)
+  step_ends (Begin rounds) answer does merges serial is = absurd (subst (λ a. AddsByOrder a (history_of old.core) (history_of new.core)) is does.1.adds)
+  step_ends (Work worker) answer does merges serial is = work_ends worker answer merges does.works serial is
+  step_ends (TakeUp worker) answer does merges serial is = absurd (take_up_ends worker answer serial does.takes is)
+  step_ends (HandInAt worker place) answer does merges serial is = hand_in_ends worker place answer merges does.hands serial is
+  step_ends (Perform worker) answer does merges serial is = absurd (perform_ends worker 0 answer serial does.performs is)
+  step_ends (PerformAt worker place) answer does merges serial is = absurd (perform_ends worker place answer serial does.performs is)
+  step_ends Merge answer does merges serial is = absurd (subst (λ a. AddsByOrder a (history_of old.core) (history_of new.core)) is does.1.adds)
+  step_ends Cancel answer does merges serial is = absurd (subst (λ a. AddsByCancel a (history_of old.core) (history_of new.core)) is does.1.adds)
+  step_ends Reopen answer does merges serial is = absurd (subst (λ a. AddsByOrder a (history_of old.core) (history_of new.core)) is does.1.adds)
+  step_ends Trim answer does merges serial is = absurd (trim_ends answer serial does.trims is)
