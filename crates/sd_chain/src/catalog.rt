@@ -19,6 +19,7 @@ use crate::error::CatalogError;
 use crate::found::Found;
 use crate::image::OpenImage;
 use crate::placed::PlacedTable;
+use crate::putting::put_place;
 use crate::trace::Trace;
 use crate::way::Way;
 use indexmap::IndexMap;
@@ -78,7 +79,7 @@ impl Catalog {
         if self.places.contains_key(&serial) {
             return Err(CatalogError::DoubleSerial);
         }
-        self.places.insert_sorted(serial, None)?;
+        put_place(&mut self.places, serial, None)?;
         Ok(())
     }
 
@@ -123,7 +124,7 @@ impl Catalog {
             return Err(CatalogError::DoubleSerial);
         }
         let image = OpenImage::new(slot, header, table);
-        self.places.insert_sorted(serial, Some(image))?;
+        put_place(&mut self.places, serial, Some(image))?;
         Ok(())
     }
 

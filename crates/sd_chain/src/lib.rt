@@ -10,6 +10,7 @@ mod image;
 mod laws;
 mod passes;
 mod placed;
+mod putting;
 mod spot;
 mod stretch;
 mod trace;

@@ -6,3 +6,4 @@ pub mod Digested
 pub mod Placed
 pub mod Calls
 pub mod Fits
+pub mod Wants

@@ -51,6 +51,7 @@ fn find_pages(
     ensures chain { chain.new ≡ chain.old }
     ensures empty { result ≢ Err Fault.EmptyChain }
     ensures device { result ≢ Err Fault.Device }
+    ensures memory { result ≢ Err Fault.OutOfMemory }
 {
     catalog.traced_is_held();
     let run = chain.trace(space, page, count);

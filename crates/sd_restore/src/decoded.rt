@@ -1,7 +1,7 @@
 //! What a slot says of its image.
-ghost use Rattle.std.specs.Prelude.{◌≡◌, ◌≢◌, List, ℕ, Ok, map, IfOk, IfErr};
+ghost use Rattle.std.specs.Prelude.{◌≡◌, ◌≢◌, List, ℕ, Ok, map, IfOk, IfErr, IsOk};
 ghost use Rattle.sd_image.specs.Header.{IsHeader};
-ghost use Rattle.sd_image.specs.Reading.{table_in};
+ghost use Rattle.sd_image.specs.Reading.{head_at, table_in};
 ghost use Rattle.sd_image.specs.Table.{listing_of};
 ghost use Rattle.sd_restore.specs.Faulty.{Names, IsFaulty};
 ghost use Rattle.sd_restore.specs.Reading.{HasDigestOf, HasHeader, IsDecodedAs, IsSound, table_bytes};
@@ -42,6 +42,8 @@ pub fn decode_slot(
     ensures sound { (len : ℕ) → IsHeader header len → IfOk result IsSound }
     ensures empty { result ≢ Err Fault.EmptyChain }
     ensures device { result ≢ Err Fault.Device }
+    // Memory is taken behind the table's head.
+    ensures tested { result ≡ Err Fault.OutOfMemory → IsOk (head_at table.now) }
 {
     file_is_image();
     good_header_has_no_reason();

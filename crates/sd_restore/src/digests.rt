@@ -143,6 +143,8 @@ pub fn check_digest<D: Disk>(
     ensures calls { D.calls disk.new
         ≤ D.calls disk.old + pages_digested header.now.version header.now.pages }
     ensures empty { result ≢ Err Fault.EmptyChain }
+    // Version 1 takes no memory.
+    ensures wanted { result ≡ Err Fault.OutOfMemory → header.now.version ≢ Version.One }
 {
     good_header_has_no_reason();
     if header.version == Version::One {

@@ -5,7 +5,7 @@ ghost use Rattle.sd_disk.specs.Reads.{OnlyReads};
 ghost use Rattle.sd_image.specs.declared.table.SpaceTable.{SpaceTable};
 ghost use Rattle.sd_image.specs.Shows.{Shows};
 ghost use Rattle.sd_image.specs.Table.{listing_of};
-ghost use Rattle.sd_chain.specs.Catalog.{images};
+ghost use Rattle.sd_chain.specs.Catalog.{IsTip, Opened, images};
 ghost use Rattle.sd_chain.specs.Chains.{found_on};
 ghost use Rattle.sd_chain.specs.Store.{IsCatalogOf, bytes_at};
 ghost use Rattle.sd_chain.specs.Ways.{AreImages};
@@ -57,6 +57,8 @@ pub fn place_newest<'a>(alloc: Global, catalog: &'a Catalog) -> Result<PlacedMem
     ensures areas { IfOk result (λ placed.
         All (λ (s : SpaceTable). AreMaximal None s.areas.items) placed.spaces.now) }
     ensures device { result ≢ Err Fault.Device }
+    // An empty chain takes no memory.
+    ensures wanted { result ≡ Err Fault.OutOfMemory → (tip : Opened) × IsTip catalog.now tip }
 {
     tip_once();
     catalog.sound();

@@ -1,10 +1,12 @@
 //! Reading a store back.
-ghost use Rattle.std.specs.Prelude.{◌≡◌, ◌≢◌, ◌⊎◌, ◌+◌, ◌<◌, ◌≤◌, ℕ, Option, Some, None, All, length, IfOk, IfErr, IsErrOf};
+ghost use Rattle.std.specs.Prelude.{◌≡◌, ◌≢◌, ◌⊎◌, ◌+◌, ◌<◌, ◌≤◌, ℕ, true, Option, Some, None, All, length, IfOk, IfErr, IsErrOf};
 ghost use Rattle.sd_areas.specs.Memory.{memory_of};
 ghost use Rattle.sd_areas.specs.PlainMemory.{PlainMemory};
+ghost use Rattle.sd_disk.specs.Contents.{file_at};
 ghost use Rattle.sd_disk.specs.Reads.{OnlyReads};
+ghost use Rattle.sd_image.specs.Image.{is_open};
 ghost use Rattle.sd_image.specs.Shows.{Shows};
-ghost use Rattle.sd_chain.specs.Catalog.{images};
+ghost use Rattle.sd_chain.specs.Catalog.{IsTip, Opened, images};
 ghost use Rattle.sd_chain.specs.Store.{IsCatalogOf};
 ghost use Rattle.sd_chain.specs.Ways.{AreImages};
 ghost use Rattle.sd_restore.specs.Calls.{HasPagesWithin, scan_calls};
@@ -56,6 +58,8 @@ pub fn restore_from<D: Disk>(
     ensures calls { (count : ℕ) → IsCatalogOf (D.contents disk.old) catalog.now
         → HasPagesWithin (D.contents disk.old) count
         → D.calls disk.new ≤ D.calls disk.old + count }
+    // An empty chain takes no memory.
+    ensures wanted { result ≡ Err Fault.OutOfMemory → (tip : Opened) × IsTip catalog.now tip }
 {
     one_store();
     shown_once();
@@ -104,7 +108,11 @@ pub fn restore<D: Disk>(alloc: Global, disk: &mut D) -> Result<Snapshot, Fault>
     ensures calls { D.is_honest disk.new → (count : ℕ)
         → HasPagesWithin (D.contents disk.old) count
         → D.calls disk.new ≤ D.calls disk.old + scan_calls (D.contents disk.old) + count }
+    // A store without open slots takes no memory.
+    ensures wanted { D.is_honest disk.new → result ≡ Err Fault.OutOfMemory
+        → (slot : ℕ) × (is_open (file_at (D.contents disk.old) slot) ≡ true) }
 {
     let catalog = scan(alloc, disk)?;
+    catalog.sound();
     restore_from(alloc, disk, &catalog)
 }

@@ -1,5 +1,5 @@
 //! What was found in the slots so far.
-ghost use Rattle.std.specs.Prelude.{◌≡◌, ◌≢◌, ◌<◌, ◌≤◌, ◌+◌, ◌-◌, ◌^◌, ℕ, List, true, false, map, filter, length, IfErr, IfOk, IfSome, OnErr, OnOk};
+ghost use Rattle.std.specs.Prelude.{◌≡◌, ◌≢◌, ◌<◌, ◌≤◌, ◌+◌, ◌-◌, ◌^◌, ℕ, List, true, false, map, filter, length, IfErr, IfOk, IfSome, IsSome, OnErr, OnOk};
 ghost use Rattle.sd_disk.specs.Contents.{file_at};
 ghost use Rattle.sd_image.specs.Image.{Image, IsImage, is_open};
 ghost use Rattle.sd_image.specs.Table.{listing_of};
@@ -101,6 +101,8 @@ impl Scanned {
             → AreRead count self.old.catalog
             → OnOk result (AreRead count self.new.catalog) }
         ensures counted { OnOk result (self.new.images ≤ self.old.images + 1) }
+        // A closed slot takes no memory.
+        ensures some { OnErr result (IsSome opened) }
         ensures err { OnErr result (self.new ≡ self.old) }
     {
         match opened {

@@ -1,5 +1,5 @@
 //! Reading one slot: its gate, its header, its table and its digest.
-ghost use Rattle.std.specs.Prelude.{◌≡◌, ◌≢◌, ◌+◌, ◌*◌, ◌<◌, ◌≤◌, ◌^◌, List, ℕ, length, map, drop, Some, IfOk, IfSome, IfErr, IsErrOf, slice_range};
+ghost use Rattle.std.specs.Prelude.{◌≡◌, ◌≢◌, ◌+◌, ◌*◌, ◌<◌, ◌≤◌, ◌^◌, List, ℕ, length, map, drop, Some, IfOk, IfSome, IfErr, IsErrOf, IsSome, slice_range};
 ghost use Rattle.sd_disk.specs.Contents.{file_at};
 ghost use Rattle.sd_disk.specs.Reads.{OnlyReads};
 ghost use Rattle.sd_disk.specs.Failures.{HasCause};
@@ -8,6 +8,7 @@ ghost use Rattle.sd_image.specs.Reading.{header_in};
 ghost use Rattle.sd_restore.specs.Calls.{calls_for};
 ghost use Rattle.sd_restore.specs.Faulty.{Names, IsFaulty};
 ghost use Rattle.sd_restore.specs.Reading.{IsReading, IsSound, table_bytes};
+ghost use Rattle.sd_restore.specs.Wants.{WantsMemory};
 
 use crate::decoded::{Decoded, decode_slot};
 use crate::device::{file_len, read_file};
@@ -42,6 +43,7 @@ fn header_of(slot: usize, bytes: &[u8], len: usize) -> Result<Header, Fault>
         (λ header. (drop 1 bytes.now ≡ header_text header) × IsHeader header len) }
     ensures empty { result ≢ Err Fault.EmptyChain }
     ensures device { result ≢ Err Fault.Device }
+    ensures memory { result ≢ Err Fault.OutOfMemory }
 {
     decode_header(bytes, len as u64).map_err(|reason| Fault::Damaged { slot, reason })
 }
@@ -90,6 +92,11 @@ pub fn read_slot<D: Disk>(
     ensures calls { D.is_honest disk.new → D.calls disk.new
         ≤ D.calls disk.old + calls_for (file_at (D.contents disk.old) slot) }
     ensures empty { result ≢ Err Fault.EmptyChain }
+    // Memory is wanted for what an open slot says, behind its header.
+    ensures headed { D.is_honest disk.new → IfOk result (λ opened. IsSome opened
+        → WantsMemory (file_at (D.contents disk.old) slot)) }
+    ensures wanted { D.is_honest disk.new → result ≡ Err Fault.OutOfMemory
+        → WantsMemory (file_at (D.contents disk.old) slot) }
 {
     let len = file_len(disk, slot)?;
     if len < HEADER_SIZE {

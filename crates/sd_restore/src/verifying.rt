@@ -1,10 +1,12 @@
 //! Telling whether a store is in order.
-ghost use Rattle.std.specs.Prelude.{◌≡◌, ◌≢◌, ◌⊎◌, ◌+◌, ◌<◌, ◌≤◌, ℕ, List, Option, length, filter, IfOk, IfErr, IsErrOf};
+ghost use Rattle.std.specs.Prelude.{◌≡◌, ◌≢◌, ◌⊎◌, ◌+◌, ◌<◌, ◌≤◌, ℕ, true, List, Option, length, filter, IfOk, IfErr, IsErrOf};
 ghost use Rattle.std.specs.Option.{option_map};
 ghost use Rattle.sd_areas.specs.PlainMemory.{PlainMemory};
+ghost use Rattle.sd_disk.specs.Contents.{file_at};
 ghost use Rattle.sd_disk.specs.Reads.{OnlyReads};
 ghost use Rattle.sd_image.specs.Image.{is_open};
 ghost use Rattle.sd_image.specs.Shows.{Shows};
+ghost use Rattle.sd_chain.specs.Catalog.{IsTip, Opened};
 ghost use Rattle.sd_chain.specs.Store.{IsCatalogOf};
 ghost use Rattle.sd_chain.specs.Ways.{AreImages};
 ghost use Rattle.sd_restore.specs.Calls.{scan_calls};
@@ -33,6 +35,8 @@ fn shown_checkpoint(alloc: Global, catalog: &Catalog) -> Result<Option<u64>, Fau
         → IfErr result (Names (λ _ _. ⊥)) }
     ensures empty { result ≢ Err Fault.EmptyChain }
     ensures device { result ≢ Err Fault.Device }
+    // An empty chain takes no memory.
+    ensures wanted { result ≡ Err Fault.OutOfMemory → (tip : Opened) × IsTip catalog.now tip }
 {
     one_store();
     tip_once();
@@ -89,12 +93,16 @@ pub fn verify<D: Disk>(alloc: Global, disk: &mut D) -> Result<Report, Fault>
     ensures stops { D.failed disk.old < D.failed disk.new → IsErrOf result Fault.Device }
     ensures calls { D.is_honest disk.new
         → D.calls disk.new ≤ D.calls disk.old + scan_calls (D.contents disk.old) }
+    // A store without open slots takes no memory.
+    ensures wanted { D.is_honest disk.new → result ≡ Err Fault.OutOfMemory
+        → (slot : ℕ) × (is_open (file_at (D.contents disk.old) slot) ≡ true) }
 {
     let Scanned {
         catalog,
         images,
         ..
     } = scan_store(alloc, disk)?;
+    catalog.sound();
     let checkpoint = shown_checkpoint(alloc, &catalog)?;
     Ok(Report { checkpoint, images })
 }

@@ -1,3 +1,4 @@
+pub mod Buffers
 pub mod Pass
 pub mod Keeps
 pub mod Rises

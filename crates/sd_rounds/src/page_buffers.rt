@@ -1,5 +1,6 @@
 //! Room for the data pages of a checkpoint.
-ghost use Rattle.std.specs.Prelude.{◌≡◌, IfOk};
+ghost use Rattle.std.specs.Prelude.{◌≡◌, ◌+◌, ◌-◌, ◌<◌, ◌≤◌, IfOk};
+ghost use Rattle.sd_rounds.specs.Buffers.{HasRoom};
 
 use crate::lanes::LANES;
 use sd_areas::PAGE_SIZE;
@@ -18,11 +19,15 @@ pub struct PageBuffers {
 
 impl Model for PageBuffers {
     ghost use Rattle.std.specs.Prelude.{ℕ, length};
+    ghost use Rattle.sd_rounds.specs.Buffers.{AreSpare};
 
     // how many are spare
     ghost Value = { ℕ };
 
     ghost view = { λ b. length b.spare.items };
+
+    // each has room for a page
+    ghost invariant = { λ b. AreSpare b.spare };
 }
 
 impl PageBuffers {
@@ -41,16 +46,24 @@ impl PageBuffers {
         Ok(PageBuffers { alloc, spare })
     }
 
-    /// One that is spare, or else one without room.
-    pub(crate) fn take(&mut self) -> Vec<u8> {
+    /// One that is spare, with room for a page; or one without room, only where none is spare.
+    pub(crate) fn take(&mut self) -> Vec<u8>
+        ensures room { 0 < self.old → HasRoom result }
+        ensures taken { self.new ≡ self.old - 1 }
+    {
         match self.spare.pop() {
             Some(buffer) => buffer,
             None => Vec::new(self.alloc),
         }
     }
 
-    /// One is spare again. There is room for each that was taken.
-    pub(crate) fn give(&mut self, buffer: Vec<u8>) {
-        let _kept = self.spare.push(buffer);
+    /// One is spare again, if it has room for a page. There is a place for each that was taken.
+    pub(crate) fn give(&mut self, buffer: Vec<u8>)
+        ensures kept { self.old < 9 → HasRoom buffer → self.new ≡ self.old + 1 }
+        ensures others { self.old ≤ self.new }
+    {
+        if buffer.capacity() >= PAGE_SIZE {
+            let _kept = self.spare.push(buffer);
+        }
     }
 }

@@ -1,5 +1,5 @@
 //! A pass over the pages of a memory, which makes the entries of an image.
-ghost use Rattle.std.specs.Prelude.{◌≡◌, ◌≢◌, length, ◌||◌, ◌*◌, ◌<◌, ◌≤◌, ◌^◌, true, false, None, Some, IsSome, IsErr, IfOk, OnOk, OnErr, MatchOption, ◌==◌, ◌++◌};
+ghost use Rattle.std.specs.Prelude.{◌≡◌, ◌≢◌, length, vec_capacity, vec_len, ◌||◌, ◌+◌, ◌*◌, ◌<◌, ◌≤◌, ◌^◌, true, false, None, Some, IsSome, IsErr, IfOk, OnOk, OnErr, MatchOption, ◌==◌, ◌++◌};
 ghost use Rattle.std.specs.List.{list_all};
 ghost use Rattle.sd_image.specs.declared.run.RunKind.TheVariants.{Parent};
 ghost use Rattle.sd_pagetable.specs.Contents.{page_at, plain_of};
@@ -268,7 +268,7 @@ impl Round {
             → self.new ≡ copied_more self.old taking sector.now) }
         ensures err { OnErr result (self.new ≡ self.old) }
     {
-        self.buffer.extend_from_slice(sector)?;
+        add_sector(&mut self.buffer, sector)?;
         Ok(())
     }
 
@@ -319,6 +319,20 @@ impl Round {
         self.after = Some((space, page));
         Ok(())
     }
+}
+
+/// Puts a sector behind those of a buffer.
+///
+/// # Errors
+///
+/// Out of memory only where the buffer has no room for it: what it has stays.
+#[inline]
+fn add_sector(buffer: &mut Vec<u8>, sector: &[u8]) -> Result<(), AllocError>
+    ensures items { OnOk result (buffer.new.items ≡ buffer.old.items ++ sector.now) }
+    ensures full { OnErr result (vec_capacity buffer.old < vec_len buffer.old + length sector.now) }
+    ensures err { OnErr result (buffer.new.items ≡ buffer.old.items) }
+{
+    buffer.extend_from_slice(sector)
 }
 
 /// Whether a page is soft-dirty.

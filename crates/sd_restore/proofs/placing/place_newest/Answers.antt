@@ -37,3 +37,6 @@ returns-clause-areas c = λ k d less.
     let here : Contains items space = All-contains_itself items k d less in
     let spaces : map listing_of items ≡ tip.spaces = ap (map listing_of) c.as_slice.ensures.value ∙ c.table.ensures in
     (space_of tip.header 0 tip.spaces (listing_of space) table.each (subst (λ xs. Contains xs (listing_of space)) spaces (contains_map listing_of items space here))).1.areas
+
+pub returns-in_err-runs-clause-wanted : goal.returns-in_err-runs-clause-wanted
+returns-in_err-runs-clause-wanted c = λ _. (c.in-Some.tip.now, c.in-Some.ensures.newest)

@@ -84,3 +84,12 @@ returns-clause-calls g c = λ count catalog within.
     let made = c.in_ok-read_pages.ensures.calls in
     let are = ap (λ (runs : List PlacedRun). length (placed_pages runs)) c.deref.ensures.value in
     omega (arith, few, made, are)
+
+pub returns-in_err-runs-clause-wanted : goal.returns-in_err-runs-clause-wanted
+returns-in_err-runs-clause-wanted g c = λ _. (c.in-Some.tip.now, c.in-Some.ensures.newest)
+
+pub returns-in_err-snapshot-clause-wanted : goal.returns-in_err-snapshot-clause-wanted
+returns-in_err-snapshot-clause-wanted g c = λ _. (c.in-Some.tip.now, c.in-Some.ensures.newest)
+
+pub returns-in_err-read_pages-clause-wanted : goal.returns-in_err-read_pages-clause-wanted
+returns-in_err-read_pages-clause-wanted g c = λ _. (c.in-Some.tip.now, c.in-Some.ensures.newest)

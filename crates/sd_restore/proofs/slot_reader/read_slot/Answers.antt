@@ -7,6 +7,7 @@ use Rattle.sd_image.specs.Table.{listing_of}
 use Rattle.sd_restore.specs.Faulty.{Names, IsFaulty}
 use Rattle.sd_restore.specs.Reading.{HasDigestOf, HasHeader, table_bytes}
 use Rattle.sd_restore.proofs.FileLemmas.{read_header}
+use Rattle.sd_restore.proofs.WantLemmas.{header_wants}
 use Rattle.sd_restore.proofs.slot_reader.read_slot.Goals as goal
 
 pub returns-clause-sound : goal.returns-clause-sound
@@ -82,3 +83,31 @@ returns-clause-reading g c = λ honest.
     let now : g.D.Disk.contents c.read_table.new.disk ≡ g.D.Disk.contents c.args.disk.now = c.in_ok-table.ensures.reads.same ∙ same in
     let right : HasDigestOf file c.in_ok-header.header = (rw now at (c.in_ok-check_digest.ensures.right honest)) has (c.deref-2.ensures.value ∙ table) in
     c.in_ok-decoded.ensures.decoded file has (c.deref.ensures.value ∙ table) right
+
+pub returns-in_err-table-clause-wanted : goal.returns-in_err-table-clause-wanted
+returns-in_err-table-clause-wanted g c = λ honest _.
+    let honest_read = c.in_err-table.ensures.reads.honest honest in
+    let honest_len = c.in_ok-bytes.ensures.reads.honest honest_read in
+    header_wants (g.D.Disk.contents c.args.disk.now) (g.D.Disk.contents c.file_len.new.disk) c.args.slot c.in_ok-header.header c.in_ok-bytes.bytes c.in_ok-len.len
+    c.in_ok-len.ensures.reads.same (c.in_ok-bytes.ensures.first honest_read) (c.in_ok-len.ensures.length honest_len) c.if-bytes.false c.in_ok-header.ensures.found
+
+pub returns-in_err-decoded-clause-wanted : goal.returns-in_err-decoded-clause-wanted
+returns-in_err-decoded-clause-wanted g c = λ honest _.
+    let honest_read = c.in_ok-table.ensures.reads.honest honest in
+    let honest_len = c.in_ok-bytes.ensures.reads.honest honest_read in
+    header_wants (g.D.Disk.contents c.args.disk.now) (g.D.Disk.contents c.file_len.new.disk) c.args.slot c.in_ok-header.header c.in_ok-bytes.bytes c.in_ok-len.len
+    c.in_ok-len.ensures.reads.same (c.in_ok-bytes.ensures.first honest_read) (c.in_ok-len.ensures.length honest_len) c.if-bytes.false c.in_ok-header.ensures.found
+
+pub returns-in_err-check_digest-clause-wanted : goal.returns-in_err-check_digest-clause-wanted
+returns-in_err-check_digest-clause-wanted g c = λ honest _.
+    let honest_read = c.in_ok-table.ensures.reads.honest (c.in_err-check_digest.ensures.reads.honest honest) in
+    let honest_len = c.in_ok-bytes.ensures.reads.honest honest_read in
+    header_wants (g.D.Disk.contents c.args.disk.now) (g.D.Disk.contents c.file_len.new.disk) c.args.slot c.in_ok-header.header c.in_ok-bytes.bytes c.in_ok-len.len
+    c.in_ok-len.ensures.reads.same (c.in_ok-bytes.ensures.first honest_read) (c.in_ok-len.ensures.length honest_len) c.if-bytes.false c.in_ok-header.ensures.found
+
+pub returns-clause-headed : goal.returns-clause-headed
+returns-clause-headed g c = λ honest _.
+    let honest_read = c.in_ok-table.ensures.reads.honest (c.in_ok-check_digest.ensures.reads.honest honest) in
+    let honest_len = c.in_ok-bytes.ensures.reads.honest honest_read in
+    header_wants (g.D.Disk.contents c.args.disk.now) (g.D.Disk.contents c.file_len.new.disk) c.args.slot c.in_ok-header.header c.in_ok-bytes.bytes c.in_ok-len.len
+    c.in_ok-len.ensures.reads.same (c.in_ok-bytes.ensures.first honest_read) (c.in_ok-len.ensures.length honest_len) c.if-bytes.false c.in_ok-header.ensures.found

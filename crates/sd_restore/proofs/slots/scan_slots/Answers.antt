@@ -45,3 +45,15 @@ returns-in_err-scan_slot-clause-calls g c = λ honest.
     let now = c.in_err-scan_slot.ensures in
     slot_last (g.D.Disk.contents c.args.disk.now) c.loop-slot.slot (g.D.Disk.calls c.args.disk.now) (g.D.Disk.calls c.loop-slot.disk) (g.D.Disk.calls c.scan_slot.new.disk)
     (let count = was.count in omega (arith, count, c.loop-slot-test.true)) (was.calls (now.reads.honest honest)) (rw was.reads.same at (now.calls honest))
+
+pub returns-in_err-scan_slot-clause-wanted : goal.returns-in_err-scan_slot-clause-wanted
+returns-in_err-scan_slot-clause-wanted g c = λ honest out.
+    let was = c.loop-slot.invariant in
+    let count = was.count in (
+      c.loop-slot.slot,
+      record {
+        within = omega (arith, count, c.loop-slot-test.true);
+        here = (rw was.reads.same at (c.in_err-scan_slot.ensures.wanted honest)) (search rules);
+        before = (was.scanned (c.in_err-scan_slot.ensures.reads.honest honest)).readable;
+      },
+    )

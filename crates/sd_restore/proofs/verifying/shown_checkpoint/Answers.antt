@@ -25,3 +25,6 @@ returns-clause-shown c = λ contents catalog.
       shows_tip contents c.args.catalog.now c.in-Some.tip (placed_pages c.in_ok-place_pages.field-0.items) catalog finds c.in_ok-place_pages.ensures.placed,
       ap (λ (h : Header). Some h.checkpoint) c.header.ensures,
     )
+
+pub returns-in_err-place_pages-clause-wanted : goal.returns-in_err-place_pages-clause-wanted
+returns-in_err-place_pages-clause-wanted c = λ _. (c.in-Some.tip.now, c.in-Some.ensures.newest)

@@ -7,6 +7,6 @@ use Rattle.sd_rounds.proofs.round.Round.append.Goals as goal
 pub invariant_of-self-2 : goal.invariant_of-self-2
 invariant_of-self-2 c =
     longer_round c.self.inside.takes_all c.self.inside.tables.items c.self.inside.after c.self.inside.taking c.self.inside.buffer.items
-    c.args.sector.now c.extend_from_slice.new.self.items c.self.invariant (subst (λ (p : Pass). IsCopying p) (sym c.self.view_is) c.requires.copying)
-    c.told-sector c.in_ok-extend_from_slice.ensures.items
+    c.args.sector.now c.add_sector.new.buffer.items c.self.invariant (subst (λ (p : Pass). IsCopying p) (sym c.self.view_is) c.requires.copying)
+    c.told-sector c.in_ok-add_sector.ensures.items
     (subst (λ (p : Pass). (t : Taking) → p.taking ≡ Some t → is_page_of_zeros (t.copied ++ c.args.sector.now) ≡ false) (sym c.self.view_is) c.requires.some)
