@@ -10,3 +10,4 @@ pub mod RunLemmas
 pub mod ShowLemmas
 mod CallLemmas
 mod FitsLemmas
+mod LaidLemmas
