@@ -1,2 +1,6 @@
 pub mod EndingLemmas
 mod ListingLemmas
+pub mod DigitLemmas
+pub mod LineLemmas
+pub mod PageLemmas
+pub mod MemoryTexts

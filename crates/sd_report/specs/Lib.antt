@@ -1,2 +1,5 @@
 pub mod Ending
 pub mod Listing
+pub mod Texts
+pub mod Printed
+pub mod Digits

@@ -5,10 +5,12 @@ mod list;
 mod listing;
 mod page_text;
 mod restore;
+mod steady;
 mod stop;
 mod verify;
 
 pub use list::{list_to, print_list};
 pub use restore::{print_restored, restore_to};
-pub use stop::Stop;
+pub use steady::{Reader, may_change, print_steady, print_whole};
+pub use stop::{Stop, status};
 pub use verify::{print_report, verify_to};

@@ -1,7 +1,8 @@
 //! `ckpt list`: the images of a store.
-ghost use Rattle.std.specs.Prelude.{◌≡◌, ◌≤◌, OnOk};
+ghost use Rattle.std.specs.Prelude.{◌≡◌, ◌≤◌, IfErr, OnOk};
 ghost use Rattle.sd_disk.specs.Reads.{OnlyReads};
-ghost use Rattle.sd_report.specs.Ending.{EndsWithOne, IsReadable};
+ghost use Rattle.sd_report.specs.Ending.{EndsWithOne, IsReadable, StandsAlone};
+ghost use Rattle.sd_report.specs.Printed.{PrintsImages};
 
 use crate::listing::list_text;
 use crate::stop::{Stop, status};
@@ -14,6 +15,9 @@ use std::io::Write;
 pub fn list_to<D: Disk, W: Write>(alloc: Global, disk: &mut D, out: &mut W) -> u8
     // Status 0 only where every open slot is an image, with a serial of its own.
     ensures readable { D.is_honest disk.new → result ≡ 0 → IsReadable (D.contents disk.old) }
+    // Every line is then written.
+    ensures text { D.is_honest disk.new → result ≡ 0
+        → PrintsImages (D.contents disk.old) (W.contents out.old) (W.contents out.new) }
     // A store without a checkpoint is no fault here.
     ensures status { result ≤ 1 }
     ensures reads { OnlyReads D.Disk disk.old disk.new }
@@ -23,12 +27,18 @@ pub fn list_to<D: Disk, W: Write>(alloc: Global, disk: &mut D, out: &mut W) -> u
 }
 
 /// Prints the images of a store.
+#[tactic(auto, using(crate::proofs::EndingLemmas::stands_alone))]
 pub fn print_list<D: Disk, W: Write>(alloc: Global, disk: &mut D, out: &mut W) -> Result<(), Stop>
     ensures readable { D.is_honest disk.new → OnOk result (IsReadable (D.contents disk.old)) }
+    ensures text { D.is_honest disk.new → OnOk result
+        (PrintsImages (D.contents disk.old) (W.contents out.old) (W.contents out.new)) }
+    // What is wrong with the store is told alone.
+    ensures alone { IfErr result (StandsAlone (W.contents out.old) (W.contents out.new)) }
     ensures stopped { EndsWithOne result }
     ensures reads { OnlyReads D.Disk disk.old disk.new }
 {
     let catalog = scan(alloc, disk)?;
+    catalog.sound();
     let text = list_text(alloc, &catalog)?;
     out.write_all(text.as_bytes())?;
     Ok(())

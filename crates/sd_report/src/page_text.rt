@@ -1,6 +1,10 @@
 //! The lines that `restore` prints of a page.
 
-ghost use Rattle.std.specs.Prelude.{◌≡◌, ◌≤◌, length};
+ghost use Rattle.std.specs.Prelude.{◌≡◌, ◌+◌, ◌≤◌, ◌<◌, ◌^◌, ◌==◌, ◌++◌, [], ◌∷◌, codes, length, take, drop, OnOk};
+ghost use Rattle.std.specs.List.{list_all};
+ghost use Rattle.std.specs.Io.KnownBytes.{Appends};
+ghost use Rattle.sd_report.specs.Texts.{bytes_line, line_text, page_text};
+ghost use Rattle.sd_report.specs.Digits.{IsZeroCount};
 
 use sd_areas::PAGE_SIZE;
 use std::io;
@@ -22,38 +26,94 @@ const BYTES: usize = DIGITS + 17;
 const LINE_LEN: usize = BYTES + 2 * LINE_BYTES + 1;
 
 /// Prints the lines of a page that aren't all zeros, each in one piece: `bytes 0x10000 6865..`.
-pub fn print_page<W: Write>(address: u64, page: &[u8; PAGE_SIZE], out: &mut W) -> io::Result<()> {
+pub fn print_page<W: Write>(address: u64, page: &[u8], out: &mut W) -> io::Result<()>
+    requires fits { address + 4096 ≤ 2 ^ 48 }
+    requires page { length page.now ≡ 4096 }
+    ensures { OnOk result
+        (Appends (W.contents out.old) (W.contents out.new) (page_text address page.now)) }
+{
     for number in 0..LINES {
         let place = LINE_BYTES * number;
-        let line = &page[place..place + LINE_BYTES];
-        if !are_zeros(line) {
-            print_line(address.wrapping_add(place as u64), line, out)?;
-        }
+        print_part(
+            address + place as u64,
+            &page[place..place + LINE_BYTES],
+            out,
+        )?;
     }
     Ok(())
 }
 
+/// Prints the line of bytes, unless they are all zeros.
+fn print_part<W: Write>(address: u64, bytes: &[u8], out: &mut W) -> io::Result<()>
+    requires { length bytes.now ≡ 32 }
+    ensures { OnOk result
+        (Appends (W.contents out.old) (W.contents out.new) (bytes_line address bytes.now)) }
+{
+    if are_zeros(bytes) {
+        return Ok(());
+    }
+    print_line(address, bytes, out)
+}
+
 /// Whether bytes are zeros alone. It passes over all of them, some at a time.
-fn are_zeros(bytes: &[u8]) -> bool {
-    bytes.iter().fold(0, |or, byte| or | *byte) == 0
+fn are_zeros(bytes: &[u8]) -> bool
+    ensures { result ≡ list_all (λ byte. byte == 0) bytes.now }
+{
+    let mut ones = 0;
+    for byte in bytes {
+        ones |= *byte;
+    }
+    ones == 0
 }
 
 /// Prints a line. Its address is put behind the place of the zeros before it, and those are left out.
 fn print_line<W: Write>(address: u64, bytes: &[u8], out: &mut W) -> io::Result<()>
     requires { length bytes.now ≡ 32 }
+    ensures { OnOk result (Appends (W.contents out.old) (W.contents out.new) (line_text address bytes.now)) }
+{
+    let mut digits = [0; 16];
+    hex::encode_to_slice(&address.to_be_bytes(), digits.as_mut_slice()).unwrap();
+    let mut shown = [0; 2 * LINE_BYTES];
+    hex::encode_to_slice(bytes, shown.as_mut_slice()).unwrap();
+    let zeros = zero_digits(address);
+    let text = line_from(zeros, &digits, &shown);
+    print_from(&text, zeros, out)
+}
+
+/// The text of a line, behind so many bytes that are left out as the address has zeros before its digits.
+fn line_from(zeros: usize, digits: &[u8; 16], shown: &[u8; 2 * LINE_BYTES]) -> [u8; LINE_LEN]
+    requires { zeros ≤ 15 }
+    ensures { drop zeros result
+        ≡ codes "bytes 0x" ++ drop zeros digits.now ++ codes " " ++ shown.now ++ 10 ∷ [] }
 {
     let mut text = [b' '; LINE_LEN];
-    hex::encode_to_slice(&address.to_be_bytes(), &mut text[DIGITS..DIGITS + 16]).unwrap();
-    hex::encode_to_slice(bytes, &mut text[BYTES..BYTES + 2 * LINE_BYTES]).unwrap();
-    text[LINE_LEN - 1] = b'\n';
-    let zeros = (address.leading_zeros() / 4).min(15) as usize;
-    text[zeros..zeros + DIGITS].copy_from_slice(b"bytes 0x");
-    print_from(&text, zeros, out)
+    put(&mut text, DIGITS, digits.as_slice());
+    put(&mut text, BYTES, shown.as_slice());
+    put(&mut text, LINE_LEN - 1, b"\n");
+    put(&mut text, zeros, b"bytes 0x");
+    text
+}
+
+/// Puts bytes in place of others of a text.
+fn put(text: &mut [u8; LINE_LEN], place: usize, bytes: &[u8])
+    requires { place + length bytes.now ≤ 90 }
+    ensures { text.new
+        ≡ take place text.old ++ bytes.now ++ drop (place + length bytes.now) text.old }
+{
+    text[place..place + bytes.len()].copy_from_slice(bytes);
+}
+
+/// How many of the 16 digits of an address are zeros before the others.
+fn zero_digits(address: u64) -> usize
+    ensures { IsZeroCount address result }
+{
+    (address.leading_zeros() / 4).min(15) as usize
 }
 
 /// Prints a line's text from a place on.
 fn print_from<W: Write>(text: &[u8; LINE_LEN], place: usize, out: &mut W) -> io::Result<()>
     requires { place ≤ 90 }
+    ensures { OnOk result (Appends (W.contents out.old) (W.contents out.new) (drop place text.now)) }
 {
     out.write_all(&text[place..])
 }

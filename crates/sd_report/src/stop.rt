@@ -1,7 +1,11 @@
 //! How the printing of a store ends.
-ghost use Rattle.std.specs.Prelude.{◌≡◌};
-ghost use Rattle.sd_report.specs.Ending.{Ends, status_of};
+ghost use Rattle.std.specs.Prelude.{◌≡◌, if◌then◌else◌, OnOk};
+ghost use Rattle.std.specs.Io.KnownBytes.{Appends};
+ghost use Rattle.sd_report.specs.Ending.{Ends, EndsWith, status_of};
+ghost use Rattle.sd_report.specs.Texts.{fault_line};
+ghost use Rattle.sd_restore.specs.declared.fault.Fault.TheVariants.{Damaged};
 
+use sd_image::Reason;
 use sd_restore::Fault;
 use std::alloc::AllocError;
 use std::io::Write;
@@ -31,16 +35,43 @@ impl fmt::Display for Stop {
 /// Prints why the printing ended early, if it did, and returns the exit status: 0 at its end, 3 for a store without a
 /// checkpoint, and else 1.
 pub fn status<W: Write>(ended: Result<(), Stop>, out: &mut W) -> u8
-    ensures { Ends ended result }
+    ensures ends { Ends ended result }
+    ensures with { EndsWith (W.contents out.old) (W.contents out.new) ended result }
 {
     match ended {
         Ok(()) => 0,
         Err(Stop::Writer(_)) => FAILED,
-        Err(stop) => match writeln!(out, "{stop}") {
-            Ok(()) => stop_status(&stop),
-            Err(_) => FAILED,
-        },
+        Err(Stop::Fault(fault)) => {
+            let printed = print_fault(&fault, out);
+            told_status(&Stop::Fault(fault), printed.is_ok())
+        }
     }
+}
+
+/// The exit status of a program that was stopped, where the line that tells why is printed, or can't be.
+fn told_status(stop: &Stop, printed: bool) -> u8
+    ensures { result ≡ (if printed then status_of stop.now else 1) }
+{
+    if printed { stop_status(stop) } else { FAILED }
+}
+
+/// Prints a fault's line.
+fn print_fault<W: Write>(fault: &Fault, out: &mut W) -> io::Result<()>
+    ensures { OnOk result (Appends (W.contents out.old) (W.contents out.new) (fault_line fault.now)) }
+{
+    match fault {
+        Fault::EmptyChain => out.write_all(b"empty chain\n"),
+        Fault::Damaged { slot, reason } => print_damaged(*slot, *reason, out),
+        Fault::Device => out.write_all(b"device\n"),
+        Fault::OutOfMemory => out.write_all(b"out-of-memory\n"),
+    }
+}
+
+/// Prints which slot is damaged, and why.
+fn print_damaged<W: Write>(slot: usize, reason: Reason, out: &mut W) -> io::Result<()>
+    ensures { OnOk result (Appends (W.contents out.old) (W.contents out.new) (fault_line (Damaged slot reason))) }
+{
+    writeln!(out, "damaged {slot:03} {}", reason.number())
 }
 
 /// The exit status of a program that printed why it stopped.

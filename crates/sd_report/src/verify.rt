@@ -1,7 +1,8 @@
 //! `ckpt verify`: checking that a store can be restored.
-ghost use Rattle.std.specs.Prelude.{◌≡◌, ◌≤◌, OnOk};
+ghost use Rattle.std.specs.Prelude.{◌≡◌, ◌≤◌, IfErr, OnOk};
 ghost use Rattle.sd_disk.specs.Reads.{OnlyReads};
-ghost use Rattle.sd_report.specs.Ending.{EndsWithOne, IsShowing};
+ghost use Rattle.sd_report.specs.Ending.{EndsWithOne, IsShowing, StandsAlone};
+ghost use Rattle.sd_report.specs.Printed.{PrintsVerdict};
 
 use crate::stop::{Stop, status};
 use sd_disk::Disk;
@@ -13,6 +14,9 @@ use std::io::Write;
 pub fn verify_to<D: Disk, W: Write>(alloc: Global, disk: &mut D, out: &mut W) -> u8
     // Status 0 only where the store shows one of the two.
     ensures showing { D.is_honest disk.new → result ≡ 0 → IsShowing (D.contents disk.old) }
+    // The whole line is then written.
+    ensures text { D.is_honest disk.new → result ≡ 0
+        → PrintsVerdict (D.contents disk.old) (W.contents out.old) (W.contents out.new) }
     // A store without a checkpoint is no fault here.
     ensures status { result ≤ 1 }
     ensures reads { OnlyReads D.Disk disk.old disk.new }
@@ -22,8 +26,13 @@ pub fn verify_to<D: Disk, W: Write>(alloc: Global, disk: &mut D, out: &mut W) ->
 }
 
 /// Prints what a store shows.
+#[tactic(auto, using(crate::proofs::EndingLemmas::stands_alone))]
 pub fn print_report<D: Disk, W: Write>(alloc: Global, disk: &mut D, out: &mut W) -> Result<(), Stop>
     ensures showing { D.is_honest disk.new → OnOk result (IsShowing (D.contents disk.old)) }
+    ensures text { D.is_honest disk.new → OnOk result
+        (PrintsVerdict (D.contents disk.old) (W.contents out.old) (W.contents out.new)) }
+    // What is wrong with the store is told alone.
+    ensures alone { IfErr result (StandsAlone (W.contents out.old) (W.contents out.new)) }
     ensures stopped { EndsWithOne result }
     ensures reads { OnlyReads D.Disk disk.old disk.new }
 {

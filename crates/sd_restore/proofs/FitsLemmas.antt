@@ -35,7 +35,7 @@ found_prots (e ∷ es) q = ap (λ o. cond (eq_by_cmp nat_cmp q e.0) (Some e.1.pr
     moved true p o = refl
     moved false p o = refl
 
-get_prots : (space : Space) (q : ℕ) → finmap.get (prots_in space) q ≡ option_map (λ (p : Page). p.prot) (finmap.get space q)
+pub get_prots : (space : Space) (q : ℕ) → finmap.get (prots_in space) q ≡ option_map (λ (p : Page). p.prot) (finmap.get space q)
 get_prots space q = get-from_entries nat_cmp_total _ q ∙ found_prots (finmap.entries space) q ∙ ap (option_map (λ (p : Page). p.prot)) (sym (get-entries space q))
 
 below_prots : (k : ℕ) (es : List (ℕ × Page)) → below_all nat_cmp k (map (λ (e : ℕ × Page). (e.0, e.1.prot)) es) ≡ below_all nat_cmp k es
@@ -58,7 +58,7 @@ len_prots space =
 
 -- ---- areas
 
-in_space : (before : Option Area) (areas : List Area) (page : ℕ) → AreMaximal before areas → IsSome (prot_in areas page) → page < 2 ^ 35
+pub in_space : (before : Option Area) (areas : List Area) (page : ℕ) → AreMaximal before areas → IsSome (prot_in areas page) → page < 2 ^ 35
 in_space before [] page good some = absurd (false≢true some)
 in_space before (area ∷ areas) page good some = by (is_within area.first area.count page) (λ rest. in_space (Some area) areas page good.1 rest) refl some
   where
@@ -179,7 +179,7 @@ listed_with number spaces any =
     let found = Any-from_list_any (λ (s : Listed). nat_eq s.space number) spaces any in
     (found.1, (found.0, found.2, found.3), eqb-true _ _ found.4)
 
-same_prot : (listed : Option Prot) (space page : ℕ) (images : List Image) (i : Image) (o : Option Page)
+pub same_prot : (listed : Option Prot) (space page : ℕ) (images : List Image) (i : Image) (o : Option Page)
     → MatchOption o (listed ≡ None) (λ (p : Page). (listed ≡ Some p.prot) × Holds images space page p.bytes i) → listed ≡ option_map (λ (p : Page). p.prot) o
 same_prot listed space page images i None is = is
 same_prot listed space page images i (Some p) is = is.0

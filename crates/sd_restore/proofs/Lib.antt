@@ -11,3 +11,4 @@ pub mod ShowLemmas
 mod CallLemmas
 mod FitsLemmas
 mod WantLemmas
+mod LaidLemmas

@@ -1,10 +1,13 @@
 -- Where the pages of an image lie, and the memory that they make.
-use Rattle.std.specs.Prelude.{◌≡◌, ℕ, ◌+◌, ◌^◌, ◌<◌, ◌≤◌, ◌∷◌, List, [], map, All, Some, None}
+use Rattle.std.specs.Prelude.{◌≡◌, ℕ, ◌+◌, ◌^◌, ◌<◌, ◌≤◌, ◌==◌, ◌∷◌, List, [], map, filter, All, Some, None}
 use Rattle.std.specs.FinMap as finmap
 use Rattle.std.specs.List.{flat_map}
 use Rattle.sd_areas.specs.declared.prot.Prot.{Prot}
 use Rattle.sd_areas.specs.Pages.{pages_from}
-use Rattle.sd_areas.specs.PlainMemory.{Page, PlainMemory}
+use Rattle.sd_areas.specs.PlainMemory.{Page, PlainMemory, Space}
+use Rattle.sd_areas.specs.declared.area.Area.{Area}
+use Rattle.sd_areas.specs.Areas.{areas_of}
+use Rattle.sd_restore.specs.Fits.{prots_in}
 use Rattle.sd_areas.specs.Memory.{put_page}
 use Rattle.sd_image.specs.Image.{Image, OpenImages}
 use Rattle.sd_image.specs.Table.{Listed}
@@ -92,3 +95,18 @@ with_pages contents memory (p ∷ pages) = with_pages contents (put_page memory 
 
 abbrev pub memory_at : List (List ℕ) → List Listed → List PlacedPage → PlainMemory
 memory_at contents spaces = with_pages contents (with_spaces finmap.empty spaces)
+
+-- The entries of that memory.
+
+-- the pages of one space, among others
+abbrev pub placed_entries : List (List ℕ) → ℕ → List PlacedPage → List (ℕ × Page)
+placed_entries contents space pages = map (λ (p : PlacedPage). (p.page, page_at contents p)) (filter (λ (p : PlacedPage). p.space == space) pages)
+
+-- a space's number, its areas and its pages
+abbrev pub Entry : Type 0
+Entry = ℕ × (List Area × List (ℕ × Page))
+
+-- a memory has these spaces with their areas, rising, and in each space these pages, rising
+abbrev pub IsLaidOut : List (List ℕ) → List Listed → List PlacedPage → PlainMemory → Type 0
+IsLaidOut contents spaces pages memory = map {B = Entry} (λ (e : ℕ × Space). (e.0, (areas_of (prots_in e.1), finmap.entries e.1))) (finmap.entries memory)
+    ≡ map {B = Entry} (λ (s : Listed). (s.space, (s.areas, placed_entries contents s.space pages))) spaces

@@ -10,13 +10,13 @@ ghost use Rattle.sd_chain.specs.Chains.{found_on};
 ghost use Rattle.sd_chain.specs.Store.{IsCatalogOf, bytes_at};
 ghost use Rattle.sd_chain.specs.Ways.{AreImages};
 ghost use Rattle.sd_restore.specs.Faulty.{Names, IsBrokenChain};
-ghost use Rattle.sd_restore.specs.Placed.{IsInSlots, IsWithin, memory_at, placed_pages};
+ghost use Rattle.sd_restore.specs.Placed.{IsInSlots, IsLaidOut, IsWithin, memory_at, placed_pages};
 
 use crate::chain::place_pages;
 use crate::device::read_file;
 use crate::fault::Fault;
 use crate::placed_run::PlacedRun;
-use sd_areas::PAGE_SIZE;
+use sd_areas::{PAGE_SIZE, areas_law, one_list_law};
 use sd_chain::{Catalog, Found};
 use sd_disk::Disk;
 use sd_image::{SpaceTable, tip_once};
@@ -47,6 +47,11 @@ pub fn place_newest<'a>(alloc: Global, catalog: &'a Catalog) -> Result<PlacedMem
           placed.checkpoint,
           memory_at contents (map listing_of placed.spaces.now) (placed_pages placed.runs.items),
         ))) }
+    // That memory has these spaces and areas, and these pages in them, all rising.
+    ensures laid { (contents : List (List ℕ)) → IsCatalogOf contents catalog.now
+        → IfOk result (λ placed. IsLaidOut contents (map listing_of placed.spaces.now)
+        (placed_pages placed.runs.items)
+        (memory_at contents (map listing_of placed.spaces.now) (placed_pages placed.runs.items))) }
     ensures empty { (contents : List (List ℕ)) → IsCatalogOf contents catalog.now
         → IsErrOf result Fault.EmptyChain → Shows contents None }
     ensures broken { (contents : List (List ℕ)) → IsCatalogOf contents catalog.now
@@ -60,6 +65,8 @@ pub fn place_newest<'a>(alloc: Global, catalog: &'a Catalog) -> Result<PlacedMem
     // An empty chain takes no memory.
     ensures wanted { result ≡ Err Fault.OutOfMemory → (tip : Opened) × IsTip catalog.now tip }
 {
+    areas_law();
+    one_list_law();
     tip_once();
     catalog.sound();
     let Some(tip) = catalog.tip() else {

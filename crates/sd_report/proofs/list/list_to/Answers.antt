@@ -1,5 +1,11 @@
-use Rattle.sd_report.proofs.EndingLemmas.{at_most_one}
+use Rattle.sd_report.proofs.EndingLemmas.{at_most_one, printed_at_its_end}
+use Rattle.sd_report.specs.Printed.{PrintsImages}
 use Rattle.sd_report.proofs.list.list_to.Goals as goal
 
 pub returns-clause-status : goal.returns-clause-status
-returns-clause-status g c = at_most_one c.print_list-ended.result c.status.result c.status.ensures c.print_list-ended.ensures.stopped
+returns-clause-status g c = at_most_one c.print_list-ended.result c.status.result c.status.ensures.ends c.print_list-ended.ensures.stopped
+
+pub returns-clause-text : goal.returns-clause-text
+returns-clause-text g c = λ honest zero.
+    printed_at_its_end (PrintsImages (g.D.Disk.contents c.args.disk.now) (g.W.Write.contents c.args.out.now)) c.print_list-ended.result c.status.result _ _ c.status.ensures.with
+    (c.print_list-ended.ensures.text honest) zero

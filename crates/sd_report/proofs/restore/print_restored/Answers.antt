@@ -2,6 +2,13 @@ use Rattle.std.proofs.Common.{◌≡◌, List, ℕ, All, length, sym, subst}
 use Rattle.sd_chain.specs.Store.{IsCatalogOf}
 use Rattle.sd_restore.specs.declared.placed_run.PlacedRun.{PlacedRun}
 use Rattle.sd_restore.specs.Placed.{IsInSlots}
+use Rattle.std.proofs.Common.{map}
+use Rattle.std.proofs.lemmas.Result.{on_ok_weaker}
+use Rattle.std.specs.Io.KnownBytes.{Appends}
+use Rattle.sd_image.specs.Table.{listing_of}
+use Rattle.sd_restore.specs.Placed.{placed_pages}
+use Rattle.sd_report.specs.Texts.{placed_memory_text}
+use Rattle.sd_report.proofs.MemoryTexts.{prints_memory}
 use Rattle.sd_report.proofs.EndingLemmas.{on_ok}
 use Rattle.sd_report.proofs.restore.print_restored.Goals as goal
 
@@ -17,3 +24,19 @@ returns-clause-shown g c = λ honest.
     let scanned = c.print_placed.ensures.reads.honest honest in
     let catalog : IsCatalogOf contents c.in_ok-catalog.catalog = c.in_ok-catalog.ensures.catalog scanned in
     on_ok c.print_placed.result ((c.in_ok-placed.placed.checkpoint, _), c.in_ok-placed.ensures.shown contents catalog)
+
+pub returns-clause-text : goal.returns-clause-text
+returns-clause-text g c = λ honest.
+    let contents : List (List ℕ) = g.D.Disk.contents c.args.disk.now in
+    let placed = c.in_ok-placed.placed in
+    let scanned = c.print_placed.ensures.reads.honest honest in
+    let catalog : IsCatalogOf contents c.in_ok-catalog.catalog = c.in_ok-catalog.ensures.catalog scanned in
+    let same : g.D.Disk.contents c.scan.new.disk ≡ contents = c.in_ok-catalog.ensures.reads.same in
+    let from = g.W.Write.contents c.args.out.now in
+    let to = g.W.Write.contents c.print_placed.new.out in
+    let spaces = map listing_of placed.spaces.now in
+    let pages = placed_pages placed.runs.items in
+    on_ok_weaker c.print_placed.result
+    (λ printed. prints_memory contents from to placed.checkpoint spaces pages (c.in_ok-placed.ensures.shown contents catalog) (c.in_ok-placed.ensures.laid contents catalog)
+    (subst (λ contents. Appends from to (placed_memory_text contents placed.checkpoint spaces pages)) same printed))
+    (c.print_placed.ensures.text honest)

@@ -6,7 +6,8 @@ use Rattle.sd_image.specs.Shows.{Shows}
 use Rattle.sd_image.specs.Table.{IsTable, listing_of}
 use Rattle.sd_chain.specs.Catalog.{Opened, images}
 use Rattle.sd_chain.specs.Store.{FindsTip}
-use Rattle.sd_restore.specs.Placed.{memory_at, placed_pages}
+use Rattle.sd_restore.specs.Placed.{IsLaidOut, memory_at, placed_pages}
+use Rattle.sd_restore.proofs.LaidLemmas.{laid_tip}
 use Rattle.sd_restore.proofs.RunLemmas.{runs_in_slots}
 use Rattle.sd_restore.proofs.MappedLemmas.{contains_map, space_of}
 use Rattle.sd_restore.proofs.ShowLemmas.{pages_in_slots, shows_tip}
@@ -40,3 +41,12 @@ returns-clause-areas c = λ k d less.
 
 pub returns-in_err-runs-clause-wanted : goal.returns-in_err-runs-clause-wanted
 returns-in_err-runs-clause-wanted c = λ _. (c.in-Some.tip.now, c.in-Some.ensures.newest)
+
+pub returns-clause-laid : goal.returns-clause-laid
+returns-clause-laid c = λ contents catalog.
+    let tip = c.in-Some.tip.now in
+    let pages = placed_pages c.in_ok-runs.runs.items in
+    let finds : FindsTip contents (Some c.in-Some.tip) = subst (FindsTip contents) c.in-Some.is (c.tip.ensures.store contents catalog) in
+    let spaces : map listing_of c.as_slice.result.now ≡ tip.spaces = ap (map listing_of) c.as_slice.ensures.value ∙ c.table.ensures in
+    subst (λ listed. IsLaidOut contents listed pages (memory_at contents listed pages)) (sym spaces)
+    (laid_tip c.areas_law.ensures c.one_list_law.ensures contents c.args.catalog.now c.in-Some.tip pages catalog finds c.in_ok-runs.ensures.placed)

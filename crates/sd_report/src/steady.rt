@@ -1,0 +1,165 @@
+//! What a program that reads a store prints, by the program's name; and answers that are of one moment of the store.
+ghost use Rattle.std.specs.Prelude.{◌≡◌, ◌≢◌, ◌<◌, true, Err, None, length, IfErr, OnOk};
+ghost use Rattle.sd_disk.specs.Reads.{OnlyReads};
+ghost use Rattle.sd_image.specs.Shows.{Shows};
+ghost use Rattle.sd_restore.specs.declared.fault.Fault.TheVariants as fault;
+ghost use Rattle.sd_restore.specs.Faulty.{Names};
+ghost use Rattle.sd_report.specs.declared.stop.Stop.TheVariants as stop;
+ghost use Rattle.sd_report.specs.Ending.{StandsAlone, may_change};
+ghost use Rattle.sd_report.specs.Printed.{Prints};
+
+use crate::list::print_list;
+use crate::restore::print_restored;
+use crate::stop::Stop;
+use crate::verify::print_report;
+use sd_disk::{DeviceError, Disk};
+use sd_image::{GATE, HEADER_SIZE};
+use sd_restore::Fault;
+use std::alloc::Global;
+use std::io::Write;
+
+/// A program that reads a store.
+#[derive(Clone, Copy, Debug, PartialEq, Eq)]
+pub enum Reader {
+    Restore,
+    List,
+    Verify,
+}
+
+/// How much of a slot's file tells its image apart: with its serial and its digest.
+const FRONT: usize = 96;
+
+/// The front of an open image's file. None of a slot that is closed, or in which an image is being made.
+type Front = Option<[u8; FRONT]>;
+
+/// Prints what a program prints of a store.
+fn print_by<D: Disk, W: Write>(
+    alloc: Global,
+    reader: Reader,
+    disk: &mut D,
+    out: &mut W,
+) -> Result<(), Stop>
+    ensures text { D.is_honest disk.new → OnOk result
+        (Prints reader (D.contents disk.old) (W.contents out.old) (W.contents out.new)) }
+    ensures alone { IfErr result (StandsAlone (W.contents out.old) (W.contents out.new)) }
+    ensures empty { D.is_honest disk.new → result ≡ Err (stop.Fault fault.EmptyChain)
+        → (reader ≡ Reader.Restore) × Shows (D.contents disk.old) None }
+    ensures reads { OnlyReads D.Disk disk.old disk.new }
+{
+    match reader {
+        Reader::Restore => print_restored(alloc, disk, out),
+        Reader::List => print_list(alloc, disk, out),
+        Reader::Verify => print_report(alloc, disk, out),
+    }
+}
+
+/// The length of a slot's file, in bytes.
+fn file_len<D: Disk>(disk: &mut D, slot: usize) -> Result<usize, DeviceError>
+    requires { slot < length (D.contents disk.old) }
+    ensures { OnlyReads D.Disk disk.old disk.new }
+{
+    disk.len(slot)
+}
+
+/// Fills the buffer from the start of a slot's file.
+fn read_start<D: Disk>(disk: &mut D, slot: usize, buffer: &mut [u8]) -> Result<(), DeviceError>
+    requires { slot < length (D.contents disk.old) }
+    ensures { OnlyReads D.Disk disk.old disk.new }
+{
+    disk.read(slot, 0, buffer)
+}
+
+/// The front of a slot's file.
+fn front_of<D: Disk>(disk: &mut D, slot: usize) -> Result<Front, DeviceError>
+    requires { slot < length (D.contents disk.old) }
+    ensures { OnlyReads D.Disk disk.old disk.new }
+{
+    if file_len(disk, slot)? < HEADER_SIZE {
+        return Ok(None);
+    }
+    let mut bytes = [0; FRONT];
+    read_start(disk, slot, &mut bytes)?;
+    Ok((bytes[0] == GATE).then_some(bytes))
+}
+
+/// The fronts of all slots' files. As long as they stay the same, so do the images.
+fn fronts<D: Disk>(alloc: Global, disk: &mut D) -> Result<Vec<Front>, Fault>
+    ensures unnamed { IfErr result (Names (λ _ _. ⊥)) }
+    ensures empty { result ≢ Err fault.EmptyChain }
+    ensures reads { OnlyReads D.Disk disk.old disk.new }
+{
+    let mut fronts = Vec::new(alloc);
+    for slot in 0..disk.slots() {
+        fronts.push(front_of(disk, slot)?)?;
+    }
+    Ok(fronts)
+}
+
+/// Prints what a program prints of a store. Where its images changed meanwhile, the device failed: no answer mixes two
+/// moments.
+///
+/// # Errors
+///
+/// Those of the program; `Device` and `OutOfMemory` also behind all that it prints.
+pub fn print_steady<D: Disk, W: Write>(
+    alloc: Global,
+    reader: Reader,
+    disk: &mut D,
+    out: &mut W,
+) -> Result<(), Stop>
+    // At its end the whole text of what the store shows is written.
+    ensures text { D.is_honest disk.new → OnOk result
+        (Prints reader (D.contents disk.old) (W.contents out.old) (W.contents out.new)) }
+    // Nothing is written where the store is damaged, or nothing was saved.
+    ensures alone { IfErr result (StandsAlone (W.contents out.old) (W.contents out.new)) }
+    ensures empty { D.is_honest disk.new → result ≡ Err (stop.Fault fault.EmptyChain)
+        → (reader ≡ Reader.Restore) × Shows (D.contents disk.old) None }
+    ensures reads { OnlyReads D.Disk disk.old disk.new }
+{
+    let before = fronts(alloc, disk)?;
+    let ended = print_by(alloc, reader, disk, out);
+    if fronts(alloc, disk)? == before {
+        ended
+    } else {
+        Err(Stop::Fault(Fault::Device))
+    }
+}
+
+/// Whether another try may answer otherwise while a run writes the store: that changes what is read.
+pub fn may_change(ended: &Result<(), Stop>) -> bool
+    ensures { result ≡ may_change ended.now }
+{
+    matches!(
+        ended,
+        Err(Stop::Fault(Fault::Device | Fault::Damaged { .. }))
+    )
+}
+
+/// Prints what a program prints of a store as `print_steady` does, but nothing where another try may answer otherwise.
+///
+/// # Errors
+///
+/// Those of `print_steady`; `Writer` also where the text can't be held.
+pub fn print_whole<D: Disk, W: Write>(
+    alloc: Global,
+    reader: Reader,
+    disk: &mut D,
+    out: &mut W,
+) -> Result<(), Stop>
+    ensures text { D.is_honest disk.new → OnOk result
+        (Prints reader (D.contents disk.old) (W.contents out.old) (W.contents out.new)) }
+    ensures alone { IfErr result (StandsAlone (W.contents out.old) (W.contents out.new)) }
+    // Where another try may answer otherwise, nothing is written.
+    ensures kept { may_change result ≡ true → W.contents out.new ≡ W.contents out.old }
+    ensures empty { D.is_honest disk.new → result ≡ Err (stop.Fault fault.EmptyChain)
+        → (reader ≡ Reader.Restore) × Shows (D.contents disk.old) None }
+    ensures reads { OnlyReads D.Disk disk.old disk.new }
+{
+    let mut text = Vec::new(alloc);
+    let ended = print_steady(alloc, reader, disk, &mut text);
+    if may_change(&ended) {
+        return ended;
+    }
+    out.write_all(&text)?;
+    ended
+}
