@@ -1,13 +1,20 @@
 //! `ckpt`: saves modelled memories into image files, and restores them.
 #![tactic(auto)]
 
+ghost use Rattle.std.specs.Prelude.{◌≡◌, ◌∷◌, true, false, OnOk};
+ghost use Rattle.sd_disk.specs.Reads.{OnlyReads};
+ghost use Rattle.sd_script.specs.declared.line.Line.TheVariants as asked;
+ghost use Rattle.sd_report.specs.Printed.{PrintsMemory};
+ghost use Rattle.sd_run.specs.Whole.{IsWholeRun};
+ghost use Rattle.ckpt.specs.Reading.{RunsAndRestores};
+
 use cause::{Causes, tell, tell_device, tell_line};
 use clap::ArgMatches;
 use progress::ProgressLine;
-use reading::{Reader, read_store};
+use reading::read_store;
 use sd_disk::{DirDisk, Disk, Folder, OpenError};
 use sd_mutate::{Tally, mutate};
-use sd_report::print_restored;
+use sd_report::{Reader, print_restored};
 use sd_restore::Fault;
 use sd_run::{Watch, merge_store, run_lines};
 use sd_script::{Script, ScriptError};
@@ -108,6 +115,19 @@ fn read_script(
     Ok(parsed?)
 }
 
+/// Prints the memory that a store shows, and gives the store back with how that ended.
+fn restore_over<D: Disk, W: Write>(alloc: Global, disk: D, out: &mut W) -> (D, Result<(), Stop>)
+    ensures text { D.is_honest result.0 → OnOk result.1
+        (PrintsMemory (D.contents disk) (W.contents out.old) (W.contents out.new)) }
+    ensures reads { OnlyReads D.Disk disk result.0 }
+{
+    let mut disk = disk;
+    match print_restored(alloc, &mut disk, out) {
+        Ok(()) => (disk, Ok(())),
+        Err(stop) => (disk, Err(Stop::from(stop))),
+    }
+}
+
 /// Runs a script over a store. With `restores` the memory that the store then shows is printed behind the answers.
 fn run_over<D: Disk, W: Write, S: Watch>(
     alloc: Global,
@@ -116,13 +136,17 @@ fn run_over<D: Disk, W: Write, S: Watch>(
     restores: bool,
     out: &mut W,
     watch: &mut S,
-) -> (D, Result<(), Stop>) {
-    let (mut disk, ended) = run_lines(alloc, disk, script, out, watch);
+) -> (D, Result<(), Stop>)
+    // The answers of the script's lines are printed, and nothing else.
+    ensures whole { restores ≡ false → OnOk result.1 (IsWholeRun D.Disk
+        (asked.Reopen ∷ script.lines.items) disk result.0 (W.contents out.old) (W.contents out.new)) }
+    // Or the answers, and behind them the text of the memory that the store shows.
+    ensures restored { restores ≡ true → OnOk result.1 (RunsAndRestores D.Disk
+        (asked.Reopen ∷ script.lines.items) disk result.0 (W.contents out.old) (W.contents out.new)) }
+{
+    let (disk, ended) = run_lines(alloc, disk, script, out, watch);
     match ended {
-        Ok(()) if restores => {
-            let restored = print_restored(alloc, &mut disk, out);
-            (disk, restored.map_err(Stop::from))
-        }
+        Ok(()) if restores => restore_over(alloc, disk, out),
         Ok(()) => (disk, Ok(())),
         Err(stop) => (disk, Err(Stop::from(stop))),
     }
@@ -223,7 +247,8 @@ fn run_matches<R: Clock + Threads + Wait + Sync, W: Write>(
         Some(("mutate", words)) => mutate_program(rt, threads, words, out),
         Some((name, words)) => {
             let folder = words.get_str("DIR").unwrap_or("");
-            read_store(rt, threads, reader_of(name), folder, out)
+            let (_, ended) = read_store(rt, threads, reader_of(name), folder, out)?;
+            Ok(ended?)
         }
         None => Ok(()),
     }

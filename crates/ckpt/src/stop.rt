@@ -1,5 +1,7 @@
 //! How a program ends.
-ghost use Rattle.std.specs.Prelude.{◌≡◌};
+ghost use Rattle.std.specs.Prelude.{◌≡◌, Err, OnOk};
+ghost use Rattle.sd_report.specs.Ending.{EndsWith};
+ghost use Rattle.sd_report.specs.declared.stop.Stop.TheVariants as report;
 ghost use Rattle.ckpt.specs.Ending.{Ends, status_of};
 
 use sd_command::Refusal;
@@ -59,11 +61,17 @@ impl fmt::Display for Stop {
 /// Prints why a program ended early, if it did, and returns its exit status: 0 at its end, 3 for a store without a
 /// checkpoint, 2 for a script that doesn't fit the language, and else 1.
 pub fn status<W: Write>(ended: Result<(), Stop>, out: &mut W) -> u8
-    ensures { Ends ended result }
+    ensures ends { Ends ended result }
+    // At the program's end nothing more is printed.
+    ensures done { OnOk ended (W.contents out.new ≡ W.contents out.old) }
+    // A fault of a store comes with its line, and its status with that line alone.
+    ensures told { (fault : Fault) → ended ≡ Err (Stop.Fault fault)
+        → EndsWith (W.contents out.old) (W.contents out.new) (Err (report.Fault fault)) result }
 {
     match ended {
         Ok(()) => 0,
         Err(Stop::Refused | Stop::Writer(_)) => FAILED,
+        Err(Stop::Fault(fault)) => sd_report::status(Err(ReportStop::Fault(fault)), out),
         Err(stop) => match writeln!(out, "{stop}") {
             Ok(()) => stop_status(&stop),
             Err(_) => FAILED,
