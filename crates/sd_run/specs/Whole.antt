@@ -43,6 +43,8 @@ pub record IsOpened {D : Type 0} (g : Ghosts D) (old : D) (opened : WorldView D)
   pub shows : g.is_honest opened.disk → Shows (g.contents old) (shown_base opened.core.base.number opened.core.base.memory)
   pub everywhere : g.is_honest opened.disk
       → Within (g.may_leave opened.disk) (λ c. Shows c (shown_base opened.core.base.number opened.core.base.memory))
+  -- as many frames as pages can be mapped
+  pub frames : opened.core.memory.pool ≡ 65536
 
 -- A run from the disk that was opened to the one that is left. Whatever moment of it a crash comes, it leaves what the journal of that moment
 -- allows; at its end so does every outcome of a crash, and so do the contents. The memory at its end is the one that the journal makes.

@@ -20,6 +20,7 @@ returns-in-Ok-clause-merged g c =
           journal = c.in-Ok.ensures.journal;
           shows = c.in-Ok.ensures.shows;
           everywhere = c.in-Ok.ensures.everywhere;
+          frames = c.in-Ok.ensures.frames;
         };
         goes_on = c.merge_tip-reply.ensures.goes_on;
         disk = c.close.ensures;
@@ -47,6 +48,7 @@ returns-in-Ok-clause-refused g c refused =
               journal = c.in-Ok.ensures.journal;
               shows = c.in-Ok.ensures.shows;
               everywhere = c.in-Ok.ensures.everywhere;
+              frames = c.in-Ok.ensures.frames;
             };
             goes_on = c.merge_tip-reply.ensures.goes_on;
             disk = c.close.ensures;
@@ -70,6 +72,7 @@ returns-in-Ok-clause-left g c = IsLeftByMerge.run c.merge_tip-reply.result (reco
       journal = c.in-Ok.ensures.journal;
       shows = c.in-Ok.ensures.shows;
       everywhere = c.in-Ok.ensures.everywhere;
+      frames = c.in-Ok.ensures.frames;
     };
     goes_on = c.merge_tip-reply.ensures.goes_on;
     disk = c.close.ensures;

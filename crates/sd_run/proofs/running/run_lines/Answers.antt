@@ -23,6 +23,7 @@ returns-in-Ok-clause-whole g c =
           journal = c.in-Ok.ensures.journal;
           shows = c.in-Ok.ensures.shows;
           everywhere = c.in-Ok.ensures.everywhere;
+          frames = c.in-Ok.ensures.frames;
         };
         goes_on = c.answer_all.ensures.goes_on;
         disk = c.close.ensures;
@@ -44,6 +45,7 @@ returns-in-Ok-clause-left g c = IsLeft.run (record {
       journal = c.in-Ok.ensures.journal;
       shows = c.in-Ok.ensures.shows;
       everywhere = c.in-Ok.ensures.everywhere;
+      frames = c.in-Ok.ensures.frames;
     };
     goes_on = c.answer_all.ensures.goes_on;
     disk = c.close.ensures;
