@@ -11,6 +11,13 @@ write_calls_script() {
 answers_of_calls='reopened none|done|acked [123]|merged [345]|refused (6 frozen|10 not-open|11 busy|13 store-down|14 idle|22 device)|device'
 answers_of_calls="$answers_of_calls|cannot open DIR|cannot read SCRIPT"
 
+# Goes to a folder in memory where there is one: how a call ends is what matters here, and a real disk's syncs take minutes.
+in_memory() {
+  room=$(mktemp -d -p /dev/shm 2> /dev/null || mktemp -d -p "$PWD") || return 1
+  trap 'rm -rf "$room"' EXIT
+  cd "$room" || return 1
+}
+
 # Makes the library, the answers of a run without failures, and what is restored behind each checkpoint: memory-0 to memory-3.
 prepare_calls() {
   local number=0 line
@@ -85,6 +92,7 @@ call_may_be_repeated() {  # call_may_be_repeated NUMBER HOW
 # Tries each call of the run, or each 41st in a build with checks.
 each_call() {  # each_call CHECK HOW
   local number step=1
+  in_memory || return
   prepare_calls || return
   [ -z "${CHECKED:-}" ] || step=41
   for number in $(seq 1 "$step" "$(($(cat count)))"); do
