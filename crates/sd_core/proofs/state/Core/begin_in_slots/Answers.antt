@@ -12,7 +12,8 @@ use Rattle.sd_core.specs.Beginning.{AreReserved, IsFirstParent}
 use Rattle.sd_core.specs.declared.numbers.Numbers.{Numbers}
 use Rattle.sd_core.specs.Sound.{AreNumbers, AreOuts, held_for}
 use Rattle.sd_core.specs.Starts.{base_of}
-use Rattle.sd_core.proofs.ApplyLemmas.{same_phases}
+use Rattle.sd_journal.specs.Kept.{Kept}
+use Rattle.sd_core.proofs.ApplyLemmas.{same_phases, stays_same}
 use Rattle.sd_core.proofs.BeginLemmas.{MayBegin, begun_counted, begun_numbers, may_begin, none_opens}
 use Rattle.sd_core.proofs.BegunLemmas.{begun_beside, few_due}
 use Rattle.sd_core.proofs.JournalLemmas.{same_journal}
@@ -131,3 +132,10 @@ returns-clause-keeps c =
         apart = λ one other from below within. slots_apart c.free_law.ensures view c.args.rounds slots.pre_dumps.items slots.dump one other r below within;
       }) b;
     })
+
+pub returns-in_default-hold-clause-keeps : goal.returns-in_default-hold-clause-keeps
+returns-in_default-hold-clause-keeps c = stays_seen _ _ _ c.self.view_is (stays_same c.core_steps.ensures _ _ (record {
+  store = record { base = refl; phases = refl; outs = refl; opener = refl; standing = refl; catalog = refl; grows = refl; committing = refl; dumper = refl; merger = refl; serial = refl };
+  history = ap (λ (k : Kept). entries_of k.items) c.in_default-hold.ensures.err;
+  memory = refl;
+}))
