@@ -43,7 +43,7 @@ prepare_calls() {
 # Runs the script over an empty store while a call fails.
 run_failing() {  # run_failing NUMBER HOW
   rm -rf store
-  FAILED=$1 HOW=$2 LD_PRELOAD=./fail.so "$ckpt" run --quiet store calls.ckpt > out 2> err
+  FAILED=$1 HOW=$2 NAMED=called LD_PRELOAD=./fail.so "$ckpt" run --quiet store calls.ckpt > out 2> err
 }
 
 # The number of the checkpoint that a store shows, 0 for none.
@@ -73,10 +73,16 @@ keeps_what_was_acknowledged() {
   has "the next run" "$(tail -n 1 next)" "acked "
 }
 
-# One call fails: each answer is a named one, and nothing that was acknowledged is lost.
+# An answer tells that a call failed. Without the limits of the process a run goes on.
+tells_of_failure() {
+  [ "$(cat called)" = /proc/self/limits ] || ! cmp -s out whole.out || { echo "no answer tells that $(cat called) failed"; return 1; }
+}
+
+# One call fails: an answer tells of it, each is a named one, and nothing that was acknowledged is lost.
 call_may_fail() {  # call_may_fail NUMBER HOW
   run_failing "$1" "$2"
   [ $? -le 1 ] || { echo "another status"; return 1; }
+  tells_of_failure || return 1
   grep -vxE "$answers_of_calls" out && { echo "no such answer"; return 1; }
   keeps_what_was_acknowledged
 }

@@ -2,6 +2,7 @@
    fsync, fdatasync), from 1, and makes some fail. It takes from the environment:
      COUNTED   a file to which the count is written at each call, since a program may end by _exit
      FAILED    the number of the call that fails
+     NAMED     a file to which the name of that call is written, or the path that it opens
      HOW       how it fails: `unmade` (EIO, and nothing is done), `made` (done, and then EIO), `full` (ENOSPC, and all later
                calls that make or change a file too), `interrupted` (EINTR once, and nothing is done), `short` (a read or a
                write of half the bytes) */
@@ -49,12 +50,24 @@ __attribute__((constructor)) static void begin(void) {
     counted = next_open(file, O_WRONLY | O_CREAT | O_CLOEXEC, 0666);
 }
 
+/* Writes the name of the call that fails. */
+static void tell(const char *name) {
+  const char *file = getenv("NAMED");
+  int named = file ? next_open(file, O_WRONLY | O_CREAT | O_TRUNC | O_CLOEXEC, 0666) : -1;
+  if (named < 0)
+    return;
+  next_pwrite(named, name, strlen(name), 0);
+  close(named);
+}
+
 /* Counts a call. Returns whether it is to fail; `changes` tells whether it makes or changes a file. */
-static int fails(int changes) {
+static int fails(const char *name, int changes) {
   char text[24];
   calls++;
   if (counted >= 0)
     next_pwrite(counted, text, snprintf(text, sizeof text, "%20lu\n", calls), 0);
+  if (calls == failed)
+    tell(name);
   if (failed == 0 || calls < failed)
     return 0;
   return how == FULL ? changes : calls == failed;
@@ -72,9 +85,9 @@ static int forget(void) {
   return -1;
 }
 
-#define FAIL_OR(changes, call)                                                                                         \
+#define FAIL_OR(name, changes, call)                                                                                   \
   do {                                                                                                                 \
-    if (!fails(changes) || how == SHORT)                                                                               \
+    if (!fails(name, changes) || how == SHORT)                                                                         \
       return call;                                                                                                     \
     if (how != MADE)                                                                                                   \
       return refuse();                                                                                                 \
@@ -90,30 +103,30 @@ int open(const char *path, int flags, ...) {
     mode = va_arg(rest, mode_t);
     va_end(rest);
   }
-  FAIL_OR((flags & O_CREAT) != 0, next_open(path, flags, mode));
+  FAIL_OR(path, (flags & O_CREAT) != 0, next_open(path, flags, mode));
 }
 
 int statx(int folder, const char *restrict path, int flags, unsigned mask, struct statx *restrict found) {
-  FAIL_OR(0, next_statx(folder, path, flags, mask, found));
+  FAIL_OR("statx", 0, next_statx(folder, path, flags, mask, found));
 }
 
-int ftruncate(int file, off_t length) { FAIL_OR(1, next_ftruncate(file, length)); }
+int ftruncate(int file, off_t length) { FAIL_OR("ftruncate", 1, next_ftruncate(file, length)); }
 
-int fsync(int file) { FAIL_OR(1, next_fsync(file)); }
+int fsync(int file) { FAIL_OR("fsync", 1, next_fsync(file)); }
 
-int fdatasync(int file) { FAIL_OR(1, next_fdatasync(file)); }
+int fdatasync(int file) { FAIL_OR("fdatasync", 1, next_fdatasync(file)); }
 
 /* How many bytes a read or a write moves that is to fail. */
 static size_t half(size_t length) { return length > 1 ? length / 2 : length; }
 
 ssize_t pread(int file, void *bytes, size_t length, off_t at) {
   int is_short = how == SHORT && calls + 1 == failed;
-  FAIL_OR(0, next_pread(file, bytes, is_short ? half(length) : length, at));
+  FAIL_OR("pread", 0, next_pread(file, bytes, is_short ? half(length) : length, at));
 }
 
 ssize_t pwrite(int file, const void *bytes, size_t length, off_t at) {
   int is_short = how == SHORT && calls + 1 == failed;
-  FAIL_OR(1, next_pwrite(file, bytes, is_short ? half(length) : length, at));
+  FAIL_OR("pwrite", 1, next_pwrite(file, bytes, is_short ? half(length) : length, at));
 }
 
 int open64(const char *, int, ...) __attribute__((alias("open")));
