@@ -36,7 +36,7 @@ help_has_examples_and_statuses() {
 help_of_run_has_the_language() {
   local word
   "$ckpt" run --help > out || return 1
-  for word in mmap munmap mprotect fork exit store try fault load words checkpoint merge begin begin-merge cancel reopen work perform step finish; do
+  for word in mmap munmap mprotect fork exit store try fault load words checkpoint merge begin begin-merge cancel reopen trim work perform perform-at step finish; do
     has "the line of $word" "$(grep -E "^  (.*, )?$word( |,|$)" out)" "$word" || return 1
   done
 }

@@ -35,7 +35,9 @@ hexadecimal; empty lines and those that begin with # are skipped:
   begin ROUNDS, cancel                begins a checkpoint; gives the one that runs up
   begin-merge                         begins a merge, which can go on beside a checkpoint
   reopen                              opens the store again, after its device failed
+  trim                                folds the journal up to the last checkpoint
   work WORKER, perform WORKER         a step of dumper, merger or opener; its device call
+  perform-at WORKER K                 its device call at place K, from 0, of those that are out
   step WORKER N, finish WORKER        N of these events; all up to the end of its job
 
 Status: 0 at the end of the script, also where requests were refused; 1 where the store,
@@ -45,6 +47,20 @@ cannot open DIR, cannot read SCRIPT); 2 where a line of SCRIPT doesn't fit the l
 store shows no checkpoint afterwards.
 
 Only one run at a time can have a store open.";
+
+const SHELL: &str = "Example:
+  printf 'mmap 1 0x10000 4096 rw\\ncheckpoint 0\\n' | ckpt shell store
+
+Answers the lines of the standard input, which are those of a script, one by one: each answer is
+written before the next line is read. A line that doesn't fit the language is answered with
+script line N and changes nothing. It ends with the input, or with the line quit. On a terminal
+it asks for each line, and tells what is wrong with one.
+
+Status: 0 at the end of the input, also where requests were refused; 1 where the store, its
+device, memory, the input or the printing failed (damaged SSS WHY, device, out-of-memory,
+cannot open DIR, cannot read SCRIPT); 2 for a fault of the command line.
+
+Only one program at a time can have a store open that is run, merged or mutated.";
 
 const RESTORE: &str = "Example:
   ckpt restore store
@@ -130,6 +146,18 @@ fn run<'a>(alloc: Global) -> Result<Command<'a>, Error> {
     Ok(command)
 }
 
+fn shell<'a>(alloc: Global) -> Result<Command<'a>, Error> {
+    let command = Command::new(alloc, "shell")
+        .about("Answers requests from the standard input over the store in a folder, one by one")
+        .after_help(SHELL)
+        .arg(dir(alloc))?
+        .arg(quiet(
+            alloc,
+            "Shows no progress on standard error, and no cause of a fault of the folder or its device",
+        ))?;
+    Ok(command)
+}
+
 fn merge<'a>(alloc: Global) -> Result<Command<'a>, Error> {
     let command = Command::new(alloc, "merge")
         .about("Merges the chain of the newest checkpoint in a folder's store into one image")
@@ -199,6 +227,7 @@ pub fn command<'a>(alloc: Global) -> Result<Command<'a>, Error> {
         .after_help(LIMITS)
         .subcommand_required(true)
         .subcommand(run(alloc)?)?
+        .subcommand(shell(alloc)?)?
         .subcommand(merge(alloc)?)?
         .subcommand(mutate(alloc)?)?
         .subcommand(restore)?

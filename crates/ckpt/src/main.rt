@@ -18,9 +18,10 @@ use sd_report::{Reader, print_restored};
 use sd_restore::Fault;
 use sd_run::{Watch, merge_store, run_lines};
 use sd_script::{Script, ScriptError};
+use shell::{Asking, run_shell};
 use std::alloc::Global;
 use std::fs::File;
-use std::io::{BufWriter, IsTerminal, Lock, Write};
+use std::io::{BufWriter, Input, IsTerminal, Lock, Write};
 use std::process::ExitCode;
 use std::rt::{Env, Files};
 use std::sync::Wait;
@@ -35,6 +36,7 @@ mod progress;
 #[cfg(test)]
 mod progress_tests;
 mod reading;
+mod shell;
 mod stop;
 
 /// How long a writer waits before each try to open a store, in milliseconds: a reader asks for its lock for a moment.
@@ -180,6 +182,33 @@ fn run_program<R: Clock + Wait, W: Write>(
     ended
 }
 
+/// `ckpt shell`: files that are missing are made.
+fn shell_program<R: Clock + Wait, W: Write>(
+    rt: &HostRuntime,
+    threads: &R,
+    words: &ArgMatches<'_>,
+    out: &mut W,
+) -> Result<(), Stop> {
+    let folder = words.get_str("DIR").unwrap_or("");
+    let causes = causes_asked(words);
+    let disk = make_store(rt, threads, causes, folder)?;
+    let is_watched = causes == Causes::Told && rt.stderr().is_terminal();
+    let mut watch = ProgressLine::new(rt, rt.stderr().lock(), is_watched);
+    let asking = asking_of(rt.stdin().is_terminal());
+    let (disk, ended) = run_shell(rt.alloc(), disk, rt.reader(), asking, out, &mut watch);
+    tell_device(rt, causes, folder, &disk);
+    ended
+}
+
+/// Whether a shell asks for its requests: on a terminal.
+fn asking_of(is_terminal: bool) -> Asking {
+    if is_terminal {
+        Asking::Prompts
+    } else {
+        Asking::Silent
+    }
+}
+
 /// `ckpt merge`: files that are missing are made.
 fn merge_program<R: Clock + Wait, W: Write>(
     rt: &HostRuntime,
@@ -243,6 +272,7 @@ fn run_matches<R: Clock + Threads + Wait + Sync, W: Write>(
 ) -> Result<(), Stop> {
     match matches.subcommand() {
         Some(("run", words)) => run_program(rt, threads, words, out),
+        Some(("shell", words)) => shell_program(rt, threads, words, out),
         Some(("merge", words)) => merge_program(rt, threads, words, out),
         Some(("mutate", words)) => mutate_program(rt, threads, words, out),
         Some((name, words)) => {

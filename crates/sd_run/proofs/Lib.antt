@@ -1,5 +1,6 @@
-mod GoesLemmas
 mod DriveLemmas
+mod EndLemmas
+mod GoesLemmas
 mod LineLemmas
 mod MergingLemmas
-mod EndLemmas
+mod PromiseLemmas

@@ -1,5 +1,5 @@
 -- A whole run of a script, from the disk that it began with to the one that it left.
-use Rattle.std.specs.Prelude.{◌≡◌, ℕ, List, [], ◌++◌, Option}
+use Rattle.std.specs.Prelude.{◌≡◌, ℕ, List, [], ◌++◌, Option, None}
 use Rattle.std.specs.List.{flat_map}
 use Rattle.std.specs.Io.KnownBytes.{Appends}
 use Rattle.sd_disk.specs.Crash.{Within}
@@ -35,11 +35,12 @@ pub record AnswersSome {D : Type 0} (g : Ghosts D) (first : WorldView D) (lines 
 
 -- ---- from one disk to another
 
--- A run's first state: the disk was only read, no entry stands in the journal, and the contents, as every outcome of a crash then, show what the
--- run starts from, or nothing saved.
+-- A run's first state: the disk was only read, no entry stands in the journal, no checkpoint runs, and the contents, as every outcome of a crash
+-- then, show what the run starts from, or nothing saved.
 pub record IsOpened {D : Type 0} (g : Ghosts D) (old : D) (opened : WorldView D) : Type 0 where
   pub reads : OnlyReads g old opened.disk
   pub journal : opened.core.items ≡ []
+  pub idle : opened.core.dumper.running ≡ None
   pub shows : g.is_honest opened.disk → Shows (g.contents old) (shown_base opened.core.base.number opened.core.base.memory)
   pub everywhere : g.is_honest opened.disk
       → Within (g.may_leave opened.disk) (λ c. Shows c (shown_base opened.core.base.number opened.core.base.memory))

@@ -9,7 +9,8 @@ mod running;
 mod stop;
 mod watch;
 
+pub use lines::run_line;
 pub use merging::{merge_store, merge_to};
-pub use running::{run_lines, run_script};
+pub use running::{FRAMES, run_lines, run_script};
 pub use stop::Stop;
 pub use watch::{Unwatched, Watch};

@@ -3,8 +3,11 @@ ghost use Rattle.std.specs.Prelude.{◌∷◌, OnOk};
 ghost use Rattle.std.specs.Io.KnownBytes.{Appends};
 ghost use Rattle.sd_script.specs.declared.line.Line.TheVariants as asked;
 ghost use Rattle.sd_script.specs.Texts.{answer_line};
+ghost use Rattle.sd_world.specs.Points.{StandsAt};
+ghost use Rattle.sd_world.specs.Promise.{Point};
 ghost use Rattle.sd_run.specs.Goes.{GoesOn};
 ghost use Rattle.sd_run.specs.Lines.{AnswersLine};
+ghost use Rattle.sd_run.specs.Promise.{RunsLine};
 ghost use Rattle.sd_run.specs.Whole.{AnswersSome, PrintsLines};
 ghost use Rattle.sd_run.specs.Words.{AreGiven};
 
@@ -101,6 +104,31 @@ fn print_line<D: Disk, W: Write, S: Watch>(
         out.flush()?;
     }
     Ok(())
+}
+
+/// Answers one request of a run, and prints and flushes its answer, for a caller that has them one by one. The world is
+/// opened over [`FRAMES`](crate::FRAMES) frames, and its first request is `Line::Reopen`, as in `run_lines`.
+///
+/// # Errors
+///
+/// Those of the writer. The request was answered.
+pub fn run_line<D: Disk, W: Write, S: Watch>(
+    alloc: Global,
+    world: &mut World<D>,
+    line: Line,
+    out: &mut W,
+    watch: &mut S,
+) -> io::Result<()>
+    ensures printed { (given : Answer) × AnswersLine D.Disk line world.old given world.new
+        × OnOk result (Appends (W.contents out.old) (W.contents out.new) (answer_line given)) }
+    ensures goes_on { GoesOn D.Disk world.old world.new }
+    // The same of the line, its answer, what is printed and the disk alone, as in `run_lines`.
+    ensures promise { D.is_honest world.new.disk → (first : Point D) → StandsAt world.old first
+        → RunsLine D.Disk line first world.new result (W.contents out.old) (W.contents out.new) }
+{
+    world.points_follow();
+    print_line(alloc, world, line, out, watch)?;
+    out.flush()
 }
 
 /// Answers one line after the other, and prints each answer.

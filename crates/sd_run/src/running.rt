@@ -1,10 +1,12 @@
 //! Whole runs of a script, from one disk to another.
-ghost use Rattle.std.specs.Prelude.{◌≡◌, ◌≢◌, ◌∷◌, ℕ, Some, IsOk, IsSome, OnOk};
+ghost use Rattle.std.specs.Prelude.{◌≡◌, ◌≢◌, ◌⊎◌, ◌∷◌, ℕ, Some, IsOk, IsSome, OnOk};
 ghost use Rattle.std.specs.Io.KnownBytes.{Appends};
+ghost use Rattle.sd_disk.specs.Reads.{OnlyReads};
 ghost use Rattle.sd_script.specs.Script.{first_unfit_line, requests_of};
 ghost use Rattle.sd_script.specs.declared.line.Line.TheVariants as asked;
 ghost use Rattle.sd_world.specs.Opens.{IsFaultOf};
 ghost use Rattle.sd_run.specs.Ending.{fault_line};
+ghost use Rattle.sd_run.specs.Promise.{Promise, PromiseSoFar};
 ghost use Rattle.sd_run.specs.Whole.{IsLeft, IsWholeRun};
 
 use crate::lines::answer_all;
@@ -18,7 +20,7 @@ use std::io;
 use std::io::Write;
 
 /// How many frames a run's memory has.
-pub(crate) const FRAMES: usize = 65_536;
+pub const FRAMES: usize = 65_536;
 
 /// Parses a whole script and then runs it over a disk: the store is opened, and opened again, whose reply is printed, and
 /// then each line is answered, and its answer printed as one line. Returns the disk and the exit status: 0 at the end of the
@@ -37,6 +39,12 @@ pub fn run_script<D: Disk, W: Write>(alloc: Global, disk: D, script: &[u8], out:
         (W.contents out.old) (W.contents out.new) }
     // However it ends: the disk was only read, or the first lines were answered so, up to any place.
     ensures left { IsLeft D.Disk (asked.Reopen ∷ requests_of script.now) disk result.0 }
+    // Both again, of the lines, their answers, what is printed and the disk alone: `docs/PROMISE.md`.
+    ensures promise { result.1 ≡ 0 → D.is_honest result.0
+        → Promise D.Disk (asked.Reopen ∷ requests_of script.now) disk result.0
+        (W.contents out.old) (W.contents out.new) }
+    ensures so_far { D.is_honest result.0 → OnlyReads D.Disk disk result.0
+        ⊎ PromiseSoFar D.Disk (asked.Reopen ∷ requests_of script.now) disk result.0 }
 {
     match Script::parse(alloc, script) {
         Ok(script) => {
@@ -62,6 +70,12 @@ pub fn run_lines<D: Disk, W: Write, S: Watch>(
     ensures whole { OnOk result.1 (IsWholeRun D.Disk (asked.Reopen ∷ script.lines.items) disk result.0
         (W.contents out.old) (W.contents out.new)) }
     ensures left { IsLeft D.Disk (asked.Reopen ∷ script.lines.items) disk result.0 }
+    // Both again, of the lines, their answers, what is printed and the disk alone: `docs/PROMISE.md`.
+    ensures promise { OnOk result.1 (D.is_honest result.0
+        → Promise D.Disk (asked.Reopen ∷ script.lines.items) disk result.0
+        (W.contents out.old) (W.contents out.new)) }
+    ensures so_far { D.is_honest result.0 → OnlyReads D.Disk disk result.0
+        ⊎ PromiseSoFar D.Disk (asked.Reopen ∷ script.lines.items) disk result.0 }
     // Where the store isn't opened, its fault is told.
     ensures fault { (fault : OpenFault) → result.1 ≡ Err (Stop.Store fault) → D.is_honest result.0
         → IsFaultOf (D.contents disk) (D.failed disk) (D.failed result.0) fault }
@@ -70,6 +84,7 @@ pub fn run_lines<D: Disk, W: Write, S: Watch>(
         Ok(mut world) => {
             let ended = told(answer_all(alloc, &mut world, script.lines, out, watch));
             world.sound();
+            world.points_follow();
             (world.close(), ended)
         }
         Err(OpenError { fault, disk }) => (disk, Err(Stop::Store(fault))),

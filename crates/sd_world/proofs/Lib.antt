@@ -4,18 +4,23 @@ mod AnewLemmas
 mod AuditLemmas
 mod Calls
 mod FirstLemmas
+mod FoldLemmas
+mod GoesLemmas
 mod HandInLemmas
 mod KeptLemmas
 mod LimitLemmas
 mod Lists
 mod LittleLemmas
 mod LowersLemmas
+mod NumberLemmas
 mod OpenLemmas
 mod PerformLemmas
+mod PromiseLemmas
 mod ReplyLemmas
 mod RestoreLemmas
 mod RunLemmas
 mod StepLemmas
+mod TicketLemmas
 mod Worlds
 pub mod TrimLemmas
 mod MergesLemmas

@@ -4,10 +4,14 @@ pub mod Consistent
 pub mod Little
 pub mod Merged
 pub mod Merges
+pub mod Moments
 pub mod Opens
+pub mod Points
+pub mod Promise
 pub mod Refused
 pub mod Restored
 pub mod Runs
 pub mod Steps
+pub mod Tickets
 pub mod Trims
 pub mod View

@@ -1,36 +1,24 @@
 -- Whole runs, and what they show.
-use Rattle.std.specs.Prelude.{◌≡◌, ℕ, List, [], ◌∷◌, ◌++◌, Some, None}
-use Rattle.sd_areas.specs.PlainMemory.{PlainMemory}
+use Rattle.std.specs.Prelude.{◌≡◌, ◌≢◌, ℕ, List, [], ◌∷◌, ◌++◌}
 use Rattle.sd_command.specs.declared.reply.Reply.{Reply}
-use Rattle.sd_command.specs.declared.reply.Reply.TheVariants as reply
+use Rattle.sd_disk.specs.Crash.{Within}
+use Rattle.sd_disk.specs.Spans.{LeavesOnly}
 use Rattle.sd_disk.specs.declared.disk.Disk.{Ghosts}
-use Rattle.sd_image.specs.Shows.{Shows}
-use Rattle.sd_journal.specs.History.{Base, History, at_freeze}
+use Rattle.sd_journal.specs.Marked.{IsTracked}
 use Rattle.sd_belief.specs.Shown.{ShowsAllowed}
 use Rattle.sd_belief.specs.View.{history_of}
 use Rattle.sd_world.specs.declared.event.Event.{Event}
+use Rattle.sd_world.specs.declared.event.Event.TheVariants.{Trim}
 use Rattle.sd_world.specs.Adds.{Adds}
 use Rattle.sd_world.specs.Closing.{ClosesBehind, EndsBehind}
 use Rattle.sd_world.specs.Little.{DoesLittle}
 use Rattle.sd_world.specs.Merges.{DoesMerge, KeepsMerged}
+pub use Rattle.sd_world.specs.Promise.{ShowsFreeze, ShowsReply}
 use Rattle.sd_world.specs.Refused.{GoesOnUnless}
 use Rattle.sd_world.specs.Steps.{Does}
 use Rattle.sd_world.specs.View.{WorldView}
 
--- a checkpoint with the memory at its freeze
-pub record ShowsFreeze (base : Base) (history : History) (n : ℕ) (contents : List (List ℕ)) : Type 0 where
-  pub memory : PlainMemory
-  pub freeze : at_freeze base history n ≡ Some memory
-  pub shows : Shows contents (Some (n, memory))
-
--- after this reply contents show that checkpoint, or nothing saved; other replies say nothing of it
-abbrev pub ShowsReply : Reply → Base → History → List (List ℕ) → Type 0
-ShowsReply (reply.Acked n) base history contents = ShowsFreeze base history n contents
-ShowsReply (reply.Reopened (Some n)) base history contents = ShowsFreeze base history n contents
-ShowsReply (reply.Reopened None) base history contents = Shows contents None
-ShowsReply _ base history contents = Unit {0}
-
--- what an event does to a world, what it adds to the journal or takes from it, and what it makes of a checkpoint
+-- what an event does to a world, what it adds to the journal or takes from it, what it makes of a checkpoint, and what a crash leaves
 pub record IsStep {D : Type 0} (g : Ghosts D) (event : Event) (old : WorldView D) (answer : Reply) (new : WorldView D) : Type 0 where
   pub does : Does g event old answer new
   pub adds : Adds event answer old.core new.core
@@ -44,6 +32,14 @@ pub record IsStep {D : Type 0} (g : Ghosts D) (event : Event) (old : WorldView D
   pub jobs : g.is_honest new.disk → GoesOnUnless event old answer
   -- and the disk was honest before it
   pub honest : g.is_honest new.disk → g.is_honest old.disk
+  -- what the run goes on from stays, but by a trim; the journal is legal, and the memory is the one that it makes
+  pub base : event ≢ Trim → new.core.base ≡ old.core.base
+  pub tracked : IsTracked new.core.base new.core.items new.core.memory
+  -- a crash within it leaves what the journal allowed before it; a crash behind it what the journal allows then, and after an acknowledgement or a
+  -- reopening that checkpoint
+  pub any_moment : g.is_honest new.disk → LeavesOnly g old.disk new.disk (ShowsAllowed old.core.base (history_of old.core))
+  pub at_end : g.is_honest new.disk → Within (g.may_leave new.disk) (ShowsAllowed new.core.base (history_of new.core))
+  pub shows : g.is_honest new.disk → Within (g.may_leave new.disk) (ShowsReply answer new.core.base (history_of new.core))
 
 -- the world goes from the first state to the last, event by event, each answered by its reply
 abbrev pub Runs : {D : Type 0} → Ghosts D → WorldView D → List Event → List Reply → WorldView D → Type 0

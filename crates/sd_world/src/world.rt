@@ -21,10 +21,14 @@ ghost use Rattle.sd_world.specs.Closing.{ClosesBehind, EndsBehind};
 ghost use Rattle.sd_world.specs.Little.{DoesLittle};
 ghost use Rattle.sd_world.specs.Merged.{MergesStand};
 ghost use Rattle.sd_world.specs.Merges.{DoesMerge, KeepsMerged};
+ghost use Rattle.sd_world.specs.Moments.{GoesLeave};
+ghost use Rattle.sd_world.specs.Points.{PointsFollow, StandsAt};
+ghost use Rattle.sd_world.specs.Promise.{Goes, Point};
 ghost use Rattle.sd_world.specs.Refused.{GoesOnUnless};
 ghost use Rattle.sd_world.specs.Restored.{IsRestored};
 ghost use Rattle.sd_world.specs.Runs.{Runs, ShowsAllowedWithin, ShowsReply};
 ghost use Rattle.sd_world.specs.Steps.{Does, IsAnswered, LeavesLess};
+ghost use Rattle.sd_world.specs.Tickets.{HasOwnTickets, TicketsLast};
 ghost use Rattle.sd_world.specs.View.{asked_count, is_asked, nothing_kept};
 
 use crate::event::Event;
@@ -40,6 +44,7 @@ use sd_command::{Refusal, Reply};
 use sd_core::{Core, LANES};
 use sd_disk::Disk;
 use sd_gate::{Worker, all_found_fit, given_up_fits, writes_commute};
+use sd_journal::trim_laws;
 use sd_restore::Fault;
 use sd_store_laws::{contents_show, left_as_believed, synced_is_found};
 use std::alloc::Global;
@@ -80,10 +85,12 @@ impl<D: Disk> World<D> {
         requires least { 1 ≤ frames }
         requires greatest { frames ≤ 65536 }
 
-        // No entry stands in the journal, the store isn't open, and nothing is out.
+        // No entry stands in the journal, the store isn't open, nothing is out, and no checkpoint runs.
         ensures journal { IfOk result (λ world. world.core.items ≡ []) }
         ensures standing { IfOk result (λ world. world.core.standing ≡ NotOpen) }
         ensures kept { IfOk result (λ world. world.kept ≡ nothing_kept) }
+        ensures idle { IfOk result (λ world. world.core.dumper.running ≡ None) }
+        ensures tickets { IfOk result (λ world. HasOwnTickets world.core) }
 
         // The contents show the base, or nothing saved where it has no number, and so does every outcome of a crash.
         ensures shows { IfOk result (λ world. D.is_honest world.disk → Shows (D.contents disk)
@@ -180,6 +187,31 @@ impl<D: Disk> World<D> {
         let _core = &self.core;
     }
 
+    /// A law: from each point of a run at which a world stands an event goes to one at which it stands then, where the disk
+    /// is honest.
+    pub fn points_follow(&self)
+        ensures { PointsFollow D.Disk }
+    {
+        trim_laws();
+        let _core = &self.core;
+    }
+
+    /// A law: whatever moment of a run a crash comes, also within a device call, it leaves what the journal allowed at one
+    /// of the points of the run.
+    pub fn goes_leave(&self)
+        ensures { GoesLeave D.Disk }
+    {
+        let _core = &self.core;
+    }
+
+    /// A law: the requests that are out have tickets of their own behind each event of a run, as long as 64 bits last. So
+    /// the least ticket of a worker is that of its oldest request.
+    pub fn tickets_last(&self)
+        ensures { TicketsLast D.Disk }
+    {
+        let _core = &self.core;
+    }
+
     /// Restores a disk that holds what a crash of this world's disk may leave now: exactly a pair that the journal allows,
     /// or the empty chain where nothing was saved.
     ///
@@ -243,6 +275,8 @@ impl<D: Disk> World<D> {
         // What it adds to the journal, or takes from it. What the run goes on from stays, but by a trim.
         ensures adds { Adds event.now result self.old.core self.new.core }
         ensures base { event.now ≢ Trim → self.new.core.base ≡ self.old.core.base }
+        // The journal is legal, the memory is the one that it makes, and its bits are those that commands and visits give.
+        ensures tracked { IsTracked self.new.core.base self.new.core.items self.new.core.memory }
         ensures honest { D.is_honest self.new.disk → D.is_honest self.old.disk }
 
         // At any moment of it a crash leaves what the journal allowed with which it began.
@@ -288,6 +322,13 @@ impl<D: Disk> World<D> {
         ensures refused { IfErr result (λ why. (why ≡ OutOfMemory) × (self.new ≡ self.old)) }
         ensures honest { D.is_honest self.new.disk → D.is_honest self.old.disk }
 
+        // From each point at which the world stands the events go, one by one, to a point at which it stands then. Within an
+        // event a crash leaves what the journal allowed before it, and behind it what the journal allows then; behind `acked`
+        // and `reopened` that checkpoint, with the memory at its freeze.
+        ensures promise { IfOk result (λ replies. D.is_honest self.new.disk → (first : Point D)
+            → StandsAt self.old first → (last : Point D) × StandsAt self.new last
+            × Goes D.Disk first events.now replies.items last) }
+
         // At any moment of it a crash leaves what the journal allowed with which it began, or with which a step ended.
         ensures any_moment { IfOk result (λ replies. D.is_honest self.new.disk
             → LeavesOnly D.Disk self.old.disk self.new.disk
@@ -300,6 +341,7 @@ impl<D: Disk> World<D> {
             (D.contents self.new.disk) }
     {
         self.sound();
+        self.points_follow();
         let Ok(mut replies) = Vec::with_capacity(self.alloc, events.len()) else {
             return Err(Refusal::OutOfMemory);
         };

@@ -1,8 +1,10 @@
 -- What is left of the disk, and what was printed.
 use Rattle.sd_script.specs.declared.line.Line.TheVariants as asked
-use Rattle.std.proofs.Common.{◌∷◌}
+use Rattle.std.proofs.Common.{◌∷◌, inl}
+use Rattle.sd_run.specs.Promise.{Promise}
 use Rattle.sd_run.specs.Whole.{IsLeft, IsWholeRun, PrintsLines}
 use Rattle.sd_run.proofs.LineLemmas.{on_ok_through, then_on_ok}
+use Rattle.sd_run.proofs.PromiseLemmas.{left_so_far, promise_of}
 use Rattle.sd_run.proofs.running.run_lines.Goals as goal
 
 pub returns-in-Ok-clause-whole : goal.returns-in-Ok-clause-whole
@@ -21,6 +23,7 @@ returns-in-Ok-clause-whole g c =
         opening = record {
           reads = c.in-Ok.ensures.reads;
           journal = c.in-Ok.ensures.journal;
+          idle = c.in-Ok.ensures.idle;
           shows = c.in-Ok.ensures.shows;
           everywhere = c.in-Ok.ensures.everywhere;
           frames = c.in-Ok.ensures.frames;
@@ -43,6 +46,7 @@ returns-in-Ok-clause-left g c = IsLeft.run (record {
     opening = record {
       reads = c.in-Ok.ensures.reads;
       journal = c.in-Ok.ensures.journal;
+      idle = c.in-Ok.ensures.idle;
       shows = c.in-Ok.ensures.shows;
       everywhere = c.in-Ok.ensures.everywhere;
       frames = c.in-Ok.ensures.frames;
@@ -55,3 +59,20 @@ returns-in-Ok-clause-left g c = IsLeft.run (record {
   };
   answers = c.answer_all.ensures.answered;
 })
+
+pub returns-in-Ok-clause-promise : goal.returns-in-Ok-clause-promise
+returns-in-Ok-clause-promise g c =
+    let lines = asked.Reopen ∷ c.args.script.lines.items in
+    let from = g.W.Write.contents c.args.out.now in
+    let to = g.W.Write.contents c.answer_all.new.out in
+    let new = c.close.result in
+    then_on_ok c.told-ended.result (IsWholeRun g.D.Disk lines c.args.disk new from to)
+    (g.D.Disk.is_honest new → Promise g.D.Disk lines c.args.disk new from to)
+    (promise_of g.D.Disk c.points_follow.ensures lines c.args.disk new from to) (returns-in-Ok-clause-whole g c)
+
+pub returns-in-Ok-clause-so_far : goal.returns-in-Ok-clause-so_far
+returns-in-Ok-clause-so_far g c = left_so_far g.D.Disk c.points_follow.ensures (asked.Reopen ∷ c.args.script.lines.items) c.args.disk c.close.result
+    (returns-in-Ok-clause-left g c)
+
+pub returns-in-Err-clause-so_far : goal.returns-in-Err-clause-so_far
+returns-in-Err-clause-so_far g c = λ honest. inl c.in-Err.ensures.refused

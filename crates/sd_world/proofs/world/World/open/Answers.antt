@@ -3,10 +3,12 @@ use Rattle.sd_areas.specs.Memory.{memory_of}
 use Rattle.sd_gate.specs.Laws.{found_phase}
 use Rattle.sd_image.specs.Shows.{Shows}
 use Rattle.sd_journal.specs.History.{Base}
+use Rattle.sd_rounds.specs.Dumper.{Dumping}
 use Rattle.sd_core.specs.Starts.{shown_base}
 use Rattle.sd_world.specs.Consistent.{IsWorld}
 use Rattle.sd_world.specs.Opens.{AreSynced}
 use Rattle.sd_world.proofs.OpenLemmas.{all_synced, nobody_places, nothing_made}
+use Rattle.sd_world.proofs.TicketLemmas.{none_has}
 use Rattle.sd_world.proofs.world.World.open.Goals as goal
 
 pub invariant_of-result : goal.invariant_of-result
@@ -44,3 +46,9 @@ returns-in-Ok-clause-everywhere g c = λ honest contents may.
     (g.met.D.Disk.same_slots disk contents may ∙ ap length read.reads.same) may in
     subst (λ (base : Base). Shows contents (shown_base base.number base.memory)) (sym c.new-core.ensures.starts.base)
     (subst (λ files. Shows files (shown_base start.number (memory_of start.base))) (sym same) (read.shows honest))
+
+pub returns-in-Ok-clause-idle : goal.returns-in-Ok-clause-idle
+returns-in-Ok-clause-idle g c = ap (λ (d : Dumping). d.running) c.new-core.ensures.starts.dumper
+
+pub returns-in-Ok-clause-tickets : goal.returns-in-Ok-clause-tickets
+returns-in-Ok-clause-tickets g c = none_has c.new-core.result c.new-core.ensures.starts.outs

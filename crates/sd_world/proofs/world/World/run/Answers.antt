@@ -1,7 +1,8 @@
-use Rattle.std.proofs.Common.{◌≡◌, ◌+◌, [], ◌∷◌, ◌++◌, take, refl, sym, ◌∙◌, ap, subst}
-use Rattle.std.proofs.lemmas.List.{take_more}
+use Rattle.std.proofs.Common.{arith, ◌≡◌, ◌+◌, [], ◌∷◌, ◌++◌, take, refl, sym, ◌∙◌, ap, subst}
+use Rattle.std.proofs.lemmas.List.{take_all, take_more}
 use Rattle.sd_disk.specs.Spans.{LeavesOnly}
 use Rattle.sd_world.specs.Runs.{IsStep, Runs, ShowsAllowedWithin}
+use Rattle.sd_world.proofs.PromiseLemmas.{points_reached}
 use Rattle.sd_world.proofs.RunLemmas.{runs_more, span_more, span_none}
 use Rattle.sd_world.proofs.world.World.run.Goals as goal
 
@@ -23,7 +24,7 @@ loop-event-preserved g c =
     let events = c.args.events.now in
     let one_more : take (i + 1) events ≡ take i events ++ event ∷ [] =
     take_more events i event c.loop-event-test.true ∙ ap (λ e. take i events ++ e ∷ []) (sym c.event-item.is) in
-    let made : IsStep g.D.Disk event c.loop-event.self c.step-answer.result c.step-answer.new.self = record { does = step.does; adds = step.adds; little = step.little; merges = step.merges; keeps = step.keeps; closes = step.closes; ends = step.ends; jobs = step.jobs; honest = step.honest } in
+    let made : IsStep g.D.Disk event c.loop-event.self c.step-answer.result c.step-answer.new.self = record { does = step.does; adds = step.adds; little = step.little; merges = step.merges; keeps = step.keeps; closes = step.closes; ends = step.ends; jobs = step.jobs; honest = step.honest; base = step.base; tracked = step.tracked; any_moment = step.any_moment; at_end = step.at_end; shows = step.shows } in
     record {
       runs = subst (λ asked. Runs g.D.Disk c.args.self.now asked c.push_reserved.new.self.items c.step-answer.new.self) (sym one_more)
           (subst (λ answers. Runs g.D.Disk c.args.self.now (take i events ++ event ∷ []) answers c.step-answer.new.self) (sym c.push_reserved.ensures.items)
@@ -37,3 +38,9 @@ loop-event-preserved g c =
           (span_more g.D.Disk c.args.self.now c.loop-event.self c.step-answer.new.self (take i events) c.loop-event.replies.items event c.step-answer.result before.runs made
           (before.span (step.honest honest)) (step.any_moment honest)));
     }
+
+pub returns-clause-promise : goal.returns-clause-promise
+returns-clause-promise g c = λ honest first stands.
+    let runs = subst (λ events. Runs g.D.Disk c.args.self.now events c.loop-event.replies.items c.loop-event.self)
+    (take_all c.loop-event.event-index c.args.events.now (omega (arith, c.loop-event-test.false))) c.loop-event.invariant.runs in
+    points_reached g.D.Disk c.points_follow.ensures c.args.self.now c.loop-event.self _ _ runs honest first stands

@@ -1,0 +1,321 @@
+-- Which checkpoint runs behind an event: the one that was begun last, or the one that ran before.
+use Rattle.std.proofs.Common.{◌≡◌, ◌≢◌, ◌⊎◌, ℕ, Bool, true, false, is_none, Option, Some, None, refl, sym, ◌∙◌, ap, subst, inl, inr}
+use Rattle.std.proofs.lemmas.Bool.{cases_eq}
+use Rattle.sd_command.specs.declared.refusal.Refusal.{Refusal}
+use Rattle.sd_command.specs.declared.refusal.Refusal.TheVariants as refusal
+use Rattle.sd_command.specs.declared.reply.Reply.{Reply}
+use Rattle.sd_command.specs.declared.reply.Reply.TheVariants as reply
+use Rattle.sd_gate.specs.declared.worker.Worker.{Worker}
+use Rattle.sd_gate.specs.declared.worker.Worker.TheVariants.{Dumper, Merger, Opener}
+use Rattle.sd_gate.specs.Calls.{is_done}
+use Rattle.sd_gate.specs.Requests.{Made}
+use Rattle.sd_disk.specs.declared.disk.Disk.{Ghosts}
+use Rattle.sd_rounds.specs.Dumper.{Dumping, Running}
+use Rattle.sd_belief.specs.Calls.{IsOut, running_number}
+use Rattle.sd_belief.specs.View.{CoreView}
+use Rattle.sd_core.specs.declared.taken.Taken.{Taken}
+use Rattle.sd_core.specs.declared.taken.Taken.TheVariants.{Step, Call}
+use Rattle.sd_core.specs.Beginning.{BeginsAs, begin_refusal}
+use Rattle.sd_core.specs.Beside.{LeavesOthers}
+use Rattle.sd_core.specs.Called.{IsHandedIn, IsTakenUp}
+use Rattle.sd_core.specs.Images.{job_of}
+use Rattle.sd_core.specs.Merging.{MergesAs, merge_refusal}
+use Rattle.sd_core.specs.Orders.{IsCancelled}
+use Rattle.sd_core.specs.Refusals.{cancel_refusal, work_refusal}
+use Rattle.sd_core.specs.Working.{HasFallen, Leaves, LeavesByOutcome, LeavesByStep}
+use Rattle.sd_world.specs.declared.event.Event.{Event}
+use Rattle.sd_world.specs.declared.event.Event.TheVariants.{Command as CommandEvent, Begin, Work, TakeUp, HandInAt, Perform, PerformAt, Merge, Cancel, Reopen, Trim}
+use Rattle.sd_world.specs.Promise.{begun_after}
+use Rattle.sd_world.specs.Steps.{Does, HandsInIfAny, TakesUp, Works}
+use Rattle.sd_world.specs.Trims.{TrimsJournal}
+use Rattle.sd_world.specs.View.{WorldView}
+use Rattle.sd_world.proofs.TrimLemmas.{trim_cases}
+
+-- a checkpoint that runs then ran before
+abbrev pub KeepsNumber : CoreView → CoreView → Type 0
+KeepsNumber old new = (n : ℕ) → running_number new.dumper.running ≡ Some n → running_number old.dumper.running ≡ Some n
+
+-- a checkpoint that runs behind an event is the one that was begun last
+abbrev pub NumberGoes : Event → Reply → CoreView → CoreView → Type 0
+NumberGoes event answer old new = (n : ℕ) → running_number new.dumper.running ≡ Some n
+    → begun_after event answer (running_number old.dumper.running) ≡ Some n
+
+number_of_job : (running : Option Running) → running_number (job_of running) ≡ running_number running
+number_of_job None = refl
+number_of_job (Some running) = refl
+
+same_job : (old new : CoreView) → job_of new.dumper.running ≡ job_of old.dumper.running → KeepsNumber old new
+same_job old new job n is = sym (number_of_job old.dumper.running) ∙ ap running_number (sym job) ∙ number_of_job new.dumper.running ∙ is
+
+same_dumper : (old new : CoreView) → new.dumper ≡ old.dumper → KeepsNumber old new
+same_dumper old new same n is = ap (λ (d : Dumping). running_number d.running) (sym same) ∙ is
+
+same_core : (old new : CoreView) → new ≡ old → KeepsNumber old new
+same_core old new same = same_dumper old new (ap (λ (c : CoreView). c.dumper) same)
+
+none_runs : (running : Option Running) (fact : Type 0) (n : ℕ) → is_none running ≡ true → running_number running ≡ Some n → fact
+none_runs None fact n idle is = cc
+none_runs (Some running) fact n idle is = cc
+
+none_begins : (old new : CoreView) → is_none new.dumper.running ≡ true → KeepsNumber old new
+none_begins old new idle n is = none_runs new.dumper.running (running_number old.dumper.running ≡ Some n) n idle is
+
+by_dumper_step : (old new : CoreView) (answer : Reply) → LeavesByStep old Dumper answer new → KeepsNumber old new
+by_dumper_step old new reply.Done leaves = absurd leaves
+by_dumper_step old new (reply.Bytes bytes) leaves = absurd leaves
+by_dumper_step old new (reply.Child space) leaves = absurd leaves
+by_dumper_step old new reply.NeedsFault leaves = absurd leaves
+by_dumper_step old new (reply.Segv why) leaves = absurd leaves
+by_dumper_step old new (reply.Begun n) leaves = absurd leaves
+by_dumper_step old new (reply.Acked n) leaves = absurd leaves
+by_dumper_step old new (reply.Cancelled n) leaves = absurd leaves
+by_dumper_step old new (reply.Merged serial) leaves = absurd leaves
+by_dumper_step old new (reply.Trimmed count) leaves = absurd leaves
+by_dumper_step old new reply.Worked leaves = same_job old new leaves.job
+by_dumper_step old new (reply.Reopened m) leaves = none_begins old new leaves.idle
+by_dumper_step old new (reply.Refused refusal.Einval) leaves = absurd leaves
+by_dumper_step old new (reply.Refused refusal.Enomem) leaves = absurd leaves
+by_dumper_step old new (reply.Refused refusal.NoSuchSpace) leaves = absurd leaves
+by_dumper_step old new (reply.Refused refusal.TooManySpaces) leaves = absurd leaves
+by_dumper_step old new (reply.Refused refusal.NoFrame) leaves = absurd leaves
+by_dumper_step old new (reply.Refused refusal.Frozen) leaves = absurd leaves
+by_dumper_step old new (reply.Refused refusal.JournalFull) leaves = absurd leaves
+by_dumper_step old new (reply.Refused refusal.OutOfMemory) leaves = same_core old new leaves
+by_dumper_step old new (reply.Refused refusal.UnsupportedValue) leaves = absurd leaves
+by_dumper_step old new (reply.Refused refusal.NotOpen) leaves = absurd leaves
+by_dumper_step old new (reply.Refused refusal.Busy) leaves = absurd leaves
+by_dumper_step old new (reply.Refused refusal.NoSlot) leaves = absurd leaves
+by_dumper_step old new (reply.Refused refusal.StoreDown) leaves = absurd leaves
+by_dumper_step old new (reply.Refused refusal.Idle) leaves = absurd leaves
+by_dumper_step old new (reply.Refused refusal.LastSpace) leaves = absurd leaves
+by_dumper_step old new (reply.Refused refusal.LockBusy) leaves = absurd leaves
+by_dumper_step old new (reply.Refused refusal.NumbersUsed) leaves = absurd leaves
+by_dumper_step old new (reply.Refused refusal.Damaged) leaves = absurd leaves
+by_dumper_step old new (reply.Refused refusal.Device) leaves = absurd leaves
+
+by_dumper_outcome : (old new : CoreView) (answer : Reply) → LeavesByOutcome old Dumper answer new → KeepsNumber old new
+by_dumper_outcome old new reply.Done leaves = absurd leaves
+by_dumper_outcome old new (reply.Bytes bytes) leaves = absurd leaves
+by_dumper_outcome old new (reply.Child space) leaves = absurd leaves
+by_dumper_outcome old new reply.NeedsFault leaves = absurd leaves
+by_dumper_outcome old new (reply.Segv why) leaves = absurd leaves
+by_dumper_outcome old new (reply.Begun n) leaves = absurd leaves
+by_dumper_outcome old new (reply.Cancelled n) leaves = absurd leaves
+by_dumper_outcome old new (reply.Trimmed count) leaves = absurd leaves
+by_dumper_outcome old new (reply.Reopened m) leaves = absurd leaves
+by_dumper_outcome old new reply.Worked leaves = same_job old new leaves.job
+by_dumper_outcome old new (reply.Acked n) leaves = none_begins old new leaves.idle
+by_dumper_outcome old new (reply.Merged serial) leaves = absurd (let no : Dumper ≡ Merger = leaves.0 in cc)
+by_dumper_outcome old new (reply.Refused refusal.Einval) leaves = absurd leaves
+by_dumper_outcome old new (reply.Refused refusal.Enomem) leaves = absurd leaves
+by_dumper_outcome old new (reply.Refused refusal.NoSuchSpace) leaves = absurd leaves
+by_dumper_outcome old new (reply.Refused refusal.TooManySpaces) leaves = absurd leaves
+by_dumper_outcome old new (reply.Refused refusal.NoFrame) leaves = absurd leaves
+by_dumper_outcome old new (reply.Refused refusal.Frozen) leaves = absurd leaves
+by_dumper_outcome old new (reply.Refused refusal.JournalFull) leaves = absurd leaves
+by_dumper_outcome old new (reply.Refused refusal.OutOfMemory) leaves = absurd leaves
+by_dumper_outcome old new (reply.Refused refusal.UnsupportedValue) leaves = absurd leaves
+by_dumper_outcome old new (reply.Refused refusal.NotOpen) leaves = absurd leaves
+by_dumper_outcome old new (reply.Refused refusal.Busy) leaves = absurd leaves
+by_dumper_outcome old new (reply.Refused refusal.NoSlot) leaves = absurd leaves
+by_dumper_outcome old new (reply.Refused refusal.StoreDown) leaves = none_begins old new (leaves.idle Dumper)
+by_dumper_outcome old new (reply.Refused refusal.Idle) leaves = absurd leaves
+by_dumper_outcome old new (reply.Refused refusal.LastSpace) leaves = absurd leaves
+by_dumper_outcome old new (reply.Refused refusal.LockBusy) leaves = absurd leaves
+by_dumper_outcome old new (reply.Refused refusal.NumbersUsed) leaves = absurd leaves
+by_dumper_outcome old new (reply.Refused refusal.Damaged) leaves = absurd leaves
+by_dumper_outcome old new (reply.Refused refusal.Device) leaves = absurd leaves
+
+-- ---- a step of a worker, and an outcome
+
+-- another worker's call leaves the dumper
+others_dumper : (worker : Worker) (old new : CoreView) → LeavesOthers worker old new → worker ≢ Dumper → new.dumper ≡ old.dumper
+others_dumper Dumper old new others other = absurd (other refl)
+others_dumper Merger old new others other = others.0
+others_dumper Opener old new others other = others.0
+
+step_number : (old new : CoreView) (worker : Worker) (taken : Taken) → Leaves old worker taken new → LeavesOthers worker old new → KeepsNumber old new
+step_number old new Merger taken leaves others = same_dumper old new others.0
+step_number old new Opener taken leaves others = same_dumper old new others.0
+step_number old new Dumper (Step answer) leaves others = by_dumper_step old new answer leaves
+step_number old new Dumper (Call request) leaves others = same_job old new leaves.job
+
+taken_number : (old new : CoreView) (worker : Worker) (taken : Taken) → IsTakenUp worker old taken new → KeepsNumber old new
+taken_number old new worker taken up = by (work_refusal old worker) refl
+  where
+    by : (o : Option Refusal) → work_refusal old worker ≡ o → KeepsNumber old new
+    by None is = step_number old new worker taken (up.leaves is) up.beside.others
+    by (Some why) is = same_core old new (up.refused why is).1
+
+done_number : (old new : CoreView) (worker : Worker) (answer : Reply) → LeavesByOutcome old worker answer new → LeavesOthers worker old new
+    → KeepsNumber old new
+done_number old new Dumper answer leaves others = by_dumper_outcome old new answer leaves
+done_number old new Merger answer leaves others = same_dumper old new others.0
+done_number old new Opener answer leaves others = same_dumper old new others.0
+
+out_number : (old new : CoreView) (made : Made) (answer : Reply) → IsHandedIn made answer old new → IsOut old made.request.id → KeepsNumber old new
+out_number old new made answer handed out = by (is_done made.answer) refl
+  where
+    worker : Worker
+    worker = made.request.id.worker
+
+    by : (b : Bool) → is_done made.answer ≡ b → KeepsNumber old new
+    by true is = done_number old new worker answer (handed.leaves out) ((handed.beside out).others is)
+    by false is = let fallen : HasFallen old worker new =
+        subst (λ a. LeavesByOutcome old worker a new) (handed.failed out is) (handed.leaves out) in none_begins old new (fallen.idle Dumper)
+
+-- a request is out, or it isn't: which, need not be known
+number_or : (o : Option ℕ) (n : ℕ) → (o ≡ Some n) ⊎ (o ≢ Some n)
+number_or None n = inr (λ is. absurd (let no : (let none : Option ℕ = None in none ≡ Some n) = is in cc))
+number_or (Some m) n = elim (cases_eq m n) [
+  | inl same ↦ inl (ap Some same)
+  | inr other ↦ inr (λ is. other (own m is))
+]
+  where
+    own : (m : ℕ) → Some m ≡ Some n → m ≡ n
+    own m is = cc
+
+handed_number : (old new : CoreView) (made : Made) (answer : Reply) → IsHandedIn made answer old new → KeepsNumber old new
+handed_number old new made answer handed n is = elim (number_or (running_number old.dumper.running) n) [
+  | inl same ↦ same
+  | inr other ↦ same_core old new (handed.strange (λ out. other (out_number old new made answer handed out n is))).1 n is
+]
+
+-- ---- the order to begin
+
+begins_as : (old : CoreView) (rounds : ℕ) (answer : Reply) (new : CoreView) → BeginsAs old rounds answer new → NumberGoes (Begin rounds) answer old new
+begins_as old rounds reply.Done new begins = absurd begins
+begins_as old rounds (reply.Bytes bytes) new begins = absurd begins
+begins_as old rounds (reply.Child space) new begins = absurd begins
+begins_as old rounds reply.NeedsFault new begins = absurd begins
+begins_as old rounds (reply.Segv why) new begins = absurd begins
+begins_as old rounds (reply.Begun n) new begins = λ m is. sym (ap running_number begins.running) ∙ is
+begins_as old rounds reply.Worked new begins = absurd begins
+begins_as old rounds (reply.Acked n) new begins = absurd begins
+begins_as old rounds (reply.Cancelled n) new begins = absurd begins
+begins_as old rounds (reply.Merged serial) new begins = absurd begins
+begins_as old rounds (reply.Trimmed count) new begins = absurd begins
+begins_as old rounds (reply.Reopened m) new begins = absurd begins
+begins_as old rounds (reply.Refused refusal.Einval) new begins = absurd begins
+begins_as old rounds (reply.Refused refusal.Enomem) new begins = absurd begins
+begins_as old rounds (reply.Refused refusal.NoSuchSpace) new begins = absurd begins
+begins_as old rounds (reply.Refused refusal.TooManySpaces) new begins = absurd begins
+begins_as old rounds (reply.Refused refusal.NoFrame) new begins = absurd begins
+begins_as old rounds (reply.Refused refusal.Frozen) new begins = absurd begins
+begins_as old rounds (reply.Refused refusal.JournalFull) new begins = absurd begins
+begins_as old rounds (reply.Refused refusal.OutOfMemory) new begins = same_core old new begins
+begins_as old rounds (reply.Refused refusal.UnsupportedValue) new begins = absurd begins
+begins_as old rounds (reply.Refused refusal.NotOpen) new begins = absurd begins
+begins_as old rounds (reply.Refused refusal.Busy) new begins = absurd begins
+begins_as old rounds (reply.Refused refusal.NoSlot) new begins = same_core old new begins.1
+begins_as old rounds (reply.Refused refusal.StoreDown) new begins = absurd begins
+begins_as old rounds (reply.Refused refusal.Idle) new begins = absurd begins
+begins_as old rounds (reply.Refused refusal.LastSpace) new begins = absurd begins
+begins_as old rounds (reply.Refused refusal.LockBusy) new begins = absurd begins
+begins_as old rounds (reply.Refused refusal.NumbersUsed) new begins = absurd begins
+begins_as old rounds (reply.Refused refusal.Damaged) new begins = absurd begins
+begins_as old rounds (reply.Refused refusal.Device) new begins = absurd begins
+
+begin_number : (old : CoreView) (rounds : ℕ) (answer : Reply) (new : CoreView)
+    → ((why : Refusal) → begin_refusal old rounds ≡ Some why → (answer ≡ reply.Refused why) × (new ≡ old))
+    → (begin_refusal old rounds ≡ None → BeginsAs old rounds answer new) → NumberGoes (Begin rounds) answer old new
+begin_number old rounds answer new refused begins = by (begin_refusal old rounds) refl
+  where
+    by : (o : Option Refusal) → begin_refusal old rounds ≡ o → NumberGoes (Begin rounds) answer old new
+    by None is = begins_as old rounds answer new (begins is)
+    by (Some why) is = let r = refused why is in subst (λ a. NumberGoes (Begin rounds) a old new) (sym r.0) (same_core old new r.1)
+
+-- ---- the order to merge
+
+merges_as : (old : CoreView) (answer : Reply) (new : CoreView) → MergesAs old answer new → KeepsNumber old new
+merges_as old reply.Done new merges = absurd merges
+merges_as old (reply.Bytes bytes) new merges = absurd merges
+merges_as old (reply.Child space) new merges = absurd merges
+merges_as old reply.NeedsFault new merges = absurd merges
+merges_as old (reply.Segv why) new merges = absurd merges
+merges_as old (reply.Begun n) new merges = absurd merges
+merges_as old reply.Worked new merges = same_dumper old new merges.dumper
+merges_as old (reply.Acked n) new merges = absurd merges
+merges_as old (reply.Cancelled n) new merges = absurd merges
+merges_as old (reply.Merged serial) new merges = absurd merges
+merges_as old (reply.Trimmed count) new merges = absurd merges
+merges_as old (reply.Reopened m) new merges = absurd merges
+merges_as old (reply.Refused refusal.Einval) new merges = absurd merges
+merges_as old (reply.Refused refusal.Enomem) new merges = absurd merges
+merges_as old (reply.Refused refusal.NoSuchSpace) new merges = absurd merges
+merges_as old (reply.Refused refusal.TooManySpaces) new merges = absurd merges
+merges_as old (reply.Refused refusal.NoFrame) new merges = absurd merges
+merges_as old (reply.Refused refusal.Frozen) new merges = absurd merges
+merges_as old (reply.Refused refusal.JournalFull) new merges = absurd merges
+merges_as old (reply.Refused refusal.OutOfMemory) new merges = same_core old new merges
+merges_as old (reply.Refused refusal.UnsupportedValue) new merges = absurd merges
+merges_as old (reply.Refused refusal.NotOpen) new merges = absurd merges
+merges_as old (reply.Refused refusal.Busy) new merges = absurd merges
+merges_as old (reply.Refused refusal.NoSlot) new merges = same_core old new merges.1
+merges_as old (reply.Refused refusal.StoreDown) new merges = absurd merges
+merges_as old (reply.Refused refusal.Idle) new merges = absurd merges
+merges_as old (reply.Refused refusal.LastSpace) new merges = absurd merges
+merges_as old (reply.Refused refusal.LockBusy) new merges = absurd merges
+merges_as old (reply.Refused refusal.NumbersUsed) new merges = absurd merges
+merges_as old (reply.Refused refusal.Damaged) new merges = absurd merges
+merges_as old (reply.Refused refusal.Device) new merges = absurd merges
+
+merge_number : (old : CoreView) (answer : Reply) (new : CoreView)
+    → ((why : Refusal) → merge_refusal old ≡ Some why → (answer ≡ reply.Refused why) × (new ≡ old))
+    → (merge_refusal old ≡ None → MergesAs old answer new) → KeepsNumber old new
+merge_number old answer new refused merges = by (merge_refusal old) refl
+  where
+    by : (o : Option Refusal) → merge_refusal old ≡ o → KeepsNumber old new
+    by None is = merges_as old answer new (merges is)
+    by (Some why) is = same_core old new (refused why is).1
+
+-- ---- the order to cancel
+
+cancel_number : (old : CoreView) (answer : Reply) (new : CoreView)
+    → ((why : Refusal) → cancel_refusal old ≡ Some why → (answer ≡ reply.Refused why) × (new ≡ old))
+    → (cancel_refusal old ≡ None → IsCancelled old answer new) → KeepsNumber old new
+cancel_number old answer new refused cancelled = by (cancel_refusal old) refl
+  where
+    by : (o : Option Refusal) → cancel_refusal old ≡ o → KeepsNumber old new
+    by None is = none_begins old new (ap is_none (cancelled is).idle)
+    by (Some why) is = same_core old new (refused why is).1
+
+-- ---- the order to trim
+
+trim_number : (old : CoreView) (answer : Reply) (new : CoreView) → TrimsJournal old answer new → KeepsNumber old new
+trim_number old answer new trims = elim (trim_cases old answer new trims) [
+  | inl gone ↦ same_dumper old new (ap (λ (c : CoreView). c.dumper) gone.is)
+  | inr all ↦ same_core old new all.is
+]
+
+-- ---- all events
+
+module _ {D : Type 0} (g : Ghosts D) where
+  takes_number : (worker : Worker) (old new : WorldView D) (answer : Reply) → TakesUp worker old.core old.kept answer new.core new.kept
+      → KeepsNumber old.core new.core
+  takes_number worker old new answer (TakesUp.step taken left) = taken_number old.core new.core worker (Step answer) taken
+  takes_number worker old new answer (TakesUp.call request taken left worked) = taken_number old.core new.core worker (Call request) taken
+
+  works_number : (worker : Worker) (old new : WorldView D) (answer : Reply) → Works worker old.core old.kept answer new.core new.kept
+      → KeepsNumber old.core new.core
+  works_number worker old new answer (Works.hands_in hands) = handed_number old.core new.core hands.made answer hands.hands.does
+  works_number worker old new answer (Works.takes_up none takes) = takes_number worker old new answer takes
+
+  hands_number : (worker : Worker) (place : ℕ) (old new : WorldView D) (answer : Reply)
+      → HandsInIfAny worker place old.core old.kept answer new.core new.kept → KeepsNumber old.core new.core
+  hands_number worker place old new answer (HandsInIfAny.hands_in hands) = handed_number old.core new.core hands.made answer hands.hands.does
+  hands_number worker place old new answer (HandsInIfAny.none none idle) = same_core old.core new.core idle.core
+
+  pub number_goes : (event : Event) (old : WorldView D) (answer : Reply) (new : WorldView D) → Does g event old answer new
+      → NumberGoes event answer old.core new.core
+  number_goes (CommandEvent seat command) old answer new does = same_dumper old.core new.core does.applied.job
+  number_goes (Begin rounds) old answer new does = begin_number old.core rounds answer new.core does.1.refused does.1.begins
+  number_goes (Work worker) old answer new does = works_number worker old new answer does.works
+  number_goes (TakeUp worker) old answer new does = takes_number worker old new answer does.takes
+  number_goes (HandInAt worker place) old answer new does = hands_number worker place old new answer does.hands
+  number_goes (Perform worker) old answer new does = same_core old.core new.core does.core
+  number_goes (PerformAt worker place) old answer new does = same_core old.core new.core does.core
+  number_goes Merge old answer new does = merge_number old.core answer new.core does.1.refused does.1.merges
+  number_goes Cancel old answer new does = cancel_number old.core answer new.core does.1.refused does.1.cancelled
+  number_goes Reopen old answer new does = same_dumper old.core new.core does.1.beside.others.0
+  number_goes Trim old answer new does = trim_number old.core answer new.core does.trims

@@ -1,0 +1,327 @@
+-- From each point at which a world stands a step goes to one at which it stands then.
+use Rattle.std.proofs.Common.{◌≡◌, ◌≢◌, ◌⊎◌, ℕ, List, [], ◌∷◌, ◌++◌, Option, Some, None, refl, sym, ◌∙◌, ap, subst, inl, inr}
+use Rattle.std.proofs.lemmas.List.{append_assoc}
+use Rattle.sd_command.specs.declared.command.Command.{Command}
+use Rattle.sd_command.specs.declared.refusal.Refusal.{Refusal}
+use Rattle.sd_command.specs.declared.refusal.Refusal.TheVariants as refusal
+use Rattle.sd_command.specs.declared.reply.Reply.{Reply}
+use Rattle.sd_command.specs.declared.reply.Reply.TheVariants as reply
+use Rattle.sd_disk.specs.Spans.{LeavesOnly, span_widened}
+use Rattle.sd_disk.specs.declared.disk.Disk.{Ghosts}
+use Rattle.sd_gate.specs.declared.worker.Worker.{Worker}
+use Rattle.sd_journal.specs.declared.entry.Entry.TheVariants.{Applied, Freeze}
+use Rattle.sd_journal.specs.History.{Base, History, at_freeze}
+use Rattle.sd_journal.specs.Legal.{IsLegal}
+use Rattle.sd_journal.specs.Marked.{Marked, Noted, Told, entries_of}
+use Rattle.sd_journal.specs.Trimming.{TrimLaws}
+use Rattle.sd_belief.specs.Calls.{AddsByCancel, AddsByOrder, IsJournaled, IsUnjournaled, running_number}
+use Rattle.sd_belief.specs.Shown.{ShowsAllowed}
+use Rattle.sd_belief.specs.View.{CoreView, history_of}
+use Rattle.sd_world.specs.declared.event.Event.{Event}
+use Rattle.sd_world.specs.declared.event.Event.TheVariants.{Command as CommandEvent, Begin, Work, TakeUp, HandInAt, Perform, PerformAt, Merge, Cancel, Reopen, Trim}
+use Rattle.sd_world.specs.Adds.{Adds, AddsByCommand, AddsByPerform, AddsByWork}
+use Rattle.sd_world.specs.Points.{Folds, PointsFollow, StandsAt}
+use Rattle.sd_world.specs.Promise.{AddsByReply, AddsCancelled, AddsCommand, AddsEntry, Goes, Point, begun_after}
+use Rattle.sd_world.specs.Runs.{IsStep, Runs}
+use Rattle.sd_world.specs.Steps.{Does}
+use Rattle.sd_world.specs.Trims.{TrimsJournal}
+use Rattle.sd_world.specs.View.{WorldView}
+use Rattle.sd_world.proofs.FoldLemmas.{fresh_back, legal_behind, shows_back, told_back}
+use Rattle.sd_world.proofs.NumberLemmas.{number_goes}
+use Rattle.sd_world.proofs.ReplyLemmas.{marked_legal}
+use Rattle.sd_world.proofs.TrimLemmas.{trim_cases}
+
+-- ---- what an event adds to the entries of a core, it adds to those of the whole run
+
+module _ (old new gone : History) where
+  adds_order : (answer : Reply) → AddsByOrder answer old new → new ++ gone ≡ old ++ gone
+  adds_order reply.Done adds = absurd adds
+  adds_order (reply.Bytes bytes) adds = absurd adds
+  adds_order (reply.Child space) adds = absurd adds
+  adds_order reply.NeedsFault adds = absurd adds
+  adds_order (reply.Segv why) adds = absurd adds
+  adds_order (reply.Begun n) adds = ap (λ h. h ++ gone) adds
+  adds_order reply.Worked adds = ap (λ h. h ++ gone) adds
+  adds_order (reply.Acked n) adds = absurd adds
+  adds_order (reply.Cancelled n) adds = absurd adds
+  adds_order (reply.Merged serial) adds = absurd adds
+  adds_order (reply.Trimmed count) adds = absurd adds
+  adds_order (reply.Reopened m) adds = absurd adds
+  adds_order (reply.Refused why) adds = ap (λ h. h ++ gone) adds
+
+  adds_perform : (answer : Reply) → AddsByPerform answer old new → new ++ gone ≡ old ++ gone
+  adds_perform reply.Done adds = absurd adds
+  adds_perform (reply.Bytes bytes) adds = absurd adds
+  adds_perform (reply.Child space) adds = absurd adds
+  adds_perform reply.NeedsFault adds = absurd adds
+  adds_perform (reply.Segv why) adds = absurd adds
+  adds_perform (reply.Begun n) adds = absurd adds
+  adds_perform reply.Worked adds = ap (λ h. h ++ gone) adds
+  adds_perform (reply.Acked n) adds = absurd adds
+  adds_perform (reply.Cancelled n) adds = absurd adds
+  adds_perform (reply.Merged serial) adds = absurd adds
+  adds_perform (reply.Trimmed count) adds = absurd adds
+  adds_perform (reply.Reopened m) adds = absurd adds
+  adds_perform (reply.Refused why) adds = ap (λ h. h ++ gone) adds
+
+  adds_cancel : (answer : Reply) → AddsByCancel answer old new → AddsCancelled answer (old ++ gone) (new ++ gone)
+  adds_cancel reply.Done adds = absurd adds
+  adds_cancel (reply.Bytes bytes) adds = absurd adds
+  adds_cancel (reply.Child space) adds = absurd adds
+  adds_cancel reply.NeedsFault adds = absurd adds
+  adds_cancel (reply.Segv why) adds = absurd adds
+  adds_cancel (reply.Begun n) adds = absurd adds
+  adds_cancel reply.Worked adds = absurd adds
+  adds_cancel (reply.Acked n) adds = absurd adds
+  adds_cancel (reply.Cancelled n) adds = ap (λ h. h ++ gone) adds
+  adds_cancel (reply.Merged serial) adds = absurd adds
+  adds_cancel (reply.Trimmed count) adds = absurd adds
+  adds_cancel (reply.Reopened m) adds = absurd adds
+  adds_cancel (reply.Refused why) adds = ap (λ h. h ++ gone) adds
+
+  adds_work : (worker : Worker) (core : CoreView) (base : Base) (begun : Option ℕ) (answer : Reply)
+      → ((n : ℕ) → running_number core.dumper.running ≡ Some n → begun ≡ Some n)
+      → ((n : ℕ) → new ≡ Freeze n ∷ old → at_freeze base (old ++ gone) n ≡ None)
+      → AddsByWork worker core answer old new → AddsByReply answer base begun (old ++ gone) (new ++ gone)
+  adds_work worker core base begun reply.Done last fresh adds = absurd adds
+  adds_work worker core base begun (reply.Bytes bytes) last fresh adds = absurd adds
+  adds_work worker core base begun (reply.Child space) last fresh adds = absurd adds
+  adds_work worker core base begun reply.NeedsFault last fresh adds = absurd adds
+  adds_work worker core base begun (reply.Segv why) last fresh adds = absurd adds
+  adds_work worker core base begun (reply.Begun n) last fresh adds = absurd adds
+  adds_work worker core base begun reply.Worked last fresh adds = elim adds [
+    | inl same ↦ inl (ap (λ h. h ++ gone) same)
+    | inr freeze ↦ inr (record {
+      number = freeze.0;
+      last = last freeze.0 freeze.1.number;
+      fresh = fresh freeze.0 freeze.2;
+      entry = ap (λ h. h ++ gone) freeze.2;
+    })
+  ]
+  adds_work worker core base begun (reply.Acked n) last fresh adds = ap (λ h. h ++ gone) adds.1
+  adds_work worker core base begun (reply.Cancelled n) last fresh adds = absurd adds
+  adds_work worker core base begun (reply.Merged serial) last fresh adds = ap (λ h. h ++ gone) adds
+  adds_work worker core base begun (reply.Trimmed count) last fresh adds = absurd adds
+  adds_work worker core base begun (reply.Reopened m) last fresh adds = ap (λ h. h ++ gone) adds.1
+  adds_work worker core base begun (reply.Refused why) last fresh adds = ap (λ h. h ++ gone) adds
+
+  journaled : (seat : ℕ) (command : Command) (answer : Reply) → IsJournaled answer → new ≡ Applied seat command answer ∷ old
+      → AddsCommand seat command answer (old ++ gone) (new ++ gone)
+  journaled seat command reply.Done is adds = ap (λ h. h ++ gone) adds
+  journaled seat command (reply.Bytes bytes) is adds = ap (λ h. h ++ gone) adds
+  journaled seat command (reply.Child space) is adds = ap (λ h. h ++ gone) adds
+  journaled seat command reply.NeedsFault is adds = ap (λ h. h ++ gone) adds
+  journaled seat command (reply.Segv why) is adds = ap (λ h. h ++ gone) adds
+  journaled seat command (reply.Begun n) is adds = ap (λ h. h ++ gone) adds
+  journaled seat command reply.Worked is adds = ap (λ h. h ++ gone) adds
+  journaled seat command (reply.Acked n) is adds = ap (λ h. h ++ gone) adds
+  journaled seat command (reply.Cancelled n) is adds = ap (λ h. h ++ gone) adds
+  journaled seat command (reply.Merged serial) is adds = ap (λ h. h ++ gone) adds
+  journaled seat command (reply.Trimmed count) is adds = ap (λ h. h ++ gone) adds
+  journaled seat command (reply.Reopened m) is adds = ap (λ h. h ++ gone) adds
+  journaled seat command (reply.Refused refusal.Einval) is adds = ap (λ h. h ++ gone) adds
+  journaled seat command (reply.Refused refusal.Enomem) is adds = ap (λ h. h ++ gone) adds
+  journaled seat command (reply.Refused refusal.NoSuchSpace) is adds = ap (λ h. h ++ gone) adds
+  journaled seat command (reply.Refused refusal.TooManySpaces) is adds = ap (λ h. h ++ gone) adds
+  journaled seat command (reply.Refused refusal.NoFrame) is adds = ap (λ h. h ++ gone) adds
+  journaled seat command (reply.Refused refusal.Frozen) is adds = ap (λ h. h ++ gone) adds
+  journaled seat command (reply.Refused refusal.JournalFull) is adds = absurd is
+  journaled seat command (reply.Refused refusal.OutOfMemory) is adds = absurd is
+  journaled seat command (reply.Refused refusal.UnsupportedValue) is adds = ap (λ h. h ++ gone) adds
+  journaled seat command (reply.Refused refusal.NotOpen) is adds = ap (λ h. h ++ gone) adds
+  journaled seat command (reply.Refused refusal.Busy) is adds = ap (λ h. h ++ gone) adds
+  journaled seat command (reply.Refused refusal.NoSlot) is adds = ap (λ h. h ++ gone) adds
+  journaled seat command (reply.Refused refusal.StoreDown) is adds = ap (λ h. h ++ gone) adds
+  journaled seat command (reply.Refused refusal.Idle) is adds = ap (λ h. h ++ gone) adds
+  journaled seat command (reply.Refused refusal.LastSpace) is adds = ap (λ h. h ++ gone) adds
+  journaled seat command (reply.Refused refusal.LockBusy) is adds = ap (λ h. h ++ gone) adds
+  journaled seat command (reply.Refused refusal.NumbersUsed) is adds = ap (λ h. h ++ gone) adds
+  journaled seat command (reply.Refused refusal.Damaged) is adds = ap (λ h. h ++ gone) adds
+  journaled seat command (reply.Refused refusal.Device) is adds = ap (λ h. h ++ gone) adds
+
+  unjournaled : (seat : ℕ) (command : Command) (why : Refusal) → IsUnjournaled why → new ≡ old
+      → AddsCommand seat command (reply.Refused why) (old ++ gone) (new ++ gone)
+  unjournaled seat command why either same = elim either [
+    | inl full ↦ subst (λ w. AddsCommand seat command (reply.Refused w) (old ++ gone) (new ++ gone)) (sym full) (ap (λ h. h ++ gone) same)
+    | inr memory ↦ subst (λ w. AddsCommand seat command (reply.Refused w) (old ++ gone) (new ++ gone)) (sym memory) (ap (λ h. h ++ gone) same)
+  ]
+
+  adds_command : (seat : ℕ) (command : Command) (answer : Reply) → AddsByCommand seat command answer old new
+      → AddsCommand seat command answer (old ++ gone) (new ++ gone)
+  adds_command seat command answer adds = elim adds [
+    | inl (is, added) ↦ journaled seat command answer is added
+    | inr (is, same) ↦ subst (λ a. AddsCommand seat command a (old ++ gone) (new ++ gone)) (sym is.is) (unjournaled seat command is.why is.either same)
+  ]
+
+adds_entry : (event : Event) (answer : Reply) (old new : CoreView) (base : Base) (begun : Option ℕ) (gone : History) → event ≢ Trim
+    → ((n : ℕ) → running_number old.dumper.running ≡ Some n → begun ≡ Some n)
+    → ((n : ℕ) → history_of new ≡ Freeze n ∷ history_of old → at_freeze base (history_of old ++ gone) n ≡ None)
+    → Adds event answer old new → AddsEntry event answer base begun (history_of old ++ gone) (history_of new ++ gone)
+adds_entry (CommandEvent seat command) answer old new base begun gone other last fresh adds = adds_command (history_of old) (history_of new) gone seat command answer adds
+adds_entry (Begin rounds) answer old new base begun gone other last fresh adds = adds_order (history_of old) (history_of new) gone answer adds
+adds_entry (Work worker) answer old new base begun gone other last fresh adds = adds_work (history_of old) (history_of new) gone worker old base begun answer last fresh adds
+adds_entry (TakeUp worker) answer old new base begun gone other last fresh adds = adds_work (history_of old) (history_of new) gone worker old base begun answer last fresh adds
+adds_entry (HandInAt worker place) answer old new base begun gone other last fresh adds = adds_work (history_of old) (history_of new) gone worker old base begun answer last fresh adds
+adds_entry (Perform worker) answer old new base begun gone other last fresh adds = adds_perform (history_of old) (history_of new) gone answer adds
+adds_entry (PerformAt worker place) answer old new base begun gone other last fresh adds = adds_perform (history_of old) (history_of new) gone answer adds
+adds_entry Merge answer old new base begun gone other last fresh adds = adds_order (history_of old) (history_of new) gone answer adds
+adds_entry Cancel answer old new base begun gone other last fresh adds = adds_cancel (history_of old) (history_of new) gone answer adds
+adds_entry Reopen answer old new base begun gone other last fresh adds = adds_order (history_of old) (history_of new) gone answer adds
+adds_entry Trim answer old new base begun gone other last fresh adds = absurd (other refl)
+
+-- ---- the number that was begun last
+
+begins_so : (answer : Reply) (rounds : ℕ) (one other : Option ℕ) → ((n : ℕ) → one ≡ Some n → other ≡ Some n)
+    → (n : ℕ) → begun_after (Begin rounds) answer one ≡ Some n → begun_after (Begin rounds) answer other ≡ Some n
+begins_so reply.Done rounds one other so k is = so k is
+begins_so (reply.Bytes bytes) rounds one other so k is = so k is
+begins_so (reply.Child space) rounds one other so k is = so k is
+begins_so reply.NeedsFault rounds one other so k is = so k is
+begins_so (reply.Segv why) rounds one other so k is = so k is
+begins_so (reply.Begun n) rounds one other so k is = is
+begins_so reply.Worked rounds one other so k is = so k is
+begins_so (reply.Acked n) rounds one other so k is = so k is
+begins_so (reply.Cancelled n) rounds one other so k is = so k is
+begins_so (reply.Merged serial) rounds one other so k is = so k is
+begins_so (reply.Trimmed count) rounds one other so k is = so k is
+begins_so (reply.Reopened m) rounds one other so k is = so k is
+begins_so (reply.Refused why) rounds one other so k is = so k is
+
+begun_so : (event : Event) (answer : Reply) (one other : Option ℕ) → ((n : ℕ) → one ≡ Some n → other ≡ Some n)
+    → (n : ℕ) → begun_after event answer one ≡ Some n → begun_after event answer other ≡ Some n
+begun_so (CommandEvent seat command) answer one other so n is = so n is
+begun_so (Begin rounds) answer one other so n is = begins_so answer rounds one other so n is
+begun_so (Work worker) answer one other so n is = so n is
+begun_so (TakeUp worker) answer one other so n is = so n is
+begun_so (HandInAt worker place) answer one other so n is = so n is
+begun_so (Perform worker) answer one other so n is = so n is
+begun_so (PerformAt worker place) answer one other so n is = so n is
+begun_so Merge answer one other so n is = so n is
+begun_so Cancel answer one other so n is = so n is
+begun_so Reopen answer one other so n is = so n is
+begun_so Trim answer one other so n is = so n is
+
+-- ---- what a trim folds
+
+-- what is gone behind an event, with the entries that are left then
+record Went (event : Event) (answer : Reply) (begun : Option ℕ) (base : Base) (before : History) (new : CoreView) : Type 0 where
+  pub gone : History
+  pub folds : Folds base gone new.base
+  pub adds : AddsEntry event answer base begun before (history_of new ++ gone)
+
+both : (kept front : Marked) → entries_of (kept ++ front) ≡ entries_of kept ++ entries_of front
+both [] front = refl
+both (Told entry ∷ kept) front = ap (λ h. entry ∷ h) (both kept front)
+both (Noted mark ∷ kept) front = both kept front
+
+went_by_trim : (answer : Reply) (begun : Option ℕ) (old new : CoreView) (base : Base) (gone : History) → Folds base gone old.base
+    → IsLegal old.base (history_of old) → TrimsJournal old answer new → Went Trim answer begun base (history_of old ++ gone) new
+went_by_trim answer begun old new base gone folds legal trims = elim (trim_cases old answer new trims) [
+  | inl it ↦ let parts = ap entries_of it.parts ∙ both it.kept it.front in record {
+    gone = entries_of it.front ++ gone;
+    folds = Folds.more _ _ old.base gone (entries_of it.front) it.n folds
+        (legal_behind old.base (entries_of it.kept) (entries_of it.front) (subst (IsLegal old.base) parts legal)) it.ended.ended refl
+        (ap (λ (c : CoreView). c.base) it.is);
+    adds = ap (λ (c : CoreView). history_of c ++ (entries_of it.front ++ gone)) it.is
+        ∙ sym (append_assoc (entries_of it.kept) (entries_of it.front) gone) ∙ ap (λ h. h ++ gone) (sym parts);
+  }
+  | inr all ↦ record {
+    gone = gone;
+    folds = subst (Folds base gone) (sym (ap (λ (c : CoreView). c.base) all.is)) folds;
+    adds = ap (λ (c : CoreView). history_of c ++ gone) all.is;
+  }
+]
+
+went_by_other : (event : Event) (answer : Reply) (begun : Option ℕ) (old new : CoreView) (base : Base) (gone : History) → event ≢ Trim
+    → Folds base gone old.base → new.base ≡ old.base → ((n : ℕ) → running_number old.dumper.running ≡ Some n → begun ≡ Some n)
+    → ((n : ℕ) → history_of new ≡ Freeze n ∷ history_of old → at_freeze base (history_of old ++ gone) n ≡ None)
+    → Adds event answer old new → Went event answer begun base (history_of old ++ gone) new
+went_by_other event answer begun old new base gone other folds same last fresh adds = record {
+  gone = gone;
+  folds = subst (Folds base gone) (sym same) folds;
+  adds = adds_entry event answer old new base begun gone other last fresh adds;
+}
+
+-- ---- all of it
+
+trims_of : {D : Type 0} (g : Ghosts D) (event : Event) (answer : Reply) (old new : WorldView D) → Does g event old answer new → event ≡ Trim
+    → TrimsJournal old.core answer new.core
+trims_of g event answer old new does is = (subst (λ e. Does g e old answer new) is does).trims
+
+no_trim : (event : Event) → (event ≡ Trim) ⊎ (event ≢ Trim)
+no_trim (CommandEvent seat command) = inr (λ is. absurd (let no : (CommandEvent seat command) ≡ Trim = is in cc))
+no_trim (Begin rounds) = inr (λ is. absurd (let no : (Begin rounds) ≡ Trim = is in cc))
+no_trim (Work worker) = inr (λ is. absurd (let no : (Work worker) ≡ Trim = is in cc))
+no_trim (TakeUp worker) = inr (λ is. absurd (let no : (TakeUp worker) ≡ Trim = is in cc))
+no_trim (HandInAt worker place) = inr (λ is. absurd (let no : (HandInAt worker place) ≡ Trim = is in cc))
+no_trim (Perform worker) = inr (λ is. absurd (let no : (Perform worker) ≡ Trim = is in cc))
+no_trim (PerformAt worker place) = inr (λ is. absurd (let no : (PerformAt worker place) ≡ Trim = is in cc))
+no_trim Merge = inr (λ is. absurd (let no : Merge ≡ Trim = is in cc))
+no_trim Cancel = inr (λ is. absurd (let no : Cancel ≡ Trim = is in cc))
+no_trim Reopen = inr (λ is. absurd (let no : Reopen ≡ Trim = is in cc))
+no_trim Trim = inl refl
+
+module _ (laws : TrimLaws) {D : Type 0} (g : Ghosts D) where
+  went : (event : Event) (old : WorldView D) (answer : Reply) (new : WorldView D) → IsStep g event old answer new → (first : Point D)
+      → (stands : StandsAt old first) → Went event answer first.begun first.base (history_of old.core ++ stands.gone) new.core
+  went event old answer new step first stands = elim (no_trim event) [
+    | inl is ↦ subst (λ e. Went e answer first.begun first.base (history_of old.core ++ stands.gone) new.core) (sym is)
+        (went_by_trim answer first.begun old.core new.core first.base stands.gone stands.folds stands.legal (trims_of g event answer old new step.does is))
+    | inr other ↦ went_by_other event answer first.begun old.core new.core first.base stands.gone other stands.folds (step.base other) stands.begun
+        (λ n is. fresh_back laws first.base stands.gone (history_of old.core) old.core.base n stands.folds
+        (subst (λ b. IsLegal b (Freeze n ∷ history_of old.core)) (step.base other)
+        (subst (IsLegal new.core.base) is (marked_legal new.core.base new.core.items step.tracked.marked)))) step.adds
+  ]
+
+  pub points_follow : PointsFollow g
+  points_follow event old answer new step honest first stands =
+      let w = went event old answer new step first stands in
+      let legal = marked_legal new.core.base new.core.items step.tracked.marked in
+      let last : Point D = record {
+        disk = new.disk;
+        base = first.base;
+        entries = history_of new.core ++ w.gone;
+        begun = begun_after event answer first.begun;
+      } in (
+        last,
+        record {
+          disk = refl;
+          gone = w.gone;
+          folds = w.folds;
+          entries = refl;
+          legal = legal;
+          begun = λ n is. begun_so event answer (running_number old.core.dumper.running) first.begun stands.begun n
+              (number_goes g event old answer new step.does n is);
+        },
+        record {
+          base = refl;
+          entries = subst (λ h. AddsEntry event answer first.base first.begun h (history_of new.core ++ w.gone)) (sym stands.entries) w.adds;
+          begun = refl;
+          any_moment = subst (λ d. LeavesOnly g d new.disk (ShowsAllowed first.base first.entries)) (sym stands.disk)
+              (subst (λ h. LeavesOnly g old.disk new.disk (ShowsAllowed first.base h)) (sym stands.entries)
+              (span_widened g old.disk new.disk (ShowsAllowed old.core.base (history_of old.core)) (ShowsAllowed first.base (history_of old.core ++ stands.gone))
+              (shows_back laws first.base stands.gone (history_of old.core) old.core.base stands.folds stands.legal) (step.any_moment honest)));
+          at_end = λ c may. shows_back laws first.base w.gone (history_of new.core) new.core.base w.folds legal c (step.at_end honest c may);
+          told = λ c may. told_back laws answer first.base w.gone (history_of new.core) new.core.base w.folds c (step.shows honest c may);
+        },
+      )
+
+-- ---- a list of events
+
+module _ {D : Type 0} (g : Ghosts D) (follow : PointsFollow g) where
+  runs_honest : (first last : WorldView D) (events : List Event) (answers : List Reply) → Runs g first events answers last → g.is_honest last.disk
+      → g.is_honest first.disk
+  runs_honest first last [] [] runs honest = subst (λ (w : WorldView D). g.is_honest w.disk) runs honest
+  runs_honest first last [] (a ∷ answers) runs honest = absurd runs
+  runs_honest first last (e ∷ events) [] runs honest = absurd runs
+  runs_honest first last (e ∷ events) (a ∷ answers) runs honest = runs.1.honest (runs_honest runs.0 last events answers runs.2 honest)
+
+  pub points_reached : (first last : WorldView D) (events : List Event) (answers : List Reply) → Runs g first events answers last → g.is_honest last.disk
+      → (from : Point D) → StandsAt first from → (to : Point D) × StandsAt last to × Goes g from events answers to
+  points_reached first last [] [] runs honest from stands = (from, subst (λ (w : WorldView D). StandsAt w from) (sym runs) stands, refl)
+  points_reached first last [] (a ∷ answers) runs honest from stands = absurd runs
+  points_reached first last (e ∷ events) [] runs honest from stands = absurd runs
+  points_reached first last (e ∷ events) (a ∷ answers) runs honest from stands =
+      let one = follow e first a runs.0 runs.1 (runs_honest runs.0 last events answers runs.2 honest) from stands in
+      let rest = points_reached runs.0 last events answers runs.2 honest one.0 one.1 in
+      (rest.0, rest.1, (one.0, one.2, rest.2))

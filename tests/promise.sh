@@ -1,0 +1,57 @@
+# docs/PROMISE.md and the README: what they quote, link to and list stands in the sources.
+
+sources=$(cd "$here/.." && pwd)
+headline=(sd_run run_lines promise so_far + sd_world restore_left restored)
+
+# Each definition that is quoted stands in the file that its block names, word for word.
+promise_quotes_the_definitions() {
+  command -v python3 > found || { echo "needs python3"; return 77; }
+  python3 - "$sources" << 'PYTHON'
+import re, sys
+from pathlib import Path
+
+top = Path(sys.argv[1])
+blocks = re.findall(r"^```antt (\S+)\n(.*?)\n```$", (top / "docs/PROMISE.md").read_text(), re.M | re.S)
+quotes = [(path, quote) for path, block in blocks for quote in block.split("\n\n")]
+wrong = [(path, quote) for path, quote in quotes if f"\n{quote}\n" not in (top / path).read_text()]
+for path, quote in wrong:
+    print(f"{path} has not:\n{quote}")
+sys.exit(1 if wrong or len(quotes) < 20 else 0)
+PYTHON
+}
+
+# The number of definitions behind the clauses is the one that the page tells, and at most 150.
+promise_is_small() {
+  command -v python3 > found || { echo "needs python3"; return 77; }
+  local told count
+  told=$(grep -oE '[0-9]+ definitions of [0-9]+ lines' "$sources/docs/PROMISE.md")
+  "$sources/docs/believe" "${headline[@]}" > counted || return 1
+  same "the count" "$(sed -E 's/^([0-9]+ definitions), ([0-9]+ lines).*/\1 of \2/' counted)" "$told" || return 1
+  count=${told%% *}
+  [ "$count" -le 150 ] || { echo "$count definitions"; return 1; }
+  [ "$(wc -l < "$sources/docs/PROMISE.md")" -le 300 ] || { echo "the page is too long"; return 1; }
+}
+
+# The README has the same number, and lists the definitions.
+readme_lists_what_is_believed() {
+  command -v python3 > found || { echo "needs python3"; return 77; }
+  local told row
+  told=$(grep -oE '[0-9]+ definitions of [0-9]+ lines' "$sources/docs/PROMISE.md")
+  has "the README" "$(cat "$sources/README.md")" "$told" || return 1
+  "$sources/docs/believe" --table "${headline[@]}" | grep '^| `' > rows
+  [ "$(wc -l < rows)" -ge 10 ] || { cat rows; return 1; }
+  while read -r row; do
+    grep -qxF "$row" "$sources/README.md" || { printf 'the README lacks\n%s\n' "$row"; return 1; }
+  done < rows
+}
+
+# Each link of the README leads to the line of its function or clause.
+readme_links_to_clauses() {
+  command -v python3 > found || { echo "needs python3"; return 77; }
+  "$sources/docs/links"
+}
+
+try promise_quotes_the_definitions
+try promise_is_small
+try readme_lists_what_is_believed
+try readme_links_to_clauses
