@@ -1,7 +1,6 @@
 -- What is promised of the run of a script, from how its world goes on.
-use Rattle.std.proofs.Common.{◌≡◌, ◌⊎◌, ℕ, Bool, true, false, List, [], ◌∷◌, ◌++◌, if◌then◌else◌, Option, Some, None, Result, OnOk, refl, sym, ◌∙◌, ap, subst, inl, inr}
+use Rattle.std.proofs.Common.{◌≡◌, ◌⊎◌, ℕ, Bool, true, false, List, [], ◌∷◌, ◌++◌, if◌then◌else◌, Option, Some, None, Result, IfOk, refl, sym, ◌∙◌, ap, subst, inl, inr}
 use Rattle.std.specs.List.{AllByRecursion}
-use Rattle.std.specs.Io.KnownBytes.{Appends}
 use Rattle.sd_command.specs.declared.reply.Reply.{Reply}
 use Rattle.sd_disk.specs.Reads.{OnlyReads}
 use Rattle.sd_disk.specs.declared.disk.Disk.{Ghosts}
@@ -14,7 +13,6 @@ use Rattle.sd_script.specs.declared.answer.Answer.{Answer}
 use Rattle.sd_script.specs.declared.answer.Answer.TheVariants as answer
 use Rattle.sd_script.specs.declared.line.Line.{Line}
 use Rattle.sd_script.specs.declared.line.Line.TheVariants as line
-use Rattle.sd_script.specs.Texts.{answer_line}
 use Rattle.sd_world.specs.declared.event.Event.{Event}
 use Rattle.sd_world.specs.declared.event.Event.TheVariants.{Command, Begin, Work, Perform, PerformAt, Merge, Cancel, Reopen, Trim}
 use Rattle.sd_world.specs.declared.kept.Kept.{Kept}
@@ -24,7 +22,7 @@ use Rattle.sd_world.specs.Runs.{IsStep}
 use Rattle.sd_world.specs.View.{WorldView, is_asked}
 use Rattle.sd_run.specs.Jobs.{Drives, IsJob, is_end, next_event}
 use Rattle.sd_run.specs.Lines.{AnswersLine, AnswersLines, script_seat}
-use Rattle.sd_run.specs.Promise.{AreOf, EndsJob, GoesByLine, GoesByLines, IsAnswer, Promise, PromiseSoFar, RunsLine, Starts, begins_with, worker_of}
+use Rattle.sd_run.specs.Promise.{AreOf, EndsJob, GoesByLine, GoesByLines, IsAnswer, Promise, PromiseSoFar, RunsLine, Starts, Tells, begins_with, worker_of}
 use Rattle.sd_run.specs.Whole.{IsLeft, IsOpened, IsPartOfRun, IsWholeRun}
 
 module _ {D : Type 0} (g : Ghosts D) (follow : PointsFollow g) where
@@ -185,12 +183,12 @@ module _ {D : Type 0} (g : Ghosts D) (follow : PointsFollow g) where
   line_reaches line.Reopen first last (answer.Reply r) answers honest =
       by_job line.Reopen (Reopen) Opener first last r refl refl (λ before. (before, r, refl, refl)) (λ ended. ended) answers honest
 
-  pub runs_line : {E : Type 0} (asked : Line) (first last : WorldView D) (given : Answer) (ended : Result Unit E) (before now : Option (List ℕ))
-      → AnswersLine g asked first given last → OnOk ended (Appends before now (answer_line given)) → g.is_honest last.disk
+  pub runs_line : {E : Type 0} (asked : Line) (first last : WorldView D) (given : Answer) (ended : Result Answer E) (before now : Option (List ℕ))
+      → AnswersLine g asked first given last → IfOk ended (Tells given before now) → g.is_honest last.disk
       → (from : Point D) → StandsAt first from → RunsLine g asked from last ended before now
-  runs_line asked first last given ended before now answers printed honest from stands =
+  runs_line asked first last given ended before now answers told honest from stands =
       let there = line_reaches asked first last given answers honest from stands in
-      record { last = there.0; stands = there.1; given = given; goes = there.2; printed = printed }
+      record { last = there.0; stands = there.1; given = given; goes = there.2; told = told }
 
   job_honest : (order : Event) (worker : Worker) (first last : WorldView D) (reply : Reply) → IsJob g order worker first reply last → g.is_honest last.disk
       → g.is_honest first.disk

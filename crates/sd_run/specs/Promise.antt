@@ -1,5 +1,5 @@
 -- What is promised of the run of a script: of its lines, their answers, what is printed, and the disk alone.
-use Rattle.std.specs.Prelude.{◌≡◌, ◌⊎◌, ℕ, true, List, [], ◌∷◌, ◌++◌, Option, Some, None, Result, OnOk}
+use Rattle.std.specs.Prelude.{◌≡◌, ◌⊎◌, ℕ, true, List, [], ◌∷◌, ◌++◌, Option, Some, None, Result, IfOk}
 use Rattle.std.specs.List.{AllByRecursion, flat_map}
 use Rattle.std.specs.Io.KnownBytes.{Appends}
 use Rattle.sd_command.specs.declared.reply.Reply.{Reply}
@@ -87,14 +87,18 @@ GoesByLines {D} g first (asked ∷ lines) (given ∷ answers) last =
 GoesByLines g first [] (given ∷ answers) last = ⊥
 GoesByLines g first (asked ∷ lines) [] last = ⊥
 
--- One line was answered, its answer printed where the writer took it, and the world stands at the point that the run came to.
-pub record RunsLine {D E : Type 0} (g : Ghosts D) (asked : Line) (first : Point D) (world : WorldView D) (ended : Result Unit E)
-    (before now : Option (List ℕ)) : Type 0 where
+-- an answer is returned, and its line printed behind what was
+abbrev pub Tells : Answer → Option (List ℕ) → Option (List ℕ) → Answer → Type 0
+Tells given before now told = (told ≡ given) × Appends before now (answer_line given)
+
+-- One line was answered, which was told where the writer took it, and the world stands at the point that the run came to.
+pub record RunsLine {D E : Type 0} (g : Ghosts D) (asked : Line) (first : Point D) (world : WorldView D)
+    (ended : Result Answer E) (before now : Option (List ℕ)) : Type 0 where
   pub last : Point D
   pub stands : StandsAt world last
   pub given : Answer
   pub goes : GoesByLine g asked first given last
-  pub printed : OnOk ended (Appends before now (answer_line given))
+  pub told : IfOk ended (Tells given before now)
 
 -- ---- from the disk that was opened to the one that is left
 

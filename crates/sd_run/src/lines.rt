@@ -1,5 +1,5 @@
 //! The lines of a script, answered by a world.
-ghost use Rattle.std.specs.Prelude.{◌∷◌, OnOk};
+ghost use Rattle.std.specs.Prelude.{◌∷◌, IfOk, OnOk};
 ghost use Rattle.std.specs.Io.KnownBytes.{Appends};
 ghost use Rattle.sd_script.specs.declared.line.Line.TheVariants as asked;
 ghost use Rattle.sd_script.specs.Texts.{answer_line};
@@ -7,7 +7,7 @@ ghost use Rattle.sd_world.specs.Points.{StandsAt};
 ghost use Rattle.sd_world.specs.Promise.{Point};
 ghost use Rattle.sd_run.specs.Goes.{GoesOn};
 ghost use Rattle.sd_run.specs.Lines.{AnswersLine};
-ghost use Rattle.sd_run.specs.Promise.{RunsLine};
+ghost use Rattle.sd_run.specs.Promise.{RunsLine, Tells};
 ghost use Rattle.sd_run.specs.Whole.{AnswersSome, PrintsLines};
 ghost use Rattle.sd_run.specs.Words.{AreGiven};
 
@@ -106,8 +106,9 @@ fn print_line<D: Disk, W: Write, S: Watch>(
     Ok(())
 }
 
-/// Answers one request of a run, and prints and flushes its answer, for a caller that has them one by one. The world is
-/// opened over [`FRAMES`](crate::FRAMES) frames, and its first request is `Line::Reopen`, as in `run_lines`.
+/// Answers one request of a run, and prints and flushes its answer, for a caller that has them one by one; returns the
+/// answer. The world is opened over [`FRAMES`](crate::FRAMES) frames, and its first request is `Line::Reopen`, as in
+/// `run_lines`.
 ///
 /// # Errors
 ///
@@ -118,17 +119,19 @@ pub fn run_line<D: Disk, W: Write, S: Watch>(
     line: Line,
     out: &mut W,
     watch: &mut S,
-) -> io::Result<()>
-    ensures printed { (given : Answer) × AnswersLine D.Disk line world.old given world.new
-        × OnOk result (Appends (W.contents out.old) (W.contents out.new) (answer_line given)) }
+) -> io::Result<Answer>
+    ensures answered { (given : Answer) × AnswersLine D.Disk line world.old given world.new
+        × IfOk result (Tells given (W.contents out.old) (W.contents out.new)) }
     ensures goes_on { GoesOn D.Disk world.old world.new }
     // The same of the line, its answer, what is printed and the disk alone, as in `run_lines`.
     ensures promise { D.is_honest world.new.disk → (first : Point D) → StandsAt world.old first
         → RunsLine D.Disk line first world.new result (W.contents out.old) (W.contents out.new) }
 {
     world.points_follow();
-    print_line(alloc, world, line, out, watch)?;
-    out.flush()
+    let told = answer(alloc, world, line, watch);
+    print_answer(&told, out)?;
+    out.flush()?;
+    Ok(told)
 }
 
 /// Answers one line after the other, and prints each answer.
