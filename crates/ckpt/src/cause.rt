@@ -1,10 +1,12 @@
 //! What stands behind a fixed line of the output, for a reader: one line on the standard error. Where that can't be
 //! printed, nothing is lost.
 
+use crate::strict::Failure;
 use memchr::{memchr, memchr_iter};
 use sd_disk::DirDisk;
-use sd_script::unfit_line;
+use sd_script::{print_answer, unfit_line};
 use std::fmt::Display;
+use std::str;
 
 /// Whether causes are told.
 #[derive(Clone, Copy, Debug, PartialEq, Eq)]
@@ -43,13 +45,33 @@ pub fn tell_line(
     }
 }
 
-/// A line of a script, without its end.
+/// Tells at which request a strict run ended: its line, and how it was answered.
+pub fn tell_failure(
+    rt: &(impl Eprint + AllocGlobal),
+    causes: Causes,
+    bytes: &[u8],
+    failure: &Failure,
+) {
+    let mut answer = Vec::new(rt.alloc());
+    if causes == Causes::Kept || print_answer(&failure.answer, &mut answer).is_err() {
+        return;
+    }
+    let line = line_of(bytes, failure.number).unwrap_or(b"reopen");
+    let (line, answer) = (str::from_utf8(line), str::from_utf8(&answer));
+    let _ = eprintln!(rt;
+        "script line {}: {}: {}",
+        failure.number,
+        line.unwrap_or(""),
+        answer.unwrap_or("").trim_end()
+    );
+}
+
+/// A line of a script, without its end. They are counted from 1.
 fn line_of(bytes: &[u8], number: usize) -> Option<&[u8]> {
-    let start = match number.checked_sub(2) {
-        Some(ends_before) => memchr_iter(b'\n', bytes)
-            .nth(ends_before)?
-            .saturating_add(1),
-        None => 0,
+    let start = match number {
+        0 => return None,
+        1 => 0,
+        _ => memchr_iter(b'\n', bytes).nth(number - 2)?.saturating_add(1),
     };
     let rest = bytes.get(start..)?;
     let length = memchr(b'\n', rest).unwrap_or(rest.len());

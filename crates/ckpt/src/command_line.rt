@@ -40,11 +40,12 @@ hexadecimal; empty lines and those that begin with # are skipped:
   perform-at WORKER K                 its device call at place K, from 0, of those that are out
   step WORKER N, finish WORKER        N of these events; all up to the end of its job
 
-Status: 0 at the end of the script, also where requests were refused; 1 where the store,
-its device, memory or the printing failed (damaged SSS WHY, device, out-of-memory,
-cannot open DIR, cannot read SCRIPT); 2 where a line of SCRIPT doesn't fit the language
-(script line N: nothing is run) or the command line doesn't; with --restore, 3 where the
-store shows no checkpoint afterwards.
+Status: 0 at the end of the script, also where requests were refused, but with --strict; 1
+where the store, its device, memory or the printing failed (damaged SSS WHY, device,
+out-of-memory, cannot open DIR, cannot read SCRIPT), and with --strict at the first request
+that is refused or answered segv; 2 where a line of SCRIPT doesn't fit the language (script
+line N: nothing is run) or the command line doesn't; with --restore, 3 where the store shows
+no checkpoint afterwards.
 
 Only one run at a time can have a store open.";
 
@@ -138,6 +139,14 @@ fn run<'a>(alloc: Global) -> Result<Command<'a>, Error> {
                 .long("restore")
                 .action(ArgAction::SetTrue)
                 .help("Prints afterwards what `restore` prints of the folder"),
+        )?
+        .arg(
+            Arg::new(alloc, "strict")
+                .long("strict")
+                .action(ArgAction::SetTrue)
+                .help(
+                    "Ends at the first request that is refused or answered segv, and tells its line on standard error: status 1",
+                ),
         )?
         .arg(quiet(
             alloc,

@@ -8,7 +8,7 @@ ghost use Rattle.sd_report.specs.Printed.{PrintsMemory};
 ghost use Rattle.sd_run.specs.Whole.{IsWholeRun};
 ghost use Rattle.ckpt.specs.Reading.{RunsAndRestores};
 
-use cause::{Causes, tell, tell_device, tell_line};
+use cause::{Causes, tell, tell_device, tell_failure, tell_line};
 use clap::ArgMatches;
 use progress::ProgressLine;
 use reading::read_store;
@@ -29,6 +29,7 @@ use std::thread::Threads;
 use std::time::{Clock, Duration};
 use std::{io, thread};
 use stop::{FAILED, Stop, UNFIT};
+use strict::run_strictly;
 
 mod cause;
 mod command_line;
@@ -38,6 +39,7 @@ mod progress_tests;
 mod reading;
 mod shell;
 mod stop;
+mod strict;
 
 /// How long a writer waits before each try to open a store, in milliseconds: a reader asks for its lock for a moment.
 const PAUSES: [u64; 4] = [0, 1, 5, 20];
@@ -94,25 +96,31 @@ fn disk_over(
     }
 }
 
-/// Reads and parses a script.
+/// Reads a script.
 fn read_script(
     rt: &(impl Files<File = File> + Eprint + AllocGlobal),
     causes: Causes,
     script: &str,
-) -> Result<Script, Stop> {
-    let bytes = match std::fs::read(rt, script) {
-        Ok(bytes) => bytes,
-        Err(error) if error.kind() == io::ErrorKind::OutOfMemory => {
-            return Err(Stop::Fault(Fault::OutOfMemory));
-        }
-        Err(error) => {
+) -> Result<Vec<u8>, Stop> {
+    std::fs::read(rt, script).map_err(|error| match error.kind() {
+        io::ErrorKind::OutOfMemory => Stop::Fault(Fault::OutOfMemory),
+        _ => {
             tell(rt, causes, script, &error);
-            return Err(Stop::CannotReadScript);
+            Stop::CannotReadScript
         }
-    };
-    let parsed = Script::parse(rt.alloc(), &bytes);
+    })
+}
+
+/// Parses a script.
+fn parse_script(
+    rt: &(impl Eprint + AllocGlobal),
+    causes: Causes,
+    script: &str,
+    bytes: &[u8],
+) -> Result<Script, Stop> {
+    let parsed = Script::parse(rt.alloc(), bytes);
     if let Err(ScriptError::Line(number)) = parsed {
-        tell_line(rt, causes, script, &bytes, number);
+        tell_line(rt, causes, script, bytes, number);
     }
     Ok(parsed?)
 }
@@ -163,6 +171,29 @@ fn causes_asked(words: &ArgMatches<'_>) -> Causes {
     }
 }
 
+/// Runs the lines of a script over a store up to the first that isn't answered as it was meant. With `restores` the memory
+/// that the store then shows is printed behind the answers.
+fn run_strict<W: Write, S: Watch>(
+    rt: &HostRuntime,
+    causes: Causes,
+    disk: DirDisk,
+    script: &[u8],
+    restores: bool,
+    out: &mut W,
+    watch: &mut S,
+) -> (DirDisk, Result<(), Stop>) {
+    let (disk, ended) = run_strictly(rt.alloc(), disk, script, out, watch);
+    match ended {
+        Ok(None) if restores => restore_over(rt.alloc(), disk, out),
+        Ok(None) => (disk, Ok(())),
+        Ok(Some(failure)) => {
+            tell_failure(rt, causes, script, &failure);
+            (disk, Err(Stop::Refused))
+        }
+        Err(stop) => (disk, Err(stop)),
+    }
+}
+
 /// `ckpt run`: a script that can't be taken makes no file.
 fn run_program<R: Clock + Wait, W: Write>(
     rt: &HostRuntime,
@@ -172,12 +203,18 @@ fn run_program<R: Clock + Wait, W: Write>(
 ) -> Result<(), Stop> {
     let folder = words.get_str("DIR").unwrap_or("");
     let causes = causes_asked(words);
-    let script = read_script(rt, causes, words.get_str("SCRIPT").unwrap_or(""))?;
+    let name = words.get_str("SCRIPT").unwrap_or("");
+    let bytes = read_script(rt, causes, name)?;
+    let script = parse_script(rt, causes, name, &bytes)?;
     let disk = make_store(rt, threads, causes, folder)?;
     let is_watched = causes == Causes::Told && rt.stderr().is_terminal();
     let mut watch = ProgressLine::new(rt, rt.stderr().lock(), is_watched);
     let restores = words.get_flag("restore");
-    let (disk, ended) = run_over(rt.alloc(), disk, script, restores, out, &mut watch);
+    let (disk, ended) = if words.get_flag("strict") {
+        run_strict(rt, causes, disk, &bytes, restores, out, &mut watch)
+    } else {
+        run_over(rt.alloc(), disk, script, restores, out, &mut watch)
+    };
     tell_device(rt, causes, folder, &disk);
     ended
 }

@@ -1,0 +1,38 @@
+# `run --strict`: a script ends at the first request that isn't answered as it was meant.
+
+strict_run_ends_at_a_refusal() {
+  printf '# a comment\nmmap 1 0x10000 4096 rw\ncancel\nstore 1 0x10000 68\n' > script
+  ends_with 1 "reopened none
+done
+refused 14 idle" "script line 3: cancel: refused 14 idle" "$ckpt" run --strict store script || return 1
+  ends_with 1 "reopened none
+done
+refused 14 idle" "" "$ckpt" run --strict --quiet store script || return 1
+  same "the status without it" "$(ends "$ckpt" run store script)" 0 || return 1
+  same "the last answer" "$(tail -n 1 out)" done
+}
+
+strict_run_ends_at_a_fault_of_memory() {
+  printf 'mmap 1 0x10000 4096 r\nstore 1 0x10000 68\ncheckpoint 0\n' > script
+  ends_with 1 "reopened none
+done
+segv accerr" "script line 2: store 1 0x10000 68: segv accerr" "$ckpt" run --strict --restore store script
+}
+
+strict_run_comes_to_its_end() {
+  "$ckpt" run --restore loose "$here/../examples/rounds.ckpt" > wanted || return 1
+  ends_with 0 "$(cat wanted)" "" "$ckpt" run --strict --restore strict "$here/../examples/rounds.ckpt" || return 1
+  same "the stores" "$(sums strict)" "$(sums loose)"
+}
+
+strict_run_takes_no_part_of_a_script() {
+  printf 'mmap 1 0x10000 4096 rw\nload 1\n' > script
+  same "the status" "$(ends "$ckpt" run --strict store script)" 2 || return 1
+  same "the output" "$(cat out)" "script line 2" || return 1
+  [ ! -e store ] || { echo "a store was made"; return 1; }
+}
+
+try strict_run_ends_at_a_refusal
+try strict_run_ends_at_a_fault_of_memory
+try strict_run_comes_to_its_end
+try strict_run_takes_no_part_of_a_script
