@@ -49,7 +49,8 @@ quiet_tells_no_cause() {
 }
 
 version_is_printed() {
-  has "the version" "$("$ckpt" --version)" "ckpt 0."
+  same "the version" "$("$ckpt" --version)" "ckpt $(sed -nE 's/^## ([0-9.]+),.*/\1/p' "$here/../docs/CHANGELOG.md" | head -n 1), writes images \
+of version 2 and reads 1 and 2, rattle-kit-13f"
 }
 
 unfit_line_is_explained() {

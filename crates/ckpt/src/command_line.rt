@@ -4,12 +4,15 @@ use clap::builder::ValueParser;
 use clap::{Arg, ArgAction, Command, Error};
 use std::alloc::Global;
 
-/// The version that `--version` prints.
-const VERSION: &str = "0.1";
+/// What `--version` prints: the version of the program, the images that it writes and reads, and the kit it is proved with.
+const VERSION: &str = "1.0.0, writes images of version 2 and reads 1 and 2, rattle-kit-13f";
 
 const DIR: &str = "The folder of a store, with the files img-000 to img-063";
 
-const SCRIPT: &str = "A file with one request a line";
+const SCRIPT: &str = "A file with one request a line; - is the standard input";
+
+const CHECK: &str =
+    "Only tells whether a script fits the language, and opens no folder: prints ok N requests";
 
 const LIMITS: &str =
     "Limits: 16 spaces, 1,024 areas of a space, 65,536 mapped pages of 4,096 bytes in all,
@@ -18,6 +21,7 @@ needs two free slots, and one more a round; a merge needs one. The cause of a fa
 
 const RUN: &str = "Example:
   ckpt run store examples/first.ckpt
+  ckpt run --check examples/first.ckpt
 
 Lines of SCRIPT, with fields separated by single spaces; numbers are decimal or 0x and
 hexadecimal; empty lines and those that begin with # are skipped:
@@ -122,32 +126,52 @@ fn dir<'a>(alloc: Global) -> Arg<'a> {
 
 /// The flag of a program that keeps the standard error empty.
 fn quiet<'a>(alloc: Global, help: &'a str) -> Arg<'a> {
-    Arg::new(alloc, "quiet")
-        .long("quiet")
+    flag(alloc, "quiet", help)
+}
+
+/// An option of `run` that is a flag.
+fn flag<'a>(alloc: Global, name: &'a str, help: &'a str) -> Arg<'a> {
+    Arg::new(alloc, name)
+        .long(name)
         .action(ArgAction::SetTrue)
         .help(help)
+}
+
+/// A word of `run` that is wanted but with `--check`.
+fn word_of_run<'a>(alloc: Global, name: &'a str, help: &'a str) -> Result<Arg<'a>, Error> {
+    let word = Arg::new(alloc, name)
+        .help(help)
+        .required_unless_present("check")?;
+    Ok(word)
+}
+
+/// The script that is only checked, in the place of a folder and a script.
+fn check<'a>(alloc: Global) -> Result<Arg<'a>, Error> {
+    let check = Arg::new(alloc, "check")
+        .long("check")
+        .value_name("SCRIPT")
+        .conflicts_with("DIR")?
+        .help(CHECK);
+    Ok(check)
 }
 
 fn run<'a>(alloc: Global) -> Result<Command<'a>, Error> {
     let command = Command::new(alloc, "run")
         .about("Runs a script over the store in a folder, which is made where it is missing")
         .after_help(RUN)
-        .arg(dir(alloc))?
-        .arg(Arg::new(alloc, "SCRIPT").required(true).help(SCRIPT))?
-        .arg(
-            Arg::new(alloc, "restore")
-                .long("restore")
-                .action(ArgAction::SetTrue)
-                .help("Prints afterwards what `restore` prints of the folder"),
-        )?
-        .arg(
-            Arg::new(alloc, "strict")
-                .long("strict")
-                .action(ArgAction::SetTrue)
-                .help(
-                    "Ends at the first request that is refused or answered segv, and tells its line on standard error: status 1",
-                ),
-        )?
+        .arg(word_of_run(alloc, "DIR", DIR)?)?
+        .arg(word_of_run(alloc, "SCRIPT", SCRIPT)?)?
+        .arg(check(alloc)?)?
+        .arg(flag(
+            alloc,
+            "restore",
+            "Prints afterwards what `restore` prints of the folder",
+        ))?
+        .arg(flag(
+            alloc,
+            "strict",
+            "Ends at the first request that is refused or answered segv, and tells its line on standard error: status 1",
+        ))?
         .arg(quiet(
             alloc,
             "Shows no progress on standard error, and no cause of a fault of the script, the folder or its device",

@@ -21,7 +21,7 @@ use sd_script::{Script, ScriptError};
 use shell::{Asking, run_shell};
 use std::alloc::Global;
 use std::fs::File;
-use std::io::{BufWriter, Input, IsTerminal, Lock, Write};
+use std::io::{BufWriter, Input, IsTerminal, Lock, Read, Write};
 use std::process::ExitCode;
 use std::rt::{Env, Files};
 use std::sync::Wait;
@@ -43,6 +43,9 @@ mod strict;
 
 /// How long a writer waits before each try to open a store, in milliseconds: a reader asks for its lock for a moment.
 const PAUSES: [u64; 4] = [0, 1, 5, 20];
+
+/// The name of the standard input, as a script.
+const STANDARD_INPUT: &str = "-";
 
 /// Opens the files of a folder that may be written, also where a reader asks for its lock just then.
 fn open_folder<R: Clock + Wait>(
@@ -96,13 +99,19 @@ fn disk_over(
     }
 }
 
+/// The bytes of a script, which is the standard input where it is named so.
+fn bytes_of(rt: &HostRuntime, script: &str) -> io::Result<Vec<u8>> {
+    if script != STANDARD_INPUT {
+        return std::fs::read(rt, script);
+    }
+    let mut bytes = Vec::new(rt.alloc());
+    rt.reader().read_to_end(&mut bytes)?;
+    Ok(bytes)
+}
+
 /// Reads a script.
-fn read_script(
-    rt: &(impl Files<File = File> + Eprint + AllocGlobal),
-    causes: Causes,
-    script: &str,
-) -> Result<Vec<u8>, Stop> {
-    std::fs::read(rt, script).map_err(|error| match error.kind() {
+fn read_script(rt: &HostRuntime, causes: Causes, script: &str) -> Result<Vec<u8>, Stop> {
+    bytes_of(rt, script).map_err(|error| match error.kind() {
         io::ErrorKind::OutOfMemory => Stop::Fault(Fault::OutOfMemory),
         _ => {
             tell(rt, causes, script, &error);
@@ -194,6 +203,19 @@ fn run_strict<W: Write, S: Watch>(
     }
 }
 
+/// `ckpt run --check`: whether a script fits the language.
+fn check_program<W: Write>(
+    rt: &HostRuntime,
+    causes: Causes,
+    name: &str,
+    out: &mut W,
+) -> Result<(), Stop> {
+    let bytes = read_script(rt, causes, name)?;
+    let script = parse_script(rt, causes, name, &bytes)?;
+    writeln!(out, "ok {} requests", script.lines.len())?;
+    Ok(())
+}
+
 /// `ckpt run`: a script that can't be taken makes no file.
 fn run_program<R: Clock + Wait, W: Write>(
     rt: &HostRuntime,
@@ -203,6 +225,9 @@ fn run_program<R: Clock + Wait, W: Write>(
 ) -> Result<(), Stop> {
     let folder = words.get_str("DIR").unwrap_or("");
     let causes = causes_asked(words);
+    if let Some(name) = words.get_str("check") {
+        return check_program(rt, causes, name, out);
+    }
     let name = words.get_str("SCRIPT").unwrap_or("");
     let bytes = read_script(rt, causes, name)?;
     let script = parse_script(rt, causes, name, &bytes)?;
