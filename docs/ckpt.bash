@@ -1,0 +1,29 @@
+# Completion of ckpt for bash: source docs/ckpt.bash
+
+_ckpt() {
+  local word=${COMP_WORDS[COMP_CWORD]} program=${COMP_WORDS[1]} options=
+  if [ "$COMP_CWORD" -eq 1 ]; then
+    mapfile -t COMPREPLY < <(compgen -W "run shell merge mutate restore list verify help --help --version" -- "$word")
+    return
+  fi
+  case $program in
+    run) options="--restore --strict --check --quiet --help" ;;
+    shell | merge | mutate) options="--quiet --help" ;;
+    help) options="run shell merge mutate restore list verify" ;;
+    *) options="--help" ;;
+  esac
+  case $word in
+    -*) mapfile -t COMPREPLY < <(compgen -W "$options" -- "$word") ;;
+    *)
+      if [ "$program" = help ]; then
+        mapfile -t COMPREPLY < <(compgen -W "$options" -- "$word")
+      elif [ "$program" = run ] && { [ "$COMP_CWORD" -gt 2 ] || [ "${COMP_WORDS[2]}" = --check ]; }; then
+        mapfile -t COMPREPLY < <(compgen -f -- "$word")
+      else
+        mapfile -t COMPREPLY < <(compgen -d -- "$word")
+      fi
+      ;;
+  esac
+}
+
+complete -o filenames -F _ckpt ckpt

@@ -1,0 +1,64 @@
+# The man page and the completion have the options that the program has.
+
+# The options of a program, as its help has them.
+options_of() {  # options_of PROGRAM
+  "$ckpt" "$1" --help | grep -oE '^ +(-., )?--[a-z]+' | grep -oE -- '--[a-z]+' | sort -u
+}
+
+manual_is_shown_without_a_warning() {
+  command -v groff > found || { echo "needs groff"; return 77; }
+  groff -man -Tutf8 -ww "$here/../docs/ckpt.1" > shown 2> warnings
+  same "the warnings" "$(cat warnings)" "" || return 1
+  has "the page" "$(cat shown)" "saves modelled memories into image files"
+}
+
+manual_has_each_program_and_option() {
+  local program option
+  sed 's/\\-/-/g' "$here/../docs/ckpt.1" > page
+  for program in $("$ckpt" --help | sed -n '/^Commands:/,/^$/s/^  \([a-z]*\) .*/\1/p'); do
+    [ "$program" = help ] && continue
+    has "$program" "$(cat page)" ".B $program" || return 1
+    for option in $(options_of "$program"); do
+      has "$program" "$(cat page)" "$option" || return 1
+    done
+  done
+}
+
+# The page's requests are those of the help.
+manual_has_each_request() {
+  local word
+  sed 's/\\-/-/g' "$here/../docs/ckpt.1" | sed -n '/^.SH REQUESTS/,/^.SH EXIT/s/^.B \([a-z-]*\).*/\1/p' | grep -vE '^(none|merger|dumper|opener|rwx)$' \
+    | sort -u > page
+  "$ckpt" run --help | sed -n '/^Lines of SCRIPT/,/^Status/p' | grep '^  ' | cut -c 1-36 | grep -oE '^  [a-z-]+|, [a-z-]+' | tr -d ', ' | sort -u > help
+  for word in $(cat help); do
+    grep -qx -- "$word" page || { echo "the page lacks $word"; return 1; }
+  done
+  [ "$(wc -l < help)" -ge 20 ] || { cat help; return 1; }
+}
+
+# What bash offers for the words of a command line.
+offered() {  # offered WORD..
+  COMP_WORDS=(ckpt "$@")
+  COMP_CWORD=$#
+  COMPREPLY=()
+  _ckpt
+  echo "${COMPREPLY[@]}"
+}
+
+completion_offers_programs_options_and_folders() {
+  . "$here/../docs/ckpt.bash"
+  local program
+  for program in $("$ckpt" --help | sed -n '/^Commands:/,/^$/s/^  \([a-z]*\) .*/\1/p'); do
+    has "the programs" " $(offered "") " " $program " || return 1
+  done
+  for program in run shell merge mutate restore list verify; do
+    same "the options of $program" "$(offered "$program" -- | tr ' ' '\n' | sort)" "$(options_of "$program")" || return 1
+  done
+  mkdir stores
+  same "a folder" "$(offered restore st)" stores
+}
+
+try manual_is_shown_without_a_warning
+try manual_has_each_program_and_option
+try manual_has_each_request
+try completion_offers_programs_options_and_folders
