@@ -1,18 +1,19 @@
 -- What is read of a slot, what is wrong with it, and its text.
-use Rattle.std.proofs.Common.{◌≡◌, ◌≤◌, ◌+◌, ◌*◌, ℕ, nat_eq, List, [], ◌++◌, Bool, true, false, ◌&&◌, drop, length, Option, Some, Result, Ok, Err, cond, refl, sym, ◌∙◌, ap, arith}
+use Rattle.std.proofs.Common.{◌≡◌, ◌≤◌, ◌+◌, ◌*◌, ℕ, nat_eq, List, [], ◌++◌, Bool, true, false, ◌&&◌, drop, length, Option, Some, Result, Ok, Err, cond, refl, sym, ◌∙◌, ap, arith, ◌⊎◌, inl, inr}
 use Rattle.std.specs.Prelude.{nat_le, slice_index, slice_range}
 use Rattle.std.proofs.lemmas.Bool.{cond-true, eq-eqb, eqb-true, leb-true}
 use Rattle.sd_image.specs.declared.header.Header.{Header}
 use Rattle.sd_image.specs.declared.reason.Reason.{Reason}
 use Rattle.sd_image.specs.declared.reason.Reason.TheVariants.{Digest}
 use Rattle.sd_image.specs.Header.{IsHeader}
-use Rattle.sd_image.specs.Image.{is_open}
+use Rattle.sd_image.specs.Image.{Image, IsImage, is_open}
 use Rattle.sd_image.specs.Reading.{◌>>=◌, breaks_digest, bytes_kept, fields_kept, fields_of, file_in, form_in, form_of, header_in, number_at, table_in}
+use Rattle.sd_image.specs.ReasonLaws.{IsFaultyFor, IsReadAs, OneReason}
 use Rattle.sd_image.specs.Table.{Listed}
 use Rattle.sd_show.specs.declared.opened.Opened.{Opened}
 use Rattle.sd_show.specs.declared.state.State.{State}
 use Rattle.sd_show.specs.declared.state.State.TheVariants.{Raw, Closed, Open}
-use Rattle.sd_show.specs.Slots.{IsOpened, bytes_from, or_digest, reason_of, state_by, state_in, table_bytes}
+use Rattle.sd_show.specs.Slots.{DamagedOrImage, IsOpened, bytes_from, is_damaged, or_digest, reason_of, state_by, state_in, table_bytes}
 use Rattle.sd_show.specs.Texts.{opened_text, slot_line, slot_text}
 
 -- ---- the state
@@ -109,3 +110,13 @@ text_of_open slot file state opened at opens is = rw (at, opens, is.fault, is.fr
 pub text_of_shut : (slot : ℕ) (file : List ℕ) (state : State) → state ≡ state_in file → is_open file ≡ false → slot_line slot state ++ [] ≡ slot_text slot file
 unfolding slot_text
 text_of_shut slot file state at shut = rw (at, shut) refl
+
+-- ---- damage
+
+pub told_apart : OneReason → DamagedOrImage
+told_apart law file bytes opens = by (law file bytes opens)
+  where
+    by : ((i : Image) × IsReadAs file i) ⊎ ((r : Reason) × IsFaultyFor file r)
+        → ((is_damaged file ≡ true) × ((i : Image) → IsImage file i → ⊥)) ⊎ ((is_damaged file ≡ false) × ((i : Image) × IsImage file i))
+    by (inl good) = inr (rw (opens, good.1.read) refl, (good.0, good.1.is))
+    by (inr faulty) = inl (rw (opens, faulty.1.found) refl, faulty.1.none)

@@ -1,8 +1,8 @@
 -- The state of a slot, what is wrong with it, and what is read of it.
-use Rattle.std.specs.Prelude.{◌≡◌, ℕ, ◌+◌, ◌*◌, ◌==◌, ◌&&◌, nat_le, Bool, true, false, if◌then◌else◌, List, [], codes, length, drop, slice_index, slice_range, Option, None, Some, MatchOption, Result, Ok, Err, is_some}
+use Rattle.std.specs.Prelude.{◌≡◌, ◌⊎◌, ◌<◌, All, ℕ, ◌+◌, ◌*◌, ◌==◌, ◌&&◌, nat_le, Bool, true, false, if◌then◌else◌, List, [], codes, length, drop, slice_index, slice_range, Option, None, Some, MatchOption, Result, Ok, Err, is_some}
 use Rattle.sd_image.specs.declared.reason.Reason.{Reason}
 use Rattle.sd_image.specs.declared.reason.Reason.TheVariants.{Digest}
-use Rattle.sd_image.specs.Image.{is_open, gate}
+use Rattle.sd_image.specs.Image.{Image, IsImage, is_open, gate}
 use Rattle.sd_image.specs.Reading.{digest_of_file, file_in, number_at}
 use Rattle.sd_show.specs.declared.opened.Opened.{Opened}
 use Rattle.sd_show.specs.declared.seen.Seen.{Seen}
@@ -39,6 +39,11 @@ fault_in file = if is_open file then reason_of (file_in file) else None
 
 abbrev pub is_damaged : List ℕ → Bool
 is_damaged file = is_some (fault_in file)
+
+-- An open slot is damaged, and its file no image, or it is not damaged, and its file is one.
+abbrev pub DamagedOrImage : Type 0
+DamagedOrImage = (file : List ℕ) → All (λ byte. byte < 256) file → is_open file ≡ true
+    → ((is_damaged file ≡ true) × ((i : Image) → IsImage file i → ⊥)) ⊎ ((is_damaged file ≡ false) × ((i : Image) × IsImage file i))
 
 -- where the table begins, if header, pages and table are as long as the file
 abbrev pub table_at : List ℕ → ℕ → Option ℕ

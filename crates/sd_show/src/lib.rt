@@ -8,6 +8,7 @@ mod fields;
 mod header_text;
 mod items;
 mod json;
+mod laws;
 mod opened;
 mod phrases;
 mod seen;
@@ -18,6 +19,7 @@ mod table_text;
 mod text;
 
 pub use json::{show_slot_json, show_slots_json};
+pub use laws::damaged_or_image;
 pub use show::{show_slot, show_slots};
 pub use state::State;
 pub use stop::Stop;
