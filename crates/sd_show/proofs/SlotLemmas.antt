@@ -1,7 +1,8 @@
 -- What is read of a slot, what is wrong with it, and its text.
-use Rattle.std.proofs.Common.{◌≡◌, ◌≤◌, ◌+◌, ◌*◌, ℕ, nat_eq, List, [], ◌++◌, Bool, true, false, ◌&&◌, drop, length, Option, Some, Result, Ok, Err, cond, refl, sym, ◌∙◌, ap, arith, ◌⊎◌, inl, inr}
+use Rattle.std.proofs.Common.{◌≡◌, ◌≤◌, ◌<◌, ◌+◌, ◌*◌, ℕ, nat_eq, List, [], ◌++◌, Bool, true, false, ◌&&◌, drop, length, Option, Some, Result, Ok, Err, cond, refl, sym, ◌∙◌, ap, arith, ◌⊎◌, inl, inr}
 use Rattle.std.specs.Prelude.{nat_le, slice_index, slice_range}
-use Rattle.std.proofs.lemmas.Bool.{cond-true, eq-eqb, eqb-true, leb-true}
+use Rattle.std.specs.Result.{IsErrOf}
+use Rattle.std.proofs.lemmas.Bool.{cases_lt, cond-true, eq-eqb, eqb-true, leb-true}
 use Rattle.sd_image.specs.declared.header.Header.{Header}
 use Rattle.sd_image.specs.declared.reason.Reason.{Reason}
 use Rattle.sd_image.specs.declared.reason.Reason.TheVariants.{Digest}
@@ -12,6 +13,8 @@ use Rattle.sd_image.specs.ReasonLaws.{IsFaultyFor, IsReadAs, OneReason}
 use Rattle.sd_image.specs.Table.{Listed}
 use Rattle.sd_show.specs.declared.opened.Opened.{Opened}
 use Rattle.sd_show.specs.declared.state.State.{State}
+use Rattle.sd_show.specs.declared.stop.Stop.{Stop}
+use Rattle.sd_show.specs.declared.stop.Stop.TheVariants as stop
 use Rattle.sd_show.specs.declared.state.State.TheVariants.{Raw, Closed, Open}
 use Rattle.sd_show.specs.Slots.{DamagedOrImage, IsOpened, bytes_from, is_damaged, or_digest, reason_of, state_by, state_in, table_bytes}
 use Rattle.sd_show.specs.Texts.{opened_text, slot_line, slot_text}
@@ -120,3 +123,15 @@ told_apart law file bytes opens = by (law file bytes opens)
         → ((is_damaged file ≡ true) × ((i : Image) → IsImage file i → ⊥)) ⊎ ((is_damaged file ≡ false) × ((i : Image) × IsImage file i))
     by (inl good) = inr (rw (opens, good.1.read) refl, (good.0, good.1.is))
     by (inr faulty) = inl (rw (opens, faulty.1.found) refl, faulty.1.none)
+
+-- ---- failures
+
+not_device : {T : Type 0} (x : T) → IsErrOf {T = T} {E = Stop} (Ok x) stop.Device → ⊥
+not_device x e = cc
+
+-- where a failure would have been the answer, none was counted
+pub none_failed : {T : Type 0} (x : T) (before now : ℕ) → before ≤ now → (before < now → IsErrOf {T = T} {E = Stop} (Ok x) stop.Device) → now ≡ before
+none_failed x before now later stops = elim (cases_lt before now) [
+  | inl less ↦ absurd (not_device x (stops less))
+  | inr back ↦ omega (arith, later, back)
+]

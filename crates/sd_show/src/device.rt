@@ -1,6 +1,7 @@
 //! The calls of a device that change nothing.
 ghost use Rattle.std.specs.Prelude.{◌≡◌, ◌+◌, ◌<◌, length, IfOk, OnOk, slice_range};
 ghost use Rattle.sd_disk.specs.Contents.{file_at};
+ghost use Rattle.sd_disk.specs.Failures.{HasCause};
 ghost use Rattle.sd_disk.specs.Reads.{OnlyReads};
 
 use sd_disk::{DeviceError, Disk};
@@ -11,6 +12,7 @@ pub(crate) fn file_len<D: Disk>(disk: &mut D, slot: usize) -> Result<usize, Devi
     ensures length { D.is_honest disk.new
         → IfOk result (λ n. n ≡ length (file_at (D.contents disk.old) slot)) }
     ensures reads { OnlyReads D.Disk disk.old disk.new }
+    ensures cause { HasCause (D.failed disk.old) (D.failed disk.new) result }
 {
     disk.len(slot)
 }
@@ -27,6 +29,7 @@ pub(crate) fn read_file<D: Disk>(
         → OnOk result (buffer.new
         ≡ slice_range (file_at (D.contents disk.old) slot) at (at + length buffer.old)) }
     ensures reads { OnlyReads D.Disk disk.old disk.new }
+    ensures cause { HasCause (D.failed disk.old) (D.failed disk.new) result }
 {
     disk.read(slot, at, buffer)
 }

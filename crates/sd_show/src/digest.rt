@@ -1,9 +1,11 @@
 //! The digest of a slot's file.
-ghost use Rattle.std.specs.Prelude.{◌≡◌, ◌+◌, ◌-◌, ◌<◌, ◌≤◌, ◌++◌, ℕ, List, length, drop, IfOk, OnOk, slice_range};
+ghost use Rattle.std.specs.Prelude.{◌≡◌, ◌+◌, ◌-◌, ◌<◌, ◌≤◌, ◌++◌, ℕ, List, length, drop, IfOk, OnOk, slice_range, IsErrOf};
 ghost use Rattle.sd_disk.specs.Contents.{file_at};
+ghost use Rattle.sd_disk.specs.Failures.{HasCause};
 ghost use Rattle.sd_disk.specs.Reads.{OnlyReads};
 ghost use Rattle.sd_image.specs.Reading.{digest_of_file};
 ghost use Rattle.sha2.specs.Hashers.{Holds256};
+ghost use Rattle.sd_show.specs.declared.stop.Stop.TheVariants as stop;
 
 use crate::device::read_file;
 use crate::stop::Stop;
@@ -29,6 +31,7 @@ fn feed_next<D: Disk>(
         → Holds256 hasher.new (fed ++ slice_range (file_at (D.contents disk.old) slot)
         at (at + length buffer.old))) }
     ensures reads { OnlyReads D.Disk disk.old disk.new }
+    ensures cause { HasCause (D.failed disk.old) (D.failed disk.new) result }
 {
     read_file(disk, slot, at, buffer)?;
     hasher.update(&*buffer);
@@ -49,6 +52,7 @@ fn feed_behind<D: Disk>(
     ensures fed { D.is_honest disk.new → OnOk result ((fed : List ℕ) → Holds256 hasher.old fed
         → Holds256 hasher.new (fed ++ slice_range (file_at (D.contents disk.old) slot) 4096 len)) }
     ensures reads { OnlyReads D.Disk disk.old disk.new }
+    ensures cause { HasCause (D.failed disk.old) (D.failed disk.new) result }
 {
     let mut at = HEADER_SIZE;
     while at < len {
@@ -78,6 +82,8 @@ pub(crate) fn digest_of<D: Disk>(
         → front.now ≡ slice_range (file_at (D.contents disk.old) slot) 0 4096
         → IfOk result (λ digest. digest ≡ digest_of_file (file_at (D.contents disk.old) slot)) }
     ensures reads { OnlyReads D.Disk disk.old disk.new }
+    ensures device { IsErrOf result stop.Device → D.failed disk.old < D.failed disk.new }
+    ensures stops { D.failed disk.old < D.failed disk.new → IsErrOf result stop.Device }
 {
     let mut buffer = vec![in alloc; 0u8; BYTES_AT_ONCE]?;
     let mut hasher = Sha256::new();

@@ -1,10 +1,11 @@
 //! Showing one slot, or all of them, as a JSON document: the numbers of the files, under the names that the format has
 //! for them.
-ghost use Rattle.std.specs.Prelude.{◌≡◌, ◌<◌, ◌≤◌, length, IfOk};
+ghost use Rattle.std.specs.Prelude.{◌≡◌, ◌≢◌, Err, ◌<◌, ◌≤◌, length, IfOk, IsErrOf};
 ghost use Rattle.std.specs.List.{list_any};
 ghost use Rattle.sd_disk.specs.Contents.{file_at};
 ghost use Rattle.sd_disk.specs.Reads.{OnlyReads};
 ghost use Rattle.sd_show.specs.Slots.{is_damaged};
+ghost use Rattle.sd_show.specs.declared.stop.Stop.TheVariants as stop;
 
 use crate::fields::{u16_at, u32_at, u64_at};
 use crate::header_text::digest_word;
@@ -163,6 +164,8 @@ fn take_slot<D: Disk>(
     ensures damaged { D.is_honest disk.new → IfOk result
         (λ damaged. damaged ≡ is_damaged (file_at (D.contents disk.old) slot)) }
     ensures reads { OnlyReads D.Disk disk.old disk.new }
+    ensures device { IsErrOf result stop.Device → D.failed disk.old < D.failed disk.new }
+    ensures stops { D.failed disk.old < D.failed disk.new → IsErrOf result stop.Device }
 {
     let seen = read_slot(alloc, disk, slot)?;
     slots.push(slot_json(alloc, slot, &seen)?)?;
@@ -170,7 +173,9 @@ fn take_slot<D: Disk>(
 }
 
 /// Prints a document of these slots.
-fn print_document<W: Write>(alloc: Global, slots: Vec<Value>, out: &mut W) -> Result<(), Stop> {
+fn print_document<W: Write>(alloc: Global, slots: Vec<Value>, out: &mut W) -> Result<(), Stop>
+    ensures { result ≢ Err stop.Device }
+{
     let document = json!(in alloc; {"slots": slots})?;
     writeln!(out, "{}", document.to_string(alloc)?)?;
     Ok(())
@@ -193,6 +198,8 @@ pub fn show_slot_json<D: Disk, W: Write>(
     ensures damaged { D.is_honest disk.new → IfOk result
         (λ damaged. damaged ≡ is_damaged (file_at (D.contents disk.old) slot)) }
     ensures reads { OnlyReads D.Disk disk.old disk.new }
+    ensures device { IsErrOf result stop.Device → D.failed disk.old < D.failed disk.new }
+    ensures stops { D.failed disk.old < D.failed disk.new → IsErrOf result stop.Device }
 {
     let mut slots = Vec::new(alloc);
     let damaged = take_slot(alloc, disk, slot, &mut slots)?;
@@ -205,6 +212,8 @@ fn take_slots<D: Disk>(alloc: Global, disk: &mut D, slots: &mut Vec<Value>) -> R
     ensures damaged { D.is_honest disk.new → IfOk result
         (λ damaged. damaged ≡ list_any is_damaged (D.contents disk.old)) }
     ensures reads { OnlyReads D.Disk disk.old disk.new }
+    ensures device { IsErrOf result stop.Device → D.failed disk.old < D.failed disk.new }
+    ensures stops { D.failed disk.old < D.failed disk.new → IsErrOf result stop.Device }
 {
     let mut damaged = false;
     for slot in 0..disk.slots() {
@@ -227,6 +236,8 @@ pub fn show_slots_json<D: Disk, W: Write>(
     ensures damaged { D.is_honest disk.new → IfOk result
         (λ damaged. damaged ≡ list_any is_damaged (D.contents disk.old)) }
     ensures reads { OnlyReads D.Disk disk.old disk.new }
+    ensures device { IsErrOf result stop.Device → D.failed disk.old < D.failed disk.new }
+    ensures stops { D.failed disk.old < D.failed disk.new → IsErrOf result stop.Device }
 {
     let mut slots = Vec::new(alloc);
     let damaged = take_slots(alloc, disk, &mut slots)?;

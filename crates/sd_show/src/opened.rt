@@ -1,9 +1,11 @@
 //! Reading an open slot, whatever is wrong with it.
-ghost use Rattle.std.specs.Prelude.{◌≡◌, ◌<◌, ◌≤◌, ℕ, List, length, IfOk, IfSome, slice_range};
+ghost use Rattle.std.specs.Prelude.{◌≡◌, ◌<◌, ◌≤◌, ℕ, List, length, IfOk, IfSome, slice_range, IsErrOf};
 ghost use Rattle.sd_disk.specs.Contents.{file_at};
+ghost use Rattle.sd_disk.specs.Failures.{HasCause};
 ghost use Rattle.sd_disk.specs.Reads.{OnlyReads};
 ghost use Rattle.sd_image.specs.Reading.{breaks_digest, digest_of_file, file_in, table_in};
 ghost use Rattle.sd_show.specs.Slots.{IsOpened, or_digest, reason_of, table_at, table_bytes};
+ghost use Rattle.sd_show.specs.declared.stop.Stop.TheVariants as stop;
 
 use crate::device::read_file;
 use crate::digest::digest_of;
@@ -32,6 +34,7 @@ fn read_front<D: Disk>(disk: &mut D, slot: usize) -> Result<[u8; HEADER_SIZE], D
     ensures front { D.is_honest disk.new
         → IfOk result (λ front. front ≡ slice_range (file_at (D.contents disk.old) slot) 0 4096) }
     ensures reads { OnlyReads D.Disk disk.old disk.new }
+    ensures cause { HasCause (D.failed disk.old) (D.failed disk.new) result }
 {
     let mut front = [0; HEADER_SIZE];
     read_file(disk, slot, 0, &mut front)?;
@@ -66,6 +69,8 @@ fn read_table<D: Disk>(
         → front.now ≡ slice_range (file_at (D.contents disk.old) slot) 0 4096
         → IfOk result (λ bytes. bytes.items ≡ table_bytes (file_at (D.contents disk.old) slot)) }
     ensures reads { OnlyReads D.Disk disk.old disk.new }
+    ensures device { IsErrOf result stop.Device → D.failed disk.old < D.failed disk.new }
+    ensures stops { D.failed disk.old < D.failed disk.new → IsErrOf result stop.Device }
 {
     let at = table_at(front, len).unwrap_or(len);
     let mut bytes = vec![in alloc; 0u8; len - at]?;
@@ -142,6 +147,8 @@ pub(crate) fn read_opened<D: Disk>(
     ensures opened { D.is_honest disk.new → len ≡ length (file_at (D.contents disk.old) slot)
         → IfOk result (IsOpened (file_at (D.contents disk.old) slot)) }
     ensures reads { OnlyReads D.Disk disk.old disk.new }
+    ensures device { IsErrOf result stop.Device → D.failed disk.old < D.failed disk.new }
+    ensures stops { D.failed disk.old < D.failed disk.new → IsErrOf result stop.Device }
 {
     let front = read_front(disk, slot)?;
     let table = read_table(alloc, disk, slot, len, &front)?;

@@ -1,8 +1,10 @@
 //! Reading one slot, whatever is in it.
-ghost use Rattle.std.specs.Prelude.{◌≡◌, ◌<◌, ℕ, List, length, IfOk, slice_index};
+ghost use Rattle.std.specs.Prelude.{◌≡◌, ◌<◌, ℕ, List, length, IfOk, slice_index, IsErrOf};
 ghost use Rattle.sd_disk.specs.Contents.{file_at};
+ghost use Rattle.sd_disk.specs.Failures.{HasCause};
 ghost use Rattle.sd_disk.specs.Reads.{OnlyReads};
 ghost use Rattle.sd_show.specs.Slots.{IsSeen, is_damaged, state_in};
+ghost use Rattle.sd_show.specs.declared.stop.Stop.TheVariants as stop;
 
 use crate::device::{file_len, read_file};
 use crate::opened::{Opened, read_opened};
@@ -37,6 +39,7 @@ fn read_gate<D: Disk>(disk: &mut D, slot: usize, len: usize) -> Result<u8, Devic
     ensures gate { D.is_honest disk.new → len ≡ length (file_at (D.contents disk.old) slot)
         → IfOk result (λ gate. gate ≡ slice_index (file_at (D.contents disk.old) slot) 0) }
     ensures reads { OnlyReads D.Disk disk.old disk.new }
+    ensures cause { HasCause (D.failed disk.old) (D.failed disk.new) result }
 {
     if len == 0 {
         return Ok(0);
@@ -56,6 +59,8 @@ pub(crate) fn read_slot<D: Disk>(alloc: Global, disk: &mut D, slot: usize) -> Re
     ensures seen { D.is_honest disk.new
         → IfOk result (IsSeen (file_at (D.contents disk.old) slot)) }
     ensures reads { OnlyReads D.Disk disk.old disk.new }
+    ensures device { IsErrOf result stop.Device → D.failed disk.old < D.failed disk.new }
+    ensures stops { D.failed disk.old < D.failed disk.new → IsErrOf result stop.Device }
 {
     let len = file_len(disk, slot)?;
     let gate = read_gate(disk, slot, len)?;

@@ -1,11 +1,12 @@
 //! Showing one slot, or all of them, as text.
-ghost use Rattle.std.specs.Prelude.{◌≡◌, ◌<◌, length, IfOk, OnOk};
+ghost use Rattle.std.specs.Prelude.{◌≡◌, ◌<◌, length, IfOk, OnOk, IsErrOf};
 ghost use Rattle.std.specs.List.{list_any};
 ghost use Rattle.std.specs.Io.KnownBytes.{Appends};
 ghost use Rattle.sd_disk.specs.Contents.{file_at};
 ghost use Rattle.sd_disk.specs.Reads.{OnlyReads};
 ghost use Rattle.sd_show.specs.Slots.{is_damaged};
 ghost use Rattle.sd_show.specs.Texts.{slot_text, slots_text};
+ghost use Rattle.sd_show.specs.declared.stop.Stop.TheVariants as stop;
 
 use crate::seen::read_slot;
 use crate::stop::Stop;
@@ -35,6 +36,8 @@ pub fn show_slot<D: Disk, W: Write>(
     ensures damaged { D.is_honest disk.new → IfOk result
         (λ damaged. damaged ≡ is_damaged (file_at (D.contents disk.old) slot)) }
     ensures reads { OnlyReads D.Disk disk.old disk.new }
+    ensures device { IsErrOf result stop.Device → D.failed disk.old < D.failed disk.new }
+    ensures stops { D.failed disk.old < D.failed disk.new → IsErrOf result stop.Device }
 {
     let seen = read_slot(alloc, disk, slot)?;
     print_slot(slot, &seen, out)?;
@@ -53,6 +56,8 @@ pub fn show_slots<D: Disk, W: Write>(alloc: Global, disk: &mut D, out: &mut W) -
     ensures damaged { D.is_honest disk.new → IfOk result
         (λ damaged. damaged ≡ list_any is_damaged (D.contents disk.old)) }
     ensures reads { OnlyReads D.Disk disk.old disk.new }
+    ensures device { IsErrOf result stop.Device → D.failed disk.old < D.failed disk.new }
+    ensures stops { D.failed disk.old < D.failed disk.new → IsErrOf result stop.Device }
 {
     let mut damaged = false;
     for slot in 0..disk.slots() {

@@ -15,24 +15,44 @@ pub enum Stop {
 }
 
 impl From<DeviceError> for Stop {
+    ghost use Rattle.std.specs.Prelude.{◌≡◌};
+    ghost use Rattle.sd_show.specs.declared.stop.Stop.TheVariants as stop;
+
+    ghost from_gives = { λ _ stopped. stopped ≡ stop.Device };
+
     fn from(_error: DeviceError) -> Stop {
         Stop::Device
     }
 }
 
 impl From<AllocError> for Stop {
+    ghost use Rattle.std.specs.Prelude.{◌≡◌};
+    ghost use Rattle.sd_show.specs.declared.stop.Stop.TheVariants as stop;
+
+    ghost from_gives = { λ _ stopped. stopped ≡ stop.OutOfMemory };
+
     fn from(_error: AllocError) -> Stop {
         Stop::OutOfMemory
     }
 }
 
 impl<T: Drop> From<AllocFailed<T>> for Stop {
+    ghost use Rattle.std.specs.Prelude.{◌≡◌};
+    ghost use Rattle.sd_show.specs.declared.stop.Stop.TheVariants as stop;
+
+    ghost from_gives = { λ _ stopped. stopped ≡ stop.OutOfMemory };
+
     fn from(_error: AllocFailed<T>) -> Stop {
         Stop::OutOfMemory
     }
 }
 
 impl From<io::Error> for Stop {
+    ghost use Rattle.std.specs.Prelude.{◌≡◌};
+    ghost use Rattle.sd_show.specs.declared.stop.Stop.TheVariants as stop;
+
+    ghost from_gives = { λ error stopped. stopped ≡ stop.Writer error };
+
     fn from(error: io::Error) -> Stop {
         Stop::Writer(error)
     }

@@ -21,6 +21,7 @@ loop-at-preserved g c =
       low = let low = was.low in omega (arith, low);
       within = omega (arith, few, c.loop-at-test.true);
       reads = reads_join g.D.Disk c.args.disk.now c.loop-at.disk c.feed_next.new.disk was.reads now.reads;
+      stays = now.cause.done refl ∙ was.stays;
       fed = λ honest fed has.
           let low = was.low in
           subst (Holds256 c.feed_next.new.hasher)

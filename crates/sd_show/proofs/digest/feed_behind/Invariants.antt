@@ -1,4 +1,4 @@
-use Rattle.std.proofs.Common.{◌≤◌, ◌-◌, ◌++◌, ℕ, List}
+use Rattle.std.proofs.Common.{◌≡◌, ◌≤◌, ◌-◌, ◌++◌, ℕ, List}
 use Rattle.std.specs.Prelude.{slice_range}
 use Rattle.sha2.specs.Hashers.{Holds256}
 use Rattle.sd_disk.specs.Contents.{file_at}
@@ -11,6 +11,7 @@ invariant-loop-at g l = record {
   low : 4096 ≤ l.at;
   within : l.at ≤ l.len;
   reads : OnlyReads g.D.Disk l.fn.disk l.disk;
+  stays : g.D.Disk.failed l.disk ≡ g.D.Disk.failed l.fn.disk;
   fed : g.D.Disk.is_honest l.disk → (fed : List ℕ) → Holds256 l.fn.hasher fed
       → Holds256 l.hasher (fed ++ slice_range (file_at (g.D.Disk.contents l.fn.disk) l.slot) 4096 l.at);
 }

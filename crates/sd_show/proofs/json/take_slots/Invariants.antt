@@ -8,6 +8,7 @@ use Rattle.sd_show.proofs.json.take_slots.Given as goal
 abbrev pub invariant-loop-slot : goal.invariant-loop-slot
 invariant-loop-slot g l = record {
   reads : OnlyReads g.D.Disk l.fn.disk l.disk;
+  stays : g.D.Disk.failed l.disk ≡ g.D.Disk.failed l.fn.disk;
   count : l.slot-end ≡ length (g.D.Disk.contents l.fn.disk);
   damaged : g.D.Disk.is_honest l.disk → l.damaged ≡ list_any is_damaged (take l.slot (g.D.Disk.contents l.fn.disk));
 }

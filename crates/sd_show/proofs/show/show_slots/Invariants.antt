@@ -10,6 +10,7 @@ use Rattle.sd_show.proofs.show.show_slots.Given as goal
 abbrev pub invariant-loop-slot : goal.invariant-loop-slot
 invariant-loop-slot g l = record {
   reads : OnlyReads g.D.Disk l.fn.disk l.disk;
+  stays : g.D.Disk.failed l.disk ≡ g.D.Disk.failed l.fn.disk;
   count : l.slot-end ≡ length (g.D.Disk.contents l.fn.disk);
   text : g.D.Disk.is_honest l.disk → (after : Option (List ℕ)) → Appends (g.W.Write.contents l.out) after (slots_text l.slot (drop l.slot (g.D.Disk.contents l.fn.disk)))
       → Appends (g.W.Write.contents l.fn.out) after (slots_text 0 (g.D.Disk.contents l.fn.disk));
