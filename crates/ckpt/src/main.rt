@@ -35,6 +35,7 @@ mod progress;
 #[cfg(test)]
 mod progress_tests;
 mod reading;
+mod show;
 mod stop;
 
 /// How long a writer waits before each try to open a store, in milliseconds: a reader asks for its lock for a moment.
@@ -245,6 +246,7 @@ fn run_matches<R: Clock + Threads + Wait + Sync, W: Write>(
         Some(("run", words)) => run_program(rt, threads, words, out),
         Some(("merge", words)) => merge_program(rt, threads, words, out),
         Some(("mutate", words)) => mutate_program(rt, threads, words, out),
+        Some(("show", words)) => show::show_program(rt, words, out),
         Some((name, words)) => {
             let folder = words.get_str("DIR").unwrap_or("");
             let (_, ended) = read_store(rt, threads, reader_of(name), folder, out)?;
