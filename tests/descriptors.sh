@@ -4,7 +4,7 @@ closed_output_harms_no_store() {
   make_store store || return 1
   local before program
   before=$(sums store)
-  for program in restore list verify; do
+  for program in restore list verify show; do
     "$ckpt" $program store >&- 2>/dev/null
     same "the store after $program" "$(sums store)" "$before" || return 1
     "$ckpt" $program store >&- 2>&- <&-

@@ -90,6 +90,29 @@ store_of() {  # store_of "VERSION KIND SERIAL STANDS PARENT CHECKPOINT BYTE-OR-P
   done
 }
 
+# Copies the store of one page that begins with `hello`, in a version of the format.
+hello_store() {  # hello_store VERSION
+  [ -d hello ] || { make_store hello || return 1; }
+  rm -rf store
+  mkdir store
+  cp hello/img-000 store/
+  [ "$1" = 2 ] || to_version_one store/img-000
+}
+
+# Changes bytes of the image, whose digest is made right again: `PLACE=BYTE` of each.
+change() {  # change PLACE=BYTE..
+  local word
+  for word in "$@"; do
+    put_byte store/img-000 "${word%=*}" "${word#*=}"
+  done
+  put_digest store/img-000
+}
+
+# Changes one bit of the image, and leaves its digest.
+flip() {  # flip PLACE
+  put_byte store/img-000 "$1" $((0x$(bytes_of store/img-000 "$1" 1) ^ 1))
+}
+
 # A program prints this, with this status, and leaves the files of the store.
 reader_prints() {  # reader_prints STATUS TEXT PROGRAM
   local before

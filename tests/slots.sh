@@ -1,23 +1,5 @@
 # Slots whose bytes were changed or made by hand, and the reason that is named for each.
 
-# Copies the store of one page that begins with `hello`, in a version of the format.
-hello_store() {  # hello_store VERSION
-  [ -d hello ] || { make_store hello || return 1; }
-  rm -rf store
-  mkdir store
-  cp hello/img-000 store/
-  [ "$1" = 2 ] || to_version_one store/img-000
-}
-
-# Changes bytes of the image, whose digest is made right again: `PLACE=BYTE` of each.
-change() {  # change PLACE=BYTE..
-  local word
-  for word in "$@"; do
-    put_byte store/img-000 "${word%=*}" "${word#*=}"
-  done
-  put_digest store/img-000
-}
-
 # Changes of one byte: each breaks one rule.
 one_byte="\
 1=0x73|1
@@ -98,11 +80,6 @@ version_one_has_zeros_for_a_digest() {
 80=1|4
 95=1|4
 64=0x80 95=1|4"
-}
-
-# Changes one bit of the image, and leaves its digest.
-flip() {  # flip PLACE
-  put_byte store/img-000 "$1" $((0x$(bytes_of store/img-000 "$1" 1) ^ 1))
 }
 
 # Places in the checkpoint, the digest, the data page and the permissions, where another byte breaks no rule but the

@@ -24,7 +24,7 @@ folder_that_is_no_text() {
 
 help_has_examples_and_statuses() {
   local program
-  for program in run merge mutate restore list verify; do
+  for program in run merge mutate restore list verify show; do
     "$ckpt" $program --help > out || return 1
     has "$program" "$(cat out)" "ckpt $program store" || return 1
     has "$program" "$(cat out)" "Status: 0" || return 1

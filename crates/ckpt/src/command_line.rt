@@ -90,6 +90,19 @@ Status: 0 where it printed ok; 1 where the store can't be restored, or the devic
 the printing failed (damaged SSS WHY, device, out-of-memory, cannot open DIR); 2 for a fault
 of the command line.";
 
+const SHOW: &str = "Example:
+  ckpt show store
+  ckpt show store 3 --json
+
+Prints what stands in the image files. For each slot a line slot SSS raw, slot SSS closed or slot
+SSS open; of an open one damaged WHY and a reason in words where the file is no image, the
+fields of its header, whether its digest is right or wrong (none: it has version 1), and for each
+space a line space N, its areas as area FIRST END PROT, and its runs as run KIND first PAGE pages N,
+with offset N where they are of data. What is damaged is printed as far as it can be read.
+
+Status: 0 where no slot is damaged; 1 where one is, or the device, memory or the printing failed
+(device, out-of-memory, cannot open DIR); 2 for a fault of the command line.";
+
 const MERGE: &str = "Example:
   ckpt merge store
 
@@ -234,6 +247,23 @@ fn reader<'a>(
     Ok(command)
 }
 
+fn show<'a>(alloc: Global) -> Result<Command<'a>, Error> {
+    let slot = Arg::new(alloc, "SLOT")
+        .value_parser(ValueParser::unsigned(0, 63))
+        .help("The number of the one slot to show, 0 to 63; without it all are shown");
+    let json = Arg::new(alloc, "json")
+        .long("json")
+        .action(ArgAction::SetTrue)
+        .help("Prints one JSON document in place of the lines");
+    let command = Command::new(alloc, "show")
+        .about("Prints what stands in the image files of a folder's store")
+        .after_help(SHOW)
+        .arg(dir(alloc))?
+        .arg(slot)?
+        .arg(json)?;
+    Ok(command)
+}
+
 /// The command line: one subcommand for each program.
 pub fn command<'a>(alloc: Global) -> Result<Command<'a>, Error> {
     let restore = reader(
@@ -265,6 +295,7 @@ pub fn command<'a>(alloc: Global) -> Result<Command<'a>, Error> {
         .subcommand(mutate(alloc)?)?
         .subcommand(restore)?
         .subcommand(list)?
-        .subcommand(verify)?;
+        .subcommand(verify)?
+        .subcommand(show(alloc)?)?;
     Ok(command)
 }

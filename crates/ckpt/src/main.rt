@@ -38,6 +38,7 @@ mod progress;
 mod progress_tests;
 mod reading;
 mod shell;
+mod show;
 mod stop;
 mod strict;
 
@@ -337,6 +338,7 @@ fn run_matches<R: Clock + Threads + Wait + Sync, W: Write>(
         Some(("shell", words)) => shell_program(rt, threads, words, out),
         Some(("merge", words)) => merge_program(rt, threads, words, out),
         Some(("mutate", words)) => mutate_program(rt, threads, words, out),
+        Some(("show", words)) => show::show_program(rt, words, out),
         Some((name, words)) => {
             let folder = words.get_str("DIR").unwrap_or("");
             let (_, ended) = read_store(rt, threads, reader_of(name), folder, out)?;

@@ -1,0 +1,90 @@
+-- What is printed in parts.
+use Rattle.std.proofs.Common.{◌≡◌, ◌≤◌, ◌<◌, ◌+◌, ◌-◌, ◌^◌, false, codes, replicate, append-nil, ℕ, zero, suc, List, [], ◌∷◌, ◌++◌, drop, length, get_or, Option, Result, Ok, Err, OnOk, refl, sym, ◌∙◌, ap, subst, arith}
+use Rattle.std.specs.Fmt.{decimal, char_count, shown_prefix, padded_integral, format_spec}
+use Rattle.std.specs.Io.KnownBytes.{Appends}
+use Rattle.std.proofs.KnownBytes.{Appends-nil, Appends-trans}
+use Rattle.std.proofs.lemmas.Bool.{cond-false, cond-true, le-leb, lt-leb}
+use Rattle.std.proofs.lemmas.List.{drop_more, length-drop, nil_from_length}
+use Rattle.sd_disk.specs.Contents.{file_at}
+use Rattle.sd_show.specs.declared.state.State.{State}
+use Rattle.sd_show.specs.Slots.{state_word}
+use Rattle.sd_show.specs.Items.{behind_run, behind_runs, behind_space, runs_in}
+use Rattle.sd_show.specs.Texts.{run_line, runs_text, slot_line, slot_text, slots_text, space_text, spaces_text}
+
+-- where a part was printed of what is left, the rest makes it whole
+pub part_printed : (a b c : Option (List ℕ)) (part rest whole : List ℕ) → part ++ rest ≡ whole → Appends a b part → Appends b c rest → Appends a c whole
+part_printed a b c part rest whole e p q = subst (Appends a c) e (Appends-trans a b c part rest p q)
+
+-- where nothing is left, all is printed
+pub all_printed : (a : Option (List ℕ)) (rest : List ℕ) → rest ≡ [] → Appends a a rest
+all_printed a rest none = subst (Appends a a) (sym none) (Appends-nil a)
+
+-- the same, where the rest may fail
+pub then_printed : {T E : Type 0} (result : Result T E) (a b c : Option (List ℕ)) (part rest whole : List ℕ) → part ++ rest ≡ whole → Appends a b part
+    → OnOk result (Appends b c rest) → OnOk result (Appends a c whole)
+then_printed (Ok value) a b c part rest whole e p q = part_printed a b c part rest whole e p q
+then_printed (Err why) a b c part rest whole e p q = tt
+
+none_left : (xs : List (List ℕ)) (i : ℕ) → length xs ≤ i → drop i xs ≡ []
+none_left xs i all = nil_from_length (drop i xs) (length-drop i xs ∙ (let e : length xs - i ≡ 0 = omega (arith, all) in e))
+
+-- ---- a slot's number
+
+nothing_less : (n : ℕ) → n - 0 - char_count (shown_prefix (format_spec 32 0 4 3 (2 ^ 64 - 1)) []) ≡ n
+unfolding char_count
+nothing_less n = let none : char_count (shown_prefix (format_spec 32 0 4 3 (2 ^ 64 - 1)) []) ≡ 0 = refl in omega (arith, none)
+
+-- what `{slot:03}` writes
+pub slot_padded : (slot : ℕ) → padded_integral (format_spec 32 0 4 3 (2 ^ 64 - 1)) false [] (decimal slot) ≡ replicate (3 - length (decimal slot)) 48 ++ decimal slot
+unfolding padded_integral
+slot_padded slot = rw (nothing_less (3 - length (decimal slot)), append-nil (decimal slot))
+
+pub slot_written : (slot : ℕ) (state : State) (shown word : List ℕ) → shown ≡ replicate (3 - length (decimal slot)) 48 ++ decimal slot → word ≡ state_word state
+    → codes "slot " ++ (shown ++ (codes " " ++ (word ++ 10 ∷ []))) ≡ slot_line slot state
+unfolding slot_line
+slot_written slot state shown word padded named = rw (padded, named) refl
+
+-- ---- runs
+
+pub runs_more : (at : Option ℕ) (runs : List (List ℕ)) (i : ℕ) → i < length runs
+    → run_line at (get_or runs i []) ++ runs_text (behind_run at (get_or runs i [])) (drop (i + 1) runs) ≡ runs_text at (drop i runs)
+runs_more at runs i less = sym (ap (runs_text at) (drop_more runs i [] less))
+
+pub behind_more : (at : Option ℕ) (runs : List (List ℕ)) (i : ℕ) → i < length runs
+    → behind_runs (behind_run at (get_or runs i [])) (drop (i + 1) runs) ≡ behind_runs at (drop i runs)
+behind_more at runs i less = sym (ap (behind_runs at) (drop_more runs i [] less))
+
+pub runs_done : (at : Option ℕ) (runs : List (List ℕ)) (i : ℕ) → length runs ≤ i → runs_text at (drop i runs) ≡ []
+runs_done at runs i all = ap (runs_text at) (none_left runs i all)
+
+pub behind_done : (at : Option ℕ) (runs : List (List ℕ)) (i : ℕ) → length runs ≤ i → behind_runs at (drop i runs) ≡ at
+behind_done at runs i all = ap (behind_runs at) (none_left runs i all)
+
+-- ---- spaces
+
+pub spaces_more : (left : ℕ) (at : Option ℕ) (bytes : List ℕ) → 0 < left → 16 ≤ length bytes
+    → space_text at bytes ++ spaces_text (left - 1) (behind_runs at (runs_in bytes)) (behind_space bytes) ≡ spaces_text left at bytes
+unfolding spaces_text
+spaces_more zero at bytes some long = absurd (omega (arith, some))
+spaces_more (suc n) at bytes some long =
+    ap (λ k. space_text at bytes ++ spaces_text k (behind_runs at (runs_in bytes)) (behind_space bytes)) (let e : suc n - 1 ≡ n = omega arith in e)
+    ∙ sym (cond-false _ _ _ (lt-leb (suc (length bytes)) 16 (omega (arith, long))))
+
+pub no_spaces : (left : ℕ) (at : Option ℕ) (bytes : List ℕ) → left ≡ 0 → spaces_text left at bytes ≡ []
+unfolding spaces_text
+no_spaces zero at bytes none = refl
+no_spaces (suc n) at bytes none = absurd (omega (arith, none))
+
+pub short_spaces : (left : ℕ) (at : Option ℕ) (bytes : List ℕ) → length bytes < 16 → spaces_text left at bytes ≡ []
+unfolding spaces_text
+short_spaces zero at bytes short = refl
+short_spaces (suc n) at bytes short = cond-true _ _ _ (le-leb (suc (length bytes)) 16 (omega (arith, short)))
+
+-- ---- slots
+
+pub slots_more : (contents : List (List ℕ)) (slot : ℕ) → slot < length contents
+    → slot_text slot (file_at contents slot) ++ slots_text (slot + 1) (drop (slot + 1) contents) ≡ slots_text slot (drop slot contents)
+slots_more contents slot less = sym (ap (slots_text slot) (drop_more contents slot [] less))
+
+pub slots_done : (contents : List (List ℕ)) (slot : ℕ) → length contents ≤ slot → slots_text slot (drop slot contents) ≡ []
+slots_done contents slot all = ap (slots_text slot) (none_left contents slot all)

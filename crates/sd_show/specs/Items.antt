@@ -1,0 +1,32 @@
+-- The items of a table, as they stand there, as far as its bytes go.
+use Rattle.std.specs.Prelude.{ℕ, ◌+◌, ◌*◌, ◌/◌, ◌^◌, ◌==◌, nat_lt, if◌then◌else◌, List, [], ◌∷◌, length, take, drop, Option, None, Some}
+use Rattle.std.specs.Simd.{first_chunks}
+use Rattle.sd_image.specs.Reading.{number_at}
+
+-- the first items of some bytes: so many, or as many as there are bytes for
+abbrev pub items_in : ℕ → List ℕ → List (List ℕ)
+items_in count bytes = take count (first_chunks 24 (length bytes / 24) bytes)
+
+-- of the space that bytes begin with: its areas, its runs, and the bytes behind it
+unfoldable pub areas_in : List ℕ → List (List ℕ)
+areas_in bytes = items_in (number_at 4 4 bytes) (drop 16 bytes)
+
+unfoldable pub runs_in : List ℕ → List (List ℕ)
+runs_in bytes = items_in (number_at 8 8 bytes) (drop (24 * number_at 4 4 bytes) (drop 16 bytes))
+
+unfoldable pub behind_space : List ℕ → List ℕ
+behind_space bytes = drop (24 * number_at 8 8 bytes) (drop (24 * number_at 4 4 bytes) (drop 16 bytes))
+
+-- where the bytes behind so many data pages begin in the file, if that is below 2^64
+abbrev pub behind : Option ℕ → ℕ → Option ℕ
+behind None count = None
+behind (Some at) count = if nat_lt (at + 4096 * count) (2 ^ 64) then Some (at + 4096 * count) else None
+
+-- where the next data page stands behind a run, whose own pages would begin at a place
+abbrev pub behind_run : Option ℕ → List ℕ → Option ℕ
+behind_run at run = if number_at 4 16 run == 1 then behind at (number_at 8 8 run) else at
+
+-- and behind runs
+abbrev pub behind_runs : Option ℕ → List (List ℕ) → Option ℕ
+behind_runs at [] = at
+behind_runs at (run ∷ runs) = behind_runs (behind_run at run) runs

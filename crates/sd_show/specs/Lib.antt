@@ -1,0 +1,4 @@
+pub mod Slots
+pub mod Items
+pub mod Phrases
+pub mod Texts

@@ -1,0 +1,25 @@
+//! What stands in the image files of a store, slot by slot: as text, and as JSON. A slot that is damaged is shown as far
+//! as it can be read, and the others follow.
+#![tactic(auto)]
+
+mod device;
+mod digest;
+mod fields;
+mod header_text;
+mod items;
+mod json;
+mod laws;
+mod opened;
+mod phrases;
+mod seen;
+mod show;
+mod state;
+mod stop;
+mod table_text;
+mod text;
+
+pub use json::{show_slot_json, show_slots_json};
+pub use laws::damaged_or_image;
+pub use show::{show_slot, show_slots};
+pub use state::State;
+pub use stop::Stop;
