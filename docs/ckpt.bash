@@ -3,13 +3,14 @@
 _ckpt() {
   local word=${COMP_WORDS[COMP_CWORD]} program=${COMP_WORDS[1]} options=
   if [ "$COMP_CWORD" -eq 1 ]; then
-    mapfile -t COMPREPLY < <(compgen -W "run shell merge mutate restore list verify help --help --version" -- "$word")
+    mapfile -t COMPREPLY < <(compgen -W "run shell merge mutate restore list verify show help --help --version" -- "$word")
     return
   fi
   case $program in
     run) options="--restore --strict --check --quiet --help" ;;
     shell | merge | mutate) options="--quiet --help" ;;
-    help) options="run shell merge mutate restore list verify" ;;
+    show) options="--json --help" ;;
+    help) options="run shell merge mutate restore list verify show" ;;
     *) options="--help" ;;
   esac
   case $word in

@@ -51,7 +51,7 @@ completion_offers_programs_options_and_folders() {
   for program in $("$ckpt" --help | sed -n '/^Commands:/,/^$/s/^  \([a-z]*\) .*/\1/p'); do
     has "the programs" " $(offered "") " " $program " || return 1
   done
-  for program in run shell merge mutate restore list verify; do
+  for program in run shell merge mutate restore list verify show; do
     same "the options of $program" "$(offered "$program" -- | tr ' ' '\n' | sort)" "$(options_of "$program")" || return 1
   done
   mkdir stores
