@@ -1,5 +1,5 @@
 -- What came of a program that reads a store, by its parts.
-use Rattle.std.proofs.Common.{◌≡◌, ◌≢◌, ℕ, Bool, true, false, List, [], Option, Some, None, Result, Ok, Err, OnOk, IfErr, ◌++◌, append-nil, refl, sym, ◌∙◌, ap, subst, inl, inr, length}
+use Rattle.std.proofs.Common.{◌≡◌, ◌≢◌, ℕ, true, false, List, [], Option, Some, None, Result, Ok, Err, OnOk, ◌++◌, append-nil, refl, ◌∙◌, ap, subst, inl, inr, length}
 use Rattle.std.specs.Prelude.{filter}
 use Rattle.std.specs.Io.KnownBytes.{Appends, Keeps}
 use Rattle.sd_image.specs.Image.{is_open}
@@ -10,7 +10,7 @@ use Rattle.sd_report.specs.declared.steady.Reader.TheVariants as reader
 use Rattle.sd_report.specs.declared.stop.Stop.{Stop}
 use Rattle.sd_report.specs.declared.stop.Stop.TheVariants as stop
 use Rattle.sd_report.specs.Ending.{IsOutside, OnFault, StandsAlone, writer_failed}
-use Rattle.sd_report.specs.Printed.{Begins, BeginsToPrint, Prints}
+use Rattle.sd_report.specs.Printed.{BeginsToPrint, Prints}
 use Rattle.sd_report.specs.Reading.{ReadsStore}
 use Rattle.sd_report.specs.Texts.{memory_text, verdict_text}
 use Rattle.sd_report.proofs.BreakLemmas.{begins_all, on_fault}

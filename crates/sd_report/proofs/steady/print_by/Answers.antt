@@ -1,4 +1,4 @@
-use Rattle.std.proofs.Common.{List, ℕ, inl, refl, sym, subst}
+use Rattle.std.proofs.Common.{inl, refl, sym, subst}
 use Rattle.sd_report.specs.declared.steady.Reader.{Reader}
 use Rattle.sd_report.specs.Reading.{ReadsStore}
 use Rattle.sd_report.proofs.BreakLemmas.{on_fault}
