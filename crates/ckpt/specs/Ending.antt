@@ -1,23 +1,27 @@
 -- How a program ends.
-use Rattle.std.specs.Prelude.{◌≡◌, ◌⊎◌, ℕ, Result, Ok, Err}
+use Rattle.std.specs.Prelude.{◌≡◌, ℕ, List, [], ◌∷◌, ◌++◌, codes, Option, Result, Ok, Err}
+use Rattle.std.specs.Fmt.{decimal}
+use Rattle.sd_command.specs.Refusals.{refusal_text}
 use Rattle.sd_mutate.specs.declared.fault.MutateFault.{MutateFault}
 use Rattle.sd_mutate.specs.declared.fault.MutateFault.TheVariants as mutate
 use Rattle.sd_report.specs.declared.stop.Stop.{Stop as ReportStop}
 use Rattle.sd_report.specs.declared.stop.Stop.TheVariants as report
-use Rattle.sd_restore.specs.declared.fault.Fault.TheVariants.{EmptyChain, Damaged, Device, OutOfMemory}
+use Rattle.sd_report.specs.declared.output.Output.{Output}
+use Rattle.sd_report.specs.Ending.{IsTold, fault_status}
+use Rattle.sd_report.specs.Texts.{fault_line}
+use Rattle.sd_restore.specs.declared.fault.Fault.TheVariants.{Damaged, Device, OutOfMemory}
 use Rattle.sd_run.specs.declared.stop.Stop.{Stop as RunStop}
 use Rattle.sd_run.specs.declared.stop.Stop.TheVariants as run
 use Rattle.sd_script.specs.declared.script_error.ScriptError.{ScriptError}
 use Rattle.sd_script.specs.declared.script_error.ScriptError.TheVariants as error
+use Rattle.sd_world.specs.declared.open_fault.OpenFault.{OpenFault}
+use Rattle.sd_world.specs.declared.open_fault.OpenFault.TheVariants as opening
 use Rattle.ckpt.specs.declared.stop.Stop.{Stop}
 use Rattle.ckpt.specs.declared.stop.Stop.TheVariants as stop
 
 -- the exit status of a program that printed why it stopped
 abbrev pub status_of : Stop → ℕ
-status_of (stop.Fault EmptyChain) = 3
-status_of (stop.Fault (Damaged _ _)) = 1
-status_of (stop.Fault Device) = 1
-status_of (stop.Fault OutOfMemory) = 1
+status_of (stop.Fault fault) = fault_status fault
 status_of (stop.Store _) = 1
 status_of (stop.ScriptLine _) = 2
 status_of stop.CannotReadScript = 1
@@ -27,11 +31,38 @@ status_of (stop.Order _) = 1
 status_of stop.Refused = 1
 status_of (stop.Writer _) = 1
 
--- the exit status: 0 where the program came to its end; where it was stopped that of the cause, or 1 where its output
--- can't be written
-abbrev pub Ends : Result Unit Stop → ℕ → Type 0
-Ends (Ok _) status = status ≡ 0
-Ends (Err why) status = (status ≡ status_of why) ⊎ (status ≡ 1)
+-- the line of a store that isn't opened
+abbrev pub open_fault_line : OpenFault → List ℕ
+open_fault_line opening.NoFrame = codes "no-frame" ++ 10 ∷ []
+open_fault_line (opening.Damaged slot reason) = fault_line (Damaged slot reason)
+open_fault_line opening.Device = fault_line Device
+open_fault_line opening.OutOfMemory = fault_line OutOfMemory
+
+-- what a program prints last where it is stopped: why; but a refusal is answered before, and behind a failure of the writer nothing is printed
+abbrev pub stop_text : Stop → List ℕ
+stop_text (stop.Fault fault) = fault_line fault
+stop_text (stop.Store fault) = open_fault_line fault
+stop_text (stop.ScriptLine number) = codes "script line " ++ decimal number ++ 10 ∷ []
+stop_text stop.CannotReadScript = codes "cannot read SCRIPT" ++ 10 ∷ []
+stop_text stop.CannotOpenFolder = codes "cannot open DIR" ++ 10 ∷ []
+stop_text stop.NotEmpty = codes "store not empty" ++ 10 ∷ []
+stop_text (stop.Order why) = codes "refused " ++ refusal_text why ++ 10 ∷ []
+stop_text stop.Refused = []
+stop_text (stop.Writer _) = []
+
+-- the same where it may have come to its end
+abbrev pub end_status : Result Unit Stop → ℕ
+end_status (Ok _) = 0
+end_status (Err why) = status_of why
+
+abbrev pub end_text : Result Unit Stop → List ℕ
+end_text (Ok _) = []
+end_text (Err why) = stop_text why
+
+-- how a program ends: with status 0, and nothing more is printed; or why it was stopped is told
+abbrev pub Ends : {W : Type 0} → (W → Option (List ℕ)) → Output W → Output W → Result Unit Stop → ℕ → Type 0
+Ends contents old new (Ok _) status = (status ≡ 0) × (new ≡ old)
+Ends contents old new (Err why) status = IsTold contents old new (stop_text why) (status_of why) status
 
 -- how a script that can't be taken stops a program
 abbrev pub StopsFor : ScriptError → Stop → Type 0

@@ -5,7 +5,9 @@ ghost use Rattle.std.specs.Prelude.{◌≡◌, ◌∷◌, true, false, OnOk};
 ghost use Rattle.sd_disk.specs.Reads.{OnlyReads};
 ghost use Rattle.sd_script.specs.declared.line.Line.TheVariants as asked;
 ghost use Rattle.sd_report.specs.Printed.{PrintsMemory};
+ghost use Rattle.sd_report.specs.Ending.{Exits};
 ghost use Rattle.sd_run.specs.Whole.{IsWholeRun};
+ghost use Rattle.ckpt.specs.Ending.{end_status, end_text};
 ghost use Rattle.ckpt.specs.Reading.{RunsAndRestores};
 
 use cause::{Causes, tell, tell_device, tell_failure, tell_line};
@@ -14,7 +16,7 @@ use progress::ProgressLine;
 use reading::read_store;
 use sd_disk::{DirDisk, Disk, Folder, OpenError};
 use sd_mutate::{Tally, mutate};
-use sd_report::{Reader, print_restored};
+use sd_report::{Output, Reader, print_restored};
 use sd_restore::Fault;
 use sd_run::{Watch, merge_store, run_lines};
 use sd_script::{Script, ScriptError};
@@ -348,29 +350,34 @@ fn run_matches<R: Clock + Threads + Wait + Sync, W: Write>(
     }
 }
 
-/// Runs the program that the words ask for, and returns its exit status. The error is a fault of the words.
+/// Runs the program that the words ask for. The outer error is a fault of the words.
 fn run_words<R: Clock + Threads + Wait + Sync, W: Write>(
     rt: &HostRuntime,
     threads: &R,
     words: &[String],
     out: &mut W,
-) -> Result<u8, clap::Error> {
+) -> Result<Result<(), Stop>, clap::Error> {
     let command = command_line::command(rt.alloc())?;
     let matches = command.try_get_matches_from(words)?;
     let ended = run_matches(rt, threads, &matches, out);
     if let Err(Stop::Writer(error)) = &ended {
         tell(rt, Causes::Told, PRINTED, error);
     }
-    Ok(stop::status(ended, out))
+    Ok(ended)
 }
 
 /// What a fault of the standard output is told of.
 const PRINTED: &str = "standard output";
 
-/// Prints what the output still holds, and returns the status, or that of a failure.
-fn finish<W: Write>(rt: &impl Eprint, out: &mut W, status: u8) -> u8 {
-    match out.flush() {
-        Ok(()) => status,
+/// Prints why a program ended early, if it did, and what the output still holds, and returns the exit status.
+fn exit<W: Write>(rt: &impl Eprint, ended: &Result<(), Stop>, out: &mut Output<W>) -> u8
+    // All is written and flushed, the last line too, and the status is that of the end; or it is 1, and something was
+    // refused.
+    ensures { Exits W.contents out.old out.new (end_text ended.now) (end_status ended.now) result }
+{
+    let wanted = stop::status(ended, out);
+    match out.finish(wanted) {
+        Ok(status) => status,
         Err(error) => {
             tell(rt, Causes::Told, PRINTED, &error);
             FAILED
@@ -384,9 +391,9 @@ fn run_command<R: Clock + Threads + Wait + Sync>(
     threads: &R,
     words: &[String],
 ) -> io::Result<u8> {
-    let mut out = BufWriter::new(rt.alloc(), io::writer(rt))?;
+    let mut out = Output::new(BufWriter::new(rt.alloc(), io::writer(rt))?);
     match run_words(rt, threads, words, &mut out) {
-        Ok(status) => Ok(finish(rt, &mut out, status)),
+        Ok(ended) => Ok(exit(rt, &ended, &mut out)),
         Err(error) => {
             error.print(rt)?;
             Ok(error.exit_code() as u8)

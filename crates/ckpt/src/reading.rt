@@ -1,7 +1,7 @@
 //! Programs that read a store, also while a run writes it.
 ghost use Rattle.std.specs.Prelude.{◌≡◌, true, IfOk};
 ghost use Rattle.sd_report.specs.Ending.{may_change};
-ghost use Rattle.ckpt.specs.Reading.{ReadsStore};
+ghost use Rattle.ckpt.specs.Reading.{ReadsFolder};
 
 use crate::cause::{Causes, tell, tell_device};
 use crate::open_store;
@@ -15,6 +15,9 @@ use std::sync::Wait;
 use std::thread;
 use std::time::{Clock, Duration};
 
+/// The disk that was read at last, and how the printing ended.
+pub type Reading = (DirDisk, Result<(), ReportStop>);
+
 /// How long a reader waits before each further try, in milliseconds, while a run writes the store.
 const PAUSES: [u64; 9] = [1, 2, 5, 10, 20, 50, 100, 200, 400];
 
@@ -27,9 +30,9 @@ fn try_to_read<W: Write>(
     reader: Reader,
     folder: &str,
     out: &mut W,
-) -> Result<(DirDisk, Result<(), ReportStop>), Stop>
+) -> Result<Reading, Stop>
     ensures read { IfOk result (λ read.
-        ReadsStore reader read.0 read.1 (W.contents out.old) (W.contents out.new)) }
+        ReadsFolder reader read (W.contents out.old) (W.contents out.new)) }
     ensures kept { IfOk result (λ read. may_change read.1 ≡ true
         → W.contents out.new ≡ W.contents out.old) }
 {
@@ -46,9 +49,9 @@ fn read_beside<R: Clock + Wait, W: Write>(
     reader: Reader,
     folder: &str,
     out: &mut W,
-) -> Result<(DirDisk, Result<(), ReportStop>), Stop>
+) -> Result<Reading, Stop>
     ensures { IfOk result (λ read.
-        ReadsStore reader read.0 read.1 (W.contents out.old) (W.contents out.new)) }
+        ReadsFolder reader read (W.contents out.old) (W.contents out.new)) }
 {
     let mut read = try_to_read(rt, reader, folder, out)?;
     for pause in PAUSES {
@@ -70,9 +73,9 @@ fn read_alone<W: Write>(
     reader: Reader,
     folder: &str,
     out: &mut W,
-) -> Result<(DirDisk, Result<(), ReportStop>), Stop>
+) -> Result<Reading, Stop>
     ensures { IfOk result (λ read.
-        ReadsStore reader read.0 read.1 (W.contents out.old) (W.contents out.new)) }
+        ReadsFolder reader read (W.contents out.old) (W.contents out.new)) }
 {
     let mut disk = open_store(rt, Causes::Told, folder)?;
     let ended = print_steady(rt.alloc(), reader, &mut disk, out);
@@ -83,8 +86,7 @@ fn read_alone<W: Write>(
     Ok((disk, ended))
 }
 
-/// `ckpt restore`, `ckpt list` and `ckpt verify`, which only read a store. Returns the disk that was read at last, and
-/// how the printing ended.
+/// `ckpt restore`, `ckpt list` and `ckpt verify`, which only read a store.
 ///
 /// # Errors
 ///
@@ -95,10 +97,10 @@ pub fn read_store<R: Clock + Wait, W: Write>(
     reader: Reader,
     folder: &str,
     out: &mut W,
-) -> Result<(DirDisk, Result<(), ReportStop>), Stop>
-    // At the end of the printing the whole text of what the store shows is written.
+) -> Result<Reading, Stop>
+    // At the end of the printing the whole text of what the store shows is written, and before it a beginning.
     ensures { IfOk result (λ read.
-        ReadsStore reader read.0 read.1 (W.contents out.old) (W.contents out.new)) }
+        ReadsFolder reader read (W.contents out.old) (W.contents out.new)) }
 {
     if is_being_written(rt, folder) {
         read_beside(rt, clock, reader, folder, out)

@@ -1,19 +1,19 @@
 //! How a program ends.
-ghost use Rattle.std.specs.Prelude.{◌≡◌, Err, OnOk};
-ghost use Rattle.sd_report.specs.Ending.{EndsWith};
-ghost use Rattle.sd_report.specs.declared.stop.Stop.TheVariants as report;
-ghost use Rattle.ckpt.specs.Ending.{Ends, status_of};
+ghost use Rattle.std.specs.Prelude.{◌≡◌, true, OnOk, OnErr};
+ghost use Rattle.std.specs.Io.KnownBytes.{Appends};
+ghost use Rattle.sd_report.specs.Ending.{IsTold};
+ghost use Rattle.ckpt.specs.Ending.{Ends, open_fault_line, status_of, stop_text};
 
 use sd_command::Refusal;
 use sd_mutate::MutateFault;
-use sd_report::Stop as ReportStop;
+use sd_report::{Output, Stop as ReportStop, fault_status, print_fault};
 use sd_restore::Fault;
 use sd_run::Stop as RunStop;
 use sd_script::ScriptError;
 use sd_world::OpenFault;
 use std::alloc::AllocError;
+use std::io;
 use std::io::Write;
-use std::{fmt, io};
 
 /// The exit status of a program that was refused or stopped.
 pub const FAILED: u8 = 1;
@@ -42,40 +42,58 @@ pub enum Stop {
     Writer(io::Error),
 }
 
-impl fmt::Display for Stop {
-    fn fmt<W: fmt::Write>(&self, f: &mut fmt::Formatter<W>) -> fmt::Result {
-        match self {
-            Stop::Fault(fault) => write!(f, "{fault}"),
-            Stop::Store(fault) => write!(f, "{fault}"),
-            Stop::ScriptLine(number) => write!(f, "script line {number}"),
-            Stop::CannotReadScript => f.write_str("cannot read SCRIPT"),
-            Stop::CannotOpenFolder => f.write_str("cannot open DIR"),
-            Stop::NotEmpty => f.write_str("store not empty"),
-            Stop::Order(why) => write!(f, "refused {why}"),
-            Stop::Refused => f.write_str("refused"),
-            Stop::Writer(_) => f.write_str("cannot print"),
-        }
-    }
-}
-
 /// Prints why a program ended early, if it did, and returns its exit status: 0 at its end, 3 for a store without a
-/// checkpoint, 2 for a script that doesn't fit the language, and else 1.
-pub fn status<W: Write>(ended: Result<(), Stop>, out: &mut W) -> u8
-    ensures ends { Ends ended result }
-    // At the program's end nothing more is printed.
-    ensures done { OnOk ended (W.contents out.new ≡ W.contents out.old) }
-    // A fault of a store comes with its line, and its status with that line alone.
-    ensures told { (fault : Fault) → ended ≡ Err (Stop.Fault fault)
-        → EndsWith (W.contents out.old) (W.contents out.new) (Err (report.Fault fault)) result }
+/// checkpoint, 2 for a script that doesn't fit the language, and else 1. It is 1 also where the line is refused.
+pub fn status<W: Write>(ended: &Result<(), Stop>, out: &mut Output<W>) -> u8
+    ensures { Ends W.contents out.old out.new ended.now result }
 {
     match ended {
         Ok(()) => 0,
-        Err(Stop::Refused | Stop::Writer(_)) => FAILED,
-        Err(Stop::Fault(fault)) => sd_report::status(Err(ReportStop::Fault(fault)), out),
-        Err(stop) => match writeln!(out, "{stop}") {
-            Ok(()) => stop_status(&stop),
-            Err(_) => FAILED,
-        },
+        Err(stop) => told_status(stop, out),
+    }
+}
+
+/// Prints why a program ended early, and returns its exit status, or 1 where the line is refused.
+fn told_status<W: Write>(stop: &Stop, out: &mut Output<W>) -> u8
+    ensures { IsTold W.contents out.old out.new (stop_text stop.now) (status_of stop.now) result }
+{
+    match print_stop(stop, out) {
+        Ok(()) => stop_status(stop),
+        Err(_) => FAILED,
+    }
+}
+
+/// Prints why a program ended early. A refusal is answered before, and where nothing more can be printed, nothing is.
+fn print_stop<W: Write>(stop: &Stop, out: &mut Output<W>) -> io::Result<()>
+    ensures line { OnOk result
+        (Appends (W.contents out.old.writer) (W.contents out.new.writer) (stop_text stop.now)) }
+    ensures ok { OnOk result (out.new.refused ≡ out.old.refused) }
+    ensures refused { OnErr result (out.new.refused ≡ true) }
+{
+    match stop {
+        Stop::Fault(fault) => print_fault(fault, out),
+        Stop::Store(fault) => print_open_fault(*fault, out),
+        Stop::ScriptLine(number) => writeln!(out, "script line {number}"),
+        Stop::CannotReadScript => out.write_all(b"cannot read SCRIPT\n"),
+        Stop::CannotOpenFolder => out.write_all(b"cannot open DIR\n"),
+        Stop::NotEmpty => out.write_all(b"store not empty\n"),
+        Stop::Order(why) => writeln!(out, "refused {why}"),
+        Stop::Refused | Stop::Writer(_) => Ok(()),
+    }
+}
+
+/// Prints why the store of a run isn't opened.
+fn print_open_fault<W: Write>(fault: OpenFault, out: &mut Output<W>) -> io::Result<()>
+    ensures line { OnOk result
+        (Appends (W.contents out.old.writer) (W.contents out.new.writer) (open_fault_line fault)) }
+    ensures ok { OnOk result (out.new.refused ≡ out.old.refused) }
+    ensures refused { OnErr result (out.new.refused ≡ true) }
+{
+    match fault {
+        OpenFault::NoFrame => out.write_all(b"no-frame\n"),
+        OpenFault::Damaged { slot, reason } => print_fault(&Fault::Damaged { slot, reason }, out),
+        OpenFault::Device => print_fault(&Fault::Device, out),
+        OpenFault::OutOfMemory => print_fault(&Fault::OutOfMemory, out),
     }
 }
 
@@ -84,7 +102,7 @@ fn stop_status(stop: &Stop) -> u8
     ensures { result ≡ status_of stop.now }
 {
     match stop {
-        Stop::Fault(Fault::EmptyChain) => 3,
+        Stop::Fault(fault) => fault_status(fault),
         Stop::ScriptLine(_) => UNFIT,
         _ => FAILED,
     }

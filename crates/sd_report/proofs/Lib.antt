@@ -4,3 +4,5 @@ pub mod DigitLemmas
 pub mod LineLemmas
 pub mod PageLemmas
 pub mod MemoryTexts
+pub mod BreakLemmas
+pub mod SteadyLemmas

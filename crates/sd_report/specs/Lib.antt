@@ -3,3 +3,4 @@ pub mod Listing
 pub mod Texts
 pub mod Printed
 pub mod Digits
+pub mod Reading

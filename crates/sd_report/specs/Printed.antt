@@ -1,6 +1,6 @@
 -- What was printed of the contents of a store: the bytes that a writer holds grew by it.
-use Rattle.std.specs.Prelude.{ℕ, List, Option, Some, length, filter}
-use Rattle.std.specs.Io.KnownBytes.{Appends}
+use Rattle.std.specs.Prelude.{◌≡◌, ◌⊎◌, ℕ, List, [], ◌++◌, Option, Some, length, filter}
+use Rattle.std.specs.Io.KnownBytes.{Appends, Keeps}
 use Rattle.sd_areas.specs.PlainMemory.{PlainMemory}
 use Rattle.sd_image.specs.Image.{is_open}
 use Rattle.sd_image.specs.Shows.{Shows}
@@ -38,3 +38,14 @@ abbrev pub Prints : Reader → List (List ℕ) → Option (List ℕ) → Option 
 Prints reader.Restore = PrintsMemory
 Prints reader.List = PrintsImages
 Prints reader.Verify = PrintsVerdict
+
+-- a beginning of a text
+pub record Begins (before after : Option (List ℕ)) (text : List ℕ) : Type 0 where
+  pub front : List ℕ
+  pub rest : List ℕ
+  pub whole : front ++ rest ≡ text
+  pub printed : Appends before after front
+
+-- nothing yet, or a beginning of the text of the contents: the text that a program prints of them where none was before
+abbrev pub BeginsToPrint : Reader → List (List ℕ) → Option (List ℕ) → Option (List ℕ) → Type 0
+BeginsToPrint reader contents before after = Keeps before after ⊎ ((text : List ℕ) × Prints reader contents (Some []) (Some text) × Begins before after text)

@@ -3,6 +3,7 @@
 
 mod list;
 mod listing;
+mod output;
 mod page_text;
 mod restore;
 mod steady;
@@ -10,7 +11,8 @@ mod stop;
 mod verify;
 
 pub use list::{list_to, print_list};
+pub use output::Output;
 pub use restore::{print_restored, restore_to};
 pub use steady::{Reader, may_change, print_steady, print_whole};
-pub use stop::{Stop, status};
+pub use stop::{Stop, fault_status, print_fault};
 pub use verify::{print_report, verify_to};

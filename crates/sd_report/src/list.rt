@@ -1,29 +1,33 @@
 //! `ckpt list`: the images of a store.
-ghost use Rattle.std.specs.Prelude.{◌≡◌, ◌≤◌, IfErr, OnOk};
+ghost use Rattle.std.specs.Prelude.{◌≡◌, ◌≢◌, false, ◌≤◌, IfErr, OnOk};
+ghost use Rattle.std.specs.Io.KnownBytes.{Keeps};
 ghost use Rattle.sd_disk.specs.Reads.{OnlyReads};
-ghost use Rattle.sd_report.specs.Ending.{EndsWithOne, IsReadable, StandsAlone};
+ghost use Rattle.sd_report.specs.Ending.{EndsWithOne, IsReadable, OnFault, StandsAlone};
 ghost use Rattle.sd_report.specs.Printed.{PrintsImages};
 
 use crate::listing::list_text;
-use crate::stop::{Stop, status};
+use crate::output::Output;
+use crate::stop::{Stop, exit};
 use sd_disk::Disk;
 use sd_restore::scan;
 use std::alloc::Global;
 use std::io::Write;
 
 /// Prints a line for each open image, rising by serial, and one for the tip, and returns the exit status.
-pub fn list_to<D: Disk, W: Write>(alloc: Global, disk: &mut D, out: &mut W) -> u8
+pub fn list_to<D: Disk, W: Write>(alloc: Global, disk: &mut D, out: &mut Output<W>) -> u8
     // Status 0 only where every open slot is an image, with a serial of its own.
     ensures readable { D.is_honest disk.new → result ≡ 0 → IsReadable (D.contents disk.old) }
     // Every line is then written.
     ensures text { D.is_honest disk.new → result ≡ 0
-        → PrintsImages (D.contents disk.old) (W.contents out.old) (W.contents out.new) }
+        → PrintsImages (D.contents disk.old) (W.contents out.old.writer) (W.contents out.new.writer) }
     // A store without a checkpoint is no fault here.
     ensures status { result ≤ 1 }
+    // All was written and flushed, but where the status is 1.
+    ensures whole { result ≢ 1 → out.new.refused ≡ false }
     ensures reads { OnlyReads D.Disk disk.old disk.new }
 {
     let ended = print_list(alloc, disk, out);
-    status(ended, out)
+    exit(&ended, out)
 }
 
 /// Prints the images of a store.
@@ -32,6 +36,8 @@ pub fn print_list<D: Disk, W: Write>(alloc: Global, disk: &mut D, out: &mut W) -
     ensures readable { D.is_honest disk.new → OnOk result (IsReadable (D.contents disk.old)) }
     ensures text { D.is_honest disk.new → OnOk result
         (PrintsImages (D.contents disk.old) (W.contents out.old) (W.contents out.new)) }
+    // Where a fault stopped it, nothing is written yet.
+    ensures none { OnFault result (Keeps (W.contents out.old) (W.contents out.new)) }
     // What is wrong with the store is told alone.
     ensures alone { IfErr result (StandsAlone (W.contents out.old) (W.contents out.new)) }
     ensures stopped { EndsWithOne result }

@@ -1,5 +1,5 @@
 //! `ckpt restore`: printing the memory that a store shows.
-ghost use Rattle.std.specs.Prelude.{◌≡◌, ◌≢◌, ◌<◌, ◌≤◌, ◌^◌, ◌+◌, ◌*◌, ◌/◌, ℕ, None, Some, Err, All, length, map, flat_map, IfErr, IfOk, OnOk};
+ghost use Rattle.std.specs.Prelude.{◌≡◌, ◌≢◌, ◌<◌, ◌≤◌, ◌^◌, ◌+◌, ◌*◌, ◌/◌, ℕ, false, None, Some, Err, All, length, map, flat_map, IfErr, IfOk, OnOk};
 ghost use Rattle.std.specs.Io.KnownBytes.{Appends};
 ghost use Rattle.sd_areas.specs.Areas.{AreMaximal};
 ghost use Rattle.sd_disk.specs.Reads.{OnlyReads};
@@ -8,14 +8,16 @@ ghost use Rattle.sd_image.specs.Shows.{Shows};
 ghost use Rattle.sd_restore.specs.declared.fault.Fault.TheVariants as fault;
 ghost use Rattle.sd_restore.specs.Placed.{IsInSlots, IsWithin, pages_in, placed_pages};
 ghost use Rattle.sd_image.specs.Table.{listing_of};
+ghost use Rattle.sd_report.specs.declared.steady.Reader.TheVariants as reader;
 ghost use Rattle.sd_report.specs.declared.stop.Stop.TheVariants as stop;
-ghost use Rattle.sd_report.specs.Ending.{IsOutside, ShowsMemory, StandsAlone};
-ghost use Rattle.sd_report.specs.Printed.{PrintsMemory};
+ghost use Rattle.sd_report.specs.Ending.{IsOutside, OnFault, ShowsMemory, StandsAlone};
+ghost use Rattle.sd_report.specs.Printed.{Begins, BeginsToPrint, PrintsMemory};
 ghost use Rattle.sd_areas.specs.PlainMemory.{PlainMemory};
 ghost use Rattle.sd_report.specs.Texts.{fault_line, memory_text, pages_text, part_of_run, placed_lines, placed_memory_text, placed_space_text, placed_text};
 
+use crate::output::Output;
 use crate::page_text::print_page;
-use crate::stop::{Stop, status};
+use crate::stop::{Stop, exit};
 use sd_areas::{PAGE_BYTES, PAGE_SIZE, SpaceId};
 use sd_chain::Found;
 use sd_disk::Disk;
@@ -30,25 +32,27 @@ use std::io::Write;
 const BUFFER_PAGES: usize = 16;
 
 /// Prints the memory that a store shows, and returns the exit status.
-pub fn restore_to<D: Disk, W: Write>(alloc: Global, disk: &mut D, out: &mut W) -> u8
+pub fn restore_to<D: Disk, W: Write>(alloc: Global, disk: &mut D, out: &mut Output<W>) -> u8
     // Status 0 only where the store shows a memory, and 3 only where it shows that nothing was saved.
     ensures shown { D.is_honest disk.new → result ≡ 0 → ShowsMemory (D.contents disk.old) }
     // The whole text of that memory is then written.
     ensures text { D.is_honest disk.new → result ≡ 0
-        → PrintsMemory (D.contents disk.old) (W.contents out.old) (W.contents out.new) }
+        → PrintsMemory (D.contents disk.old) (W.contents out.old.writer) (W.contents out.new.writer) }
     // So whatever checkpoint and memory the store shows, its text is what is written.
     ensures exact { D.is_honest disk.new → result ≡ 0 → (moment : ℕ × PlainMemory)
         → Shows (D.contents disk.old) (Some moment)
-        → Appends (W.contents out.old) (W.contents out.new) (memory_text moment) }
+        → Appends (W.contents out.old.writer) (W.contents out.new.writer) (memory_text moment) }
     ensures empty { D.is_honest disk.new → result ≡ 3 → Shows (D.contents disk.old) None }
     // Status 3 comes with its line, and with nothing else.
     ensures told { result ≡ 3
-        → Appends (W.contents out.old) (W.contents out.new) (fault_line fault.EmptyChain) }
+        → Appends (W.contents out.old.writer) (W.contents out.new.writer) (fault_line fault.EmptyChain) }
+    // All was written and flushed, but where the status is 1.
+    ensures whole { result ≢ 1 → out.new.refused ≡ false }
     ensures reads { OnlyReads D.Disk disk.old disk.new }
 {
     shown_once();
     let ended = print_restored(alloc, disk, out);
-    status(ended, out)
+    exit(&ended, out)
 }
 
 /// Prints the memory that a store shows, behind all checks of a restore. It holds a few pages at a time.
@@ -61,6 +65,9 @@ pub fn print_restored<D: Disk, W: Write>(
     ensures shown { D.is_honest disk.new → OnOk result (ShowsMemory (D.contents disk.old)) }
     ensures text { D.is_honest disk.new → OnOk result
         (PrintsMemory (D.contents disk.old) (W.contents out.old) (W.contents out.new)) }
+    // Where the device failed or memory was refused half way, a beginning of that text is written.
+    ensures begins { D.is_honest disk.new → OnFault result
+        (BeginsToPrint reader.Restore (D.contents disk.old) (W.contents out.old) (W.contents out.new)) }
     // Nothing is written where nothing was saved, or the store is damaged.
     ensures alone { IfErr result (StandsAlone (W.contents out.old) (W.contents out.new)) }
     ensures empty { D.is_honest disk.new → result ≡ Err (stop.Fault fault.EmptyChain)
@@ -85,6 +92,10 @@ fn print_placed<D: Disk, W: Write>(
         (λ (s : SpaceTable). AreMaximal None s.areas.items) placed.now.spaces.now }
     ensures text { D.is_honest disk.new → OnOk result
         (Appends (W.contents out.old) (W.contents out.new)
+        (placed_memory_text (D.contents disk.old) placed.now.checkpoint
+        (map listing_of placed.now.spaces.now) (placed_pages placed.now.runs.items))) }
+    ensures begins { D.is_honest disk.new → OnFault result
+        (Begins (W.contents out.old) (W.contents out.new)
         (placed_memory_text (D.contents disk.old) placed.now.checkpoint
         (map listing_of placed.now.spaces.now) (placed_pages placed.now.runs.items))) }
     ensures reads { OnlyReads D.Disk disk.old disk.new }
@@ -124,6 +135,9 @@ fn print_space<D: Disk, W: Write>(
     ensures text { D.is_honest disk.new → OnOk result
         (Appends (W.contents out.old) (W.contents out.new)
         (placed_space_text (D.contents disk.old) (placed_pages runs.now) (listing_of space.now))) }
+    ensures begins { D.is_honest disk.new → OnFault result
+        (Begins (W.contents out.old) (W.contents out.new)
+        (placed_space_text (D.contents disk.old) (placed_pages runs.now) (listing_of space.now))) }
     ensures reads { OnlyReads D.Disk disk.old disk.new }
     ensures empty { result ≢ Err (stop.Fault fault.EmptyChain) }
     ensures outside { IfErr result IsOutside }
@@ -146,6 +160,9 @@ fn print_pages<D: Disk, W: Write>(
     requires room { 4096 ≤ length buffer.old }
     ensures text { D.is_honest disk.new → OnOk result
         (Appends (W.contents out.old) (W.contents out.new)
+        (placed_lines (D.contents disk.old) space (placed_pages runs.now))) }
+    ensures begins { D.is_honest disk.new → OnFault result
+        (Begins (W.contents out.old) (W.contents out.new)
         (placed_lines (D.contents disk.old) space (placed_pages runs.now))) }
     ensures reads { OnlyReads D.Disk disk.old disk.new }
     ensures empty { result ≢ Err (stop.Fault fault.EmptyChain) }
@@ -170,6 +187,9 @@ fn print_in_space<D: Disk, W: Write>(
     requires room { 4096 ≤ length buffer.old }
     ensures text { D.is_honest disk.new → OnOk result
         (Appends (W.contents out.old) (W.contents out.new)
+        (placed_lines (D.contents disk.old) space (pages_in run.now))) }
+    ensures begins { D.is_honest disk.new → OnFault result
+        (Begins (W.contents out.old) (W.contents out.new)
         (placed_lines (D.contents disk.old) space (pages_in run.now))) }
     ensures reads { OnlyReads D.Disk disk.old disk.new }
     ensures empty { result ≢ Err (stop.Fault fault.EmptyChain) }
@@ -196,6 +216,9 @@ fn print_run<D: Disk, W: Write>(
     requires room { 4096 ≤ length buffer.old }
     ensures text { D.is_honest disk.new → OnOk result
         (Appends (W.contents out.old) (W.contents out.new)
+        (flat_map (placed_text (D.contents disk.old)) (pages_in run.now))) }
+    ensures begins { D.is_honest disk.new → OnFault result
+        (Begins (W.contents out.old) (W.contents out.new)
         (flat_map (placed_text (D.contents disk.old)) (pages_in run.now))) }
     ensures reads { OnlyReads D.Disk disk.old disk.new }
     ensures empty { result ≢ Err (stop.Fault fault.EmptyChain) }
@@ -234,6 +257,9 @@ fn print_some<D: Disk, W: Write>(
     requires room { length buffer.old ≡ 4096 * count }
     ensures text { D.is_honest disk.new → OnOk result
         (Appends (W.contents out.old) (W.contents out.new)
+        (part_of_run (D.contents disk.old) run.now behind count)) }
+    ensures begins { D.is_honest disk.new → OnFault result
+        (Begins (W.contents out.old) (W.contents out.new)
         (part_of_run (D.contents disk.old) run.now behind count)) }
     ensures reads { OnlyReads D.Disk disk.old disk.new }
     ensures empty { result ≢ Err (stop.Fault fault.EmptyChain) }

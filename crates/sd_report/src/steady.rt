@@ -1,12 +1,10 @@
 //! What a program that reads a store prints, by the program's name; and answers that are of one moment of the store.
-ghost use Rattle.std.specs.Prelude.{◌≡◌, ◌≢◌, ◌<◌, true, Err, None, length, IfErr, OnOk};
+ghost use Rattle.std.specs.Prelude.{◌≡◌, ◌≢◌, ◌<◌, true, length, IfErr};
 ghost use Rattle.sd_disk.specs.Reads.{OnlyReads};
-ghost use Rattle.sd_image.specs.Shows.{Shows};
 ghost use Rattle.sd_restore.specs.declared.fault.Fault.TheVariants as fault;
 ghost use Rattle.sd_restore.specs.Faulty.{Names};
-ghost use Rattle.sd_report.specs.declared.stop.Stop.TheVariants as stop;
-ghost use Rattle.sd_report.specs.Ending.{StandsAlone, may_change};
-ghost use Rattle.sd_report.specs.Printed.{Prints};
+ghost use Rattle.sd_report.specs.Ending.{may_change, writer_failed};
+ghost use Rattle.sd_report.specs.Reading.{ReadsStore};
 
 use crate::list::print_list;
 use crate::restore::print_restored;
@@ -39,11 +37,8 @@ fn print_by<D: Disk, W: Write>(
     disk: &mut D,
     out: &mut W,
 ) -> Result<(), Stop>
-    ensures text { D.is_honest disk.new → OnOk result
-        (Prints reader (D.contents disk.old) (W.contents out.old) (W.contents out.new)) }
-    ensures alone { IfErr result (StandsAlone (W.contents out.old) (W.contents out.new)) }
-    ensures empty { D.is_honest disk.new → result ≡ Err (stop.Fault fault.EmptyChain)
-        → (reader ≡ Reader.Restore) × Shows (D.contents disk.old) None }
+    ensures store { ReadsStore reader (D.is_honest disk.new) (D.contents disk.old) result
+        (W.contents out.old) (W.contents out.new) }
     ensures reads { OnlyReads D.Disk disk.old disk.new }
 {
     match reader {
@@ -107,22 +102,28 @@ pub fn print_steady<D: Disk, W: Write>(
     disk: &mut D,
     out: &mut W,
 ) -> Result<(), Stop>
-    // At its end the whole text of what the store shows is written.
-    ensures text { D.is_honest disk.new → OnOk result
-        (Prints reader (D.contents disk.old) (W.contents out.old) (W.contents out.new)) }
-    // Nothing is written where the store is damaged, or nothing was saved.
-    ensures alone { IfErr result (StandsAlone (W.contents out.old) (W.contents out.new)) }
-    ensures empty { D.is_honest disk.new → result ≡ Err (stop.Fault fault.EmptyChain)
-        → (reader ≡ Reader.Restore) × Shows (D.contents disk.old) None }
+    // At its end the whole text of what the store shows is written, and before it a beginning.
+    ensures store { ReadsStore reader (D.is_honest disk.new) (D.contents disk.old) result
+        (W.contents out.old) (W.contents out.new) }
     ensures reads { OnlyReads D.Disk disk.old disk.new }
 {
     let before = fronts(alloc, disk)?;
     let ended = print_by(alloc, reader, disk, out);
+    if writer_failed(&ended) {
+        return ended;
+    }
     if fronts(alloc, disk)? == before {
         ended
     } else {
         Err(Stop::Fault(Fault::Device))
     }
+}
+
+/// Whether nothing more can be printed.
+fn writer_failed(ended: &Result<(), Stop>) -> bool
+    ensures { result ≡ writer_failed ended.now }
+{
+    matches!(ended, Err(Stop::Writer(_)))
 }
 
 /// Whether another try may answer otherwise while a run writes the store: that changes what is read.
@@ -146,13 +147,10 @@ pub fn print_whole<D: Disk, W: Write>(
     disk: &mut D,
     out: &mut W,
 ) -> Result<(), Stop>
-    ensures text { D.is_honest disk.new → OnOk result
-        (Prints reader (D.contents disk.old) (W.contents out.old) (W.contents out.new)) }
-    ensures alone { IfErr result (StandsAlone (W.contents out.old) (W.contents out.new)) }
+    ensures store { ReadsStore reader (D.is_honest disk.new) (D.contents disk.old) result
+        (W.contents out.old) (W.contents out.new) }
     // Where another try may answer otherwise, nothing is written.
     ensures kept { may_change result ≡ true → W.contents out.new ≡ W.contents out.old }
-    ensures empty { D.is_honest disk.new → result ≡ Err (stop.Fault fault.EmptyChain)
-        → (reader ≡ Reader.Restore) × Shows (D.contents disk.old) None }
     ensures reads { OnlyReads D.Disk disk.old disk.new }
 {
     let mut text = Vec::new(alloc);

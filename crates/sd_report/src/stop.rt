@@ -1,10 +1,11 @@
 //! How the printing of a store ends.
-ghost use Rattle.std.specs.Prelude.{◌≡◌, if◌then◌else◌, OnOk};
+ghost use Rattle.std.specs.Prelude.{◌≡◌, true, OnOk, OnErr};
 ghost use Rattle.std.specs.Io.KnownBytes.{Appends};
-ghost use Rattle.sd_report.specs.Ending.{Ends, EndsWith, status_of};
+ghost use Rattle.sd_report.specs.Ending.{Ends, Exits, IsTold, end_status, end_text, fault_status};
 ghost use Rattle.sd_report.specs.Texts.{fault_line};
 ghost use Rattle.sd_restore.specs.declared.fault.Fault.TheVariants.{Damaged};
 
+use crate::output::Output;
 use sd_image::Reason;
 use sd_restore::Fault;
 use std::alloc::AllocError;
@@ -33,31 +34,45 @@ impl fmt::Display for Stop {
 }
 
 /// Prints why the printing ended early, if it did, and returns the exit status: 0 at its end, 3 for a store without a
-/// checkpoint, and else 1.
-pub fn status<W: Write>(ended: Result<(), Stop>, out: &mut W) -> u8
-    ensures ends { Ends ended result }
-    ensures with { EndsWith (W.contents out.old) (W.contents out.new) ended result }
+/// checkpoint, and else 1. It is 1 also where the line is refused.
+fn status<W: Write>(ended: &Result<(), Stop>, out: &mut Output<W>) -> u8
+    ensures { Ends W.contents out.old out.new ended.now result }
 {
     match ended {
         Ok(()) => 0,
         Err(Stop::Writer(_)) => FAILED,
-        Err(Stop::Fault(fault)) => {
-            let printed = print_fault(&fault, out);
-            told_status(&Stop::Fault(fault), printed.is_ok())
-        }
+        Err(Stop::Fault(fault)) => told_status(fault, out),
     }
 }
 
-/// The exit status of a program that was stopped, where the line that tells why is printed, or can't be.
-fn told_status(stop: &Stop, printed: bool) -> u8
-    ensures { result ≡ (if printed then status_of stop.now else 1) }
+/// Prints why the printing ended early, if it did, flushes, and returns the exit status: that of the end, or 1 where
+/// anything was refused.
+pub(crate) fn exit<W: Write>(ended: &Result<(), Stop>, out: &mut Output<W>) -> u8
+    ensures { Exits W.contents out.old out.new (end_text ended.now) (end_status ended.now) result }
 {
-    if printed { stop_status(stop) } else { FAILED }
+    let wanted = status(ended, out);
+    match out.finish(wanted) {
+        Ok(status) => status,
+        Err(_refused) => FAILED,
+    }
+}
+
+/// Prints a fault's line, and returns its exit status, or 1 where the line is refused.
+fn told_status<W: Write>(fault: &Fault, out: &mut Output<W>) -> u8
+    ensures { IsTold W.contents out.old out.new (fault_line fault.now) (fault_status fault.now) result }
+{
+    match print_fault(fault, out) {
+        Ok(()) => fault_status(fault),
+        Err(_) => FAILED,
+    }
 }
 
 /// Prints a fault's line.
-fn print_fault<W: Write>(fault: &Fault, out: &mut W) -> io::Result<()>
-    ensures { OnOk result (Appends (W.contents out.old) (W.contents out.new) (fault_line fault.now)) }
+pub fn print_fault<W: Write>(fault: &Fault, out: &mut Output<W>) -> io::Result<()>
+    ensures line { OnOk result
+        (Appends (W.contents out.old.writer) (W.contents out.new.writer) (fault_line fault.now)) }
+    ensures ok { OnOk result (out.new.refused ≡ out.old.refused) }
+    ensures refused { OnErr result (out.new.refused ≡ true) }
 {
     match fault {
         Fault::EmptyChain => out.write_all(b"empty chain\n"),
@@ -68,18 +83,21 @@ fn print_fault<W: Write>(fault: &Fault, out: &mut W) -> io::Result<()>
 }
 
 /// Prints which slot is damaged, and why.
-fn print_damaged<W: Write>(slot: usize, reason: Reason, out: &mut W) -> io::Result<()>
-    ensures { OnOk result (Appends (W.contents out.old) (W.contents out.new) (fault_line (Damaged slot reason))) }
+fn print_damaged<W: Write>(slot: usize, reason: Reason, out: &mut Output<W>) -> io::Result<()>
+    ensures line { OnOk result (Appends (W.contents out.old.writer) (W.contents out.new.writer)
+        (fault_line (Damaged slot reason))) }
+    ensures ok { OnOk result (out.new.refused ≡ out.old.refused) }
+    ensures refused { OnErr result (out.new.refused ≡ true) }
 {
     writeln!(out, "damaged {slot:03} {}", reason.number())
 }
 
-/// The exit status of a program that printed why it stopped.
-fn stop_status(stop: &Stop) -> u8
-    ensures { result ≡ status_of stop.now }
+/// The exit status of a program that printed a fault's line.
+pub fn fault_status(fault: &Fault) -> u8
+    ensures { result ≡ fault_status fault.now }
 {
-    match stop {
-        Stop::Fault(Fault::EmptyChain) => 3,
+    match fault {
+        Fault::EmptyChain => 3,
         _ => FAILED,
     }
 }

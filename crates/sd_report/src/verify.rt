@@ -1,28 +1,32 @@
 //! `ckpt verify`: checking that a store can be restored.
-ghost use Rattle.std.specs.Prelude.{◌≡◌, ◌≤◌, IfErr, OnOk};
+ghost use Rattle.std.specs.Prelude.{◌≡◌, ◌≢◌, false, ◌≤◌, IfErr, OnOk};
+ghost use Rattle.std.specs.Io.KnownBytes.{Keeps};
 ghost use Rattle.sd_disk.specs.Reads.{OnlyReads};
-ghost use Rattle.sd_report.specs.Ending.{EndsWithOne, IsShowing, StandsAlone};
+ghost use Rattle.sd_report.specs.Ending.{EndsWithOne, IsShowing, OnFault, StandsAlone};
 ghost use Rattle.sd_report.specs.Printed.{PrintsVerdict};
 
-use crate::stop::{Stop, status};
+use crate::output::Output;
+use crate::stop::{Stop, exit};
 use sd_disk::Disk;
 use sd_restore::verify;
 use std::alloc::Global;
 use std::io::Write;
 
 /// Prints whether a store shows a checkpoint or that nothing was saved, and returns the exit status.
-pub fn verify_to<D: Disk, W: Write>(alloc: Global, disk: &mut D, out: &mut W) -> u8
+pub fn verify_to<D: Disk, W: Write>(alloc: Global, disk: &mut D, out: &mut Output<W>) -> u8
     // Status 0 only where the store shows one of the two.
     ensures showing { D.is_honest disk.new → result ≡ 0 → IsShowing (D.contents disk.old) }
     // The whole line is then written.
     ensures text { D.is_honest disk.new → result ≡ 0
-        → PrintsVerdict (D.contents disk.old) (W.contents out.old) (W.contents out.new) }
+        → PrintsVerdict (D.contents disk.old) (W.contents out.old.writer) (W.contents out.new.writer) }
     // A store without a checkpoint is no fault here.
     ensures status { result ≤ 1 }
+    // All was written and flushed, but where the status is 1.
+    ensures whole { result ≢ 1 → out.new.refused ≡ false }
     ensures reads { OnlyReads D.Disk disk.old disk.new }
 {
     let ended = print_report(alloc, disk, out);
-    status(ended, out)
+    exit(&ended, out)
 }
 
 /// Prints what a store shows.
@@ -31,6 +35,8 @@ pub fn print_report<D: Disk, W: Write>(alloc: Global, disk: &mut D, out: &mut W)
     ensures showing { D.is_honest disk.new → OnOk result (IsShowing (D.contents disk.old)) }
     ensures text { D.is_honest disk.new → OnOk result
         (PrintsVerdict (D.contents disk.old) (W.contents out.old) (W.contents out.new)) }
+    // Where a fault stopped it, nothing is written yet.
+    ensures none { OnFault result (Keeps (W.contents out.old) (W.contents out.new)) }
     // What is wrong with the store is told alone.
     ensures alone { IfErr result (StandsAlone (W.contents out.old) (W.contents out.new)) }
     ensures stopped { EndsWithOne result }

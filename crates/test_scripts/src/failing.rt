@@ -1,7 +1,7 @@
 //! Writers and devices that fail while a store is read.
 use crate::run::{CHAIN, FIRST, FIRST_SHOWN, fresh, printed};
 use sd_disk::{Disk, Fused};
-use sd_report::restore_to;
+use sd_report::{Output, restore_to};
 use sd_run::run_script;
 use std::alloc::Global;
 use std::io;
@@ -50,7 +50,7 @@ fn a_writer_that_fails_ends_the_run(rt: HostRuntime) -> Result<(), Fail> {
 
 /// The status of `restore` whose writer fails behind so many bytes.
 fn restored_behind<D: Disk>(alloc: Global, disk: &mut D, left: usize) -> u8 {
-    restore_to(alloc, disk, &mut Failing { left })
+    restore_to(alloc, disk, &mut Output::new(Failing { left }))
 }
 
 /// A restore ends with status 1 where its writer fails at any byte.

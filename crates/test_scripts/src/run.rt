@@ -1,6 +1,6 @@
 //! Runs of scripts, and what is printed of the stores that they leave.
 use sd_disk::{DirDisk, Disk, Folder, MemDisk, OpenError};
-use sd_report::{list_to, restore_to, verify_to};
+use sd_report::{Output, list_to, restore_to, verify_to};
 use sd_run::run_script;
 use std::alloc::{AllocError, Global};
 use std::process::{self, Abort};
@@ -118,13 +118,13 @@ pub(crate) fn fresh(rt: &(impl Abort + AllocGlobal), rows: &str) -> Result<MemDi
 
 /// What a program prints of a store, and its exit status.
 pub(crate) fn printed<D: Disk>(alloc: Global, disk: &mut D, program: &str) -> (Vec<u8>, u8) {
-    let mut out = Vec::new(alloc);
+    let mut out = Output::new(Vec::new(alloc));
     let status = match program {
         "restore" => restore_to(alloc, disk, &mut out),
         "list" => list_to(alloc, disk, &mut out),
         _ => verify_to(alloc, disk, &mut out),
     };
-    (out, status)
+    (out.into_writer(), status)
 }
 
 /// A program prints this of a store, and ends with status 0.

@@ -1,11 +1,20 @@
-use Rattle.sd_report.proofs.EndingLemmas.{at_most_one, printed_at_its_end}
+use Rattle.std.proofs.Common.{List, ℕ}
+use Rattle.sd_report.proofs.EndingLemmas.{at_most_one, printed_at_its_end, prints_then_nothing, whole_but_for_one}
+use Rattle.sd_report.specs.Ending.{end_status, end_text}
 use Rattle.sd_report.specs.Printed.{PrintsImages}
+use Rattle.sd_report.specs.declared.steady.Reader.TheVariants as reader
 use Rattle.sd_report.proofs.list.list_to.Goals as goal
 
 pub returns-clause-status : goal.returns-clause-status
-returns-clause-status g c = at_most_one c.print_list-ended.result c.status.result c.status.ensures.ends c.print_list-ended.ensures.stopped
+returns-clause-status g c = at_most_one g.W.Write.contents c.print_list-ended.new.out c.exit.new.out c.exit.result c.print_list-ended.result c.exit.ensures c.print_list-ended.ensures.stopped
+
+pub returns-clause-whole : goal.returns-clause-whole
+returns-clause-whole g c = whole_but_for_one g.W.Write.contents c.print_list-ended.new.out c.exit.new.out c.exit.result (end_text c.print_list-ended.result)
+    (end_status c.print_list-ended.result) c.exit.ensures
 
 pub returns-clause-text : goal.returns-clause-text
 returns-clause-text g c = λ honest zero.
-    printed_at_its_end (PrintsImages (g.D.Disk.contents c.args.disk.now) (g.W.Write.contents c.args.out.now)) c.print_list-ended.result c.status.result _ _ c.status.ensures.with
-    (c.print_list-ended.ensures.text honest) zero
+    let contents : List (List ℕ) = g.D.Disk.contents c.args.disk.now in
+    let from = g.W.Write.contents c.args.out.now.writer in
+    printed_at_its_end g.W.Write.contents c.print_list-ended.new.out c.exit.new.out c.exit.result (PrintsImages contents from) (prints_then_nothing reader.List contents from)
+    c.print_list-ended.result c.exit.ensures (c.print_list-ended.ensures.text honest) zero

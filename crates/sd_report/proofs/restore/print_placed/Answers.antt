@@ -1,4 +1,4 @@
-use Rattle.std.proofs.Common.{◌≡◌, ◌∷◌, [], ◌++◌, ◌+◌, ℕ, List, map, take, codes, ap, sym, ◌∙◌, subst, append_assoc, append-nil}
+use Rattle.std.proofs.Common.{Err, ◌≡◌, ◌∷◌, [], ◌++◌, ◌+◌, ℕ, List, map, take, codes, ap, sym, ◌∙◌, subst, append_assoc, append-nil}
 use Rattle.std.specs.List.{flat_map}
 use Rattle.std.specs.Fmt.{decimal}
 use Rattle.std.specs.Io.KnownBytes.{Appends}
@@ -10,6 +10,8 @@ use Rattle.sd_image.specs.declared.table.SpaceTable.{SpaceTable}
 use Rattle.sd_image.specs.Table.{Listed, listing_of}
 use Rattle.sd_restore.specs.Placed.{PlacedPage, placed_pages}
 use Rattle.sd_restore.proofs.TakeLemmas.{taken, taken_all}
+use Rattle.std.proofs.lemmas.Result.{err_from_is_err_and}
+use Rattle.sd_report.proofs.BreakLemmas.{always_on_fault, begun, checkpoint_line, memory_broken}
 use Rattle.sd_report.specs.Texts.{placed_memory_text, placed_space_text}
 use Rattle.sd_report.proofs.restore.print_placed.Goals as goal
 
@@ -51,3 +53,25 @@ returns-clause-text g c = λ honest.
     subst (λ spaces. Appends (g.W.Write.contents c.args.out.now) (g.W.Write.contents c.loop-space.out)
     (placed_memory_text (g.D.Disk.contents c.args.disk.now) placed.checkpoint (map listing_of spaces) (placed_pages placed.runs.items)))
     (taken_all items c.loop-space.space-index c.loop-space-test.false) (c.loop-space.invariant.printed honest)
+
+pub returns-in_err-buffer-clause-begins : goal.returns-in_err-buffer-clause-begins
+returns-in_err-buffer-clause-begins g c = λ honest.
+    let placed = c.args.placed.now in
+    let number : List ℕ = decimal placed.checkpoint in
+    let rest : List ℕ = flat_map (placed_space_text (g.D.Disk.contents c.args.disk.now) (placed_pages placed.runs.items)) (map listing_of placed.spaces.now) in
+    always_on_fault c.from_residual-in_err-buffer.result
+    (begun (g.W.Write.contents c.args.out.now) (g.W.Write.contents c.writeln.new.self) (codes "checkpoint " ++ (number ++ 10 ∷ [])) rest
+    (codes "checkpoint " ++ number ++ 10 ∷ [] ++ rest) (checkpoint_line number rest) c.in_ok-writeln.ensures.bytes)
+
+pub returns-in_err-print_space-clause-begins : goal.returns-in_err-print_space-clause-begins
+returns-in_err-print_space-clause-begins g c = λ honest.
+    let was = c.loop-space.invariant in
+    let now = c.in_err-print_space.ensures in
+    let contents : List (List ℕ) = g.D.Disk.contents c.args.disk.now in
+    let placed = c.args.placed.now in
+    let items : List SpaceTable = placed.spaces.now in
+    let p = err_from_is_err_and c.from_residual-in_err-print_space.result c.from_residual-in_err-print_space.ensures.1 in
+    rw (p.1, p.2)
+    (memory_broken contents placed.checkpoint items (placed_pages placed.runs.items) c.loop-space.space-index c.space-item.result c.loop-space-test.true c.space-item.is (Err c.in_err-print_space.field-0.0)
+    (g.W.Write.contents c.args.out.now) (g.W.Write.contents c.loop-space.out) (g.W.Write.contents c.print_space.new.out)
+    (was.printed (now.reads.honest honest)) (rw (c.deref.ensures.value, was.reads.same) at (now.begins honest)))

@@ -1,4 +1,4 @@
-use Rattle.std.proofs.Common.{◌≡◌, List, ℕ, All, length, sym, subst}
+use Rattle.std.proofs.Common.{◌≡◌, List, [], ℕ, All, Some, length, inr, refl, sym, subst}
 use Rattle.sd_chain.specs.Store.{IsCatalogOf}
 use Rattle.sd_restore.specs.declared.placed_run.PlacedRun.{PlacedRun}
 use Rattle.sd_restore.specs.Placed.{IsInSlots}
@@ -8,6 +8,8 @@ use Rattle.std.specs.Io.KnownBytes.{Appends}
 use Rattle.sd_image.specs.Table.{listing_of}
 use Rattle.sd_restore.specs.Placed.{placed_pages}
 use Rattle.sd_report.specs.Texts.{placed_memory_text}
+use Rattle.sd_report.specs.Printed.{Begins}
+use Rattle.sd_report.proofs.BreakLemmas.{on_fault}
 use Rattle.sd_report.proofs.MemoryTexts.{prints_memory}
 use Rattle.sd_report.proofs.EndingLemmas.{on_ok}
 use Rattle.sd_report.proofs.restore.print_restored.Goals as goal
@@ -40,3 +42,23 @@ returns-clause-text g c = λ honest.
     (λ printed. prints_memory contents from to placed.checkpoint spaces pages (c.in_ok-placed.ensures.shown contents catalog) (c.in_ok-placed.ensures.laid contents catalog)
     (subst (λ contents. Appends from to (placed_memory_text contents placed.checkpoint spaces pages)) same printed))
     (c.print_placed.ensures.text honest)
+
+pub returns-clause-begins : goal.returns-clause-begins
+returns-clause-begins g c = λ honest.
+    let contents : List (List ℕ) = g.D.Disk.contents c.args.disk.now in
+    let placed = c.in_ok-placed.placed in
+    let scanned = c.print_placed.ensures.reads.honest honest in
+    let catalog : IsCatalogOf contents c.in_ok-catalog.catalog = c.in_ok-catalog.ensures.catalog scanned in
+    let same : g.D.Disk.contents c.scan.new.disk ≡ contents = c.in_ok-catalog.ensures.reads.same in
+    let from = g.W.Write.contents c.args.out.now in
+    let to = g.W.Write.contents c.print_placed.new.out in
+    let spaces = map listing_of placed.spaces.now in
+    let pages = placed_pages placed.runs.items in
+    let text : List ℕ = placed_memory_text contents placed.checkpoint spaces pages in
+    on_fault c.print_placed.result
+    (λ begun. inr (
+      text,
+      prints_memory contents (Some []) (Some text) placed.checkpoint spaces pages (c.in_ok-placed.ensures.shown contents catalog) (c.in_ok-placed.ensures.laid contents catalog) refl,
+      subst (λ contents. Begins from to (placed_memory_text contents placed.checkpoint spaces pages)) same begun,
+    ))
+    (c.print_placed.ensures.begins honest)

@@ -8,10 +8,10 @@ use Rattle.sd_report.proofs.stop.print_damaged.Goals as goal
 joined : (shown number : List ℕ) → codes "damaged " ++ (shown ++ (codes " " ++ (number ++ 10 ∷ []))) ≡ codes "damaged " ++ shown ++ codes " " ++ number ++ 10 ∷ []
 joined shown number = simp (append_assoc)
 
-pub returns : goal.returns
-returns g c =
+pub returns-clause-line : goal.returns-clause-line
+returns-clause-line g c =
     let shown : styled_decimal c.laid_out.result c.args.slot ≡ slot_text c.args.slot = ap (λ options. styled_decimal options c.args.slot) c.laid_out.ensures ∙ slot_padded c.args.slot in
-    subst (λ text. OnOk c.writeln.result (Appends (g.W.Write.contents c.args.out.now) (g.W.Write.contents c.writeln.new.self) text))
+    subst (λ text. OnOk c.writeln.result (Appends (g.W.Write.contents c.args.out.now.writer) (g.W.Write.contents c.writeln.new.self.writer) text))
     (ap (λ t. codes "damaged " ++ (t ++ (codes " " ++ (decimal c.number.result ++ 10 ∷ [])))) shown
     ∙ joined (slot_text c.args.slot) (decimal c.number.result)
     ∙ ap (λ n. codes "damaged " ++ slot_text c.args.slot ++ codes " " ++ decimal n ++ 10 ∷ []) c.number.ensures)
