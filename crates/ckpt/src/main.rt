@@ -10,132 +10,42 @@ ghost use Rattle.sd_run.specs.Whole.{IsWholeRun};
 ghost use Rattle.ckpt.specs.Ending.{end_status, end_text};
 ghost use Rattle.ckpt.specs.Reading.{RunsAndRestores};
 
-use cause::{Causes, tell, tell_device, tell_failure, tell_line};
+use cause::{Causes, tell, tell_device, tell_failure};
 use clap::ArgMatches;
+use folders::make_store;
 use progress::ProgressLine;
 use reading::read_store;
-use sd_disk::{DirDisk, Disk, Folder, OpenError};
+use sd_disk::{DirDisk, Disk};
 use sd_mutate::{Tally, mutate};
 use sd_report::{Output, Reader, print_restored};
-use sd_restore::Fault;
 use sd_run::{Watch, merge_store, run_lines};
-use sd_script::{Script, ScriptError};
+use scripts::{parse_script, read_script};
+use sd_script::Script;
 use shell::{Asking, run_shell};
 use std::alloc::Global;
 use std::fs::File;
-use std::io::{BufWriter, Input, IsTerminal, Lock, Read, Write};
+use std::io;
+use std::io::{BufWriter, Input, IsTerminal, Lock, Write};
 use std::process::ExitCode;
 use std::rt::{Env, Files};
 use std::sync::Wait;
 use std::thread::Threads;
-use std::time::{Clock, Duration};
-use std::{io, thread};
+use std::time::Clock;
 use stop::{FAILED, Stop, UNFIT};
 use strict::run_strictly;
 
 mod cause;
 mod command_line;
+mod folders;
 mod progress;
 #[cfg(test)]
 mod progress_tests;
 mod reading;
+mod scripts;
 mod shell;
 mod show;
 mod stop;
 mod strict;
-
-/// How long a writer waits before each try to open a store, in milliseconds: a reader asks for its lock for a moment.
-const PAUSES: [u64; 4] = [0, 1, 5, 20];
-
-/// The name of the standard input, as a script.
-const STANDARD_INPUT: &str = "-";
-
-/// Opens the files of a folder that may be written, also where a reader asks for its lock just then.
-fn open_folder<R: Clock + Wait>(
-    rt: &(impl Files<File = File> + AllocGlobal),
-    clock: &R,
-    folder: &str,
-) -> Result<Folder, OpenError> {
-    for pause in PAUSES {
-        thread::sleep(clock, Duration::from_millis(pause));
-        match Folder::open(rt, folder, true) {
-            Err(OpenError::Folder(fault)) if fault.error.kind() == io::ErrorKind::WouldBlock => {}
-            ended => return ended,
-        }
-    }
-    Folder::open(rt, folder, true)
-}
-
-/// Opens the store in a folder, which is made where it is missing.
-fn make_store<R: Clock + Wait>(
-    rt: &(impl Files<File = File> + Eprint + AllocGlobal),
-    clock: &R,
-    causes: Causes,
-    folder: &str,
-) -> Result<DirDisk, Stop> {
-    disk_over(rt, causes, folder, open_folder(rt, clock, folder))
-}
-
-/// Opens the store in a folder to read it.
-fn open_store(
-    rt: &(impl Files<File = File> + Eprint + AllocGlobal),
-    causes: Causes,
-    folder: &str,
-) -> Result<DirDisk, Stop> {
-    disk_over(rt, causes, folder, Folder::open(rt, folder, false))
-}
-
-/// A disk over the files of a folder, or why they weren't opened.
-fn disk_over(
-    rt: &impl Eprint,
-    causes: Causes,
-    folder: &str,
-    opened: Result<Folder, OpenError>,
-) -> Result<DirDisk, Stop> {
-    match opened {
-        Ok(files) => Ok(DirDisk::new(files)),
-        Err(OpenError::OutOfMemory) => Err(Stop::Fault(Fault::OutOfMemory)),
-        Err(OpenError::Folder(fault)) => {
-            tell(rt, causes, folder, &fault);
-            Err(Stop::CannotOpenFolder)
-        }
-    }
-}
-
-/// The bytes of a script, which is the standard input where it is named so.
-fn bytes_of(rt: &HostRuntime, script: &str) -> io::Result<Vec<u8>> {
-    if script != STANDARD_INPUT {
-        return std::fs::read(rt, script);
-    }
-    let mut bytes = Vec::new(rt.alloc());
-    rt.reader().read_to_end(&mut bytes)?;
-    Ok(bytes)
-}
-
-/// Reads a script.
-fn read_script(rt: &HostRuntime, causes: Causes, script: &str) -> Result<Vec<u8>, Stop> {
-    bytes_of(rt, script).map_err(|error| match error.kind() {
-        io::ErrorKind::OutOfMemory => Stop::Fault(Fault::OutOfMemory),
-        _ => {
-            tell(rt, causes, script, &error);
-            Stop::CannotReadScript
-        }
-    })
-}
-
-/// Parses a script.
-fn parse_script(
-    rt: &(impl Eprint + AllocGlobal),
-    causes: Causes,
-    script: &str,
-    bytes: &[u8],
-) -> Result<Script, Stop> {
-    let parsed = Script::parse(rt.alloc(), bytes);
-    if let Err(ScriptError::Line(number)) = parsed {
-        tell_line(rt, causes, script, bytes, number);
-    }
-    Ok(parsed?)
-}
 
 /// Prints the memory that a store shows, and gives the store back with how that ended.
 fn restore_over<D: Disk, W: Write>(alloc: Global, disk: D, out: &mut W) -> (D, Result<(), Stop>)

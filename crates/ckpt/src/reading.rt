@@ -4,7 +4,7 @@ ghost use Rattle.sd_report.specs.Ending.{may_change};
 ghost use Rattle.ckpt.specs.Reading.{ReadsFolder};
 
 use crate::cause::{Causes, tell, tell_device};
-use crate::open_store;
+use crate::folders::open_store;
 use crate::stop::Stop;
 use sd_disk::{DirDisk, is_being_written};
 use sd_report::{Reader, Stop as ReportStop, may_change, print_steady, print_whole};

@@ -1,6 +1,6 @@
 //! `ckpt show`: what stands in the image files of a store.
 use crate::cause::{Causes, tell_device};
-use crate::open_store;
+use crate::folders::open_store;
 use crate::stop::Stop;
 use clap::ArgMatches;
 use sd_disk::Disk;

@@ -1,0 +1,66 @@
+//! The folder of a store, opened to be read or written.
+
+use crate::cause::{Causes, tell};
+use crate::stop::Stop;
+use sd_disk::{DirDisk, Folder, OpenError};
+use sd_restore::Fault;
+use std::fs::File;
+use std::rt::Files;
+use std::sync::Wait;
+use std::time::{Clock, Duration};
+use std::{io, thread};
+
+/// How long a writer waits before each try to open a store, in milliseconds: a reader asks for its lock for a moment.
+const PAUSES: [u64; 4] = [0, 1, 5, 20];
+
+/// Opens the files of a folder that may be written, also where a reader asks for its lock just then.
+fn open_folder<R: Clock + Wait>(
+    rt: &(impl Files<File = File> + AllocGlobal),
+    clock: &R,
+    folder: &str,
+) -> Result<Folder, OpenError> {
+    for pause in PAUSES {
+        thread::sleep(clock, Duration::from_millis(pause));
+        match Folder::open(rt, folder, true) {
+            Err(OpenError::Folder(fault)) if fault.error.kind() == io::ErrorKind::WouldBlock => {}
+            ended => return ended,
+        }
+    }
+    Folder::open(rt, folder, true)
+}
+
+/// Opens the store in a folder, which is made where it is missing.
+pub fn make_store<R: Clock + Wait>(
+    rt: &(impl Files<File = File> + Eprint + AllocGlobal),
+    clock: &R,
+    causes: Causes,
+    folder: &str,
+) -> Result<DirDisk, Stop> {
+    disk_over(rt, causes, folder, open_folder(rt, clock, folder))
+}
+
+/// Opens the store in a folder to read it.
+pub fn open_store(
+    rt: &(impl Files<File = File> + Eprint + AllocGlobal),
+    causes: Causes,
+    folder: &str,
+) -> Result<DirDisk, Stop> {
+    disk_over(rt, causes, folder, Folder::open(rt, folder, false))
+}
+
+/// A disk over the files of a folder, or why they weren't opened.
+fn disk_over(
+    rt: &impl Eprint,
+    causes: Causes,
+    folder: &str,
+    opened: Result<Folder, OpenError>,
+) -> Result<DirDisk, Stop> {
+    match opened {
+        Ok(files) => Ok(DirDisk::new(files)),
+        Err(OpenError::OutOfMemory) => Err(Stop::Fault(Fault::OutOfMemory)),
+        Err(OpenError::Folder(fault)) => {
+            tell(rt, causes, folder, &fault);
+            Err(Stop::CannotOpenFolder)
+        }
+    }
+}

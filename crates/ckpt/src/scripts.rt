@@ -1,0 +1,46 @@
+//! Scripts, from a file or from the standard input.
+
+use crate::cause::{Causes, tell, tell_line};
+use crate::stop::Stop;
+use sd_restore::Fault;
+use sd_script::{Script, ScriptError};
+use std::io;
+use std::io::{Input, Read};
+
+/// The name of the standard input, as a script.
+const STANDARD_INPUT: &str = "-";
+
+/// The bytes of a script, which is the standard input where it is named so.
+fn bytes_of(rt: &HostRuntime, script: &str) -> io::Result<Vec<u8>> {
+    if script != STANDARD_INPUT {
+        return std::fs::read(rt, script);
+    }
+    let mut bytes = Vec::new(rt.alloc());
+    rt.reader().read_to_end(&mut bytes)?;
+    Ok(bytes)
+}
+
+/// Reads a script.
+pub fn read_script(rt: &HostRuntime, causes: Causes, script: &str) -> Result<Vec<u8>, Stop> {
+    bytes_of(rt, script).map_err(|error| match error.kind() {
+        io::ErrorKind::OutOfMemory => Stop::Fault(Fault::OutOfMemory),
+        _ => {
+            tell(rt, causes, script, &error);
+            Stop::CannotReadScript
+        }
+    })
+}
+
+/// Parses a script.
+pub fn parse_script(
+    rt: &(impl Eprint + AllocGlobal),
+    causes: Causes,
+    script: &str,
+    bytes: &[u8],
+) -> Result<Script, Stop> {
+    let parsed = Script::parse(rt.alloc(), bytes);
+    if let Err(ScriptError::Line(number)) = parsed {
+        tell_line(rt, causes, script, bytes, number);
+    }
+    Ok(parsed?)
+}
