@@ -1,16 +1,31 @@
 # Threads that store into an empty store while checkpoints are made.
 
+# The memory that so many threads leave: each stored 1,000 last, at the start of its page.
+memory_of() {  # memory_of THREADS
+  local zeros=000000000000000000000000000000000000000000000000 thread
+  printf 'checkpoint 3\nspace 1\narea 0x100000 %#x rw-\n' $((0x100000 + $1 * 4096))
+  for thread in $(seq 0 $(($1 - 1))); do
+    printf 'bytes %#x e803000000000000%s\n' $((0x100000 + thread * 4096)) "$zeros"
+  done
+}
+
+# Looks at what a run of so many threads left: eight images were made, three for each of the first two checkpoints, one by the
+# merge, and the last one for the third checkpoint.
+is_whole() {  # is_whole THREADS
+  same "the memory of $1" "$("$ckpt" restore store)" "$(memory_of "$1")" || return 1
+  "$ckpt" list store > list
+  has "the list of $1" "$(cat list)" " merged serial " || return 1
+  has "the list of $1" "$(cat list)" " dump serial 8 " || return 1
+  same "the tip of $1" "$(tail -n 1 list)" "tip 8" || return 1
+  same "verify of $1" "$("$ckpt" verify store)" "ok checkpoint 3 images $(grep -c '^slot ' list)"
+}
+
 mutate_two_threads() {
   same "the status" "$(ends "$ckpt" mutate store 2)" 0 || return 1
   same "the output" "$(cat out)" "threads 2 stores 2000 acked 3
 close ok" || return 1
   same "the standard error" "$(cat err)" "" || return 1
-  local zeros=000000000000000000000000000000000000000000000000
-  same "the memory" "$("$ckpt" restore store)" "checkpoint 3
-space 1
-area 0x100000 0x102000 rw-
-bytes 0x100000 e803000000000000$zeros
-bytes 0x101000 e803000000000000$zeros"
+  is_whole 2
 }
 
 a_hundred_runs_of_threads_end_so() {
@@ -20,6 +35,7 @@ a_hundred_runs_of_threads_end_so() {
     rm -rf store
     same "run $run of $threads threads" "$("$ckpt" mutate store $threads)" "threads $threads stores ${threads}000 acked 3
 close ok" || return 1
+    is_whole "$threads" || return 1
   done
 }
 
@@ -46,7 +62,40 @@ threads_are_one_to_eight() {
   same "the status of 8" "$(ends "$ckpt" mutate store 8)" 0
 }
 
+# Checks what a run of four threads ended with: it wasn't stopped, and it says that it ended well only where nothing is missing.
+mutate_ended() {  # mutate_ended STATUS
+  case $1 in
+    0) same "the output" "$(cat out)" "threads 4 stores 4000 acked 3
+close ok" && is_whole 4 ;;
+    1 | 2) grep -q 'out.of.memory' out err || { cat out err; return 1; } ;;
+    *) echo "status $1" && cat out err && return 1 ;;
+  esac
+}
+
+# Runs four threads once for each growth of one thread, or once for so many, from which on so many are refused.
+mutate_without() {  # mutate_without THREAD STEP COUNT
+  local number=1
+  while :; do
+    rm -rf store
+    REFUSED=$number REFUSED_THREAD=$1 REFUSED_COUNT=$3 LD_PRELOAD=./refuse.so timeout 10 "$ckpt" mutate store 4 > out 2> err
+    mutate_ended $? || { echo "thread $1, growth $number, $3 refused"; return 1; }
+    grep -q '^growth refused$' err || return 0
+    number=$((number + $2))
+  done
+}
+
+# Of the first thread, which opens the store and makes the last checkpoint, of the one that makes the others, and of a mutator.
+mutate_is_refused_memory() {
+  growths_can_be_refused || return
+  mutate_without 1 7 1 && mutate_without 1 7 1000000 || return
+  local thread
+  for thread in 0 2; do
+    mutate_without "$thread" 97 1 && mutate_without "$thread" 97 1000000 || return
+  done
+}
+
 try mutate_two_threads
 try a_hundred_runs_of_threads_end_so
 try a_store_with_an_image_is_not_mutated
 try threads_are_one_to_eight
+try mutate_is_refused_memory

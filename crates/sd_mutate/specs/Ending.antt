@@ -1,10 +1,15 @@
 -- What a run of threads leaves of a store.
-use Rattle.std.specs.Prelude.{◌≡◌, ℕ, Bool, true, false, List, length, filter, Option, Some, None, Result, Ok, Err}
+use Rattle.std.specs.Prelude.{◌≡◌, ℕ, Bool, true, false, not, List, length, filter, Option, Some, None, Result, Ok, Err}
+use Rattle.sd_command.specs.declared.refusal.Refusal.TheVariants.{Idle, OutOfMemory, StoreDown}
+use Rattle.sd_command.specs.declared.reply.Reply.{Reply}
+use Rattle.sd_command.specs.declared.reply.Reply.TheVariants as reply
 use Rattle.sd_disk.specs.declared.disk.Disk.{Ghosts}
 use Rattle.sd_disk.specs.Reads.{OnlyReads}
 use Rattle.sd_image.specs.Image.{is_open}
 use Rattle.sd_mutate.specs.declared.fault.MutateFault.{MutateFault}
 use Rattle.sd_mutate.specs.declared.fault.MutateFault.TheVariants.{Store, NotEmpty, Open, Refused}
+use Rattle.sd_mutate.specs.declared.saving.Ended.{Ended}
+use Rattle.sd_mutate.specs.declared.saving.Ended.TheVariants.{LetGo, LeftStanding}
 use Rattle.sd_mutate.specs.declared.tally.Tally.{Tally}
 
 -- the fault was found before a thread began
@@ -19,6 +24,24 @@ abbrev pub LeavesStore : {D : Type 0} → Ghosts D → D → Option D → Result
 LeavesStore g old (Some new) (Err fault) = is_early fault ≡ true → OnlyReads g old new
 LeavesStore g old None (Err fault) = is_early fault ≡ false
 LeavesStore g old left (Ok tally) = Unit {0}
+
+-- a job may stand behind this reply, and all be frozen for it: memory was refused
+abbrev pub may_stand : Reply → Bool
+may_stand (reply.Refused OutOfMemory) = true
+may_stand _ = false
+
+-- nothing is frozen for a checkpoint of the thread that was answered so, or the store is down
+abbrev pub lets_go : Reply → Bool
+lets_go (reply.Acked n) = true
+lets_go (reply.Cancelled n) = true
+lets_go (reply.Refused Idle) = true
+lets_go (reply.Refused StoreDown) = true
+lets_go _ = false
+
+-- nobody waits in vain for the thaw of a checkpoint that ended so
+abbrev pub lets_all_go : Ended → Bool
+lets_all_go (LetGo answer) = not (may_stand answer)
+lets_all_go (LeftStanding token) = true
 
 -- how many images are open
 abbrev pub open_images : List (List ℕ) → ℕ

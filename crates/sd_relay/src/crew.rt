@@ -1,5 +1,5 @@
 //! The writers' threads.
-ghost use Rattle.std.specs.Prelude.{◌≡◌, ◌+◌, ◌<◌, [], true, MatchResult};
+ghost use Rattle.std.specs.Prelude.{◌≡◌, ◌+◌, ◌<◌, [], MatchResult};
 ghost use Rattle.crossbeam_channel.specs.Claims.{view, IsSeatAt};
 ghost use Rattle.crossbeam_channel.specs.Ends.{sends_on, receives_on};
 ghost use Rattle.sd_relay.specs.Fronts.{hand_of, put_into};
@@ -104,7 +104,7 @@ pub(crate) fn crew<'s, E, R: Threads + Wait + Sync, F: Feeder, W: Writer + Sync>
     requires few { made + count < all_parts }
     ensures channel { sends_on front.new.sender ≡ sends_on front.old.sender }
     ensures parts { (hand_of front.new).parts ≡ (hand_of front.old).parts }
-    ensures fed { F.fed feeder.new ≡ true }
+    ensures fed { F.fed feeder.old feeder.new }
     ensures put { put_into front.old ≡ [] → F.has_put feeder.new (put_into front.new) }
 {
     if count == 0 {

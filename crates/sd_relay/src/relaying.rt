@@ -41,7 +41,7 @@ pub fn relay<R: Threads + Wait + Sync, F: Feeder, W: Writer + Sync>(
     writer: &W,
 ) -> Result<Relayed, AllocError>
     ensures settled { IfOk result (λ relayed. (left : _) × IsSettled (put_in relayed) (taken_in relayed) left) }
-    ensures fed { IfOk result (λ _. F.fed feeder.new ≡ true) }
+    ensures fed { IfOk result (λ _. F.fed feeder.old feeder.new) }
     ensures put { IfOk result (λ relayed. F.has_put feeder.new (put_in relayed)) }
     ensures error { IfErr result (λ _. feeder.new ≡ feeder.old) }
 {
@@ -59,7 +59,7 @@ pub fn relay<R: Threads + Wait + Sync, F: Feeder, W: Writer + Sync>(
         rt,
         move |scope| -> (Front, &mut F)
             requires { (receives_on receiver ≡ sends_on front.sender) × (hand_of front ≡ hand all_parts true [] []) × (count < all_parts) }
-            ensures { ((hand_of result.0).parts ≡ all_parts) × (F.fed result.1.now ≡ true) × F.has_put result.1.now (put_into result.0) × (result.1.ghost_name ≡ feeder.entry.ghost_name) }
+            ensures { ((hand_of result.0).parts ≡ all_parts) × F.fed feeder.entry.now result.1.now × F.has_put result.1.now (put_into result.0) × (result.1.ghost_name ≡ feeder.entry.ghost_name) }
         {
             let mut front = front;
             crew(shared, scope, &mut front, receiver, 0, count, feeder);

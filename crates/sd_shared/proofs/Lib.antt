@@ -1,1 +1,2 @@
 mod CloseLemmas
+mod TurnLemmas

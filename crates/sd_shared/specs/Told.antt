@@ -28,4 +28,4 @@ ends_job _ = false
 
 -- so many seats, numbered from 0
 abbrev pub seats_from_0 : ℕ → List Seat
-seats_from_0 count = map (λ n. record { number = n }) (range_with_len 0 count)
+seats_from_0 count = map (λ n. record { number = n; turns = 0 }) (range_with_len 0 count)

@@ -21,6 +21,10 @@ pub(crate) struct Crew<'a, R, D: Drop, H> {
 }
 
 impl<'a, R: Wait, D: Disk + Drop, H: Hold> Crew<'a, R, D, H> {
+    ghost use Rattle.sd_gate.specs.declared.worker.Worker.TheVariants as its;
+    ghost use Rattle.std.specs.Prelude.{IfSome};
+    ghost use Rattle.sd_shared.specs.Turns.{IsCalled, Orders, Takes, WasRefused, taken_of};
+
     /// Writers who have nothing to tell yet.
     pub(crate) fn new(rt: &'a R, shared: &'a Shared<D>, hold: &'a H) -> Self {
         Crew {
@@ -37,18 +41,24 @@ impl<'a, R: Wait, D: Disk + Drop, H: Hold> Crew<'a, R, D, H> {
         self.rt
     }
 
-    /// Begins a checkpoint of so many rounds.
-    pub(crate) fn begin(&self, rounds: u64) -> Reply {
+    /// Begins a checkpoint of so many rounds. Returns the reply, and its number among the jobs of the dumper.
+    pub(crate) fn begin(&self, rounds: u64) -> (Reply, u64)
+        ensures { Orders its.Dumper rounds result.0 result.1 }
+    {
         self.shared.begin(self.rt, Worker::Dumper, rounds)
     }
 
-    /// What is next of the checkpoint.
-    pub(crate) fn take_up(&self) -> Next {
-        self.shared.take_up_dumper(self.rt)
+    /// What is next of the checkpoint with this number.
+    pub(crate) fn take_up(&self, job: u64) -> Next
+        ensures { Takes its.Dumper job (taken_of result) }
+    {
+        self.shared.take_up_dumper(self.rt, job)
     }
 
     /// Makes a device call, the hold's with this number, and hands its outcome in.
-    pub(crate) fn call(&self, number: u64, request: Request) -> Reply {
+    pub(crate) fn call(&self, number: u64, request: Request) -> Reply
+        ensures { IsCalled D.contents request.id result }
+    {
         self.shared.call_device(self.rt, self.hold, number, request)
     }
 
@@ -67,13 +77,20 @@ impl<'a, R: Wait, D: Disk + Drop, H: Hold> Crew<'a, R, D, H> {
     }
 
     /// Why the first write was refused that was.
-    pub(crate) fn into_refused(self) -> Option<Refusal> {
-        self.reports.into_inner().refused
+    pub(crate) fn into_refused(self) -> Option<Refusal>
+        ensures { IfSome result WasRefused }
+    {
+        self.reports.into_inner().into_refused()
     }
 }
 
 impl<R: Wait, D: Disk + Drop, H: Hold> Writer for Crew<'_, R, D, H> {
-    fn write(&self, errand: Errand) {
+    ghost use Rattle.sd_command.specs.declared.reply.Reply.{Reply as Told};
+    ghost use Rattle.sd_shared.specs.Turns.{IsCalled};
+
+    fn write(&self, errand: Errand)
+        ensures called { (answer : Told) × IsCalled D.contents errand.request.id answer }
+    {
         let reply = self.call(errand.call, errand.request);
         self.reports.lock(self.rt).take(&reply);
         self.reported.notify_all();

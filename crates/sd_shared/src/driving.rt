@@ -1,24 +1,18 @@
-//! A worker's job, from its beginning to its end.
-ghost use Rattle.std.specs.Prelude.{◌≡◌, true};
+//! A worker's job, on to its end.
+ghost use Rattle.std.specs.Prelude.{◌≡◌, ◌⊎◌, true};
+ghost use Rattle.sd_command.specs.declared.reply.Reply.{Reply as Told};
 ghost use Rattle.sd_shared.specs.Told.{ends_job};
 
 use crate::hands::Hands;
 use sd_command::Reply;
 use std::sync::Wait;
 
-/// Begins a job and goes on to its end, or until it is refused. The last reply stays with the hands.
-pub(crate) fn drive<H: Hands>(rt: &impl Wait, hands: &mut H)
-    ensures began { H.began hands.new ≡ true }
-    ensures over { ends_job (H.last hands.new) ≡ true }
-{
-    hands.begin();
-    go_on(rt, hands);
-}
-
-/// Goes on with a job to its end, or until it is refused. The last reply stays with the hands.
+/// Goes on with a job to its end, or until it is refused. The last reply stays with the hands: it is the one that was there,
+/// or the worker was told it by a step, or of a call of its own.
 pub(crate) fn go_on<H: Hands>(rt: &impl Wait, hands: &mut H)
-    ensures began { H.began hands.new ≡ H.began hands.old }
+    ensures same { (reply : Told) → H.is_told hands.new reply → H.is_told hands.old reply }
     ensures over { ends_job (H.last hands.new) ≡ true }
+    ensures told { (H.last hands.new ≡ H.last hands.old) ⊎ H.is_told hands.old (H.last hands.new) }
 {
     for _ in rt.forever() {
         if ends_job(hands.last()) {

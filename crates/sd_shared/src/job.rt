@@ -14,60 +14,72 @@ pub(crate) struct Job<'a, R, D: Drop, H> {
     shared: &'a Shared<D>,
     hold: &'a H,
     worker: Worker,
-    rounds: u64,
+    number: u64,
     calls: u64,
-    began: bool,
     last: Reply,
 }
 
 impl<'a, R: Wait, D: Disk + Drop, H: Hold> Job<'a, R, D, H> {
     ghost use Rattle.std.specs.Prelude.{◌≡◌};
+    ghost use Rattle.sd_shared.specs.Turns.{IsCalled, IsTold, Takes};
 
-    /// A job of which nothing was done yet.
+    /// The job of a worker with this number, of which this was answered last.
     pub(crate) fn new(
         rt: &'a R,
         shared: &'a Shared<D>,
         hold: &'a H,
         worker: Worker,
-        rounds: u64,
-    ) -> Self {
+        number: u64,
+        last: Reply,
+    ) -> Self
+        ensures worker { result.worker ≡ worker }
+        ensures number { result.number ≡ number }
+        ensures last { result.last ≡ last }
+    {
         Job {
             rt,
             shared,
             hold,
             worker,
-            rounds,
+            number,
             calls: 0,
-            began: false,
-            last: Reply::Worked,
+            last,
         }
     }
 
     /// Makes a device call, and hands its outcome in.
     fn call(&mut self, request: Request) -> Reply
-        ensures { self.new.began ≡ self.old.began }
+        ensures same { (self.new.worker ≡ self.old.worker) × (self.new.number ≡ self.old.number) }
+        ensures called { IsCalled D.contents request.id result }
     {
         self.calls = self.calls.saturating_add(1);
         self.shared
             .call_device(self.rt, self.hold, self.calls, request)
     }
+
+    /// What the worker is told of its next step, or of its next device call, which is made.
+    fn told(&mut self, taken: Taken) -> Reply
+        requires { Takes self.old.worker self.old.number taken }
+        ensures same { (self.new.worker ≡ self.old.worker) × (self.new.number ≡ self.old.number) }
+        ensures told { IsTold D.contents self.old.worker self.old.number result }
+    {
+        match taken {
+            Taken::Step(reply) => reply,
+            Taken::Call(request) => self.call(request),
+        }
+    }
 }
 
 impl<R: Wait, D: Disk + Drop, H: Hold> Hands for Job<'_, R, D, H> {
-    ghost began = { λ job. job.began };
+    ghost use Rattle.sd_shared.specs.Turns.{IsTold};
+
+    ghost is_told = { λ job reply. IsTold D.contents job.worker job.number reply };
 
     ghost last = { λ job. job.last };
 
-    fn begin(&mut self) {
-        self.last = self.shared.begin(self.rt, self.worker, self.rounds);
-        self.began = true;
-    }
-
     fn go_on(&mut self) {
-        self.last = match self.shared.take_up(self.rt, self.worker) {
-            Taken::Step(reply) => reply,
-            Taken::Call(request) => self.call(request),
-        };
+        let taken = self.shared.take_up(self.rt, self.worker, self.number);
+        self.last = self.told(taken);
     }
 
     fn last(&self) -> &Reply {

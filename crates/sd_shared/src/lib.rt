@@ -2,11 +2,13 @@
 //! each what it was told.
 #![tactic(auto)]
 
+mod booked;
 mod crew;
 mod driving;
 mod hands;
 mod hold;
 mod job;
+mod jobs;
 mod making;
 mod next;
 mod relayed_dump;
@@ -15,8 +17,11 @@ mod seat;
 mod settling;
 mod shared;
 mod thaw;
+mod waits_ended;
+mod waking;
 
 pub use hold::Hold;
 pub use seat::Seat;
 pub use shared::Shared;
 pub use thaw::Thaw;
+pub use waits_ended::WaitsEnded;

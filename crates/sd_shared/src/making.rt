@@ -5,6 +5,7 @@ ghost use Rattle.sd_journal.specs.History.{pending};
 ghost use Rattle.sd_belief.specs.Calls.{Applies, IsUnjournaled, Stays};
 ghost use Rattle.sd_belief.specs.View.{history_of};
 ghost use Rattle.sd_core.specs.Answering.{IsAnswered};
+ghost use Rattle.sd_core.specs.Called.{IsApplied};
 ghost use Rattle.sd_shared.specs.Told.{told};
 
 use sd_command::{Command, Refusal};
@@ -29,6 +30,7 @@ pub(crate) fn make(core: &mut Core, seat: usize, command: Command) -> Result<Rec
     ensures stands { core.new.standing ≡ core.old.standing }
     ensures job { core.new.dumper ≡ core.old.dumper }
     ensures keeps { Stays core.old core.new }
+    ensures does { IsApplied seat command (told result) core.old core.new }
 {
     match core.apply(seat, &command) {
         Ok((number, reply)) => Ok(Receipt {

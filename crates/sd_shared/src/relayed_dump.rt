@@ -1,7 +1,9 @@
 //! A checkpoint whose writes of data pages are relayed to writers.
-ghost use Rattle.std.specs.Prelude.{◌≡◌, ◌&&◌};
+ghost use Rattle.std.specs.Prelude.{◌≡◌, ◌⊎◌, true};
+ghost use Rattle.sd_gate.specs.declared.worker.Worker.TheVariants as its;
 ghost use Rattle.sd_relay.specs.Fronts.{Stays};
 ghost use Rattle.sd_shared.specs.Told.{ends_job};
+ghost use Rattle.sd_shared.specs.Turns.{IsCalled, IsTold, MakesJob, Takes, taken_of};
 
 use crate::crew::Crew;
 use crate::driving::ends_job;
@@ -19,23 +21,26 @@ use std::sync::Wait;
 pub(crate) struct RelayedDump<'a, R, D: Drop, H> {
     crew: &'a Crew<'a, R, D, H>,
     rounds: u64,
+    /// Its number among the jobs of the dumper.
+    number: u64,
     /// How many device calls were taken up.
     calls: u64,
     /// How many of them were put for the writers.
     put: u64,
-    began: bool,
     last: Reply,
 }
 
 impl<'a, R: Wait, D: Disk + Drop, H: Hold> RelayedDump<'a, R, D, H> {
     /// A checkpoint of so many rounds, of which nothing was done yet.
-    pub(crate) fn new(crew: &'a Crew<'a, R, D, H>, rounds: u64) -> Self {
+    pub(crate) fn new(crew: &'a Crew<'a, R, D, H>, rounds: u64) -> Self
+        ensures { result.rounds ≡ rounds }
+    {
         RelayedDump {
             crew,
             rounds,
+            number: 0,
             calls: 0,
             put: 0,
-            began: false,
             last: Reply::Worked,
         }
     }
@@ -50,7 +55,8 @@ impl<'a, R: Wait, D: Disk + Drop, H: Hold> RelayedDump<'a, R, D, H> {
     /// Puts the write of a data page for the writers. One that is handed back is made here.
     fn put(&mut self, front: &mut Front, request: Request) -> Reply
         ensures stays { Stays front.old front.new }
-        ensures began { self.new.began ≡ self.old.began }
+        ensures job { self.new.number ≡ self.old.number }
+        ensures called { ends_job result ≡ true → IsCalled D.contents request.id result }
     {
         self.calls = self.calls.saturating_add(1);
         let errand = Errand {
@@ -66,34 +72,52 @@ impl<'a, R: Wait, D: Disk + Drop, H: Hold> RelayedDump<'a, R, D, H> {
         }
     }
 
-    /// Makes the next step, or the next device call, or puts it for the writers. Where their outcomes are awaited it waits
-    /// for one.
-    fn go_on(&mut self, front: &mut Front)
-        ensures stays { Stays front.old front.new }
-        ensures began { self.new.began ≡ self.old.began }
+    /// What a step told. Where outcomes of the writers are awaited, of which so many had been made, it waits for one.
+    fn awaited(&self, reply: Reply, made: u64) -> Reply
+        ensures { ends_job result ≡ true → result ≡ reply }
     {
-        let made = self.crew.made();
-        self.last = match self.crew.take_up() {
-            Next::Step(Reply::Refused(Refusal::Busy)) if made < self.put => {
-                self.crew.await_more(made);
-                Reply::Worked
-            }
-            Next::Step(reply) => reply,
+        if made < self.put && matches!(reply, Reply::Refused(Refusal::Busy)) {
+            self.crew.await_more(made);
+            return Reply::Worked;
+        }
+        reply
+    }
+
+    /// What the checkpoint is told of its next step, or of its next device call, which is made, or put for the writers.
+    fn told(&mut self, front: &mut Front, next: Next, made: u64) -> Reply
+        requires { Takes its.Dumper self.old.number (taken_of next) }
+        ensures stays { Stays front.old front.new }
+        ensures job { self.new.number ≡ self.old.number }
+        ensures told { ends_job result ≡ true → IsTold D.contents its.Dumper self.old.number result }
+    {
+        match next {
+            Next::Step(reply) => self.awaited(reply, made),
             Next::PageWrite(request) => self.put(front, request),
             Next::Call(request) => {
                 self.calls = self.calls.saturating_add(1);
                 self.crew.call(self.calls, request)
             }
-        };
+        }
     }
-}
 
-impl<R: Wait, D: Disk + Drop, H: Hold> Feeder for RelayedDump<'_, R, D, H> {
-    ghost fed = { λ dump. dump.began && ends_job dump.last };
+    /// Makes the next step, or the next device call, or puts it for the writers.
+    fn go_on(&mut self, front: &mut Front)
+        ensures stays { Stays front.old front.new }
+        ensures job { self.new.number ≡ self.old.number }
+        ensures told { ends_job self.new.last ≡ true → IsTold D.contents its.Dumper self.old.number self.new.last }
+    {
+        let made = self.crew.made();
+        let next = self.crew.take_up(self.number);
+        self.last = self.told(front, next, made);
+    }
 
-    fn feed(&mut self, front: &mut Front) {
-        self.last = self.crew.begin(self.rounds);
-        self.began = true;
+    /// Goes on to the end of the checkpoint, or until it is refused.
+    fn go_on_to_the_end(&mut self, front: &mut Front)
+        ensures stays { Stays front.old front.new }
+        ensures over { ends_job self.new.last ≡ true }
+        ensures told { (self.new.last ≡ self.old.last)
+            ⊎ IsTold D.contents its.Dumper self.old.number self.new.last }
+    {
         for _ in self.crew.rt().forever() {
             if ends_job(&self.last) {
                 return;
@@ -101,5 +125,17 @@ impl<R: Wait, D: Disk + Drop, H: Hold> Feeder for RelayedDump<'_, R, D, H> {
             self.go_on(front);
         }
         unreachable!()
+    }
+}
+
+impl<R: Wait, D: Disk + Drop, H: Hold> Feeder for RelayedDump<'_, R, D, H> {
+    ghost fed = { λ before dump.
+        (ends_job dump.last ≡ true) × MakesJob D.contents its.Dumper before.rounds dump.last };
+
+    fn feed(&mut self, front: &mut Front) {
+        let (first, number) = self.crew.begin(self.rounds);
+        self.last = first;
+        self.number = number;
+        self.go_on_to_the_end(front);
     }
 }

@@ -1,3 +1,8 @@
+ghost use Rattle.std.specs.Prelude.{◌≡◌, Some, IfSome};
+ghost use Rattle.sd_command.specs.declared.refusal.Refusal.{Refusal as Why};
+ghost use Rattle.sd_command.specs.declared.reply.Reply.TheVariants as reply;
+ghost use Rattle.sd_shared.specs.Turns.{WasRefused};
+
 use sd_command::{Refusal, Reply};
 
 /// What the writers of a checkpoint tell.
@@ -6,7 +11,8 @@ pub(crate) struct Reports {
     /// How many writes they have made, whose outcomes were handed in.
     pub(crate) made: u64,
     /// Why the first outcome was refused that was.
-    pub(crate) refused: Option<Refusal>,
+    refused: Option<Refusal>,
+    ghost told: { (why : Why) → refused ≡ Some why → WasRefused why },
 }
 
 impl Reports {
@@ -19,10 +25,19 @@ impl Reports {
     }
 
     /// One more was made, and this was answered to its outcome.
-    pub(crate) fn take(&mut self, reply: &Reply) {
+    pub(crate) fn take(&mut self, answer: &Reply)
+        requires { (why : Why) → answer.now ≡ reply.Refused why → WasRefused why }
+    {
         self.made = self.made.saturating_add(1);
-        if let Reply::Refused(why) = reply {
+        if let Reply::Refused(why) = answer {
             self.refused = self.refused.or(Some(*why));
         }
+    }
+
+    /// Why the first outcome was refused that was.
+    pub(crate) fn into_refused(self) -> Option<Refusal>
+        ensures { IfSome result WasRefused }
+    {
+        self.refused
     }
 }

@@ -2,6 +2,8 @@
 #[derive(Debug, Drop)]
 pub struct Seat {
     pub(crate) number: usize,
+    /// How many turns at the core's lock it has had, modulo 2^64.
+    pub(crate) turns: u64,
 }
 
 impl Seat {

@@ -1,25 +1,28 @@
 //! A core and its disk, shared by threads.
-ghost use Rattle.std.specs.Prelude.{◌≡◌, ◌≤◌, ◌<◌, ◌⊎◌, true, reverse, IfOk, IfErr};
-ghost use Rattle.sd_command.specs.declared.refusal.Refusal.TheVariants.{Einval};
+ghost use Rattle.std.specs.Prelude.{◌≡◌, ◌≤◌, ◌<◌, ◌⊎◌, true, reverse, Err, IfOk, IfErr, IfNone, IfSome};
+ghost use Rattle.sd_command.specs.declared.refusal.Refusal.TheVariants.{Einval, LockBusy};
 ghost use Rattle.sd_command.specs.declared.reply.Reply.TheVariants as reply;
 ghost use Rattle.sd_belief.specs.Calls.{IsUnjournaled};
 ghost use Rattle.sd_belief.specs.View.{CoreView, history_of};
 ghost use Rattle.sd_disk.specs.Reads.{OnlyReads};
 ghost use Rattle.sd_journal.specs.Receipts.{Accounts, IsFault};
 ghost use Rattle.sd_world.specs.Opens.{HasNoFrame, IsFaultOf};
+ghost use Rattle.sd_gate.specs.declared.worker.Worker.TheVariants as its;
 ghost use Rattle.sd_shared.specs.Told.{IsRefusedAtOnce, ends_job, seats_from_0};
+ghost use Rattle.sd_shared.specs.Turns.{Awaits, Cancels, HandsIn, IsCalled, IsLastOf, LacksSlot, Makes, MakesJob, Orders, RelaysJob, ResumesJob, Takes, TrimsOnce, WasRefused, taken_of, turned};
 
+use crate::booked::Booked;
 use crate::crew::Crew;
-use crate::driving::{drive, go_on};
+use crate::driving::go_on;
 use crate::hands::Hands;
 use crate::hold::Hold;
 use crate::job::Job;
-use crate::making::make;
 use crate::next::Next;
 use crate::relayed_dump::RelayedDump;
 use crate::seat::Seat;
 use crate::settling::settle;
 use crate::thaw::Thaw;
+use crate::waits_ended::WaitsEnded;
 use sd_command::{Command, Refusal, Reply};
 use sd_core::{Core, Taken};
 use sd_disk::Disk;
@@ -39,14 +42,9 @@ const MOST_WRITERS: usize = 8;
 #[derive(Drop)]
 pub struct Shared<D: Drop> {
     alloc: Global,
-    core: Mutex<Core>,
+    core: Mutex<Booked>,
     disk: Mutex<D>,
     thawed: Condvar,
-}
-
-/// Whether commands are refused as frozen until a worker goes on.
-fn holds_commands(core: &Core) -> bool {
-    core.is_frozen() && !core.is_down()
 }
 
 /// So many seats, numbered from 0.
@@ -55,15 +53,17 @@ fn seats_of(alloc: Global, count: usize) -> Result<Vec<Seat>, AllocError>
 {
     let mut seats = Vec::with_capacity(alloc, count)?;
     for number in 0..count {
-        seats.push(Seat { number })?;
+        seats.push(Seat { number, turns: 0 })?;
     }
     Ok(seats)
 }
 
 /// The last reply of a checkpoint, of which an outcome may have been refused that a writer handed in.
 fn last_of(last: Reply, refused: Option<Refusal>) -> Reply
-    requires { ends_job last ≡ true }
-    ensures { ends_job result ≡ true }
+    requires over { ends_job last ≡ true }
+    requires refused { IfSome refused WasRefused }
+    ensures over { ends_job result ≡ true }
+    ensures last { IsLastOf last result }
 {
     match (last, refused) {
         (Reply::Refused(_), Some(why)) => Reply::Refused(why),
@@ -101,7 +101,7 @@ impl<D: Disk + Drop> Shared<D> {
         };
         let shared = Shared {
             alloc,
-            core: Mutex::new(core),
+            core: Mutex::new(Booked::new(core)),
             disk: Mutex::new(disk),
             thawed: Condvar::new(),
         };
@@ -121,10 +121,12 @@ impl<D: Disk + Drop> Shared<D> {
     ) -> Result<Receipt, Refusal>
         ensures seat { IfOk result (λ receipt. receipt.seat ≡ seat.old.number) }
         ensures command { IfOk result (λ receipt. receipt.command ≡ command) }
+        ensures turn { Makes seat.old.number command result }
         ensures refuses { IfErr result IsUnjournaled }
         ensures same { seat.new.number ≡ seat.old.number }
+        ensures once { seat.new ≡ turned seat.old }
     {
-        make(&mut self.core.lock(rt), seat.number, command)
+        self.core.lock(rt).command(seat, command)
     }
 
     /// Makes a command of a seat where the lock is free. It never waits.
@@ -135,30 +137,38 @@ impl<D: Disk + Drop> Shared<D> {
     pub fn try_call(&self, seat: &mut Seat, command: Command) -> Result<Receipt, Refusal>
         ensures seat { IfOk result (λ receipt. receipt.seat ≡ seat.old.number) }
         ensures command { IfOk result (λ receipt. receipt.command ≡ command) }
+        ensures turn { (result ≡ Err LockBusy) ⊎ Makes seat.old.number command result }
         ensures refuses { IfErr result IsRefusedAtOnce }
         ensures same { seat.new.number ≡ seat.old.number }
+        ensures once { (seat.new ≡ turned seat.old) ⊎ ((seat.new ≡ seat.old) × (result ≡ Err LockBusy)) }
     {
         match self.core.try_lock() {
-            Some(mut core) => make(&mut core, seat.number, command),
+            Some(mut core) => core.command(seat, command),
             None => Err(Refusal::LockBusy),
         }
     }
 
-    /// Waits until nothing is frozen, or the store is down, and tells which.
-    pub fn wait_thaw(&self, rt: &impl Wait) -> Thaw {
+    /// Waits until nothing is frozen, or the store is down, or waits are ended, and tells which.
+    pub fn wait_thaw(&self, rt: &impl Wait) -> Thaw
+        ensures waits { Awaits result }
+    {
         let core = self
             .thawed
-            .wait_while(rt, self.core.lock(rt), |core| holds_commands(core));
-        if core.is_frozen() {
-            Thaw::Down
-        } else {
-            Thaw::Thawed
-        }
+            .wait_while(rt, self.core.lock(rt), |core| core.holds_waits());
+        core.thaw()
+    }
+
+    /// Ends all waits for a thaw, now and from now on: for who leaves a checkpoint that can't be gone on with or cancelled.
+    pub fn end_waits(&self, rt: &impl Wait) -> WaitsEnded {
+        let waking = self.core.lock(rt).end_waits();
+        waking.wake(&self.thawed);
+        WaitsEnded::new()
     }
 
     /// Begins a checkpoint of so many rounds and makes it, beside the seats. Returns the last reply.
     pub fn run_dumper<R: Wait>(&self, rt: &R, rounds: u64, hold: &impl Hold) -> Reply
         ensures over { ends_job result ≡ true }
+        ensures job { MakesJob D.contents its.Dumper rounds result }
     {
         self.run(rt, Worker::Dumper, rounds, hold)
     }
@@ -185,6 +195,7 @@ impl<D: Disk + Drop> Shared<D> {
         D: Send,
         ensures over { ends_job result ≡ true }
         ensures refused { (writers ≡ 0) ⊎ (8 < writers) → result ≡ reply.Refused Einval }
+        ensures job { RelaysJob D.contents rounds result }
     {
         if writers == 0 || MOST_WRITERS < writers {
             return Reply::Refused(Refusal::Einval);
@@ -200,6 +211,7 @@ impl<D: Disk + Drop> Shared<D> {
     /// Begins a merge and makes it. Returns the last reply.
     pub fn run_merger<R: Wait>(&self, rt: &R, hold: &impl Hold) -> Reply
         ensures over { ends_job result ≡ true }
+        ensures job { MakesJob D.contents its.Merger 0 result }
     {
         self.run(rt, Worker::Merger, 0, hold)
     }
@@ -207,15 +219,18 @@ impl<D: Disk + Drop> Shared<D> {
     /// Opens the store again. Returns the last reply.
     pub fn run_opener<R: Wait>(&self, rt: &R, hold: &impl Hold) -> Reply
         ensures over { ends_job result ≡ true }
+        ensures job { MakesJob D.contents its.Opener 0 result }
     {
         self.run(rt, Worker::Opener, 0, hold)
     }
 
     fn run<R: Wait, H: Hold>(&self, rt: &R, worker: Worker, rounds: u64, hold: &H) -> Reply
         ensures over { ends_job result ≡ true }
+        ensures job { MakesJob D.contents worker rounds result }
     {
-        let mut job = Job::new(rt, self, hold, worker, rounds);
-        drive(rt, &mut job);
+        let (first, number) = self.begin(rt, worker, rounds);
+        let mut job = Job::new(rt, self, hold, worker, number, first);
+        go_on(rt, &mut job);
         job.into_last()
     }
 
@@ -223,6 +238,7 @@ impl<D: Disk + Drop> Shared<D> {
     /// `Idle` where none runs.
     pub fn go_on_dumper<R: Wait>(&self, rt: &R, hold: &impl Hold) -> Reply
         ensures over { ends_job result ≡ true }
+        ensures told { ResumesJob D.contents its.Dumper result }
     {
         self.go_on(rt, Worker::Dumper, hold)
     }
@@ -230,6 +246,7 @@ impl<D: Disk + Drop> Shared<D> {
     /// Goes on with a merge that stands. Returns the last reply: `Idle` where none runs.
     pub fn go_on_merger<R: Wait>(&self, rt: &R, hold: &impl Hold) -> Reply
         ensures over { ends_job result ≡ true }
+        ensures told { ResumesJob D.contents its.Merger result }
     {
         self.go_on(rt, Worker::Merger, hold)
     }
@@ -237,23 +254,27 @@ impl<D: Disk + Drop> Shared<D> {
     /// Goes on with an opening that stands. Returns the last reply: `Idle` where none runs.
     pub fn go_on_opener<R: Wait>(&self, rt: &R, hold: &impl Hold) -> Reply
         ensures over { ends_job result ≡ true }
+        ensures told { ResumesJob D.contents its.Opener result }
     {
         self.go_on(rt, Worker::Opener, hold)
     }
 
     fn go_on<R: Wait, H: Hold>(&self, rt: &R, worker: Worker, hold: &H) -> Reply
         ensures over { ends_job result ≡ true }
+        ensures told { ResumesJob D.contents worker result }
     {
-        let mut job = Job::new(rt, self, hold, worker, 0);
+        let number = self.core.lock(rt).job_of(worker);
+        let mut job = Job::new(rt, self, hold, worker, number, Reply::Worked);
         go_on(rt, &mut job);
         job.into_last()
     }
 
     /// Cancels the checkpoint that runs or is pending, as `Core::cancel`.
-    pub fn cancel(&self, rt: &impl Wait) -> Reply {
-        let mut core = self.core.lock(rt);
-        let reply = core.cancel();
-        self.wake(&core);
+    pub fn cancel(&self, rt: &impl Wait) -> Reply
+        ensures turn { Cancels result }
+    {
+        let (reply, waking) = self.core.lock(rt).cancel();
+        waking.wake(&self.thawed);
         reply
     }
 
@@ -264,45 +285,35 @@ impl<D: Disk + Drop> Shared<D> {
     /// `Idle` where no checkpoint was acknowledged, or named by a reopening, since the run started or the journal was
     /// trimmed; `NumbersUsed` where over 2^62 entries would have been folded in all; `OutOfMemory` where a growth was
     /// refused. Nothing changed.
-    pub fn trim(&self, rt: &impl Wait) -> Result<Folded, Refusal> {
+    pub fn trim(&self, rt: &impl Wait) -> Result<Folded, Refusal>
+        ensures turn { TrimsOnce result }
+    {
         self.core.lock(rt).trim()
     }
 
-    /// Wakes all that wait for a thaw, unless commands are still held up.
-    fn wake(&self, core: &Core) {
-        if !holds_commands(core) {
-            self.thawed.notify_all();
-        }
+    /// Orders a worker's job. Returns the reply, and the job's number, where it was begun.
+    pub(crate) fn begin(&self, rt: &impl Wait, worker: Worker, rounds: u64) -> (Reply, u64)
+        ensures turn { Orders worker rounds result.0 result.1 }
+    {
+        self.core.lock(rt).order(worker, rounds)
     }
 
-    /// Begins a worker's job.
-    pub(crate) fn begin(&self, rt: &impl Wait, worker: Worker, rounds: u64) -> Reply {
-        let mut core = self.core.lock(rt);
-        match worker {
-            Worker::Dumper => core.begin(rounds),
-            Worker::Merger => core.merge(),
-            Worker::Opener => core.reopen(),
-        }
-    }
-
-    /// A worker's next step. One that ends the job may end a freeze.
-    pub(crate) fn take_up(&self, rt: &impl Wait, worker: Worker) -> Taken {
-        let mut core = self.core.lock(rt);
-        let taken = core.take_up(worker);
-        self.wake(&core);
+    /// The next step of a worker's job. One that ends the job may end a freeze.
+    pub(crate) fn take_up(&self, rt: &impl Wait, worker: Worker, job: u64) -> Taken
+        ensures turn { Takes worker job result }
+    {
+        let (taken, waking) = self.core.lock(rt).take_up(worker, job);
+        waking.wake(&self.thawed);
         taken
     }
 
-    /// What is next of the checkpoint that runs.
-    pub(crate) fn take_up_dumper(&self, rt: &impl Wait) -> Next {
-        let mut core = self.core.lock(rt);
-        let taken = core.take_up(Worker::Dumper);
-        self.wake(&core);
-        match taken {
-            Taken::Step(reply) => Next::Step(reply),
-            Taken::Call(request) if core.is_page_write(&request.id()) => Next::PageWrite(request),
-            Taken::Call(request) => Next::Call(request),
-        }
+    /// What is next of the checkpoint with this number among the jobs of the dumper.
+    pub(crate) fn take_up_dumper(&self, rt: &impl Wait, job: u64) -> Next
+        ensures turn { Takes its.Dumper job (taken_of result) }
+    {
+        let (next, waking) = self.core.lock(rt).take_up_dumper(job);
+        waking.wake(&self.thawed);
+        next
     }
 
     /// Makes a device call and hands its outcome in. The hold is called before it, with its number and without a lock.
@@ -312,7 +323,9 @@ impl<D: Disk + Drop> Shared<D> {
         hold: &impl Hold,
         number: u64,
         request: Request,
-    ) -> Reply {
+    ) -> Reply
+        ensures called { IsCalled D.contents request.id result }
+    {
         hold.before(number);
         match self.perform(rt, request) {
             Some(outcome) => self.hand_in(rt, outcome),
@@ -322,7 +335,10 @@ impl<D: Disk + Drop> Shared<D> {
 
     /// Makes a device call, where its slot is one of the disk's. The core asks for no other, which no clause can say of a
     /// core behind a lock.
-    fn perform(&self, rt: &impl Wait, request: Request) -> Option<Outcome> {
+    fn perform(&self, rt: &impl Wait, request: Request) -> Option<Outcome>
+        ensures id { IfSome result (λ made. made.request.id ≡ request.id) }
+        ensures none { IfNone result (LacksSlot D.contents request.id.slot) }
+    {
         let mut disk = self.disk.lock(rt);
         if request.id().slot < disk.slots() {
             Some(perform(&mut *disk, request))
@@ -332,10 +348,11 @@ impl<D: Disk + Drop> Shared<D> {
     }
 
     /// Hands an outcome in. It may end a freeze, or put the store down.
-    fn hand_in(&self, rt: &impl Wait, outcome: Outcome) -> Reply {
-        let mut core = self.core.lock(rt);
-        let reply = core.hand_in(outcome);
-        self.wake(&core);
+    fn hand_in(&self, rt: &impl Wait, outcome: Outcome) -> Reply
+        ensures turn { HandsIn outcome.request.id result }
+    {
+        let (reply, waking) = self.core.lock(rt).hand_in(outcome);
+        waking.wake(&self.thawed);
         reply
     }
 
@@ -352,6 +369,11 @@ impl<D: Disk + Drop> Shared<D> {
             × IsFault core.base.folded (reverse (history_of core)) receipts.now acks.now fault) }
     {
         let Shared { core, disk, .. } = self;
-        settle(core.into_inner(), disk.into_inner(), receipts, acks)
+        settle(
+            core.into_inner().into_core(),
+            disk.into_inner(),
+            receipts,
+            acks,
+        )
     }
 }

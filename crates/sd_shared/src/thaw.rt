@@ -5,4 +5,6 @@ pub enum Thaw {
     Thawed,
     /// The store is down, and what is frozen stays so until it is opened again.
     Down,
+    /// Waits were ended, and what is frozen stays so until somebody goes on with the checkpoint.
+    Ended,
 }

@@ -69,9 +69,9 @@ fn send_all<R: Wait>(rt: &R, front: &mut Front, last: u64, tries: u64) -> u64
 }
 
 impl<R: Wait> Feeder for Stream<'_, R> {
-    ghost use Rattle.std.specs.Prelude.{◌≡◌, length};
+    ghost use Rattle.std.specs.Prelude.{◌≡◌, true, length};
 
-    ghost fed = { λ stream. stream.is_done };
+    ghost fed = { λ _ stream. stream.is_done ≡ true };
 
     ghost has_put = { λ stream put. length put ≡ stream.sent };
 

@@ -40,7 +40,7 @@ struct Flags {
 }
 
 /// Waits until a flag isn't 0. Returns whether it came.
-fn await_flag<R: Clock>(rt: &R, flag: &AtomicU64) -> bool {
+pub(crate) fn await_flag<R: Clock>(rt: &R, flag: &AtomicU64) -> bool {
     for _ in 0..TURNS {
         if flag.load(Ordering::SeqCst) != 0 {
             return true;
@@ -111,6 +111,7 @@ impl<R: Wait + Clock> Place<'_, R> {
                 Some(Refusal::Frozen) => match self.shared.wait_thaw(self.rt) {
                     Thaw::Thawed => Ok(false),
                     Thaw::Down => Err(Refusal::StoreDown),
+                    Thaw::Ended => Err(Refusal::Frozen),
                 },
                 Some(why) => Err(why),
             },

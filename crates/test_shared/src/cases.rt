@@ -1,7 +1,7 @@
 //! A shared core over a store of eight slots, what is done with it, and its closing. Only this file owns one. Cores aren't
 //! dropped: the process of a test ends with them, and a drop of one takes the prover minutes.
 use crate::beside::{Way, save_beside};
-use crate::cancelling::cancel_beside;
+use crate::cancelling::cancels_beside;
 use crate::device::Device;
 use crate::falling::falls;
 use crate::holds::{Free, merges_in_13_calls, saves_in_16_calls};
@@ -9,13 +9,13 @@ use crate::jobs::Job;
 use crate::mutator::Mutator;
 use crate::told::Told;
 use crate::trimming::trims_beside;
-use crate::writers::{falls_beside, writes_beside};
-use sd_command::{Refusal, Reply};
+use crate::writers::{falls_beside, writes_beside, writes_twenty_pages};
+use sd_command::Reply;
 use sd_core::Core;
 use sd_disk::{Disk, Fused, MemDisk};
 use sd_journal::CloseFault;
 use sd_restore::Fault;
-use sd_shared::{Seat, Shared, Thaw};
+use sd_shared::{Seat, Shared};
 use sd_world::{OpenFault, audit};
 use std::alloc::{AllocError, Global};
 use std::mem::forget;
@@ -27,6 +27,9 @@ use std::time::Clock;
 
 /// The disk of these tests, of which a call may fail, or all may be dropped.
 pub(crate) type Store = Device<Fused<MemDisk>>;
+
+/// How many writes, cuts and syncs a disk has room for.
+const CALLS: usize = 200_000;
 
 /// How many device calls come before the first page's write of a dump, in a store that was empty.
 const CALLS_BEFORE_A_PAGE: u64 = 43;
@@ -54,6 +57,8 @@ enum Case {
     Relayed,
     /// One of which the first page's write fails, and another one.
     RelayFalls,
+    /// A checkpoint of twenty pages, which eight threads write.
+    TwentyPages,
     /// Checkpoints beside two mutators, each of which is trimmed.
     Trimmed,
 }
@@ -76,6 +81,7 @@ impl Case {
     fn pages(self) -> u64 {
         match self {
             Case::Merged | Case::Falls => 1,
+            Case::TwentyPages => 20,
             _ => 2,
         }
     }
@@ -83,9 +89,9 @@ impl Case {
 
 /// An empty disk, where memory is refused once at most.
 fn empty(alloc: Global) -> Result<MemDisk, AllocError> {
-    match MemDisk::new(alloc, 8, 1_000_000, 10_000) {
+    match MemDisk::new(alloc, 8, 1_000_000, CALLS) {
         Ok(disk) => Ok(disk),
-        Err(_) => MemDisk::new(alloc, 8, 1_000_000, 10_000),
+        Err(_) => MemDisk::new(alloc, 8, 1_000_000, CALLS),
     }
 }
 
@@ -161,10 +167,12 @@ fn act<R: Threads + Wait + Clock + Abort + Sync>(
             Ok(acks.push(2)?)
         }
         Case::Trimmed => trims_beside(rt, alloc, shared, mutators),
+        Case::TwentyPages => {
+            writes_twenty_pages(rt, shared);
+            Ok(acks.push(1)?)
+        }
         Case::Cancelled => {
-            let ended = cancel_beside(rt, shared, acks);
-            assert_eq!(rt; ended, (Some(Refusal::Idle), true));
-            assert_eq!(rt; shared.wait_thaw(rt), Thaw::Thawed);
+            cancels_beside(rt, shared, mutators.0, acks);
             Ok(())
         }
     }
@@ -320,7 +328,7 @@ fn threads_that_try(rt: HostRuntime) -> Result<(), Fail> {
     run(&rt, rt.alloc(), Case::Beside(Way::Tries))
 }
 
-/// Another thread cancels the checkpoint: its dumper is answered as idle, and nothing stays frozen.
+/// Another thread cancels the checkpoint, and makes one: the first dumper is answered as idle, and nothing stays frozen.
 #[test]
 fn a_cancelled_dumper_is_idle(rt: HostRuntime) -> Result<(), Fail> {
     run(&rt, rt.alloc(), Case::Cancelled)
@@ -348,6 +356,12 @@ fn two_writers(rt: HostRuntime) -> Result<(), Fail> {
 #[test]
 fn a_write_of_another_thread_fails(rt: HostRuntime) -> Result<(), Fail> {
     run(&rt, rt.alloc(), Case::RelayFalls)
+}
+
+/// Twenty pages are written by eight threads, each write delayed by another length.
+#[test]
+fn twenty_pages(rt: HostRuntime) -> Result<(), Fail> {
+    run(&rt, rt.alloc(), Case::TwentyPages)
 }
 
 /// Each checkpoint is trimmed behind its acknowledgement, while two mutators store.

@@ -114,7 +114,7 @@ impl First {
 }
 
 /// Readable and writable pages of space 1.
-fn mmap(pages: u64) -> Command {
+pub(crate) fn mmap(pages: u64) -> Command {
     Command::Mmap {
         space: SpaceId::new(1),
         address: FIRST,

@@ -33,6 +33,7 @@ fn try_once(
         Ok(Some(Refusal::Frozen)) => match shared.wait_thaw(rt) {
             Thaw::Thawed => Ok(false),
             Thaw::Down => Err(Refusal::StoreDown),
+            Thaw::Ended => Err(Refusal::Frozen),
         },
         Ok(Some(why)) => Err(why),
         Err(Refusal::OutOfMemory) => Ok(false),

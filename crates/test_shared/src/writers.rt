@@ -14,6 +14,9 @@ use std::time::{Clock, Duration};
 /// How many turns of a millisecond a thread waits for another.
 const TURNS: u64 = 10_000;
 
+/// How often a checkpoint is gone on with.
+const TRIES: u64 = 10;
+
 /// How many device calls a checkpoint of one round makes whose first image has two pages, and the sum of their numbers.
 const CALLS: u64 = 18;
 
@@ -99,4 +102,34 @@ pub(crate) fn falls_beside<R: Threads + Wait + Abort + Sync>(rt: &R, shared: &Sh
     assert_eq!(rt; shared.run_relay(rt, 0, 2, &Free), down);
     assert_eq!(rt; Job::Opening.make(rt, shared, &Free), Reply::Reopened(None));
     assert_eq!(rt; shared.run_relay(rt, 0, 8, &Free), Reply::Acked(2));
+}
+
+/// A hold that delays each call by another length.
+#[derive(Drop)]
+struct Delaying<'a, R> {
+    rt: &'a R,
+}
+
+impl<R: Clock> Hold for Delaying<'_, R> {
+    fn before(&self, call: u64) {
+        let length = call.wrapping_mul(397) % 700;
+        thread::sleep(self.rt, Duration::from_micros(length));
+    }
+}
+
+/// Eight writers make a checkpoint of one round. Where memory was refused it is gone on with, or begun again.
+pub(crate) fn writes_twenty_pages<R: Threads + Wait + Clock + Abort + Sync>(
+    rt: &R,
+    shared: &Shared<Store>,
+) {
+    let hold = Delaying { rt };
+    let mut reply = shared.run_relay(rt, 1, 8, &hold);
+    for _ in 0..TRIES {
+        reply = match reply {
+            Reply::Refused(Refusal::OutOfMemory) => shared.go_on_dumper(rt, &hold),
+            Reply::Refused(Refusal::Idle) => shared.run_relay(rt, 1, 8, &hold),
+            reply => reply,
+        };
+    }
+    assert_eq!(rt; reply, Reply::Acked(1));
 }

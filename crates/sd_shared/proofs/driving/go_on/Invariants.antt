@@ -1,6 +1,8 @@
-use Rattle.std.proofs.Common.{◌≡◌}
+use Rattle.std.proofs.Common.{◌≡◌, ◌⊎◌}
+use Rattle.sd_command.specs.declared.reply.Reply.{Reply}
 use Rattle.sd_shared.proofs.driving.go_on.Given as goal
 
--- whether the job was begun stays
+-- no more may be told than before, and the last reply is the first one, or was told
 abbrev pub invariant-loop : goal.invariant-loop
-invariant-loop g l = g.H.Hands.began l.hands ≡ g.H.Hands.began l.initial.hands
+invariant-loop g l = ((reply : Reply) → g.H.Hands.is_told l.hands reply → g.H.Hands.is_told l.initial.hands reply)
+    × ((g.H.Hands.last l.hands ≡ g.H.Hands.last l.initial.hands) ⊎ g.H.Hands.is_told l.initial.hands (g.H.Hands.last l.hands))

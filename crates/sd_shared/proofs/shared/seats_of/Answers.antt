@@ -11,7 +11,7 @@ pub loop-number-preserved : goal.loop-number-preserved
 loop-number-preserved c =
     let n = c.loop-number.number in
     let test = c.loop-number-test.true in
-    let seat : ℕ → Seat = λ n. record { number = n } in
+    let seat : ℕ → Seat = λ n. record { number = n; turns = 0 } in
     let more : 0 + n ≡ n = omega arith in
     record {
       within = omega (arith, test);

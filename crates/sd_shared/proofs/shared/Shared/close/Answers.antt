@@ -6,4 +6,4 @@ use Rattle.sd_shared.proofs.shared.Shared.close.Goals as goal
 
 pub returns-clause-fault : goal.returns-clause-fault
 returns-clause-fault g c =
-    of_some (λ core. IsFault core.base.folded (reverse (history_of core)) c.args.receipts.now c.args.acks.now) c.settle.result c.into_inner.result c.settle.ensures.fault
+    of_some (λ core. IsFault core.base.folded (reverse (history_of core)) c.args.receipts.now c.args.acks.now) c.settle.result c.into_core.result c.settle.ensures.fault

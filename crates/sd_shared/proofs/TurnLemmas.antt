@@ -1,0 +1,51 @@
+-- What is known of a turn outside of the lock.
+use Rattle.std.proofs.Common.{◌≡◌, ◌⊎◌, inl, inr, ℕ, List, true, ◌∙◌, sym, ap, subst, arith}
+use Rattle.sd_command.specs.declared.refusal.Refusal.{Refusal}
+use Rattle.sd_command.specs.declared.refusal.Refusal.TheVariants as refusal
+use Rattle.sd_command.specs.declared.reply.Reply.{Reply}
+use Rattle.sd_command.specs.declared.reply.Reply.TheVariants as reply
+use Rattle.sd_gate.specs.declared.request_id.RequestId.{RequestId}
+use Rattle.sd_gate.specs.declared.worker.Worker.{Worker}
+use Rattle.sd_gate.specs.declared.worker.Worker.TheVariants.{Dumper}
+use Rattle.sd_shared.specs.declared.jobs.Jobs.{Jobs}
+use Rattle.sd_shared.specs.Told.{ends_job}
+use Rattle.sd_shared.specs.Turns.{counted, job_of, HandsIn, IsCalled, IsLastOf, IsTold, MakesJob, Orders, RelaysJob, WasRefused}
+
+pub called_of : {D : Type 0} (contents : D → List (List ℕ)) (id own : RequestId) (answer : Reply) → own ≡ id → HandsIn own answer → IsCalled contents id answer
+called_of contents id own answer same hands = inr (subst (λ (one : RequestId). HandsIn one answer) same hands)
+
+-- why an answer refuses
+abbrev why_of : Reply → Refusal
+why_of (reply.Refused why) = why
+why_of _ = refusal.Device
+
+-- what a writer was answered that refuses is such a refusal
+pub refused_of : {D : Type 0} (contents : D → List (List ℕ)) (id : RequestId) (answer : Reply) → IsCalled contents id answer
+    → (why : Refusal) → answer ≡ reply.Refused why → WasRefused why
+refused_of contents id answer (inl other) why is = ∣ inl (ap why_of (sym is ∙ other.0)) ∣₁
+refused_of contents id answer (inr hands) why is = ∣ inr (id, subst (λ (one : Reply). HandsIn id one) is hands) ∣₁
+
+-- of a checkpoint with writers, which was ordered
+pub relays_job : {D : Type 0} (contents : D → List (List ℕ)) (rounds own : ℕ) (last told answer : Reply) → own ≡ rounds → told ≡ last
+    → MakesJob contents Dumper own last → IsLastOf told answer → RelaysJob contents rounds answer
+relays_job contents rounds own last told answer same is makes behind =
+    inr (inr (last, subst (λ (n : ℕ). MakesJob contents Dumper n last) same makes, subst (λ (one : Reply). IsLastOf one answer) is behind))
+
+-- the number of a job that was begun
+pub number_of : (old new : Jobs) (worker : Worker) (number : ℕ) → new ≡ counted worker old → number ≡ job_of new worker → number ≡ job_of (counted worker old) worker
+number_of old new worker number one is = is ∙ ap (λ (jobs : Jobs). job_of jobs worker) one
+
+-- of a job that stood, of which nothing was told yet
+pub told_after : (T : Reply → Type 0) (was last answer : Reply) → was ≡ reply.Worked → answer ≡ last → ends_job last ≡ true
+    → (last ≡ was) ⊎ T last → T answer
+told_after T was last answer none behind over (inl first) = absurd (grind (arith, over, ap ends_job (first ∙ none)))
+told_after T was last answer none behind over (inr told) = subst T (sym behind) told
+
+-- of a job that was ordered
+pub job_of_told : {D : Type 0} (contents : D → List (List ℕ)) (worker : Worker) (rounds number : ℕ) (first was last answer : Reply)
+    → Orders worker rounds first number → was ≡ first → answer ≡ last → (last ≡ was) ⊎ IsTold contents worker number last
+    → MakesJob contents worker rounds answer
+job_of_told contents worker rounds number first was last answer ordered before behind (inl last_is) =
+    (first, number, ordered, inl (behind ∙ (last_is ∙ before)))
+job_of_told contents worker rounds number first was last answer ordered before behind (inr told) =
+    (first, number, ordered, inr (subst (IsTold contents worker number) (sym behind) told))

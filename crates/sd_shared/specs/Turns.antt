@@ -1,0 +1,163 @@
+-- What one turn does: one hold of the lock on the core.
+use Rattle.std.specs.Prelude.{◌≡◌, ◌≢◌, ◌⊎◌, ℕ, ◌+◌, ◌≤◌, ◌%◌, ◌^◌, Bool, false, not, List, ◌&&◌, length, is_none, is_some, if◌then◌else◌, Option, Some, None, Result, Err, ⊤}
+use Rattle.sd_command.specs.declared.command.Command.{Command}
+use Rattle.sd_command.specs.declared.refusal.Refusal.{Refusal}
+use Rattle.sd_command.specs.declared.refusal.Refusal.TheVariants as refusal
+use Rattle.sd_command.specs.declared.reply.Reply.{Reply}
+use Rattle.sd_command.specs.declared.reply.Reply.TheVariants as reply
+use Rattle.sd_gate.specs.declared.worker.Worker.{Worker}
+use Rattle.sd_gate.specs.declared.worker.Worker.TheVariants.{Dumper, Merger, Opener}
+use Rattle.sd_gate.specs.declared.request_id.RequestId.{RequestId}
+use Rattle.sd_gate.specs.Requests.{Asked, Made}
+use Rattle.sd_journal.specs.History.{last, pending}
+use Rattle.sd_journal.specs.declared.receipt.Receipt.{Receipt}
+use Rattle.sd_belief.specs.Calls.{GoesOn}
+use Rattle.sd_belief.specs.View.{CoreView, history_of}
+use Rattle.sd_core.specs.declared.taken.Taken.{Taken}
+use Rattle.sd_core.specs.declared.taken.Taken.TheVariants as taken
+use Rattle.sd_core.specs.Beginning.{is_down}
+use Rattle.sd_core.specs.Called.{IsApplied, IsBegun, IsCancelOrder, IsHandedIn, IsMergeOrder, IsReopenOrder, IsTakenUp}
+use Rattle.sd_core.specs.Flags.{KeepsFlags}
+use Rattle.sd_core.specs.Refusals.{IsPageOut}
+use Rattle.sd_core.specs.Trims.{Trims, unfolded}
+use Rattle.sd_receipts.specs.declared.folded.Folded.{Folded}
+use Rattle.sd_shared.specs.Told.{ends_job, told}
+use Rattle.sd_shared.specs.declared.booked.Booked.{Booked}
+use Rattle.sd_shared.specs.declared.jobs.Jobs.{Jobs}
+use Rattle.sd_shared.specs.declared.next.Next.{Next}
+use Rattle.sd_shared.specs.declared.seat.Seat.{Seat}
+use Rattle.sd_shared.specs.declared.next.Next.TheVariants as next
+use Rattle.sd_shared.specs.declared.thaw.Thaw.{Thaw}
+use Rattle.sd_shared.specs.declared.thaw.Thaw.TheVariants as thaw
+
+-- commands are refused as frozen until a worker goes on, or a checkpoint is cancelled
+abbrev pub holds_commands : CoreView → Bool
+holds_commands core = is_some (pending (history_of core)) && not (is_down core.standing)
+
+-- and whoever waits for the thaw goes on waiting
+abbrev pub holds_waits : Booked → Bool
+holds_waits booked = holds_commands booked.core && not booked.ended
+
+-- the waits end with this turn
+abbrev pub ends_waits : Booked → Booked → Bool
+ends_waits old new = holds_waits old && not (holds_waits new)
+
+-- how a wait for the thaw ends, of a core that holds no waits
+abbrev pub thaw_of : CoreView → Thaw
+thaw_of core = if is_none (pending (history_of core)) then thaw.Thawed else (if is_down core.standing then thaw.Down else thaw.Ended)
+
+-- ---- orders
+
+-- a worker's job was ordered, and this was answered
+abbrev pub IsOrder : Worker → ℕ → Reply → CoreView → CoreView → Type 0
+IsOrder Dumper rounds answer old new = IsBegun rounds answer old new
+IsOrder Merger rounds answer old new = IsMergeOrder answer old new
+IsOrder Opener rounds answer old new = IsReopenOrder answer old new
+
+-- ---- steps
+
+-- what a step of the dumper is, whose calls may be made beside others
+abbrev pub taken_of : Next → Taken
+taken_of (next.Step answer) = taken.Step answer
+taken_of (next.PageWrite request) = taken.Call request
+taken_of (next.Call request) = taken.Call request
+
+-- those are the writes of data pages
+abbrev pub IsSorted : Next → CoreView → Type 0
+IsSorted (next.Step answer) core = ⊤
+IsSorted (next.PageWrite request) core = IsPageOut core.outs request.id
+IsSorted (next.Call request) core = IsPageOut core.outs request.id → ⊥
+
+-- the journal was trimmed
+pub record IsTrimmed (result : Result Folded Refusal) (old new : CoreView) : Type 0 where
+  pub idle : unfolded (last old.base (history_of old)) old.base.number ≡ None → (result ≡ Err refusal.Idle) × (new ≡ old)
+  pub trims : (n : ℕ) → unfolded (last old.base (history_of old)) old.base.number ≡ Some n → Trims n old result new
+  pub flags : KeepsFlags old new
+  pub goes_on : (asked : List (Option Asked)) → GoesOn old asked new asked
+
+-- ---- the jobs of the workers
+
+-- how many jobs of a worker were begun, modulo 2^64: the number of the one that runs
+abbrev pub job_of : Jobs → Worker → ℕ
+job_of jobs Dumper = jobs.dumper
+job_of jobs Merger = jobs.merger
+job_of jobs Opener = jobs.opener
+
+-- one more was
+abbrev pub counted : Worker → Jobs → Jobs
+counted Dumper jobs = record { dumper = (jobs.dumper + 1) % 2 ^ 64; merger = jobs.merger; opener = jobs.opener }
+counted Merger jobs = record { dumper = jobs.dumper; merger = (jobs.merger + 1) % 2 ^ 64; opener = jobs.opener }
+counted Opener jobs = record { dumper = jobs.dumper; merger = jobs.merger; opener = (jobs.opener + 1) % 2 ^ 64 }
+
+-- ---- what is known outside of the lock: there was a turn that did this, of some core
+
+-- a wait for the thaw ended so
+abbrev pub Awaits : Thaw → Type 0
+Awaits ended = (booked : Booked) × (holds_waits booked ≡ false) × (ended ≡ thaw_of booked.core)
+
+-- a command of a seat was made, or was refused without an entry
+abbrev pub Makes : ℕ → Command → Result Receipt Refusal → Type 0
+Makes seat command result = (old : CoreView) × (new : CoreView) × IsApplied seat command (told result) old new
+
+-- a worker's job was ordered; where it was begun it has this number
+abbrev pub Orders : Worker → ℕ → Reply → ℕ → Type 0
+Orders worker rounds answer number =
+    (old : CoreView) × (new : CoreView) × (jobs : Jobs)
+    × IsOrder worker rounds answer old new × (ends_job answer ≡ false → number ≡ job_of (counted worker jobs) worker)
+
+abbrev pub Cancels : Reply → Type 0
+Cancels answer = (old : CoreView) × (new : CoreView) × IsCancelOrder answer old new
+
+abbrev pub TrimsOnce : Result Folded Refusal → Type 0
+TrimsOnce result = (old : CoreView) × (new : CoreView) × IsTrimmed result old new
+
+-- a step of the job with this number was taken up; or another one was begun since, and it has ended
+abbrev pub Takes : Worker → ℕ → Taken → Type 0
+Takes worker number made =
+    (old : CoreView) × (new : CoreView) × (jobs : Jobs)
+    × (((number ≢ job_of jobs worker) × (made ≡ taken.Step (reply.Refused refusal.Idle)))
+    ⊎ ((number ≡ job_of jobs worker) × IsTakenUp worker old made new))
+
+-- the outcome of a request was handed in
+abbrev pub HandsIn : RequestId → Reply → Type 0
+HandsIn id answer = (made : Made) × (made.request.id ≡ id) × (old : CoreView) × (new : CoreView) × IsHandedIn made answer old new
+
+-- a disk hasn't the slot
+abbrev pub LacksSlot : {D : Type 0} → (D → List (List ℕ)) → ℕ → Type 0
+LacksSlot {D} contents slot = (disk : D) × (length (contents disk) ≤ slot)
+
+-- Or its slot isn't one of the disk's, which is answered as a failed device.
+abbrev pub IsCalled : {D : Type 0} → (D → List (List ℕ)) → RequestId → Reply → Type 0
+IsCalled contents id answer = ((answer ≡ reply.Refused refusal.Device) × LacksSlot contents id.slot) ⊎ HandsIn id answer
+
+-- a worker was told so by a step of the job with this number, or of a call that one asked for
+abbrev pub IsTold : {D : Type 0} → (D → List (List ℕ)) → Worker → ℕ → Reply → Type 0
+IsTold contents worker number answer =
+    Takes worker number (taken.Step answer) ⊎ ((request : Asked) × Takes worker number (taken.Call request) × IsCalled contents request.id answer)
+
+-- A job was ordered, of so many rounds. This is what was answered then, or to a later step of that job, or of its calls.
+abbrev pub MakesJob : {D : Type 0} → (D → List (List ℕ)) → Worker → ℕ → Reply → Type 0
+MakesJob contents worker rounds answer =
+    (first : Reply) × (number : ℕ) × Orders worker rounds first number × ((answer ≡ first) ⊎ IsTold contents worker number answer)
+
+-- a job that stood was gone on with, under one number
+abbrev pub ResumesJob : {D : Type 0} → (D → List (List ℕ)) → Worker → Reply → Type 0
+ResumesJob contents worker answer = (number : ℕ) × IsTold contents worker number answer
+
+-- an outcome was refused so that a writer handed in
+abbrev pub WasRefused : Refusal → Type 0
+WasRefused why = ∥ (why ≡ refusal.Device) ⊎ ((id : RequestId) × HandsIn id (reply.Refused why)) ∥₁
+
+-- the last reply of a checkpoint with writers, or such a refusal
+abbrev pub IsLastOf : Reply → Reply → Type 0
+IsLastOf last answer = (answer ≡ last) ⊎ ((why : Refusal) × (answer ≡ reply.Refused why) × WasRefused why)
+
+-- A checkpoint of so many rounds was ordered, with writers, and this was its last reply; or it wasn't, for want of writers or of memory.
+abbrev pub RelaysJob : {D : Type 0} → (D → List (List ℕ)) → ℕ → Reply → Type 0
+RelaysJob contents rounds answer =
+    (answer ≡ reply.Refused refusal.Einval) ⊎ ((answer ≡ reply.Refused refusal.OutOfMemory)
+    ⊎ ((last : Reply) × MakesJob contents Dumper rounds last × IsLastOf last answer))
+
+-- one more turn of a seat
+abbrev pub turned : Seat → Seat
+turned seat = record { number = seat.number; turns = (seat.turns + 1) % 2 ^ 64 }
