@@ -12,7 +12,7 @@ use std::thread::Threads;
 use std::time::{Clock, Duration};
 
 /// How many checkpoints are cancelled.
-const ROUNDS: u64 = 300;
+const ROUNDS: u64 = 20;
 
 /// How many checkpoints are made at most until one is cancelled.
 const CHECKPOINTS: u64 = 1_000;
@@ -91,7 +91,7 @@ fn wait_for_thaws<R: Wait + Clock>(
             return Ok(());
         }
         match mutator.make(rt, shared, load(0))? {
-            None => thread::sleep(rt, Duration::from_micros(50)),
+            None => thread::sleep(rt, Duration::from_millis(2)),
             Some(Refusal::Frozen) if shared.wait_thaw(rt) == Thaw::Thawed => {}
             Some(why) => return Err(why),
         }

@@ -29,7 +29,7 @@ use std::time::Clock;
 pub(crate) type Store = Device<Fused<MemDisk>>;
 
 /// How many writes, cuts and syncs a disk has room for.
-const CALLS: usize = 200_000;
+const CALLS: usize = 1_000_000_000;
 
 /// How many device calls come before the first page's write of a dump, in a store that was empty.
 const CALLS_BEFORE_A_PAGE: u64 = 43;
