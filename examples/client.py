@@ -24,16 +24,17 @@ class Shell:
         self.process = subprocess.Popen([ckpt, "shell", folder], stdin=subprocess.PIPE, stdout=subprocess.PIPE)
         self.reopened = self.answer()
 
-    def answer(self):
+    def answer(self, expected=None):
         line = self.process.stdout.readline().decode().rstrip("\n")
-        if not line or line.split()[0] in ("refused", "segv", "script", "needs-fault"):
+        if line != expected and (not line or line.split()[0] in ("refused", "segv", "script", "needs-fault")):
             raise SystemExit(f"client.py: {line or 'the shell ended'}")
         return line
 
-    def ask(self, line):
+    def ask(self, line, expected=None):
+        """Asks a line. A refusal ends the program, unless it is the one that may be expected."""
         self.process.stdin.write(line.encode() + b"\n")
         self.process.stdin.flush()
-        return self.answer()
+        return self.answer(expected)
 
     def close(self):
         self.process.stdin.close()
@@ -71,7 +72,13 @@ class Table:
         self.shell.ask(f"store 1 {FIRST + place * ENTRY:#x} {entry.hex()}")
 
     def save(self):
-        return self.shell.ask("checkpoint 2")
+        """Makes a checkpoint, behind a merge where no slot is free, and trims the journal."""
+        answer = self.shell.ask("checkpoint 2", "refused 12 no-slot")
+        if answer == "refused 12 no-slot":
+            self.shell.ask("merge")
+            answer = self.shell.ask("checkpoint 2")
+        self.shell.ask("trim")
+        return answer
 
 
 def count(table, to):
