@@ -2,6 +2,7 @@
 use Rattle.std.specs.Prelude.{◌≡◌, ℕ, ◌≤◌, true, false, List, length, map, slice_index, take, Option, Some, None, IsSome, Ok}
 use Rattle.sd_disk.specs.Contents.{file_at}
 use Rattle.sd_image.specs.declared.header.Header.{Header}
+use Rattle.sd_image.specs.declared.reason.Reason.{Reason}
 use Rattle.sd_image.specs.Image.{Image, gate, is_open}
 use Rattle.sd_image.specs.Reading.{header_in}
 use Rattle.sd_image.specs.Shows.{IsStore}
@@ -67,6 +68,13 @@ SeesAfter files (Call request) new = Sees files (Some request) new
 SeesAfter files Decoded new = Sees files None new
 SeesAfter files (Damaged slot reason) new = IsNoStore files
 SeesAfter files AllRead new = Sees files None new × (length new.told ≡ length files)
+
+-- what a step says of the slot and the reason that it names, where it names them
+abbrev pub StepNames : (ℕ → Reason → Type 0) → OpenerStep → Type 0
+StepNames P (Call request) = Unit {0}
+StepNames P Decoded = Unit {0}
+StepNames P (Damaged slot reason) = P slot reason
+StepNames P AllRead = Unit {0}
 
 -- an outcome of this request told its slot's file as it is
 pub record IsToldOf (file : List ℕ) (request : Asked) (made : Made) : Type 0 where

@@ -6,13 +6,13 @@ ghost use Rattle.sd_gate.specs.Inspections.{the_length};
 ghost use Rattle.sd_gate.specs.Plans.{Planned, begun, found_of};
 ghost use Rattle.sd_gate.specs.Requests.{Asked};
 ghost use Rattle.sd_gate.specs.Sequences.{first_looks};
-ghost use Rattle.sd_restore.specs.Faulty.{IsDamage, Names};
+ghost use Rattle.sd_restore.specs.Faulty.{IsDamage, IsFirstFaulty, Names};
 ghost use Rattle.sd_restore.specs.Reading.{AreRightlyDigested};
 ghost use Rattle.sd_opener.specs.declared.open_error.OpenError.TheVariants.{Busy};
 ghost use Rattle.sd_opener.specs.declared.opener_progress.OpenerProgress.TheVariants.{Strange as IsStrange, Failed as HasFailed, More as GoesOn};
 ghost use Rattle.sd_opener.specs.Left.{Lowers, LowersByStep, looking_left, stage_left};
 ghost use Rattle.sd_opener.specs.Looking.{IsDoneAsAsked, Looking, MovesOn, StepMoves, out_of};
-ghost use Rattle.sd_opener.specs.Sees.{IsNoStore, IsOpened, IsToldOf, Sees, SeesAfter};
+ghost use Rattle.sd_opener.specs.Sees.{IsNoStore, IsOpened, IsToldOf, Sees, SeesAfter, StepNames};
 
 use crate::open_error::OpenError;
 use crate::opened::Opened;
@@ -125,6 +125,9 @@ impl Opener {
     pub fn work(&mut self, ticket: u64) -> Result<OpenerStep, OpenError>
         ensures sees { IfOk result (λ step. (files : List (List ℕ)) → Sees files None self.old
             → SeesAfter files step self.new) }
+        // It names the first faulty slot, with its reason, as a scan of these files does.
+        ensures names { IfOk result (λ step. (files : List (List ℕ)) → Sees files None self.old
+            → AreRightlyDigested files → StepNames (IsFirstFaulty files) step) }
         ensures moves { IfOk result (λ step. StepMoves ticket self.old step self.new) }
         ensures lowers { IfOk result (λ step. LowersByStep step self.old self.new) }
         ensures slots { self.new.slots ≡ self.old.slots }
@@ -241,6 +244,7 @@ impl Opener {
             → AreRightlyDigested files → IfErr result (Names (IsDamage files)) }
         ensures empty { result ≢ Err Fault.EmptyChain }
         ensures device { result ≢ Err Fault.Device }
+        ensures memory { result ≢ Err Fault.OutOfMemory }
     {
         store_is_rightly_digested();
         let Opener { told, scanned, .. } = self;
