@@ -1,14 +1,18 @@
 -- When an opener refuses a store as damaged.
-use Rattle.std.proofs.Common.{◌≡◌, ◌⊎◌, ℕ, true, if◌then◌else◌, List, Option, Some, None, slice_get, refl, sym, ◌∙◌, ap, subst, inl, inr}
+use Rattle.std.proofs.Common.{◌≡◌, ◌≢◌, ◌⊎◌, ℕ, true, if◌then◌else◌, List, Option, Some, None, Result, Ok, Err, IfErr, slice_get, refl, sym, ◌∙◌, ap, subst, inl, inr}
 use Rattle.sd_image.specs.Shows.{Shows}
 use Rattle.sd_journal.specs.Allowed.{IsLastPair, IsPendingPair, Shown}
 use Rattle.sd_journal.specs.History.{last, pending}
+use Rattle.sd_opener.specs.declared.opened.Opened.{Opened}
 use Rattle.sd_opener.specs.Looking.{Looking}
+use Rattle.sd_restore.specs.declared.fault.Fault.{Fault}
+use Rattle.sd_restore.specs.declared.fault.Fault.TheVariants.{EmptyChain, Damaged, Device, OutOfMemory}
+use Rattle.sd_restore.specs.Faulty.{IsDamage, Names}
 use Rattle.sd_belief.specs.Laws.{OpenerFinds}
 use Rattle.sd_belief.specs.View.{CoreView, history_of}
 use Rattle.sd_core.specs.declared.taken.Taken.{Taken}
 use Rattle.sd_core.specs.Grown.{has_swept}
-use Rattle.sd_core.specs.Opening.{IsExpected, IsOwnStore, OpensBelieved, RefusesRightly, awaited}
+use Rattle.sd_core.specs.Opening.{IsDamaged, IsExpected, IsOwnStore, OpensBelieved, RefusesRightly, awaited}
 
 pub same_own : (last pending other_last other : Option ℕ) (files : List (List ℕ)) → ((found : Option ℕ) → IsExpected last pending found → IsExpected other_last other found)
     → IsOwnStore last pending files → IsOwnStore other_last other files
@@ -30,6 +34,15 @@ is_own core files (Some pair) sure shows (inr is) =
       tip = (shows.newest.0, shows.newest.1, shows.newest.2);
       expected = inr ((λ none. (let no : Some pair.0 ≡ None = sym pends ∙ none in cc)), sym pends);
     }
+
+-- an opening that failed names a slot as a scan does
+pub failed_damage : (files : List (List ℕ)) (read : Result Opened Fault) → ((opened : Opened) → read ≢ Ok opened) → IfErr read (Names (IsDamage files))
+    → read ≢ Err EmptyChain → read ≢ Err Device → read ≢ Err OutOfMemory → IsDamaged files
+failed_damage files (Ok opened) failed named empty device memory = absurd (failed opened refl)
+failed_damage files (Err EmptyChain) failed named empty device memory = absurd (empty refl)
+failed_damage files (Err (Damaged slot reason)) failed named empty device memory = record { slot = slot; reason = reason; damage = named }
+failed_damage files (Err Device) failed named empty device memory = absurd (device refl)
+failed_damage files (Err OutOfMemory) failed named empty device memory = absurd (memory refl)
 
 -- a store that is as it is believed to be isn't refused
 pub believed_opens : OpenerFinds → (core : CoreView) (made : Taken) (opener : Looking) → (core.committing ≡ true → has_swept core.items ≡ true) → core.opener ≡ Some opener → slice_get core.outs 2 ≡ Some None → RefusesRightly core made

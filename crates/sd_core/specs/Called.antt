@@ -27,7 +27,7 @@ use Rattle.sd_core.specs.Lasting.{FixesNoList, MergeLasts}
 use Rattle.sd_core.specs.LittleWork.{IsLittleDump, IsLittlePreDump, OpensPreDump}
 use Rattle.sd_core.specs.Merging.{EndsCut, EntersAsCopy, FixesItsList, IsMerged, ListsTheUnneeded, MergesAs, merge_refusal}
 use Rattle.sd_core.specs.Noted.{KeepsMarks}
-use Rattle.sd_core.specs.Opening.{OpensBelieved, OpensOwn, RefusesRightly}
+use Rattle.sd_core.specs.Opening.{OpensBelieved, OpensOwn, RefusesAsScan, RefusesRightly}
 use Rattle.sd_core.specs.Orders.{BeginsToOpen, IsCancelled}
 use Rattle.sd_core.specs.Refusals.{cancel_refusal, is_idle, reopen_refusal, work_refusal}
 use Rattle.sd_core.specs.Starts.{TakesUp}
@@ -95,6 +95,7 @@ pub record IsTakenUp (worker : Worker) (old : CoreView) (made : Taken) (new : Co
   pub flags : FlagsByStep old worker made new
   pub beside : StepsBeside worker old made new
   pub refuses : worker ≡ Opener → RefusesRightly old made
+  pub scans : worker ≡ Opener → RefusesAsScan old made
   pub opens : worker ≡ Opener → OpensBelieved old made
   pub shows : worker ≡ Opener → OpensOwn old made
 

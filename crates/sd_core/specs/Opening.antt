@@ -11,6 +11,7 @@ use Rattle.sd_gate.specs.Fits.{DiskLeaves}
 use Rattle.sd_gate.specs.Requests.{Asked, Made}
 use Rattle.sd_gate.specs.Sequences.{first_looks}
 use Rattle.sd_opener.specs.declared.stage.Stage.TheVariants.{Asking}
+use Rattle.sd_image.specs.declared.reason.Reason.{Reason}
 use Rattle.sd_image.specs.Image.{Image}
 use Rattle.sd_image.specs.Shows.{IsRestorable, IsStore, IsTip, Shows}
 use Rattle.sd_journal.specs.Allowed.{Shown, shown_number}
@@ -20,7 +21,9 @@ use Rattle.sd_opener.specs.declared.opened.Opened.{Opened}
 use Rattle.sd_opener.specs.declared.opener_step.OpenerStep.{OpenerStep}
 use Rattle.sd_opener.specs.Left.{Lowers, LowersByStep}
 use Rattle.sd_opener.specs.Looking.{IsDoneAsAsked, Looking, MovesOn, StepMoves, out_of}
-use Rattle.sd_opener.specs.Sees.{IsOpened, IsToldOf, Sees, SeesAfter}
+use Rattle.sd_opener.specs.Sees.{IsOpened, IsToldOf, Sees, SeesAfter, StepNames}
+use Rattle.sd_restore.specs.Faulty.{IsDamage, IsFirstFaulty}
+use Rattle.sd_restore.specs.Reading.{AreRightlyDigested}
 use Rattle.sd_belief.specs.Believes.{Believes}
 use Rattle.sd_belief.specs.View.{CoreView, history_of}
 use Rattle.sd_core.specs.declared.taken.Taken.{Taken}
@@ -38,6 +41,7 @@ pub record WorksOpener (old : Option Looking) (number : ℕ) (step : OpenerStep)
   pub rests : out_of opener.stage ≡ None
   pub lowers : LowersByStep step opener next
   pub sees : (files : List (List ℕ)) → Sees files None opener → SeesAfter files step next
+  pub names : (files : List (List ℕ)) → Sees files None opener → AreRightlyDigested files → StepNames (IsFirstFaulty files) step
 
 -- an opener runs, and has no request out
 pub record IsResting (opener : Option Looking) : Type 0 where
@@ -95,6 +99,26 @@ pub record IsOwnStore (last pending : Option ℕ) (files : List (List ℕ)) : Ty
 abbrev pub SawStrange : Looking → Option ℕ → Option ℕ → Type 0
 SawStrange opener last pending = (files : List (List ℕ)) → Sees files None opener → length opener.told ≡ length files → IsOwnStore last pending files → ⊥
 
+-- a scan of these files names a slot, and the reason
+pub record IsDamaged (files : List (List ℕ)) : Type 0 where
+  pub slot : ℕ
+  pub reason : Reason
+  pub damage : IsDamage files slot reason
+
+-- these files are a store, whose tip has neither the last checkpoint's number nor the pending one's
+pub record IsOtherStore (last pending : Option ℕ) (files : List (List ℕ)) : Type 0 where
+  pub images : List Image
+  pub store : IsStore files images
+  pub other : (number : Option ℕ) → IsTipNumber images number → IsExpected last pending number → ⊥
+
+abbrev pub IsDamagedOrOther : Option ℕ → Option ℕ → List (List ℕ) → Type 0
+IsDamagedOrOther last pending files = IsDamaged files ⊎ IsOtherStore last pending files
+
+-- So are the files that an opener saw, as far as it can know: it checks no digest.
+abbrev pub SawDamage : Looking → Option ℕ → Option ℕ → Type 0
+SawDamage opener last pending = (files : List (List ℕ)) → Sees files None opener → length opener.told ≡ length files → AreRightlyDigested files
+    → IsDamagedOrOther last pending files
+
 -- the pending checkpoint, once the pass of its dump is over: only then the store may show it
 abbrev pub awaited : CoreView → Option ℕ
 awaited core = if has_swept core.items then pending (history_of core) else None
@@ -107,6 +131,15 @@ RefusesStrange core answer = answer ≡ reply.Refused Damaged → (opener : Look
 abbrev pub RefusesRightly : CoreView → Taken → Type 0
 RefusesRightly core (Step answer) = RefusesStrange core answer
 RefusesRightly core (Call request) = Unit {0}
+
+-- A store is refused as damaged only where a scan names one of its slots, or where it shows neither the last checkpoint nor the one that is awaited.
+abbrev pub RefusesDamage : CoreView → Reply → Type 0
+RefusesDamage core answer = answer ≡ reply.Refused Damaged → (opener : Looking) → core.opener ≡ Some opener → (files : List (List ℕ)) → Sees files None opener
+    → AreRightlyDigested files → IsDamagedOrOther (last core.base (history_of core)) (awaited core) files
+
+abbrev pub RefusesAsScan : CoreView → Taken → Type 0
+RefusesAsScan core (Step answer) = RefusesDamage core answer
+RefusesAsScan core (Call request) = Unit {0}
 
 -- A store is opened only where it shows the last checkpoint or the one that is awaited.
 abbrev pub OpensOwn : CoreView → Taken → Type 0

@@ -8,7 +8,7 @@ ghost use Rattle.sd_gate.specs.Phases.{given_up, phases_after};
 ghost use Rattle.sd_gate.specs.declared.phase.Phase.{Phase};
 ghost use Rattle.std.specs.Prelude.{slice_get};
 ghost use Rattle.sd_journal.specs.Kept.{entry_count};
-ghost use Rattle.sd_core.specs.Opening.{HoldsForOpening, IsExpected, IsFresh, IsResting, IsTipNumber, LetsGo, OpensAnew, SawStrange, TeachesOpener, WorksOpener};
+ghost use Rattle.sd_core.specs.Opening.{HoldsForOpening, IsExpected, IsFresh, IsResting, IsTipNumber, LetsGo, OpensAnew, SawDamage, SawStrange, TeachesOpener, WorksOpener};
 ghost use Rattle.sd_core.specs.Refusals.{is_open};
 ghost use Rattle.sd_core.specs.Working.{opener_left};
 
@@ -201,6 +201,7 @@ pub(crate) fn read_by(
 ) -> Option<(Opened, Option<u64>)>
     ensures opens { IfSome result (λ read. OpensAnew opener last pending read.0 read.1) }
     ensures strange { result ≡ None → SawStrange opener last pending }
+    ensures damaged { result ≡ None → SawDamage opener last pending }
 {
     store_is_rightly_digested();
     let Ok(opened) = opener.finish() else {

@@ -8,7 +8,7 @@ ghost use Rattle.sd_opener.specs.Looking.{IsDoneAsAsked};
 ghost use Rattle.sd_belief.specs.Calls.{HandedIn, MakesStep};
 ghost use Rattle.sd_core.specs.Beside.{HandsBeside, StepsBeside};
 ghost use Rattle.sd_core.specs.Flags.{FlagsByOutcome, FlagsByReply, FlagsByStep};
-ghost use Rattle.sd_core.specs.Opening.{IsAllRead, OpensBelieved, OpensOwn, RefusesRightly, RefusesStrange};
+ghost use Rattle.sd_core.specs.Opening.{IsAllRead, OpensBelieved, OpensOwn, RefusesAsScan, RefusesDamage, RefusesRightly, RefusesStrange};
 ghost use Rattle.sd_core.specs.Refusals.{work_refusal};
 ghost use Rattle.sd_core.specs.Starts.{TakesUp};
 ghost use Rattle.sd_core.specs.Working.{Leaves, LeavesByOutcome, LeavesByStep};
@@ -36,6 +36,7 @@ impl Core {
         ensures flags { FlagsByStep self.old its.Opener result self.new }
         ensures beside { StepsBeside its.Opener self.old result self.new }
         ensures refuses { RefusesRightly self.old result }
+        ensures scans { RefusesAsScan self.old result }
         ensures opens { OpensBelieved self.old result }
         ensures shows { OpensOwn self.old result }
         ensures leaves { Leaves self.old its.Opener result self.new }
@@ -73,6 +74,7 @@ impl Core {
         ensures flags { FlagsByReply self.old result self.new }
         ensures beside { StepsBeside its.Opener self.old (taken.Step result) self.new }
         ensures refuses { RefusesStrange self.old result }
+        ensures scans { RefusesDamage self.old result }
         ensures shows { OpensOwn self.old (taken.Step result) }
         ensures leaves { LeavesByStep self.old its.Opener result self.new }
         ensures merger { self.new.merger ≡ self.old.merger }

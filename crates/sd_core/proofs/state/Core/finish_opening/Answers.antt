@@ -17,7 +17,7 @@ use Rattle.sd_core.proofs.OthersLemmas.{beside_seen, none_now}
 use Rattle.sd_core.proofs.FlagLemmas.{set_flags}
 use Rattle.sd_core.specs.Grown.{has_grown, has_swept}
 use Rattle.sd_core.specs.declared.taken.Taken.TheVariants.{Step}
-use Rattle.sd_core.specs.Opening.{IsExpected, OpensOwn, RefusesStrange}
+use Rattle.sd_core.specs.Opening.{IsDamagedOrOther, IsExpected, OpensOwn, RefusesDamage, RefusesStrange}
 use Rattle.sd_core.specs.Sound.{AreNumbers, IsOpening, held_for, out_of_opener}
 use Rattle.sd_core.specs.Starts.{base_of}
 use Rattle.sd_core.proofs.CoreLemmas.{held_idle, held_opening, nobody_is, none_out}
@@ -130,6 +130,21 @@ returns-in_default-read_by-clause-refuses c =
     c.in_default-read_by.ensures.strange refl files seen (all ∙ sym seen.count) (same_own _ _ _ _ files (λ found expected.
     subst (λ p. IsExpected c.self.inside.last p found) (sym (c.swept_checkpoint.ensures ∙ own_awaited))
     (subst (λ l. IsExpected l (if has_swept c.self.inside.journal.items then pending (entries_of c.self.inside.journal.items) else None) found) (sym c.self.invariant.journal_is.newest_is) expected)) own))
+
+pub returns-in_default-read_by-clause-scans : goal.returns-in_default-read_by-clause-scans
+returns-in_default-read_by-clause-scans c =
+    let o = c.in-Some.opener in
+    let is : c.self.inside.opener ≡ Some o = sym c.take_opener.ensures.taken ∙ c.in-Some.is in
+    let same : c.requires.looking ≡ o = same_Some c.requires.looking o (sym c.requires.is ∙ sym (ap (λ (v : CoreView). v.opener) c.self.view_is) ∙ is) in
+    let all : length o.told ≡ o.slots = subst (λ (l : Looking). length l.told ≡ l.slots) same c.requires.all in
+    let own_awaited : (if c.self.inside.swept then c.self.inside.pending else None) ≡ (if has_swept c.self.inside.journal.items then pending (entries_of c.self.inside.journal.items) else None) =
+    ap (λ b. if b then c.self.inside.pending else None) c.self.invariant.flags_are.swept_by ∙ ap (λ p. if has_swept c.self.inside.journal.items then p else None) c.self.invariant.journal_is.frozen_for in
+    subst (λ v. RefusesDamage v (reply.Refused DamagedStore)) c.self.view_is (λ told opener there files sees right.
+    let own_opener : opener ≡ o = same_Some opener o (sym there ∙ is) in
+    let seen : Sees files None o = subst (Sees files None) own_opener sees in
+    subst (λ l. IsDamagedOrOther l (if has_swept c.self.inside.journal.items then pending (entries_of c.self.inside.journal.items) else None) files) c.self.invariant.journal_is.newest_is
+    (subst (λ p. IsDamagedOrOther c.self.inside.last p files) (c.swept_checkpoint.ensures ∙ own_awaited)
+    (c.in_default-read_by.ensures.damaged refl files seen (all ∙ sym seen.count) right)))
 
 same_found : (a b : Option ℕ) → Step (reply.Reopened a) ≡ Step (reply.Reopened b) → a ≡ b
 same_found a b e = cc

@@ -1,4 +1,4 @@
-use Rattle.std.proofs.Common.{◌≡◌, None, Some, IfSome, slice_get, refl, sym, ◌∙◌, ap, subst, arith}
+use Rattle.std.proofs.Common.{◌≡◌, None, Some, IfSome, slice_get, refl, sym, ◌∙◌, ap, subst, inl, arith}
 use Rattle.std.proofs.lemmas.Option.{same_Some}
 use Rattle.sd_gate.specs.declared.worker.Worker.TheVariants as its
 use Rattle.sd_command.specs.declared.reply.Reply.TheVariants as reply
@@ -9,7 +9,7 @@ use Rattle.sd_opener.specs.Looking.{out_of}
 use Rattle.sd_opener.specs.Sees.{Sees}
 use Rattle.sd_core.specs.contracts.state.Core.{the_view}
 use Rattle.sd_core.specs.declared.taken.Taken.TheVariants.{Step}
-use Rattle.sd_core.specs.Opening.{OpensBelieved, RefusesStrange, WorksOpener}
+use Rattle.sd_core.specs.Opening.{OpensBelieved, RefusesDamage, RefusesStrange, WorksOpener}
 use Rattle.sd_core.specs.Sound.{IsOpening, held_for, out_of_opener}
 use Rattle.sd_core.specs.Starts.{base_of}
 use Rattle.sd_core.proofs.CoreLemmas.{held_opening, nobody_is, one_out, set_alone}
@@ -103,6 +103,13 @@ returns-in-Damaged-clause-refuses c =
     subst (λ v. RefusesStrange v (reply.Refused DamagedStore)) c.self.view_is (λ told opener there files sees own.
     let own_opener : opener ≡ w.opener = same_Some opener w.opener (sym there ∙ w.was) in
     w.sees files (subst (Sees files None) own_opener sees) own.images own.store)
+
+pub returns-in-Damaged-clause-scans : goal.returns-in-Damaged-clause-scans
+returns-in-Damaged-clause-scans c =
+    let w = subst (λ step. WorksOpener c.self.inside.opener c.self.inside.numbers.ticket step c.step_opener.new.opener) c.in-Damaged.is c.in-Ok.ensures.works in
+    subst (λ v. RefusesDamage v (reply.Refused DamagedStore)) c.self.view_is (λ told opener there files sees right.
+    let own_opener : opener ≡ w.opener = same_Some opener w.opener (sym there ∙ w.was) in
+    inl (record { slot = _; reason = _; damage = inl (w.names files (subst (Sees files None) own_opener sees) right) }))
 
 pub returns-in-Damaged-clause-opens : goal.returns-in-Damaged-clause-opens
 returns-in-Damaged-clause-opens c =
