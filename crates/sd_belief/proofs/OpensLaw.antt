@@ -200,6 +200,9 @@ module _ (quiet : QuietSteps) (gates : GateSteps) (file : FileLaws) (gives : Ste
   phase_then = ap (slice_get phases_now) (sym on) ∙ ap (λ d. slice_get (slice_set old.phases made.request.id.slot (after phase made.request.id.call d)) made.request.id.slot) s.opens.done
       ∙ set_same old.phases made.request.id.slot phase (after phase made.request.id.call true) s.outcome.phase_is ∙ ap Some opened_then.whole
 
+  pub open_lem : slice_get new.phases slot ≡ Some Whole
+  open_lem = ap (λ phases. slice_get phases slot) s.outcome.phases ∙ phase_then
+
   body_then : file_at bodies_now slot ≡ image_text i
   body_then =
       let within : made.request.id.slot < length bodies = (let long = slice_get_within old.phases made.request.id.slot phase s.outcome.phase_is in let stored = b.has.stored in omega (arith, long, stored)) in

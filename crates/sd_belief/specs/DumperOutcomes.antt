@@ -151,3 +151,7 @@ pub record DumperOutcomes : Type 0 where
   pub opens_dump : (old new : CoreView) (running : Running) (image : Making) (made : Made) (phase : Phase) (opened : NewImage) (asked : List (Option Asked)) (bodies files : List (List ℕ))
       → DumpOpens old running image made phase opened new → slice_get asked 0 ≡ Some (Some made.request) → Believes old asked bodies files
       → Believes new (slice_set asked 0 None) (bodies_after bodies made.request.id made.request.bytes) files
+  -- behind an image that enters the catalog the gate of its slot is open
+  pub enters_open : (old new : CoreView) (running : Running) (image : Making) (made : Made) (phase : Phase) (opened : NewImage) (asked : List (Option Asked)) (bodies files : List (List ℕ))
+      → ImageOpens old running image made phase opened new → slice_get asked 0 ≡ Some (Some made.request) → Believes old asked bodies files
+      → slice_get new.phases image.order.slot ≡ Some Whole

@@ -31,6 +31,7 @@ mod OutsLemmas
 mod OwnLemmas
 mod PreDumpLemmas
 mod RefusalLemmas
+mod RoundLemmas
 mod ShownLemmas
 mod SlotLemmas
 mod StageLemmas

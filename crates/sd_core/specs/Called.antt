@@ -30,6 +30,7 @@ use Rattle.sd_core.specs.Noted.{KeepsMarks}
 use Rattle.sd_core.specs.Opening.{OpensBelieved, OpensOwn, RefusesAsScan, RefusesRightly}
 use Rattle.sd_core.specs.Orders.{BeginsToOpen, IsCancelled}
 use Rattle.sd_core.specs.Refusals.{cancel_refusal, is_idle, reopen_refusal, work_refusal}
+use Rattle.sd_core.specs.Rounds.{OpensItsGate, SameRound, TurnsRound}
 use Rattle.sd_core.specs.Starts.{TakesUp}
 use Rattle.sd_core.specs.Working.{FindsSource, Leaves, LeavesByOutcome}
 
@@ -92,6 +93,7 @@ pub record IsTakenUp (worker : Worker) (old : CoreView) (made : Taken) (new : Co
   pub lasts : MergeLasts old new
   pub fixes : FixesNoList old new
   pub finds : worker ≡ Merger → FindsSource old made
+  pub rounds : worker ≡ Dumper → SameRound old.dumper.running new.dumper.running
   pub flags : FlagsByStep old worker made new
   pub beside : StepsBeside worker old made new
   pub refuses : worker ≡ Opener → RefusesRightly old made
@@ -115,6 +117,9 @@ pub record IsHandedIn (made : Made) (answer : Reply) (old new : CoreView) : Type
   pub little : (n : ℕ) → IsOut old made.request.id → answer ≡ reply.Acked n → IsLittleDump n old new
   pub round : IsOut old made.request.id → made.request.id.worker ≡ Dumper → (running : Running) → OpensPreDump running old new
       → IsLittlePreDump running old new
+  pub rounds : IsOut old made.request.id → made.request.id.worker ≡ Dumper → TurnsRound old.dumper.running new.dumper.running new.catalog
+  -- by the outcome with which an image of the checkpoint enters the catalog
+  pub gates : (out : IsOut old made.request.id) → made.request.id.worker ≡ Dumper → OpensItsGate old out.lane made.request answer new
   pub merged : (serial : ℕ) → IsOut old made.request.id → answer ≡ reply.Merged serial → IsMerged serial old new
   -- by the outcome with which the merged image enters the catalog
   pub opens : IsOut old made.request.id → made.request.id.worker ≡ Merger → EntersFirst old answer new

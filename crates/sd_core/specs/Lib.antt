@@ -17,6 +17,7 @@ pub mod Noted
 pub mod Opening
 pub mod Orders
 pub mod Refusals
+pub mod Rounds
 pub mod Sound
 pub mod Starts
 pub mod Trims

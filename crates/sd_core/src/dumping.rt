@@ -10,6 +10,7 @@ ghost use Rattle.sd_belief.specs.DumperSteps.{opens_gate};
 ghost use Rattle.sd_belief.specs.DumperOutcomes.{LeavesCatalog, closes_for_sure};
 ghost use Rattle.sd_core.specs.Dumping.{BeginsNext, LetsGoOfTwo, ReleasesPlace, StepsOn};
 ghost use Rattle.sd_core.specs.Images.{job_of};
+ghost use Rattle.sd_core.specs.Rounds.{SameRound};
 
 use crate::beginning::Slots;
 use sd_chain::Catalog;
@@ -46,6 +47,7 @@ pub(crate) fn begin_next(
     requires { IsSome (next_slot dumper.old.running) }
     ensures begins { BeginsNext image.serial image.state ticket dumper.old memory.old result dumper.new memory.new }
     ensures job { job_of dumper.new.running ≡ job_of dumper.old.running }
+    ensures round { SameRound dumper.old.running dumper.new.running }
     ensures lowers { left_of dumper.new.running (plain_of memory.new)
         < left_of dumper.old.running (plain_of memory.old) }
 {
@@ -71,6 +73,7 @@ pub(crate) fn step_on(
     requires goes { dumper_must_wait dumper.old.running (plain_of memory.old) ≡ false }
     ensures steps { IfOk result (λ step. StepsOn ticket dumper.old memory.old step dumper.new memory.new) }
     ensures job { IfOk result (λ step. job_of dumper.new.running ≡ job_of dumper.old.running) }
+    ensures round { IfOk result (λ step. SameRound dumper.old.running dumper.new.running) }
     ensures lowers { IfOk result (λ step. left_of dumper.new.running (plain_of memory.new)
         < left_of dumper.old.running (plain_of memory.old)) }
     ensures err { OnErr result (dumper.new ≡ dumper.old) }

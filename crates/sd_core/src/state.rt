@@ -29,6 +29,7 @@ ghost use Rattle.sd_core.specs.Merging.{EndsCut, EntersAsCopy, FixesItsList, IsM
 ghost use Rattle.sd_core.specs.Opening.{OpensBelieved, RefusesRightly};
 ghost use Rattle.sd_core.specs.Orders.{BeginsToOpen, IsCancelled};
 ghost use Rattle.sd_core.specs.Refusals.{cancel_refusal, is_idle, reopen_refusal, work_refusal};
+ghost use Rattle.sd_core.specs.Rounds.{OpensItsGate, SameRound, TurnsRound};
 ghost use Rattle.sd_core.specs.Starts.{TakesUp, IsStart, nothing_asked, shown_base};
 ghost use Rattle.sd_core.specs.Working.{FindsSource, Leaves, LeavesByOutcome, left_by};
 ghost use Rattle.sd_core.specs.declared.taken.Taken.TheVariants as taken;
@@ -482,6 +483,7 @@ impl Core {
         ensures flags { FlagsByStep self.old its.Dumper result self.new }
         ensures beside { StepsBeside its.Dumper self.old result self.new }
         ensures leaves { Leaves self.old its.Dumper result self.new }
+        ensures round { SameRound self.old.dumper.running self.new.dumper.running }
         ensures merger { self.new.merger ≡ self.old.merger }
     {
         match self.dumper.next_slot() {
@@ -501,6 +503,7 @@ impl Core {
         ensures flags { FlagsByStep self.old its.Dumper result self.new }
         ensures beside { StepsBeside its.Dumper self.old result self.new }
         ensures leaves { Leaves self.old its.Dumper result self.new }
+        ensures round { SameRound self.old.dumper.running self.new.dumper.running }
         ensures merger { self.new.merger ≡ self.old.merger }
     {
         core_steps();
@@ -549,6 +552,7 @@ impl Core {
         ensures flags { FlagsByStep self.old its.Dumper result self.new }
         ensures beside { StepsBeside its.Dumper self.old result self.new }
         ensures leaves { Leaves self.old its.Dumper result self.new }
+        ensures round { SameRound self.old.dumper.running self.new.dumper.running }
         ensures merger { self.new.merger ≡ self.old.merger }
     {
         core_steps();
@@ -668,6 +672,8 @@ impl Core {
         ensures little { (n : ℕ) → result ≡ reply.Acked n → IsLittleDump n self.old self.new }
         ensures round { (running : Running) → OpensPreDump running self.old self.new
             → IsLittlePreDump running self.old self.new }
+        ensures rounds { TurnsRound self.old.dumper.running self.new.dumper.running self.new.catalog }
+        ensures gates { OpensItsGate self.old lane outcome.request result self.new }
     {
         dumper_outcomes();
         tracked_laws();

@@ -1,3 +1,4 @@
+mod AckedLemmas
 mod AddsLemmas
 mod AllowedLemmas
 mod AnewLemmas

@@ -46,7 +46,7 @@ merger_lane (suc (suc zero)) is = absurd (let no : Opener ≡ Merger = is in cc)
 merger_lane (suc (suc (suc k))) is = absurd (let no : Dumper ≡ Merger = is in cc)
 
 -- a slot on which no request is out reads as its phase says
-reads_free : (contents : List (List ℕ)) (may_leave : List (List ℕ) → Type 0) (phases : List Phase) (kept : List Kept) (bodies : List (List ℕ)) (outs : List (Option RequestId))
+pub reads_free : (contents : List (List ℕ)) (may_leave : List (List ℕ) → Type 0) (phases : List Phase) (kept : List Kept) (bodies : List (List ℕ)) (outs : List (Option RequestId))
     (slot : ℕ) (phase : Phase) → outs ≡ map id_of kept → Stand contents may_leave phases kept bodies → IsFree outs slot → slice_get phases slot ≡ Some phase
     → Reads phase (file_at bodies slot) (file_at contents slot)
 reads_free contents may_leave phases kept bodies outs slot phase are stand free is =

@@ -1,3 +1,4 @@
+pub mod Acked
 pub mod Adds
 pub mod Closing
 pub mod Consistent

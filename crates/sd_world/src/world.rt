@@ -16,6 +16,7 @@ ghost use Rattle.sd_journal.specs.Marked.{IsTracked};
 ghost use Rattle.sd_belief.specs.Shown.{ShowsAllowed};
 ghost use Rattle.sd_belief.specs.View.{history_of};
 ghost use Rattle.sd_world.specs.declared.event.Event.TheVariants.{HandInAt, Perform, PerformAt, TakeUp, Trim, Work};
+ghost use Rattle.sd_world.specs.Acked.{DoesAck, HasPreDumpsThere};
 ghost use Rattle.sd_world.specs.Adds.{Adds};
 ghost use Rattle.sd_world.specs.Closing.{ClosesBehind, EndsBehind};
 ghost use Rattle.sd_world.specs.Little.{DoesLittle};
@@ -62,7 +63,7 @@ pub struct World<D: Disk> {
 impl<D: Disk> Model for World<D> {
     ghost use Rattle.std.specs.Coded.{codes};
     ghost use Rattle.sd_world.specs.View.{WorldView, world_code};
-    ghost use Rattle.sd_world.specs.Consistent.{IsWorld};
+    ghost use Rattle.sd_world.specs.Acked.{IsWorldThere};
 
     ghost Value = { WorldView D };
 
@@ -70,7 +71,7 @@ impl<D: Disk> Model for World<D> {
 
     ghost view = { λ w. record { core = w.core; disk = w.disk; kept = w.kept } };
 
-    ghost invariant = { λ w. IsWorld D.Disk (record { core = w.core; disk = w.disk; kept = w.kept }) };
+    ghost invariant = { λ w. IsWorldThere D.Disk (record { core = w.core; disk = w.disk; kept = w.kept }) };
 }
 
 impl<D: Disk> World<D> {
@@ -162,7 +163,8 @@ impl<D: Disk> World<D> {
     }
 
     /// A law: whatever a crash leaves now shows a pair that the journal allows, and so do the contents as read. The
-    /// journal is legal, the memory is the one that it makes, and its bits are those that the commands and visits give.
+    /// journal is legal, the memory is the one that it makes, and its bits are those that the commands and visits give. The
+    /// pre-dumps so far of the checkpoint that runs are open in their slots.
     pub fn sound(&self)
         ensures allowed { D.is_honest self.now.disk → Within (D.may_leave self.now.disk)
             (ShowsAllowed self.now.core.base (history_of self.now.core)) }
@@ -171,6 +173,7 @@ impl<D: Disk> World<D> {
             (D.contents self.now.disk) }
         ensures tracked { IsTracked self.now.core.base self.now.core.items
             self.now.core.memory }
+        ensures pre_dumps { D.is_honest self.now.disk → HasPreDumpsThere D.Disk self.now }
     {
         left_as_believed();
         contents_show();
@@ -269,6 +272,9 @@ impl<D: Disk> World<D> {
         // A merge that closes images behind it, or ends with it, did so before, or its image enters by it.
         ensures closes { D.is_honest self.new.disk → ClosesBehind D.Disk self.old self.new }
         ensures ends { D.is_honest self.new.disk → EndsBehind D.Disk self.old result self.new }
+        // Behind an acknowledgement the checkpoint's dump and each of its pre-dumps are open in their slots of the contents,
+        // and each names the one before as its parent.
+        ensures acked { D.is_honest self.new.disk → DoesAck D.Disk event.now self.old result self.new }
         // While a worker's job runs, its next step is refused only for want of memory, or where a device call failed.
         ensures jobs { D.is_honest self.new.disk → GoesOnUnless event.now self.old result }
 
@@ -306,8 +312,10 @@ impl<D: Disk> World<D> {
         synced_is_found(&self.disk);
         self.core.goes_on();
         self.core.merged_stands();
+        self.core.pre_dumps_rest();
         let answer = make_step(&mut self.core, &mut self.disk, &mut self.kept, event);
         self.core.sound();
+        self.core.pre_dumps();
         answer
     }
 

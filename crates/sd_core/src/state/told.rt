@@ -1,5 +1,5 @@
 //! What a core tells of its run, and what is so of every core.
-ghost use Rattle.std.specs.Prelude.{◌≡◌, ◌↔◌, ◌<◌, ◌≤◌, ℕ, true, Some, IfSome, IsSome, IsTrue, MatchOption, is_some, slice_get};
+ghost use Rattle.std.specs.Prelude.{◌≡◌, ◌≢◌, ◌↔◌, ◌<◌, ◌≤◌, ℕ, true, None, Some, IfSome, IsSome, IsTrue, MatchOption, is_some, slice_get};
 ghost use Rattle.sd_areas.specs.Memory.{memory_of};
 ghost use Rattle.sd_chain.specs.Catalog.{Opened, place_of};
 ghost use Rattle.sd_journal.specs.History.{pending};
@@ -13,6 +13,7 @@ ghost use Rattle.sd_core.specs.Grown.{has_grown};
 ghost use Rattle.sd_core.specs.Kept.{HasItsPreDumps};
 ghost use Rattle.sd_core.specs.Lasting.{LeavesMerged};
 ghost use Rattle.sd_core.specs.Refusals.{IsPageOut};
+ghost use Rattle.sd_core.specs.Rounds.{HasFewOpen, LeavesPreDumps};
 
 use super::Core;
 use crate::beginning::is_down;
@@ -122,6 +123,16 @@ impl Core {
         ensures { HasItsPreDumps self.now }
     {
         let _dumper = &self.dumper;
+    }
+
+    /// A law: where the store is as it is believed to be, a device call that is out on the slot of a pre-dump of the
+    /// checkpoint that runs only looks. No more of its images are open than it has pre-dumps, and no opener runs beside it.
+    pub fn pre_dumps_rest(&self)
+        ensures looks { LeavesPreDumps self.now }
+        ensures few { HasFewOpen self.now.dumper.running }
+        ensures alone { self.now.opener ≢ None → self.now.dumper.running ≡ None }
+    {
+        self.dumper.sound();
     }
 
     /// A law: while a merge closes images, its own image stands in its slot, and no device call is out on that slot.

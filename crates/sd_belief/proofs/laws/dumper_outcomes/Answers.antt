@@ -1,5 +1,5 @@
 use Rattle.sd_belief.proofs.HandsLaw.{fails_lem, goes_on_lem}
-use Rattle.sd_belief.proofs.OpensLaw.{dump_lem, pre_dump_lem}
+use Rattle.sd_belief.proofs.OpensLaw.{dump_lem, open_lem, pre_dump_lem}
 use Rattle.sd_belief.proofs.PageLaw.{written_lem}
 use Rattle.sd_belief.proofs.laws.dumper_outcomes.Goals as goal
 
@@ -14,4 +14,5 @@ returns c = record {
   opens_dump = λ old new running image made phase opened asked bodies files s at b.
       dump_lem c.quiet_steps.ensures c.gate_steps.ensures c.file_law.ensures c.steps_give.ensures c.needs_no_more.ensures c.catalog_follows.ensures c.cut_holds_the_same.ensures c.unused_is_uncalled.ensures
       old new running image made phase opened asked bodies files s.opens_it at b s.last s.items s.legal s.grows s.is;
+  enters_open = open_lem c.quiet_steps.ensures c.gate_steps.ensures c.file_law.ensures c.steps_give.ensures c.needs_no_more.ensures c.catalog_follows.ensures c.cut_holds_the_same.ensures c.unused_is_uncalled.ensures;
 }

@@ -1,8 +1,11 @@
-use Rattle.std.proofs.Common.{◌≡◌, Some, slice_get, sym, ◌∙◌, ap, rules}
+use Rattle.std.proofs.Common.{◌≡◌, Some, slice_get, sym, ◌∙◌, ap, subst, rules}
 use Rattle.sd_gate.specs.declared.request_id.RequestId.{RequestId}
 use Rattle.sd_belief.specs.View.{CoreView}
+use Rattle.sd_core.specs.Refusals.{is_idle}
+use Rattle.sd_core.specs.Rounds.{OpensItsGate}
 use Rattle.sd_core.proofs.HandedLemmas.{merger_lane, opener_lane}
 use Rattle.sd_core.proofs.LaneLemmas.{handed_at, same_lane}
+use Rattle.sd_core.proofs.RoundLemmas.{late_turns, none_enters}
 use Rattle.sd_core.proofs.state.Core.hand_in.Goals as goal
 
 pub returns-then-is_idle : goal.returns-then-is_idle
@@ -22,6 +25,9 @@ returns-then-is_idle c = record {
   acked = search rules;
   little = search rules;
   round = search rules;
+  rounds = λ out dumper. late_turns _ _ _ _ c.hand_in_late.ensures.late c.hand_in_late.ensures.leaves;
+  gates = λ out dumper running asked bodies files enters at b. absurd (none_enters running _ _ _
+      (ap (is_idle c.args.self.now) (sym dumper) ∙ ap (λ (i : RequestId). is_idle c.args.self.now i.worker) (sym c.id-id.ensures) ∙ sym c.is_idle.ensures ∙ c.if-is_idle.true) enters);
   merged = search rules;
   opens = search rules;
   lists = search rules;
@@ -49,6 +55,12 @@ returns-in-Dumper c = record {
   acked = search rules;
   little = search rules;
   round = search rules;
+  rounds = search rules;
+  gates = λ out dumper.
+      let id = c.args.outcome.request.id in
+      let own : slice_get c.self.inside.outs c.in-Some.lane ≡ Some (Some id) = c.in-Some.ensures.found ∙ ap (λ (i : RequestId). Some (Some i)) c.id-id.ensures in
+      let same = same_lane _ out.lane c.in-Some.lane id c.self.invariant (ap (λ (v : CoreView). slice_get v.outs out.lane) c.self.view_is ∙ out.is) own in
+      subst (λ lane. OpensItsGate c.args.self.now lane c.args.outcome.request c.hand_in_dumper.result _) (sym same) c.hand_in_dumper.ensures.gates;
   merged = search rules;
   opens = search rules;
   lists = search rules;
@@ -77,6 +89,8 @@ returns-in-Merger c = record {
   acked = search rules;
   little = search rules;
   round = search rules;
+  rounds = search rules;
+  gates = search rules;
   merged = search rules;
   opens = search rules;
   lists = search rules;
@@ -105,6 +119,8 @@ returns-in-Opener c = record {
   acked = search rules;
   little = search rules;
   round = search rules;
+  rounds = search rules;
+  gates = search rules;
   merged = search rules;
   opens = search rules;
   lists = search rules;

@@ -1,4 +1,4 @@
-use Rattle.std.proofs.Common.{◌≡◌, ◌↔◌, ◌+◌, ◌^◌, ◌<◌, ◌≤◌, ◌==◌, ◌∷◌, Contains, length, Some, None, IfSome, slice_get, slice_index_or, refl, sym, ◌∙◌, ap, subst, inl, inr, arith, true, false}
+use Rattle.std.proofs.Common.{◌≡◌, ◌↔◌, ◌+◌, ◌^◌, ◌<◌, ◌≤◌, ◌==◌, ◌∷◌, Contains, length, Some, None, IfSome, slice_get, slice_index_or, slice_set, refl, sym, ◌∙◌, ap, subst, inl, inr, arith, true, false}
 use Rattle.std.proofs.lemmas.Option.{same_Some, slice_get-get_or}
 use Rattle.sd_chain.specs.Catalog.{Changes, Opened}
 use Rattle.sd_image.specs.declared.run.RunKind.{RunKind}
@@ -7,6 +7,7 @@ use Rattle.sd_rounds.specs.declared.image_order.ImageOrder.{ImageOrder}
 use Rattle.sd_rounds.specs.LittleWork.{TookVisited}
 use Rattle.sd_rounds.specs.Pass.{Place}
 use Rattle.sd_gate.specs.declared.phase.Phase.{Phase}
+use Rattle.sd_gate.specs.declared.phase.Phase.TheVariants.{Whole}
 use Rattle.sd_gate.specs.declared.request_id.RequestId.{RequestId}
 use Rattle.sd_gate.specs.declared.worker.Worker.TheVariants.{Dumper}
 use Rattle.sd_gate.specs.Calls.{is_done}
@@ -17,6 +18,8 @@ use Rattle.sd_journal.specs.declared.entry.Entry.TheVariants.{Acked}
 use Rattle.sd_journal.specs.History.{Base}
 use Rattle.sd_journal.specs.Marked.{Told, entries_of}
 use Rattle.sd_rounds.specs.Dumper.{Hands, HasCounted, HasSlot, after_pre_dump, is_last, out_of_running, slot_of, writes_of_running}
+use Rattle.sd_belief.specs.Believes.{Believes}
+use Rattle.sd_belief.specs.Calls.{IsFree}
 use Rattle.sd_belief.specs.DumperOutcomes.{IsDumpersOutcome, LeavesCatalog, closes_for_sure}
 use Rattle.sd_belief.specs.View.{CoreView, page_lane}
 use Rattle.sd_belief.specs.declared.standing.Standing.TheVariants.{Open}
@@ -26,6 +29,8 @@ use Rattle.sd_core.proofs.FlagLemmas.{gated_more, gated_of, set_flags}
 use Rattle.sd_core.specs.Grown.{IsGated, has_grown, has_swept}
 use Rattle.sd_core.specs.Images.{HasImage, HasPreDumps, begun_as, job_of}
 use Rattle.sd_core.specs.Refusals.{is_idle}
+use Rattle.sd_core.specs.Rounds.{IsNextRound, SameRound, TurnsRound}
+use Rattle.sd_core.specs.contracts.state.Core.{the_view}
 use Rattle.sd_pagetable.specs.Contents.{plain_of}
 use Rattle.sd_rounds.specs.Left.{left_of}
 use Rattle.sd_rounds.specs.declared.progress.Progress.TheVariants.{More}
@@ -43,6 +48,7 @@ use Rattle.sd_core.proofs.MarkLemmas.{sound_image}
 use Rattle.sd_core.proofs.OpeningLemmas.{handed_seen}
 use Rattle.sd_core.proofs.OutcomeLemmas.{has_image, acked_journal, acked_numbers, checkpoint_used, counted_opened, dump_pends, handed_dumper, left_counted, left_held, opened_now, pre_dump_pends}
 use Rattle.sd_core.proofs.PreDumpLemmas.{all_pre_dumps, change_stays, few_opened, leave_stays, none_held, pre_dump_entered, pre_dumps_stay}
+use Rattle.sd_core.proofs.RoundLemmas.{ends_opens, next_turns, none_opens, none_turns, opens_for, round_goes_on, turns_same}
 use Rattle.sd_core.proofs.WorkLemmas.{at_work, core_working, held_at_work, held_same, image_of_work, merger_out, own_order, own_slot, same_numbers, sound_writes, turned}
 use Rattle.sd_core.proofs.SettledLemmas.{not_swept}
 use Rattle.sd_core.proofs.state.Core.hand_in_dumper.Goals as goal
@@ -612,6 +618,178 @@ returns-in-PreDump-clause-round c running opens =
       has = subst (λ r. HasImage r c.enter_catalog.new.catalog entered) same has;
       took = subst (λ (v : CoreView). TookVisited (opened.header.parent == 0) (visits_of v.base v.items opened.header.serial) opened.table) c.self.view_is took;
     }
+
+pub returns-in-PreDump-clause-gates : goal.returns-in-PreDump-clause-gates
+returns-in-PreDump-clause-gates c =
+    let base : Base = base_of c.self.inside.base in
+    let made = c.args.outcome in
+    let id = made.request.id in
+    let phases = c.self.inside.phases.items in
+    let own : slice_get c.self.inside.outs c.args.lane ≡ Some (Some id) = ap (λ (v : CoreView). slice_get v.outs c.args.lane) c.self.view_is ∙ c.requires.out in
+    let h = subst (λ p. Hands c.self.inside.dumper made p c.hand_in.new.self) c.in-PreDump.is c.hand_in.ensures.hands in
+    let work = at_work _ h.running c.self.invariant h.was in
+    let within = c.self.invariant.outs_are.within c.args.lane id own in
+    let follows : (phase : Phase) → slice_get phases id.slot ≡ Some phase → c.follow_call.new.phases.items ≡ phases_after phases id phase (is_done made.answer) =
+    (λ phase is. c.follow_call.ensures phase (ap (λ (i : RequestId). slice_get phases i.slot) c.id-id.ensures ∙ is)
+    ∙ ap (λ i. phases_after phases i phase c.is_done-done.result) c.id-id.ensures
+    ∙ ap (phases_after phases id phase) (c.is_done-done.ensures ∙ ap is_done c.answer.ensures)) in
+    let count = after_count phases c.follow_call.new.phases.items id (is_done made.answer) within follows in
+    let opened = c.in-PreDump.image in
+    let image = image_of_work _ h.running h.hands.0.image c.self.invariant h.was h.hands.0.was in
+    let now = opened_now _ _ _ h.hands.0.image opened made image h.hands.0.hands in
+    let changes : Changes c.self.inside.catalog c.enter_catalog.new.catalog h.hands.0.image.order.serial (Some (Some (record { slot = opened.slot; header = opened.header; spaces = opened.table }))) =
+    subst (λ s. Changes c.self.inside.catalog c.enter_catalog.new.catalog s (Some (Some (record { slot = opened.slot; header = opened.header; spaces = opened.table })))) now.serial c.enter_catalog.ensures in
+    let counted = counted_opened c.self.inside.numbers c.self.inside.catalog c.enter_catalog.new.catalog h.hands.0.image.order.serial _ changes
+    (checkpoint_used _ c.self.inside.dumper.since_freeze h.running h.hands.0.image opened c.self.invariant c.sound.ensures.running h.was h.hands.0.was now) c.self.invariant.counted in
+    let phase = slice_index_or phases id.slot c.index.result.now in
+    let phase_is = slice_get-get_or phases id.slot c.index.result.now within in
+    let zero_is = opens_lane _ h.running h.hands.0.image c.args.lane made _ c.self.invariant h.was h.hands.0.was own h.hands.0.hands in
+    let outcome : IsDumpersOutcome _ c.args.lane made phase _ = record {
+      base = refl;
+      closed = work.closed;
+      memory = refl;
+      out = own;
+      outs = c.put_out.ensures;
+      apart = λ at other out same. (apart_after _ c.self.inside.outs _ _ _ _ c.args.lane id c.self.invariant.outs_are own at other out same).are;
+      phase_is = phase_is;
+      phases = follows phase phase_is;
+    } in
+    λ running asked bodies files enters at b.
+    let b_inside = subst (λ v. Believes v asked bodies files) (sym c.self.view_is) b in
+    let same : h.running ≡ running = same_Some h.running running (sym h.was ∙ ap (λ (v : CoreView). v.dumper.running) c.self.view_is ∙ opens_for running _ _ reply.Worked enters) in
+    let own_slot_is : h.hands.0.image.order.slot ≡ slot_of running = own_slot c.self.inside.dumper.since_freeze _ h.running h.hands.0.image c.sound.ensures.running h.was h.hands.0.was ∙ ap slot_of same in
+    let on_it : id.slot ≡ slot_of running = slot_at _ h.running c.args.lane id c.self.invariant h.was c.requires.dumper own ∙ ap slot_of same in
+    record {
+      stands = work.stands;
+      whole = subst (λ n. slice_get c.follow_call.new.phases.items n ≡ Some Whole) own_slot_is
+          (c.dumper_outcomes.ensures.enters_open _ (the_view (record c.self.inside { phases = c.follow_call.new.phases; outs = c.put_out.new.outs; catalog = c.enter_catalog.new.catalog })) h.running h.hands.0.image made phase opened asked bodies files (record {
+            outcome = outcome_at _ _ c.args.lane 0 made phase zero_is outcome;
+            alone = free_after _ c.self.inside.outs _ _ _ _ 0 id c.self.invariant.outs_are (ap (slice_get c.self.inside.outs) (sym zero_is) ∙ own) (omega arith);
+            stands = work.stands;
+            merger = refl;
+            serial = refl;
+            held = image.held;
+            catalog = changes;
+            was = h.was;
+            making = h.hands.0.was;
+            own = own_order c.self.inside.dumper.since_freeze _ h.running h.hands.0.image c.sound.ensures.running h.was h.hands.0.was;
+            sound = sound_image _ h.running h.hands.0.image c.sound.ensures.image h.was h.hands.0.was;
+            opens = h.hands.0.hands;
+          }) (ap (slice_get asked) (sym zero_is) ∙ at) b_inside);
+      free = subst (IsFree c.put_out.new.outs) on_it (λ worker other out. free_after _ c.self.inside.outs _ _ _ _ 0 id c.self.invariant.outs_are (ap (slice_get c.self.inside.outs) (sym zero_is) ∙ own) (omega arith) worker other
+          (ap (λ outs. slice_get outs worker) (sym (c.put_out.ensures ∙ ap (λ k. slice_set c.self.inside.outs k None) zero_is)) ∙ out));
+    }
+
+pub returns-in-Dump-clause-gates : goal.returns-in-Dump-clause-gates
+returns-in-Dump-clause-gates c =
+    let base : Base = base_of c.self.inside.base in
+    let made = c.args.outcome in
+    let id = made.request.id in
+    let phases = c.self.inside.phases.items in
+    let own : slice_get c.self.inside.outs c.args.lane ≡ Some (Some id) = ap (λ (v : CoreView). slice_get v.outs c.args.lane) c.self.view_is ∙ c.requires.out in
+    let h = subst (λ p. Hands c.self.inside.dumper made p c.hand_in.new.self) c.in-Dump.is c.hand_in.ensures.hands in
+    let work = at_work _ h.running c.self.invariant h.was in
+    let within = c.self.invariant.outs_are.within c.args.lane id own in
+    let follows : (phase : Phase) → slice_get phases id.slot ≡ Some phase → c.follow_call.new.phases.items ≡ phases_after phases id phase (is_done made.answer) =
+    (λ phase is. c.follow_call.ensures phase (ap (λ (i : RequestId). slice_get phases i.slot) c.id-id.ensures ∙ is)
+    ∙ ap (λ i. phases_after phases i phase c.is_done-done.result) c.id-id.ensures
+    ∙ ap (phases_after phases id phase) (c.is_done-done.ensures ∙ ap is_done c.answer.ensures)) in
+    let count = after_count phases c.follow_call.new.phases.items id (is_done made.answer) within follows in
+    let opened = c.in-Dump.image in
+    let image = image_of_work _ h.running h.hands.0.image c.self.invariant h.was h.hands.0.was in
+    let now = opened_now _ _ _ h.hands.0.image opened made image h.hands.0.hands in
+    let changes : Changes c.self.inside.catalog c.enter_catalog-in-Dump.new.catalog h.hands.0.image.order.serial (Some (Some (record { slot = opened.slot; header = opened.header; spaces = opened.table }))) =
+    subst (λ s. Changes c.self.inside.catalog c.enter_catalog-in-Dump.new.catalog s (Some (Some (record { slot = opened.slot; header = opened.header; spaces = opened.table })))) now.serial c.enter_catalog-in-Dump.ensures in
+    let counted = counted_opened c.self.inside.numbers c.self.inside.catalog c.enter_catalog-in-Dump.new.catalog h.hands.0.image.order.serial _ changes
+    (checkpoint_used _ c.self.inside.dumper.since_freeze h.running h.hands.0.image opened c.self.invariant c.sound.ensures.running h.was h.hands.0.was now) c.self.invariant.counted in
+    let phase = slice_index_or phases id.slot c.index.result.now in
+    let phase_is = slice_get-get_or phases id.slot c.index.result.now within in
+    let zero_is = opens_lane _ h.running h.hands.0.image c.args.lane made _ c.self.invariant h.was h.hands.0.was own h.hands.0.hands in
+    let outcome : IsDumpersOutcome _ c.args.lane made phase _ = record {
+      base = refl;
+      closed = work.closed;
+      memory = refl;
+      out = own;
+      outs = c.put_out.ensures;
+      apart = λ at other out same. (apart_after _ c.self.inside.outs _ _ _ _ c.args.lane id c.self.invariant.outs_are own at other out same).are;
+      phase_is = phase_is;
+      phases = follows phase phase_is;
+    } in
+    λ running asked bodies files enters at b.
+    let b_inside = subst (λ v. Believes v asked bodies files) (sym c.self.view_is) b in
+    let same : h.running ≡ running = same_Some h.running running (sym h.was ∙ ap (λ (v : CoreView). v.dumper.running) c.self.view_is ∙ opens_for running _ _ (reply.Acked c.self.inside.numbers.begun) enters) in
+    let own_slot_is : h.hands.0.image.order.slot ≡ slot_of running = own_slot c.self.inside.dumper.since_freeze _ h.running h.hands.0.image c.sound.ensures.running h.was h.hands.0.was ∙ ap slot_of same in
+    let on_it : id.slot ≡ slot_of running = slot_at _ h.running c.args.lane id c.self.invariant h.was c.requires.dumper own ∙ ap slot_of same in
+    record {
+      stands = work.stands;
+      whole = subst (λ n. slice_get c.follow_call.new.phases.items n ≡ Some Whole) own_slot_is
+          (c.dumper_outcomes.ensures.enters_open _ (the_view (record c.self.inside { phases = c.follow_call.new.phases; outs = c.put_out.new.outs; catalog = c.enter_catalog-in-Dump.new.catalog })) h.running h.hands.0.image made phase opened asked bodies files (record {
+            outcome = outcome_at _ _ c.args.lane 0 made phase zero_is outcome;
+            alone = free_after _ c.self.inside.outs _ _ _ _ 0 id c.self.invariant.outs_are (ap (slice_get c.self.inside.outs) (sym zero_is) ∙ own) (omega arith);
+            stands = work.stands;
+            merger = refl;
+            serial = refl;
+            held = image.held;
+            catalog = changes;
+            was = h.was;
+            making = h.hands.0.was;
+            own = own_order c.self.inside.dumper.since_freeze _ h.running h.hands.0.image c.sound.ensures.running h.was h.hands.0.was;
+            sound = sound_image _ h.running h.hands.0.image c.sound.ensures.image h.was h.hands.0.was;
+            opens = h.hands.0.hands;
+          }) (ap (slice_get asked) (sym zero_is) ∙ at) b_inside);
+      free = subst (IsFree c.put_out.new.outs) on_it (λ worker other out. free_after _ c.self.inside.outs _ _ _ _ 0 id c.self.invariant.outs_are (ap (slice_get c.self.inside.outs) (sym zero_is) ∙ own) (omega arith) worker other
+          (ap (λ outs. slice_get outs worker) (sym (c.put_out.ensures ∙ ap (λ k. slice_set c.self.inside.outs k None) zero_is)) ∙ out));
+    }
+
+pub returns-in-More-clause-gates : goal.returns-in-More-clause-gates
+returns-in-More-clause-gates c =
+    let h = subst (λ p. Hands c.self.inside.dumper c.args.outcome p c.hand_in.new.self) c.in-More.is c.hand_in.ensures.hands in
+    let goes : SameRound c.self.inside.dumper.running c.hand_in.new.self.running = round_goes_on _ _ h.running (record h.running { image = Some h.hands.next }) h.was (ap (λ d. d.running) h.is ∙ ap Some h.hands.is)
+    (record { job = refl; opened = refl; parent = refl }) in
+    λ running asked bodies files enters at b. absurd (none_opens running _ _ reply.Worked (λ n no. (let not : reply.Worked ≡ reply.Acked n = no in cc))
+    (subst (λ (v : CoreView). SameRound v.dumper.running c.hand_in.new.self.running) c.self.view_is goes) enters)
+
+pub returns-in-Failed-clause-gates : goal.returns-in-Failed-clause-gates
+returns-in-Failed-clause-gates c =
+    let h = subst (λ p. Hands c.self.inside.dumper c.args.outcome p c.hand_in.new.self) c.in-Failed.is c.hand_in.ensures.hands in
+    λ running asked bodies files enters at b. absurd (ends_opens running _ _ (reply.Refused StoreDown) (λ n no. (let not : reply.Refused StoreDown ≡ reply.Acked n = no in cc)) (ap (λ d. d.running) h.is) enters)
+
+pub returns-in-More-clause-rounds : goal.returns-in-More-clause-rounds
+returns-in-More-clause-rounds c =
+    let h = subst (λ p. Hands c.self.inside.dumper c.args.outcome p c.hand_in.new.self) c.in-More.is c.hand_in.ensures.hands in
+    subst (λ (v : CoreView). TurnsRound v.dumper.running c.hand_in.new.self.running c.leave_catalog.new.catalog) c.self.view_is
+    (turns_same c.self.inside.dumper.running c.hand_in.new.self.running c.leave_catalog.new.catalog
+    (round_goes_on c.self.inside.dumper.running c.hand_in.new.self.running h.running (record h.running { image = Some h.hands.next }) h.was (ap (λ d. d.running) h.is ∙ ap Some h.hands.is)
+    (record { job = refl; opened = refl; parent = refl })))
+
+pub returns-in-Failed-clause-rounds : goal.returns-in-Failed-clause-rounds
+returns-in-Failed-clause-rounds c =
+    let h = subst (λ p. Hands c.self.inside.dumper c.args.outcome p c.hand_in.new.self) c.in-Failed.is c.hand_in.ensures.hands in
+    none_turns c.args.self.now.dumper.running c.hand_in.new.self.running c.self.inside.catalog (ap (λ d. d.running) h.is)
+
+pub returns-in-Dump-clause-rounds : goal.returns-in-Dump-clause-rounds
+returns-in-Dump-clause-rounds c =
+    let h = subst (λ p. Hands c.self.inside.dumper c.args.outcome p c.hand_in.new.self) c.in-Dump.is c.hand_in.ensures.hands in
+    none_turns c.args.self.now.dumper.running c.hand_in.new.self.running c.enter_catalog-in-Dump.new.catalog (ap (λ d. d.running) h.is)
+
+pub returns-in-PreDump-clause-rounds : goal.returns-in-PreDump-clause-rounds
+returns-in-PreDump-clause-rounds c =
+    let made = c.args.outcome in
+    let h = subst (λ p. Hands c.self.inside.dumper c.args.outcome p c.hand_in.new.self) c.in-PreDump.is c.hand_in.ensures.hands in
+    let opened = c.in-PreDump.image in
+    let image = image_of_work _ h.running h.hands.0.image c.self.invariant h.was h.hands.0.was in
+    let now = opened_now _ _ _ h.hands.0.image opened made image h.hands.0.hands in
+    let has = has_image c.self.inside.dumper.since_freeze c.self.inside.dumper.running h.running h.hands.0.image made opened c.self.inside.catalog c.enter_catalog.new.catalog c.sound.ensures.running h.was h.hands.0.was now h.hands.0.hands
+    c.enter_catalog.ensures in
+    let turned : IsNextRound h.running (after_pre_dump h.running opened) c.enter_catalog.new.catalog = record {
+      job = refl;
+      opened = refl;
+      image = record { slot = opened.slot; header = opened.header; spaces = opened.table };
+      has = has;
+      parent = refl;
+    } in
+    subst (λ (v : CoreView). TurnsRound v.dumper.running c.hand_in.new.self.running c.enter_catalog.new.catalog) c.self.view_is
+    (next_turns c.self.inside.dumper.running c.hand_in.new.self.running c.enter_catalog.new.catalog h.running (after_pre_dump h.running opened) h.was (ap (λ d. d.running) h.is ∙ ap Some h.hands.2) turned)
 
 pub unreachable-requires : goal.unreachable-requires
 unreachable-requires c =

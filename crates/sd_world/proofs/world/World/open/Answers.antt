@@ -5,8 +5,10 @@ use Rattle.sd_image.specs.Shows.{Shows}
 use Rattle.sd_journal.specs.History.{Base}
 use Rattle.sd_rounds.specs.Dumper.{Dumping}
 use Rattle.sd_core.specs.Starts.{shown_base}
-use Rattle.sd_world.specs.Consistent.{IsWorld}
+use Rattle.sd_world.specs.Acked.{IsWorldThere}
 use Rattle.sd_world.specs.Opens.{AreSynced}
+use Rattle.sd_world.specs.View.{nothing_kept}
+use Rattle.sd_world.proofs.AckedLemmas.{none_there}
 use Rattle.sd_world.proofs.OpenLemmas.{all_synced, nobody_places, nothing_made}
 use Rattle.sd_world.proofs.TicketLemmas.{none_has}
 use Rattle.sd_world.proofs.world.World.open.Goals as goal
@@ -19,20 +21,23 @@ invariant_of-result g c =
     let starts = c.new-core.ensures.starts in
     let read = c.in-Ok.ensures in
     let same : D.contents disk ≡ D.contents c.args.disk = read.reads.same in
-    subst (λ kept. IsWorld D (record { core = c.new-core.result; disk = disk; kept = kept })) (sym c.nothing_kept-kept.ensures) (record {
-      count = ap length same ∙ sym read.count ∙ ap length (sym starts.phases);
-      outs = starts.outs;
-      places = nobody_places (length (D.contents disk));
-      consistent = λ honest.
-          let phases : start.phases.items ≡ map found_phase (D.contents disk) = read.phases honest ∙ ap (map found_phase) (sym same) in
-          let fits = c.all_found_fit.ensures (subst (λ files. AreSynced (length files) files (D.may_leave disk)) (sym same) read.synced) in
-          record {
-            bodies = map (drop 1) (D.contents disk);
-            believes = c.new-core.ensures.believes (D.contents disk) phases
-                (subst (λ files. Shows files (shown_base start.number (memory_of start.base))) (sym same) (read.shows honest));
-            stands = λ slot phase is. fits.each slot phase (ap (λ all. slice_get all slot) (sym phases ∙ sym starts.phases) ∙ is);
-            told = λ worker made at. absurd (nothing_made worker made at);
-          };
+    subst (λ kept. IsWorldThere D (record { core = c.new-core.result; disk = disk; kept = kept })) (sym c.nothing_kept-kept.ensures) (record {
+      is = record {
+        count = ap length same ∙ sym read.count ∙ ap length (sym starts.phases);
+        outs = starts.outs;
+        places = nobody_places (length (D.contents disk));
+        consistent = λ honest.
+            let phases : start.phases.items ≡ map found_phase (D.contents disk) = read.phases honest ∙ ap (map found_phase) (sym same) in
+            let fits = c.all_found_fit.ensures (subst (λ files. AreSynced (length files) files (D.may_leave disk)) (sym same) read.synced) in
+            record {
+              bodies = map (drop 1) (D.contents disk);
+              believes = c.new-core.ensures.believes (D.contents disk) phases
+                  (subst (λ files. Shows files (shown_base start.number (memory_of start.base))) (sym same) (read.shows honest));
+              stands = λ slot phase is. fits.each slot phase (ap (λ all. slice_get all slot) (sym phases ∙ sym starts.phases) ∙ is);
+              told = λ worker made at. absurd (nothing_made worker made at);
+            };
+      };
+      pre_dumps = λ honest. none_there D (record { core = c.new-core.result; disk = disk; kept = nothing_kept }) (ap (λ (d : Dumping). d.running) starts.dumper);
     })
 
 pub returns-in-Ok-clause-everywhere : goal.returns-in-Ok-clause-everywhere
