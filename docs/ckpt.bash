@@ -3,21 +3,28 @@
 _ckpt() {
   local word=${COMP_WORDS[COMP_CWORD]} program=${COMP_WORDS[1]} options=
   if [ "$COMP_CWORD" -eq 1 ]; then
-    mapfile -t COMPREPLY < <(compgen -W "run shell merge mutate restore list verify show help --help --version" -- "$word")
+    mapfile -t COMPREPLY < <(compgen -W "run shell merge mutate restore list verify show export import help --help --version" -- "$word")
     return
   fi
   case $program in
-    run) options="--restore --strict --check --quiet --help" ;;
-    shell | merge | mutate) options="--quiet --help" ;;
-    show) options="--json --help" ;;
-    help) options="run shell merge mutate restore list verify show" ;;
-    *) options="--help" ;;
+    run) options="--restore --strict --stats --summary --check --quiet --verbose --help" ;;
+    show | restore | list | verify) options="--json --quiet --verbose --help" ;;
+    export) options="--force --space --quiet --verbose --help" ;;
+    import) options="--rounds --space --quiet --verbose --help" ;;
+    help) options="run shell merge mutate restore list verify show export import" ;;
+    *) options="--quiet --verbose --help" ;;
   esac
+  if [ "${COMP_WORDS[COMP_CWORD - 1]}" = --stats ]; then
+    mapfile -t COMPREPLY < <(compgen -f -- "$word")
+    return
+  fi
   case $word in
     -*) mapfile -t COMPREPLY < <(compgen -W "$options" -- "$word") ;;
     *)
       if [ "$program" = help ]; then
         mapfile -t COMPREPLY < <(compgen -W "$options" -- "$word")
+      elif [ "$program" = import ] && [ "$COMP_CWORD" -gt 2 ]; then
+        mapfile -t COMPREPLY < <(compgen -f -- "$word")
       elif [ "$program" = run ] && { [ "$COMP_CWORD" -gt 2 ] || [ "${COMP_WORDS[2]}" = --check ]; }; then
         mapfile -t COMPREPLY < <(compgen -f -- "$word")
       else

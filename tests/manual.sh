@@ -24,18 +24,6 @@ manual_has_each_program_and_option() {
   done
 }
 
-# The page's requests are those of the help.
-manual_has_each_request() {
-  local word
-  sed 's/\\-/-/g' "$here/../docs/ckpt.1" | sed -n '/^.SH REQUESTS/,/^.SH EXIT/s/^.B \([a-z-]*\).*/\1/p' | grep -vE '^(none|merger|dumper|opener|rwx)$' \
-    | sort -u > page
-  "$ckpt" run --help | sed -n '/^Lines of SCRIPT/,/^Status/p' | grep '^  ' | cut -c 1-36 | grep -oE '^  [a-z-]+|, [a-z-]+' | tr -d ', ' | sort -u > help
-  for word in $(cat help); do
-    grep -qx -- "$word" page || { echo "the page lacks $word"; return 1; }
-  done
-  [ "$(wc -l < help)" -ge 20 ] || { cat help; return 1; }
-}
-
 # What bash offers for the words of a command line.
 offered() {  # offered WORD..
   COMP_WORDS=(ckpt "$@")
@@ -51,7 +39,7 @@ completion_offers_programs_options_and_folders() {
   for program in $("$ckpt" --help | sed -n '/^Commands:/,/^$/s/^  \([a-z]*\) .*/\1/p'); do
     has "the programs" " $(offered "") " " $program " || return 1
   done
-  for program in run shell merge mutate restore list verify show; do
+  for program in run shell merge mutate restore list verify show export import; do
     same "the options of $program" "$(offered "$program" -- | tr ' ' '\n' | sort)" "$(options_of "$program")" || return 1
   done
   mkdir stores
@@ -60,5 +48,4 @@ completion_offers_programs_options_and_folders() {
 
 try manual_is_shown_without_a_warning
 try manual_has_each_program_and_option
-try manual_has_each_request
 try completion_offers_programs_options_and_folders

@@ -63,12 +63,11 @@ threads_are_one_to_eight() {
 }
 
 # Checks what a run of four threads ended with: it wasn't stopped, and it says that it ended well only where nothing is missing.
-# Where memory stays refused to the order of a checkpoint there is none to be cancelled, which is told as idle.
 mutate_ended() {  # mutate_ended STATUS
   case $1 in
     0) same "the output" "$(cat out)" "threads 4 stores 4000 acked 3
 close ok" && is_whole 4 ;;
-    1 | 2) grep -qE 'out.of.memory|^refused 14 idle$' out err || { cat out err; return 1; } ;;
+    1 | 2) grep -q 'out.of.memory' out err || { cat out err; return 1; } ;;
     *) echo "status $1" && cat out err && return 1 ;;
   esac
 }

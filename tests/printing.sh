@@ -113,7 +113,7 @@ three_spaces_behind_a_run_meet_a_full_output() {
   (echo "reopened 4"; cat "$here/printing/three_spaces.restore") > whole
   local limit
   for limit in 0 1 10 11 12 100 8191 8192 8193 20000 "$(($(wc -c < whole) - 1))" "$(wc -c < whole)"; do
-    prints_at_most "$limit" whole "$ckpt" run store empty.ckpt --restore --quiet || return 1
+    prints_at_most "$limit" whole "$ckpt" run store empty.ckpt --restore || return 1
   done
 }
 

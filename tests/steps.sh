@@ -19,7 +19,7 @@ answers() {  # answers PRINTED
 }
 
 # The store is restored to a checkpoint of this number, whose one page begins so.
-shows() {  # shows NUMBER HEX
+shows_memory() {  # shows_memory NUMBER HEX
   local zeros=0000000000000000000000000000000000000000000000000000000000000000
   same "the memory" "$("$ckpt" restore store)" "checkpoint $1
 space 1
@@ -54,7 +54,7 @@ refused 14 idle
 acked 2
 trimmed 3
 bytes 68656c6c6f" || return 1
-  shows 2 68656c6c6f
+  shows_memory 2 68656c6c6f
 }
 
 # A checkpoint of one page without pre-dumps takes 36 steps before its last one.
@@ -77,7 +77,7 @@ cancelled_behind() {  # cancelled_behind STEP
     "$begun refused 11 busy acked 1 acked 2 ") ;;
     *) echo "$ended"; return 1 ;;
   esac
-  shows 2 01
+  shows_memory 2 01
 }
 
 # With one pre-dump it takes 61 steps before its last one.

@@ -40,7 +40,7 @@ try strict_run_takes_no_part_of_a_script
 run_checks_a_script_alone() {
   ends_with 0 "ok 4 requests" "" "$ckpt" run --check "$here/../examples/first.ckpt" || return 1
   printf 'mmap 1 0x10000 4096 wr\n' > unfit
-  ends_with 2 "script line 1" "ckpt: unfit: line 1: field 5 has to be none, or some of rwx in this order" "$ckpt" run --check unfit || return 1
+  ends_with 2 "script line 1" "ckpt: unfit: line 1: field 5 has to be none, or some of rwx in this order, not \"wr\"" "$ckpt" run --check unfit || return 1
   same "the status of two words" "$(ends "$ckpt" run --check unfit store)" 2 || return 1
   same "the status without a script" "$(ends "$ckpt" run store)" 2 || return 1
   [ ! -e store ] || { echo "a store was made"; return 1; }

@@ -12,7 +12,21 @@ answers_into_a_full_device() {
   make_store store || return 1
   "$ckpt" restore store > /dev/full 2> err
   same "the status" $? 1 || return 1
-  same "the text" "$(cat err)" "ckpt: standard output: No space left on device (os error 28)"
+  same "the text" "$(cat err)" "ckpt: standard output: No space left on device (os error 28)" || return 1
+  "$ckpt" restore --quiet store > /dev/full 2> err
+  same "the status with --quiet" $? 1 || return 1
+  same "the text with --quiet" "$(cat err)" ""
+}
+
+# Also where more is printed than waits to be written, it is told once.
+many_answers_into_a_full_device() {
+  [ -w /dev/full ] || { echo "needs /dev/full"; return 77; }
+  make_image store/img-000 "2 2 1 1 0 1" 4 1 "1 0, 1 1 1, 16 4 3 0, 16 4 1 0"
+  "$ckpt" restore store > /dev/full 2> err
+  same "the status" $? 1 || return 1
+  same "the text" "$(cat err)" "ckpt: standard output: No space left on device (os error 28)" || return 1
+  "$ckpt" restore -q store > /dev/full 2> err
+  same "the text with -q" "$(cat err)" ""
 }
 
 folder_that_is_no_text() {
@@ -33,12 +47,54 @@ help_has_examples_and_statuses() {
   has "the limits" "$("$ckpt" --help)" "65,536 mapped pages"
 }
 
+# The table of the language, as the help has it: each form of a line.
+forms_of_help() {
+  "$ckpt" run --help | sed -n '/^hexadecimal; empty lines/,/^Status/p' | grep '^  ' | cut -c 3-38 | sed 's/ *$//'
+}
+
+# A line of a form, each field with a value that fits.
+line_of_form() {  # line_of_form FORM
+  sed -E 's/ SPACE/ 1/; s/ ADDRESS/ 0x10000/; s/ LENGTH/ 4096/; s/ PROT/ rw/; s/ HEX/ 6a/; s/ ROUNDS/ 0/; s/ WORKER/ dumper/; s/ [NK]$/ 1/' <<< "$1"
+}
+
+# What the parser says of a line.
+checked() {  # checked LINE
+  "$ckpt" run --check - <<< "$1" 2> why
+}
+
+# The parser takes a line of each form of the table, and none with a field more or less, which is explained by the table's count.
 help_of_run_has_the_language() {
-  local word
-  "$ckpt" run --help > out || return 1
-  for word in mmap munmap mprotect fork exit store try fault load words checkpoint merge begin begin-merge cancel reopen trim work perform perform-at step finish; do
-    has "the line of $word" "$(grep -E "^  (.*, )?$word( |,|$)" out)" "$word" || return 1
-  done
+  local form line fields
+  forms_of_help > forms
+  [ "$(wc -l < forms)" = 22 ] || { cat forms; return 1; }
+  while read -r form; do
+    line=$(line_of_form "$form")
+    fields=$(wc -w <<< "$form")
+    case $line in *[A-Z]*) echo "$line has an unknown field"; return 1 ;; esac
+    same "$line" "$(checked "$line")" "ok 1 requests" || return 1
+    same "$line 1" "$(checked "$line 1")" "script line 1" || return 1
+    has "$line 1" "$(cat why)" "it has $((fields + 1)) fields, separated by single spaces, and needs $fields" || return 1
+    [ "$fields" = 1 ] && continue
+    same "${line% *}" "$(checked "${line% *}")" "script line 1" || return 1
+    has "${line% *}" "$(cat why)" "it has $((fields - 1)) fields, separated by single spaces, and needs $fields" || return 1
+  done < forms
+}
+
+# The table of the README has the same forms.
+readme_has_the_language() {
+  sed -n '/^| Line | Does |/,/^$/p' "$here/../README.md" | sed -nE 's/^\| (`.*`) \| .*/\1/p' | grep -oE '`[^`]+`' | tr -d '`' | sort > readme
+  forms_of_help | sort > forms
+  same "the table of the README" "$(cat readme)" "$(cat forms)"
+}
+
+# The man page has each form with what it does.
+manual_has_the_language() {
+  sed 's/\\-/-/g' "$here/../docs/ckpt.1" | sed -n '/^.SH REQUESTS/,/^.SH EXIT/p' | sed '1,/^.TP/d' | grep -vE '^\.(TP|SH)' > page
+  "$ckpt" run --help | sed -n '/^hexadecimal; empty lines/,/^Status/p' | sed -nE 's/^  (.{36})(.)(.*)/\1|\2|\3/p' | while IFS='|' read -r form first rest; do
+    echo ".B ${form%"${form##*[! ]}"}"
+    echo "${first^^}$rest."
+  done > wanted
+  same "the requests of the manual" "$(cat page)" "$(cat wanted)"
 }
 
 quiet_tells_no_cause() {
@@ -76,9 +132,12 @@ script_beyond_memory() {
 
 try help_into_a_full_device
 try answers_into_a_full_device
+try many_answers_into_a_full_device
 try folder_that_is_no_text
 try help_has_examples_and_statuses
 try help_of_run_has_the_language
+try readme_has_the_language
+try manual_has_the_language
 try quiet_tells_no_cause
 try version_is_printed
 try unfit_line_is_explained

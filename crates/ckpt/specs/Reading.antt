@@ -1,24 +1,34 @@
 -- What came of reading the store in a folder, also behind a run.
-use Rattle.std.specs.Prelude.{ℕ, List, Option, Result}
+use Rattle.std.specs.Prelude.{◌≡◌, ℕ, Bool, true, List, Option, Result, Ok, OnOk}
 use Rattle.sd_disk.specs.declared.dir_disk.DirDisk.{DirDisk}
 use Rattle.sd_disk.specs.declared.disk.Disk.{Ghosts}
 use Rattle.sd_disk.specs.Folder.{IsFolderHonest, folder_files}
 use Rattle.sd_disk.specs.Reads.{OnlyReads}
+use Rattle.sd_exit.specs.declared.stop.Stop.{Stop}
+use Rattle.sd_exit.specs.Ending.{Exits, OnWriter, end_status, end_text}
 use Rattle.sd_report.specs.declared.steady.Reader.{Reader}
-use Rattle.sd_report.specs.declared.stop.Stop.{Stop}
-use Rattle.sd_report.specs.Printed.{PrintsMemory}
-use Rattle.sd_report.specs.Reading.{ReadsStore}
+use Rattle.sd_report.specs.declared.steady.Reader.TheVariants.{Restore}
+use Rattle.sd_report.specs.Reading.{Answers}
 use Rattle.sd_script.specs.declared.line.Line.{Line}
+use Rattle.sd_run.specs.Promise.{PromiseAnyway}
 use Rattle.sd_run.specs.Whole.{IsWholeRun}
 
--- a program read the store in a folder: what its files are then is what was read
-abbrev pub ReadsFolder : Reader → DirDisk × Result Unit Stop → Option (List ℕ) → Option (List ℕ) → Type 0
-ReadsFolder reader read before after = ReadsStore reader (IsFolderHonest read.0) (folder_files read.0) read.1 before after
+-- a program read the store in a folder, and exits with this status: what its files are then is what was read
+abbrev pub ReadsFolder : Reader → DirDisk × ℕ → Option (List ℕ) → Option (List ℕ) → Bool → Type 0
+ReadsFolder reader read before after refused = Answers reader (IsFolderHonest read.0) (folder_files read.0) before after refused read.1
 
--- a whole run, and behind its answers the memory that the store then shows
-pub record RunsAndRestores {D : Type 0} (g : Ghosts D) (lines : List Line) (old new : D) (before after : Option (List ℕ)) : Type 0 where
+-- what comes behind the answers of a run: where it came to its end, the memory that the store then shows, if that was asked for; and else why it
+-- was stopped, if it was
+abbrev pub Then : {D : Type 0} → Ghosts D → Bool → Result Unit Stop → D → D → Option (List ℕ) → Option (List ℕ) → Bool → ℕ → Type 0
+Then g true (Ok _) ran new answered after refused status = OnlyReads g ran new × Answers Restore (g.is_honest new) (g.contents ran) answered after refused status
+Then g _ ended ran new answered after refused status = (new ≡ ran) × Exits answered after refused (end_text ended) (end_status ended) status
+
+-- A script was run, with `--restore` or without, to the exit.
+pub record RunsScript {D : Type 0} (g : Ghosts D) (restores : Bool) (lines : List Line) (old new : D) (before after : Option (List ℕ)) (refused : Bool) (status : ℕ) : Type 0 where
+  pub ended : Result Unit Stop
   pub ran : D
   pub answered : Option (List ℕ)
-  pub run : IsWholeRun g lines old ran before answered
-  pub reads : OnlyReads g ran new
-  pub memory : g.is_honest new → PrintsMemory (g.contents ran) answered after
+  pub whole : OnOk ended (IsWholeRun g lines old ran before answered)
+  pub so_far : g.is_honest ran → PromiseAnyway g lines old ran before answered
+  pub writer : OnWriter ended (refused ≡ true)
+  pub behind : Then g restores ended ran new answered after refused status

@@ -2,9 +2,10 @@
 //! printed, nothing is lost.
 
 use crate::strict::Failure;
+use clap::ArgMatches;
 use memchr::{memchr, memchr_iter};
 use sd_disk::DirDisk;
-use sd_script::{print_answer, unfit_line};
+use sd_script::{blame_line, print_answer};
 use std::fmt::Display;
 use std::str;
 
@@ -13,6 +14,15 @@ use std::str;
 pub enum Causes {
     Told,
     Kept,
+}
+
+/// Whether the words ask for causes and progress on the standard error.
+pub fn causes_asked(words: &ArgMatches<'_>) -> Causes {
+    if words.get_flag("quiet") {
+        Causes::Kept
+    } else {
+        Causes::Told
+    }
 }
 
 /// Tells the cause of a fault, behind what it was met at.
@@ -40,8 +50,8 @@ pub fn tell_line(
     let Some(line) = line_of(bytes, number) else {
         return;
     };
-    if let (Causes::Told, Ok(fault)) = (causes, unfit_line(rt.alloc(), line)) {
-        let _ = eprintln!(rt; "ckpt: {script}: line {number}: {fault}");
+    if let (Causes::Told, Ok(blame)) = (causes, blame_line(rt.alloc(), line)) {
+        let _ = eprintln!(rt; "ckpt: {script}: line {number}: {blame}");
     }
 }
 
@@ -67,7 +77,7 @@ pub fn tell_failure(
 }
 
 /// A line of a script, without its end. They are counted from 1.
-fn line_of(bytes: &[u8], number: usize) -> Option<&[u8]> {
+pub fn line_of(bytes: &[u8], number: usize) -> Option<&[u8]> {
     let start = match number {
         0 => return None,
         1 => 0,

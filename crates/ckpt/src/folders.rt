@@ -1,8 +1,8 @@
 //! The folder of a store, opened to be read or written.
 
 use crate::cause::{Causes, tell};
-use crate::stop::Stop;
 use sd_disk::{DirDisk, Folder, OpenError};
+use sd_exit::Stop;
 use sd_restore::Fault;
 use std::fs::File;
 use std::rt::Files;

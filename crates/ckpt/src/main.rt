@@ -1,27 +1,29 @@
 //! `ckpt`: saves modelled memories into image files, and restores them.
 #![tactic(auto)]
 
-ghost use Rattle.std.specs.Prelude.{◌≡◌, ◌∷◌, true, false, OnOk};
+ghost use Rattle.std.specs.Prelude.{◌≡◌, ◌∷◌};
 ghost use Rattle.sd_disk.specs.Reads.{OnlyReads};
 ghost use Rattle.sd_script.specs.declared.line.Line.TheVariants as asked;
-ghost use Rattle.sd_report.specs.Printed.{PrintsMemory};
-ghost use Rattle.sd_report.specs.Ending.{Exits};
-ghost use Rattle.sd_run.specs.Whole.{IsWholeRun};
-ghost use Rattle.ckpt.specs.Ending.{end_status, end_text};
-ghost use Rattle.ckpt.specs.Reading.{RunsAndRestores};
+ghost use Rattle.sd_report.specs.declared.steady.Reader.TheVariants as reader;
+ghost use Rattle.sd_report.specs.Reading.{Answers};
+ghost use Rattle.ckpt.specs.Reading.{RunsScript};
 
-use cause::{Causes, tell, tell_device, tell_failure};
+use cause::{Causes, causes_asked, tell, tell_device};
 use clap::ArgMatches;
+use counted::{RunAsked, merge_counted, run_asked, run_counted, shell_counted};
+use ends::{tell_end, tell_few_slots};
 use folders::make_store;
+use mutating::mutate_program;
 use progress::ProgressLine;
-use reading::read_store;
+use reading::{read_seen, read_store, reader_of};
 use scripts::{parse_script, read_script};
-use sd_disk::{DirDisk, Disk};
-use sd_mutate::{Tally, mutate};
-use sd_report::{Output, Reader, print_restored};
-use sd_run::{Watch, merge_store, run_lines};
+use sd_disk::Disk;
+use sd_exit::{Output, Stop, exit};
+use sd_report::restore_to;
+use sd_run::{Watch, merge_to, run_lines};
 use sd_script::Script;
 use shell::{Asking, run_shell};
+use stats::{counts_asked, counts_seen};
 use std::alloc::Global;
 use std::fs::File;
 use std::io;
@@ -31,89 +33,67 @@ use std::rt::{Env, Files};
 use std::sync::Wait;
 use std::thread::Threads;
 use std::time::Clock;
-use stop::{FAILED, Stop, UNFIT};
-use strict::run_strictly;
+use verbose::{is_watched, logger_for, seen_by};
 
 mod cause;
 mod command_line;
+mod counted;
+mod ends;
+mod export;
 mod folders;
+mod help;
+mod import;
+mod json;
+mod logging;
+mod mutating;
 mod progress;
-#[cfg(test)]
-mod progress_tests;
 mod reading;
 mod scripts;
 mod shell;
 mod show;
-mod stop;
+mod shown;
+mod space_import;
+mod stats;
 mod strict;
+mod verbose;
 
-/// Prints the memory that a store shows, and gives the store back with how that ended.
-fn restore_over<D: Disk, W: Write>(alloc: Global, disk: D, out: &mut W) -> (D, Result<(), Stop>)
-    ensures text { D.is_honest result.0 → OnOk result.1
-        (PrintsMemory (D.contents disk) (W.contents out.old) (W.contents out.new)) }
+/// The exit status of a program that was refused or stopped.
+const FAILED: u8 = 1;
+
+/// The exit status where the command line doesn't fit.
+const UNFIT: u8 = 2;
+
+/// Prints the memory that a store shows, and gives the store back with the exit status.
+fn restore_over<D: Disk, W: Write>(alloc: Global, disk: D, out: &mut Output<W>) -> (D, u8)
+    ensures answers { Answers reader.Restore (D.is_honest result.0) (D.contents disk)
+        (W.contents out.old.writer) (W.contents out.new.writer) out.new.refused result.1 }
     ensures reads { OnlyReads D.Disk disk result.0 }
 {
     let mut disk = disk;
-    match print_restored(alloc, &mut disk, out) {
-        Ok(()) => (disk, Ok(())),
-        Err(stop) => (disk, Err(Stop::from(stop))),
-    }
+    let status = restore_to(alloc, &mut disk, out);
+    (disk, status)
 }
 
-/// Runs a script over a store. With `restores` the memory that the store then shows is printed behind the answers.
+/// Runs a script over a store, and returns the store with the exit status. With `restores` the memory that the store then
+/// shows is printed behind the answers.
 fn run_over<D: Disk, W: Write, S: Watch>(
     alloc: Global,
     disk: D,
     script: Script,
     restores: bool,
-    out: &mut W,
+    out: &mut Output<W>,
     watch: &mut S,
-) -> (D, Result<(), Stop>)
-    // The answers of the script's lines are printed, and nothing else.
-    ensures whole { restores ≡ false → OnOk result.1 (IsWholeRun D.Disk
-        (asked.Reopen ∷ script.lines.items) disk result.0 (W.contents out.old) (W.contents out.new)) }
-    // Or the answers, and behind them the text of the memory that the store shows.
-    ensures restored { restores ≡ true → OnOk result.1 (RunsAndRestores D.Disk
-        (asked.Reopen ∷ script.lines.items) disk result.0 (W.contents out.old) (W.contents out.new)) }
+) -> (D, u8)
+    // The answers of the script's lines are printed, or a beginning of them; and then the text of the memory that the store
+    // shows, or a beginning of it; and why the program was stopped, if it was.
+    ensures runs { RunsScript D.Disk restores (asked.Reopen ∷ script.lines.items) disk result.0
+        (W.contents out.old.writer) (W.contents out.new.writer) out.new.refused result.1 }
 {
     let (disk, ended) = run_lines(alloc, disk, script, out, watch);
-    match ended {
-        Ok(()) if restores => restore_over(alloc, disk, out),
-        Ok(()) => (disk, Ok(())),
-        Err(stop) => (disk, Err(Stop::from(stop))),
+    if restores && ended.is_ok() {
+        return restore_over(alloc, disk, out);
     }
-}
-
-/// Whether the words ask for causes and progress on the standard error.
-fn causes_asked(words: &ArgMatches<'_>) -> Causes {
-    if words.get_flag("quiet") {
-        Causes::Kept
-    } else {
-        Causes::Told
-    }
-}
-
-/// Runs the lines of a script over a store up to the first that isn't answered as it was meant. With `restores` the memory
-/// that the store then shows is printed behind the answers.
-fn run_strict<W: Write, S: Watch>(
-    rt: &HostRuntime,
-    causes: Causes,
-    disk: DirDisk,
-    script: &[u8],
-    restores: bool,
-    out: &mut W,
-    watch: &mut S,
-) -> (DirDisk, Result<(), Stop>) {
-    let (disk, ended) = run_strictly(rt.alloc(), disk, script, out, watch);
-    match ended {
-        Ok(None) if restores => restore_over(rt.alloc(), disk, out),
-        Ok(None) => (disk, Ok(())),
-        Ok(Some(failure)) => {
-            tell_failure(rt, causes, script, &failure);
-            (disk, Err(Stop::Refused))
-        }
-        Err(stop) => (disk, Err(stop)),
-    }
+    (disk, exit(&ended, out))
 }
 
 /// `ckpt run --check`: whether a script fits the language.
@@ -121,12 +101,12 @@ fn check_program<W: Write>(
     rt: &HostRuntime,
     causes: Causes,
     name: &str,
-    out: &mut W,
-) -> Result<(), Stop> {
+    out: &mut Output<W>,
+) -> Result<u8, Stop> {
     let bytes = read_script(rt, causes, name)?;
     let script = parse_script(rt, causes, name, &bytes)?;
     writeln!(out, "ok {} requests", script.lines.len())?;
-    Ok(())
+    Ok(exit(&Ok(()), out))
 }
 
 /// `ckpt run`: a script that can't be taken makes no file.
@@ -134,8 +114,8 @@ fn run_program<R: Clock + Wait, W: Write>(
     rt: &HostRuntime,
     threads: &R,
     words: &ArgMatches<'_>,
-    out: &mut W,
-) -> Result<(), Stop> {
+    out: &mut Output<W>,
+) -> Result<u8, Stop> {
     let folder = words.get_str("DIR").unwrap_or("");
     let causes = causes_asked(words);
     if let Some(name) = words.get_str("check") {
@@ -144,17 +124,24 @@ fn run_program<R: Clock + Wait, W: Write>(
     let name = words.get_str("SCRIPT").unwrap_or("");
     let bytes = read_script(rt, causes, name)?;
     let script = parse_script(rt, causes, name, &bytes)?;
+    let log = logger_for(rt, words);
+    let seen = seen_by(rt, &log, words, is_watched(rt, causes));
+    let counts = counts_asked(rt, causes, words, seen)?;
     let disk = make_store(rt, threads, causes, folder)?;
-    let is_watched = causes == Causes::Told && rt.stderr().is_terminal();
-    let mut watch = ProgressLine::new(rt, rt.stderr().lock(), is_watched);
-    let restores = words.get_flag("restore");
-    let (disk, ended) = if words.get_flag("strict") {
-        run_strict(rt, causes, disk, &bytes, restores, out, &mut watch)
-    } else {
-        run_over(rt.alloc(), disk, script, restores, out, &mut watch)
+    let mut watch = ProgressLine::new(rt, rt.stderr().lock(), seen.shows);
+    let asked = RunAsked {
+        folder,
+        bytes: &bytes,
+        restores: words.get_flag("restore"),
+        strict: words.get_flag("strict"),
+        causes,
+    };
+    let (disk, status) = match counts {
+        Some(counts) => run_counted(rt, seen, asked, counts, disk, script, out, watch),
+        None => run_asked(rt, asked, disk, script, out, &mut watch),
     };
     tell_device(rt, causes, folder, &disk);
-    ended
+    Ok(status)
 }
 
 /// `ckpt shell`: files that are missing are made.
@@ -162,17 +149,24 @@ fn shell_program<R: Clock + Wait, W: Write>(
     rt: &HostRuntime,
     threads: &R,
     words: &ArgMatches<'_>,
-    out: &mut W,
-) -> Result<(), Stop> {
+    out: &mut Output<W>,
+) -> Result<u8, Stop> {
     let folder = words.get_str("DIR").unwrap_or("");
     let causes = causes_asked(words);
     let disk = make_store(rt, threads, causes, folder)?;
-    let is_watched = causes == Causes::Told && rt.stderr().is_terminal();
-    let mut watch = ProgressLine::new(rt, rt.stderr().lock(), is_watched);
+    let log = logger_for(rt, words);
+    let seen = seen_by(rt, &log, words, is_watched(rt, causes));
+    let mut watch = ProgressLine::new(rt, rt.stderr().lock(), seen.shows);
     let asking = asking_of(rt.stdin().is_terminal());
-    let (disk, ended) = run_shell(rt.alloc(), disk, rt.reader(), asking, out, &mut watch);
+    let (disk, status) = match counts_seen(seen) {
+        Some(counts) => shell_counted(rt, seen, counts, disk, asking, out, watch),
+        None => {
+            let (disk, ended) = run_shell(rt.alloc(), disk, rt.reader(), asking, out, &mut watch);
+            (disk, exit(&ended, out))
+        }
+    };
     tell_device(rt, causes, folder, &disk);
-    ended
+    Ok(status)
 }
 
 /// Whether a shell asks for its requests: on a terminal.
@@ -189,111 +183,94 @@ fn merge_program<R: Clock + Wait, W: Write>(
     rt: &HostRuntime,
     threads: &R,
     words: &ArgMatches<'_>,
-    out: &mut W,
-) -> Result<(), Stop> {
+    out: &mut Output<W>,
+) -> Result<u8, Stop> {
     let folder = words.get_str("DIR").unwrap_or("");
     let causes = causes_asked(words);
     let disk = make_store(rt, threads, causes, folder)?;
-    let is_watched = causes == Causes::Told && rt.stderr().is_terminal();
-    let mut watch = ProgressLine::new(rt, rt.stderr().lock(), is_watched);
-    let (disk, ended) = merge_store(rt.alloc(), disk, out, &mut watch);
+    let log = logger_for(rt, words);
+    let seen = seen_by(rt, &log, words, is_watched(rt, causes));
+    let mut watch = ProgressLine::new(rt, rt.stderr().lock(), seen.shows);
+    let (mut disk, status) = match counts_seen(seen) {
+        Some(counts) => merge_counted(rt, seen, counts, disk, out, watch),
+        None => merge_to(rt.alloc(), disk, out, &mut watch),
+    };
     tell_device(rt, causes, folder, &disk);
-    Ok(ended?)
+    if status == FAILED && out.fault().is_none() && !out.is_refused() {
+        tell_few_slots(rt, causes, folder, &mut disk, 1);
+    }
+    Ok(status)
 }
 
-/// `ckpt mutate`: files that are missing are made.
-fn mutate_program<R: Clock + Threads + Wait + Sync, W: Write>(
+/// `ckpt restore`, `ckpt list` and `ckpt verify`, by name.
+fn reader_program<R: Clock + Wait, W: Write>(
     rt: &HostRuntime,
     threads: &R,
+    name: &str,
     words: &ArgMatches<'_>,
-    out: &mut W,
-) -> Result<(), Stop> {
+    out: &mut Output<W>,
+) -> Result<u8, Stop> {
     let folder = words.get_str("DIR").unwrap_or("");
     let causes = causes_asked(words);
-    let count = words.get_one::<usize>("THREADS").unwrap_or(1);
-    let disk = make_store(rt, threads, causes, folder)?;
-    let (disk, ended) = mutate(threads, rt.alloc(), disk, count);
-    if let Some(disk) = &disk {
-        tell_device(rt, causes, folder, disk);
+    if words.get_flag("json") {
+        return json::json_program(rt, threads, causes, json::subject_of(name), folder, out);
     }
-    print_tally(&ended?, out)
+    let log = logger_for(rt, words);
+    let seen = seen_by(rt, &log, words, is_watched(rt, causes));
+    if seen.is_asked() {
+        return read_seen(rt, threads, seen, causes, reader_of(name), folder, out);
+    }
+    let (_, status) = read_store(rt, threads, causes, reader_of(name), folder, out)?;
+    Ok(status)
 }
 
-/// Prints what was done by threads. A tally that isn't whole is a failure.
-fn print_tally<W: Write>(tally: &Tally, out: &mut W) -> Result<(), Stop> {
-    writeln!(out, "{tally}")?;
-    if tally.is_whole() {
-        Ok(())
-    } else {
-        Err(Stop::Refused)
-    }
-}
-
-/// The program that only reads a store, by its name.
-fn reader_of(name: &str) -> Reader {
-    match name {
-        "list" => Reader::List,
-        "verify" => Reader::Verify,
-        _ => Reader::Restore,
-    }
-}
-
-/// Runs the program that the words ask for.
+/// Runs the program that the words ask for, and returns the exit status.
 fn run_matches<R: Clock + Threads + Wait + Sync, W: Write>(
     rt: &HostRuntime,
     threads: &R,
     matches: &ArgMatches<'_>,
-    out: &mut W,
-) -> Result<(), Stop> {
+    out: &mut Output<W>,
+) -> Result<u8, Stop> {
     match matches.subcommand() {
         Some(("run", words)) => run_program(rt, threads, words, out),
         Some(("shell", words)) => shell_program(rt, threads, words, out),
         Some(("merge", words)) => merge_program(rt, threads, words, out),
         Some(("mutate", words)) => mutate_program(rt, threads, words, out),
-        Some(("show", words)) => show::show_program(rt, words, out),
-        Some((name, words)) => {
-            let folder = words.get_str("DIR").unwrap_or("");
-            let (_, ended) = read_store(rt, threads, reader_of(name), folder, out)?;
-            Ok(ended?)
+        Some(("show", words)) => show::show_program(rt, causes_asked(words), words, out),
+        Some(("export", words)) => export::export_program(rt, causes_asked(words), words, out),
+        Some(("import", words)) => {
+            import::import_program(rt, threads, causes_asked(words), words, out)
         }
-        None => Ok(()),
+        Some((name, words)) => reader_program(rt, threads, name, words, out),
+        None => Ok(exit(&Ok(()), out)),
     }
 }
 
-/// Runs the program that the words ask for. The outer error is a fault of the words.
+/// Runs the program that the words ask for, and returns its exit status and whether causes are told. The outer error is a
+/// fault of the words.
 fn run_words<R: Clock + Threads + Wait + Sync, W: Write>(
     rt: &HostRuntime,
     threads: &R,
     words: &[String],
-    out: &mut W,
-) -> Result<Result<(), Stop>, clap::Error> {
-    let command = command_line::command(rt.alloc())?;
+    out: &mut Output<W>,
+) -> Result<(Causes, u8), clap::Error> {
+    let run_help = command_line::run_help(rt.alloc())?;
+    let command = command_line::command(rt.alloc(), &run_help)?;
     let matches = command.try_get_matches_from(words)?;
-    let ended = run_matches(rt, threads, &matches, out);
-    if let Err(Stop::Writer(error)) = &ended {
-        tell(rt, Causes::Told, PRINTED, error);
-    }
-    Ok(ended)
+    let status = match run_matches(rt, threads, &matches, out) {
+        Ok(status) => status,
+        Err(stop) => exit(&Err(stop), out),
+    };
+    let causes = match matches.subcommand() {
+        Some((_, words)) => causes_asked(words),
+        None => Causes::Told,
+    };
+    tell_end(rt, causes, &matches, status, out.fault());
+    Ok((causes, status))
 }
 
 /// What a fault of the standard output is told of.
 const PRINTED: &str = "standard output";
-
-/// Prints why a program ended early, if it did, and what the output still holds, and returns the exit status.
-fn exit<W: Write>(rt: &impl Eprint, ended: &Result<(), Stop>, out: &mut Output<W>) -> u8
-    // All is written and flushed, the last line too, and the status is that of the end; or it is 1, and something was
-    // refused.
-    ensures { Exits W.contents out.old out.new (end_text ended.now) (end_status ended.now) result }
-{
-    let wanted = stop::status(ended, out);
-    match out.finish(wanted) {
-        Ok(status) => status,
-        Err(error) => {
-            tell(rt, Causes::Told, PRINTED, &error);
-            FAILED
-        }
-    }
-}
 
 /// Runs the program that the words ask for, or prints what is wrong with them, or the help; and returns the status.
 fn run_command<R: Clock + Threads + Wait + Sync>(
@@ -303,7 +280,12 @@ fn run_command<R: Clock + Threads + Wait + Sync>(
 ) -> io::Result<u8> {
     let mut out = Output::new(BufWriter::new(rt.alloc(), io::writer(rt))?);
     match run_words(rt, threads, words, &mut out) {
-        Ok(ended) => Ok(exit(rt, &ended, &mut out)),
+        Ok((causes, status)) => {
+            if let Some(error) = out.error() {
+                tell(rt, causes, PRINTED, error);
+            }
+            Ok(status)
+        }
         Err(error) => {
             error.print(rt)?;
             Ok(error.exit_code() as u8)

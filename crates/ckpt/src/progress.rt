@@ -3,9 +3,9 @@
 use sd_core::Core;
 use sd_gate::Worker;
 use sd_run::Watch;
-use std::io;
 use std::io::Write;
 use std::time::{Clock, Duration, Instant};
+use std::{fmt, io};
 
 /// How many steps are made between two looks at the clock.
 const STEPS_A_LOOK: u64 = 64;
@@ -14,7 +14,71 @@ const STEPS_A_LOOK: u64 = 64;
 const PAUSE_SECS: u64 = 1;
 
 /// Goes to the start of a terminal's line, and clears it.
-const CLEAR: &str = "\r\x1b[K";
+pub const CLEAR: &str = "\r\x1b[K";
+
+/// How much of something is done.
+#[derive(Clone, Copy, Debug, PartialEq, Eq)]
+pub struct Done {
+    pub done: u128,
+    pub of: u128,
+    /// How long it took.
+    pub took: Duration,
+}
+
+impl Done {
+    /// How much of a hundred is done, less than a hundred before the end.
+    pub fn percent(self) -> u128 {
+        let hundredfold = self.done.saturating_mul(100);
+        hundredfold.checked_div(self.of).unwrap_or(0).min(100)
+    }
+
+    /// How many seconds are left, if the rest goes on as fast.
+    pub fn secs_left(self) -> u128 {
+        let rest = self.of.saturating_sub(self.done);
+        let millis = self.took.as_millis().saturating_mul(rest);
+        millis.checked_div(self.done).unwrap_or(0) / 1000
+    }
+}
+
+impl fmt::Display for Done {
+    fn fmt<W: fmt::Write>(&self, f: &mut fmt::Formatter<W>) -> fmt::Result {
+        write!(f, "{} %", self.percent())?;
+        if self.done > 0 {
+            write!(f, ", {} s left", self.secs_left())?;
+        }
+        Ok(())
+    }
+}
+
+/// When a line is to be written: a second behind the beginning, and then each second.
+#[derive(Clone, Copy, Debug)]
+pub struct Pace {
+    begun: Option<Instant>,
+    last: Option<Instant>,
+}
+
+impl Pace {
+    /// Nothing has begun.
+    pub const IDLE: Pace = Pace {
+        begun: None,
+        last: None,
+    };
+
+    /// How long it took so far, where a line is due. The first call is the beginning.
+    pub fn due<R: Clock>(&mut self, clock: &R) -> Option<Duration> {
+        let now = Instant::now(clock).ok()?;
+        let (Some(begun), Some(last)) = (self.begun, self.last) else {
+            self.begun = Some(now);
+            self.last = Some(now);
+            return None;
+        };
+        if now.duration_since(last) < Duration::from_secs(PAUSE_SECS) {
+            return None;
+        }
+        self.last = Some(now);
+        Some(now.duration_since(begun))
+    }
+}
 
 /// Writes the line of a job that takes over a second.
 #[derive(Drop)]
@@ -23,7 +87,9 @@ pub struct ProgressLine<'a, R, W> {
     out: W,
     is_on: bool,
     steps: u64,
-    last: Option<Instant>,
+    pace: Pace,
+    /// How many steps were left at the job's first turn.
+    first_left: u128,
     is_shown: bool,
 }
 
@@ -35,45 +101,36 @@ impl<'a, R: Clock, W: Write> ProgressLine<'a, R, W> {
             out,
             is_on,
             steps: 0,
-            last: None,
+            pace: Pace::IDLE,
+            first_left: 0,
             is_shown: false,
         }
     }
 
-    /// What the line is written to.
-    #[cfg(test)]
-    pub fn into_out(self) -> W {
-        self.out
-    }
-
-    /// Whether a second has passed since the job began, or since the line was written.
-    fn is_due(&mut self) -> bool {
-        let Ok(now) = Instant::now(self.clock) else {
-            return false;
-        };
-        let is_due = match self.last {
-            Some(last) => now.duration_since(last) >= Duration::from_secs(PAUSE_SECS),
-            None => false,
-        };
-        if is_due || self.last.is_none() {
-            self.last = Some(now);
+    /// How far a worker's job is.
+    fn done(&self, core: &Core, worker: Worker, took: Duration) -> Done {
+        let left = core.left(worker);
+        Done {
+            done: self.first_left.saturating_sub(left),
+            of: self.first_left.max(left),
+            took,
         }
-        is_due
     }
 
     /// Writes the line over the one that stands there.
-    fn write(&mut self, core: &Core, worker: Worker) -> io::Result<()> {
-        let left = core.left(worker);
+    fn write(&mut self, core: &Core, worker: Worker, took: Duration) -> io::Result<()> {
+        let done = self.done(core, worker, took);
         match worker {
             Worker::Dumper => {
+                let frozen = if core.is_frozen() { ", frozen" } else { "" };
                 let pages = core.pages();
                 write!(
                     self.out,
-                    "{CLEAR}dumper: {left} steps left, {pages} pages written"
+                    "{CLEAR}checkpoint: {done}, {pages} pages written into this image{frozen}"
                 )?;
             }
-            Worker::Merger => write!(self.out, "{CLEAR}merger: {left} steps left")?,
-            Worker::Opener => write!(self.out, "{CLEAR}opener: {left} steps left")?,
+            Worker::Merger => write!(self.out, "{CLEAR}merge: {done}")?,
+            Worker::Opener => write!(self.out, "{CLEAR}opening: {done}")?,
         }
         self.out.flush()
     }
@@ -85,11 +142,17 @@ impl<'a, R: Clock, W: Write> Watch for ProgressLine<'a, R, W> {
             return;
         }
         let looks = self.steps % STEPS_A_LOOK == 0;
-        self.steps = self.steps.wrapping_add(1);
-        if looks && self.is_due() {
+        if self.steps == 0 {
+            self.first_left = core.left(worker);
+        }
+        self.steps = self.steps.saturating_add(1);
+        if !looks {
+            return;
+        }
+        if let Some(took) = self.pace.due(self.clock) {
             self.is_shown = true;
             // A line that can't be written is no fault of the run.
-            let _ = self.write(core, worker);
+            let _ = self.write(core, worker, took);
         }
     }
 
@@ -98,7 +161,7 @@ impl<'a, R: Clock, W: Write> Watch for ProgressLine<'a, R, W> {
             let _ = write!(self.out, "{CLEAR}");
         }
         self.steps = 0;
-        self.last = None;
+        self.pace = Pace::IDLE;
         self.is_shown = false;
     }
 }

@@ -1,13 +1,19 @@
 //! Programs that read a store, also while a run writes it.
-ghost use Rattle.std.specs.Prelude.{◌≡◌, true, IfOk};
-ghost use Rattle.sd_report.specs.Ending.{may_change};
+ghost use Rattle.std.specs.Prelude.{◌≡◌, false, [], Some, IfOk};
+ghost use Rattle.sd_disk.specs.Reads.{OnlyReads};
+ghost use Rattle.sd_disk.specs.Folder.{IsFolderHonest, folder_files};
+ghost use Rattle.sd_report.specs.Reading.{Answers};
 ghost use Rattle.ckpt.specs.Reading.{ReadsFolder};
 
+use crate::FAILED;
 use crate::cause::{Causes, tell, tell_device};
 use crate::folders::open_store;
-use crate::stop::Stop;
-use sd_disk::{DirDisk, is_being_written};
-use sd_report::{Reader, Stop as ReportStop, may_change, print_steady, print_whole};
+use crate::verbose::{Seen, unseen};
+use sd_disk::{DirDisk, Disk, is_being_written};
+use sd_exit::{Output, Stop};
+use sd_report::{Reader, list_to, print_held, restore_to, verify_to};
+use sd_restore::Fault;
+use std::alloc::Global;
 use std::fs::File;
 use std::io::Write;
 use std::rt::Files;
@@ -15,96 +21,242 @@ use std::sync::Wait;
 use std::thread;
 use std::time::{Clock, Duration};
 
-/// The disk that was read at last, and how the printing ended.
-pub type Reading = (DirDisk, Result<(), ReportStop>);
+/// The disk that was read at last, and the exit status.
+pub type Reading = (DirDisk, u8);
 
 /// How long a reader waits before each further try, in milliseconds, while a run writes the store.
-const PAUSES: [u64; 9] = [1, 2, 5, 10, 20, 50, 100, 200, 400];
+pub const PAUSES: [u64; 9] = [1, 2, 5, 10, 20, 50, 100, 200, 400];
 
 /// What is told of an answer that a run may have disturbed.
-const BESIDE: &str = "a run is writing this store; try again when it has ended";
+pub const BESIDE: &str = "a run is writing this store; try again when it has ended";
 
-/// Tries once to read a store that a run is writing. Where another try may answer otherwise, nothing is printed.
-fn try_to_read<W: Write>(
-    rt: &(impl Files<File = File> + Eprint + AllocGlobal),
-    reader: Reader,
-    folder: &str,
-    out: &mut W,
-) -> Result<Reading, Stop>
-    ensures read { IfOk result (λ read.
-        ReadsFolder reader read (W.contents out.old) (W.contents out.new)) }
-    ensures kept { IfOk result (λ read. may_change read.1 ≡ true
-        → W.contents out.new ≡ W.contents out.old) }
-{
-    let mut disk = open_store(rt, Causes::Told, folder)?;
-    let ended = print_whole(rt.alloc(), reader, &mut disk, out);
-    Ok((disk, ended))
+/// What was printed of a store into a vector, with the exit status.
+#[derive(Drop)]
+struct Tried {
+    disk: DirDisk,
+    text: Vec<u8>,
+    status: u8,
+    fault: Option<Fault>,
 }
 
-/// Reads a store while a run writes it: again where the run came between. What is printed is whole, or why there is
-/// nothing.
+/// Reads a store, and prints what it shows.
+fn read_to<D: Disk, W: Write>(
+    alloc: Global,
+    reader: Reader,
+    disk: &mut D,
+    out: &mut Output<W>,
+) -> u8
+    ensures answers { Answers reader (D.is_honest disk.new) (D.contents disk.old)
+        (W.contents out.old.writer) (W.contents out.new.writer) out.new.refused result }
+    ensures reads { OnlyReads D.Disk disk.old disk.new }
+{
+    match reader {
+        Reader::Restore => restore_to(alloc, disk, out),
+        Reader::List => list_to(alloc, disk, out),
+        Reader::Verify => verify_to(alloc, disk, out),
+    }
+}
+
+/// Reads a store once, and keeps what is printed.
+#[tactic(auto, using(crate::proofs::ReadingLemmas::answers_folder))]
+fn try_to_read(
+    rt: &(impl Files<File = File> + Eprint + AllocGlobal),
+    causes: Causes,
+    reader: Reader,
+    folder: &str,
+) -> Result<Tried, Stop>
+    ensures { IfOk result (λ tried. Answers reader (IsFolderHonest tried.disk) (folder_files tried.disk)
+        (Some []) (Some tried.text.items) false tried.status) }
+{
+    let mut disk = open_store(rt, causes, folder)?;
+    let mut out = Output::new(Vec::new(rt.alloc()));
+    let status = read_to(rt.alloc(), reader, &mut disk, &mut out);
+    if out.is_refused() {
+        return Err(Stop::Fault(Fault::OutOfMemory));
+    }
+    let fault = out.fault();
+    let text = out.into_writer();
+    Ok(Tried {
+        disk,
+        text,
+        status,
+        fault,
+    })
+}
+
+/// Reads a store while a run writes it: again where the run may have come between.
+fn try_often<R: Clock + Wait>(
+    rt: &(impl Files<File = File> + Eprint + AllocGlobal),
+    clock: &R,
+    causes: Causes,
+    reader: Reader,
+    folder: &str,
+) -> Result<Tried, Stop>
+    ensures { IfOk result (λ tried. Answers reader (IsFolderHonest tried.disk) (folder_files tried.disk)
+        (Some []) (Some tried.text.items) false tried.status) }
+{
+    for pause in PAUSES {
+        let tried = try_to_read(rt, causes, reader, folder)?;
+        if tried.status != FAILED {
+            return Ok(tried);
+        }
+        thread::sleep(clock, Duration::from_millis(pause));
+    }
+    try_to_read(rt, causes, reader, folder)
+}
+
+/// Reads a store while a run writes it. What is printed is whole, or why there is nothing.
 fn read_beside<R: Clock + Wait, W: Write>(
     rt: &(impl Files<File = File> + Eprint + AllocGlobal),
     clock: &R,
+    causes: Causes,
     reader: Reader,
     folder: &str,
-    out: &mut W,
+    out: &mut Output<W>,
 ) -> Result<Reading, Stop>
-    ensures { IfOk result (λ read.
-        ReadsFolder reader read (W.contents out.old) (W.contents out.new)) }
+    ensures { IfOk result (λ read. ReadsFolder reader read
+        (W.contents out.old.writer) (W.contents out.new.writer) out.new.refused) }
 {
-    let mut read = try_to_read(rt, reader, folder, out)?;
-    for pause in PAUSES {
-        if !may_change(&read.1) {
-            return Ok(read);
-        }
-        thread::sleep(clock, Duration::from_millis(pause));
-        read = try_to_read(rt, reader, folder, out)?;
+    let tried = try_often(rt, clock, causes, reader, folder)?;
+    if let (FAILED, Some(fault)) = (tried.status, tried.fault) {
+        tell(rt, causes, folder, &BESIDE);
+        return Err(Stop::Fault(fault));
     }
-    if may_change(&read.1) {
-        tell(rt, Causes::Told, folder, &BESIDE);
-    }
-    Ok(read)
+    let Tried {
+        disk,
+        text,
+        status,
+        ..
+    } = tried;
+    let status = print_held(&disk, &text, status, out);
+    Ok((disk, status))
 }
 
 /// Reads a store that no run is writing.
+#[tactic(auto, using(crate::proofs::ReadingLemmas::answers_folder))]
 fn read_alone<W: Write>(
     rt: &(impl Files<File = File> + Eprint + AllocGlobal),
+    causes: Causes,
     reader: Reader,
     folder: &str,
-    out: &mut W,
+    out: &mut Output<W>,
 ) -> Result<Reading, Stop>
-    ensures { IfOk result (λ read.
-        ReadsFolder reader read (W.contents out.old) (W.contents out.new)) }
+    ensures { IfOk result (λ read. ReadsFolder reader read
+        (W.contents out.old.writer) (W.contents out.new.writer) out.new.refused) }
 {
-    let mut disk = open_store(rt, Causes::Told, folder)?;
-    let ended = print_steady(rt.alloc(), reader, &mut disk, out);
-    tell_device(rt, Causes::Told, folder, &disk);
-    if may_change(&ended) && is_being_written(rt, folder) {
-        tell(rt, Causes::Told, folder, &BESIDE);
+    let mut disk = open_store(rt, causes, folder)?;
+    let status = read_to(rt.alloc(), reader, &mut disk, out);
+    tell_device(rt, causes, folder, &disk);
+    if status == FAILED && !out.is_refused() && is_being_written(rt, folder) {
+        tell(rt, causes, folder, &BESIDE);
     }
-    Ok((disk, ended))
+    Ok((disk, status))
 }
 
 /// `ckpt restore`, `ckpt list` and `ckpt verify`, which only read a store.
 ///
 /// # Errors
 ///
-/// Where the store can't be opened.
+/// Where the store can't be opened; and while a run writes it also the fault of the store, which then stands alone, and where
+/// there is no room for what is held back.
 pub fn read_store<R: Clock + Wait, W: Write>(
     rt: &(impl Files<File = File> + Eprint + AllocGlobal),
     clock: &R,
+    causes: Causes,
     reader: Reader,
     folder: &str,
-    out: &mut W,
+    out: &mut Output<W>,
 ) -> Result<Reading, Stop>
-    // At the end of the printing the whole text of what the store shows is written, and before it a beginning.
-    ensures { IfOk result (λ read.
-        ReadsFolder reader read (W.contents out.old) (W.contents out.new)) }
+    // The whole text of what the store shows is written, or a beginning of it, with the last line and the exit status.
+    ensures { IfOk result (λ read. ReadsFolder reader read
+        (W.contents out.old.writer) (W.contents out.new.writer) out.new.refused) }
 {
     if is_being_written(rt, folder) {
-        read_beside(rt, clock, reader, folder, out)
+        read_beside(rt, clock, causes, reader, folder, out)
     } else {
-        read_alone(rt, reader, folder, out)
+        read_alone(rt, causes, reader, folder, out)
+    }
+}
+
+/// What is done with a store by a program that reads it.
+fn deed_of(reader: Reader) -> &'static str {
+    match reader {
+        Reader::Restore => "restore",
+        Reader::List => "list",
+        Reader::Verify => "verify",
+    }
+}
+
+/// Reads a store once, and has seen what is done. Returns the exit status.
+fn read_seen_once<W: Write>(
+    rt: &HostRuntime,
+    seen: Seen<'_>,
+    causes: Causes,
+    reader: Reader,
+    folder: &str,
+    out: &mut Output<W>,
+) -> Result<u8, Stop> {
+    let disk = open_store(rt, causes, folder)?;
+    let mut disk = seen.disk(deed_of(reader), disk);
+    let status = read_to(rt.alloc(), reader, &mut disk, out);
+    tell_device(rt, causes, folder, &unseen(disk));
+    Ok(status)
+}
+
+/// Reads a store beside a run, and has seen what is done: again where the run may have come between. What is printed is
+/// whole, or why there is nothing.
+fn read_seen_beside<R: Clock + Wait, W: Write>(
+    rt: &HostRuntime,
+    clock: &R,
+    seen: Seen<'_>,
+    causes: Causes,
+    reader: Reader,
+    folder: &str,
+    out: &mut Output<W>,
+) -> Result<u8, Stop> {
+    let mut held = Output::new(Vec::new(rt.alloc()));
+    let mut status = read_seen_once(rt, seen, causes, reader, folder, &mut held)?;
+    for pause in PAUSES {
+        if status != FAILED || held.is_refused() {
+            break;
+        }
+        thread::sleep(clock, Duration::from_millis(pause));
+        held = Output::new(Vec::new(rt.alloc()));
+        status = read_seen_once(rt, seen, causes, reader, folder, &mut held)?;
+    }
+    if held.is_refused() {
+        return Err(Stop::Fault(Fault::OutOfMemory));
+    }
+    if let (FAILED, Some(fault)) = (status, held.fault()) {
+        tell(rt, causes, folder, &BESIDE);
+        return Err(Stop::Fault(fault));
+    }
+    out.write_all(&held.into_writer())?;
+    Ok(out.finish(status))
+}
+
+/// The programs of `read_store`, with what is to be seen of them.
+pub fn read_seen<R: Clock + Wait, W: Write>(
+    rt: &HostRuntime,
+    clock: &R,
+    seen: Seen<'_>,
+    causes: Causes,
+    reader: Reader,
+    folder: &str,
+    out: &mut Output<W>,
+) -> Result<u8, Stop> {
+    if is_being_written(rt, folder) {
+        read_seen_beside(rt, clock, seen, causes, reader, folder, out)
+    } else {
+        read_seen_once(rt, seen, causes, reader, folder, out)
+    }
+}
+
+/// The program that only reads a store, by its name.
+pub fn reader_of(name: &str) -> Reader {
+    match name {
+        "list" => Reader::List,
+        "verify" => Reader::Verify,
+        _ => Reader::Restore,
     }
 }

@@ -1,8 +1,9 @@
 //! Scripts, from a file or from the standard input.
 
 use crate::cause::{Causes, tell, tell_line};
-use crate::stop::Stop;
+use sd_exit::Stop;
 use sd_restore::Fault;
+use sd_run::unfit;
 use sd_script::{Script, ScriptError};
 use std::io;
 use std::io::{Input, Read};
@@ -42,5 +43,8 @@ pub fn parse_script(
     if let Err(ScriptError::Line(number)) = parsed {
         tell_line(rt, causes, script, bytes, number);
     }
-    Ok(parsed?)
+    match parsed {
+        Ok(script) => Ok(script),
+        Err(error) => Err(unfit(error)),
+    }
 }

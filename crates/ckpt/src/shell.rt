@@ -1,10 +1,10 @@
 //! `ckpt shell`: requests from the standard input, one by one, each answered before the next one is read.
 
-use crate::stop::Stop;
 use sd_disk::Disk;
+use sd_exit::{Output, Stop};
 use sd_restore::Fault;
-use sd_run::{FRAMES, Watch, run_line};
-use sd_script::{Line, Script, ScriptError, unfit_line};
+use sd_run::{FRAMES, Watch, run_line, unopened};
+use sd_script::{Line, Script, ScriptError, blame_line};
 use sd_world::{OpenError, World};
 use std::alloc::Global;
 use std::io;
@@ -31,7 +31,7 @@ pub fn run_shell<D: Disk, I: BufRead + Drop, W: Write, S: Watch>(
     disk: D,
     input: I,
     asking: Asking,
-    out: &mut W,
+    out: &mut Output<W>,
     watch: &mut S,
 ) -> (D, Result<(), Stop>) {
     match World::open(alloc, disk, FRAMES) {
@@ -39,7 +39,7 @@ pub fn run_shell<D: Disk, I: BufRead + Drop, W: Write, S: Watch>(
             let ended = answer_all(alloc, &mut world, input, asking, out, watch);
             (world.close(), ended)
         }
-        Err(OpenError { fault, disk }) => (disk, Err(Stop::Store(fault))),
+        Err(OpenError { fault, disk }) => (disk, Err(unopened(fault))),
     }
 }
 
@@ -49,7 +49,7 @@ fn answer_all<D: Disk, I: BufRead + Drop, W: Write, S: Watch>(
     world: &mut World<D>,
     input: I,
     asking: Asking,
-    out: &mut W,
+    out: &mut Output<W>,
     watch: &mut S,
 ) -> Result<(), Stop> {
     run_line(alloc, world, Line::Reopen, out, watch)?;
@@ -76,7 +76,7 @@ fn answer<D: Disk, W: Write, S: Watch>(
     line: &[u8],
     number: usize,
     asking: Asking,
-    out: &mut W,
+    out: &mut Output<W>,
     watch: &mut S,
 ) -> Result<(), Stop> {
     match Script::parse(alloc, line) {
@@ -97,10 +97,10 @@ fn refuse<W: Write>(
     line: &[u8],
     number: usize,
     asking: Asking,
-    out: &mut W,
+    out: &mut Output<W>,
 ) -> Result<(), Stop> {
-    match (asking, unfit_line(alloc, line)) {
-        (Asking::Prompts, Ok(fault)) => writeln!(out, "script line {number}: {fault}")?,
+    match (asking, blame_line(alloc, line)) {
+        (Asking::Prompts, Ok(blame)) => writeln!(out, "script line {number}: {blame}")?,
         _ => writeln!(out, "script line {number}")?,
     }
     out.flush()?;
@@ -108,7 +108,7 @@ fn refuse<W: Write>(
 }
 
 /// Asks for the next request, on a terminal.
-fn prompt<W: Write>(asking: Asking, out: &mut W) -> io::Result<()> {
+fn prompt<W: Write>(asking: Asking, out: &mut Output<W>) -> io::Result<()> {
     if asking == Asking::Silent {
         return Ok(());
     }

@@ -1,15 +1,14 @@
 //! `ckpt show`: what stands in the image files of a store.
 use crate::cause::{Causes, tell_device};
 use crate::folders::open_store;
-use crate::stop::Stop;
+use crate::verbose::{is_watched, logger_for, seen_by, unseen};
 use clap::ArgMatches;
 use sd_disk::Disk;
+use sd_exit::{Output, Stop, exit};
 use sd_restore::Fault;
 use sd_show::{Stop as ShowStop, show_slot, show_slot_json, show_slots, show_slots_json};
 use std::alloc::Global;
-use std::fs::File;
-use std::io::Write;
-use std::rt::Files;
+use std::io::{IsTerminal, Write};
 
 /// Shows one slot of a store, or all of them, and returns whether any is damaged. A slot that the store doesn't have isn't
 /// there to be damaged.
@@ -42,14 +41,19 @@ fn ended_with(shown: Result<bool, ShowStop>) -> Result<(), Stop> {
 
 /// `ckpt show`: it only reads.
 pub fn show_program<W: Write>(
-    rt: &(impl Files<File = File> + Eprint + AllocGlobal),
+    rt: &HostRuntime,
+    causes: Causes,
     words: &ArgMatches<'_>,
-    out: &mut W,
-) -> Result<(), Stop> {
+    out: &mut Output<W>,
+) -> Result<u8, Stop> {
     let folder = words.get_str("DIR").unwrap_or("");
     let slot = words.get_one::<usize>("SLOT");
-    let mut disk = open_store(rt, Causes::Told, folder)?;
+    let disk = open_store(rt, causes, folder)?;
+    let log = logger_for(rt, words);
+    let shows = is_watched(rt, causes) && !rt.stdout().is_terminal();
+    let seen = seen_by(rt, &log, words, shows);
+    let mut disk = seen.disk("show", disk);
     let shown = show_in(rt.alloc(), &mut disk, slot, words.get_flag("json"), out);
-    tell_device(rt, Causes::Told, folder, &disk);
-    ended_with(shown)
+    tell_device(rt, causes, folder, &unseen(disk));
+    Ok(exit(&ended_with(shown), out))
 }

@@ -1,13 +1,12 @@
 //! `ckpt run --strict`: a script up to the first request that isn't answered as it was meant.
 
-use crate::stop::Stop;
 use sd_command::Reply;
 use sd_disk::Disk;
-use sd_run::{FRAMES, Watch, run_line};
-use sd_script::{Answer, Line, Script, ScriptError, print_answer};
+use sd_exit::{Output, Stop};
+use sd_run::{FRAMES, Watch, run_line, unfit, unopened};
+use sd_script::{Answer, Line, Script};
 use sd_world::{OpenError, World};
 use std::alloc::Global;
-use std::io;
 use std::io::Write;
 
 /// The request at which a strict run ended: its line's number, counted from 1, and its answer.
@@ -31,7 +30,7 @@ pub fn run_strictly<D: Disk, W: Write, S: Watch>(
     alloc: Global,
     disk: D,
     script: &[u8],
-    out: &mut W,
+    out: &mut Output<W>,
     watch: &mut S,
 ) -> (D, Ended) {
     match World::open(alloc, disk, FRAMES) {
@@ -39,7 +38,7 @@ pub fn run_strictly<D: Disk, W: Write, S: Watch>(
             let ended = answer_lines(alloc, &mut world, script, out, watch);
             (world.close(), ended)
         }
-        Err(OpenError { fault, disk }) => (disk, Err(Stop::Store(fault))),
+        Err(OpenError { fault, disk }) => (disk, Err(unopened(fault))),
     }
 }
 
@@ -48,7 +47,7 @@ fn answer_lines<D: Disk, W: Write, S: Watch>(
     alloc: Global,
     world: &mut World<D>,
     script: &[u8],
-    out: &mut W,
+    out: &mut Output<W>,
     watch: &mut S,
 ) -> Ended {
     let answer = run_line(alloc, world, Line::Reopen, out, watch)?;
@@ -70,10 +69,13 @@ fn answer_line<D: Disk, W: Write, S: Watch>(
     alloc: Global,
     world: &mut World<D>,
     line: &[u8],
-    out: &mut W,
+    out: &mut Output<W>,
     watch: &mut S,
 ) -> Result<Option<Answer>, Stop> {
-    let script = Script::parse(alloc, line)?;
+    let script = match Script::parse(alloc, line) {
+        Ok(script) => script,
+        Err(error) => return Err(unfit(error)),
+    };
     for request in script.lines {
         let answer = run_line(alloc, world, request, out, watch)?;
         if is_failure(&answer) {

@@ -162,8 +162,9 @@ impl Saved {
         };
         match checkpoint(rt, shared, rounds) {
             Ended::LetGo(Reply::Acked(number)) => self.acks.push_reserved(number),
-            Ended::LetGo(Reply::Refused(why)) => self.refused = Some(why),
-            // Memory was refused again and again.
+            Ended::LetGo(Reply::Refused(why)) if why != Refusal::Idle => self.refused = Some(why),
+            // Memory was refused again and again: to a step of the checkpoint, or to its order, behind which there is none
+            // to be cancelled.
             Ended::LetGo(_) | Ended::LeftStanding(_) => self.refused = Some(Refusal::OutOfMemory),
         }
     }

@@ -5,10 +5,10 @@ use Rattle.std.specs.List.{flat_map}
 use Rattle.std.specs.Io.KnownBytes.{Appends}
 use Rattle.std.proofs.KnownBytes.{Appends-nil, Appends-trans}
 use Rattle.std.proofs.lemmas.Grind.{flat_map-append}
-use Rattle.sd_report.specs.declared.stop.Stop.{Stop}
-use Rattle.sd_report.specs.declared.stop.Stop.TheVariants as stop
-use Rattle.sd_report.specs.Ending.{OnFault}
-use Rattle.sd_report.specs.Printed.{Begins}
+use Rattle.sd_exit.specs.declared.stop.Stop.{Stop}
+use Rattle.sd_exit.specs.Ending.{OnFault}
+use Rattle.sd_exit.specs.Texts.{Begins}
+use Rattle.sd_exit.proofs.EndingLemmas.{on_fault}
 use Rattle.std.specs.Fmt.{decimal}
 use Rattle.std.proofs.lemmas.List.Elements.{filter-append}
 use Rattle.sd_image.specs.declared.table.SpaceTable.{SpaceTable}
@@ -41,16 +41,6 @@ begins_behind a b c bs cs rest ds e p q = record {
       ∙ sym (append_assoc bs cs rest) ∙ e;
   printed = Appends-trans a b c bs q.front p q.printed;
 }
-
-pub on_fault : {P Q : Type 0} (result : Result Unit Stop) → (P → Q) → OnFault result P → OnFault result Q
-on_fault (Ok value) f p = record {}
-on_fault (Err (stop.Fault fault)) f p = f p
-on_fault (Err (stop.Writer error)) f p = record {}
-
-pub always_on_fault : {P : Type 0} (result : Result Unit Stop) → P → OnFault result P
-always_on_fault (Ok value) p = record {}
-always_on_fault (Err (stop.Fault fault)) p = p
-always_on_fault (Err (stop.Writer error)) p = record {}
 
 -- where a fault stops what comes next
 pub broken_off : (result : Result Unit Stop) (a b c : Option (List ℕ)) (bs cs rest ds : List ℕ) → bs ++ cs ++ rest ≡ ds → Appends a b bs

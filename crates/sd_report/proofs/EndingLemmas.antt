@@ -7,27 +7,21 @@ use Rattle.sd_image.specs.Image.{is_open}
 use Rattle.sd_restore.specs.Faulty.{Names}
 use Rattle.sd_restore.specs.declared.fault.Fault.{Fault}
 use Rattle.sd_restore.specs.declared.fault.Fault.TheVariants.{EmptyChain, Damaged, Device, OutOfMemory}
-use Rattle.sd_report.specs.declared.output.Output.{Output}
-use Rattle.sd_report.specs.declared.stop.Stop.{Stop}
-use Rattle.sd_report.specs.declared.stop.Stop.TheVariants as stop
+use Rattle.sd_exit.specs.declared.stop.Stop.{Stop}
+use Rattle.sd_exit.specs.declared.stop.Stop.TheVariants as stop
+use Rattle.sd_exit.specs.Ending.{Exits, end_status, end_text, stop_text}
+use Rattle.sd_exit.specs.Texts.{fault_line}
+use Rattle.sd_exit.proofs.EndingLemmas.{only_empty}
 use Rattle.std.specs.Io.KnownBytes.{Appends, Keeps}
 use Rattle.sd_report.specs.declared.steady.Reader.{Reader}
 use Rattle.sd_report.specs.declared.steady.Reader.TheVariants as reader
 use Rattle.sd_report.specs.Printed.{Prints}
-use Rattle.sd_report.specs.Texts.{fault_line, memory_text, verdict_text}
-use Rattle.sd_report.specs.Ending.{Ends, EndsWithOne, Exits, IsOutside, StandsAlone, end_status, end_text, status_of}
+use Rattle.sd_report.specs.Texts.{memory_text, verdict_text}
+use Rattle.sd_report.specs.Ending.{EndsWithOne, IsOutside, StandsAlone, is_of_store}
 
 pub on_ok : {A B : Type 0} {P : Type 0} (result : Result A B) → P → OnOk result P
 on_ok (Ok value) p = p
 on_ok (Err error) p = record {}
-
--- no cause ends with status 0
-pub cause_is_seen : (why : Stop) → status_of why ≡ 0 → {A : Type 0} → A
-cause_is_seen (stop.Fault EmptyChain) e = absurd (let f : 3 ≡ 0 = e in omega (arith, f))
-cause_is_seen (stop.Fault (Damaged slot reason)) e = absurd (let f : 1 ≡ 0 = e in omega (arith, f))
-cause_is_seen (stop.Fault Device) e = absurd (let f : 1 ≡ 0 = e in omega (arith, f))
-cause_is_seen (stop.Fault OutOfMemory) e = absurd (let f : 1 ≡ 0 = e in omega (arith, f))
-cause_is_seen (stop.Writer error) e = absurd (let f : 1 ≡ 0 = e in omega (arith, f))
 
 -- bytes that stayed, and then grew
 kept_then : (a b c : Option (List ℕ)) (bs : List ℕ) → Keeps a b → Appends b c bs → Appends a c bs
@@ -36,45 +30,22 @@ kept_then (Some x) None c bs p q = absurd p
 kept_then (Some x) (Some y) None bs p q = absurd q
 kept_then (Some x) (Some y) (Some z) bs p q = q ∙ ap (λ l. l ++ bs) p
 
-module _ {W : Type 0} (contents : W → Option (List ℕ)) (old new : Output W) (status : ℕ) where
-  -- how a program exits, by how it ended
-  abbrev ExitsSo : Result Unit Stop → Type 0
-  ExitsSo ended = Exits contents old new (end_text ended) (end_status ended) status
-
-  -- a program that exits with status 0 came to its end
-  pub came_to_its_end : {P : Type 0} (ended : Result Unit Stop) → ExitsSo ended → OnOk ended P → status ≡ 0 → P
-  came_to_its_end (Ok value) exits done is = done
-  came_to_its_end (Err why) (inl e) done is = cause_is_seen why (sym e.2 ∙ is)
-  came_to_its_end (Err why) (inr e) done is = let one : status ≡ 1 = e.1 in absurd (omega (arith, one, is))
-
-  -- a program that comes to its end or is stopped with status 1 exits with one of the two
-  pub at_most_one : (ended : Result Unit Stop) → ExitsSo ended → EndsWithOne ended → status ≤ 1
-  at_most_one (Ok value) (inl e) one = let is : status ≡ 0 = e.2 in omega (arith, is)
-  at_most_one (Err why) (inl e) one = let is : status ≡ 1 = e.2 ∙ one in omega (arith, is)
-  at_most_one ended (inr e) one = let is : status ≡ 1 = e.1 in omega (arith, is)
-
-  -- what was printed before the end stands, where the program exits with status 0
-  pub printed_at_its_end : (P : Option (List ℕ) → Type 0) → ((a b : Option (List ℕ)) → Appends a b [] → P a → P b) → (ended : Result Unit Stop)
-      → ExitsSo ended → OnOk ended (P (contents old.writer)) → status ≡ 0 → P (contents new.writer)
-  printed_at_its_end P more (Ok value) (inl e) done is = more (contents old.writer) (contents new.writer) e.1 done
-  printed_at_its_end P more (Err why) (inl e) done is = cause_is_seen why (sym e.2 ∙ is)
-  printed_at_its_end P more ended (inr e) done is = let one : status ≡ 1 = e.1 in absurd (omega (arith, one, is))
-
-  -- where nothing was refused the status is another than 1, or the end's
-  pub whole_but_for_one : (text : List ℕ) (wanted : ℕ) → Exits contents old new text wanted status → status ≢ 1 → new.refused ≡ false
-  whole_but_for_one text wanted (inl e) other = e.0
-  whole_but_for_one text wanted (inr e) other = absurd (other e.1)
-
+module _ (before printed after : Option (List ℕ)) (refused : Bool) (status : ℕ) where
   -- status 3 comes with the line of an empty chain, and nothing before it
-  pub told_empty : (before : Option (List ℕ)) (ended : Result Unit Stop) → ExitsSo ended → IfErr ended (StandsAlone before (contents old.writer)) → status ≡ 3
-      → Appends before (contents new.writer) (fault_line EmptyChain)
-  told_empty before (Ok value) (inl e) alone is = let zero_is : status ≡ 0 = e.2 in absurd (omega (arith, zero_is, is))
-  told_empty before (Err (stop.Fault EmptyChain)) (inl e) alone is = kept_then before (contents old.writer) (contents new.writer) (fault_line EmptyChain) alone e.1
-  told_empty before (Err (stop.Fault (Damaged slot reason))) (inl e) alone is = let one : status ≡ 1 = e.2 in absurd (omega (arith, one, is))
-  told_empty before (Err (stop.Fault Device)) (inl e) alone is = let one : status ≡ 1 = e.2 in absurd (omega (arith, one, is))
-  told_empty before (Err (stop.Fault OutOfMemory)) (inl e) alone is = let one : status ≡ 1 = e.2 in absurd (omega (arith, one, is))
-  told_empty before (Err (stop.Writer error)) (inl e) alone is = let one : status ≡ 1 = e.2 in absurd (omega (arith, one, is))
-  told_empty before ended (inr e) alone is = let one : status ≡ 1 = e.1 in absurd (omega (arith, one, is))
+  pub told_empty : (ended : Result Unit Stop) → Exits printed after refused (end_text ended) (end_status ended) status
+      → IfErr ended (StandsAlone before printed) → status ≡ 3 → Appends before after (fault_line EmptyChain)
+  told_empty (Ok value) (inl e) alone is = let zero_is : status ≡ 0 = e.2 in absurd (omega (arith, zero_is, is))
+  told_empty (Err why) (inl e) alone is =
+      let empty : why ≡ stop.Fault EmptyChain = only_empty why (sym e.2 ∙ is) in
+      kept_then before printed after (fault_line EmptyChain) (alone (ap is_of_store empty)) (subst (λ w. Appends printed after (stop_text w)) empty e.1)
+  told_empty ended (inr e) alone is = let one : status ≡ 1 = e.1 in absurd (omega (arith, one, is))
+
+  -- and only where the contents show nothing
+  pub empty_told : {P : Type 0} (ended : Result Unit Stop) → Exits printed after refused (end_text ended) (end_status ended) status
+      → (ended ≡ Err (stop.Fault EmptyChain) → P) → status ≡ 3 → P
+  empty_told (Ok value) (inl e) shows is = let zero_is : status ≡ 0 = e.2 in absurd (omega (arith, zero_is, is))
+  empty_told (Err why) (inl e) shows is = shows (ap (λ (w : Stop). Err w) (only_empty why (sym e.2 ∙ is)))
+  empty_told ended (inr e) shows is = let one : status ≡ 1 = e.1 in absurd (omega (arith, one, is))
 
 -- what was printed stands where nothing is printed behind it
 then_nothing : (a b c : Option (List ℕ)) (bs : List ℕ) → Appends a b bs → Appends b c [] → Appends a c bs
@@ -104,17 +75,13 @@ prints_then_nothing reader.Verify contents before a b none is = record {
 -- a fault of the device or of the memory says nothing against the store
 pub outside : (fault : Fault) → Names (λ _ _. ⊥) fault → fault ≢ EmptyChain → IsOutside (stop.Fault fault)
 outside EmptyChain named some = absurd (some refl)
-outside (Damaged slot reason) named some = named
-outside Device named some = record {}
-outside OutOfMemory named some = record {}
+outside (Damaged slot reason) named some = absurd named
+outside Device named some = refl
+outside OutOfMemory named some = refl
 
 -- a stop that says nothing against the store may come behind lines
 pub not_alone : (before after : Option (List ℕ)) (why : Stop) → IsOutside why → StandsAlone before after why
-not_alone before after (stop.Fault EmptyChain) is = absurd is
-not_alone before after (stop.Fault (Damaged slot reason)) is = absurd is
-not_alone before after (stop.Fault Device) is = record {}
-not_alone before after (stop.Fault OutOfMemory) is = record {}
-not_alone before after (stop.Writer error) is = record {}
+not_alone before after why is = λ yes. absurd (let f : true ≡ false = sym yes ∙ is in cc)
 
 pub none_alone : (before after : Option (List ℕ)) (result : Result Unit Stop) → IfErr result IsOutside → IfErr result (StandsAlone before after)
 none_alone before after (Ok value) is = record {}
@@ -122,11 +89,7 @@ none_alone before after (Err why) is = not_alone before after why is
 
 -- where nothing was printed, any stop stands alone
 pub stands_alone : (same : Option (List ℕ)) (why : Stop) → StandsAlone same same why
-stands_alone same (stop.Fault EmptyChain) = Keeps-refl same
-stands_alone same (stop.Fault (Damaged slot reason)) = Keeps-refl same
-stands_alone same (stop.Fault Device) = record {}
-stands_alone same (stop.Fault OutOfMemory) = record {}
-stands_alone same (stop.Writer error) = record {}
+stands_alone same why = λ _. Keeps-refl same
 
 -- ---- what was kept in a vector, and then printed
 
@@ -155,27 +118,6 @@ prints_moved reader.Verify contents before after text is printed = record {
   shows = is.shows;
   printed = moved before after text (verdict_text is.shown (length (filter is_open contents))) is.printed printed;
 }
-
--- ---- how a program exits
-
-module _ {W : Type 0} (contents : W → Option (List ℕ)) (old mid new : Output W) where
-  -- what is told last is written, or was refused; and what came of the flush
-  pub exits : (text : List ℕ) (due wanted status : ℕ) → ((wanted ≡ due) × Appends (contents old.writer) (contents mid.writer) text) ⊎ (mid.refused ≡ true)
-      → Keeps (contents mid.writer) (contents new.writer) → new.refused ≡ mid.refused → status ≡ (if new.refused then 1 else wanted)
-      → Exits contents old new text due status
-  exits text due wanted status told kept same is = by new.refused refl told
-    where
-      by : (b : Bool) → new.refused ≡ b → ((wanted ≡ due) × Appends (contents old.writer) (contents mid.writer) text) ⊎ (mid.refused ≡ true)
-          → Exits contents old new text due status
-      by true e told = inr (e, is ∙ cond-true _ _ _ e)
-      by false e (inl t) = inl (e, Appends-kept (contents old.writer) (contents mid.writer) (contents new.writer) text t.1 kept, is ∙ cond-false _ _ _ e ∙ t.0)
-      by false e (inr t) = absurd (let f : false ≡ true = sym e ∙ same ∙ t in cc)
-
-  pub told_or_refused : (ended : Result Unit Stop) (wanted : ℕ) → Ends contents old mid ended wanted
-      → ((wanted ≡ end_status ended) × Appends (contents old.writer) (contents mid.writer) (end_text ended)) ⊎ (mid.refused ≡ true)
-  told_or_refused (Ok value) wanted is = inl (is.0, subst (λ (o : Output W). Appends (contents old.writer) (contents o.writer) []) (sym is.1) (Appends-nil (contents old.writer)))
-  told_or_refused (Err why) wanted (inl t) = inl (t.0, t.1)
-  told_or_refused (Err why) wanted (inr t) = inr t.1
 
 -- a program that ends with status 1 found no empty chain
 pub never_empty : {A : Type 0} (ended : Result Unit Stop) → EndsWithOne ended → ended ≡ Err (stop.Fault EmptyChain) → A

@@ -6,3 +6,5 @@ pub mod PageLemmas
 pub mod MemoryTexts
 pub mod BreakLemmas
 pub mod SteadyLemmas
+mod AnswerLemmas
+mod HeldLemmas

@@ -1,5 +1,5 @@
 -- What came of a program that reads a store, by its parts.
-use Rattle.std.proofs.Common.{◌≡◌, ◌≢◌, ℕ, true, false, List, [], Option, Some, None, Result, Ok, Err, OnOk, ◌++◌, append-nil, refl, ◌∙◌, ap, subst, inl, inr, length}
+use Rattle.std.proofs.Common.{◌≡◌, ◌≢◌, ℕ, true, false, List, [], Option, Some, None, Result, Ok, Err, OnOk, IfErr, ◌++◌, append-nil, refl, ◌∙◌, ap, subst, inl, inr, length}
 use Rattle.std.specs.Prelude.{filter}
 use Rattle.std.specs.Io.KnownBytes.{Appends, Keeps}
 use Rattle.sd_image.specs.Image.{is_open}
@@ -7,13 +7,15 @@ use Rattle.sd_restore.specs.declared.fault.Fault.{Fault}
 use Rattle.sd_restore.specs.declared.fault.Fault.TheVariants.{EmptyChain, Damaged, Device, OutOfMemory}
 use Rattle.sd_report.specs.declared.steady.Reader.{Reader}
 use Rattle.sd_report.specs.declared.steady.Reader.TheVariants as reader
-use Rattle.sd_report.specs.declared.stop.Stop.{Stop}
-use Rattle.sd_report.specs.declared.stop.Stop.TheVariants as stop
-use Rattle.sd_report.specs.Ending.{IsOutside, OnFault, StandsAlone, writer_failed}
+use Rattle.sd_exit.specs.declared.stop.Stop.{Stop}
+use Rattle.sd_exit.specs.declared.stop.Stop.TheVariants as stop
+use Rattle.sd_exit.specs.Ending.{OnFault}
+use Rattle.sd_exit.proofs.EndingLemmas.{on_fault}
+use Rattle.sd_report.specs.Ending.{IsOutside, StandsAlone, writer_failed}
 use Rattle.sd_report.specs.Printed.{BeginsToPrint, Prints}
 use Rattle.sd_report.specs.Reading.{ReadsStore}
 use Rattle.sd_report.specs.Texts.{memory_text, verdict_text}
-use Rattle.sd_report.proofs.BreakLemmas.{begins_all, on_fault}
+use Rattle.sd_report.proofs.BreakLemmas.{begins_all}
 use Rattle.sd_report.proofs.EndingLemmas.{not_alone, prints_moved}
 
 no_two : {A : Type 0} → true ≡ false → A
@@ -55,6 +57,13 @@ module _ (by : Reader) (contents : List (List ℕ)) where
       → OnFault ended (BeginsToPrint by contents before after) → BeginsToPrint by contents before after
   any_part (Ok value) before after fine whole begun = whole_begins by contents before after whole
   any_part (Err (stop.Fault fault)) before after fine whole begun = begun
+  any_part (Err stop.NoFrame) before after fine whole begun = begun
+  any_part (Err (stop.ScriptLine number)) before after fine whole begun = begun
+  any_part (Err stop.CannotReadScript) before after fine whole begun = begun
+  any_part (Err stop.CannotOpenFolder) before after fine whole begun = begun
+  any_part (Err stop.NotEmpty) before after fine whole begun = begun
+  any_part (Err (stop.Order why)) before after fine whole begun = begun
+  any_part (Err stop.Refused) before after fine whole begun = begun
   any_part (Err (stop.Writer error)) before after fine whole begun = no_two fine
 
   -- a fault of the device or of the memory behind it
@@ -90,11 +99,24 @@ module _ (by : Reader) (contents : List (List ℕ)) where
       )
 
   alone_moved : (before after : Option (List ℕ)) (text : List ℕ) (why : Stop) → Appends before after text → StandsAlone (Some []) (Some text) why → StandsAlone before after why
-  alone_moved before after text (stop.Fault EmptyChain) taken none = no_bytes before after text none taken
-  alone_moved before after text (stop.Fault (Damaged slot reason)) taken none = no_bytes before after text none taken
-  alone_moved before after text (stop.Fault Device) taken none = record {}
-  alone_moved before after text (stop.Fault OutOfMemory) taken none = record {}
-  alone_moved before after text (stop.Writer error) taken none = record {}
+  alone_moved before after text why taken none = λ is. no_bytes before after text (none is) taken
+
+  unknown : (by : Reader) (before : Option (List ℕ)) → Prints by contents (Some []) None → Prints by contents before None
+  unknown reader.Restore before is = absurd is.printed
+  unknown reader.List before is = absurd is.printed
+  unknown reader.Verify before is = absurd is.printed
+
+  unknown_text : (ended : Result Unit Stop) (before : Option (List ℕ)) → OnOk ended (Prints by contents (Some []) None) → OnOk ended (Prints by contents before None)
+  unknown_text (Ok value) before is = unknown by before is
+  unknown_text (Err why) before is = record {}
+
+  unknown_beginning : (before : Option (List ℕ)) → BeginsToPrint by contents (Some []) None → BeginsToPrint by contents before None
+  unknown_beginning before (inl none) = absurd none
+  unknown_beginning before (inr begun) = absurd begun.2.printed
+
+  unknown_alone : (ended : Result Unit Stop) (before : Option (List ℕ)) → IfErr ended (StandsAlone (Some []) None) → IfErr ended (StandsAlone before None)
+  unknown_alone (Ok value) before is = record {}
+  unknown_alone (Err why) before is = λ yes. absurd (is yes)
 
   pub moved_out : (honest : Type 0) (ended : Result Unit Stop) (before after : Option (List ℕ)) (text : List ℕ) → Appends before after text
       → Reads honest ended (Some []) (Some text) → Reads honest ended before after
@@ -108,5 +130,14 @@ module _ (by : Reader) (contents : List (List ℕ)) where
     text = λ h. record {};
     begins = λ h. on_fault (Err why) (begun_moved before after text taken) (is.begins h);
     alone = alone_moved before after text why taken is.alone;
+    empty = is.empty;
+  }
+
+  -- nothing that a vector holds is unknown
+  pub never_held : (honest : Type 0) (ended : Result Unit Stop) (before : Option (List ℕ)) → Reads honest ended (Some []) None → Reads honest ended before None
+  never_held honest ended before is = record {
+    text = λ h. unknown_text ended before (is.text h);
+    begins = λ h. on_fault ended (unknown_beginning before) (is.begins h);
+    alone = unknown_alone ended before is.alone;
     empty = is.empty;
   }

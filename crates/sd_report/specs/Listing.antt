@@ -4,16 +4,13 @@ use Rattle.std.specs.List.{flat_map}
 use Rattle.std.specs.Fmt.{decimal}
 use Rattle.sd_image.specs.declared.header.Kind.{Kind}
 use Rattle.sd_image.specs.declared.header.Kind.TheVariants.{PreDump, Dump, Merged}
+use Rattle.sd_exit.specs.Texts.{slot_text}
 use Rattle.sd_chain.specs.Catalog.{Opened, Places, IsRestored, IsTip, images}
 
 abbrev pub kind_text : Kind → List ℕ
 kind_text PreDump = codes "pre-dump"
 kind_text Dump = codes "dump"
 kind_text Merged = codes "merged"
-
--- a slot's number, with zeros before it up to three digits
-abbrev pub slot_text : ℕ → List ℕ
-slot_text slot = replicate (3 - length (decimal slot)) 48 ++ decimal slot
 
 -- the line of an image: its slot, its kind and its numbers
 abbrev pub image_line : Opened → List ℕ

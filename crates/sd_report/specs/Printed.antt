@@ -6,6 +6,7 @@ use Rattle.sd_image.specs.Image.{is_open}
 use Rattle.sd_image.specs.Shows.{Shows}
 use Rattle.sd_chain.specs.Catalog.{Places, AreInOrder, IsHeld}
 use Rattle.sd_chain.specs.Store.{IsCatalogOf}
+use Rattle.sd_exit.specs.Texts.{Begins}
 use Rattle.sd_report.specs.declared.steady.Reader.{Reader}
 use Rattle.sd_report.specs.declared.steady.Reader.TheVariants as reader
 use Rattle.sd_report.specs.Listing.{IsListing}
@@ -38,13 +39,6 @@ abbrev pub Prints : Reader → List (List ℕ) → Option (List ℕ) → Option 
 Prints reader.Restore = PrintsMemory
 Prints reader.List = PrintsImages
 Prints reader.Verify = PrintsVerdict
-
--- a beginning of a text
-pub record Begins (before after : Option (List ℕ)) (text : List ℕ) : Type 0 where
-  pub front : List ℕ
-  pub rest : List ℕ
-  pub whole : front ++ rest ≡ text
-  pub printed : Appends before after front
 
 -- nothing yet, or a beginning of the text of the contents: the text that a program prints of them where none was before
 abbrev pub BeginsToPrint : Reader → List (List ℕ) → Option (List ℕ) → Option (List ℕ) → Type 0

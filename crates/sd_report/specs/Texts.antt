@@ -5,16 +5,12 @@ use Rattle.std.specs.Fmt.{decimal}
 use Rattle.std.specs.FinMap as finmap
 use Rattle.hex.specs.Hex.{encode_lower}
 use Rattle.sd_areas.specs.PlainMemory.{Page, Space, PlainMemory}
-use Rattle.sd_image.specs.ReasonLaws.{reason_number}
 use Rattle.sd_procfs.specs.Listing.{address_text, area_line, listing_text}
-use Rattle.sd_restore.specs.declared.fault.Fault.{Fault}
-use Rattle.sd_restore.specs.declared.fault.Fault.TheVariants.{EmptyChain, Damaged, Device, OutOfMemory}
 use Rattle.sd_restore.specs.Fits.{prots_in}
 use Rattle.sd_restore.specs.Placed.{PlacedPage, page_behind}
 use Rattle.sd_restore.specs.declared.placed_run.PlacedRun.{PlacedRun}
 use Rattle.sd_chain.specs.Store.{bytes_at}
 use Rattle.sd_image.specs.Table.{Listed}
-use Rattle.sd_report.specs.Listing.{slot_text}
 
 -- What `restore` prints.
 
@@ -72,10 +68,3 @@ pages_text first bytes count = flat_map (λ k. page_text (4096 * (first + k)) (s
 abbrev pub verdict_text : Option (ℕ × PlainMemory) → ℕ → List ℕ
 verdict_text (Some moment) images = codes "ok checkpoint " ++ decimal moment.0 ++ codes " images " ++ decimal images ++ 10 ∷ []
 verdict_text None images = codes "ok empty" ++ 10 ∷ []
-
--- the line of a fault
-abbrev pub fault_line : Fault → List ℕ
-fault_line EmptyChain = codes "empty chain" ++ 10 ∷ []
-fault_line (Damaged slot reason) = codes "damaged " ++ slot_text slot ++ codes " " ++ decimal (reason_number reason) ++ 10 ∷ []
-fault_line Device = codes "device" ++ 10 ∷ []
-fault_line OutOfMemory = codes "out-of-memory" ++ 10 ∷ []

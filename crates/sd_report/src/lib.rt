@@ -1,18 +1,16 @@
 //! What a store has, printed: its memory, its images, and whether it can be restored.
 #![tactic(auto)]
 
+mod held;
 mod list;
 mod listing;
-mod output;
 mod page_text;
 mod restore;
 mod steady;
-mod stop;
 mod verify;
 
-pub use list::{list_to, print_list};
-pub use output::Output;
-pub use restore::{print_restored, restore_to};
-pub use steady::{Reader, may_change, print_steady, print_whole};
-pub use stop::{Stop, fault_status, print_fault};
-pub use verify::{print_report, verify_to};
+pub use held::print_held;
+pub use list::list_to;
+pub use restore::restore_to;
+pub use steady::Reader;
+pub use verify::verify_to;

@@ -1,14 +1,17 @@
 //! `ckpt list`: the images of a store.
-ghost use Rattle.std.specs.Prelude.{◌≡◌, ◌≢◌, false, ◌≤◌, IfErr, OnOk};
+ghost use Rattle.std.specs.Prelude.{◌≡◌, ◌≢◌, true, false, ◌≤◌, IfErr, OnOk};
 ghost use Rattle.std.specs.Io.KnownBytes.{Keeps};
 ghost use Rattle.sd_disk.specs.Reads.{OnlyReads};
-ghost use Rattle.sd_report.specs.Ending.{EndsWithOne, IsReadable, OnFault, StandsAlone};
+ghost use Rattle.sd_exit.specs.Ending.{OnFault, OnWriter};
+ghost use Rattle.sd_report.specs.declared.steady.Reader.TheVariants as reader;
+ghost use Rattle.sd_report.specs.Ending.{EndsWithOne, IsReadable, StandsAlone};
 ghost use Rattle.sd_report.specs.Printed.{PrintsImages};
+ghost use Rattle.sd_report.specs.Reading.{Answers};
 
 use crate::listing::list_text;
-use crate::output::Output;
-use crate::stop::{Stop, exit};
+use crate::steady::{Reader, print_steady};
 use sd_disk::Disk;
+use sd_exit::{Output, Stop, exit};
 use sd_restore::scan;
 use std::alloc::Global;
 use std::io::Write;
@@ -24,23 +27,31 @@ pub fn list_to<D: Disk, W: Write>(alloc: Global, disk: &mut D, out: &mut Output<
     ensures status { result ≤ 1 }
     // All was written and flushed, but where the status is 1.
     ensures whole { result ≢ 1 → out.new.refused ≡ false }
+    // However it ends: the text or a beginning of it, the last line, and the status that comes with it.
+    ensures answers { Answers reader.List (D.is_honest disk.new) (D.contents disk.old)
+        (W.contents out.old.writer) (W.contents out.new.writer) out.new.refused result }
     ensures reads { OnlyReads D.Disk disk.old disk.new }
 {
-    let ended = print_list(alloc, disk, out);
+    let ended = print_steady(alloc, Reader::List, disk, out);
     exit(&ended, out)
 }
 
 /// Prints the images of a store.
 #[tactic(auto, using(crate::proofs::EndingLemmas::stands_alone))]
-pub fn print_list<D: Disk, W: Write>(alloc: Global, disk: &mut D, out: &mut W) -> Result<(), Stop>
+pub(crate) fn print_list<D: Disk, W: Write>(
+    alloc: Global,
+    disk: &mut D,
+    out: &mut Output<W>,
+) -> Result<(), Stop>
     ensures readable { D.is_honest disk.new → OnOk result (IsReadable (D.contents disk.old)) }
     ensures text { D.is_honest disk.new → OnOk result
-        (PrintsImages (D.contents disk.old) (W.contents out.old) (W.contents out.new)) }
+        (PrintsImages (D.contents disk.old) (W.contents out.old.writer) (W.contents out.new.writer)) }
     // Where a fault stopped it, nothing is written yet.
-    ensures none { OnFault result (Keeps (W.contents out.old) (W.contents out.new)) }
+    ensures none { OnFault result (Keeps (W.contents out.old.writer) (W.contents out.new.writer)) }
     // What is wrong with the store is told alone.
-    ensures alone { IfErr result (StandsAlone (W.contents out.old) (W.contents out.new)) }
+    ensures alone { IfErr result (StandsAlone (W.contents out.old.writer) (W.contents out.new.writer)) }
     ensures stopped { EndsWithOne result }
+    ensures writer { OnWriter result (out.new.refused ≡ true) }
     ensures reads { OnlyReads D.Disk disk.old disk.new }
 {
     let catalog = scan(alloc, disk)?;

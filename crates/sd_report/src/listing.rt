@@ -1,6 +1,7 @@
 //! The images of a store as text.
 ghost use Rattle.std.specs.Prelude.{◌≡◌, ◌++◌, codes, IfOk, OnOk};
-ghost use Rattle.sd_report.specs.Listing.{IsListing, image_line, kind_text, slot_text};
+ghost use Rattle.sd_exit.specs.Texts.{slot_text};
+ghost use Rattle.sd_report.specs.Listing.{IsListing, image_line, kind_text};
 
 use sd_chain::{Catalog, OpenImage};
 use sd_image::Kind;

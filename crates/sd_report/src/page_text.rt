@@ -1,12 +1,13 @@
 //! The lines that `restore` prints of a page.
 
-ghost use Rattle.std.specs.Prelude.{◌≡◌, ◌+◌, ◌≤◌, ◌<◌, ◌^◌, ◌==◌, ◌++◌, [], ◌∷◌, codes, length, take, drop, OnOk};
+ghost use Rattle.std.specs.Prelude.{◌≡◌, ◌+◌, ◌≤◌, ◌<◌, ◌^◌, ◌==◌, ◌++◌, [], ◌∷◌, codes, length, take, drop, true, OnOk, OnErr};
 ghost use Rattle.std.specs.List.{list_all};
 ghost use Rattle.std.specs.Io.KnownBytes.{Appends};
 ghost use Rattle.sd_report.specs.Texts.{bytes_line, line_text, page_text};
 ghost use Rattle.sd_report.specs.Digits.{IsZeroCount};
 
 use sd_areas::PAGE_SIZE;
+use sd_exit::Output;
 use std::io;
 use std::io::Write;
 
@@ -26,11 +27,12 @@ const BYTES: usize = DIGITS + 17;
 const LINE_LEN: usize = BYTES + 2 * LINE_BYTES + 1;
 
 /// Prints the lines of a page that aren't all zeros, each in one piece: `bytes 0x10000 6865..`.
-pub fn print_page<W: Write>(address: u64, page: &[u8], out: &mut W) -> io::Result<()>
+pub fn print_page<W: Write>(address: u64, page: &[u8], out: &mut Output<W>) -> io::Result<()>
     requires fits { address + 4096 ≤ 2 ^ 48 }
     requires page { length page.now ≡ 4096 }
-    ensures { OnOk result
-        (Appends (W.contents out.old) (W.contents out.new) (page_text address page.now)) }
+    ensures text { OnOk result
+        (Appends (W.contents out.old.writer) (W.contents out.new.writer) (page_text address page.now)) }
+    ensures refused { OnErr result (out.new.refused ≡ true) }
 {
     for number in 0..LINES {
         let place = LINE_BYTES * number;
@@ -44,10 +46,11 @@ pub fn print_page<W: Write>(address: u64, page: &[u8], out: &mut W) -> io::Resul
 }
 
 /// Prints the line of bytes, unless they are all zeros.
-fn print_part<W: Write>(address: u64, bytes: &[u8], out: &mut W) -> io::Result<()>
+fn print_part<W: Write>(address: u64, bytes: &[u8], out: &mut Output<W>) -> io::Result<()>
     requires { length bytes.now ≡ 32 }
-    ensures { OnOk result
-        (Appends (W.contents out.old) (W.contents out.new) (bytes_line address bytes.now)) }
+    ensures text { OnOk result
+        (Appends (W.contents out.old.writer) (W.contents out.new.writer) (bytes_line address bytes.now)) }
+    ensures refused { OnErr result (out.new.refused ≡ true) }
 {
     if are_zeros(bytes) {
         return Ok(());
@@ -67,9 +70,11 @@ fn are_zeros(bytes: &[u8]) -> bool
 }
 
 /// Prints a line. Its address is put behind the place of the zeros before it, and those are left out.
-fn print_line<W: Write>(address: u64, bytes: &[u8], out: &mut W) -> io::Result<()>
+fn print_line<W: Write>(address: u64, bytes: &[u8], out: &mut Output<W>) -> io::Result<()>
     requires { length bytes.now ≡ 32 }
-    ensures { OnOk result (Appends (W.contents out.old) (W.contents out.new) (line_text address bytes.now)) }
+    ensures text { OnOk result
+        (Appends (W.contents out.old.writer) (W.contents out.new.writer) (line_text address bytes.now)) }
+    ensures refused { OnErr result (out.new.refused ≡ true) }
 {
     let mut digits = [0; 16];
     hex::encode_to_slice(&address.to_be_bytes(), digits.as_mut_slice()).unwrap();
@@ -111,9 +116,11 @@ fn zero_digits(address: u64) -> usize
 }
 
 /// Prints a line's text from a place on.
-fn print_from<W: Write>(text: &[u8; LINE_LEN], place: usize, out: &mut W) -> io::Result<()>
+fn print_from<W: Write>(text: &[u8; LINE_LEN], place: usize, out: &mut Output<W>) -> io::Result<()>
     requires { place ≤ 90 }
-    ensures { OnOk result (Appends (W.contents out.old) (W.contents out.new) (drop place text.now)) }
+    ensures text { OnOk result
+        (Appends (W.contents out.old.writer) (W.contents out.new.writer) (drop place text.now)) }
+    ensures refused { OnErr result (out.new.refused ≡ true) }
 {
     out.write_all(&text[place..])
 }

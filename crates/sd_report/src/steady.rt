@@ -1,16 +1,18 @@
 //! What a program that reads a store prints, by the program's name; and answers that are of one moment of the store.
-ghost use Rattle.std.specs.Prelude.{◌≡◌, ◌≢◌, ◌<◌, true, length, IfErr};
+ghost use Rattle.std.specs.Prelude.{◌≡◌, ◌≢◌, ◌<◌, true, length, IfErr, OnOk};
 ghost use Rattle.sd_disk.specs.Reads.{OnlyReads};
 ghost use Rattle.sd_restore.specs.declared.fault.Fault.TheVariants as fault;
 ghost use Rattle.sd_restore.specs.Faulty.{Names};
-ghost use Rattle.sd_report.specs.Ending.{may_change, writer_failed};
+ghost use Rattle.sd_exit.specs.Ending.{OnWriter};
+ghost use Rattle.sd_report.specs.declared.steady.Reader.TheVariants.{Restore, List};
+ghost use Rattle.sd_report.specs.Ending.{EndsWithOne, IsReadable, writer_failed};
 ghost use Rattle.sd_report.specs.Reading.{ReadsStore};
 
 use crate::list::print_list;
 use crate::restore::print_restored;
-use crate::stop::Stop;
 use crate::verify::print_report;
 use sd_disk::{DeviceError, Disk};
+use sd_exit::{Output, Stop};
 use sd_image::{GATE, HEADER_SIZE};
 use sd_restore::Fault;
 use std::alloc::Global;
@@ -35,10 +37,13 @@ fn print_by<D: Disk, W: Write>(
     alloc: Global,
     reader: Reader,
     disk: &mut D,
-    out: &mut W,
+    out: &mut Output<W>,
 ) -> Result<(), Stop>
     ensures store { ReadsStore reader (D.is_honest disk.new) (D.contents disk.old) result
-        (W.contents out.old) (W.contents out.new) }
+        (W.contents out.old.writer) (W.contents out.new.writer) }
+    ensures readable { D.is_honest disk.new → reader ≡ List → OnOk result (IsReadable (D.contents disk.old)) }
+    ensures stopped { reader ≢ Restore → EndsWithOne result }
+    ensures writer { OnWriter result (out.new.refused ≡ true) }
     ensures reads { OnlyReads D.Disk disk.old disk.new }
 {
     match reader {
@@ -96,15 +101,18 @@ fn fronts<D: Disk>(alloc: Global, disk: &mut D) -> Result<Vec<Front>, Fault>
 /// # Errors
 ///
 /// Those of the program; `Device` and `OutOfMemory` also behind all that it prints.
-pub fn print_steady<D: Disk, W: Write>(
+pub(crate) fn print_steady<D: Disk, W: Write>(
     alloc: Global,
     reader: Reader,
     disk: &mut D,
-    out: &mut W,
+    out: &mut Output<W>,
 ) -> Result<(), Stop>
     // At its end the whole text of what the store shows is written, and before it a beginning.
     ensures store { ReadsStore reader (D.is_honest disk.new) (D.contents disk.old) result
-        (W.contents out.old) (W.contents out.new) }
+        (W.contents out.old.writer) (W.contents out.new.writer) }
+    ensures readable { D.is_honest disk.new → reader ≡ List → OnOk result (IsReadable (D.contents disk.old)) }
+    ensures stopped { reader ≢ Restore → EndsWithOne result }
+    ensures writer { OnWriter result (out.new.refused ≡ true) }
     ensures reads { OnlyReads D.Disk disk.old disk.new }
 {
     let before = fronts(alloc, disk)?;
@@ -124,40 +132,4 @@ fn writer_failed(ended: &Result<(), Stop>) -> bool
     ensures { result ≡ writer_failed ended.now }
 {
     matches!(ended, Err(Stop::Writer(_)))
-}
-
-/// Whether another try may answer otherwise while a run writes the store: that changes what is read.
-pub fn may_change(ended: &Result<(), Stop>) -> bool
-    ensures { result ≡ may_change ended.now }
-{
-    matches!(
-        ended,
-        Err(Stop::Fault(Fault::Device | Fault::Damaged { .. }))
-    )
-}
-
-/// Prints what a program prints of a store as `print_steady` does, but nothing where another try may answer otherwise.
-///
-/// # Errors
-///
-/// Those of `print_steady`; `Writer` also where the text can't be held.
-pub fn print_whole<D: Disk, W: Write>(
-    alloc: Global,
-    reader: Reader,
-    disk: &mut D,
-    out: &mut W,
-) -> Result<(), Stop>
-    ensures store { ReadsStore reader (D.is_honest disk.new) (D.contents disk.old) result
-        (W.contents out.old) (W.contents out.new) }
-    // Where another try may answer otherwise, nothing is written.
-    ensures kept { may_change result ≡ true → W.contents out.new ≡ W.contents out.old }
-    ensures reads { OnlyReads D.Disk disk.old disk.new }
-{
-    let mut text = Vec::new(alloc);
-    let ended = print_steady(alloc, reader, disk, &mut text);
-    if may_change(&ended) {
-        return ended;
-    }
-    out.write_all(&text)?;
-    ended
 }

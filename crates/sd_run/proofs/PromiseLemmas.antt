@@ -2,7 +2,6 @@
 use Rattle.std.proofs.Common.{◌≡◌, ◌⊎◌, ℕ, Bool, true, false, List, [], ◌∷◌, ◌++◌, if◌then◌else◌, Option, Some, None, Result, IfOk, refl, sym, ◌∙◌, ap, subst, inl, inr}
 use Rattle.std.specs.List.{AllByRecursion}
 use Rattle.sd_command.specs.declared.reply.Reply.{Reply}
-use Rattle.sd_disk.specs.Reads.{OnlyReads}
 use Rattle.sd_disk.specs.declared.disk.Disk.{Ghosts}
 use Rattle.sd_gate.specs.declared.worker.Worker.{Worker}
 use Rattle.sd_gate.specs.declared.worker.Worker.TheVariants.{Dumper, Merger, Opener}
@@ -23,7 +22,7 @@ use Rattle.sd_world.specs.View.{WorldView, is_asked}
 use Rattle.sd_run.specs.Jobs.{Drives, IsJob, is_end, next_event}
 use Rattle.sd_run.specs.Lines.{AnswersLine, AnswersLines, script_seat}
 use Rattle.sd_run.specs.Promise.{AreOf, EndsJob, GoesByLine, GoesByLines, IsAnswer, Promise, PromiseSoFar, RunsLine, Starts, Tells, begins_with, worker_of}
-use Rattle.sd_run.specs.Whole.{IsLeft, IsOpened, IsPartOfRun, IsWholeRun}
+use Rattle.sd_run.specs.Whole.{AreTold, IsOpened, IsPartOfRun, IsWholeRun}
 
 module _ {D : Type 0} (g : Ghosts D) (follow : PointsFollow g) where
   -- a world goes on to another, and from each point at which it may stand there is one at which the other stands
@@ -288,8 +287,9 @@ module _ {D : Type 0} (g : Ghosts D) (follow : PointsFollow g) where
         printed = whole.answers.printed;
       }
 
-  pub promise_so_far : (lines : List Line) (old new : D) (part : IsPartOfRun g lines old new) → g.is_honest new → PromiseSoFar g lines old new
-  promise_so_far lines old new part honest =
+  pub promise_so_far : (lines : List Line) (old new : D) (before now : Option (List ℕ)) (part : IsPartOfRun g lines old new) → AreTold part.answers.answers before now
+      → g.is_honest new → PromiseSoFar g lines old new before now
+  promise_so_far lines old new before now part told honest =
       let at_last = subst g.is_honest part.run.disk honest in
       let some = part.answers in
       let at_first = lines_honest part.opened part.last some.done some.answers some.answered at_last in
@@ -306,8 +306,5 @@ module _ {D : Type 0} (g : Ghosts D) (follow : PointsFollow g) where
         answers = some.answers;
         goes = all.2;
         ends = part.run.disk ∙ sym all.1.disk;
+        told = told;
       }
-
-  pub left_so_far : (lines : List Line) (old new : D) → IsLeft g lines old new → g.is_honest new → OnlyReads g old new ⊎ PromiseSoFar g lines old new
-  left_so_far lines old new (IsLeft.only_read reads) honest = inl reads
-  left_so_far lines old new (IsLeft.run part) honest = inr (promise_so_far lines old new part honest)

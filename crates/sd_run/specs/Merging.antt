@@ -1,14 +1,20 @@
 -- The merge of a store's newest chain, as a run of its own.
-use Rattle.std.specs.Prelude.{◌≡◌, ℕ, Bool, true, false, List, Option}
+use Rattle.std.specs.Prelude.{◌≡◌, ℕ, Bool, true, false, List, Option, Result, Err, OnOk}
 use Rattle.std.specs.Io.KnownBytes.{Appends}
 use Rattle.sd_command.specs.declared.reply.Reply.{Reply}
 use Rattle.sd_command.specs.declared.reply.Reply.TheVariants as reply
 use Rattle.sd_disk.specs.Reads.{OnlyReads}
 use Rattle.sd_disk.specs.declared.disk.Disk.{Ghosts}
+use Rattle.sd_exit.specs.declared.stop.Stop.{Stop}
+use Rattle.sd_exit.specs.declared.stop.Stop.TheVariants as stop
+use Rattle.sd_exit.specs.Ending.{Exits, OnWriter, end_status, end_text}
 use Rattle.sd_gate.specs.declared.worker.Worker.TheVariants.{Merger, Opener}
 use Rattle.sd_script.specs.Texts.{reply_line}
 use Rattle.sd_world.specs.declared.event.Event.TheVariants.{Merge, Reopen}
 use Rattle.sd_world.specs.View.{WorldView}
+use Rattle.sd_world.specs.declared.open_fault.OpenFault.{OpenFault}
+use Rattle.sd_world.specs.Opens.{IsFaultOf}
+use Rattle.sd_run.specs.Ending.{unopened}
 use Rattle.sd_run.specs.Jobs.{IsJob}
 use Rattle.sd_run.specs.Whole.{IsRun}
 
@@ -74,3 +80,14 @@ IsRefusedMerge g old new before now = (answer : Reply) × (is_merged answer ≡ 
 pub data IsLeftByMerge {D : Type 0} (g : Ghosts D) (old new : D) : Type 0 where
   only_read : OnlyReads g old new → IsLeftByMerge g old new
   run : (answer : Reply) → IsMergeRun g old answer new → IsLeftByMerge g old new
+
+-- A merge up to the exit: behind the reply, or in its place, stands why it was stopped, if it was, and the status comes with that.
+pub record MergesToExit {D : Type 0} (g : Ghosts D) (old new : D) (before after : Option (List ℕ)) (refused : Bool) (status : ℕ) : Type 0 where
+  pub ended : Result Unit Stop
+  pub printed : Option (List ℕ)
+  pub merged : OnOk ended (IsWholeMerge g old new before printed)
+  pub told : ended ≡ Err stop.Refused → IsRefusedMerge g old new before printed
+  -- where the store isn't opened, its fault is told
+  pub fault : (fault : OpenFault) → ended ≡ Err (unopened fault) → g.is_honest new → IsFaultOf (g.contents old) (g.failed old) (g.failed new) fault
+  pub writer : OnWriter ended (refused ≡ true)
+  pub exits : Exits printed after refused (end_text ended) (end_status ended) status

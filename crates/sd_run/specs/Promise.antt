@@ -1,5 +1,5 @@
 -- What is promised of the run of a script: of its lines, their answers, what is printed, and the disk alone.
-use Rattle.std.specs.Prelude.{◌≡◌, ◌⊎◌, ℕ, true, List, [], ◌∷◌, ◌++◌, Option, Some, None, Result, IfOk}
+use Rattle.std.specs.Prelude.{◌≡◌, ◌⊎◌, ℕ, Bool, true, List, [], ◌∷◌, ◌++◌, Option, Some, None, Result, IfOk}
 use Rattle.std.specs.List.{AllByRecursion, flat_map}
 use Rattle.std.specs.Io.KnownBytes.{Appends}
 use Rattle.sd_command.specs.declared.reply.Reply.{Reply}
@@ -8,6 +8,8 @@ use Rattle.sd_disk.specs.Reads.{OnlyReads}
 use Rattle.sd_disk.specs.declared.disk.Disk.{Ghosts}
 use Rattle.sd_gate.specs.declared.worker.Worker.{Worker}
 use Rattle.sd_gate.specs.declared.worker.Worker.TheVariants.{Dumper, Merger, Opener}
+use Rattle.sd_exit.specs.declared.stop.Stop.{Stop}
+use Rattle.sd_exit.specs.Ending.{Exits, OnWriter, end_status, end_text}
 use Rattle.sd_image.specs.Shows.{Shows}
 use Rattle.sd_core.specs.Starts.{shown_base}
 use Rattle.sd_script.specs.declared.answer.Answer.{Answer}
@@ -22,6 +24,7 @@ use Rattle.sd_world.specs.Promise.{Goes, Point}
 use Rattle.sd_world.specs.View.{WorldView}
 use Rattle.sd_run.specs.Jobs.{is_end}
 use Rattle.sd_run.specs.Lines.{IsReplyOf, script_seat}
+use Rattle.sd_run.specs.Whole.{AreTold}
 
 -- ---- the events of a line
 
@@ -121,8 +124,8 @@ pub record Promise {D : Type 0} (g : Ghosts D) (lines : List Line) (old new : D)
   pub ends : new ≡ last.disk
   pub printed : Appends before now (flat_map answer_line answers)
 
--- The first of the lines were answered, up to any place.
-pub record PromiseSoFar {D : Type 0} (g : Ghosts D) (lines : List Line) (old new : D) : Type 0 where
+-- The first of the lines were answered, up to any place, and their answers printed behind what was; or the last one was broken off.
+pub record PromiseSoFar {D : Type 0} (g : Ghosts D) (lines : List Line) (old new : D) (before now : Option (List ℕ)) : Type 0 where
   pub first : Point D
   pub last : Point D
   pub starts : Starts g old first
@@ -132,3 +135,16 @@ pub record PromiseSoFar {D : Type 0} (g : Ghosts D) (lines : List Line) (old new
   pub answers : List Answer
   pub goes : GoesByLines g first done answers last
   pub ends : new ≡ last.disk
+  pub told : AreTold answers before now
+
+-- What is promised however a run ends: the disk was only read, and no answer was printed; or the first of the lines were answered.
+abbrev pub PromiseAnyway : {D : Type 0} → Ghosts D → List Line → D → D → Option (List ℕ) → Option (List ℕ) → Type 0
+PromiseAnyway g lines old new before now = (OnlyReads g old new × (now ≡ before)) ⊎ PromiseSoFar g lines old new before now
+
+-- The same up to the exit: behind what was printed stands why the run was stopped, if it was, and the status is the one that comes with that.
+pub record PromiseToExit {D : Type 0} (g : Ghosts D) (lines : List Line) (old new : D) (before after : Option (List ℕ)) (refused : Bool) (status : ℕ) : Type 0 where
+  pub ended : Result Unit Stop
+  pub printed : Option (List ℕ)
+  pub so_far : PromiseAnyway g lines old new before printed
+  pub writer : OnWriter ended (refused ≡ true)
+  pub exits : Exits printed after refused (end_text ended) (end_status ended) status

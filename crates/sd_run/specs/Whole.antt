@@ -1,5 +1,5 @@
 -- A whole run of a script, from the disk that it began with to the one that it left.
-use Rattle.std.specs.Prelude.{◌≡◌, ℕ, List, [], ◌++◌, Option, None}
+use Rattle.std.specs.Prelude.{◌≡◌, ◌⊎◌, ℕ, List, [], ◌∷◌, ◌++◌, Option, None}
 use Rattle.std.specs.List.{flat_map}
 use Rattle.std.specs.Io.KnownBytes.{Appends}
 use Rattle.sd_disk.specs.Crash.{Within}
@@ -17,6 +17,16 @@ use Rattle.sd_world.specs.View.{WorldView}
 use Rattle.sd_run.specs.Goes.{GoesOn}
 use Rattle.sd_run.specs.Lines.{AnswersLines}
 
+-- the lines of these answers but the last are printed behind what was, and a beginning of that one's
+pub record BreaksOff (answers : List Answer) (before now : Option (List ℕ)) : Type 0 where
+  pub told : List Answer
+  pub last : Answer
+  pub are : answers ≡ told ++ last ∷ []
+  pub front : List ℕ
+  pub rest : List ℕ
+  pub line : front ++ rest ≡ answer_line last
+  pub printed : Appends before now (flat_map answer_line told ++ front)
+
 -- ---- from one state of a world to another
 
 -- these lines were answered, and their answers printed behind what was
@@ -32,6 +42,15 @@ pub record AnswersSome {D : Type 0} (g : Ghosts D) (first : WorldView D) (lines 
   pub parts : lines ≡ done ++ rest
   pub answers : List Answer
   pub answered : AnswersLines g first done answers last
+
+-- the lines of these answers are printed behind what was; or the last one was broken off
+abbrev pub AreTold : List Answer → Option (List ℕ) → Option (List ℕ) → Type 0
+AreTold answers before now = Appends before now (flat_map answer_line answers) ⊎ BreaksOff answers before now
+
+-- the first of these lines were answered, and their answers printed, up to any place
+pub record TellsSome {D : Type 0} (g : Ghosts D) (first : WorldView D) (lines : List Line) (last : WorldView D) (before now : Option (List ℕ)) : Type 0 where
+  pub some : AnswersSome g first lines last
+  pub told : AreTold some.answers before now
 
 -- ---- from one disk to another
 

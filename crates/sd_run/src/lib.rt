@@ -2,15 +2,16 @@
 #![tactic(auto)]
 
 mod driving;
+mod ending;
 mod lines;
 mod merging;
 mod page_words;
+mod printing;
 mod running;
-mod stop;
 mod watch;
 
+pub use ending::{unfit, unopened};
 pub use lines::run_line;
-pub use merging::{merge_store, merge_to};
+pub use merging::merge_to;
 pub use running::{FRAMES, run_lines, run_script};
-pub use stop::Stop;
 pub use watch::{Unwatched, Watch};

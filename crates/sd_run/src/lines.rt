@@ -1,27 +1,31 @@
 //! The lines of a script, answered by a world.
-ghost use Rattle.std.specs.Prelude.{◌∷◌, IfOk, OnOk};
-ghost use Rattle.std.specs.Io.KnownBytes.{Appends};
+ghost use Rattle.std.specs.Prelude.{◌≡◌, ◌∷◌, true, IfErr, IfOk, OnErr, OnOk};
+ghost use Rattle.std.specs.Io.KnownBytes.{Appends, Keeps};
+ghost use Rattle.sd_exit.specs.Ending.{OnWriter};
+ghost use Rattle.sd_exit.specs.Texts.{Begins};
 ghost use Rattle.sd_script.specs.declared.line.Line.TheVariants as asked;
 ghost use Rattle.sd_script.specs.Texts.{answer_line};
 ghost use Rattle.sd_world.specs.Points.{StandsAt};
 ghost use Rattle.sd_world.specs.Promise.{Point};
+ghost use Rattle.sd_run.specs.Ending.{IsUnprinted};
 ghost use Rattle.sd_run.specs.Goes.{GoesOn};
 ghost use Rattle.sd_run.specs.Lines.{AnswersLine};
 ghost use Rattle.sd_run.specs.Promise.{RunsLine, Tells};
-ghost use Rattle.sd_run.specs.Whole.{AnswersSome, PrintsLines};
+ghost use Rattle.sd_run.specs.Whole.{PrintsLines, TellsSome};
 ghost use Rattle.sd_run.specs.Words.{AreGiven};
 
 use crate::driving::{do_job, drive, finish, make};
 use crate::page_words;
+use crate::printing::print_line;
 use crate::watch::Watch;
 use sd_areas::SpaceId;
 use sd_command::Reply;
 use sd_disk::Disk;
+use sd_exit::{Output, Stop};
 use sd_gate::Worker;
-use sd_script::{Answer, Line, print_answer};
+use sd_script::{Answer, Line};
 use sd_world::{Event, World};
 use std::alloc::Global;
-use std::io;
 use std::io::Write;
 
 /// The seat that a script's commands come from.
@@ -86,20 +90,35 @@ fn words<D: Disk>(
 ///
 /// # Errors
 ///
-/// Those of the writer. The line was answered.
-fn print_line<D: Disk, W: Write, S: Watch>(
+/// `Fault` where there is no room for the answer's text, and `Writer` where it was refused. The line was answered.
+fn answer_one<D: Disk, W: Write, S: Watch>(
     alloc: Global,
     world: &mut World<D>,
     line: Line,
-    out: &mut W,
+    buffer: &mut Vec<u8>,
+    out: &mut Output<W>,
     watch: &mut S,
-) -> io::Result<()>
+) -> Result<(), Stop>
+    // Its answer is printed, or a beginning of that.
     ensures printed { (given : Answer) × AnswersLine D.Disk line world.old given world.new
-        × OnOk result (Appends (W.contents out.old) (W.contents out.new) (answer_line given)) }
+        × OnOk result (Appends (W.contents out.old.writer) (W.contents out.new.writer) (answer_line given))
+        × Begins (W.contents out.old.writer) (W.contents out.new.writer) (answer_line given) }
     ensures goes_on { GoesOn D.Disk world.old world.new }
+    ensures stops { IfErr result IsUnprinted }
+    ensures writer { OnWriter result (out.new.refused ≡ true) }
 {
     let given = answer(alloc, world, line, watch);
-    print_answer(&given, out)?;
+    print_line(&given, buffer, out)?;
+    flush_acked(&given, out)
+}
+
+/// Flushes behind the answer of an acknowledged checkpoint.
+#[tactic(auto, using(crate::proofs::LineLemmas::stays))]
+fn flush_acked<W: Write>(given: &Answer, out: &mut Output<W>) -> Result<(), Stop>
+    ensures bytes { Keeps (W.contents out.old.writer) (W.contents out.new.writer) }
+    ensures stops { IfErr result IsUnprinted }
+    ensures writer { OnWriter result (out.new.refused ≡ true) }
+{
     if let Answer::Reply(Reply::Acked(_)) = given {
         out.flush()?;
     }
@@ -112,24 +131,25 @@ fn print_line<D: Disk, W: Write, S: Watch>(
 ///
 /// # Errors
 ///
-/// Those of the writer. The request was answered.
+/// `Fault` where there is no room for the answer's text, and `Writer` where it was refused. The request was answered.
 pub fn run_line<D: Disk, W: Write, S: Watch>(
     alloc: Global,
     world: &mut World<D>,
     line: Line,
-    out: &mut W,
+    out: &mut Output<W>,
     watch: &mut S,
-) -> io::Result<Answer>
+) -> Result<Answer, Stop>
     ensures answered { (given : Answer) × AnswersLine D.Disk line world.old given world.new
-        × IfOk result (Tells given (W.contents out.old) (W.contents out.new)) }
+        × IfOk result (Tells given (W.contents out.old.writer) (W.contents out.new.writer)) }
     ensures goes_on { GoesOn D.Disk world.old world.new }
     // The same of the line, its answer, what is printed and the disk alone, as in `run_lines`.
     ensures promise { D.is_honest world.new.disk → (first : Point D) → StandsAt world.old first
-        → RunsLine D.Disk line first world.new result (W.contents out.old) (W.contents out.new) }
+        → RunsLine D.Disk line first world.new result
+        (W.contents out.old.writer) (W.contents out.new.writer) }
 {
     world.points_follow();
     let told = answer(alloc, world, line, watch);
-    print_answer(&told, out)?;
+    print_line(&told, &mut Vec::new(alloc), out)?;
     out.flush()?;
     Ok(told)
 }
@@ -138,22 +158,26 @@ pub fn run_line<D: Disk, W: Write, S: Watch>(
 ///
 /// # Errors
 ///
-/// Those of the writer: no further line is answered.
+/// Those of the printing: no further line is answered.
 fn print_all<D: Disk, W: Write, S: Watch>(
     alloc: Global,
     world: &mut World<D>,
     lines: Vec<Line>,
-    out: &mut W,
+    buffer: &mut Vec<u8>,
+    out: &mut Output<W>,
     watch: &mut S,
-) -> io::Result<()>
-    ensures answered { AnswersSome D.Disk world.old lines.items world.new }
+) -> Result<(), Stop>
+    ensures told { OnErr result (TellsSome D.Disk world.old lines.items world.new
+        (W.contents out.old.writer) (W.contents out.new.writer)) }
     ensures printed { OnOk result (PrintsLines D.Disk world.old lines.items world.new
-        (W.contents out.old) (W.contents out.new)) }
+        (W.contents out.old.writer) (W.contents out.new.writer)) }
     ensures goes_on { GoesOn D.Disk world.old world.new }
+    ensures stops { IfErr result IsUnprinted }
+    ensures writer { OnWriter result (out.new.refused ≡ true) }
 {
     world.sound();
     for line in lines {
-        print_line(alloc, world, line, out, watch)?;
+        answer_one(alloc, world, line, buffer, out, watch)?;
     }
     Ok(())
 }
@@ -162,19 +186,23 @@ fn print_all<D: Disk, W: Write, S: Watch>(
 ///
 /// # Errors
 ///
-/// Those of the writer: no further line is answered.
+/// Those of the printing: no further line is answered.
 pub(crate) fn answer_all<D: Disk, W: Write, S: Watch>(
     alloc: Global,
     world: &mut World<D>,
     lines: Vec<Line>,
-    out: &mut W,
+    buffer: &mut Vec<u8>,
+    out: &mut Output<W>,
     watch: &mut S,
-) -> io::Result<()>
-    ensures answered { AnswersSome D.Disk world.old (asked.Reopen ∷ lines.items) world.new }
+) -> Result<(), Stop>
+    ensures told { TellsSome D.Disk world.old (asked.Reopen ∷ lines.items) world.new
+        (W.contents out.old.writer) (W.contents out.new.writer) }
     ensures printed { OnOk result (PrintsLines D.Disk world.old (asked.Reopen ∷ lines.items) world.new
-        (W.contents out.old) (W.contents out.new)) }
+        (W.contents out.old.writer) (W.contents out.new.writer)) }
     ensures goes_on { GoesOn D.Disk world.old world.new }
+    ensures stops { IfErr result IsUnprinted }
+    ensures writer { OnWriter result (out.new.refused ≡ true) }
 {
-    print_line(alloc, world, Line::Reopen, out, watch)?;
-    print_all(alloc, world, lines, out, watch)
+    answer_one(alloc, world, Line::Reopen, buffer, out, watch)?;
+    print_all(alloc, world, lines, buffer, out, watch)
 }

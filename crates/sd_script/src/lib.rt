@@ -2,7 +2,9 @@
 #![tactic(auto)]
 
 mod answer;
+mod blame;
 mod digits;
+mod forms;
 mod line;
 mod line_error;
 mod line_fault;
@@ -12,6 +14,8 @@ mod script_error;
 mod unfit;
 
 pub use answer::Answer;
+pub use blame::{Blame, Blank, blame_line};
+pub use forms::{Field, LINE_FORMS, LineForm, form_of};
 pub use line::Line;
 pub use line_fault::{FieldKind, LineFault};
 pub use print::print_answer;

@@ -1,3 +1,4 @@
 pub mod ByteLemmas
 pub mod PrintLemmas
+pub mod CountLemmas
 pub mod SlotLemmas

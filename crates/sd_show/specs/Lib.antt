@@ -1,4 +1,5 @@
 pub mod Slots
 pub mod Items
+pub mod Counts
 pub mod Phrases
 pub mod Texts

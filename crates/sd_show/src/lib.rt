@@ -2,6 +2,7 @@
 //! as it can be read, and the others follow.
 #![tactic(auto)]
 
+mod counts;
 mod device;
 mod digest;
 mod fields;
@@ -18,8 +19,10 @@ mod stop;
 mod table_text;
 mod text;
 
+pub use counts::{PageCounts, count_pages};
 pub use json::{show_slot_json, show_slots_json};
 pub use laws::damaged_or_image;
+pub use phrases::reason_phrase;
 pub use show::{show_slot, show_slots};
 pub use state::State;
 pub use stop::Stop;

@@ -5,7 +5,7 @@ ghost use Rattle.sd_show.specs.Phrases.{reason_phrase};
 use sd_image::Reason;
 
 /// A reason in words: what is so of the slot, and may not be.
-pub(crate) fn reason_phrase(reason: Reason) -> &'static str
+pub fn reason_phrase(reason: Reason) -> &'static str
     ensures { result.now ≡ reason_phrase reason }
 {
     match reason {

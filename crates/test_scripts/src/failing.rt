@@ -1,7 +1,8 @@
 //! Writers and devices that fail while a store is read.
 use crate::run::{CHAIN, FIRST, FIRST_SHOWN, fresh, printed};
 use sd_disk::{Disk, Fused};
-use sd_report::{Output, restore_to};
+use sd_exit::Output;
+use sd_report::restore_to;
 use sd_run::run_script;
 use std::alloc::Global;
 use std::io;
@@ -35,7 +36,7 @@ const LOADED: &str = "reopened 1\nbytes 68656c6c6f\nrefused 11 busy\n";
 fn status_behind(rt: &(impl Abort + AllocGlobal), left: usize) -> Result<u8, Fail> {
     let script = b"load 1 0x10000 5\nreopen\n";
     let disk = fresh(rt, FIRST)?;
-    let (_, status) = run_script(rt.alloc(), disk, script, &mut Failing { left });
+    let (_, status) = run_script(rt.alloc(), disk, script, &mut Output::new(Failing { left }));
     Ok(status)
 }
 
@@ -68,10 +69,18 @@ fn a_writer_that_fails_ends_the_restore(rt: HostRuntime) -> Result<(), Fail> {
     Ok(())
 }
 
-/// How many calls the programs make over a chain of two images in eight slots: each slot's length is read, of the
-/// two open ones the header and the table, and of the first its data page for its digest, before anything is
-/// printed; and of a restored memory its page, behind the lines of its area.
-const CALLS: [(&str, u64); 3] = [("restore", 14), ("list", 13), ("verify", 13)];
+/// How many calls the programs make over a chain of two images in eight slots before they print anything: each slot's
+/// length is read, and of the two open ones the front; and then again each length, of the open ones the header and the
+/// table, and of the first its data page for its digest.
+const SILENT_CALLS: u64 = 10 + 13;
+
+/// How many they make in all: of a restored memory also its page is read, behind the lines of its area; and at last again
+/// each length and front.
+const CALLS: [(&str, u64); 3] = [
+    ("restore", SILENT_CALLS + 1 + 10),
+    ("list", SILENT_CALLS + 10),
+    ("verify", SILENT_CALLS + 10),
+];
 
 /// What a program prints of the chain when a call behind so many fails, and its exit status.
 fn printed_behind(
@@ -83,7 +92,7 @@ fn printed_behind(
     Ok(printed(rt.alloc(), &mut disk, program))
 }
 
-/// Whether a program ends with the failure of its device, which stands alone but at the page of a restored memory.
+/// Whether a program ends with the failure of its device, which stands alone before anything is printed.
 fn ends_with_device(
     rt: &(impl Abort + AllocGlobal),
     program: &str,
@@ -91,7 +100,7 @@ fn ends_with_device(
 ) -> Result<bool, Fail> {
     let (out, status) = printed_behind(rt, program, call)?;
     let is_told = out.as_slice().ends_with("device\n".as_bytes());
-    Ok(status == 1 && is_told && (call == 13 || out.len() == 7))
+    Ok(status == 1 && is_told && (call >= SILENT_CALLS || out.len() == 7))
 }
 
 /// Each of so many calls of a program fails in turn; with one more nothing fails.

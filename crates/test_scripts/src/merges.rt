@@ -1,16 +1,17 @@
 //! Merges of the chain in a store, also where its device fails.
 use crate::run::{CHAIN, CHAIN_SHOWN, answers, fresh, is_printed};
 use sd_disk::{Disk, Fused, MemDisk};
-use sd_run::merge_to;
+use sd_exit::Output;
+use sd_run::{Unwatched, merge_to};
 use std::process::Abort;
 use std::str;
 use std::test::Fail;
 
 /// Merges a store, which prints this and ends with this status, and gives the disk back.
 fn merges<D: Disk>(rt: &(impl Abort + AllocGlobal), disk: D, printed: &str, status: u8) -> D {
-    let mut out = Vec::new(rt.alloc());
-    let (disk, ended) = merge_to(rt.alloc(), disk, &mut out);
-    assert_eq!(rt; str::from_utf8(&out).ok(), Some(printed));
+    let mut out = Output::new(Vec::new(rt.alloc()));
+    let (disk, ended) = merge_to(rt.alloc(), disk, &mut out, &mut Unwatched);
+    assert_eq!(rt; str::from_utf8(&out.into_writer()).ok(), Some(printed));
     assert_eq!(rt; ended, status);
     disk
 }
@@ -53,9 +54,9 @@ fn is_merged_afterwards(
     status: u8,
 ) -> Result<bool, Fail> {
     is_printed(rt, &mut disk, "restore", CHAIN_SHOWN);
-    let mut out = Vec::new(rt.alloc());
-    let (mut disk, ended) = merge_to(rt.alloc(), disk, &mut out);
-    assert_eq!(rt; ended, 0, "{:?}", str::from_utf8(&out).ok());
+    let mut out = Output::new(Vec::new(rt.alloc()));
+    let (mut disk, ended) = merge_to(rt.alloc(), disk, &mut out, &mut Unwatched);
+    assert_eq!(rt; ended, 0, "{:?}", str::from_utf8(&out.into_writer()).ok());
     is_printed(rt, &mut disk, "restore", CHAIN_SHOWN);
     Ok(status == 0)
 }
@@ -73,8 +74,8 @@ fn merges_past_failure(
     } else {
         Fused::new(chain, call)
     };
-    let mut out = Vec::new(rt.alloc());
-    let (disk, status) = merge_to(rt.alloc(), disk, &mut out);
+    let mut out = Output::new(Vec::new(rt.alloc()));
+    let (disk, status) = merge_to(rt.alloc(), disk, &mut out, &mut Unwatched);
     is_merged_afterwards(rt, disk.into_inner(), status)
 }
 

@@ -1,6 +1,7 @@
 //! Runs of scripts, and what is printed of the stores that they leave.
 use sd_disk::{DirDisk, Disk, Folder, MemDisk, OpenError};
-use sd_report::{Output, list_to, restore_to, verify_to};
+use sd_exit::Output;
+use sd_report::{list_to, restore_to, verify_to};
 use sd_run::run_script;
 use std::alloc::{AllocError, Global};
 use std::process::{self, Abort};
@@ -93,9 +94,13 @@ pub(crate) fn prints<D: Disk>(
     printed: &str,
     status: u8,
 ) -> D {
-    let mut out = Vec::new(rt.alloc());
+    let mut out = Output::new(Vec::new(rt.alloc()));
     let (disk, ended) = run_script(rt.alloc(), disk, script.as_bytes(), &mut out);
-    assert_eq!(rt; str::from_utf8(&out).ok(), Some(printed), "at {script:?}");
+    assert_eq!(rt;
+        str::from_utf8(&out.into_writer()).ok(),
+        Some(printed),
+        "at {script:?}"
+    );
     assert_eq!(rt; ended, status, "at {script:?}");
     disk
 }

@@ -1,6 +1,6 @@
 use Rattle.std.proofs.Common.{◌≡◌, ◌++◌, codes, OnOk, subst, ap, ◌∙◌}
 use Rattle.std.specs.Fmt.{styled_decimal}
-use Rattle.sd_report.proofs.ListingLemmas.{slot_padded}
+use Rattle.sd_exit.proofs.SlotLemmas.{slot_padded}
 use Rattle.sd_report.proofs.listing.push_slot.Goals as goal
 
 pub returns : goal.returns

@@ -11,5 +11,5 @@ returns-in_err-print_in_space-clause-begins g c = λ honest.
     let p = err_from_is_err_and c.from_residual.result c.from_residual.ensures.1 in
     rw (p.1, p.2)
     (space_broken contents c.args.space c.args.runs.now c.loop-run.run-index c.run-item.result c.loop-run-test.true c.run-item.is (Err c.in_err-print_in_space.field-0.0)
-    (g.W.Write.contents c.args.out.now) (g.W.Write.contents c.loop-run.out) (g.W.Write.contents c.print_in_space.new.out)
+    (g.W.Write.contents c.args.out.now.writer) (g.W.Write.contents c.loop-run.out.writer) (g.W.Write.contents c.print_in_space.new.out.writer)
     (was.printed (now.reads.honest honest)) (rw was.reads.same at (now.begins honest)))

@@ -9,6 +9,6 @@ use Rattle.sd_report.proofs.restore.print_pages.Given as goal
 abbrev pub invariant-loop-run : goal.invariant-loop-run
 invariant-loop-run g l = record {
   reads : OnlyReads g.D.Disk l.fn.disk l.disk;
-  printed : g.D.Disk.is_honest l.disk → Appends (g.W.Write.contents l.fn.out) (g.W.Write.contents l.out)
+  printed : g.D.Disk.is_honest l.disk → Appends (g.W.Write.contents l.fn.out.writer) (g.W.Write.contents l.out.writer)
       (placed_lines (g.D.Disk.contents l.fn.disk) l.space (placed_pages (take l.run-index l.runs)));
 }

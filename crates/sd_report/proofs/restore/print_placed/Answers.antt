@@ -11,7 +11,8 @@ use Rattle.sd_image.specs.Table.{Listed, listing_of}
 use Rattle.sd_restore.specs.Placed.{PlacedPage, placed_pages}
 use Rattle.sd_restore.proofs.TakeLemmas.{taken, taken_all}
 use Rattle.std.proofs.lemmas.Result.{err_from_is_err_and}
-use Rattle.sd_report.proofs.BreakLemmas.{always_on_fault, begun, checkpoint_line, memory_broken}
+use Rattle.sd_report.proofs.BreakLemmas.{begun, checkpoint_line, memory_broken}
+use Rattle.sd_exit.proofs.EndingLemmas.{always_on_fault}
 use Rattle.sd_report.specs.Texts.{placed_memory_text, placed_space_text}
 use Rattle.sd_report.proofs.restore.print_placed.Goals as goal
 
@@ -32,9 +33,9 @@ loop-space-preserved g c =
     let i : ℕ = c.loop-space.space-index in
     let s = c.space-item.result in
     let pages = placed_pages placed.runs.items in
-    let from = g.W.Write.contents c.args.out.now in
-    let mid = g.W.Write.contents c.loop-space.out in
-    let to = g.W.Write.contents c.print_space.new.out in
+    let from = g.W.Write.contents c.args.out.now.writer in
+    let mid = g.W.Write.contents c.loop-space.out.writer in
+    let to = g.W.Write.contents c.print_space.new.out.writer in
     let more : map listing_of (take (i + 1) items) ≡ map listing_of (take i items) ++ listing_of s ∷ [] =
     ap (map listing_of) (taken items i s c.loop-space-test.true c.space-item.is) ∙ map-append listing_of (take i items) (s ∷ []) in
     record {
@@ -50,7 +51,7 @@ pub returns-clause-text : goal.returns-clause-text
 returns-clause-text g c = λ honest.
     let placed = c.args.placed.now in
     let items : List SpaceTable = placed.spaces.now in
-    subst (λ spaces. Appends (g.W.Write.contents c.args.out.now) (g.W.Write.contents c.loop-space.out)
+    subst (λ spaces. Appends (g.W.Write.contents c.args.out.now.writer) (g.W.Write.contents c.loop-space.out.writer)
     (placed_memory_text (g.D.Disk.contents c.args.disk.now) placed.checkpoint (map listing_of spaces) (placed_pages placed.runs.items)))
     (taken_all items c.loop-space.space-index c.loop-space-test.false) (c.loop-space.invariant.printed honest)
 
@@ -60,7 +61,7 @@ returns-in_err-buffer-clause-begins g c = λ honest.
     let number : List ℕ = decimal placed.checkpoint in
     let rest : List ℕ = flat_map (placed_space_text (g.D.Disk.contents c.args.disk.now) (placed_pages placed.runs.items)) (map listing_of placed.spaces.now) in
     always_on_fault c.from_residual-in_err-buffer.result
-    (begun (g.W.Write.contents c.args.out.now) (g.W.Write.contents c.writeln.new.self) (codes "checkpoint " ++ (number ++ 10 ∷ [])) rest
+    (begun (g.W.Write.contents c.args.out.now.writer) (g.W.Write.contents c.writeln.new.self.writer) (codes "checkpoint " ++ (number ++ 10 ∷ [])) rest
     (codes "checkpoint " ++ number ++ 10 ∷ [] ++ rest) (checkpoint_line number rest) c.in_ok-writeln.ensures.bytes)
 
 pub returns-in_err-print_space-clause-begins : goal.returns-in_err-print_space-clause-begins
@@ -73,5 +74,5 @@ returns-in_err-print_space-clause-begins g c = λ honest.
     let p = err_from_is_err_and c.from_residual-in_err-print_space.result c.from_residual-in_err-print_space.ensures.1 in
     rw (p.1, p.2)
     (memory_broken contents placed.checkpoint items (placed_pages placed.runs.items) c.loop-space.space-index c.space-item.result c.loop-space-test.true c.space-item.is (Err c.in_err-print_space.field-0.0)
-    (g.W.Write.contents c.args.out.now) (g.W.Write.contents c.loop-space.out) (g.W.Write.contents c.print_space.new.out)
+    (g.W.Write.contents c.args.out.now.writer) (g.W.Write.contents c.loop-space.out.writer) (g.W.Write.contents c.print_space.new.out.writer)
     (was.printed (now.reads.honest honest)) (rw (c.deref.ensures.value, was.reads.same) at (now.begins honest)))

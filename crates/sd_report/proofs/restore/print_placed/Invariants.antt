@@ -10,6 +10,6 @@ use Rattle.sd_report.proofs.restore.print_placed.Given as goal
 abbrev pub invariant-loop-space : goal.invariant-loop-space
 invariant-loop-space g l = record {
   reads : OnlyReads g.D.Disk l.fn.disk l.disk;
-  printed : g.D.Disk.is_honest l.disk → Appends (g.W.Write.contents l.fn.out) (g.W.Write.contents l.out)
+  printed : g.D.Disk.is_honest l.disk → Appends (g.W.Write.contents l.fn.out.writer) (g.W.Write.contents l.out.writer)
       (placed_memory_text (g.D.Disk.contents l.fn.disk) l.placed.checkpoint (map listing_of (take l.space-index l.placed.spaces.now)) (placed_pages l.placed.runs.items));
 }

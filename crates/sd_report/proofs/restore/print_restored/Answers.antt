@@ -8,8 +8,8 @@ use Rattle.std.specs.Io.KnownBytes.{Appends}
 use Rattle.sd_image.specs.Table.{listing_of}
 use Rattle.sd_restore.specs.Placed.{placed_pages}
 use Rattle.sd_report.specs.Texts.{placed_memory_text}
-use Rattle.sd_report.specs.Printed.{Begins}
-use Rattle.sd_report.proofs.BreakLemmas.{on_fault}
+use Rattle.sd_exit.specs.Texts.{Begins}
+use Rattle.sd_exit.proofs.EndingLemmas.{on_fault}
 use Rattle.sd_report.proofs.MemoryTexts.{prints_memory}
 use Rattle.sd_report.proofs.EndingLemmas.{on_ok}
 use Rattle.sd_report.proofs.restore.print_restored.Goals as goal
@@ -34,8 +34,8 @@ returns-clause-text g c = λ honest.
     let scanned = c.print_placed.ensures.reads.honest honest in
     let catalog : IsCatalogOf contents c.in_ok-catalog.catalog = c.in_ok-catalog.ensures.catalog scanned in
     let same : g.D.Disk.contents c.scan.new.disk ≡ contents = c.in_ok-catalog.ensures.reads.same in
-    let from = g.W.Write.contents c.args.out.now in
-    let to = g.W.Write.contents c.print_placed.new.out in
+    let from = g.W.Write.contents c.args.out.now.writer in
+    let to = g.W.Write.contents c.print_placed.new.out.writer in
     let spaces = map listing_of placed.spaces.now in
     let pages = placed_pages placed.runs.items in
     on_ok_weaker c.print_placed.result
@@ -50,8 +50,8 @@ returns-clause-begins g c = λ honest.
     let scanned = c.print_placed.ensures.reads.honest honest in
     let catalog : IsCatalogOf contents c.in_ok-catalog.catalog = c.in_ok-catalog.ensures.catalog scanned in
     let same : g.D.Disk.contents c.scan.new.disk ≡ contents = c.in_ok-catalog.ensures.reads.same in
-    let from = g.W.Write.contents c.args.out.now in
-    let to = g.W.Write.contents c.print_placed.new.out in
+    let from = g.W.Write.contents c.args.out.now.writer in
+    let to = g.W.Write.contents c.print_placed.new.out.writer in
     let spaces = map listing_of placed.spaces.now in
     let pages = placed_pages placed.runs.items in
     let text : List ℕ = placed_memory_text contents placed.checkpoint spaces pages in

@@ -15,7 +15,7 @@ loop-done-init g c = record {
   few = omega arith;
   reads = nothing_read g.D.Disk c.args.disk.now;
   printed = λ honest.
-      let from = g.W.Write.contents c.args.out.now in
+      let from = g.W.Write.contents c.args.out.now.writer in
       subst (Appends from from) (sym (none_of_run (g.D.Disk.contents c.args.disk.now) c.args.run.now)) (Appends-nil from);
 }
 
@@ -27,9 +27,9 @@ loop-done-preserved g c =
     let run = c.args.run.now in
     let done : ℕ = c.loop-done.done in
     let count : ℕ = c.min-count.result in
-    let from = g.W.Write.contents c.args.out.now in
-    let mid = g.W.Write.contents c.loop-done.out in
-    let to = g.W.Write.contents c.print_some.new.out in
+    let from = g.W.Write.contents c.args.out.now.writer in
+    let mid = g.W.Write.contents c.loop-done.out.writer in
+    let to = g.W.Write.contents c.print_some.new.out.writer in
     record {
       few = let least = c.min-count.ensures in let left = c.loop-done-test.true in omega (arith, least, left);
       reads = reads_join g.D.Disk c.args.disk.now c.loop-done.disk c.print_some.new.disk was.reads now.reads;
@@ -47,9 +47,9 @@ returns-in_err-print_some-clause-begins g c = λ honest.
     let run = c.args.run.now in
     let done : ℕ = c.loop-done.done in
     let count : ℕ = c.min-count.result in
-    let from = g.W.Write.contents c.args.out.now in
-    let mid = g.W.Write.contents c.loop-done.out in
-    let to = g.W.Write.contents c.print_some.new.out in
+    let from = g.W.Write.contents c.args.out.now.writer in
+    let mid = g.W.Write.contents c.loop-done.out.writer in
+    let to = g.W.Write.contents c.print_some.new.out.writer in
     let p = err_from_is_err_and c.from_residual.result c.from_residual.ensures.1 in
     rw (p.1, p.2)
     (run_broken contents run done count (Err c.in_err-print_some.field-0.0) from mid to (let least = c.min-count.ensures in let left = c.loop-done-test.true in omega (arith, least, left))

@@ -11,7 +11,7 @@ abbrev pub invariant-loop-done : goal.invariant-loop-done
 invariant-loop-done g l = record {
   few : l.done ≤ l.run.count;
   reads : OnlyReads g.D.Disk l.fn.disk l.disk;
-  printed : g.D.Disk.is_honest l.disk → Appends (g.W.Write.contents l.fn.out) (g.W.Write.contents l.out)
+  printed : g.D.Disk.is_honest l.disk → Appends (g.W.Write.contents l.fn.out.writer) (g.W.Write.contents l.out.writer)
       (flat_map (placed_text (g.D.Disk.contents l.fn.disk)) (first_pages l.run l.done));
 }
 

@@ -15,8 +15,8 @@ returns-clause-text g c = λ honest.
     let room = c.requires.room in
     let same = c.read_placed_pages.auto.bytes in
     let count : length bytes / 4096 ≡ c.args.count = omega (arith, room, same) in
-    subst (Appends (g.W.Write.contents c.args.out.now) (g.W.Write.contents c.print_read.new.out))
+    subst (Appends (g.W.Write.contents c.args.out.now.writer) (g.W.Write.contents c.print_read.new.out.writer))
     (ap (pages_text first bytes) count
     ∙ read_pages_text contents run c.args.behind c.args.count first bytes (ap (λ n. n + c.args.behind) c.number.ensures.value)
     (λ k less. c.in_ok-read_placed_pages.ensures.bytes honest k (omega (arith, room, less)) ∙ ap (λ there. bytes_at contents (found_on there k)) c.place.ensures.place))
-    c.in_ok-print_read.ensures
+    c.in_ok-print_read.ensures.text

@@ -6,7 +6,8 @@ use Rattle.std.proofs.KnownBytes.{Appends-trans}
 use Rattle.sd_procfs.specs.Listing.{area_line}
 use Rattle.sd_restore.specs.Placed.{placed_pages}
 use Rattle.sd_report.specs.Texts.{placed_lines}
-use Rattle.sd_report.proofs.BreakLemmas.{always_on_fault, begun, broken_off, space_and_areas, space_line}
+use Rattle.sd_report.proofs.BreakLemmas.{begun, broken_off, space_and_areas, space_line}
+use Rattle.sd_exit.proofs.EndingLemmas.{always_on_fault}
 use Rattle.sd_report.proofs.restore.print_space.Goals as goal
 
 pub returns-in_err-areas_text-clause-begins : goal.returns-in_err-areas_text-clause-begins
@@ -14,8 +15,8 @@ returns-in_err-areas_text-clause-begins g c = λ honest.
     let number : List ℕ = decimal c.args.space.now.space in
     let areas : List ℕ = flat_map area_line c.args.space.now.areas.items in
     let lines : List ℕ = placed_lines (g.D.Disk.contents c.args.disk.now) c.args.space.now.space (placed_pages c.args.runs.now) in
-    let from = g.W.Write.contents c.args.out.now in
-    let first = g.W.Write.contents c.writeln.new.self in
+    let from = g.W.Write.contents c.args.out.now.writer in
+    let first = g.W.Write.contents c.writeln.new.self.writer in
     let line : Appends from first (codes "space " ++ (number ++ 10 ∷ [])) =
     subst (λ n. Appends from first (codes "space " ++ (decimal n ++ 10 ∷ []))) c.number.ensures c.in_ok-writeln.ensures.bytes in
     always_on_fault c.from_residual-in_err-areas_text.result
@@ -27,10 +28,10 @@ returns-clause-begins g c = λ honest.
     let number : List ℕ = decimal c.args.space.now.space in
     let areas : List ℕ = flat_map area_line c.args.space.now.areas.items in
     let lines : List ℕ = placed_lines (g.D.Disk.contents c.args.disk.now) c.args.space.now.space (placed_pages c.args.runs.now) in
-    let from = g.W.Write.contents c.args.out.now in
-    let first = g.W.Write.contents c.writeln.new.self in
-    let mid = g.W.Write.contents c.write_all.new.self in
-    let to = g.W.Write.contents c.print_pages.new.out in
+    let from = g.W.Write.contents c.args.out.now.writer in
+    let first = g.W.Write.contents c.writeln.new.self.writer in
+    let mid = g.W.Write.contents c.write_all.new.self.writer in
+    let to = g.W.Write.contents c.print_pages.new.out.writer in
     let line : Appends from first (codes "space " ++ (number ++ 10 ∷ [])) =
     subst (λ n. Appends from first (codes "space " ++ (decimal n ++ 10 ∷ []))) c.number.ensures c.in_ok-writeln.ensures.bytes in
     let listed : c.as_bytes.result.now ≡ areas = search rules in

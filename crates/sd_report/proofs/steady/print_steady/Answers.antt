@@ -1,4 +1,4 @@
-use Rattle.std.proofs.Common.{◌≡◌, ◌≢◌, List, ℕ, Err, ap, sym, ◌∙◌, subst}
+use Rattle.std.proofs.Common.{◌≡◌, ◌≢◌, List, ℕ, Err, ap, refl, sym, ◌∙◌, subst}
 use Rattle.std.proofs.lemmas.Result.{err_from_is_err_and}
 use Rattle.sd_restore.specs.declared.fault.Fault.{Fault}
 use Rattle.sd_restore.specs.declared.fault.Fault.TheVariants.{EmptyChain, Device}
@@ -14,9 +14,9 @@ pub returns-in_err-fronts-clause-store : goal.returns-in_err-fronts-clause-store
 returns-in_err-fronts-clause-store g c =
     let by = c.args.reader in
     let contents : List (List ℕ) = g.D.Disk.contents c.args.disk.now in
-    let from = g.W.Write.contents c.args.out.now in
+    let from = g.W.Write.contents c.args.out.now.writer in
     let done = c.print_by-ended in
-    let to = g.W.Write.contents done.new.out in
+    let to = g.W.Write.contents done.new.out.writer in
     let now = c.in_err-fronts.ensures in
     let before = g.D.Disk.is_honest done.new.disk in
     let honest = g.D.Disk.is_honest c.fronts-2.new.disk in
@@ -32,11 +32,11 @@ pub returns-clause-store : goal.returns-clause-store
 returns-clause-store g c =
     let by = c.args.reader in
     let contents : List (List ℕ) = g.D.Disk.contents c.args.disk.now in
-    let from = g.W.Write.contents c.args.out.now in
+    let from = g.W.Write.contents c.args.out.now.writer in
     let done = c.print_by-ended in
-    let to = g.W.Write.contents done.new.out in
+    let to = g.W.Write.contents done.new.out.writer in
     let before = g.D.Disk.is_honest done.new.disk in
     let honest = g.D.Disk.is_honest c.fronts-2.new.disk in
-    faulty_behind by contents honest done.result Device from to (sym c.writer_failed.ensures ∙ c.if-writer_failed.false) (record {}) some_device
+    faulty_behind by contents honest done.result Device from to (sym c.writer_failed.ensures ∙ c.if-writer_failed.false) refl some_device
     (longer_honest by contents before honest done.result from to c.in_ok-fronts.ensures.reads.honest
     (subst (λ files. ReadsStore by before files done.result from to) c.in_ok-before.ensures.reads.same done.ensures.store))

@@ -32,6 +32,6 @@ of_checkpoint contents before after checkpoint images (Some moment) shows is cou
 pub returns-in_ok-writeln-in-Some-clause-text : goal.returns-in_ok-writeln-in-Some-clause-text
 returns-in_ok-writeln-in-Some-clause-text g c = λ honest.
     let shown = c.in_ok-report.ensures.shown honest in
-    of_checkpoint (g.D.Disk.contents c.args.disk.now) (g.W.Write.contents c.args.out.now) (g.W.Write.contents c.writeln.new.self) c.in-Some.checkpoint c.in_ok-report.report.images
+    of_checkpoint (g.D.Disk.contents c.args.disk.now) (g.W.Write.contents c.args.out.now.writer) (g.W.Write.contents c.writeln.new.self.writer) c.in-Some.checkpoint c.in_ok-report.report.images
     shown.0 shown.1 (sym c.in-Some.is ∙ shown.2) (c.in_ok-report.ensures.images honest)
-    (subst (Appends (g.W.Write.contents c.args.out.now) (g.W.Write.contents c.writeln.new.self)) (joined (decimal c.in-Some.checkpoint) (decimal c.in_ok-report.report.images)) c.in_ok-writeln-in-Some.ensures.bytes)
+    (subst (Appends (g.W.Write.contents c.args.out.now.writer) (g.W.Write.contents c.writeln.new.self.writer)) (joined (decimal c.in-Some.checkpoint) (decimal c.in_ok-report.report.images)) c.in_ok-writeln-in-Some.ensures.bytes)

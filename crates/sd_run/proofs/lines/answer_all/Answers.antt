@@ -1,55 +1,64 @@
 -- The opening, and then the lines.
-use Rattle.std.proofs.Common.{[], ◌∷◌, refl, ap}
+use Rattle.std.proofs.Common.{[], ◌∷◌, refl, ap, inr}
 use Rattle.std.specs.List.{flat_map}
-use Rattle.std.proofs.KnownBytes.{Appends-trans}
+use Rattle.std.proofs.KnownBytes.{Appends-nil, Appends-trans}
 use Rattle.sd_script.specs.declared.line.Line.TheVariants as asked
 use Rattle.sd_script.specs.Texts.{answer_line}
 use Rattle.sd_run.specs.Whole.{PrintsLines}
 use Rattle.sd_run.proofs.GoesLemmas.{goes_further}
-use Rattle.sd_run.proofs.LineLemmas.{then_on_ok}
+use Rattle.sd_run.proofs.LineLemmas.{broken_off, tells_anyway, then_on_ok, told_behind}
 use Rattle.sd_run.proofs.lines.answer_all.Goals as goal
 
-pub returns-in_err-print_line-clause-answered : goal.returns-in_err-print_line-clause-answered
-returns-in_err-print_line-clause-answered g c =
-    let one = c.print_line.ensures.printed in
+pub returns-in_err-answer_one-clause-told : goal.returns-in_err-answer_one-clause-told
+returns-in_err-answer_one-clause-told g c =
+    let from = g.W.Write.contents c.args.out.now.writer in
+    let one = c.answer_one.ensures.printed in
     record {
-      done = asked.Reopen ∷ [];
-      rest = c.args.lines.items;
-      parts = refl;
-      answers = one.0 ∷ [];
-      answered = (c.print_line.new.world, one.1, refl);
+      some = record {
+        done = asked.Reopen ∷ [];
+        rest = c.args.lines.items;
+        parts = refl;
+        answers = one.0 ∷ [];
+        answered = (c.answer_one.new.world, one.1, refl);
+      };
+      told = inr (broken_off from from (g.W.Write.contents c.answer_one.new.out.writer) [] one.0 (Appends-nil from) one.3);
     }
 
-pub returns-clause-answered : goal.returns-clause-answered
-returns-clause-answered g c =
-    let one = c.print_line.ensures.printed in
-    let others = c.print_all.ensures.answered in
+pub returns-clause-told : goal.returns-clause-told
+returns-clause-told g c =
+    let one = c.in_ok-answer_one.ensures.printed in
+    let others = tells_anyway g.D.Disk c.answer_one.new.world c.print_all.new.world c.args.lines.items (g.W.Write.contents c.answer_one.new.out.writer)
+    (g.W.Write.contents c.print_all.new.out.writer) c.print_all.result c.print_all.ensures.told c.print_all.ensures.printed in
     record {
-      done = asked.Reopen ∷ others.done;
-      rest = others.rest;
-      parts = ap (λ lines. asked.Reopen ∷ lines) others.parts;
-      answers = one.0 ∷ others.answers;
-      answered = (c.print_line.new.world, one.1, others.answered);
+      some = record {
+        done = asked.Reopen ∷ others.some.done;
+        rest = others.some.rest;
+        parts = ap (λ lines. asked.Reopen ∷ lines) others.some.parts;
+        answers = one.0 ∷ others.some.answers;
+        answered = (c.answer_one.new.world, one.1, others.some.answered);
+      };
+      told = told_behind (g.W.Write.contents c.args.out.now.writer) (g.W.Write.contents c.answer_one.new.out.writer) (g.W.Write.contents c.print_all.new.out.writer)
+          one.0 others.some.answers one.2 others.told;
     }
 
 pub returns-clause-printed : goal.returns-clause-printed
 returns-clause-printed g c =
     let first = c.args.world.now in
-    let mid = c.print_line.new.world in
+    let mid = c.answer_one.new.world in
     let last = c.print_all.new.world in
-    let from = g.W.Write.contents c.args.out.now in
-    let at = g.W.Write.contents c.print_line.new.out in
-    let to = g.W.Write.contents c.print_all.new.out in
+    let from = g.W.Write.contents c.args.out.now.writer in
+    let at = g.W.Write.contents c.answer_one.new.out.writer in
+    let to = g.W.Write.contents c.print_all.new.out.writer in
     let lines = c.args.lines.items in
-    let (given, answered, printed) = c.in_ok-print_line.ensures.printed in
+    let one = c.in_ok-answer_one.ensures.printed in
     then_on_ok c.print_all.result (PrintsLines g.D.Disk mid lines last at to) (PrintsLines g.D.Disk first (asked.Reopen ∷ lines) last from to)
     (λ others. record {
-      answers = given ∷ others.answers;
-      answered = (mid, answered, others.answered);
-      printed = Appends-trans from at to (answer_line given) (flat_map answer_line others.answers) printed others.printed;
+      answers = one.0 ∷ others.answers;
+      answered = (mid, one.1, others.answered);
+      printed = Appends-trans from at to (answer_line one.0) (flat_map answer_line others.answers) one.2 others.printed;
     })
     c.print_all.ensures.printed
 
 pub returns-clause-goes_on : goal.returns-clause-goes_on
-returns-clause-goes_on g c = goes_further g.D.Disk c.args.world.now c.print_line.new.world c.print_all.new.world
-    c.print_line.ensures.goes_on c.print_all.ensures.goes_on
+returns-clause-goes_on g c = goes_further g.D.Disk c.args.world.now c.answer_one.new.world c.print_all.new.world
+    c.answer_one.ensures.goes_on c.print_all.ensures.goes_on

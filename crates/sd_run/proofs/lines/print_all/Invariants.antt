@@ -12,6 +12,6 @@ abbrev pub invariant-loop-line : goal.invariant-loop-line
 invariant-loop-line g l = record {
   answers : List Answer;
   answered : AnswersLines g.D.Disk l.fn.world l.yielded answers l.world;
-  printed : Appends (g.W.Write.contents l.fn.out) (g.W.Write.contents l.out) (flat_map answer_line answers);
+  printed : Appends (g.W.Write.contents l.fn.out.writer) (g.W.Write.contents l.out.writer) (flat_map answer_line answers);
   goes_on : GoesOn g.D.Disk l.fn.world l.world;
 }

@@ -4,22 +4,22 @@ use Rattle.sd_run.specs.Promise.{Tells}
 use Rattle.sd_run.proofs.PromiseLemmas.{runs_line}
 use Rattle.sd_run.proofs.lines.run_line.Goals as goal
 
-pub returns-in_err-print_answer-clause-promise : goal.returns-in_err-print_answer-clause-promise
-returns-in_err-print_answer-clause-promise g c = λ honest first stands.
-    let told : IfOk c.from_residual.result (Tells c.answer-told.result (g.W.Write.contents c.args.out.now) (g.W.Write.contents c.print_answer.new.out)) = search rules in
+pub returns-in_err-print_line-clause-promise : goal.returns-in_err-print_line-clause-promise
+returns-in_err-print_line-clause-promise g c = λ honest first stands.
+    let told : IfOk c.from_residual.result (Tells c.answer-told.result (g.W.Write.contents c.args.out.now.writer) (g.W.Write.contents c.print_line.new.out.writer)) = search rules in
     runs_line g.D.Disk c.points_follow.ensures c.args.line c.args.world.now c.answer-told.new.world c.answer-told.result c.from_residual.result
-    (g.W.Write.contents c.args.out.now) (g.W.Write.contents c.print_answer.new.out) c.answer-told.ensures.answered told honest first stands
+    (g.W.Write.contents c.args.out.now.writer) (g.W.Write.contents c.print_line.new.out.writer) c.answer-told.ensures.answered told honest first stands
 
 pub returns-in_err-flush-clause-promise : goal.returns-in_err-flush-clause-promise
 returns-in_err-flush-clause-promise g c = λ honest first stands.
-    let told : IfOk c.from_residual-in_err-flush.result (Tells c.answer-told.result (g.W.Write.contents c.args.out.now) (g.W.Write.contents c.flush.new.self)) = search rules in
+    let told : IfOk c.from_residual-in_err-flush.result (Tells c.answer-told.result (g.W.Write.contents c.args.out.now.writer) (g.W.Write.contents c.flush.new.self.writer)) = search rules in
     runs_line g.D.Disk c.points_follow.ensures c.args.line c.args.world.now c.answer-told.new.world c.answer-told.result c.from_residual-in_err-flush.result
-    (g.W.Write.contents c.args.out.now) (g.W.Write.contents c.flush.new.self) c.answer-told.ensures.answered told honest first stands
+    (g.W.Write.contents c.args.out.now.writer) (g.W.Write.contents c.flush.new.self.writer) c.answer-told.ensures.answered told honest first stands
 
 pub returns-clause-promise : goal.returns-clause-promise
 returns-clause-promise g c = λ honest first stands.
-    let from = g.W.Write.contents c.args.out.now in
-    let to = g.W.Write.contents c.flush.new.self in
+    let from = g.W.Write.contents c.args.out.now.writer in
+    let to = g.W.Write.contents c.flush.new.self.writer in
     let told : Tells c.answer-told.result from to c.answer-told.result = search rules in
     runs_line g.D.Disk c.points_follow.ensures c.args.line c.args.world.now c.answer-told.new.world c.answer-told.result (Ok c.answer-told.result)
     from to c.answer-told.ensures.answered told honest first stands

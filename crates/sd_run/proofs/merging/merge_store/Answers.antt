@@ -1,15 +1,17 @@
-use Rattle.std.proofs.Common.{◌≡◌, ℕ, subst}
+use Rattle.std.proofs.Common.{◌≡◌, ◌∙◌, ℕ, Err, ap, refl, subst}
 use Rattle.std.specs.Io.KnownBytes.{Appends}
 use Rattle.sd_command.specs.declared.reply.Reply.TheVariants.{Merged}
 use Rattle.sd_script.specs.Texts.{reply_line}
 use Rattle.sd_run.specs.Merging.{IsLeftByMerge, IsMergeRun, IsWholeMerge, PrintsMerge}
+use Rattle.sd_exit.specs.Ending.{status_of}
+use Rattle.sd_run.proofs.EndLemmas.{ends_with_one, merged_is_no_fault, opening_is_told, unopened_is_one}
 use Rattle.sd_run.proofs.LineLemmas.{then_on_ok}
 use Rattle.sd_run.proofs.merging.merge_store.Goals as goal
 
 pub returns-in-Ok-clause-merged : goal.returns-in-Ok-clause-merged
 returns-in-Ok-clause-merged g c =
-    let from = g.W.Write.contents c.args.out.now in
-    let to = g.W.Write.contents c.told-ended.new.out in
+    let from = g.W.Write.contents c.args.out.now.writer in
+    let to = g.W.Write.contents c.told-ended.new.out.writer in
     let new = c.close.result in
     let run : IsMergeRun g.D.Disk c.args.disk c.merge_tip-reply.result new = record {
       opened = c.in-Ok.world;
@@ -85,3 +87,19 @@ returns-in-Ok-clause-left g c = IsLeftByMerge.run c.merge_tip-reply.result (reco
   };
   merges = c.merge_tip-reply.ensures.merges;
 })
+
+pub returns-in-Ok-clause-fault : goal.returns-in-Ok-clause-fault
+returns-in-Ok-clause-fault g c = λ why is honest.
+    merged_is_no_fault (g.D.Disk.contents c.args.disk) (g.D.Disk.failed c.args.disk) (g.D.Disk.failed c.close.result) c.told-ended.result why c.told-ended.ensures.stops is
+
+pub returns-in-Err-clause-fault : goal.returns-in-Err-clause-fault
+returns-in-Err-clause-fault g c = λ why is honest.
+    let met = c.in-Err.field-0 in
+    opening_is_told (g.D.Disk.contents c.args.disk) (g.D.Disk.failed c.args.disk) (g.D.Disk.failed met.disk) met.fault why c.unopened.result (Err c.unopened.result) c.unopened.ensures refl is
+    (c.in-Err.ensures.fault honest)
+
+pub returns-in-Ok-clause-stopped : goal.returns-in-Ok-clause-stopped
+returns-in-Ok-clause-stopped g c = ends_with_one c.told-ended.result c.told-ended.ensures.stops
+
+pub returns-in-Err-clause-stopped : goal.returns-in-Err-clause-stopped
+returns-in-Err-clause-stopped g c = ap status_of c.unopened.ensures ∙ unopened_is_one c.in-Err.field-0.fault

@@ -1,34 +1,38 @@
 -- What is left of the disk, and what was printed.
+use Rattle.std.proofs.Common.{◌∷◌, Err, inl, inr, refl}
+use Rattle.sd_disk.specs.Reads.{nothing_read}
+use Rattle.sd_exit.specs.declared.stop.Stop.TheVariants as stop
+use Rattle.sd_restore.specs.declared.fault.Fault.TheVariants as fault
 use Rattle.sd_script.specs.declared.line.Line.TheVariants as asked
-use Rattle.std.proofs.Common.{◌∷◌, inl}
 use Rattle.sd_run.specs.Promise.{Promise}
-use Rattle.sd_run.specs.Whole.{IsLeft, IsWholeRun, PrintsLines}
-use Rattle.sd_run.proofs.LineLemmas.{on_ok_through, then_on_ok}
-use Rattle.sd_run.proofs.PromiseLemmas.{left_so_far, promise_of}
+use Rattle.sd_run.specs.Whole.{IsLeft, IsPartOfRun, IsWholeRun, PrintsLines}
+use Rattle.sd_run.proofs.EndLemmas.{opening_is_told, unprinted_is_no_fault}
+use Rattle.sd_run.proofs.LineLemmas.{then_on_ok}
+use Rattle.sd_run.proofs.PromiseLemmas.{promise_of, promise_so_far}
 use Rattle.sd_run.proofs.running.run_lines.Goals as goal
 
-pub returns-in-Ok-clause-whole : goal.returns-in-Ok-clause-whole
-returns-in-Ok-clause-whole g c =
+pub returns-in-Ok-open-clause-whole : goal.returns-in-Ok-open-clause-whole
+returns-in-Ok-open-clause-whole g c =
     let lines = asked.Reopen ∷ c.args.script.lines.items in
-    let from = g.W.Write.contents c.args.out.now in
-    let to = g.W.Write.contents c.answer_all.new.out in
-    let opened = c.in-Ok.world in
-    let last = c.answer_all.new.world in
-    on_ok_through c.told-ended.result c.answer_all.result (IsWholeRun g.D.Disk lines c.args.disk c.close.result from to) c.told-ended.ensures.ok
-    (then_on_ok c.answer_all.result (PrintsLines g.D.Disk opened lines last from to) (IsWholeRun g.D.Disk lines c.args.disk c.close.result from to)
+    let from = g.W.Write.contents c.args.out.now.writer in
+    let ended = c.answer_all-ended in
+    let to = g.W.Write.contents ended.new.out.writer in
+    let opened = c.in-Ok-open.world in
+    let last = ended.new.world in
+    then_on_ok ended.result (PrintsLines g.D.Disk opened lines last from to) (IsWholeRun g.D.Disk lines c.args.disk c.close.result from to)
     (λ answers. record {
       opened = opened;
       last = last;
       run = record {
         opening = record {
-          reads = c.in-Ok.ensures.reads;
-          journal = c.in-Ok.ensures.journal;
-          idle = c.in-Ok.ensures.idle;
-          shows = c.in-Ok.ensures.shows;
-          everywhere = c.in-Ok.ensures.everywhere;
-          frames = c.in-Ok.ensures.frames;
+          reads = c.in-Ok-open.ensures.reads;
+          journal = c.in-Ok-open.ensures.journal;
+          idle = c.in-Ok-open.ensures.idle;
+          shows = c.in-Ok-open.ensures.shows;
+          everywhere = c.in-Ok-open.ensures.everywhere;
+          frames = c.in-Ok-open.ensures.frames;
         };
-        goes_on = c.answer_all.ensures.goes_on;
+        goes_on = ended.ensures.goes_on;
         disk = c.close.ensures;
         at_end = c.sound.ensures.allowed;
         contents = c.sound.ensures.contents;
@@ -36,43 +40,84 @@ returns-in-Ok-clause-whole g c =
       };
       answers = answers;
     })
-    c.answer_all.ensures.printed)
+    ended.ensures.printed
 
-pub returns-in-Ok-clause-left : goal.returns-in-Ok-clause-left
-returns-in-Ok-clause-left g c = IsLeft.run (record {
-  opened = c.in-Ok.world;
-  last = c.answer_all.new.world;
+pub returns-in-Ok-open-clause-left : goal.returns-in-Ok-open-clause-left
+returns-in-Ok-open-clause-left g c = IsLeft.run (record {
+  opened = c.in-Ok-open.world;
+  last = c.answer_all-ended.new.world;
   run = record {
     opening = record {
-      reads = c.in-Ok.ensures.reads;
-      journal = c.in-Ok.ensures.journal;
-      idle = c.in-Ok.ensures.idle;
-      shows = c.in-Ok.ensures.shows;
-      everywhere = c.in-Ok.ensures.everywhere;
-      frames = c.in-Ok.ensures.frames;
+      reads = c.in-Ok-open.ensures.reads;
+      journal = c.in-Ok-open.ensures.journal;
+      idle = c.in-Ok-open.ensures.idle;
+      shows = c.in-Ok-open.ensures.shows;
+      everywhere = c.in-Ok-open.ensures.everywhere;
+      frames = c.in-Ok-open.ensures.frames;
     };
-    goes_on = c.answer_all.ensures.goes_on;
+    goes_on = c.answer_all-ended.ensures.goes_on;
     disk = c.close.ensures;
     at_end = c.sound.ensures.allowed;
     contents = c.sound.ensures.contents;
     tracked = c.sound.ensures.tracked;
   };
-  answers = c.answer_all.ensures.answered;
+  answers = c.answer_all-ended.ensures.told.some;
 })
 
-pub returns-in-Ok-clause-promise : goal.returns-in-Ok-clause-promise
-returns-in-Ok-clause-promise g c =
+pub returns-in-Ok-open-clause-promise : goal.returns-in-Ok-open-clause-promise
+returns-in-Ok-open-clause-promise g c =
     let lines = asked.Reopen ∷ c.args.script.lines.items in
-    let from = g.W.Write.contents c.args.out.now in
-    let to = g.W.Write.contents c.answer_all.new.out in
+    let from = g.W.Write.contents c.args.out.now.writer in
+    let to = g.W.Write.contents c.answer_all-ended.new.out.writer in
     let new = c.close.result in
-    then_on_ok c.told-ended.result (IsWholeRun g.D.Disk lines c.args.disk new from to)
+    then_on_ok c.answer_all-ended.result (IsWholeRun g.D.Disk lines c.args.disk new from to)
     (g.D.Disk.is_honest new → Promise g.D.Disk lines c.args.disk new from to)
-    (promise_of g.D.Disk c.points_follow.ensures lines c.args.disk new from to) (returns-in-Ok-clause-whole g c)
+    (promise_of g.D.Disk c.points_follow.ensures lines c.args.disk new from to) (returns-in-Ok-open-clause-whole g c)
 
-pub returns-in-Ok-clause-so_far : goal.returns-in-Ok-clause-so_far
-returns-in-Ok-clause-so_far g c = left_so_far g.D.Disk c.points_follow.ensures (asked.Reopen ∷ c.args.script.lines.items) c.args.disk c.close.result
-    (returns-in-Ok-clause-left g c)
+pub returns-in-Ok-open-clause-so_far : goal.returns-in-Ok-open-clause-so_far
+returns-in-Ok-open-clause-so_far g c = λ honest.
+    let part : IsPartOfRun g.D.Disk (asked.Reopen ∷ c.args.script.lines.items) c.args.disk c.close.result = record {
+      opened = c.in-Ok-open.world;
+      last = c.answer_all-ended.new.world;
+      run = record {
+        opening = record {
+          reads = c.in-Ok-open.ensures.reads;
+          journal = c.in-Ok-open.ensures.journal;
+          idle = c.in-Ok-open.ensures.idle;
+          shows = c.in-Ok-open.ensures.shows;
+          everywhere = c.in-Ok-open.ensures.everywhere;
+          frames = c.in-Ok-open.ensures.frames;
+        };
+        goes_on = c.answer_all-ended.ensures.goes_on;
+        disk = c.close.ensures;
+        at_end = c.sound.ensures.allowed;
+        contents = c.sound.ensures.contents;
+        tracked = c.sound.ensures.tracked;
+      };
+      answers = c.answer_all-ended.ensures.told.some;
+    } in
+    inr (promise_so_far g.D.Disk c.points_follow.ensures (asked.Reopen ∷ c.args.script.lines.items) c.args.disk c.close.result
+    (g.W.Write.contents c.args.out.now.writer) (g.W.Write.contents c.answer_all-ended.new.out.writer) part c.answer_all-ended.ensures.told.told honest)
+
+pub returns-in-Err-clause-left : goal.returns-in-Err-clause-left
+returns-in-Err-clause-left g c = IsLeft.only_read (nothing_read g.D.Disk c.args.disk)
 
 pub returns-in-Err-clause-so_far : goal.returns-in-Err-clause-so_far
-returns-in-Err-clause-so_far g c = λ honest. inl c.in-Err.ensures.refused
+returns-in-Err-clause-so_far g c = λ honest. inl (nothing_read g.D.Disk c.args.disk, refl)
+
+pub returns-in-Err-open-clause-so_far : goal.returns-in-Err-open-clause-so_far
+returns-in-Err-open-clause-so_far g c = λ honest. inl (c.in-Err-open.ensures.refused, refl)
+
+pub returns-in-Ok-open-clause-fault : goal.returns-in-Ok-open-clause-fault
+returns-in-Ok-open-clause-fault g c = λ why is honest.
+    unprinted_is_no_fault (g.D.Disk.contents c.args.disk) (g.D.Disk.failed c.args.disk) (g.D.Disk.failed c.close.result) c.answer_all-ended.result why c.answer_all-ended.ensures.stops is
+
+pub returns-in-Err-clause-fault : goal.returns-in-Err-clause-fault
+returns-in-Err-clause-fault g c = λ why is honest.
+    unprinted_is_no_fault (g.D.Disk.contents c.args.disk) (g.D.Disk.failed c.args.disk) (g.D.Disk.failed c.args.disk) (Err (stop.Fault fault.OutOfMemory)) why (record {}) is
+
+pub returns-in-Err-open-clause-fault : goal.returns-in-Err-open-clause-fault
+returns-in-Err-open-clause-fault g c = λ why is honest.
+    let met = c.in-Err-open.field-0 in
+    opening_is_told (g.D.Disk.contents c.args.disk) (g.D.Disk.failed c.args.disk) (g.D.Disk.failed met.disk) met.fault why c.unopened.result (Err c.unopened.result) c.unopened.ensures refl is
+    (c.in-Err-open.ensures.fault honest)

@@ -1,8 +1,0 @@
-use Rattle.ckpt.proofs.ReadingLemmas.{reads_folder}
-use Rattle.ckpt.proofs.reading.read_alone.Goals as goal
-
-pub returns : goal.returns
-returns g c =
-    let ended = c.print_steady-ended in
-    reads_folder c.args.reader c.in_ok-disk.disk ended.new.disk ended.result (g.W.Write.contents c.args.out.now) (g.W.Write.contents ended.new.out)
-    ended.ensures.reads.same ended.ensures.store

@@ -1,0 +1,174 @@
+//! What stands behind the end of a program, and what may be done about it: one line on the standard error.
+
+use crate::cause::{Causes, line_of, tell};
+use clap::ArgMatches;
+use sd_disk::Disk;
+use sd_image::Reason;
+use sd_restore::Fault;
+use sd_script::{Line, Script};
+use sd_show::reason_phrase;
+use std::alloc::Global;
+use std::fs::File;
+use std::rt::Files;
+use std::{fmt, fs};
+
+/// A damaged slot, in words.
+#[derive(Clone, Copy)]
+struct Damage<'a> {
+    folder: &'a str,
+    slot: usize,
+    reason: Reason,
+}
+
+impl fmt::Display for Damage<'_> {
+    fn fmt<W: fmt::Write>(&self, f: &mut fmt::Formatter<W>) -> fmt::Result {
+        let Damage {
+            folder,
+            slot,
+            reason,
+        } = self;
+        let words = reason_phrase(*reason);
+        write!(
+            f,
+            "img-{slot:03} is damaged: {words}; ckpt show {folder} {slot} tells more"
+        )?;
+        if *reason == Reason::Chain {
+            write!(f, ", ckpt list {folder} has the images that are there")?;
+        }
+        f.write_str(", and an older copy of the file may help")
+    }
+}
+
+/// Too few free slots, where a job wants some.
+#[derive(Clone, Copy)]
+struct FewSlots {
+    free: usize,
+    wanted: u64,
+}
+
+impl fmt::Display for FewSlots {
+    fn fmt<W: fmt::Write>(&self, f: &mut fmt::Formatter<W>) -> fmt::Result {
+        let FewSlots { free, wanted } = self;
+        write!(
+            f,
+            "no-slot: of its slots {free} are free, and {wanted} wanted; a merge frees those of \
+the images that it takes in"
+        )
+    }
+}
+
+/// Tells what is damaged, if a program's last line told that.
+fn tell_damage(rt: &impl Eprint, causes: Causes, folder: &str, told: Option<Fault>) {
+    if let Some(Fault::Damaged { slot, reason }) = told {
+        tell(
+            rt,
+            causes,
+            folder,
+            &Damage {
+                folder,
+                slot,
+                reason,
+            },
+        );
+    }
+}
+
+/// Whether a folder has a file of a slot.
+fn has_slot_file(rt: &(impl Files<File = File> + AllocGlobal), folder: &str, slot: usize) -> bool {
+    match format!(in rt.alloc(); "{folder}/img-{slot:03}") {
+        Ok(path) => fs::exists(rt, path.as_str()).unwrap_or(true),
+        Err(_) => true,
+    }
+}
+
+/// Tells that a folder has no file of a slot, if that is so: `ok empty` may be of another folder than is meant.
+fn tell_no_files(
+    rt: &(impl Files<File = File> + Eprint + AllocGlobal),
+    causes: Causes,
+    folder: &str,
+) {
+    if !(0..64).any(|slot| has_slot_file(rt, folder, slot)) {
+        tell(rt, causes, folder, &NO_FILES);
+    }
+}
+
+/// What is told of a folder without files of slots.
+const NO_FILES: &str =
+    "it has none of the files img-000 to img-063; is it the folder that is meant?";
+
+/// Whether no image is open in a slot. One that can't be read counts as none.
+fn is_free<D: Disk>(disk: &mut D, slot: usize) -> bool {
+    if slot >= disk.slots() {
+        return false;
+    }
+    let mut gate = [0];
+    match disk.len(slot) {
+        Ok(0) => true,
+        Ok(_) => disk.read(slot, 0, &mut gate).is_ok() && gate[0] != sd_image::GATE,
+        Err(_) => false,
+    }
+}
+
+/// How many slots have no open image.
+fn free_slots<D: Disk>(disk: &mut D) -> usize {
+    let mut free = 0usize;
+    for slot in 0..disk.slots() {
+        free = free.saturating_add(usize::from(is_free(disk, slot)));
+    }
+    free
+}
+
+/// How many free slots the request of a line of a script wants, if it is one that wants some. Lines are counted from 1.
+pub fn wanted_at(alloc: Global, script: &[u8], number: usize) -> Option<u64> {
+    let line = line_of(script, number)?;
+    let asked = Script::parse(alloc, line).ok()?;
+    wanted_slots(asked.lines.first()?)
+}
+
+/// How many free slots a request wants, if it is one that wants some.
+fn wanted_slots(request: &Line) -> Option<u64> {
+    match request {
+        Line::Begin(rounds) | Line::Checkpoint(rounds) => Some(rounds.saturating_add(2)),
+        Line::BeginMerge | Line::Merge => Some(1),
+        _ => None,
+    }
+}
+
+/// Tells how many slots are free where fewer are than are wanted.
+pub fn tell_few_slots<D: Disk>(
+    rt: &impl Eprint,
+    causes: Causes,
+    folder: &str,
+    disk: &mut D,
+    wanted: u64,
+) {
+    let free = free_slots(disk);
+    if (free as u64) < wanted {
+        tell(rt, causes, folder, &FewSlots { free, wanted });
+    }
+}
+
+/// Whether a program has `--json`. Its document tells of a damage what `tell_damage` would.
+fn has_document(name: &str) -> bool {
+    matches!(name, "restore" | "list" | "verify" | "show")
+}
+
+/// Tells what stands behind the end of a program: behind its exit status, and the fault that its last line told.
+pub fn tell_end(
+    rt: &HostRuntime,
+    causes: Causes,
+    matches: &ArgMatches<'_>,
+    status: u8,
+    told: Option<Fault>,
+) {
+    let Some((name, words)) = matches.subcommand() else {
+        return;
+    };
+    let folder = words.get_str("DIR").unwrap_or("");
+    if !(has_document(name) && words.get_flag("json")) {
+        tell_damage(rt, causes, folder, told);
+    }
+    if name == "verify" && status == 0 {
+        tell_no_files(rt, causes, folder);
+    }
+}

@@ -1,0 +1,194 @@
+//! `ckpt export`: the memory that a store shows, as ELF core files.
+
+use crate::cause::{Causes, tell, tell_device};
+use crate::folders::open_store;
+use clap::ArgMatches;
+use sd_areas::SpaceId;
+use sd_disk::{DirDisk, is_being_written};
+use sd_elf::{CoreFiles, HoleFile, WriteError, image_fronts, write_shown};
+use sd_exit::{Output, Stop, exit};
+use sd_image::SpaceTable;
+use sd_restore::Fault;
+use std::alloc::{AllocError, Global};
+use std::fs::File;
+use std::io::Write;
+use std::rt::Files;
+use std::{fs, io};
+
+/// What is told of a store that changed meanwhile.
+const BESIDE: &str = "a run is writing this store; try again when it has ended";
+
+/// What is told of files that stand where some are to be written.
+const IS_THERE: &str = "the file is there already; with --force it is replaced";
+
+/// What is told of a space that the store doesn't show.
+const NO_SPACE: &str = "the store shows no such space";
+
+/// The core files in a folder. Each is written under another name until all are whole.
+#[derive(Drop)]
+struct Export<'a, R> {
+    rt: &'a R,
+    alloc: Global,
+    folder: &'a str,
+    /// The one space that is asked for.
+    wanted: Option<u64>,
+    /// Whether files that are there are replaced.
+    replaces: bool,
+    /// The spaces whose files were begun.
+    begun: Vec<SpaceId>,
+}
+
+/// The name of the core file of a space, within a folder.
+fn core_name(alloc: Global, folder: &str, space: SpaceId) -> Result<String, AllocError> {
+    let number = space.number();
+    format!(in alloc; "{folder}/space-{number}.core")
+}
+
+/// The name of that file while it is being written.
+fn part_name(alloc: Global, folder: &str, space: SpaceId) -> Result<String, AllocError> {
+    let number = space.number();
+    format!(in alloc; "{folder}/.space-{number}.core.part")
+}
+
+/// Makes an empty file, in place of one that an export left that was cut off.
+fn make_part(rt: &impl Files<File = File>, part: &str) -> io::Result<File> {
+    let _ = fs::remove_file(rt, part);
+    File::create_new(rt, part)
+}
+
+impl<R: Files<File = File>> Export<'_, R> {
+    fn is_wanted(&self, space: SpaceId) -> bool {
+        match self.wanted {
+            Some(number) => space.number() == number,
+            None => true,
+        }
+    }
+
+    /// Refuses a file that is there, but where it may be replaced.
+    fn check_free(&self, space: SpaceId) -> io::Result<()> {
+        let name = core_name(self.alloc, self.folder, space)?;
+        if !self.replaces && fs::symlink_metadata(self.rt, &name).is_ok() {
+            return Err(io::Error::new(io::ErrorKind::AlreadyExists, IS_THERE));
+        }
+        Ok(())
+    }
+
+    /// Gives the files their names, and waits until these are on the device.
+    fn rename_all(&self) -> io::Result<()> {
+        for space in &self.begun {
+            let part = part_name(self.alloc, self.folder, *space)?;
+            let name = core_name(self.alloc, self.folder, *space)?;
+            fs::rename(self.rt, &part, &name)?;
+        }
+        File::open(self.rt, self.folder)?.sync_all()
+    }
+
+    /// Takes away what was written.
+    fn remove_all(&self) {
+        for space in &self.begun {
+            if let Ok(part) = part_name(self.alloc, self.folder, *space) {
+                let _ = fs::remove_file(self.rt, &part);
+            }
+        }
+    }
+}
+
+/// No contract says what the files of a folder hold.
+impl<R: Files<File = File>> CoreFiles for Export<'_, R> {
+    ghost use Rattle.std.specs.Prelude.{None, true};
+
+    type Output = HoleFile;
+
+    ghost taken = { λ _. None };
+
+    ghost wanted = { λ _ _. true };
+
+    fn check(&mut self, spaces: &[SpaceTable]) -> io::Result<()> {
+        let mut count = 0u64;
+        for space in spaces {
+            if self.is_wanted(space.space) {
+                self.check_free(space.space)?;
+                count = count.saturating_add(1);
+            }
+        }
+        if count == 0 {
+            return Err(io::Error::new(io::ErrorKind::NotFound, NO_SPACE));
+        }
+        fs::create_dir_all(self.rt, self.folder)
+    }
+
+    fn begin(&mut self, space: SpaceId) -> io::Result<Option<HoleFile>> {
+        if !self.is_wanted(space) {
+            return Ok(None);
+        }
+        let part = part_name(self.alloc, self.folder, space)?;
+        self.begun.push(space)?;
+        Ok(Some(HoleFile::new(make_part(self.rt, &part)?)))
+    }
+
+    fn finish(&mut self, _space: SpaceId, file: HoleFile) -> io::Result<()> {
+        file.finish()
+    }
+}
+
+/// Writes the files of a store whose images stay the same meanwhile.
+fn write_files<R: Files<File = File>>(
+    disk: &mut DirDisk,
+    export: &mut Export<'_, R>,
+) -> Result<(), WriteError> {
+    let before = image_fronts(export.alloc, disk)?;
+    write_shown(export.alloc, disk, export)?;
+    if image_fronts(export.alloc, disk)? != before {
+        return Err(WriteError::Fault(Fault::Device));
+    }
+    export.rename_all()?;
+    Ok(())
+}
+
+/// How the program ends, and a line of why no file was made where the store isn't at fault.
+fn ended_with<W: Write>(
+    rt: &impl Eprint,
+    causes: Causes,
+    folder: &str,
+    ended: Result<(), WriteError>,
+    out: &mut Output<W>,
+) -> Result<(), Stop> {
+    match ended {
+        Ok(()) => Ok(()),
+        Err(WriteError::Fault(fault)) => Err(Stop::Fault(fault)),
+        Err(WriteError::File(error)) => {
+            tell(rt, causes, folder, &error);
+            out.write_all(b"cannot write OUT\n")?;
+            Err(Stop::Refused)
+        }
+    }
+}
+
+/// `ckpt export`: it only reads the store.
+pub fn export_program<W: Write>(
+    rt: &(impl Files<File = File> + Eprint + AllocGlobal),
+    causes: Causes,
+    words: &ArgMatches<'_>,
+    out: &mut Output<W>,
+) -> Result<u8, Stop> {
+    let store = words.get_str("DIR").unwrap_or("");
+    let folder = words.get_str("OUT").unwrap_or("");
+    let mut disk = open_store(rt, causes, store)?;
+    let mut export = Export {
+        rt,
+        alloc: rt.alloc(),
+        folder,
+        wanted: words.get_one::<u64>("space"),
+        replaces: words.get_flag("force"),
+        begun: Vec::new(rt.alloc()),
+    };
+    let ended = write_files(&mut disk, &mut export);
+    if ended.is_err() {
+        export.remove_all();
+    }
+    tell_device(rt, causes, store, &disk);
+    if matches!(ended, Err(WriteError::Fault(_))) && is_being_written(rt, store) {
+        tell(rt, causes, store, &BESIDE);
+    }
+    Ok(exit(&ended_with(rt, causes, folder, ended, out), out))
+}

@@ -1,0 +1,133 @@
+//! What stands at the end of the help of each program: an example, and its exit statuses.
+
+pub const LIMITS: &str =
+    "Limits: 16 spaces, 1,024 areas of a space, 65,536 mapped pages of 4,096 bytes in all,
+addresses below 2^47, 1 to 64 bytes a load or store, 64 images a store; a checkpoint
+needs two free slots, and one more a round; a merge needs one. The cause of a failure is told on standard error.";
+
+pub const RUN_HEAD: &str = "Example:
+  ckpt run store examples/first.ckpt
+  ckpt run --check examples/first.ckpt
+
+Lines of SCRIPT, with fields separated by single spaces; numbers are decimal or 0x and
+hexadecimal; empty lines and those that begin with # are skipped:
+";
+
+pub const RUN_TAIL: &str = "
+Status: 0 at the end of the script, also where requests were refused, but with --strict; 1
+where the store, its device, memory or the printing failed (damaged SSS WHY, device,
+out-of-memory, cannot open DIR, cannot read SCRIPT), and with --strict at the first request
+that is refused or answered segv; 2 where a line of SCRIPT doesn't fit the language (script
+line N: nothing is run) or the command line doesn't; with --restore, 3 where the store shows
+no checkpoint afterwards.
+
+Only one run at a time can have a store open.";
+
+pub const SHELL: &str = "Example:
+  printf 'mmap 1 0x10000 4096 rw\\ncheckpoint 0\\n' | ckpt shell store
+
+Answers the lines of the standard input, which are those of a script, one by one: each answer is
+written before the next line is read. A line that doesn't fit the language is answered with
+script line N and changes nothing. It ends with the input, or with the line quit. On a terminal
+it asks for each line, and tells what is wrong with one.
+
+Status: 0 at the end of the input, also where requests were refused; 1 where the store, its
+device, memory, the input or the printing failed (damaged SSS WHY, device, out-of-memory,
+cannot open DIR, cannot read SCRIPT); 2 for a fault of the command line.
+
+Only one program at a time can have a store open that is run, merged or mutated.";
+
+pub const RESTORE: &str = "Example:
+  ckpt restore store
+  ckpt restore --json store
+
+Prints checkpoint N; for each space a line space N, its areas as area FIRST END PROT, and
+bytes ADDRESS HEX for each 32 bytes that aren't all zeros. With --json the document has no bytes,
+but the number of pages, and of those that are zeros.
+
+Status: 0 where a memory was printed; 3 where the store shows no checkpoint (empty chain);
+1 where the store, its device, memory or the printing failed (damaged SSS WHY, device,
+out-of-memory, cannot open DIR); 2 for a fault of the command line.";
+
+pub const LIST: &str = "Example:
+  ckpt list store
+
+Status: 0; 1 where an open slot is no image, or the device, memory or the printing failed
+(damaged SSS WHY, device, out-of-memory, cannot open DIR); 2 for a fault of the command line.";
+
+pub const VERIFY: &str = "Example:
+  ckpt verify store
+
+Status: 0 where it printed ok; 1 where the store can't be restored, or the device, memory or
+the printing failed (damaged SSS WHY, device, out-of-memory, cannot open DIR); 2 for a fault
+of the command line.";
+
+pub const SHOW: &str = "Example:
+  ckpt show store
+  ckpt show store 3 --json
+
+Prints what stands in the image files. For each slot a line slot SSS raw, slot SSS closed or slot
+SSS open; of an open one damaged WHY and a reason in words where the file is no image, the
+fields of its header, whether its digest is right or wrong (none: it has version 1), and for each
+space a line space N, its areas as area FIRST END PROT, and its runs as run KIND first PAGE pages N,
+with offset N where they are of data. What is damaged is printed as far as it can be read.
+
+Status: 0 where no slot is damaged; 1 where one is, or the device, memory or the printing failed
+(device, out-of-memory, cannot open DIR); 2 for a fault of the command line.";
+
+pub const MERGE: &str = "Example:
+  ckpt merge store
+
+Merges the newest checkpoint's chain of images into one image, closes those that are no
+longer needed, and prints merged SERIAL or refused N NAME. What the store shows stays the
+same, also if it is cut off. An empty store answers refused 14 idle.
+
+Status: 0 where the chain was merged; 1 where the merge was refused, or the store, its
+device, memory or the printing failed (damaged SSS WHY, device, out-of-memory, cannot open
+DIR); 2 for a fault of the command line.
+
+Only one program at a time can have a store open that is run or merged.";
+
+pub const MUTATE: &str = "Example:
+  ckpt mutate store 4
+
+Needs a store without an image. Each thread stores the numbers 1 to 1,000 at the start of a page
+of its own, from 0x100000 on in space 1, and loads each back. Meanwhile two checkpoints of two
+rounds are made, the second beside a merge, and a third one when all have ended. Prints threads T
+stores S acked N, and then close ok where the journal accounts for what each thread was told, or
+close failed.
+
+Status: 0 where all was done and accounted for; 1 where a checkpoint or a thread was refused, or
+the store has an image (store not empty), or the store, its device, memory or the printing
+failed (damaged SSS WHY, device, out-of-memory, cannot open DIR); 2 for a fault of the command
+line.
+
+Only one program at a time can have a store open that is run, merged or mutated.";
+
+pub const EXPORT: &str = "Example:
+  ckpt export store cores
+  gdb -batch -ex 'x/s 0x10000' -c cores/space-1.core
+
+Writes for each space that the store shows a file OUT/space-N.core: an ELF core file of x86-64 with one
+segment an area, and holes for pages of zeros. It has memory alone: no registers, no threads. A file gets
+its name when all are whole and on the device; one that is there is replaced only with --force.
+
+Status: 0 where the files were written; 3 where the store shows no checkpoint (empty chain); 1 where
+the store, its device, memory or the files failed (damaged SSS WHY, device, out-of-memory, cannot open
+DIR, cannot write OUT); 2 for a fault of the command line.";
+
+pub const IMPORT: &str = "Example:
+  gcore -o core 4711
+  ckpt import store core.4711
+
+Compares the segments of CORE with what the store shows, maps, unmaps, protects and stores what differs,
+prints imported PAGES changed PAGES, makes a checkpoint, and prints acked N. The other spaces stay as
+they are. A space that isn't alive is made where it has the least number that is free. Segments of the
+kernel's addresses are left out; what a segment doesn't have in the file is zeros.
+
+Status: 0 where the checkpoint was acknowledged; 1 where CORE isn't read (not a core, core too large,
+cannot read CORE), a request was refused (refused N NAME), or the store, its device, memory or the
+printing failed (damaged SSS WHY, device, out-of-memory, cannot open DIR): nothing is saved then; 2
+for a fault of the command line.
+
+Only one program at a time can have a store open that is run, merged or mutated.";

@@ -1,0 +1,192 @@
+//! How far the reading of a store is that takes long, as a line on a terminal.
+
+use crate::progress::{CLEAR, Done, Pace};
+use sd_disk::{DeviceError, Disk};
+use sd_image::HEADER_SIZE;
+use std::io;
+use std::io::Write;
+use std::time::Duration;
+
+/// The line of a reading.
+#[derive(Drop)]
+struct ReadingLine<'a> {
+    rt: &'a HostRuntime,
+    /// What is done with the store.
+    does: &'static str,
+    is_on: bool,
+    pace: Pace,
+    images: usize,
+    bytes: u64,
+    image: usize,
+    top: Option<usize>,
+    read: u64,
+    is_shown: bool,
+}
+
+impl<'a> ReadingLine<'a> {
+    /// A line of which nothing is known yet.
+    fn new(rt: &'a HostRuntime, does: &'static str) -> Self {
+        ReadingLine {
+            rt,
+            does,
+            is_on: false,
+            pace: Pace::IDLE,
+            images: 0,
+            bytes: 0,
+            image: 0,
+            top: None,
+            read: 0,
+            is_shown: false,
+        }
+    }
+
+    /// Takes in how much there is to be read of each image.
+    fn measure<D: Disk>(&mut self, disk: &mut D) {
+        for slot in 0..disk.slots() {
+            let length = body_len(disk, slot);
+            self.bytes = self.bytes.saturating_add(length);
+            self.images = self.images.saturating_add(usize::from(length > 0));
+        }
+        self.is_on = self.bytes > 0;
+        let _ = self.pace.due(self.rt);
+    }
+
+    /// Clears the line.
+    fn clear(&mut self) {
+        if self.is_shown {
+            let _ = self.rt.stderr().write_all(CLEAR.as_bytes());
+        }
+        self.is_shown = false;
+    }
+
+    /// Writes the line over the one that stands there.
+    fn write(&mut self, took: Duration) -> io::Result<()> {
+        let done = Done {
+            done: u128::from(self.read),
+            of: u128::from(self.bytes),
+            took,
+        };
+        let mut line = Vec::new(self.rt.alloc());
+        write!(
+            line,
+            "{CLEAR}{}: {done}, image {} of {}",
+            self.does, self.image, self.images
+        )?;
+        self.is_shown = true;
+        self.rt.stderr().write_all(&line)
+    }
+
+    /// Whether a slot stands behind those that were read.
+    fn is_behind(&self, slot: usize) -> bool {
+        match self.top {
+            Some(top) => slot > top,
+            None => true,
+        }
+    }
+
+    /// Counts a read behind a header. Behind the last the line is off.
+    fn count(&mut self, slot: usize, length: usize) {
+        if self.is_behind(slot) {
+            self.top = Some(slot);
+            self.image = self.image.saturating_add(1);
+        }
+        self.read = self.read.saturating_add(length as u64);
+        if self.read >= self.bytes {
+            self.clear();
+            self.is_on = false;
+        } else if let Some(took) = self.pace.due(self.rt) {
+            let _ = self.write(took);
+        }
+    }
+}
+
+/// A disk whose first reading is shown: of each image, what stands behind its header.
+#[derive(Drop)]
+pub struct Shown<'a, D> {
+    line: ReadingLine<'a>,
+    disk: D,
+}
+
+/// What a slot's file has behind the header of an image, in bytes.
+fn body_len<D: Disk>(disk: &mut D, slot: usize) -> u64 {
+    if slot >= disk.slots() {
+        return 0;
+    }
+    let length = disk.len(slot).unwrap_or(0);
+    length.saturating_sub(HEADER_SIZE) as u64
+}
+
+impl<'a, D: Disk> Shown<'a, D> {
+    /// A disk whose reading is shown where it is on.
+    pub fn new(rt: &'a HostRuntime, does: &'static str, is_on: bool, disk: D) -> Self {
+        let mut line = ReadingLine::new(rt, does);
+        let mut disk = disk;
+        if is_on {
+            line.measure(&mut disk);
+        }
+        Shown { line, disk }
+    }
+
+    /// The disk within. The line is cleared.
+    pub fn into_inner(self) -> D {
+        let mut line = self.line;
+        line.clear();
+        self.disk
+    }
+}
+
+impl<D: Disk> Disk for Shown<'_, D> {
+    ghost contents = { λ shown. D.contents shown.disk };
+
+    ghost may_leave = { λ shown. D.may_leave shown.disk };
+
+    ghost moment = { λ shown. D.moment shown.disk };
+
+    ghost left_since = { λ shown. D.left_since shown.disk };
+
+    ghost failed = { λ shown. D.failed shown.disk };
+
+    ghost calls = { λ shown. D.calls shown.disk };
+
+    ghost is_honest = { λ shown. D.is_honest shown.disk };
+
+    ghost as_read = { λ shown. D.as_read shown.disk };
+
+    ghost same_slots = { λ shown. D.same_slots shown.disk };
+
+    ghost counts_now = { λ shown. D.counts_now shown.disk };
+
+    ghost only_now = { λ shown. D.only_now shown.disk };
+
+    fn slots(&self) -> usize {
+        self.disk.slots()
+    }
+
+    fn failures(&self) -> u64 {
+        self.disk.failures()
+    }
+
+    fn len(&mut self, slot: usize) -> Result<usize, DeviceError> {
+        self.disk.len(slot)
+    }
+
+    fn read(&mut self, slot: usize, at: usize, buffer: &mut [u8]) -> Result<(), DeviceError> {
+        let answer = self.disk.read(slot, at, buffer);
+        if self.line.is_on && at >= HEADER_SIZE {
+            self.line.count(slot, buffer.len());
+        }
+        answer
+    }
+
+    fn write_at(&mut self, slot: usize, at: usize, bytes: &[u8]) -> Result<(), DeviceError> {
+        self.disk.write_at(slot, at, bytes)
+    }
+
+    fn cut(&mut self, slot: usize, len: usize) -> Result<(), DeviceError> {
+        self.disk.cut(slot, len)
+    }
+
+    fn sync(&mut self, slot: usize) -> Result<(), DeviceError> {
+        self.disk.sync(slot)
+    }
+}

@@ -1,0 +1,208 @@
+//! `ckpt run --stats` and `--summary`: what each image, checkpoint and merge took.
+
+use crate::cause::{Causes, tell};
+use crate::verbose::{Logger, Seen, log_end, log_job, log_record};
+use clap::ArgMatches;
+use sd_core::Core;
+use sd_exit::Stop;
+use sd_gate::Worker;
+use sd_restore::Fault;
+use sd_run::Watch;
+use sd_stats::{Meter, Record, print_record, print_table};
+use std::cell::RefCell;
+use std::fs::File;
+use std::io;
+use std::io::Write;
+use std::time::Clock;
+
+/// The name of the standard error, as a file of counts.
+const STANDARD_ERROR: &str = "-";
+
+/// Where a line for each record goes.
+#[derive(Drop)]
+enum Lines {
+    Nowhere,
+    StandardError,
+    File(File),
+}
+
+/// What is to be done with the records of a run.
+#[derive(Drop)]
+pub struct Counts {
+    lines: Lines,
+    summary: bool,
+}
+
+/// Opens the file of counts.
+fn open_lines(rt: &HostRuntime, causes: Causes, name: Option<&str>) -> Result<Lines, Stop> {
+    match name {
+        None => Ok(Lines::Nowhere),
+        Some(STANDARD_ERROR) => Ok(Lines::StandardError),
+        Some(name) => match File::create(rt, name) {
+            Ok(file) => Ok(Lines::File(file)),
+            Err(error) => {
+                tell(rt, causes, name, &error);
+                Err(Stop::Refused)
+            }
+        },
+    }
+}
+
+/// What the words ask to be done with the records of a run, if they ask for any. The file of counts is made.
+pub fn counts_asked(
+    rt: &HostRuntime,
+    causes: Causes,
+    words: &ArgMatches<'_>,
+    seen: Seen<'_>,
+) -> Result<Option<Counts>, Stop> {
+    let lines = open_lines(rt, causes, words.get_str("stats"))?;
+    let summary = words.get_flag("summary");
+    if matches!(lines, Lines::Nowhere) && !summary && !seen.is_asked() {
+        return Ok(None);
+    }
+    Ok(Some(Counts { lines, summary }))
+}
+
+/// The records of a program that has no options for them, if they are to be seen.
+pub fn counts_seen(seen: Seen<'_>) -> Option<Counts> {
+    seen.is_asked().then_some(Counts {
+        lines: Lines::Nowhere,
+        summary: false,
+    })
+}
+
+/// A meter for a store of so many slots.
+pub fn meter_for(rt: &HostRuntime, slots: usize) -> Result<RefCell<Meter>, Stop> {
+    match Meter::new(rt.alloc(), slots) {
+        Ok(meter) => Ok(RefCell::new(meter)),
+        Err(_) => Err(Stop::Fault(Fault::OutOfMemory)),
+    }
+}
+
+/// Watches a run, and prints what its meter saw. What watches it besides is called first.
+#[derive(Drop)]
+pub struct Counting<'a, S> {
+    rt: &'a HostRuntime,
+    log: &'a Logger<'a>,
+    meter: &'a RefCell<Meter>,
+    counts: Counts,
+    beside: S,
+    worker: Option<Worker>,
+    /// The records for the table.
+    rows: Vec<Record>,
+    /// Whether a line found no room, or wasn't written.
+    fault: Option<io::Error>,
+}
+
+impl<'a, S: Watch + Drop> Counting<'a, S> {
+    pub fn new(
+        rt: &'a HostRuntime,
+        log: &'a Logger<'a>,
+        meter: &'a RefCell<Meter>,
+        counts: Counts,
+        beside: S,
+    ) -> Self {
+        Counting {
+            rt,
+            log,
+            meter,
+            counts,
+            beside,
+            worker: None,
+            rows: Vec::new(rt.alloc()),
+            fault: None,
+        }
+    }
+
+    /// Has the meter see a moment of the run.
+    fn see(&mut self, core: &Core) {
+        let Ok(mut meter) = self.meter.try_borrow_mut() else {
+            return;
+        };
+        if let Ok(now) = self.rt.monotonic() {
+            meter.see_frozen(core.is_frozen(), now);
+        }
+        if core.is_idle(Worker::Merger) {
+            meter.end_merge();
+        }
+    }
+
+    /// The records that are new.
+    fn take(&self, ends_merge: bool) -> Vec<Record> {
+        match self.meter.try_borrow_mut() {
+            Ok(mut meter) => {
+                if ends_merge {
+                    meter.end_merge();
+                }
+                meter.take()
+            }
+            Err(_) => Vec::new(self.rt.alloc()),
+        }
+    }
+
+    /// Writes the line of a record, and keeps the record for the table.
+    fn write(&mut self, record: &Record) -> io::Result<()> {
+        log_record(self.log, record);
+        if self.counts.summary {
+            self.rows.push(*record)?;
+        }
+        let mut line = Vec::new(self.rt.alloc());
+        match &mut self.counts.lines {
+            Lines::Nowhere => Ok(()),
+            Lines::StandardError => {
+                print_record(self.rt.alloc(), record, &mut line)?;
+                self.rt.stderr().write_all(&line)
+            }
+            Lines::File(file) => {
+                print_record(self.rt.alloc(), record, &mut line)?;
+                file.write_all(&line)
+            }
+        }
+    }
+
+    /// Prints the records that are new. The first line that isn't written is noted.
+    fn drain(&mut self, ends_merge: bool) {
+        for record in self.take(ends_merge) {
+            if let Err(error) = self.write(&record) {
+                self.fault.get_or_insert(error);
+            }
+        }
+    }
+
+    /// Prints what is left behind a run, and the table if it is asked for.
+    ///
+    /// # Errors
+    ///
+    /// The first line that wasn't written.
+    pub fn finish(mut self) -> io::Result<()> {
+        self.drain(true);
+        if self.counts.summary {
+            let mut table = Vec::new(self.rt.alloc());
+            print_table(&self.rows, &mut table)?;
+            self.rt.stderr().write_all(&table)?;
+        }
+        match self.fault {
+            Some(error) => Err(error),
+            None => Ok(()),
+        }
+    }
+}
+
+impl<S: Watch + Drop> Watch for Counting<'_, S> {
+    fn goes_on(&mut self, core: &Core, worker: Worker) {
+        self.beside.goes_on(core, worker);
+        if self.worker != Some(worker) {
+            log_job(self.log, worker);
+        }
+        self.worker = Some(worker);
+        self.see(core);
+    }
+
+    fn has_ended(&mut self) {
+        self.beside.has_ended();
+        let ends_merge = self.worker == Some(Worker::Merger);
+        self.drain(ends_merge);
+        log_end(self.log, self.worker);
+        self.worker = None;
+    }
+}

@@ -1,0 +1,86 @@
+-- Core files: their program headers, and what an error says of them.
+use Rattle.std.proofs.Common.{◌≡◌, ◌+◌, ◌*◌, ℕ, zero, suc, List, [], ◌∷◌, ◌++◌, map, sym, ap, ◌∙◌, subst, arith, Option, Some, None, Result, Ok, Err, IfSome, IfErr, ◌/◌}
+use Rattle.std.specs.Prelude.{filter, length, slice_range}
+use Rattle.std.specs.List.{range_with_len}
+use Rattle.std.proofs.lemmas.List.{map-append}
+use Rattle.sd_elf.specs.declared.core_file.Core.{Core}
+use Rattle.sd_elf.specs.declared.core_file.ReadError.{ReadError}
+use Rattle.sd_elf.specs.declared.core_file.ReadError.TheVariants as error
+use Rattle.sd_elf.specs.declared.fault.CoreFault.{CoreFault}
+use Rattle.sd_elf.specs.declared.fault.CoreFault.TheVariants as core
+use Rattle.sd_elf.specs.declared.fault.HeaderFault.{HeaderFault}
+use Rattle.sd_elf.specs.declared.fault.HeaderFault.TheVariants as fault
+use Rattle.sd_elf.specs.declared.file_header.FileHeader.{FileHeader}
+use Rattle.sd_elf.specs.declared.program_header.ProgramHeader.{ProgramHeader}
+use Rattle.sd_elf.specs.Headers.{BreaksHeader, program_header_in}
+use Rattle.sd_elf.specs.Segments.{AreSegments, BreaksAt, IsFirstBreak, is_memory, no_extent}
+use Rattle.sd_elf.specs.Cores.{BeginsCore, IsCore, IsErrorOf, IsFaultOf, IsOutside, IsTable, headers_of, program_headers_in}
+use Rattle.sd_elf.proofs.SegmentLemmas.{first_break_none}
+
+pub range_last : (a n : ℕ) → range_with_len a (suc n) ≡ range_with_len a n ++ (a + n) ∷ []
+range_last a zero = ap (λ k. k ∷ []) (let e : a ≡ a + 0 = omega arith in e)
+range_last a (suc n) = ap (λ ks. a ∷ ks) (range_last (a + 1) n ∙ ap (λ k. range_with_len (a + 1) n ++ k ∷ []) (let e : a + 1 + n ≡ a + suc n = omega arith in e))
+
+-- one more program header
+pub headers_more : (k : ℕ) (bytes : List ℕ) → program_headers_in (k + 1) bytes ≡ program_headers_in k bytes ++ program_header_in (slice_range bytes (56 * k) (56 * k + 56)) ∷ []
+headers_more k bytes =
+    let at : ℕ → ProgramHeader = λ k. program_header_in (slice_range bytes (56 * k) (56 * k + 56)) in
+    ap (λ n. map at (range_with_len 0 n)) (let e : k + 1 ≡ suc k = omega arith in e)
+    ∙ ap (map at) (range_last 0 k ∙ ap (λ n. range_with_len 0 k ++ n ∷ []) (let e : 0 + k ≡ k = omega arith in e))
+    ∙ map-append at (range_with_len 0 k) (k ∷ [])
+
+-- ---- a core that a space can have has no fault
+
+-- what a fault says isn't so of the header of a core
+header_unbroken : (bytes : List ℕ) (h : FileHeader) (f : HeaderFault) → BeginsCore bytes h → BreaksHeader (slice_range bytes 0 64) (length bytes) f → ⊥
+header_unbroken bytes h fault.Short p b = let long = p.long in omega (arith, long, b)
+header_unbroken bytes h fault.Ident p b = b p.header.ident
+header_unbroken bytes h fault.Type p b = b (sym (ap (λ (h : FileHeader). h.e_type) p.header.fields) ∙ p.header.type)
+header_unbroken bytes h fault.Machine p b = b (sym (ap (λ (h : FileHeader). h.e_machine) p.header.fields) ∙ p.header.machine)
+header_unbroken bytes h fault.Version p b = b (sym (ap (λ (h : FileHeader). h.e_version) p.header.fields) ∙ p.header.version)
+header_unbroken bytes h fault.EntrySize p b = b (sym (ap (λ (h : FileHeader). h.e_phentsize) p.header.fields) ∙ p.header.entry_size)
+header_unbroken bytes h fault.Count p b = p.header.count (ap (λ (h : FileHeader). h.e_phnum) p.header.fields ∙ b)
+header_unbroken bytes h fault.Table p b = let table = rw p.header.fields at p.header.table in omega (arith, table, b)
+
+pub core_unbroken : (bytes : List ℕ) (segments : List ProgramHeader) (f : CoreFault) → IsCore bytes segments → IsFaultOf bytes f → ⊥
+core_unbroken bytes segments (core.Header f) p b = header_unbroken bytes p.header f p.begins b
+core_unbroken bytes segments (core.Segment number f) p b =
+    let same : b.header ≡ p.header = b.begins.header.fields ∙ sym p.begins.header.fields in
+    first_break_none (length bytes) (headers_of bytes b.header) number f b.first
+    (subst (AreSegments (length bytes) no_extent) (p.memory ∙ ap (λ h. filter is_memory (headers_of bytes h)) (sym same)) p.fits)
+
+-- so an error of it says nothing of the bytes
+pub core_unrefused : (bytes : List ℕ) (segments : List ProgramHeader) (e : ReadError) → IsCore bytes segments → IsErrorOf bytes e → IsOutside e
+core_unrefused bytes segments (error.Fault f) p b = core_unbroken bytes segments f p b
+core_unrefused bytes segments (error.File e) p b = tt
+core_unrefused bytes segments error.OutOfMemory p b = tt
+
+pub never_refused : (o : Option (List ℕ)) (result : Result Core ReadError) → IfSome o (λ held. IfErr result (IsErrorOf held)) → IfSome o (λ held. (segments : List ProgramHeader) → IsCore held segments → IfErr result IsOutside)
+never_refused None result h = tt
+never_refused (Some held) (Ok core) h = λ segments is. tt
+never_refused (Some held) (Err e) h = λ segments is. core_unrefused held segments e is h
+
+-- ---- the fault of a segment
+
+table_headers : (held table : List ℕ) (t : IsTable held table) → program_headers_in (length table / 56) table ≡ headers_of held t.header
+table_headers held table t =
+    let n : ℕ = t.header.e_phnum in
+    let count = t.count in
+    ap (λ k. program_headers_in k table) (let e : length table / 56 ≡ n = omega (arith, count) in e) ∙ ap (program_headers_in n) t.same
+
+segment_error : (held table : List ℕ) (size : ℕ) (headers : List ProgramHeader) (f : CoreFault) → size ≡ length held → IsTable held table → headers ≡ program_headers_in (length table / 56) table → BreaksAt size headers f → IsFaultOf held f
+segment_error held table size headers (core.Header f) whole t are b = absurd b
+segment_error held table size headers (core.Segment number f) whole t are b = record {
+  header = t.header;
+  begins = t.begins;
+  first = subst (λ hs. IsFirstBreak (length held) hs number f) (are ∙ table_headers held table t) (subst (λ n. IsFirstBreak n headers number f) whole b);
+}
+
+pub segment_told : (o : Option (List ℕ)) (table : List ℕ) (size : ℕ) (headers : List ProgramHeader) (f : CoreFault) → IfSome o (λ held. size ≡ length held) → IfSome o (λ held. size ≡ length held → IsTable held table)
+    → headers ≡ program_headers_in (length table / 56) table → BreaksAt size headers f → IfSome o (λ held. IsErrorOf held (error.Fault f))
+segment_told None table size headers f whole t are b = tt
+segment_told (Some held) table size headers f whole t are b = segment_error held table size headers f whole (t whole) are b
+
+pub whole_told : (o : Option (List ℕ)) (size : ℕ) (e : ReadError) → IfSome o (λ held. size ≡ length held) → IfSome o (λ held. size ≡ length held → IsErrorOf held e) → IfSome o (λ held. IsErrorOf held e)
+whole_told None size e whole h = tt
+whole_told (Some held) size e whole h = h whole

@@ -1,0 +1,6 @@
+pub mod SegmentLemmas
+pub mod CoreLemmas
+pub mod AreaLemmas
+pub mod PageLemmas
+pub mod FileLemmas
+pub mod ReadLemmas

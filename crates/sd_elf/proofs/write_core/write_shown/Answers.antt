@@ -1,0 +1,29 @@
+use Rattle.std.proofs.Common.{◌≡◌, List, ℕ, All, length, map, sym, subst}
+use Rattle.sd_chain.specs.Store.{IsCatalogOf}
+use Rattle.sd_restore.specs.declared.placed_run.PlacedRun.{PlacedRun}
+use Rattle.sd_image.specs.Table.{listing_of}
+use Rattle.sd_restore.specs.Placed.{IsInSlots, placed_pages}
+use Rattle.sd_elf.specs.Files.{Takes, placed_cores}
+use Rattle.sd_elf.proofs.FileLemmas.{takes_cores}
+use Rattle.sd_elf.proofs.write_core.write_shown.Goals as goal
+
+pub write_placed-requires-clause-slots : goal.write_placed-requires-clause-slots
+write_placed-requires-clause-slots g c =
+    let same : g.D.Disk.contents c.scan.new.disk ≡ g.D.Disk.contents c.args.disk.now = c.in_ok-catalog.ensures.reads.same in
+    subst (λ contents. All (λ (r : PlacedRun). IsInSlots (length contents) r.there) c.in_ok-placed.placed.runs.items) (sym same)
+    (c.in_ok-placed.ensures.slots (length (g.D.Disk.contents c.args.disk.now)) c.in_ok-catalog.ensures.slots)
+
+pub returns-clause-cores : goal.returns-clause-cores
+returns-clause-cores g c = λ honest.
+    let contents : List (List ℕ) = g.D.Disk.contents c.args.disk.now in
+    let placed = c.in_ok-placed.placed in
+    let scanned = c.in_ok-write_placed.ensures.reads.honest honest in
+    let catalog : IsCatalogOf contents c.in_ok-catalog.catalog = c.in_ok-catalog.ensures.catalog scanned in
+    let same : g.D.Disk.contents c.scan.new.disk ≡ contents = c.in_ok-catalog.ensures.reads.same in
+    let wanted = g.S.CoreFiles.wanted c.args.files.now in
+    let before = g.S.CoreFiles.taken c.args.files.now in
+    let after = g.S.CoreFiles.taken c.write_placed.new.files in
+    let spaces = map listing_of placed.spaces.now in
+    let pages = placed_pages placed.runs.items in
+    takes_cores wanted contents placed.checkpoint spaces pages before after (c.in_ok-placed.ensures.shown contents catalog) (c.in_ok-placed.ensures.laid contents catalog)
+    (subst (λ contents. Takes before after (placed_cores wanted contents placed.checkpoint pages spaces)) same (c.in_ok-write_placed.ensures.taken honest))

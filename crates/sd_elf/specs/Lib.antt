@@ -1,0 +1,6 @@
+pub mod Headers
+pub mod Segments
+pub mod Cores
+pub mod Pieces
+pub mod Texts
+pub mod Files

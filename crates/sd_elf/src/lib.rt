@@ -1,0 +1,29 @@
+//! Memory as ELF core files: the file of a space's memory, written; and a core file of any program, read.
+#![tactic(auto)]
+
+mod core_file;
+mod differences;
+mod fault;
+mod fields;
+mod file_header;
+mod fronts;
+mod header_text;
+mod output;
+mod page_writing;
+mod plan;
+mod program_header;
+mod segments;
+mod write_core;
+mod write_error;
+
+pub use core_file::{Core, CoreFile, ReadError, read_core, read_page};
+pub use differences::{Piece, pieces_of};
+pub use fault::{CoreFault, HeaderFault, SegmentFault};
+pub use file_header::{FILE_HEADER_SIZE, FileHeader, decode_file_header};
+pub use fronts::{Front, image_fronts};
+pub use output::{CoreFiles, CoreOutput, HoleFile};
+pub use plan::{PageRun, areas_of, is_there, may_split_too_far, pages_outside, split_segments};
+pub use program_header::{PROGRAM_HEADER_SIZE, ProgramHeader, decode_program_header};
+pub use segments::{Extent, check_segments, is_memory};
+pub use write_core::write_shown;
+pub use write_error::WriteError;

@@ -1,0 +1,138 @@
+//! The core files of the memory that a store shows, written.
+ghost use Rattle.std.specs.Prelude.{◌<◌, ◌≤◌, All, length, map, IfOk, None, OnOk, ◌≡◌, ◌∷◌, []};
+ghost use Rattle.std.specs.Io.KnownBytes.{Appends};
+ghost use Rattle.sd_areas.specs.Areas.{AreMaximal};
+ghost use Rattle.sd_disk.specs.Reads.{OnlyReads};
+ghost use Rattle.sd_image.specs.declared.table.SpaceTable.{SpaceTable};
+ghost use Rattle.sd_image.specs.Table.{listing_of};
+ghost use Rattle.sd_restore.specs.Placed.{IsInSlots, IsWithin, placed_pages};
+ghost use Rattle.sd_elf.specs.Files.{Takes, TakesCores, placed_cores};
+ghost use Rattle.sd_elf.specs.Texts.{placed_core};
+
+use crate::header_text::front_of;
+use crate::output::{CoreFiles, CoreOutput};
+use crate::page_writing::put_pages;
+use crate::write_error::WriteError;
+use sd_areas::{AREA_LIMIT, PAGE_SIZE};
+use sd_disk::Disk;
+use sd_image::SpaceTable;
+use sd_restore::{PlacedMemory, place_newest, scan};
+use std::alloc::{AllocError, Global};
+use std::io;
+
+/// How many pages are read at once.
+const BUFFER_PAGES: usize = 16;
+
+/// A buffer for so many pages.
+fn page_buffer(alloc: Global, pages: usize) -> Result<Vec<u8>, AllocError>
+    requires some { 0 < pages }
+    requires few { pages ≤ 1024 }
+    ensures { IfOk result (λ buffer. 4096 ≤ length buffer.items) }
+{
+    vec![in alloc; 0u8; pages * PAGE_SIZE]
+}
+
+/// Writes the core file of a space of a memory whose pages stand in the slots of a store.
+///
+/// # Errors
+///
+/// `Fault` where the device failed or memory was refused, and `File` where the output was, or the space has over 1,024
+/// areas, as none has that a store shows.
+pub(crate) fn write_core<D: Disk, O: CoreOutput>(
+    alloc: Global,
+    disk: &mut D,
+    placed: &PlacedMemory<'_>,
+    space: &SpaceTable,
+    out: &mut O,
+) -> Result<(), WriteError>
+    requires slots { All
+        (λ r. IsInSlots (length (D.contents disk.old)) r.there) placed.now.runs.items }
+    requires within { All IsWithin placed.now.runs.items }
+    requires areas { AreMaximal None space.now.areas.items }
+    ensures text { D.is_honest disk.new → OnOk result
+        (Appends (O.contents out.old) (O.contents out.new)
+        (placed_core (D.contents disk.old) placed.now.checkpoint
+        (placed_pages placed.now.runs.items) (listing_of space.now))) }
+    ensures reads { OnlyReads D.Disk disk.old disk.new }
+{
+    if space.areas.len() > AREA_LIMIT {
+        return Err(WriteError::File(io::ErrorKind::InvalidInput.into()));
+    }
+    let front = front_of(alloc, placed.checkpoint, space.space, &space.areas)?;
+    out.put(&front)?;
+    let mut buffer = page_buffer(alloc, BUFFER_PAGES)?;
+    put_pages(disk, space.space, &placed.runs, &mut buffer, out)
+}
+
+/// Writes the core file of a space, where it is wanted.
+fn write_wanted<D: Disk, S: CoreFiles>(
+    alloc: Global,
+    disk: &mut D,
+    placed: &PlacedMemory<'_>,
+    space: &SpaceTable,
+    files: &mut S,
+) -> Result<(), WriteError>
+    requires slots { All
+        (λ r. IsInSlots (length (D.contents disk.old)) r.there) placed.now.runs.items }
+    requires within { All IsWithin placed.now.runs.items }
+    requires areas { AreMaximal None space.now.areas.items }
+    ensures taken { D.is_honest disk.new → OnOk result (Takes (S.taken files.old) (S.taken files.new)
+        (placed_cores (S.wanted files.old) (D.contents disk.old) placed.now.checkpoint
+        (placed_pages placed.now.runs.items) (listing_of space.now ∷ []))) }
+    ensures same { OnOk result (S.wanted files.new ≡ S.wanted files.old) }
+    ensures reads { OnlyReads D.Disk disk.old disk.new }
+{
+    let Some(mut file) = files.begin(space.space)? else {
+        return Ok(());
+    };
+    write_core(alloc, disk, placed, space, &mut file)?;
+    files.finish(space.space, file)?;
+    Ok(())
+}
+
+/// Writes the core file of each space of a memory, where it is wanted.
+fn write_placed<D: Disk, S: CoreFiles>(
+    alloc: Global,
+    disk: &mut D,
+    placed: &PlacedMemory<'_>,
+    files: &mut S,
+) -> Result<(), WriteError>
+    requires slots { All
+        (λ r. IsInSlots (length (D.contents disk.old)) r.there) placed.now.runs.items }
+    requires within { All IsWithin placed.now.runs.items }
+    requires areas { All
+        (λ (s : SpaceTable). AreMaximal None s.areas.items) placed.now.spaces.now }
+    ensures taken { D.is_honest disk.new → OnOk result (Takes (S.taken files.old) (S.taken files.new)
+        (placed_cores (S.wanted files.old) (D.contents disk.old) placed.now.checkpoint
+        (placed_pages placed.now.runs.items) (map listing_of placed.now.spaces.now))) }
+    ensures reads { OnlyReads D.Disk disk.old disk.new }
+{
+    files.check(placed.spaces)?;
+    for space in placed.spaces {
+        write_wanted(alloc, disk, placed, space, files)?;
+    }
+    Ok(())
+}
+
+/// Writes the core files of the memory that a store shows, behind all checks of a restore, and returns the number of its
+/// checkpoint. It holds a few pages at a time.
+///
+/// # Errors
+///
+/// `Fault` where a restore of the store ends with it, and `File` where a file can't be written.
+pub fn write_shown<D: Disk, S: CoreFiles>(
+    alloc: Global,
+    disk: &mut D,
+    files: &mut S,
+) -> Result<u64, WriteError>
+    // The store shows a memory, of the checkpoint with this number, and the files that were taken are the core files of
+    // its spaces, of those that are wanted.
+    ensures cores { D.is_honest disk.new → IfOk result
+        (TakesCores (D.contents disk.old) (S.wanted files.old) (S.taken files.old) (S.taken files.new)) }
+    ensures reads { OnlyReads D.Disk disk.old disk.new }
+{
+    let catalog = scan(alloc, disk)?;
+    let placed = place_newest(alloc, &catalog)?;
+    write_placed(alloc, disk, &placed, files)?;
+    Ok(placed.checkpoint)
+}

@@ -1,0 +1,56 @@
+-- How a program ends.
+use Rattle.std.specs.Prelude.{◌≡◌, ◌⊎◌, ℕ, Bool, true, false, List, [], ◌∷◌, ◌++◌, codes, Option, Result, Ok, Err}
+use Rattle.std.specs.Fmt.{decimal}
+use Rattle.std.specs.Io.KnownBytes.{Appends}
+use Rattle.sd_command.specs.Refusals.{refusal_text}
+use Rattle.sd_restore.specs.declared.fault.Fault.TheVariants.{EmptyChain}
+use Rattle.sd_exit.specs.declared.stop.Stop.{Stop}
+use Rattle.sd_exit.specs.declared.stop.Stop.TheVariants as stop
+use Rattle.sd_exit.specs.Texts.{fault_line}
+
+-- the exit status of a program that printed why it stopped: 3 where nothing was saved, 2 for a script that doesn't fit, and else 1
+abbrev pub status_of : Stop → ℕ
+status_of (stop.Fault EmptyChain) = 3
+status_of (stop.ScriptLine _) = 2
+status_of _ = 1
+
+-- what a program prints last where it is stopped: why; but a refusal is answered before, and behind a failure of the writer nothing is printed
+abbrev pub stop_text : Stop → List ℕ
+stop_text (stop.Fault fault) = fault_line fault
+stop_text stop.NoFrame = codes "no-frame" ++ 10 ∷ []
+stop_text (stop.ScriptLine number) = codes "script line " ++ decimal number ++ 10 ∷ []
+stop_text stop.CannotReadScript = codes "cannot read SCRIPT" ++ 10 ∷ []
+stop_text stop.CannotOpenFolder = codes "cannot open DIR" ++ 10 ∷ []
+stop_text stop.NotEmpty = codes "store not empty" ++ 10 ∷ []
+stop_text (stop.Order why) = codes "refused " ++ refusal_text why ++ 10 ∷ []
+stop_text stop.Refused = []
+stop_text (stop.Writer _) = []
+
+-- the same where it may have come to its end
+abbrev pub end_status : Result Unit Stop → ℕ
+end_status (Ok _) = 0
+end_status (Err why) = status_of why
+
+abbrev pub end_text : Result Unit Stop → List ℕ
+end_text (Ok _) = []
+end_text (Err why) = stop_text why
+
+-- a last text is written, and the status is the one that comes with it; or the writer refused the text
+abbrev pub IsTold : Option (List ℕ) → Option (List ℕ) → Bool → List ℕ → ℕ → ℕ → Type 0
+IsTold before after refused text wanted status = ((status ≡ wanted) × Appends before after text) ⊎ (refused ≡ true)
+
+-- how a program exits behind a last text: nothing was ever refused, that text is written and flushed, and the status is the one that comes
+-- with it; or something was refused, and the status is 1
+abbrev pub Exits : Option (List ℕ) → Option (List ℕ) → Bool → List ℕ → ℕ → ℕ → Type 0
+Exits before after refused text wanted status = ((refused ≡ false) × Appends before after text × (status ≡ wanted)) ⊎ ((refused ≡ true) × (status ≡ 1))
+
+-- what is so where nothing more can be printed
+abbrev pub OnWriter : Result Unit Stop → Type 0 → Type 0
+OnWriter (Err (stop.Writer _)) P = P
+OnWriter _ P = Unit {0}
+
+-- what is so where a program was stopped, and not by its writer
+abbrev pub OnFault : Result Unit Stop → Type 0 → Type 0
+OnFault (Ok _) P = Unit {0}
+OnFault (Err (stop.Writer _)) P = Unit {0}
+OnFault (Err _) P = P

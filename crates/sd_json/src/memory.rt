@@ -1,0 +1,109 @@
+//! The memory that a store shows as a document, without its bytes.
+ghost use Rattle.sd_disk.specs.Reads.{OnlyReads};
+
+use sd_areas::{Area, SpaceId};
+use sd_chain::Found;
+use sd_disk::Disk;
+use sd_image::SpaceTable;
+use sd_restore::{Fault, PlacedMemory, PlacedRun, place_newest, scan};
+use serde_json::{Value, json};
+use std::alloc::{AllocError, Global};
+
+/// How many pages, and how many of them are zeros without bytes in a file.
+#[derive(Clone, Copy, Debug, PartialEq, Eq)]
+struct Counts {
+    pages: u64,
+    zeros: u64,
+}
+
+/// How many of a run's pages are zeros without bytes in a file.
+fn zeros_of(run: &PlacedRun) -> u64 {
+    match run.there {
+        Found::Data { .. } => 0,
+        Found::Zero => run.count,
+    }
+}
+
+/// How many pages of all runs there are.
+fn count_all(runs: &[PlacedRun]) -> Counts {
+    let mut counts = Counts { pages: 0, zeros: 0 };
+    for run in runs {
+        counts.pages = counts.pages.saturating_add(run.count);
+        counts.zeros = counts.zeros.saturating_add(zeros_of(run));
+    }
+    counts
+}
+
+/// How many pages of a space there are.
+fn count_in(runs: &[PlacedRun], space: SpaceId) -> Counts {
+    let mut counts = Counts { pages: 0, zeros: 0 };
+    for run in runs {
+        if run.space.number() == space.number() {
+            counts.pages = counts.pages.saturating_add(run.count);
+            counts.zeros = counts.zeros.saturating_add(zeros_of(run));
+        }
+    }
+    counts
+}
+
+/// An area.
+fn area_json(alloc: Global, area: &Area) -> Result<Value, AllocError> {
+    json!(in alloc; {
+        "first": area.first.number(),
+        "count": area.count,
+        "permissions": area.prot.bits()
+    })
+}
+
+/// Areas, in their order.
+fn areas_json(alloc: Global, areas: &[Area]) -> Result<Value, AllocError> {
+    let mut shown = Vec::new(alloc);
+    for area in areas {
+        shown.push(area_json(alloc, area)?)?;
+    }
+    Ok(Value::from(shown))
+}
+
+/// A space: its areas, and how many of these pages are its.
+fn space_json(alloc: Global, space: &SpaceTable, runs: &[PlacedRun]) -> Result<Value, AllocError> {
+    let areas = areas_json(alloc, &space.areas)?;
+    let counts = count_in(runs, space.space);
+    json!(in alloc; {
+        "space": space.space.number(),
+        "areas": areas,
+        "pages": counts.pages,
+        "zeros": counts.zeros
+    })
+}
+
+/// The spaces of a memory, rising.
+fn spaces_json(alloc: Global, placed: &PlacedMemory<'_>) -> Result<Value, AllocError> {
+    let mut shown = Vec::new(alloc);
+    for space in placed.spaces {
+        shown.push(space_json(alloc, space, &placed.runs)?)?;
+    }
+    Ok(Value::from(shown))
+}
+
+/// A document of the memory that a store shows: its checkpoint, its spaces with their areas, and how many pages are
+/// mapped, and how many of them are zeros without bytes in a file. It makes the checks of a restore, and reads no page but
+/// for the digests.
+///
+/// # Errors
+///
+/// Those of `restore`.
+pub fn memory_document<D: Disk>(alloc: Global, disk: &mut D) -> Result<Value, Fault>
+    ensures reads { OnlyReads D.Disk disk.old disk.new }
+{
+    let catalog = scan(alloc, disk)?;
+    let placed = place_newest(alloc, &catalog)?;
+    let spaces = spaces_json(alloc, &placed)?;
+    let counts = count_all(&placed.runs);
+    let document = json!(in alloc; {
+        "checkpoint": placed.checkpoint,
+        "spaces": spaces,
+        "pages": counts.pages,
+        "zeros": counts.zeros
+    })?;
+    Ok(document)
+}

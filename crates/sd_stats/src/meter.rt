@@ -1,0 +1,294 @@
+//! What is seen of a device's calls, and the records that are made of it.
+
+use crate::making::{Making, SeenSlot};
+use crate::record::{CheckpointRecord, ImageRecord, MergeRecord, Record};
+use sd_image::{GATE, HEADER_SIZE, Header, Kind};
+use sd_show::PageCounts;
+use std::alloc::{AllocError, Global};
+use std::mem;
+use std::time::Duration;
+
+/// The images of a checkpoint that is being made.
+#[derive(Clone, Copy, Debug)]
+struct Running {
+    number: u64,
+    begun: Duration,
+    rounds: u64,
+    pages: PageCounts,
+    bytes: u64,
+    calls: u64,
+}
+
+/// Sees the device calls of a run, and makes records of them. Times are those of one clock.
+#[derive(Drop)]
+pub struct Meter {
+    alloc: Global,
+    calls: u64,
+    /// How many of the calls read pages.
+    reads: u64,
+    slots: Vec<SeenSlot>,
+    running: Option<Running>,
+    /// Since when the memory was seen frozen.
+    frozen: Option<Duration>,
+    /// A merge whose image is there, while images are closed behind it.
+    merge: Option<MergeRecord>,
+    merge_begun: Duration,
+    done: Vec<Record>,
+}
+
+/// Whether an image is a pre-dump.
+fn is_pre_dump(kind: Kind) -> bool {
+    matches!(kind, Kind::PreDump)
+}
+
+impl Meter {
+    /// Of so many slots nothing was seen.
+    ///
+    /// # Errors
+    ///
+    /// Out of memory where the slots find no room.
+    pub fn new(alloc: Global, slots: usize) -> Result<Meter, AllocError> {
+        let unseen = SeenSlot {
+            is_open: false,
+            last_read: 0,
+            making: None,
+        };
+        Ok(Meter {
+            alloc,
+            calls: 0,
+            reads: 0,
+            slots: vec![in alloc; unseen; slots]?,
+            running: None,
+            frozen: None,
+            merge: None,
+            merge_begun: Duration::ZERO,
+            done: Vec::new(alloc),
+        })
+    }
+
+    /// How many device calls were made.
+    pub fn calls(&self) -> u64 {
+        self.calls
+    }
+
+    /// The records that were made since this was asked before.
+    pub fn take(&mut self) -> Vec<Record> {
+        mem::replace(&mut self.done, Vec::new(self.alloc))
+    }
+
+    /// Takes in whether the memory is frozen.
+    pub fn see_frozen(&mut self, is_frozen: bool, now: Duration) {
+        if !is_frozen {
+            self.frozen = None;
+        } else if self.frozen.is_none() {
+            self.frozen = Some(now);
+        }
+    }
+
+    /// The merge has ended: its record is made.
+    pub fn end_merge(&mut self) {
+        if let Some(record) = self.merge.take() {
+            self.add(Record::Merge(record));
+        }
+    }
+
+    /// Adds a record. Where it finds no room it is left out.
+    fn add(&mut self, record: Record) {
+        let _ = self.done.push(record);
+    }
+
+    fn count(&mut self) {
+        self.calls = self.calls.saturating_add(1);
+    }
+
+    /// A call of a length was made.
+    pub(crate) fn measured(&mut self) {
+        self.count();
+    }
+
+    /// Bytes of a slot were read.
+    pub(crate) fn read(&mut self, slot: usize, at: usize, bytes: &[u8]) {
+        self.count();
+        let calls = self.calls;
+        let Some(seen) = self.slots.get_mut(slot) else {
+            return;
+        };
+        if at >= HEADER_SIZE {
+            seen.last_read = calls;
+            self.reads = self.reads.saturating_add(1);
+        } else if at == 0 {
+            seen.is_open = bytes.first() == Some(&GATE);
+        }
+    }
+
+    /// A call that closes an image behind a merge was made.
+    fn count_closing(&mut self, now: Duration) {
+        let begun = self.merge_begun;
+        if let Some(merge) = &mut self.merge {
+            merge.calls = merge.calls.saturating_add(1);
+            merge.took = now.saturating_sub(begun);
+        }
+    }
+
+    /// An image was closed behind a merge.
+    fn count_closed(&mut self, now: Duration) {
+        if let Some(merge) = &mut self.merge {
+            merge.closed = merge.closed.saturating_add(1);
+        }
+        self.count_closing(now);
+    }
+
+    /// A slot was closed: an image begins to be made there, or one isn't needed behind a merge.
+    fn close(&mut self, slot: usize, now: Duration) {
+        let mut making = Making::new(now, self.calls, self.reads);
+        making.format();
+        let merges = self.merge.is_some();
+        let Some(seen) = self.slots.get_mut(slot) else {
+            return;
+        };
+        making.closes = seen.is_open && merges;
+        seen.is_open = false;
+        seen.making = Some(making);
+        if making.closes {
+            self.count_closed(now);
+        }
+    }
+
+    /// Bytes were written into a slot's file.
+    pub(crate) fn wrote(&mut self, slot: usize, at: usize, bytes: &[u8], now: Duration) {
+        self.count();
+        if at == 0 && bytes.first() != Some(&GATE) {
+            self.close(slot, now);
+            return;
+        }
+        let Some(seen) = self.slots.get_mut(slot) else {
+            return;
+        };
+        if let Some(making) = &mut seen.making {
+            making.body(now);
+            making.write(at, bytes);
+        }
+    }
+
+    /// A slot's file was cut.
+    pub(crate) fn cut(&mut self, slot: usize, now: Duration) {
+        self.count();
+        let fresh = Making::new(now, self.calls, self.reads);
+        let Some(seen) = self.slots.get_mut(slot) else {
+            return;
+        };
+        let before = seen.making.unwrap_or(fresh);
+        let mut making = if before.awaits_cut() { before } else { fresh };
+        making.cut();
+        seen.making = Some(making);
+        if making.closes {
+            self.count_closing(now);
+        }
+    }
+
+    /// A slot's file was synced. An image whose gate is open is there.
+    pub(crate) fn synced(&mut self, slot: usize, now: Duration) {
+        self.count();
+        let Some(seen) = self.slots.get_mut(slot) else {
+            return;
+        };
+        let Some(mut made) = seen.making else {
+            return;
+        };
+        made.sync(now);
+        seen.making = Some(made);
+        if let Some(header) = made.opened() {
+            seen.making = None;
+            seen.is_open = true;
+            self.enter(slot, header, &made, now);
+        } else if made.closes {
+            self.count_closing(now);
+        }
+    }
+
+    /// Makes the record of an image that is there, and of its checkpoint or its merge.
+    fn enter(&mut self, slot: usize, header: &Header, made: &Making, now: Duration) {
+        let record = ImageRecord {
+            serial: header.serial,
+            slot,
+            kind: header.kind,
+            checkpoint: header.checkpoint,
+            pages: made.table,
+            bytes: made.bytes,
+            calls: made.calls,
+            took: now.saturating_sub(made.begun),
+        };
+        self.add(Record::Image(record));
+        match header.kind {
+            Kind::Merged => self.enter_merged(&record, made),
+            Kind::PreDump => self.running = Some(self.joined(&record, made)),
+            Kind::Dump => self.enter_dump(&record, made, now),
+        }
+    }
+
+    /// The checkpoint that runs, with one image more.
+    fn joined(&self, record: &ImageRecord, made: &Making) -> Running {
+        let before = match self.running {
+            Some(running) if running.number == record.checkpoint => running,
+            _ => Running {
+                number: record.checkpoint,
+                begun: made.begun,
+                rounds: 0,
+                pages: PageCounts::NONE,
+                bytes: 0,
+                calls: 0,
+            },
+        };
+        Running {
+            rounds: before
+                .rounds
+                .saturating_add(u64::from(is_pre_dump(record.kind))),
+            pages: before.pages.and(record.pages),
+            bytes: before.bytes.saturating_add(record.bytes),
+            calls: before.calls.saturating_add(record.calls),
+            ..before
+        }
+    }
+
+    /// Makes the record of a checkpoint whose dump is there.
+    fn enter_dump(&mut self, record: &ImageRecord, made: &Making, now: Duration) {
+        let running = self.joined(record, made);
+        let frozen = self.frozen.or(made.body_begun).unwrap_or(now);
+        self.running = None;
+        self.frozen = None;
+        self.add(Record::Checkpoint(CheckpointRecord {
+            number: record.checkpoint,
+            serial: record.serial,
+            slot: record.slot,
+            rounds: running.rounds,
+            pages: running.pages,
+            bytes: running.bytes,
+            calls: running.calls,
+            took: now.saturating_sub(running.begun),
+            frozen_calls: made.body_calls,
+            frozen: now.saturating_sub(frozen),
+        }));
+    }
+
+    /// Begins the record of a merge whose image is there.
+    fn enter_merged(&mut self, record: &ImageRecord, made: &Making) {
+        self.end_merge();
+        let since = made.first_call;
+        let read = self
+            .slots
+            .iter()
+            .filter(|seen| seen.last_read > since)
+            .count();
+        self.merge_begun = made.begun;
+        self.merge = Some(MergeRecord {
+            serial: record.serial,
+            slot: record.slot,
+            read: read as u64,
+            closed: 0,
+            calls: record
+                .calls
+                .saturating_add(self.reads.saturating_sub(made.first_read)),
+            took: record.took,
+        });
+    }
+}

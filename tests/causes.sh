@@ -1,0 +1,93 @@
+# What is told on the standard error behind a fixed line: the cause, and what may help. The standard output stays as it is.
+
+# A damaged slot in words, by each program that opens the store; and nothing with --quiet.
+damage_is_told_in_words() {
+  local told="ckpt: store: img-000 is damaged: the digest is not that of the file; ckpt show store 0 tells more, and an older \
+copy of the file may help"
+  hello_store 2 || return 1
+  flip 5000
+  echo 'mmap 1 0 4096 r' > script
+  for words in "verify store" "restore store" "list store" "run store script" "merge store" "shell store"; do
+    ends_with 1 "damaged 000 17" "$told" "$ckpt" $words < script || return 1
+    ends_with 1 "damaged 000 17" "" "$ckpt" $words --quiet < script || return 1
+    ends_with 1 "damaged 000 17" "" "$ckpt" $words -q < script || return 1
+  done
+}
+
+# A broken chain is told with the list, which still has the images.
+broken_chains_are_told() {
+  store_of "2 2 2 2 1 1 parent"
+  ends_with 1 "damaged 000 18" "ckpt: store: img-000 is damaged: a page is in a parent that does not have it; ckpt show store 0 \
+tells more, ckpt list store has the images that are there, and an older copy of the file may help" "$ckpt" verify store
+}
+
+# A store of 63 images, or of 64.
+fill_store() {  # fill_store COUNT
+  local serial made
+  rm -rf store
+  for ((serial = 1; serial <= $1; serial++)); do
+    one_page "store/img-$(printf %03d $((serial - 1)))" "2 2 $serial $serial $((serial - 1)) $serial" "$([ $serial = 1 ] && echo 7 || echo parent)"
+  done
+}
+
+few_slots_are_told() {
+  fill_store 63
+  printf 'checkpoint 1\n' > script
+  ends_with 1 "reopened 63
+refused 12 no-slot" "script line 1: checkpoint 1: refused 12 no-slot
+ckpt: store: no-slot: of its slots 1 are free, and 3 wanted; a merge frees those of the images that it takes in" \
+    "$ckpt" run --strict store script || return 1
+  ends_with 1 "reopened 63
+refused 12 no-slot" "" "$ckpt" run --strict --quiet store script || return 1
+  fill_store 64
+  ends_with 1 "refused 12 no-slot" "ckpt: store: no-slot: of its slots 0 are free, and 1 wanted; a merge frees those of the images that \
+it takes in" "$ckpt" merge store
+}
+
+# Other refusals are told without slots.
+other_refusals_have_no_slots() {
+  mkdir store
+  ends_with 1 "refused 14 idle" "" "$ckpt" merge store
+}
+
+files_that_are_no_files_are_told() {
+  mkdir -p store/img-005
+  ends_with 1 "cannot open DIR" "ckpt: store: img-005: not a regular file" "$ckpt" list store
+}
+
+folders_without_files_are_told() {
+  mkdir store
+  ends_with 0 "ok empty" "ckpt: store: it has none of the files img-000 to img-063; is it the folder that is meant?" "$ckpt" verify store || return 1
+  ends_with 0 "ok empty" "" "$ckpt" verify -q store || return 1
+  : > store/img-063
+  ends_with 0 "ok empty" "" "$ckpt" verify store
+}
+
+# Lines that don't fit, and what is told of them.
+unfit_lines='mmap 1 0x10000 4096 wr|field 5 has to be none, or some of rwx in this order, not "wr"
+mmap 1 0x10000 4096 rw\r|field 5 has to be none, or some of rwx in this order, not "rw\\r"; the line has a carriage return; lines end with a newline alone
+load 1\t0x10000 1|field 2 has to be a number below 2^64, decimal or 0x and hexadecimal, not "1\\t0x10000"; the line has a tab; fields are separated by single spaces
+load 1  0x10000 1|field 3 has to be a number below 2^64, decimal or 0x and hexadecimal, not ""; the line has two spaces side by side
+\x20load 1 0x10000 1|field 1 is no request of the language, not ""; the line begins with a space
+load 1 0x10000 1\x20|it has 5 fields, separated by single spaces, and needs 4; the line ends with a space
+store 1 0x10000 abc|field 4 has to be hexadecimal digits, two for each byte, not "abc"
+work writer|field 2 has to be dumper, merger or opener, not "writer"
+Load 1 2 3|field 1 is no request of the language, not "Load"
+load 1 2|it has 3 fields, separated by single spaces, and needs 4
+#\xff|it isn'"'"'t UTF-8'
+
+unfit_lines_are_explained() {
+  local row
+  while IFS= read -r row; do
+    printf %b "${row%%|*}" > script
+    ends_with 2 "script line 1" "ckpt: script: line 1: $(printf %b "${row#*|}")" "$ckpt" run --check script || return 1
+  done <<< "$unfit_lines"
+}
+
+try damage_is_told_in_words
+try broken_chains_are_told
+try few_slots_are_told
+try other_refusals_have_no_slots
+try files_that_are_no_files_are_told
+try folders_without_files_are_told
+try unfit_lines_are_explained

@@ -1,0 +1,341 @@
+# Memory as ELF core files: `export` and `import`. tests/core_files.py makes and compares cores on its own.
+
+cores() { python3 "$here/core_files.py" "$@"; }
+
+needs_python() {
+  command -v python3 > found || { echo "needs python3"; return 77; }
+}
+
+# A store with two areas in space 1 and a child that differs.
+make_spaces() {
+  printf '%s\n' 'mmap 1 0x10000 8192 rw' 'store 1 0x10000 68656c6c6f' 'mmap 1 0x20000 4096 rw' 'store 1 0x20ffe 0102' \
+    'mprotect 1 0x20000 4096 rx' 'fork 1' 'store 2 0x11000 ff' 'checkpoint 0' > script
+  "$ckpt" run store script > made || { cat made; return 1; }
+}
+
+# Prints a number as so many bytes, little endian.
+le() {  # le BYTES NUMBER
+  local made=
+  add_number "$2" "$1"
+  printf '%b' "$made"
+}
+
+zero_bytes() { head -c "$1" /dev/zero; }
+
+# The core of a checkpoint's space 1 with one area of two pages, byte by byte (docs/FORMATS.md).
+one_area_core() {  # one_area_core CHECKPOINT
+  printf '\177ELF\2\1\1'; zero_bytes 9
+  le 2 4; le 2 62; le 4 1; le 8 0; le 8 64; le 8 0; le 4 0; le 2 64; le 2 56; le 2 2; le 2 0; le 2 0; le 2 0
+  le 4 4; le 4 4; le 8 176; le 8 0; le 8 0; le 8 396; le 8 0; le 8 4
+  le 4 1; le 4 6; le 8 4096; le 8 0x10000; le 8 0; le 8 8192; le 8 8192; le 8 4096
+  le 4 5; le 4 336; le 4 1; printf 'CORE\0\0\0\0'; zero_bytes 336
+  le 4 11; le 4 16; le 4 1; printf 'DEVONTSIRA\0\0'; le 8 "$1"; le 8 1
+  zero_bytes 3524
+  printf hello; zero_bytes 8187
+}
+
+export_is_the_file_made_by_hand() {
+  printf 'mmap 1 0x10000 8192 rw\nstore 1 0x10000 68656c6c6f\ncheckpoint 0\n' > script
+  "$ckpt" run store script > made || return 1
+  ends_with 0 "" "" "$ckpt" export store cores || return 1
+  one_area_core 1 > wanted
+  cmp cores/space-1.core wanted || return 1
+  same "the files" "$(ls -A cores)" space-1.core
+}
+
+import_of_a_file_made_by_hand() {
+  one_area_core 7 > core
+  ends_with 0 "imported 2 changed 2
+acked 1" "" "$ckpt" import store core || return 1
+  same "what is restored" "$("$ckpt" restore store)" "checkpoint 1
+space 1
+area 0x10000 0x12000 rw-
+bytes 0x10000 68656c6c6f000000000000000000000000000000000000000000000000000000"
+}
+
+exports_each_space() {
+  make_spaces || return 1
+  local before
+  before=$(sums store)
+  ends_with 0 "" "" "$ckpt" export store cores || return 1
+  same "the files" "$(ls -A cores)" "space-1.core
+space-2.core" || return 1
+  same "the store" "$(sums store)" "$before" || return 1
+  ends_with 0 "" "" "$ckpt" export store one --space 2 || return 1
+  same "the file" "$(ls -A one)" space-2.core || return 1
+  cmp one/space-2.core cores/space-2.core
+}
+
+zeros_of_an_export_are_holes() {
+  printf 'mmap 1 0x10000 4194304 rw\nstore 1 0x20000 01\ncheckpoint 0\n' > script
+  "$ckpt" run store script > made || return 1
+  "$ckpt" export store cores || return 1
+  same "the length" "$(stat -c %s cores/space-1.core)" 4198400 || return 1
+  [ "$(stat -c %b cores/space-1.core)" -le 64 ] || { stat cores/space-1.core; return 1; }
+}
+
+readelf_reads_an_export() {
+  command -v readelf > found || { echo "needs readelf"; return 77; }
+  make_spaces || return 1
+  "$ckpt" export store cores || return 1
+  readelf -lW cores/space-1.core > told 2> warnings || return 1
+  same "the warnings" "$(cat warnings)" "" || return 1
+  same "the segments" "$(grep -E '^ +(NOTE|LOAD) ' told | sed 's/^ *//')" \
+    "NOTE           0x0000e8 0x0000000000000000 0x0000000000000000 0x00018c 0x000000 R   0x4
+LOAD           0x001000 0x0000000000010000 0x0000000000000000 0x002000 0x002000 RW  0x1000
+LOAD           0x003000 0x0000000000020000 0x0000000000000000 0x001000 0x001000 R E 0x1000" || return 1
+  has "the type" "$(readelf -hW cores/space-1.core)" "CORE (Core file)" || return 1
+  has "the notes" "$(readelf -nW cores/space-1.core)" "01 00 00 00 00 00 00 00 01 00 00 00 00 00 00 00"
+}
+
+gdb_reads_an_export() {
+  command -v gdb > found || { echo "needs gdb"; return 77; }
+  make_spaces || return 1
+  "$ckpt" export store cores || return 1
+  gdb -batch -nx -ex 'x/s 0x10000' -ex 'x/2xb 0x20ffe' -c cores/space-1.core > told 2>&1
+  has "the text" "$(cat told)" '0x10000:	"hello"' || return 1
+  has "the bytes" "$(cat told)" '0x20ffe:	0x01	0x02'
+}
+
+export_replaces_nothing_without_force() {
+  make_spaces || return 1
+  mkdir cores
+  echo mine > cores/space-2.core
+  ends_with 1 "cannot write OUT" "ckpt: cores: the file is there already; with --force it is replaced" \
+    "$ckpt" export store cores || return 1
+  same "the folder" "$(ls -A cores)" space-2.core || return 1
+  same "the file" "$(cat cores/space-2.core)" mine || return 1
+  ends_with 0 "" "" "$ckpt" export store cores --force || return 1
+  same "the pages" "$(needs_python && cores pages cores/space-2.core)" 3
+}
+
+export_ends_as_restore_does() {
+  mkdir store
+  ends_with 3 "empty chain" "" "$ckpt" export store cores || return 1
+  ends_with 1 "cannot open DIR" "$(ends "$ckpt" restore none > status; cat err)" "$ckpt" export none cores || return 1
+  make_spaces || return 1
+  ends_with 1 "cannot write OUT" "ckpt: cores: the store shows no such space" "$ckpt" export store cores --space 9 || return 1
+  put_byte store/img-000 100 1
+  same "the status" "$(ends "$ckpt" export store cores)" 1 || return 1
+  same "the fault" "$(cat out)" "$("$ckpt" restore store)" || return 1
+  [ ! -e cores ] || { ls -A cores; return 1; }
+  for number in 0 17 x; do
+    same "the status of space $number" "$(ends "$ckpt" export store cores --space "$number")" 2 || return 1
+  done
+}
+
+export_into_a_file_is_refused() {
+  make_spaces || return 1
+  echo file > cores
+  same "the status" "$(ends "$ckpt" export store cores)" 1 || return 1
+  same "the output" "$(cat out)" "cannot write OUT" || return 1
+  same "the file" "$(cat cores)" file
+}
+
+import_changes_one_space() {
+  needs_python || return
+  make_spaces || return 1
+  "$ckpt" export store before || return 1
+  cores make 5 core
+  ends_with 0 "imported $(cores pages core) changed $(($(cores pages core) + 3))
+acked 2" "" "$ckpt" import store core --space 2 || return 1
+  "$ckpt" export store after || return 1
+  cores same core after/space-2.core || return 1
+  cores same before/space-1.core after/space-1.core
+}
+
+import_makes_the_least_free_space() {
+  needs_python || return
+  make_spaces || return 1
+  "$ckpt" export store before || return 1
+  ends_with 0 "imported 3 changed 3
+acked 2" "" "$ckpt" import store before/space-1.core --space 3 --rounds 2 || return 1
+  "$ckpt" export store after || return 1
+  cores same before/space-1.core after/space-3.core || return 1
+  cores same before/space-1.core after/space-1.core || return 1
+  cores same before/space-2.core after/space-2.core || return 1
+  local kept
+  kept=$("$ckpt" restore store)
+  ends_with 1 "refused 3 no-such-space" "" "$ckpt" import store before/space-1.core --space 9 || return 1
+  same "what is restored" "$("$ckpt" restore store)" "$kept"
+}
+
+second_import_changes_what_differs() {
+  needs_python || return
+  make_spaces || return 1
+  "$ckpt" export store cores || return 1
+  ends_with 0 "imported 3 changed 3
+acked 1" "" "$ckpt" import other cores/space-1.core || return 1
+  ends_with 0 "imported 3 changed 0
+acked 2" "" "$ckpt" import other cores/space-1.core || return 1
+  ends_with 0 "imported 3 changed 1
+acked 3" "" "$ckpt" import other cores/space-2.core || return 1
+  "$ckpt" export other again || return 1
+  cores same cores/space-2.core again/space-1.core
+}
+
+# Permissions, pages that come and go, and areas that split and join, over some stores.
+cores_by_chance_go_in_and_out() {
+  needs_python || return
+  local count=500
+  [ -z "${CHECKED:-}" ] || count=12
+  same "the cores" "$(cores trial "$ckpt" "$count")" "$count cores"
+}
+
+# A core ends in a named answer, and the store stays as it is.
+is_refused() {  # is_refused CORE LINE CAUSE
+  same "the status of $3" "$(ends "$ckpt" import store "$1")" 1 || return 1
+  same "the line of $3" "$(cat out)" "$2" || return 1
+  same "the cause" "$(cat err)" "ckpt: $1: $3" || return 1
+  [ ! -e store ] || { echo "$3: a store was made"; return 1; }
+}
+
+damaged_headers_are_told() {
+  local place byte step=1
+  [ -z "${CHECKED:-}" ] || step=7
+  one_area_core 1 > core
+  for ((place = 0; place < 200; place += step)); do
+    cp core changed
+    byte=$((16#$(bytes_of core "$place" 1)))
+    put_byte changed "$place" $((byte ^ 255))
+    rm -rf store
+    "$ckpt" import store changed > out 2> err
+    case $?:$(head -n 1 out) in
+      0:imported* | 1:"not a core" | 1:"core too large") ;;
+      *) echo "place $place"; cat out err; return 1 ;;
+    esac
+  done
+}
+
+cut_headers_are_told() {
+  local length cause step=1
+  [ -z "${CHECKED:-}" ] || step=25
+  one_area_core 1 > core
+  for ((length = 0; length < 176; length += step)); do
+    head -c "$length" core > cut
+    if [ "$length" -lt 64 ]; then
+      cause="the file is shorter than an ELF header"
+    else
+      cause="the program headers end behind the file"
+    fi
+    is_refused cut "not a core" "$cause" || return 1
+  done
+  head -c 12287 core > cut
+  is_refused cut "not a core" "segment 1 ends behind the file"
+}
+
+# Fields of the second program header, which begins at byte 120: its offset 8, address 16, size in the file 32, in memory 40.
+segments_that_no_space_has_are_told() {
+  needs_python || return
+  one_area_core 1 > core
+  changed() {  # changed PLACE NUMBER LINE CAUSE
+    cp core changed_core
+    cores edit changed_core "$1" 8 "$2" && is_refused changed_core "$3" "segment 1 $4"
+  }
+  changed 136 0x10001 "not a core" "isn't made of pages" || return 1
+  changed 160 8193 "not a core" "isn't made of pages" || return 1
+  changed 160 0 "not a core" "isn't made of pages" || return 1
+  changed 160 4096 "not a core" "has more bytes in the file than in memory" || return 1
+  changed 128 0xfffffffffffff000 "not a core" "ends behind the file" || return 1
+  changed 136 0x7ffffffff000 "core too large" "ends above the address 2^47" || return 1
+  changed 160 0x8000000000000000 "core too large" "ends above the address 2^47" || return 1
+  changed 160 0xfffffffffffff000 "core too large" "ends above the address 2^47" || return 1
+  changed 160 0x10001000 "core too large" "is past the limit of 65536 pages"
+}
+
+# A core of segments of a page each: their addresses and flags.
+flat_core() {  # flat_core "ADDRESS FLAGS".. by lines of the standard input
+  local lines count address flags
+  mapfile -t lines
+  count=${#lines[@]}
+  printf '\177ELF\2\1\1'; zero_bytes 9
+  le 2 4; le 2 62; le 4 1; le 8 0; le 8 64; le 8 0; le 4 0; le 2 64; le 2 56; le 2 "$count"; le 6 0
+  for line in "${lines[@]}"; do
+    read -r address flags <<< "$line"
+    le 4 1; le 4 "$flags"; le 8 0; le 8 "$address"; le 8 0; le 8 0; le 8 4096; le 8 1
+  done
+}
+
+overlapping_segments_and_too_many_areas_are_told() {
+  printf '0x10000 4\n0x10000 4\n' | flat_core > core
+  is_refused core "not a core" "segment 1 begins below the end of the one before" || return 1
+  printf '0x11000 4\n0x10000 4\n' | flat_core > core
+  is_refused core "not a core" "segment 1 begins below the end of the one before" || return 1
+  seq 1 1025 | sed 's/.*/& &/' | while read -r k _; do echo "$((k * 8192)) 4"; done | flat_core > core
+  is_refused core "core too large" "segment 1024 is past the limit of 1024 areas" || return 1
+  seq 1 1025 | while read -r k; do echo "$((k * 4096)) 4"; done | flat_core > core
+  ends_with 0 "imported 1025 changed 1025
+acked 1" "" "$ckpt" import store core
+}
+
+other_files_are_no_core() {
+  one_area_core 1 > core
+  put_byte core 4 1
+  is_refused core "not a core" "e_ident isn't that of a little-endian ELF64 file" || return 1
+  one_area_core 1 > core
+  put_byte core 16 2
+  is_refused core "not a core" "e_type isn't ET_CORE" || return 1
+  one_area_core 1 > core
+  put_byte core 18 3
+  is_refused core "not a core" "e_machine isn't EM_X86_64" || return 1
+  one_area_core 1 > core
+  put_byte core 54 57
+  is_refused core "not a core" "e_phentsize isn't 56" || return 1
+  one_area_core 1 > core
+  put_byte core 56 255
+  put_byte core 57 255
+  is_refused core "not a core" "e_phnum is over 65534" || return 1
+  same "the status of no file" "$(ends "$ckpt" import store none)" 1 || return 1
+  same "its line" "$(cat out)" "cannot read CORE" || return 1
+  same "the status of a round too many" "$(ends "$ckpt" import store core --rounds 9)" 2
+}
+
+# 1,000 areas of pages that all change their permissions and their places.
+many_areas_are_taken_at_once() {
+  [ -z "${CHECKED:-}" ] || { echo "a build with checks is too slow"; return 77; }
+  needs_python || return
+  seq 1 1000 | while read -r k; do echo "$((k * 4096)) $((k % 2 + 4))"; done | flat_core > core
+  ends_with 0 "imported 1000 changed 1000
+acked 1" "" "$ckpt" import store core || return 1
+  seq 1 1000 | while read -r k; do echo "$((k * 4096 + 2048000)) $((k % 2 + 5))"; done | flat_core > other
+  "$ckpt" import store other > told || { cat told; return 1; }
+  "$ckpt" export store cores || return 1
+  cores same other cores/space-1.core
+}
+
+try export_is_the_file_made_by_hand
+try import_of_a_file_made_by_hand
+try exports_each_space
+try zeros_of_an_export_are_holes
+try readelf_reads_an_export
+try gdb_reads_an_export
+try export_replaces_nothing_without_force
+try export_ends_as_restore_does
+try export_into_a_file_is_refused
+try import_changes_one_space
+try import_makes_the_least_free_space
+try second_import_changes_what_differs
+try cores_by_chance_go_in_and_out
+try damaged_headers_are_told
+try cut_headers_are_told
+try segments_that_no_space_has_are_told
+try overlapping_segments_and_too_many_areas_are_told
+try other_files_are_no_core
+try many_areas_are_taken_at_once
+
+# The example prints this of a real process.
+real_process_goes_in_and_out() {
+  CKPT=$ckpt "$here/../examples/real-process" > out 2> err
+  local status=$?
+  [ "$status" -ne 77 ] || { tail -n 1 out; return 77; }
+  same "the status" "$status: $(cat err)" "0: " || { cat out; return 1; }
+  same "the output" "$(cat out)" 'imported all pages
+acked 1
+few pages changed
+acked 2
+each byte of each segment is the same
+gdb reads "entry 0"
+gdb reads "changed"'
+}
+
+try real_process_goes_in_and_out

@@ -1,0 +1,111 @@
+# `run --stats` and `run --summary`: what each image, checkpoint and merge took, beside the answers, which stay as they are.
+
+# The lines of a run agree with what `show` finds in the images that are left, and with each other.
+counts_agree() {  # counts_agree SCRIPT
+  command -v python3 > which || { echo "needs python3"; return 77; }
+  rm -rf plain store
+  "$ckpt" run plain "$1" > wanted || return 1
+  ends_with 0 "$(cat wanted)" "" "$ckpt" run --stats counts store "$1" || return 1
+  same "the stores" "$(sums store)" "$(sums plain)" || return 1
+  "$ckpt" show store --json > show.json
+  python3 - <<'END'
+import json
+lines = [json.loads(line) for line in open('counts')]
+images = {l['serial']: l for l in lines if l['of'] == 'image'}
+shown = {s['header']['serial']: s for s in json.load(open('show.json'))['slots'] if s['state'] == 'open'}
+kinds = {1: 'pre-dump', 2: 'dump', 3: 'merged'}
+for serial, slot in shown.items():
+    line, header = images[serial], slot['header']
+    pages = {kind: sum(r['count'] for s in slot['spaces'] for r in s['runs'] if r['kind'] == kind) for kind in (1, 2, 3)}
+    assert (line['data'], line['in_parent'], line['zeros']) == (pages[1], pages[2], pages[3]), (line, pages)
+    assert line['pages'] == sum(pages.values()) and line['data'] == header['pages']
+    assert line['slot'] == slot['slot'] and line['kind'] == kinds[header['kind']]
+    assert line['checkpoint'] == header['checkpoint']
+    assert line['bytes'] == 4096 + 4096 * header['pages'] + header['table_len']
+for line in images.values():
+    assert line['data'] + 5 < line['calls'] <= line['data'] + 8 and line['seconds'] >= 0, line
+for line in lines:
+    if line['of'] != 'checkpoint':
+        continue
+    its = [l for l in images.values() if l['checkpoint'] == line['checkpoint'] and l['kind'] != 'merged']
+    dump = images[line['serial']]
+    assert dump['kind'] == 'dump' and line['rounds'] == len(its) - 1 and line['slot'] == dump['slot']
+    for name in ('pages', 'data', 'zeros', 'in_parent', 'bytes', 'calls'):
+        assert line[name] == sum(l[name] for l in its), (name, line, its)
+    assert line['frozen_calls'] == dump['data'] + 5
+    assert 0 <= line['frozen_seconds'] <= line['seconds']
+acked = open('wanted').read().split().count('acked')
+merged = open('wanted').read().split().count('merged')
+assert sum(l['of'] == 'checkpoint' for l in lines) == acked, acked
+assert sum(l['of'] == 'merge' for l in lines) == merged, merged
+END
+}
+
+counts_are_those_of_the_images() {
+  local script
+  for script in "$here"/../examples/*.ckpt "$here/printing/three_spaces.ckpt"; do
+    counts_agree "$script" || return
+  done
+}
+
+# A checkpoint of two images and one of one, merged: pages of two of the images are read, and the three are closed.
+images_of_a_merge_are_counted() {
+  printf 'mmap 1 0x10000 0x4000 rw\nstore 1 0x10000 01\ncheckpoint 1\nstore 1 0x11000 02\ncheckpoint 0\nmerge\ncheckpoint 0\n' > script
+  counts_agree script || return
+  grep '"of":"merge"' counts > merge
+  has "the merge" "$(cat merge)" '"closed":3,"of":"merge","read":2,' || return 1
+  same "its calls" "$(sed -nE 's/.*"calls":([0-9]+).*/\1/p' merge)" 21
+}
+
+# A merge beside a checkpoint, event by event, and a checkpoint that is given up.
+counts_of_jobs_beside_each_other() {
+  { echo 'mmap 1 0x10000 0x20000 rw'
+    for page in 10 11 12 13 14 15 16 17; do echo "store 1 0x${page}000 01"; done
+    printf 'checkpoint 0\nstore 1 0x10000 02\ncheckpoint 0\nbegin-merge\nbegin 2\n'
+    for turn in 1 2 3 4 5 6 7 8; do printf 'step merger 2\nstore 1 0x11000 0%d\nstep dumper 3\n' "$turn"; done
+    printf 'finish dumper\nfinish merger\nbegin 1\nstep dumper 9\ncancel\ncheckpoint 0\n'; } > script
+  counts_agree script
+}
+
+counts_may_be_the_standard_error() {
+  same "the status" "$(ends "$ckpt" run --stats - store "$here/../examples/first.ckpt")" 0 || return 1
+  same "the output" "$(cat out)" "$(cat "$here/../examples/first.out")" || return 1
+  same "the lines" "$(sed -E 's/"(frozen_)?seconds":[0-9.e-]+/"\1seconds":S/g' err)" \
+    '{"bytes":8264,"calls":9,"checkpoint":1,"data":1,"in_parent":0,"kind":"dump","of":"image","pages":1,"seconds":S,"serial":1,"slot":0,"zeros":0}
+{"bytes":8264,"calls":9,"checkpoint":1,"data":1,"frozen_calls":6,"frozen_seconds":S,"in_parent":0,"of":"checkpoint","pages":1,"rounds":0,"seconds":S,"serial":1,"slot":0,"zeros":0}'
+}
+
+summary_is_a_table() {
+  printf 'mmap 1 0x10000 0x4000 rw\nstore 1 0x10000 01\ncheckpoint 1\nmerge\n' > script
+  same "the status" "$(ends "$ckpt" run --strict --summary store script)" 0 || return 1
+  same "the output" "$(cat out)" "reopened none
+done
+done
+acked 1
+merged 3" || return 1
+  same "the table" "$(sed -E 's/[0-9]+\.[0-9]{6}/S/g' err)" "\
+  serial slot kind      pages    data   zeros  parent       bytes   calls   seconds
+       1  000 pre-dump      4       1       3       0        8264       9  S
+       2  001 dump          4       0       0       4        4168       8  S
+checkpoint 1: 1 rounds, 17 device calls, S s; frozen 5 device calls, S s
+       3  002 merged        4       1       3       0        8288       9  S
+merge 3: 1 images read, 2 closed, S s"
+}
+
+counts_that_cannot_be_written() {
+  same "the status" "$(ends "$ckpt" run --stats missing/counts store "$here/../examples/first.ckpt")" 1 || return 1
+  same "the output" "$(cat out)" "" || return 1
+  has "the cause" "$(cat err)" "ckpt: missing/counts: No such file or directory" || return 1
+  [ ! -e store ] || { echo "a store was made"; return 1; }
+  [ -w /dev/full ] || return 0
+  same "the status of a full device" "$(ends "$ckpt" run --stats /dev/full store "$here/../examples/first.ckpt")" 1 || return 1
+  same "the output" "$(cat out)" "$(cat "$here/../examples/first.out")" || return 1
+  has "the cause" "$(cat err)" "ckpt: the counts: No space left on device"
+}
+
+try counts_are_those_of_the_images
+try images_of_a_merge_are_counted
+try counts_of_jobs_beside_each_other
+try counts_may_be_the_standard_error
+try summary_is_a_table
+try counts_that_cannot_be_written
