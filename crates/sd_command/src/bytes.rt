@@ -18,7 +18,7 @@ impl Model for Bytes {
 }
 
 impl Bytes {
-    /// Takes these bytes.
+    /// Takes these bytes. Any number of them is taken: a store of none, or of over 64, is refused where it is applied.
     pub fn new(bytes: Vec<u8>) -> Bytes
         ensures { result ≡ bytes.items }
     {

@@ -22,6 +22,10 @@ pub struct DirDisk {
 impl DirDisk {
     ghost use Rattle.sd_disk.specs.Folder.{folder_files, folder_failures};
 
+    /// The disk of an open folder: slot N is its file `img-NNN`, and a slot without a file has length 0. Each call of `Disk`
+    /// is one call of the system on that file. Behind a failed one, `fault` tells what the system answered. What a program
+    /// left unsynced may be lost by a crash until the slot is synced: `World::open` syncs each.
+    ///
     /// `outside` stands for what the files hold, and for what each failed write and cut will leave of them.
     pub fn new(folder: Folder) -> DirDisk
         ghost outside: { Outside }

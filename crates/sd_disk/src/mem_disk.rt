@@ -30,7 +30,13 @@ impl MemDisk {
     ghost use Rattle.sd_disk.specs.Slots.{AreAtRest};
     ghost use Rattle.sd_disk.specs.Memory.{memory_files, memory_rooms, memory_calls, memory_failures, memory_reads, memory_may_leave};
 
-    /// A disk of empty files, with room for so many bytes in each slot, and for so many writes, cuts and syncs.
+    /// A disk of 1 to 1,000 empty files, with room for so many bytes in each slot, and a record of so many writes, cuts and
+    /// syncs. A call for which there is no room fails as a device does: it changes nothing, and `failures` counts it. All
+    /// memory is taken here, three times the slots' bytes.
+    ///
+    /// # Errors
+    ///
+    /// Out of memory where a growth was refused.
     pub fn new(
         alloc: Global,
         slots: usize,
@@ -73,7 +79,11 @@ impl MemDisk {
 
     /// A disk after a crash, with one of the contents that a crash of this one may leave, all of them synced, and
     /// with the same room. `pick` is asked once for each slot's length, and then for the byte at each place of
-    /// that slot that may hold any, from the first place on.
+    /// that slot that may hold any, from the first place on. This disk stays as it is, so other crashes can be tried.
+    ///
+    /// # Errors
+    ///
+    /// Out of memory where a growth was refused.
     pub fn crash<P: Pick>(&self, alloc: Global, pick: &mut P) -> Result<MemDisk, AllocError>
         ensures outcome { IfOk result (λ disk. memory_may_leave self.now (memory_files disk)) }
         // Each outcome is given where it is aimed at.

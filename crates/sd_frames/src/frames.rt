@@ -109,7 +109,8 @@ impl Frames {
         self.slots[number as usize].share();
     }
 
-    /// Writes bytes into a frame.
+    /// Writes bytes into the page of a used frame, from an offset on, 0 to 4,095: they end within its 4,096 bytes. Each
+    /// entry that shares the frame sees them, so whoever stores for one of them takes a frame of its own first.
     pub fn write(&mut self, number: u32, offset: usize, bytes: &[u8])
         requires used { IsSome (cell_at self.old number) }
         requires within { offset + length bytes.now ≤ 4096 }

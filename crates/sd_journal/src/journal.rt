@@ -126,7 +126,8 @@ impl Journal {
         self.entries.try_reserve(wanted)
     }
 
-    /// Adds an entry, which takes no memory.
+    /// Adds an entry at the next number. It takes no memory: the room was made by `reserve`, or is left beside the held
+    /// entries, and an entry that is held stays free for `append_held`.
     pub fn append(&mut self, entry: Entry)
         requires free { entry_count self.old + self.old.held < self.old.limit }
         requires room { self.old.held < self.old.room }
