@@ -1,4 +1,4 @@
-# docs/PROMISE.md and the README: what they quote, link to and list stands in the sources.
+# docs/PROMISE.md, docs/BELIEVED.md and the README: what they quote, link to and list stands in the sources.
 
 sources=$(cd "$here/.." && pwd)
 headline=(sd_run run_lines promise so_far + sd_world restore_left restored)
@@ -32,16 +32,17 @@ promise_is_small() {
   [ "$(wc -l < "$sources/docs/PROMISE.md")" -le 300 ] || { echo "the page is too long"; return 1; }
 }
 
-# The README has the same number, and lists the definitions.
-readme_lists_what_is_believed() {
+# docs/BELIEVED.md and the README have the same number, and the former lists the definitions.
+what_is_believed_is_listed() {
   command -v python3 > found || { echo "needs python3"; return 77; }
   local told row
   told=$(grep -oE '[0-9]+ definitions of [0-9]+ lines' "$sources/docs/PROMISE.md")
   has "the README" "$(cat "$sources/README.md")" "$told" || return 1
+  has "docs/BELIEVED.md" "$(cat "$sources/docs/BELIEVED.md")" "$told" || return 1
   "$sources/docs/believe" --table "${headline[@]}" | grep '^| `' > rows
   [ "$(wc -l < rows)" -ge 10 ] || { cat rows; return 1; }
   while read -r row; do
-    grep -qxF "$row" "$sources/README.md" || { printf 'the README lacks\n%s\n' "$row"; return 1; }
+    grep -qxF "$row" "$sources/docs/BELIEVED.md" || { printf 'docs/BELIEVED.md lacks\n%s\n' "$row"; return 1; }
   done < rows
 }
 
@@ -53,5 +54,5 @@ readme_links_to_clauses() {
 
 try promise_quotes_the_definitions
 try promise_is_small
-try readme_lists_what_is_believed
+try what_is_believed_is_listed
 try readme_links_to_clauses

@@ -80,11 +80,11 @@ help_of_run_has_the_language() {
   done < forms
 }
 
-# The table of the README has the same forms.
-readme_has_the_language() {
-  sed -n '/^| Line | Does |/,/^$/p' "$here/../README.md" | sed -nE 's/^\| (`.*`) \| .*/\1/p' | grep -oE '`[^`]+`' | tr -d '`' | sort > readme
+# The table of docs/SCRIPTS.md has the same forms.
+page_has_the_language() {
+  sed -n '/^| Line | Does |/,/^$/p' "$here/../docs/SCRIPTS.md" | sed -nE 's/^\| (`.*`) \| .*/\1/p' | grep -oE '`[^`]+`' | tr -d '`' | sort > readme
   forms_of_help | sort > forms
-  same "the table of the README" "$(cat readme)" "$(cat forms)"
+  same "the table of docs/SCRIPTS.md" "$(cat readme)" "$(cat forms)"
 }
 
 # The man page has each form with what it does.
@@ -136,7 +136,7 @@ try many_answers_into_a_full_device
 try folder_that_is_no_text
 try help_has_examples_and_statuses
 try help_of_run_has_the_language
-try readme_has_the_language
+try page_has_the_language
 try manual_has_the_language
 try quiet_tells_no_cause
 try version_is_printed
