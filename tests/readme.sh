@@ -14,4 +14,12 @@ readme_shows_what_is_printed() {
   same "the README" "$(sed -E 's/[0-9]+\.[0-9]{6}/S/g' printed)" "$(sed -E 's/[0-9]+\.[0-9]{6}/S/g' block)"
 }
 
+# The README's example of the library stands in a program that the gate proves, builds and runs.
+readme_example_is_of_a_program() {
+  sed -n '/^```rust$/,/^```$/p' "$here/../README.md" | sed '1d; $d' > block
+  [ "$(wc -l < block)" -ge 20 ] || { cat block; return 1; }
+  has "example_world" "$(cat "$here/../crates/example_world/src/main.rt")" "$(cat block)"
+}
+
 try readme_shows_what_is_printed
+try readme_example_is_of_a_program

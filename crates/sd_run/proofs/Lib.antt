@@ -1,6 +1,4 @@
-mod DriveLemmas
 mod EndLemmas
-mod GoesLemmas
 mod LineLemmas
 mod MergingLemmas
 mod PromiseLemmas

@@ -19,7 +19,7 @@ use Rattle.sd_world.specs.Points.{Folds, PointsFollow, StandsAt}
 use Rattle.sd_world.specs.Promise.{Goes, Point}
 use Rattle.sd_world.specs.Runs.{IsStep}
 use Rattle.sd_world.specs.View.{WorldView, is_asked}
-use Rattle.sd_run.specs.Jobs.{Drives, IsJob, is_end, next_event}
+use Rattle.sd_world.specs.Jobs.{Drives, IsJob, is_end, next_event}
 use Rattle.sd_run.specs.Lines.{AnswersLine, AnswersLines, script_seat}
 use Rattle.sd_run.specs.Promise.{AreOf, EndsJob, GoesByLine, GoesByLines, IsAnswer, Promise, PromiseSoFar, RunsLine, Starts, Tells, begins_with, worker_of}
 use Rattle.sd_run.specs.Whole.{AreTold, IsOpened, IsPartOfRun, IsWholeRun}

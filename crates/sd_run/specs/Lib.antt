@@ -1,6 +1,4 @@
 pub mod Ending
-pub mod Goes
-pub mod Jobs
 pub mod Lines
 pub mod Merging
 pub mod Promise

@@ -10,7 +10,7 @@ use Rattle.sd_script.specs.declared.line.Line.TheVariants as line
 use Rattle.sd_world.specs.declared.event.Event.TheVariants.{Command, Begin, Work, Perform, PerformAt, Merge, Cancel, Reopen, Trim}
 use Rattle.sd_world.specs.Runs.{IsStep}
 use Rattle.sd_world.specs.View.{WorldView}
-use Rattle.sd_run.specs.Jobs.{IsDriven, IsFinished, IsJob}
+use Rattle.sd_world.specs.Jobs.{IsDriven, IsFinished, IsJob}
 use Rattle.sd_run.specs.Words.{AreGiven}
 
 -- the seat that a script's commands come from

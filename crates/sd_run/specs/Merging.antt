@@ -15,7 +15,7 @@ use Rattle.sd_world.specs.View.{WorldView}
 use Rattle.sd_world.specs.declared.open_fault.OpenFault.{OpenFault}
 use Rattle.sd_world.specs.Opens.{IsFaultOf}
 use Rattle.sd_run.specs.Ending.{unopened}
-use Rattle.sd_run.specs.Jobs.{IsJob}
+use Rattle.sd_world.specs.Jobs.{IsJob}
 use Rattle.sd_run.specs.Whole.{IsRun}
 
 -- the reply of a merge that came to its end

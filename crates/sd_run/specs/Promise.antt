@@ -22,7 +22,7 @@ use Rattle.sd_world.specs.declared.event.Event.TheVariants.{Command, Begin, Work
 use Rattle.sd_world.specs.Points.{StandsAt}
 use Rattle.sd_world.specs.Promise.{Goes, Point}
 use Rattle.sd_world.specs.View.{WorldView}
-use Rattle.sd_run.specs.Jobs.{is_end}
+use Rattle.sd_world.specs.Jobs.{is_end}
 use Rattle.sd_run.specs.Lines.{IsReplyOf, script_seat}
 use Rattle.sd_run.specs.Whole.{AreTold}
 

@@ -14,7 +14,7 @@ use Rattle.sd_script.specs.declared.answer.Answer.{Answer}
 use Rattle.sd_script.specs.declared.line.Line.{Line}
 use Rattle.sd_script.specs.Texts.{answer_line}
 use Rattle.sd_world.specs.View.{WorldView}
-use Rattle.sd_run.specs.Goes.{GoesOn}
+use Rattle.sd_world.specs.Goes.{GoesOn}
 use Rattle.sd_run.specs.Lines.{AnswersLines}
 
 -- the lines of these answers but the last are printed behind what was, and a beginning of that one's

@@ -1,17 +1,15 @@
 //! Running a script over a store: a world, driven by the lines of the script.
 #![tactic(auto)]
 
-mod driving;
 mod ending;
 mod lines;
 mod merging;
 mod page_words;
 mod printing;
 mod running;
-mod watch;
 
 pub use ending::{unfit, unopened};
 pub use lines::run_line;
 pub use merging::merge_to;
 pub use running::{FRAMES, run_lines, run_script};
-pub use watch::{Unwatched, Watch};
+pub use sd_world::{Unwatched, Watch};

@@ -8,23 +8,21 @@ ghost use Rattle.sd_script.specs.Texts.{answer_line};
 ghost use Rattle.sd_world.specs.Points.{StandsAt};
 ghost use Rattle.sd_world.specs.Promise.{Point};
 ghost use Rattle.sd_run.specs.Ending.{IsUnprinted};
-ghost use Rattle.sd_run.specs.Goes.{GoesOn};
+ghost use Rattle.sd_world.specs.Goes.{GoesOn};
 ghost use Rattle.sd_run.specs.Lines.{AnswersLine};
 ghost use Rattle.sd_run.specs.Promise.{RunsLine, Tells};
 ghost use Rattle.sd_run.specs.Whole.{PrintsLines, TellsSome};
 ghost use Rattle.sd_run.specs.Words.{AreGiven};
 
-use crate::driving::{do_job, drive, finish, make};
 use crate::page_words;
 use crate::printing::print_line;
-use crate::watch::Watch;
 use sd_areas::SpaceId;
 use sd_command::Reply;
 use sd_disk::Disk;
 use sd_exit::{Output, Stop};
 use sd_gate::Worker;
 use sd_script::{Answer, Line};
-use sd_world::{Event, World};
+use sd_world::{Event, Watch, World};
 use std::alloc::Global;
 use std::io::Write;
 
@@ -42,25 +40,22 @@ fn answer<D: Disk, S: Watch>(
     ensures goes_on { GoesOn D.Disk world.old world.new }
 {
     let reply = match line {
-        Line::Command(command) => make(
-            world,
-            Event::Command {
-                seat: SCRIPT_SEAT,
-                command,
-            },
-        ),
-        Line::Begin(rounds) => make(world, Event::Begin(rounds)),
-        Line::BeginMerge => make(world, Event::Merge),
-        Line::Cancel => make(world, Event::Cancel),
-        Line::Trim => make(world, Event::Trim),
-        Line::Work(worker) => make(world, Event::Work(worker)),
-        Line::Perform(worker) => make(world, Event::Perform(worker)),
-        Line::PerformAt { worker, place } => make(world, Event::PerformAt(worker, place)),
-        Line::Step { worker, count } => drive(world, worker, count.max(1)),
-        Line::Finish(worker) => finish(world, worker, watch),
-        Line::Checkpoint(rounds) => do_job(world, Event::Begin(rounds), Worker::Dumper, watch),
-        Line::Merge => do_job(world, Event::Merge, Worker::Merger, watch),
-        Line::Reopen => do_job(world, Event::Reopen, Worker::Opener, watch),
+        Line::Command(command) => world.make(Event::Command {
+            seat: SCRIPT_SEAT,
+            command,
+        }),
+        Line::Begin(rounds) => world.make(Event::Begin(rounds)),
+        Line::BeginMerge => world.make(Event::Merge),
+        Line::Cancel => world.make(Event::Cancel),
+        Line::Trim => world.make(Event::Trim),
+        Line::Work(worker) => world.make(Event::Work(worker)),
+        Line::Perform(worker) => world.make(Event::Perform(worker)),
+        Line::PerformAt { worker, place } => world.make(Event::PerformAt(worker, place)),
+        Line::Step { worker, count } => world.advance(worker, count.max(1)),
+        Line::Finish(worker) => world.finish_watched(worker, watch),
+        Line::Checkpoint(rounds) => world.do_job(Event::Begin(rounds), Worker::Dumper, watch),
+        Line::Merge => world.do_job(Event::Merge, Worker::Merger, watch),
+        Line::Reopen => world.do_job(Event::Reopen, Worker::Opener, watch),
         Line::Words {
             space,
             address,

@@ -6,20 +6,18 @@ ghost use Rattle.sd_exit.specs.Ending.{OnWriter, status_of};
 ghost use Rattle.sd_script.specs.Texts.{reply_line};
 ghost use Rattle.sd_world.specs.Opens.{IsFaultOf};
 ghost use Rattle.sd_run.specs.Ending.{IsEndOfMerge, unopened};
-ghost use Rattle.sd_run.specs.Goes.{GoesOn};
+ghost use Rattle.sd_world.specs.Goes.{GoesOn};
 ghost use Rattle.sd_run.specs.Merging.{IsLeftByMerge, IsRefusedMerge, IsWholeMerge, MergesTip, MergesToExit, is_merged};
 
-use crate::driving::do_job;
 use crate::ending::unopened;
 use crate::printing::print_line;
 use crate::running::FRAMES;
-use crate::watch::Watch;
 use sd_command::Reply;
 use sd_disk::Disk;
 use sd_exit::{Output, Stop, exit};
 use sd_gate::Worker;
 use sd_script::Answer;
-use sd_world::{Event, OpenError, OpenFault, World};
+use sd_world::{Event, OpenError, OpenFault, Watch, World};
 use std::alloc::Global;
 use std::io::Write;
 
@@ -87,9 +85,9 @@ fn merge_tip<D: Disk, S: Watch>(world: &mut World<D>, watch: &mut S) -> Reply
     ensures merges { MergesTip D.Disk world.old result world.new }
     ensures goes_on { GoesOn D.Disk world.old world.new }
 {
-    let reopened = do_job(world, Event::Reopen, Worker::Opener, watch);
+    let reopened = world.do_job(Event::Reopen, Worker::Opener, watch);
     if let Reply::Reopened(_) = reopened {
-        do_job(world, Event::Merge, Worker::Merger, watch)
+        world.do_job(Event::Merge, Worker::Merger, watch)
     } else {
         reopened
     }

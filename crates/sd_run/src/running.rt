@@ -12,12 +12,11 @@ ghost use Rattle.sd_run.specs.Whole.{IsLeft, IsWholeRun};
 use crate::ending::{unfit, unopened};
 use crate::lines::answer_all;
 use crate::printing::LINE_BYTES;
-use crate::watch::{Unwatched, Watch};
 use sd_disk::Disk;
 use sd_exit::{Output, Stop, exit};
 use sd_restore::Fault;
 use sd_script::Script;
-use sd_world::{OpenError, OpenFault, World};
+use sd_world::{OpenError, OpenFault, Unwatched, Watch, World};
 use std::alloc::Global;
 use std::io::Write;
 

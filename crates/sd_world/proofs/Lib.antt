@@ -29,3 +29,7 @@ mod RefusedLemmas
 mod RestingLemmas
 mod ClosesLemmas
 mod MergedLemmas
+mod DriveLemmas
+pub mod GoesOnLemmas
+mod JobLemmas
+mod StartLemmas

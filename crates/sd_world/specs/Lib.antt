@@ -2,6 +2,8 @@ pub mod Acked
 pub mod Adds
 pub mod Closing
 pub mod Consistent
+pub mod Goes
+pub mod Jobs
 pub mod Little
 pub mod Merged
 pub mod Merges
@@ -12,6 +14,7 @@ pub mod Promise
 pub mod Refused
 pub mod Restored
 pub mod Runs
+pub mod Starting
 pub mod Steps
 pub mod Tickets
 pub mod Trims

@@ -5,13 +5,17 @@
 mod auditing;
 mod call_state;
 mod event;
+mod jobs;
 mod kept;
 mod looking;
 mod open_error;
 mod open_fault;
 mod opening;
 mod restoring;
+mod start_error;
+mod starting;
 mod stepping;
+mod watch;
 mod world;
 
 pub use auditing::audit;
@@ -20,4 +24,6 @@ pub use event::Event;
 pub use open_error::OpenError;
 pub use open_fault::OpenFault;
 pub use restoring::restore_left;
+pub use start_error::{StartError, StartFault};
+pub use watch::{Unwatched, Watch};
 pub use world::World;

@@ -34,19 +34,10 @@ impl Driver<'_> {
         self.told.take(event, reply)
     }
 
-    /// The next event of a worker: the call that it asked for is made, or else it works.
-    fn event_of(&self, worker: Worker) -> Event {
-        if self.world.is_out(worker) {
-            Event::Perform(worker)
-        } else {
-            Event::Work(worker)
-        }
-    }
-
     /// So many events of a worker at most, until its job has ended or its call failed.
     fn work(&mut self, rt: &impl Eprint, worker: Worker, most: u64) -> Result<Next, AllocError> {
         for _ in 0..most.min(MOST) {
-            let event = self.event_of(worker);
+            let event = self.world.next_event(worker);
             let next = self.make(rt, &event)?;
             if next != Next::GoesOn {
                 return Ok(next);

@@ -1,5 +1,5 @@
 //! Scripts of a test: each line is what a world is asked, and what it has to answer.
-use crate::driver::{Tested, finish, repeat, steps};
+use crate::driver::{Tested, repeat, steps};
 use sd_areas::{Prot, SpaceId};
 use sd_command::{Bytes, Command, Reply};
 use sd_gate::Worker;
@@ -101,8 +101,8 @@ fn ask(alloc: Global, world: &mut Tested, request: &str) -> Result<Reply, AllocE
     match word {
         "steps" => Ok(steps(world, number)),
         "loads" => Ok(repeat(world, &loading(), number)),
-        "finish" => Ok(finish(world, Worker::Dumper)),
-        "open" => Ok(finish(world, Worker::Opener)),
+        "finish" => Ok(world.finish(Worker::Dumper)),
+        "open" => Ok(world.finish(Worker::Opener)),
         _ => step(alloc, world, word, number),
     }
 }

@@ -3,9 +3,8 @@
 #![tactic(auto)]
 
 use sd_areas::{Prot, SpaceId};
-use sd_command::{Bytes, Command, Reply};
+use sd_command::{Bytes, Command, Refusal, Reply};
 use sd_disk::MemDisk;
-use sd_gate::Worker;
 use sd_world::{Event, World};
 use std::alloc::{AllocError, Global};
 use std::io;
@@ -17,9 +16,6 @@ const PAGES: u64 = 64;
 
 /// The first address of the pages.
 const FIRST: u64 = 0x10_0000;
-
-/// The most events that a job of these runs takes.
-const MOST: u64 = 20_000;
 
 /// How many slots the store has, how many bytes each, and how many calls are recorded.
 const SLOTS: usize = 4;
@@ -55,22 +51,6 @@ fn store(alloc: Global, number: u64) -> Result<Event, AllocError> {
     }))
 }
 
-/// A worker's events until one is answered by more than that it was made. Returns that reply.
-fn finish(world: &mut World<MemDisk>, worker: Worker) -> Reply {
-    for _ in 0..MOST {
-        let event = if world.is_out(worker) {
-            Event::Perform(worker)
-        } else {
-            Event::Work(worker)
-        };
-        let reply = world.step(&event);
-        if reply != Reply::Worked {
-            return reply;
-        }
-    }
-    Reply::Worked
-}
-
 /// Makes so many stores. Returns how many were answered as done.
 fn store_all(
     alloc: Global,
@@ -90,21 +70,13 @@ fn store_all(
 
 /// Makes a checkpoint, merges what the store holds into one image, and trims the journal. Returns how many entries were
 /// folded.
-fn save(world: &mut World<MemDisk>) -> Option<u64> {
-    let Reply::Begun(_) = world.step(&Event::Begin(0)) else {
-        return None;
-    };
-    let Reply::Acked(_) = finish(world, Worker::Dumper) else {
-        return None;
-    };
-    if world.step(&Event::Merge) == Reply::Worked {
-        let Reply::Merged(_) = finish(world, Worker::Merger) else {
-            return None;
-        };
-    }
+fn save(world: &mut World<MemDisk>) -> Result<u64, Refusal> {
+    world.checkpoint(0)?;
+    world.merge_now()?;
     match world.step(&Event::Trim) {
-        Reply::Trimmed(count) => Some(count),
-        _ => None,
+        Reply::Trimmed(count) => Ok(count),
+        Reply::Refused(why) => Err(why),
+        _ => Ok(0),
     }
 }
 
@@ -129,11 +101,9 @@ fn run(
 /// Opens an empty store, maps the pages, and runs so many parts.
 fn try_it(alloc: Global, parts: u64, length: u64) -> Result<(u64, u64), AllocError> {
     let disk = MemDisk::new(alloc, SLOTS, BYTES, CALLS)?;
-    let Ok(mut world) = World::open(alloc, disk, 256) else {
+    let Ok(mut world) = World::start(alloc, disk, 256) else {
         return Err(AllocError);
     };
-    let _begun = world.step(&Event::Reopen);
-    let _opened = finish(&mut world, Worker::Opener);
     let _mapped = world.step(&map());
     let ran = run(alloc, &mut world, parts, length);
     forget(world);

@@ -178,13 +178,9 @@ impl Course {
         Ok(self.record.push(Step { event, reply })?)
     }
 
-    /// A worker's next event: the device call that it asked for is made, or else it works.
+    /// A worker's next event.
     pub(crate) fn next_of(&self, worker: Worker) -> Event {
-        if self.lab.is_out(worker) {
-            Event::Perform(worker)
-        } else {
-            Event::Work(worker)
-        }
+        self.lab.next_event(worker)
     }
 
     /// Goes on with the job that runs to its end, for so many steps at most.

@@ -52,9 +52,9 @@ impl Lab {
         self.world.step(event)
     }
 
-    /// Whether the next event of a worker is that its device call is made.
-    pub(crate) fn is_out(&self, worker: Worker) -> bool {
-        self.world.is_out(worker)
+    /// A worker's next event.
+    pub(crate) fn next_event(&self, worker: Worker) -> Event {
+        self.world.next_event(worker)
     }
 
     /// Restores what a crash left of the world's store, and closes the world.

@@ -5,7 +5,7 @@ use Rattle.std.proofs.KnownBytes.{Appends-nil, Appends-trans}
 use Rattle.sd_script.specs.declared.line.Line.TheVariants as asked
 use Rattle.sd_script.specs.Texts.{answer_line}
 use Rattle.sd_run.specs.Whole.{PrintsLines}
-use Rattle.sd_run.proofs.GoesLemmas.{goes_further}
+use Rattle.sd_world.proofs.GoesOnLemmas.{goes_further}
 use Rattle.sd_run.proofs.LineLemmas.{broken_off, tells_anyway, then_on_ok, told_behind}
 use Rattle.sd_run.proofs.lines.answer_all.Goals as goal
 

@@ -3,7 +3,7 @@ use Rattle.std.proofs.Common.{[], ◌∷◌, ◌++◌, ◌+◌, ◌∙◌, lengt
 use Rattle.std.proofs.KnownBytes.{Appends-nil}
 use Rattle.std.proofs.lemmas.Iterator.Adapters.{YieldsList-from_vec}
 use Rattle.std.proofs.lemmas.Iterator.Consumers.{YieldsList-so_far, YieldsList-turn}
-use Rattle.sd_run.proofs.GoesLemmas.{goes_further, goes_nowhere}
+use Rattle.sd_world.proofs.GoesOnLemmas.{goes_further, goes_nowhere}
 use Rattle.sd_run.proofs.LineLemmas.{always_on_err, answers_more, broken_off, one_more, printed_more}
 use Rattle.sd_run.proofs.lines.print_all.Goals as goal
 

@@ -4,7 +4,7 @@ use Rattle.std.specs.List.{flat_map}
 use Rattle.std.specs.Io.KnownBytes.{Appends}
 use Rattle.sd_script.specs.declared.answer.Answer.{Answer}
 use Rattle.sd_script.specs.Texts.{answer_line}
-use Rattle.sd_run.specs.Goes.{GoesOn}
+use Rattle.sd_world.specs.Goes.{GoesOn}
 use Rattle.sd_run.specs.Lines.{AnswersLines}
 use Rattle.sd_run.proofs.lines.print_all.Given as goal
 

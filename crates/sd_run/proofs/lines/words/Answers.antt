@@ -1,4 +1,4 @@
-use Rattle.sd_run.proofs.GoesLemmas.{goes_nowhere}
+use Rattle.sd_world.proofs.GoesOnLemmas.{goes_nowhere}
 use Rattle.sd_run.proofs.lines.words.Goals as goal
 
 pub returns-clause-goes_on : goal.returns-clause-goes_on

@@ -10,7 +10,7 @@ use Rattle.sd_belief.specs.View.{history_of}
 use Rattle.sd_world.specs.declared.event.Event.{Event}
 use Rattle.sd_world.specs.Runs.{IsStep, Runs, ShowsAllowedWithin}
 use Rattle.sd_world.specs.View.{WorldView}
-use Rattle.sd_run.specs.Goes.{GoesOn}
+use Rattle.sd_world.specs.Goes.{GoesOn}
 
 module _ {D : Type 0} (g : Ghosts D) where
   -- what is shown in a world is so at the beginning of a run from it

@@ -11,7 +11,7 @@ use Rattle.sd_world.specs.declared.event.Event.TheVariants.{Perform, Work}
 use Rattle.sd_world.specs.Runs.{IsStep}
 use Rattle.sd_world.specs.Steps.{LeavesLess}
 use Rattle.sd_world.specs.View.{WorldView, is_asked}
-use Rattle.sd_run.specs.Jobs.{AreDriven, Drives, is_end, next_event}
+use Rattle.sd_world.specs.Jobs.{AreDriven, Drives, is_end, next_event}
 
 -- so many events of a worker, none of which but the last may end its job
 pub record HasDriven {D : Type 0} (g : Ghosts D) (worker : Worker) (count : ℕ) (first : WorldView D) (answer : Reply) (last : WorldView D) : Type 0 where

@@ -1,9 +1,9 @@
 use Rattle.std.proofs.Common.{◌≡◌, Bool, true, false, refl, sym, ◌∙◌, ap, arith}
 use Rattle.sd_core.specs.Working.{left_by}
-use Rattle.sd_run.specs.Jobs.{is_end}
-use Rattle.sd_run.proofs.DriveLemmas.{driven_on}
-use Rattle.sd_run.proofs.GoesLemmas.{goes_further}
-use Rattle.sd_run.proofs.driving.follow.Goals as goal
+use Rattle.sd_world.specs.Jobs.{is_end}
+use Rattle.sd_world.proofs.DriveLemmas.{driven_on}
+use Rattle.sd_world.proofs.GoesOnLemmas.{goes_further}
+use Rattle.sd_world.proofs.world.World.follow.Goals as goal
 
 pub loop-init : goal.loop-init
 loop-init g c = record {
@@ -23,8 +23,8 @@ loop-preserved g c =
     let last = c.turn-answer-in-loop in
     let goes : is_end c.loop.answer ≡ false = sym c.is_end.ensures ∙ c.if-is_end.false in
     record {
-      driven = driven_on g.D.Disk c.args.worker c.args.world.now c.loop.world last.new.world c.loop.answer last.result c.loop.invariant.driven goes last.ensures.driven;
-      goes_on = goes_further g.D.Disk c.args.world.now c.loop.world last.new.world c.loop.invariant.goes_on last.ensures.goes_on;
+      driven = driven_on g.D.Disk c.args.worker c.args.self.now c.loop.self last.new.self c.loop.answer last.result c.loop.invariant.driven goes last.ensures.driven;
+      goes_on = goes_further g.D.Disk c.args.self.now c.loop.self last.new.self c.loop.invariant.goes_on last.ensures.goes_on;
       less = λ more. let lowers = last.ensures.lowers more in let before = c.loop.invariant.less goes in omega (arith, lowers, before);
     }
 

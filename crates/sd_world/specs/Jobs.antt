@@ -1,6 +1,7 @@
 -- A worker's events, one after the other, and its jobs.
-use Rattle.std.specs.Prelude.{◌≡◌, ◌⊎◌, ◌≤◌, ◌+◌, ℕ, Bool, true, false, if◌then◌else◌, List, [], ◌∷◌, ◌++◌, length}
+use Rattle.std.specs.Prelude.{◌≡◌, ◌⊎◌, ◌≤◌, ◌+◌, ℕ, Bool, true, false, if◌then◌else◌, List, [], ◌∷◌, ◌++◌, length, Result, Ok, Err}
 use Rattle.std.specs.List.{AllByRecursion}
+use Rattle.sd_command.specs.declared.refusal.Refusal.{Refusal}
 use Rattle.sd_command.specs.declared.reply.Reply.{Reply}
 use Rattle.sd_command.specs.declared.reply.Reply.TheVariants.{Done, Bytes, Child, NeedsFault, Segv, Begun, Worked, Acked, Cancelled, Merged, Trimmed, Reopened, Refused}
 use Rattle.sd_disk.specs.declared.disk.Disk.{Ghosts}
@@ -8,6 +9,7 @@ use Rattle.sd_gate.specs.declared.worker.Worker.{Worker}
 use Rattle.sd_world.specs.declared.event.Event.{Event}
 use Rattle.sd_world.specs.declared.event.Event.TheVariants.{Work, Perform}
 use Rattle.sd_world.specs.declared.kept.Kept.{Kept}
+use Rattle.sd_world.specs.Promise.{Goes, Point}
 use Rattle.sd_world.specs.Runs.{IsStep}
 use Rattle.sd_world.specs.View.{WorldView, is_asked}
 
@@ -61,3 +63,19 @@ pub data IsJob {D : Type 0} (g : Ghosts D) (order : Event) (worker : Worker) (fi
   refused : is_end answer ≡ true → IsStep g order first answer last → IsJob g order worker first answer last
   finished : (begun : Reply) (mid : WorldView D) → is_end begun ≡ false → IsStep g order first begun mid → IsFinished g worker mid answer last
       → IsJob g order worker first answer last
+
+-- the last reply of a job, by what the job returns: what it made, or why it was refused
+abbrev pub last_reply : {T : Type 0} → (T → Reply) → Result T Refusal → Reply
+last_reply told (Ok made) = told made
+last_reply told (Err why) = Refused why
+
+-- so a last reply ends a job that returns this
+abbrev pub EndsAs : {T : Type 0} → (T → Reply) → Reply → Type 0
+EndsAs {T} told answer = (returned : Result T Refusal) × (answer ≡ last_reply told returned)
+
+-- From one point of a run to a later one by a job: these orders, and then steps and device calls of its worker. This is the last reply.
+pub record GoesByJob {D : Type 0} (g : Ghosts D) (orders : List Event) (worker : Worker) (first : Point D) (answer : Reply) (last : Point D) : Type 0 where
+  pub others : List Event
+  pub of_worker : AllByRecursion (λ event. (event ≡ Work worker) ⊎ (event ≡ Perform worker)) others
+  pub before : List Reply
+  pub goes : Goes g first (orders ++ others) (before ++ answer ∷ []) last

@@ -1,0 +1,161 @@
+-- What ends a job: the last reply of its worker.
+use Rattle.std.proofs.Common.{◌≡◌, ℕ, Bool, true, false, List, [], ◌∷◌, ◌++◌, Option, Ok, Err, refl, sym, ◌∙◌, subst}
+use Rattle.sd_command.specs.declared.refusal.Refusal.{Refusal}
+use Rattle.sd_command.specs.declared.refusal.Refusal.TheVariants.{Idle}
+use Rattle.sd_command.specs.declared.reply.Reply.{Reply}
+use Rattle.sd_command.specs.declared.reply.Reply.TheVariants as reply
+use Rattle.sd_disk.specs.declared.disk.Disk.{Ghosts}
+use Rattle.sd_gate.specs.declared.worker.Worker.{Worker}
+use Rattle.sd_gate.specs.declared.worker.Worker.TheVariants.{Dumper, Merger, Opener}
+use Rattle.sd_journal.specs.History.{History}
+use Rattle.sd_belief.specs.Calls.{AddsByOrder}
+use Rattle.sd_belief.specs.View.{CoreView}
+use Rattle.sd_world.specs.declared.event.Event.{Event}
+use Rattle.sd_world.specs.declared.event.Event.TheVariants.{Begin, Merge, Reopen}
+use Rattle.sd_world.specs.declared.kept.Kept.{Kept}
+use Rattle.sd_world.specs.Adds.{AddsBy, AddsByPerform, AddsByWork}
+use Rattle.sd_world.specs.Jobs.{Drives, EndsAs, IsJob, is_end, next_event}
+use Rattle.sd_world.specs.Runs.{IsStep}
+use Rattle.sd_world.specs.Steps.{TakesUp, Works}
+use Rattle.sd_world.specs.View.{WorldView, is_asked}
+use Rattle.sd_world.proofs.DriveLemmas.{call_next, step_next}
+use Rattle.sd_world.proofs.KeptLemmas.{whose}
+
+-- how a worker's job can end
+data Ends (worker : Worker) (answer : Reply) : Type 0 where
+  acked : (n : ℕ) → worker ≡ Dumper → answer ≡ reply.Acked n → Ends worker answer
+  merged : (serial : ℕ) → worker ≡ Merger → answer ≡ reply.Merged serial → Ends worker answer
+  reopened : (m : Option ℕ) → worker ≡ Opener → answer ≡ reply.Reopened m → Ends worker answer
+  refused : (why : Refusal) → answer ≡ reply.Refused why → Ends worker answer
+
+by_order : (worker : Worker) (answer : Reply) (old new : History) → AddsByOrder answer old new → is_end answer ≡ true → Ends worker answer
+by_order worker reply.Done old new adds ends = absurd adds
+by_order worker (reply.Bytes bytes) old new adds ends = absurd adds
+by_order worker (reply.Child space) old new adds ends = absurd adds
+by_order worker reply.NeedsFault old new adds ends = absurd adds
+by_order worker (reply.Segv why) old new adds ends = absurd adds
+by_order worker (reply.Begun n) old new adds ends = absurd (let no : false ≡ true = ends in cc)
+by_order worker reply.Worked old new adds ends = absurd (let no : false ≡ true = ends in cc)
+by_order worker (reply.Acked n) old new adds ends = absurd adds
+by_order worker (reply.Cancelled n) old new adds ends = absurd adds
+by_order worker (reply.Merged serial) old new adds ends = absurd adds
+by_order worker (reply.Trimmed count) old new adds ends = absurd adds
+by_order worker (reply.Reopened m) old new adds ends = absurd adds
+by_order worker (reply.Refused why) old new adds ends = Ends.refused why refl
+
+by_call : (worker : Worker) (answer : Reply) (old new : History) → AddsByPerform answer old new → is_end answer ≡ true → Ends worker answer
+by_call worker reply.Done old new adds ends = absurd adds
+by_call worker (reply.Bytes bytes) old new adds ends = absurd adds
+by_call worker (reply.Child space) old new adds ends = absurd adds
+by_call worker reply.NeedsFault old new adds ends = absurd adds
+by_call worker (reply.Segv why) old new adds ends = absurd adds
+by_call worker (reply.Begun n) old new adds ends = absurd adds
+by_call worker reply.Worked old new adds ends = absurd (let no : false ≡ true = ends in cc)
+by_call worker (reply.Acked n) old new adds ends = absurd adds
+by_call worker (reply.Cancelled n) old new adds ends = absurd adds
+by_call worker (reply.Merged serial) old new adds ends = absurd adds
+by_call worker (reply.Trimmed count) old new adds ends = absurd adds
+by_call worker (reply.Reopened m) old new adds ends = absurd adds
+by_call worker (reply.Refused why) old new adds ends = Ends.refused why refl
+
+by_work : (worker : Worker) (core : CoreView) (answer : Reply) (old new : History) → ((serial : ℕ) → answer ≡ reply.Merged serial → worker ≡ Merger)
+    → AddsByWork worker core answer old new → is_end answer ≡ true → Ends worker answer
+by_work worker core reply.Done old new merger adds ends = absurd adds
+by_work worker core (reply.Bytes bytes) old new merger adds ends = absurd adds
+by_work worker core (reply.Child space) old new merger adds ends = absurd adds
+by_work worker core reply.NeedsFault old new merger adds ends = absurd adds
+by_work worker core (reply.Segv why) old new merger adds ends = absurd adds
+by_work worker core (reply.Begun n) old new merger adds ends = absurd adds
+by_work worker core reply.Worked old new merger adds ends = absurd (let no : false ≡ true = ends in cc)
+by_work worker core (reply.Acked n) old new merger adds ends = Ends.acked n adds.0 refl
+by_work worker core (reply.Cancelled n) old new merger adds ends = absurd adds
+by_work worker core (reply.Merged serial) old new merger adds ends = Ends.merged serial (merger serial refl) refl
+by_work worker core (reply.Trimmed count) old new merger adds ends = absurd adds
+by_work worker core (reply.Reopened m) old new merger adds ends = Ends.reopened m adds.0 refl
+by_work worker core (reply.Refused why) old new merger adds ends = Ends.refused why refl
+
+-- ---- a merge is ended by the merger alone
+
+never_merged : (worker : Worker) (old : CoreView) (kept : List Kept) (serial : ℕ) (new : CoreView) (later : List Kept) → (worker ≡ Merger → ⊥)
+    → Works worker old kept (reply.Merged serial) new later → ⊥
+never_merged worker old kept serial new later other (Works.hands_in it) =
+    let its = whose kept worker 0 it.lane it.made it.at it.is in
+    let no : reply.Merged serial ≡ reply.Refused Idle = (it.hands.does.strange (λ out. other (sym its ∙ (it.hands.does.leaves out).0))).0 in
+    absurd cc
+never_merged worker old kept serial new later other (Works.takes_up none (TakesUp.step up left)) = absurd up.takes.adds
+never_merged worker old kept serial new later other (Works.takes_up none (TakesUp.call request up keeps is)) =
+    absurd (let no : reply.Merged serial ≡ reply.Worked = is in cc)
+
+merger_of : (worker : Worker) (old : CoreView) (kept : List Kept) (serial : ℕ) (new : CoreView) (later : List Kept)
+    → Works worker old kept (reply.Merged serial) new later → worker ≡ Merger
+merger_of Dumper old kept serial new later works =
+    absurd (never_merged Dumper old kept serial new later (λ no. (let not : Dumper ≡ Merger = no in cc)) works)
+merger_of Merger old kept serial new later works = refl
+merger_of Opener old kept serial new later works =
+    absurd (never_merged Opener old kept serial new later (λ no. (let not : Opener ≡ Merger = no in cc)) works)
+
+-- ---- a whole job
+
+module _ {D : Type 0} (g : Ghosts D) where
+  -- the last of a worker's next events, and those before it
+  pub last_event : (worker : Worker) (first last : WorldView D) (before : List Reply) (answer : Reply) → Drives g worker first (before ++ answer ∷ []) last
+      → (mid : WorldView D) × Drives g worker first before mid × IsStep g (next_event mid.kept worker) mid answer last
+  last_event worker first last [] answer drives =
+      (first, refl, subst (λ (world : WorldView D). IsStep g (next_event first.kept worker) first answer world) (sym drives.2) drives.1)
+  last_event worker first last (r ∷ rs) answer drives =
+      let rest = last_event worker drives.0 last rs answer drives.2 in
+      (rest.0, (drives.0, drives.1, rest.1), rest.2)
+
+  event_ends : (worker : Worker) (old new : WorldView D) (answer : Reply) → IsStep g (next_event old.kept worker) old answer new → is_end answer ≡ true
+      → Ends worker answer
+  event_ends worker old new answer step ends = by (is_asked old.kept worker) refl
+    where
+      by : (b : Bool) → is_asked old.kept worker ≡ b → Ends worker answer
+      by true is =
+          let called = subst (λ event. IsStep g event old answer new) (call_next g worker old is) step in
+          by_call worker answer _ _ called.adds ends
+      by false is =
+          let worked = subst (λ event. IsStep g event old answer new) (step_next g worker old is) step in
+          by_work worker old.core answer _ _
+          (λ serial told. merger_of worker old.core old.kept serial new.core new.kept
+          (subst (λ a. Works worker old.core old.kept a new.core new.kept) told worked.does.works))
+          worked.adds ends
+
+  job_ends : (order : Event) (worker : Worker) (first last : WorldView D) (answer : Reply)
+      → ((core : CoreView) (told : Reply) (old new : History) → AddsBy order core told old new → AddsByOrder told old new)
+      → IsJob g order worker first answer last → Ends worker answer
+  job_ends order worker first last answer orders (IsJob.refused ends step) = by_order worker answer _ _ (orders first.core answer _ _ step.adds) ends
+  job_ends order worker first last answer orders (IsJob.finished begun mid goes step finished) =
+      let it = last_event worker mid last finished.driven.before answer finished.driven.drives in
+      event_ends worker it.0 last answer it.2 finished.ends
+
+  -- a checkpoint ends with its acknowledgement, or a refusal
+  pub checkpoint_ends : (rounds : ℕ) (first last : WorldView D) (answer : Reply) → IsJob g (Begin rounds) Dumper first answer last
+      → EndsAs reply.Acked answer
+  checkpoint_ends rounds first last answer job = by (job_ends (Begin rounds) Dumper first last answer (λ _ _ _ _ adds. adds) job)
+    where
+      by : Ends Dumper answer → EndsAs reply.Acked answer
+      by (Ends.acked n whose is) = (Ok n, is)
+      by (Ends.merged serial whose is) = absurd (let no : Dumper ≡ Merger = whose in cc)
+      by (Ends.reopened m whose is) = absurd (let no : Dumper ≡ Opener = whose in cc)
+      by (Ends.refused why is) = (Err why, is)
+
+  -- a merge with its image's serial
+  pub merge_ends : (first last : WorldView D) (answer : Reply) → IsJob g Merge Merger first answer last → EndsAs reply.Merged answer
+  merge_ends first last answer job = by (job_ends Merge Merger first last answer (λ _ _ _ _ adds. adds) job)
+    where
+      by : Ends Merger answer → EndsAs reply.Merged answer
+      by (Ends.acked n whose is) = absurd (let no : Merger ≡ Dumper = whose in cc)
+      by (Ends.merged serial whose is) = (Ok serial, is)
+      by (Ends.reopened m whose is) = absurd (let no : Merger ≡ Opener = whose in cc)
+      by (Ends.refused why is) = (Err why, is)
+
+  -- an opening with what it found
+  pub reopening_ends : (first last : WorldView D) (answer : Reply) → IsJob g Reopen Opener first answer last → EndsAs reply.Reopened answer
+  reopening_ends first last answer job = by (job_ends Reopen Opener first last answer (λ _ _ _ _ adds. adds) job)
+    where
+      by : Ends Opener answer → EndsAs reply.Reopened answer
+      by (Ends.acked n whose is) = absurd (let no : Opener ≡ Dumper = whose in cc)
+      by (Ends.merged serial whose is) = absurd (let no : Opener ≡ Merger = whose in cc)
+      by (Ends.reopened m whose is) = (Ok m, is)
+      by (Ends.refused why is) = (Err why, is)

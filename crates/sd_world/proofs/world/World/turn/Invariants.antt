@@ -1,0 +1,16 @@
+use Rattle.std.proofs.Common.{◌≡◌}
+use Rattle.sd_world.specs.View.{asked_count}
+use Rattle.sd_world.specs.Goes.{GoesOn}
+use Rattle.sd_world.proofs.DriveLemmas.{HasCalled}
+use Rattle.sd_world.proofs.world.World.turn.Given as goal
+
+abbrev pub invariant-loop-self : goal.invariant-loop-self
+invariant-loop-self g l = record {
+  called : HasCalled g.D.Disk l.worker l.fn.self l.self;
+  goes_on : GoesOn g.D.Disk l.fn.self l.self;
+  core : l.self.core ≡ l.fn.self.core;
+}
+
+-- one fewer is out with each
+abbrev pub decreases-loop-self : goal.decreases-loop-self
+decreases-loop-self g l = asked_count l.self.kept l.worker

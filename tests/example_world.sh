@@ -1,0 +1,28 @@
+# The ledger of `example_world`, killed at moments by chance and started again.
+
+ledger=$here/../crates/example_world/out/example_world
+
+# What a ledger is told to have had when it is opened and makes no transfer. It checks the sum of its accounts.
+ledger_had() {
+  "$ledger" store 0 2> err | sed 's/ transfers$//'
+  [ ! -s err ] || cat err
+}
+
+# It goes on with what was acknowledged last, or with the checkpoint behind that, which was saved and not told.
+ledger_that_is_killed_loses_nothing() {
+  [ -x "$ledger" ] || { echo "needs crates/example_world/out/example_world"; return 77; }
+  local turn acked=0 had
+  for turn in $(seq 200); do
+    "$ledger" store 1000000000 > told 2> err &
+    sleep "0.$(printf %03d $((RANDOM % 150)))"
+    kill -9 $!
+    wait $! 2> ended
+    [ ! -s err ] || { cat err; return 1; }
+    acked=$(sed -n '$s/^acked //p' told | grep . || echo "$acked")
+    had=$(ledger_had)
+    [ "$had" = "$acked" ] || [ "$had" = $((acked + 100)) ] || { echo "$acked was acknowledged, and there is $had"; return 1; }
+    acked=$had
+  done
+}
+
+try ledger_that_is_killed_loses_nothing
