@@ -21,20 +21,21 @@ use Rattle.sd_belief.specs.Calls.{AddsByOutcome, AddsByStep, IsFree, IsOut}
 use Rattle.sd_belief.specs.View.{CoreView, history_of}
 use Rattle.sd_core.specs.declared.taken.Taken.{Taken}
 use Rattle.sd_core.specs.declared.taken.Taken.TheVariants.{Step, Call}
-use Rattle.sd_core.specs.Beginning.{BeginsAs, begin_refusal}
+use Rattle.sd_core.specs.Beginning.{Begins, BeginsAs, begin_refusal}
 use Rattle.sd_core.specs.Beside.{LeavesOthers}
 use Rattle.sd_core.specs.Called.{IsHandedIn, IsTakenUp}
 use Rattle.sd_core.specs.Images.{HasPreDumps, begun_as}
 use Rattle.sd_core.specs.Kept.{HasItsPreDumps, KeepsEach}
 use Rattle.sd_core.specs.Orders.{IsCancelled}
 use Rattle.sd_core.specs.Refusals.{cancel_refusal, work_refusal}
-use Rattle.sd_core.specs.Rounds.{HasFewOpen, IsNextRound, IsOpenAt, IsSameRound, LeavesPreDumps, SameRound}
+use Rattle.sd_core.specs.Rounds.{HasFewOpen, IsNextRound, IsOpenAt, IsSameRound, LeavesPreDumps, SameRound, TurnsRound}
 use Rattle.sd_core.specs.Working.{HasEnded, HasFallen, LeavesByOutcome, opener_left}
 use Rattle.sd_world.specs.declared.event.Event.{Event}
 use Rattle.sd_world.specs.declared.event.Event.TheVariants.{Command, Begin, Work, TakeUp, HandInAt, Perform, PerformAt, Merge, Cancel, Reopen, Trim}
 use Rattle.sd_world.specs.declared.kept.Kept.TheVariants.{Outcome, Request}
 use Rattle.sd_world.specs.Acked.{AcksThere, ArePreDumpsThere, DoesAck, HasPreDumpsThere, IsAckedThere, IsThere}
 use Rattle.sd_world.specs.Consistent.{IsConsistent, IsWorld}
+use Rattle.sd_world.specs.KeptCheckpoint.{KeepsCheckpoint, RanBefore}
 use Rattle.sd_world.specs.Steps.{Does, HandsInAt, HandsInIfAny, Performs, TakesUp, Works}
 use Rattle.sd_world.specs.View.{WorldView, asked_of, id_of}
 use Rattle.sd_world.proofs.KeptLemmas.{asked_id_of}
@@ -135,38 +136,46 @@ record IsFirstRound (core : CoreView) : Type 0 where
   pub none : job.opened ≡ 0
   pub first : job.parent ≡ job.first
 
+-- the core is as it was, or the checkpoint begins that was asked for
+begins_or_stays : (old : CoreView) (rounds : ℕ) (answer : Reply) (new : CoreView) → BeginsAs old rounds answer new
+    → (new ≡ old) ⊎ ((n : ℕ) × (answer ≡ reply.Begun n) × Begins old rounds n new)
+begins_or_stays old rounds reply.Done new begins = absurd begins
+begins_or_stays old rounds (reply.Bytes bytes) new begins = absurd begins
+begins_or_stays old rounds (reply.Child space) new begins = absurd begins
+begins_or_stays old rounds reply.NeedsFault new begins = absurd begins
+begins_or_stays old rounds (reply.Segv why) new begins = absurd begins
+begins_or_stays old rounds (reply.Begun n) new begins = inr (n, refl, begins)
+begins_or_stays old rounds reply.Worked new begins = absurd begins
+begins_or_stays old rounds (reply.Acked n) new begins = absurd begins
+begins_or_stays old rounds (reply.Cancelled n) new begins = absurd begins
+begins_or_stays old rounds (reply.Merged serial) new begins = absurd begins
+begins_or_stays old rounds (reply.Trimmed count) new begins = absurd begins
+begins_or_stays old rounds (reply.Reopened m) new begins = absurd begins
+begins_or_stays old rounds (reply.Refused refusal.Einval) new begins = absurd begins
+begins_or_stays old rounds (reply.Refused refusal.Enomem) new begins = absurd begins
+begins_or_stays old rounds (reply.Refused refusal.NoSuchSpace) new begins = absurd begins
+begins_or_stays old rounds (reply.Refused refusal.TooManySpaces) new begins = absurd begins
+begins_or_stays old rounds (reply.Refused refusal.NoFrame) new begins = absurd begins
+begins_or_stays old rounds (reply.Refused refusal.Frozen) new begins = absurd begins
+begins_or_stays old rounds (reply.Refused refusal.JournalFull) new begins = absurd begins
+begins_or_stays old rounds (reply.Refused refusal.OutOfMemory) new begins = inl begins
+begins_or_stays old rounds (reply.Refused refusal.UnsupportedValue) new begins = absurd begins
+begins_or_stays old rounds (reply.Refused refusal.NotOpen) new begins = absurd begins
+begins_or_stays old rounds (reply.Refused refusal.Busy) new begins = absurd begins
+begins_or_stays old rounds (reply.Refused refusal.NoSlot) new begins = inl begins.1
+begins_or_stays old rounds (reply.Refused refusal.StoreDown) new begins = absurd begins
+begins_or_stays old rounds (reply.Refused refusal.Idle) new begins = absurd begins
+begins_or_stays old rounds (reply.Refused refusal.LastSpace) new begins = absurd begins
+begins_or_stays old rounds (reply.Refused refusal.LockBusy) new begins = absurd begins
+begins_or_stays old rounds (reply.Refused refusal.NumbersUsed) new begins = absurd begins
+begins_or_stays old rounds (reply.Refused refusal.Damaged) new begins = absurd begins
+begins_or_stays old rounds (reply.Refused refusal.Device) new begins = absurd begins
+
 begins_there : (old : CoreView) (rounds : ℕ) (answer : Reply) (new : CoreView) → BeginsAs old rounds answer new → (new ≡ old) ⊎ IsFirstRound new
-begins_there old rounds reply.Done new begins = absurd begins
-begins_there old rounds (reply.Bytes bytes) new begins = absurd begins
-begins_there old rounds (reply.Child space) new begins = absurd begins
-begins_there old rounds reply.NeedsFault new begins = absurd begins
-begins_there old rounds (reply.Segv why) new begins = absurd begins
-begins_there old rounds (reply.Begun n) new begins = inr (record { job = _; is = begins.running; none = refl; first = refl })
-begins_there old rounds reply.Worked new begins = absurd begins
-begins_there old rounds (reply.Acked n) new begins = absurd begins
-begins_there old rounds (reply.Cancelled n) new begins = absurd begins
-begins_there old rounds (reply.Merged serial) new begins = absurd begins
-begins_there old rounds (reply.Trimmed count) new begins = absurd begins
-begins_there old rounds (reply.Reopened m) new begins = absurd begins
-begins_there old rounds (reply.Refused refusal.Einval) new begins = absurd begins
-begins_there old rounds (reply.Refused refusal.Enomem) new begins = absurd begins
-begins_there old rounds (reply.Refused refusal.NoSuchSpace) new begins = absurd begins
-begins_there old rounds (reply.Refused refusal.TooManySpaces) new begins = absurd begins
-begins_there old rounds (reply.Refused refusal.NoFrame) new begins = absurd begins
-begins_there old rounds (reply.Refused refusal.Frozen) new begins = absurd begins
-begins_there old rounds (reply.Refused refusal.JournalFull) new begins = absurd begins
-begins_there old rounds (reply.Refused refusal.OutOfMemory) new begins = inl begins
-begins_there old rounds (reply.Refused refusal.UnsupportedValue) new begins = absurd begins
-begins_there old rounds (reply.Refused refusal.NotOpen) new begins = absurd begins
-begins_there old rounds (reply.Refused refusal.Busy) new begins = absurd begins
-begins_there old rounds (reply.Refused refusal.NoSlot) new begins = inl begins.1
-begins_there old rounds (reply.Refused refusal.StoreDown) new begins = absurd begins
-begins_there old rounds (reply.Refused refusal.Idle) new begins = absurd begins
-begins_there old rounds (reply.Refused refusal.LastSpace) new begins = absurd begins
-begins_there old rounds (reply.Refused refusal.LockBusy) new begins = absurd begins
-begins_there old rounds (reply.Refused refusal.NumbersUsed) new begins = absurd begins
-begins_there old rounds (reply.Refused refusal.Damaged) new begins = absurd begins
-begins_there old rounds (reply.Refused refusal.Device) new begins = absurd begins
+begins_there old rounds answer new begins = elim (begins_or_stays old rounds answer new begins) [
+  | inl same ↦ inl same
+  | inr begun ↦ inr (record { job = _; is = begun.2.2.running; none = refl; first = refl })
+]
 
 same_dumper : (old new : CoreView) → new.dumper ≡ old.dumper → SameRound old.dumper.running new.dumper.running
 same_dumper old new same = subst (SameRound old.dumper.running) (sym (ap (λ (d : Dumping). d.running) same)) (itself old.dumper.running refl)
@@ -483,3 +492,83 @@ module _ {D : Type 0} (g : Ghosts D) (old new : WorldView D) (pre_new : HasItsPr
     step_acks Cancel answer few there does = tt
     step_acks Reopen answer few there does = tt
     step_acks Trim answer few there does = tt
+
+-- ---- the checkpoint that runs
+
+-- it ran before where the event opens none of its images, or one
+ran_same : (old new : Option Running) → SameRound old new → RanBefore old new
+ran_same old None round = tt
+ran_same old (Some next) round = (round.0, round.1, round.2.job)
+
+ran_turned : (old new : Option Running) (places : Places) → TurnsRound old new places → RanBefore old new
+ran_turned old None places turns = tt
+ran_turned old (Some next) places turns = elim turns.2 [
+  | inl same ↦ (turns.0, turns.1, same.job)
+  | inr round ↦ (turns.0, turns.1, round.job)
+]
+
+module _ {D : Type 0} (g : Ghosts D) (old new : WorldView D) (pre_new : HasItsPreDumps new.core) (world : IsWorld g old) where
+  abbrev Ran : Type 0
+  Ran = RanBefore old.core.dumper.running new.core.dumper.running
+
+  same_ran : SameRound old.core.dumper.running new.core.dumper.running → Ran
+  same_ran round = ran_same old.core.dumper.running new.core.dumper.running round
+
+  core_ran : new.core ≡ old.core → Ran
+  core_ran same = same_ran (same_dumper old.core new.core (ap (λ (v : CoreView). v.dumper) same))
+
+  takes_ran : (worker : Worker) (answer : Reply) → TakesUp worker old.core old.kept answer new.core new.kept → Ran
+  takes_ran worker answer (TakesUp.step taken left) = same_ran (taken_round g old new pre_new worker (Step answer) taken)
+  takes_ran worker answer (TakesUp.call request taken left worked) = same_ran (taken_round g old new pre_new worker (Call request) taken)
+
+  hands_ran : (worker : Worker) (place : ℕ) (answer : Reply) → HandsInAt worker place old.core old.kept answer new.core new.kept → Ran
+  hands_ran worker place answer hands = elim (is_dumper hands.made.request.id.worker) [
+    | inr other ↦ same_ran (outcome_round g old new pre_new hands.made answer hands.hands.does out other)
+    | inl dumper ↦ ran_turned old.core.dumper.running new.core.dumper.running new.core.catalog (hands.hands.does.rounds out dumper)
+  ]
+    where
+      out : IsOut old.core hands.made.request.id
+      out = record { lane = hands.lane; is = ap (λ outs. slice_get outs hands.lane) world.outs ∙ get_map id_of old.kept hands.lane (Outcome hands.made) hands.is }
+
+  works_ran : (worker : Worker) (answer : Reply) → Works worker old.core old.kept answer new.core new.kept → Ran
+  works_ran worker answer (Works.hands_in hands) = hands_ran worker 0 answer hands
+  works_ran worker answer (Works.takes_up none takes) = takes_ran worker answer takes
+
+  hand_in_ran : (worker : Worker) (place : ℕ) (answer : Reply) → HandsInIfAny worker place old.core old.kept answer new.core new.kept → Ran
+  hand_in_ran worker place answer (HandsInIfAny.hands_in hands) = hands_ran worker place answer hands
+  hand_in_ran worker place answer (HandsInIfAny.none none idle) = core_ran idle.core
+
+  cancel_ran : (answer : Reply) → ((why : Refusal) → cancel_refusal old.core ≡ Some why → (answer ≡ reply.Refused why) × (new.core ≡ old.core))
+      → (cancel_refusal old.core ≡ None → IsCancelled old.core answer new.core) → Ran
+  cancel_ran answer refused cancelled = by (cancel_refusal old.core) refl
+    where
+      by : (o : Option Refusal) → cancel_refusal old.core ≡ o → Ran
+      by (Some why) is = core_ran (refused why is).1
+      by None is = same_ran (none_goes old.core new.core (ap is_none (cancelled is).idle))
+
+  begin_keeps : (rounds : ℕ) (answer : Reply) → ((why : Refusal) → begin_refusal old.core rounds ≡ Some why → (answer ≡ reply.Refused why) × (new.core ≡ old.core))
+      → (begin_refusal old.core rounds ≡ None → BeginsAs old.core rounds answer new.core) → KeepsCheckpoint (Begin rounds) answer old.core new.core
+  begin_keeps rounds answer refused begins = by (begin_refusal old.core rounds) refl
+    where
+      by : (o : Option Refusal) → begin_refusal old.core rounds ≡ o → KeepsCheckpoint (Begin rounds) answer old.core new.core
+      by (Some why) is = KeepsCheckpoint.ran (core_ran (refused why is).1)
+      by None is = elim (begins_or_stays old.core rounds answer new.core (begins is)) [
+        | inl same ↦ KeepsCheckpoint.ran (core_ran same)
+        | inr begun ↦ KeepsCheckpoint.begun rounds begun.0 refl begun.1 begun.2
+      ]
+
+  pub step_checkpoint : (event : Event) (answer : Reply) → Does g event old answer new → KeepsCheckpoint event answer old.core new.core
+  step_checkpoint (Command seat command) answer does = KeepsCheckpoint.ran (same_ran (same_dumper old.core new.core does.applied.job))
+  step_checkpoint (Begin rounds) answer does = begin_keeps rounds answer does.1.refused does.1.begins
+  step_checkpoint (Work worker) answer does = KeepsCheckpoint.ran (works_ran worker answer does.works)
+  step_checkpoint (TakeUp worker) answer does = KeepsCheckpoint.ran (takes_ran worker answer does.takes)
+  step_checkpoint (HandInAt worker place) answer does = KeepsCheckpoint.ran (hand_in_ran worker place answer does.hands)
+  step_checkpoint (Perform worker) answer does = KeepsCheckpoint.ran (core_ran does.core)
+  step_checkpoint (PerformAt worker place) answer does = KeepsCheckpoint.ran (core_ran does.core)
+  step_checkpoint Merge answer does = KeepsCheckpoint.ran (same_ran (same_dumper old.core new.core does.1.beside.others.0))
+  step_checkpoint Cancel answer does = KeepsCheckpoint.ran (cancel_ran answer does.1.refused does.1.cancelled)
+  step_checkpoint Reopen answer does = KeepsCheckpoint.ran (same_ran (same_dumper old.core new.core does.1.beside.others.0))
+  step_checkpoint Trim answer does = elim (trim_cases old.core answer new.core does.trims) [
+    | inl gone ↦ KeepsCheckpoint.ran (same_ran (same_dumper old.core new.core (ap (λ (v : CoreView). v.dumper) gone.is)))
+    | inr all ↦ KeepsCheckpoint.ran (core_ran all.is)
+  ]

@@ -2,6 +2,7 @@ mod AckedLemmas
 mod AddsLemmas
 mod AllowedLemmas
 mod AnewLemmas
+mod BegunLemmas
 mod AuditLemmas
 mod Calls
 mod FirstLemmas

@@ -1,9 +1,11 @@
 pub mod Acked
 pub mod Adds
+pub mod Begun
 pub mod Closing
 pub mod Consistent
 pub mod Goes
 pub mod Jobs
+pub mod KeptCheckpoint
 pub mod Little
 pub mod Merged
 pub mod Merges

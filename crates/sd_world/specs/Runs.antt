@@ -11,6 +11,7 @@ use Rattle.sd_world.specs.declared.event.Event.{Event}
 use Rattle.sd_world.specs.declared.event.Event.TheVariants.{Trim}
 use Rattle.sd_world.specs.Adds.{Adds}
 use Rattle.sd_world.specs.Closing.{ClosesBehind, EndsBehind}
+use Rattle.sd_world.specs.KeptCheckpoint.{KeepsCheckpoint}
 use Rattle.sd_world.specs.Little.{DoesLittle}
 use Rattle.sd_world.specs.Merges.{DoesMerge, KeepsMerged}
 pub use Rattle.sd_world.specs.Promise.{ShowsFreeze, ShowsReply}
@@ -23,6 +24,8 @@ pub record IsStep {D : Type 0} (g : Ghosts D) (event : Event) (old : WorldView D
   pub does : Does g event old answer new
   pub adds : Adds event answer old.core new.core
   pub little : DoesLittle event old answer new
+  -- the checkpoint that runs behind it is the one that ran before, or the one that it began
+  pub checkpoint : KeepsCheckpoint event answer old.core new.core
   -- what a merge's event makes of the disk, where that is honest, and that the merged image's file stays while images are closed
   pub merges : g.is_honest new.disk → DoesMerge g event old answer new
   pub keeps : KeepsMerged g old new

@@ -18,7 +18,9 @@ ghost use Rattle.sd_belief.specs.View.{history_of};
 ghost use Rattle.sd_world.specs.declared.event.Event.TheVariants.{HandInAt, Perform, PerformAt, TakeUp, Trim, Work};
 ghost use Rattle.sd_world.specs.Acked.{DoesAck, HasPreDumpsThere};
 ghost use Rattle.sd_world.specs.Adds.{Adds};
+ghost use Rattle.sd_world.specs.Begun.{RunsAsBegun};
 ghost use Rattle.sd_world.specs.Closing.{ClosesBehind, EndsBehind};
+ghost use Rattle.sd_world.specs.KeptCheckpoint.{KeepsCheckpoint};
 ghost use Rattle.sd_world.specs.Little.{DoesLittle};
 ghost use Rattle.sd_world.specs.Merged.{MergesStand};
 ghost use Rattle.sd_world.specs.Merges.{DoesMerge, KeepsMerged};
@@ -190,6 +192,14 @@ impl<D: Disk> World<D> {
         let _core = &self.core;
     }
 
+    /// A law: the checkpoint that runs behind a run that began with none was begun by one of the run's events, and has as many
+    /// pre-dumps as that order asked for. An acknowledgement is of the checkpoint that ran before it (`step`: `acked`).
+    pub fn runs_as_begun(&self)
+        ensures { RunsAsBegun D.Disk }
+    {
+        let _core = &self.core;
+    }
+
     /// A law: from each point of a run at which a world stands an event goes to one at which it stands then, where the disk
     /// is honest.
     pub fn points_follow(&self)
@@ -263,6 +273,9 @@ impl<D: Disk> World<D> {
         // Where a worker's event acknowledges a checkpoint, its dump has exactly the pages that were mapped at the freeze, as
         // data or zeros those that something touched since their last visit; and a pre-dump has such pages alone.
         ensures little { DoesLittle event.now self.old result self.new }
+        // A checkpoint that runs behind it ran before, with the number, the slots and the first parent with which it began;
+        // or this event began it.
+        ensures checkpoint { KeepsCheckpoint event.now result self.old.core self.new.core }
 
         // Where a merge's image enters the catalog it is open in its slot, a copy of its source, and stays so while the merge
         // closes images; and behind the merge those that it was to close are closed, and cut to one byte.

@@ -11,7 +11,7 @@ use Rattle.sd_world.specs.Acked.{HasPreDumpsThere, IsWorldThere}
 use Rattle.sd_world.specs.Consistent.{IsWorld}
 use Rattle.sd_world.specs.Steps.{Does}
 use Rattle.sd_world.specs.View.{WorldView}
-use Rattle.sd_world.proofs.AckedLemmas.{step_acks, step_pre_dumps}
+use Rattle.sd_world.proofs.AckedLemmas.{step_acks, step_checkpoint, step_pre_dumps}
 use Rattle.sd_world.proofs.AddsLemmas.{step_adds, step_base, step_honest, step_span}
 use Rattle.sd_world.proofs.AllowedLemmas.{world_allows}
 use Rattle.sd_world.proofs.ClosesLemmas.{step_closes, step_ends}
@@ -95,6 +95,12 @@ pub returns-clause-little : goal.returns-clause-little
 returns-clause-little g c =
     let new : WorldView g.row.D.Denot = record { core = c.make_step-answer.new.core; disk = c.make_step-answer.new.disk; kept = c.make_step-answer.new.kept } in
     step_little g.D.Disk c.args.self.now new (subst (IsWorld g.D.Disk) c.self.view_is c.self.invariant.is) c.args.event.now c.make_step-answer.result
+    (subst (λ w. Does g.D.Disk c.args.event.now w c.make_step-answer.result new) c.self.view_is c.make_step-answer.ensures)
+
+pub returns-clause-checkpoint : goal.returns-clause-checkpoint
+returns-clause-checkpoint g c =
+    let new : WorldView g.row.D.Denot = record { core = c.make_step-answer.new.core; disk = c.make_step-answer.new.disk; kept = c.make_step-answer.new.kept } in
+    step_checkpoint g.D.Disk c.args.self.now new c.pre_dumps.ensures (subst (IsWorld g.D.Disk) c.self.view_is c.self.invariant.is) c.args.event.now c.make_step-answer.result
     (subst (λ w. Does g.D.Disk c.args.event.now w c.make_step-answer.result new) c.self.view_is c.make_step-answer.ensures)
 
 pub returns-clause-merges : goal.returns-clause-merges
