@@ -174,7 +174,7 @@ begins_or_stays old rounds (reply.Refused refusal.Device) new begins = absurd be
 begins_there : (old : CoreView) (rounds : ℕ) (answer : Reply) (new : CoreView) → BeginsAs old rounds answer new → (new ≡ old) ⊎ IsFirstRound new
 begins_there old rounds answer new begins = elim (begins_or_stays old rounds answer new begins) [
   | inl same ↦ inl same
-  | inr begun ↦ inr (record { job = _; is = begun.2.2.running; none = refl; first = refl })
+  | inr begun ↦ inr (record { job = _; is = begun.2.running; none = refl; first = refl })
 ]
 
 same_dumper : (old new : CoreView) → new.dumper ≡ old.dumper → SameRound old.dumper.running new.dumper.running
