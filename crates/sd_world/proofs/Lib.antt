@@ -32,4 +32,5 @@ mod MergedLemmas
 mod DriveLemmas
 pub mod GoesOnLemmas
 mod JobLemmas
+pub mod PointLemmas
 mod StartLemmas

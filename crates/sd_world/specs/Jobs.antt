@@ -9,6 +9,7 @@ use Rattle.sd_gate.specs.declared.worker.Worker.{Worker}
 use Rattle.sd_world.specs.declared.event.Event.{Event}
 use Rattle.sd_world.specs.declared.event.Event.TheVariants.{Work, Perform}
 use Rattle.sd_world.specs.declared.kept.Kept.{Kept}
+use Rattle.sd_world.specs.Promise.{Goes, Point}
 use Rattle.sd_world.specs.Runs.{IsStep}
 use Rattle.sd_world.specs.View.{WorldView, is_asked}
 
@@ -71,3 +72,10 @@ last_reply told (Err why) = Refused why
 -- so a last reply ends a job that returns this
 abbrev pub EndsAs : {T : Type 0} → (T → Reply) → Reply → Type 0
 EndsAs {T} told answer = (returned : Result T Refusal) × (answer ≡ last_reply told returned)
+
+-- From one point of a run to a later one by a job: these orders, and then steps and device calls of its worker. This is the last reply.
+pub record GoesByJob {D : Type 0} (g : Ghosts D) (orders : List Event) (worker : Worker) (first : Point D) (answer : Reply) (last : Point D) : Type 0 where
+  pub others : List Event
+  pub of_worker : AllByRecursion (λ event. (event ≡ Work worker) ⊎ (event ≡ Perform worker)) others
+  pub before : List Reply
+  pub goes : Goes g first (orders ++ others) (before ++ answer ∷ []) last

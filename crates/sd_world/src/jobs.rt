@@ -1,13 +1,17 @@
 //! A worker's events, one after the other, and its jobs.
-ghost use Rattle.std.specs.Prelude.{◌≡◌, ◌<◌, ◌≤◌, false, true};
+ghost use Rattle.std.specs.Prelude.{◌≡◌, ◌<◌, ◌≤◌, [], ◌∷◌, false, true};
 ghost use Rattle.sd_command.specs.declared.reply.Reply.TheVariants as reply;
+ghost use Rattle.sd_belief.specs.View.{history_of};
 ghost use Rattle.sd_core.specs.Working.{left_by};
+ghost use Rattle.sd_disk.specs.Crash.{Within};
 ghost use Rattle.sd_gate.specs.declared.worker.Worker.{Worker as WorkerKind};
 ghost use Rattle.sd_gate.specs.declared.worker.Worker.TheVariants.{Dumper, Merger, Opener};
 ghost use Rattle.sd_world.specs.declared.event.Event.TheVariants.{Begin, Merge, Perform, Reopen, Work};
 ghost use Rattle.sd_world.specs.Goes.{GoesOn};
-ghost use Rattle.sd_world.specs.Jobs.{AreDriven, EndsAs, IsDriven, IsFinished, IsJob, is_end, last_reply, next_event};
-ghost use Rattle.sd_world.specs.Runs.{IsStep};
+ghost use Rattle.sd_world.specs.Jobs.{AreDriven, EndsAs, GoesByJob, IsDriven, IsFinished, IsJob, is_end, last_reply, next_event};
+ghost use Rattle.sd_world.specs.Points.{StandsAt};
+ghost use Rattle.sd_world.specs.Promise.{Point};
+ghost use Rattle.sd_world.specs.Runs.{IsStep, ShowsReply};
 ghost use Rattle.sd_world.specs.Steps.{LeavesLess};
 ghost use Rattle.sd_world.specs.View.{asked_count, is_asked};
 
@@ -157,7 +161,12 @@ impl<D: Disk> World<D> {
     pub fn finish(&mut self, worker: Worker) -> Reply
         ensures finished { IsFinished D.Disk worker self.old result self.new }
         ensures goes_on { GoesOn D.Disk self.old self.new }
+        // From each point at which the world stands its events go to one at which it stands then.
+        ensures promise { D.is_honest self.new.disk → (first : Point D) → StandsAt self.old first
+            → (last : Point D) × StandsAt self.new last
+            × GoesByJob D.Disk [] worker first result last }
     {
+        self.points_follow();
         self.follow(worker, &mut Unwatched)
     }
 
@@ -166,7 +175,12 @@ impl<D: Disk> World<D> {
     pub fn finish_watched<S: Watch>(&mut self, worker: Worker, watch: &mut S) -> Reply
         ensures finished { IsFinished D.Disk worker self.old result self.new }
         ensures goes_on { GoesOn D.Disk self.old self.new }
+        // From each point at which the world stands its events go to one at which it stands then.
+        ensures promise { D.is_honest self.new.disk → (first : Point D) → StandsAt self.old first
+            → (last : Point D) × StandsAt self.new last
+            × GoesByJob D.Disk [] worker first result last }
     {
+        self.points_follow();
         let answer = self.follow(worker, watch);
         watch.has_ended();
         answer
@@ -177,7 +191,13 @@ impl<D: Disk> World<D> {
     pub fn do_job<S: Watch>(&mut self, order: Event, worker: Worker, watch: &mut S) -> Reply
         ensures job { IsJob D.Disk order worker self.old result self.new }
         ensures goes_on { GoesOn D.Disk self.old self.new }
+        ensures shows { D.is_honest self.new.disk → Within (D.may_leave self.new.disk)
+            (ShowsReply result self.new.core.base (history_of self.new.core)) }
+        ensures promise { D.is_honest self.new.disk → (first : Point D) → StandsAt self.old first
+            → (last : Point D) × StandsAt self.new last
+            × GoesByJob D.Disk (order ∷ []) worker first result last }
     {
+        self.points_follow();
         let begun = self.make(order);
         if is_end(&begun) {
             return begun;
@@ -201,6 +221,12 @@ impl<D: Disk> World<D> {
         // Its last reply is `acked`, with that number, or the refusal.
         ensures job { IsJob D.Disk (Begin rounds) Dumper self.old (last_reply reply.Acked result) self.new }
         ensures goes_on { GoesOn D.Disk self.old self.new }
+        // Whatever a crash leaves then shows checkpoint n behind `Ok(n)`, with the memory at its freeze.
+        ensures shows { D.is_honest self.new.disk → Within (D.may_leave self.new.disk)
+            (ShowsReply (last_reply reply.Acked result) self.new.core.base (history_of self.new.core)) }
+        ensures promise { D.is_honest self.new.disk → (first : Point D) → StandsAt self.old first
+            → (last : Point D) × StandsAt self.new last
+            × GoesByJob D.Disk (Begin rounds ∷ []) Dumper first (last_reply reply.Acked result) last }
     {
         acked(self.do_job(Event::Begin(rounds), Worker::Dumper, &mut Unwatched))
     }
@@ -220,6 +246,9 @@ impl<D: Disk> World<D> {
         // Its last reply is `merged`, with that serial, or the refusal.
         ensures job { IsJob D.Disk Merge Merger self.old (last_reply reply.Merged result) self.new }
         ensures goes_on { GoesOn D.Disk self.old self.new }
+        ensures promise { D.is_honest self.new.disk → (first : Point D) → StandsAt self.old first
+            → (last : Point D) × StandsAt self.new last
+            × GoesByJob D.Disk (Merge ∷ []) Merger first (last_reply reply.Merged result) last }
     {
         merged(self.do_job(Event::Merge, Worker::Merger, &mut Unwatched))
     }
@@ -238,6 +267,12 @@ impl<D: Disk> World<D> {
         // Its last reply is `reopened`, with what it found, or the refusal.
         ensures job { IsJob D.Disk Reopen Opener self.old (last_reply reply.Reopened result) self.new }
         ensures goes_on { GoesOn D.Disk self.old self.new }
+        // Whatever a crash leaves then shows what it found behind `Ok`, with the memory at its freeze, or nothing saved.
+        ensures shows { D.is_honest self.new.disk → Within (D.may_leave self.new.disk)
+            (ShowsReply (last_reply reply.Reopened result) self.new.core.base (history_of self.new.core)) }
+        ensures promise { D.is_honest self.new.disk → (first : Point D) → StandsAt self.old first
+            → (last : Point D) × StandsAt self.new last
+            × GoesByJob D.Disk (Reopen ∷ []) Opener first (last_reply reply.Reopened result) last }
     {
         reopened(self.do_job(Event::Reopen, Worker::Opener, &mut Unwatched))
     }
