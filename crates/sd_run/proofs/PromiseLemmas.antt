@@ -1,6 +1,5 @@
 -- What is promised of the run of a script, from how its world goes on.
-use Rattle.std.proofs.Common.{◌≡◌, ◌⊎◌, ℕ, Bool, true, false, List, [], ◌∷◌, ◌++◌, if◌then◌else◌, Option, Some, None, Result, IfOk, refl, sym, ◌∙◌, ap, subst, inl, inr}
-use Rattle.std.specs.List.{AllByRecursion}
+use Rattle.std.proofs.Common.{◌≡◌, ℕ, true, List, [], ◌∷◌, ◌++◌, Option, Some, None, Result, IfOk, refl, sym, ◌∙◌, ap, subst}
 use Rattle.sd_command.specs.declared.reply.Reply.{Reply}
 use Rattle.sd_disk.specs.declared.disk.Disk.{Ghosts}
 use Rattle.sd_gate.specs.declared.worker.Worker.{Worker}
@@ -14,12 +13,12 @@ use Rattle.sd_script.specs.declared.line.Line.{Line}
 use Rattle.sd_script.specs.declared.line.Line.TheVariants as line
 use Rattle.sd_world.specs.declared.event.Event.{Event}
 use Rattle.sd_world.specs.declared.event.Event.TheVariants.{Command, Begin, Work, Perform, PerformAt, Merge, Cancel, Reopen, Trim}
-use Rattle.sd_world.specs.declared.kept.Kept.{Kept}
 use Rattle.sd_world.specs.Points.{Folds, PointsFollow, StandsAt}
 use Rattle.sd_world.specs.Promise.{Goes, Point}
 use Rattle.sd_world.specs.Runs.{IsStep}
-use Rattle.sd_world.specs.View.{WorldView, is_asked}
-use Rattle.sd_world.specs.Jobs.{Drives, IsJob, is_end, next_event}
+use Rattle.sd_world.specs.View.{WorldView}
+use Rattle.sd_world.specs.Jobs.{Drives, IsJob, is_end}
+use Rattle.sd_world.proofs.PointLemmas.{drives_honest, drives_reach}
 use Rattle.sd_run.specs.Lines.{AnswersLine, AnswersLines, script_seat}
 use Rattle.sd_run.specs.Promise.{AreOf, EndsJob, GoesByLine, GoesByLines, IsAnswer, Promise, PromiseSoFar, RunsLine, Starts, Tells, begins_with, worker_of}
 use Rattle.sd_run.specs.Whole.{AreTold, IsOpened, IsPartOfRun, IsWholeRun}
@@ -28,42 +27,6 @@ module _ {D : Type 0} (g : Ghosts D) (follow : PointsFollow g) where
   -- a world goes on to another, and from each point at which it may stand there is one at which the other stands
   abbrev pub Reaches : WorldView D → WorldView D → (Point D → Point D → Type 0) → Type 0
   Reaches first last Goes_so = (from : Point D) → StandsAt first from → (to : Point D) × StandsAt last to × Goes_so from to
-
-  -- ---- a worker's events
-
-  -- these events of a worker, with these replies
-  pub record GoesBy (worker : Worker) (replies : List Reply) (from to : Point D) : Type 0 where
-    pub events : List Event
-    pub are : AllByRecursion (λ event. (event ≡ Work worker) ⊎ (event ≡ Perform worker)) events
-    pub goes : Goes g from events replies to
-
-  next_of : (kept : List Kept) (worker : Worker) → (next_event kept worker ≡ Work worker) ⊎ (next_event kept worker ≡ Perform worker)
-  next_of kept worker = by (is_asked kept worker)
-    where
-      by : (b : Bool) → ((if b then Perform worker else Work worker) ≡ Work worker) ⊎ ((if b then Perform worker else Work worker) ≡ Perform worker)
-      by true = inr refl
-      by false = inl refl
-
-  drives_honest : (worker : Worker) (first last : WorldView D) (replies : List Reply) → Drives g worker first replies last → g.is_honest last.disk
-      → g.is_honest first.disk
-  drives_honest worker first last [] drives honest = subst (λ (w : WorldView D). g.is_honest w.disk) drives honest
-  drives_honest worker first last (r ∷ rs) drives honest = drives.1.honest (drives_honest worker drives.0 last rs drives.2 honest)
-
-  drives_reach : (worker : Worker) (first last : WorldView D) (replies : List Reply) → Drives g worker first replies last → g.is_honest last.disk
-      → Reaches first last (GoesBy worker replies)
-  drives_reach worker first last [] drives honest from stands =
-      (from, subst (λ (w : WorldView D). StandsAt w from) (sym drives) stands, record { events = []; are = tt; goes = refl })
-  drives_reach worker first last (r ∷ rs) drives honest from stands =
-      let one = follow (next_event first.kept worker) first r drives.0 drives.1 (drives_honest worker drives.0 last rs drives.2 honest) from stands in
-      let rest = drives_reach worker drives.0 last rs drives.2 honest one.0 one.1 in (
-        rest.0,
-        rest.1,
-        record {
-          events = next_event first.kept worker ∷ rest.2.events;
-          are = (next_of first.kept worker, rest.2.are);
-          goes = (one.0, one.2, rest.2.goes);
-        },
-      )
 
   -- ---- a line
 
@@ -89,7 +52,7 @@ module _ {D : Type 0} (g : Ghosts D) (follow : PointsFollow g) where
       → Drives g worker first (before ++ reply ∷ []) last → g.is_honest last.disk
       → Reaches first last (λ from to. GoesByLine g asked from (answer.Reply reply) to)
   by_worker asked worker first last before reply is whose told ends drives honest from stands =
-      let all = drives_reach worker first last (before ++ reply ∷ []) drives honest from stands in (
+      let all = drives_reach g follow worker first last (before ++ reply ∷ []) drives honest from stands in (
         all.0,
         all.1,
         record {
@@ -121,8 +84,8 @@ module _ {D : Type 0} (g : Ghosts D) (follow : PointsFollow g) where
       )
   by_job asked order worker first last reply is whose told ends (IsJob.finished begun mid goes_on step finished) honest from stands =
       let driven = finished.driven in
-      let one = follow order first begun mid step (drives_honest worker mid last (driven.before ++ reply ∷ []) driven.drives honest) from stands in
-      let all = drives_reach worker mid last (driven.before ++ reply ∷ []) driven.drives honest one.0 one.1 in (
+      let one = follow order first begun mid step (drives_honest g worker mid last (driven.before ++ reply ∷ []) driven.drives honest) from stands in
+      let all = drives_reach g follow worker mid last (driven.before ++ reply ∷ []) driven.drives honest one.0 one.1 in (
         all.0,
         all.1,
         record {
@@ -193,7 +156,7 @@ module _ {D : Type 0} (g : Ghosts D) (follow : PointsFollow g) where
       → g.is_honest first.disk
   job_honest order worker first last reply (IsJob.refused ended step) honest = step.honest honest
   job_honest order worker first last reply (IsJob.finished begun mid goes_on step finished) honest =
-      step.honest (drives_honest worker mid last (finished.driven.before ++ reply ∷ []) finished.driven.drives honest)
+      step.honest (drives_honest g worker mid last (finished.driven.before ++ reply ∷ []) finished.driven.drives honest)
 
   line_honest : (asked : Line) (first last : WorldView D) (given : Answer) → AnswersLine g asked first given last → g.is_honest last.disk → g.is_honest first.disk
   line_honest (line.Words space address count) first last given answers honest = subst (λ (w : WorldView D). g.is_honest w.disk) answers.1 honest
@@ -214,9 +177,9 @@ module _ {D : Type 0} (g : Ghosts D) (follow : PointsFollow g) where
   line_honest line.Trim first last (answer.Words words) answers honest = absurd answers
   line_honest line.Trim first last (answer.Reply r) answers honest = answers.honest honest
   line_honest (line.Step worker count) first last (answer.Words words) answers honest = absurd answers
-  line_honest (line.Step worker count) first last (answer.Reply r) answers honest = drives_honest worker first last (answers.before ++ r ∷ []) answers.drives honest
+  line_honest (line.Step worker count) first last (answer.Reply r) answers honest = drives_honest g worker first last (answers.before ++ r ∷ []) answers.drives honest
   line_honest (line.Finish worker) first last (answer.Words words) answers honest = absurd answers
-  line_honest (line.Finish worker) first last (answer.Reply r) answers honest = drives_honest worker first last (answers.driven.before ++ r ∷ []) answers.driven.drives honest
+  line_honest (line.Finish worker) first last (answer.Reply r) answers honest = drives_honest g worker first last (answers.driven.before ++ r ∷ []) answers.driven.drives honest
   line_honest (line.Checkpoint rounds) first last (answer.Words words) answers honest = absurd answers
   line_honest (line.Checkpoint rounds) first last (answer.Reply r) answers honest = job_honest (Begin rounds) Dumper first last r answers honest
   line_honest line.Merge first last (answer.Words words) answers honest = absurd answers

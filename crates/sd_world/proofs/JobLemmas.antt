@@ -4,18 +4,19 @@ use Rattle.sd_command.specs.declared.refusal.Refusal.{Refusal}
 use Rattle.sd_command.specs.declared.refusal.Refusal.TheVariants.{Idle}
 use Rattle.sd_command.specs.declared.reply.Reply.{Reply}
 use Rattle.sd_command.specs.declared.reply.Reply.TheVariants as reply
+use Rattle.sd_disk.specs.Crash.{Within}
 use Rattle.sd_disk.specs.declared.disk.Disk.{Ghosts}
 use Rattle.sd_gate.specs.declared.worker.Worker.{Worker}
 use Rattle.sd_gate.specs.declared.worker.Worker.TheVariants.{Dumper, Merger, Opener}
 use Rattle.sd_journal.specs.History.{History}
 use Rattle.sd_belief.specs.Calls.{AddsByOrder}
-use Rattle.sd_belief.specs.View.{CoreView}
+use Rattle.sd_belief.specs.View.{CoreView, history_of}
 use Rattle.sd_world.specs.declared.event.Event.{Event}
 use Rattle.sd_world.specs.declared.event.Event.TheVariants.{Begin, Merge, Reopen}
 use Rattle.sd_world.specs.declared.kept.Kept.{Kept}
 use Rattle.sd_world.specs.Adds.{AddsBy, AddsByPerform, AddsByWork}
 use Rattle.sd_world.specs.Jobs.{Drives, EndsAs, IsJob, is_end, next_event}
-use Rattle.sd_world.specs.Runs.{IsStep}
+use Rattle.sd_world.specs.Runs.{IsStep, ShowsReply}
 use Rattle.sd_world.specs.Steps.{TakesUp, Works}
 use Rattle.sd_world.specs.View.{WorldView, is_asked}
 use Rattle.sd_world.proofs.DriveLemmas.{call_next, step_next}
@@ -159,3 +160,10 @@ module _ {D : Type 0} (g : Ghosts D) where
       by (Ends.merged serial whose is) = absurd (let no : Opener ≡ Merger = whose in cc)
       by (Ends.reopened m whose is) = (Ok m, is)
       by (Ends.refused why is) = (Err why, is)
+
+  -- what a job's last reply tells is what a crash leaves then
+  pub job_shows : (order : Event) (worker : Worker) (first last : WorldView D) (answer : Reply) → IsJob g order worker first answer last
+      → g.is_honest last.disk → Within (g.may_leave last.disk) (ShowsReply answer last.core.base (history_of last.core))
+  job_shows order worker first last answer (IsJob.refused ends step) honest = step.shows honest
+  job_shows order worker first last answer (IsJob.finished begun mid goes step finished) honest =
+      (last_event worker mid last finished.driven.before answer finished.driven.drives).2.shows honest

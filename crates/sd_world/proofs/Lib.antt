@@ -33,4 +33,5 @@ mod MergedLemmas
 mod DriveLemmas
 pub mod GoesOnLemmas
 mod JobLemmas
+pub mod PointLemmas
 mod StartLemmas

@@ -1,7 +1,9 @@
-use Rattle.std.proofs.Common.{subst}
+use Rattle.std.proofs.Common.{[], ◌∷◌, subst}
 use Rattle.sd_gate.specs.declared.worker.Worker.TheVariants.{Merger}
 use Rattle.sd_world.specs.declared.event.Event.TheVariants.{Merge}
-use Rattle.sd_world.specs.Jobs.{IsJob}
+use Rattle.sd_world.specs.Jobs.{GoesByJob, IsJob}
+use Rattle.sd_world.specs.Points.{StandsAt}
+use Rattle.sd_world.specs.Promise.{Point}
 use Rattle.sd_world.proofs.JobLemmas.{merge_ends}
 use Rattle.sd_world.proofs.world.World.merge_now.Goals as goal
 
@@ -10,3 +12,8 @@ merged-requires g c = merge_ends g.D.Disk c.args.self.now c.do_job.new.self c.do
 
 pub returns-clause-job : goal.returns-clause-job
 returns-clause-job g c = subst (λ answer. IsJob g.D.Disk Merge Merger c.args.self.now answer c.do_job.new.self) c.merged.ensures c.do_job.ensures.job
+
+pub returns-clause-promise : goal.returns-clause-promise
+returns-clause-promise g c = λ honest first stands.
+    subst (λ answer. (last : Point g.row.D.Denot) × StandsAt c.do_job.new.self last × GoesByJob g.D.Disk (Merge ∷ []) Merger first answer last) c.merged.ensures
+    (c.do_job.ensures.promise honest first stands)
