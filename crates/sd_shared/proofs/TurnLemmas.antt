@@ -1,5 +1,5 @@
 -- What is known of a turn outside of the lock.
-use Rattle.std.proofs.Common.{◌≡◌, ◌⊎◌, inl, inr, ℕ, List, true, ◌∙◌, sym, ap, subst, arith}
+use Rattle.std.proofs.Common.{◌≡◌, ◌⊎◌, inl, inr, ℕ, List, ◌∙◌, sym, ap, subst}
 use Rattle.sd_command.specs.declared.refusal.Refusal.{Refusal}
 use Rattle.sd_command.specs.declared.refusal.Refusal.TheVariants as refusal
 use Rattle.sd_command.specs.declared.reply.Reply.{Reply}
@@ -7,9 +7,9 @@ use Rattle.sd_command.specs.declared.reply.Reply.TheVariants as reply
 use Rattle.sd_gate.specs.declared.request_id.RequestId.{RequestId}
 use Rattle.sd_gate.specs.declared.worker.Worker.{Worker}
 use Rattle.sd_gate.specs.declared.worker.Worker.TheVariants.{Dumper}
+use Rattle.sd_core.specs.declared.taken.Taken.{Taken}
 use Rattle.sd_shared.specs.declared.jobs.Jobs.{Jobs}
-use Rattle.sd_shared.specs.Told.{ends_job}
-use Rattle.sd_shared.specs.Turns.{counted, job_of, HandsIn, IsCalled, IsLastOf, IsTold, MakesJob, Orders, RelaysJob, WasRefused}
+use Rattle.sd_shared.specs.Turns.{counted, job_of, HandsIn, IsCalled, IsLastOf, IsTold, IsToldBy, MakesJob, Orders, RelaysJob, Resumes, ResumesJob, WasRefused}
 
 pub called_of : {D : Type 0} (contents : D → List (List ℕ)) (id own : RequestId) (answer : Reply) → own ≡ id → HandsIn own answer → IsCalled contents id answer
 called_of contents id own answer same hands = inr (subst (λ (one : RequestId). HandsIn one answer) same hands)
@@ -35,11 +35,14 @@ relays_job contents rounds own last told answer same is makes behind =
 pub number_of : (old new : Jobs) (worker : Worker) (number : ℕ) → new ≡ counted worker old → number ≡ job_of new worker → number ≡ job_of (counted worker old) worker
 number_of old new worker number one is = is ∙ ap (λ (jobs : Jobs). job_of jobs worker) one
 
--- of a job that stood, of which nothing was told yet
-pub told_after : (T : Reply → Type 0) (was last answer : Reply) → was ≡ reply.Worked → answer ≡ last → ends_job last ≡ true
-    → (last ≡ was) ⊎ T last → T answer
-told_after T was last answer none behind over (inl first) = absurd (grind (arith, over, ap ends_job (first ∙ none)))
-told_after T was last answer none behind over (inr told) = subst T (sym behind) told
+-- of a job that stood, and was told of its first step
+pub resumes_job : {D : Type 0} (contents : D → List (List ℕ)) (worker : Worker) (number : ℕ) (first : Taken) (was last answer : Reply)
+    → Resumes worker number first → IsToldBy contents first was → answer ≡ last → (last ≡ was) ⊎ IsTold contents worker number last
+    → ResumesJob contents worker answer
+resumes_job contents worker number first was last answer resumed told behind (inl last_is) =
+    (number, first, resumed, inl (subst (IsToldBy contents first) (sym (behind ∙ last_is)) told))
+resumes_job contents worker number first was last answer resumed told behind (inr later) =
+    (number, first, resumed, inr (subst (IsTold contents worker number) (sym behind) later))
 
 -- of a job that was ordered
 pub job_of_told : {D : Type 0} (contents : D → List (List ℕ)) (worker : Worker) (rounds number : ℕ) (first was last answer : Reply)

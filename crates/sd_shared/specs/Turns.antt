@@ -25,6 +25,7 @@ use Rattle.sd_shared.specs.Told.{ends_job, told}
 use Rattle.sd_shared.specs.declared.booked.Booked.{Booked}
 use Rattle.sd_shared.specs.declared.jobs.Jobs.{Jobs}
 use Rattle.sd_shared.specs.declared.next.Next.{Next}
+use Rattle.sd_shared.specs.declared.order_count.OrderCount.{OrderCount}
 use Rattle.sd_shared.specs.declared.seat.Seat.{Seat}
 use Rattle.sd_shared.specs.declared.next.Next.TheVariants as next
 use Rattle.sd_shared.specs.declared.thaw.Thaw.{Thaw}
@@ -114,9 +115,14 @@ TrimsOnce result = (old : CoreView) × (new : CoreView) × IsTrimmed result old 
 -- a step of the job with this number was taken up; or another one was begun since, and it has ended
 abbrev pub Takes : Worker → ℕ → Taken → Type 0
 Takes worker number made =
-    (old : CoreView) × (new : CoreView) × (jobs : Jobs)
-    × (((number ≢ job_of jobs worker) × (made ≡ taken.Step (reply.Refused refusal.Idle)))
-    ⊎ ((number ≡ job_of jobs worker) × IsTakenUp worker old made new))
+    (old : Booked) × (new : Booked)
+    × (((number ≢ job_of old.jobs worker) × (made ≡ taken.Step (reply.Refused refusal.Idle)))
+    ⊎ ((number ≡ job_of old.jobs worker) × IsTakenUp worker old.core made new.core))
+
+-- a step was taken up of the job that was begun last, which has this number
+abbrev pub Resumes : Worker → ℕ → Taken → Type 0
+Resumes worker number made =
+    (old : Booked) × (new : Booked) × (number ≡ job_of old.jobs worker) × IsTakenUp worker old.core made new.core
 
 -- the outcome of a request was handed in
 abbrev pub HandsIn : RequestId → Reply → Type 0
@@ -130,19 +136,24 @@ LacksSlot {D} contents slot = (disk : D) × (length (contents disk) ≤ slot)
 abbrev pub IsCalled : {D : Type 0} → (D → List (List ℕ)) → RequestId → Reply → Type 0
 IsCalled contents id answer = ((answer ≡ reply.Refused refusal.Device) × LacksSlot contents id.slot) ⊎ HandsIn id answer
 
+-- what a step that was taken up tells: its answer, or that of the call that it asks for
+abbrev pub IsToldBy : {D : Type 0} → (D → List (List ℕ)) → Taken → Reply → Type 0
+IsToldBy contents (taken.Step own) answer = answer ≡ own
+IsToldBy contents (taken.Call request) answer = IsCalled contents request.id answer
+
 -- a worker was told so by a step of the job with this number, or of a call that one asked for
 abbrev pub IsTold : {D : Type 0} → (D → List (List ℕ)) → Worker → ℕ → Reply → Type 0
-IsTold contents worker number answer =
-    Takes worker number (taken.Step answer) ⊎ ((request : Asked) × Takes worker number (taken.Call request) × IsCalled contents request.id answer)
+IsTold contents worker number answer = (made : Taken) × Takes worker number made × IsToldBy contents made answer
 
 -- A job was ordered, of so many rounds. This is what was answered then, or to a later step of that job, or of its calls.
 abbrev pub MakesJob : {D : Type 0} → (D → List (List ℕ)) → Worker → ℕ → Reply → Type 0
 MakesJob contents worker rounds answer =
     (first : Reply) × (number : ℕ) × Orders worker rounds first number × ((answer ≡ first) ⊎ IsTold contents worker number answer)
 
--- a job that stood was gone on with, under one number
+-- A step of the job that stood was taken up, and this is what it told, or what a later step of that job did, or one of its calls.
 abbrev pub ResumesJob : {D : Type 0} → (D → List (List ℕ)) → Worker → Reply → Type 0
-ResumesJob contents worker answer = (number : ℕ) × IsTold contents worker number answer
+ResumesJob contents worker answer =
+    (number : ℕ) × (first : Taken) × Resumes worker number first × (IsToldBy contents first answer ⊎ IsTold contents worker number answer)
 
 -- an outcome was refused so that a writer handed in
 abbrev pub WasRefused : Refusal → Type 0
@@ -157,6 +168,10 @@ abbrev pub RelaysJob : {D : Type 0} → (D → List (List ℕ)) → ℕ → Repl
 RelaysJob contents rounds answer =
     (answer ≡ reply.Refused refusal.Einval) ⊎ ((answer ≡ reply.Refused refusal.OutOfMemory)
     ⊎ ((last : Reply) × MakesJob contents Dumper rounds last × IsLastOf last answer))
+
+-- one more order of a call
+abbrev pub ordered : OrderCount → OrderCount
+ordered count = record { made = (count.made + 1) % 2 ^ 64 }
 
 -- one more turn of a seat
 abbrev pub turned : Seat → Seat

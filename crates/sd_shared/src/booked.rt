@@ -9,12 +9,13 @@ ghost use Rattle.sd_core.specs.declared.taken.Taken.TheVariants as taken;
 ghost use Rattle.sd_shared.specs.declared.next.Next.TheVariants as next;
 ghost use Rattle.sd_core.specs.Called.{IsApplied, IsCancelOrder, IsHandedIn, IsTakenUp};
 ghost use Rattle.sd_shared.specs.Told.{ends_job, told};
-ghost use Rattle.sd_shared.specs.Turns.{IsOrder, IsSorted, IsTrimmed, counted, ends_waits, holds_waits, job_of, taken_of, thaw_of, turned};
+ghost use Rattle.sd_shared.specs.Turns.{IsOrder, IsSorted, IsTrimmed, counted, ends_waits, holds_waits, job_of, ordered, taken_of, thaw_of, turned};
 
 use crate::driving::ends_job;
 use crate::jobs::Jobs;
 use crate::making::make;
 use crate::next::Next;
+use crate::order_count::OrderCount;
 use crate::seat::Seat;
 use crate::thaw::Thaw;
 use crate::waking::Waking;
@@ -101,13 +102,6 @@ impl Booked {
         self.waking(held)
     }
 
-    /// The number of a worker's job that was begun last.
-    pub(crate) fn job_of(&self, worker: Worker) -> u64
-        ensures { result ≡ job_of self.now.jobs worker }
-    {
-        self.jobs.of(worker)
-    }
-
     /// Applies a command of a seat, as `make`. It is one turn of that seat.
     pub(crate) fn command(&mut self, seat: &mut Seat, command: Command) -> Result<Receipt, Refusal>
         ensures seat { IfOk result (λ receipt. receipt.seat ≡ seat.old.number) }
@@ -123,13 +117,20 @@ impl Booked {
     }
 
     /// Orders a worker's job. Returns the reply, and the number of the job, where it was begun.
-    pub(crate) fn order(&mut self, worker: Worker, rounds: u64) -> (Reply, u64)
+    pub(crate) fn order(
+        &mut self,
+        count: &mut OrderCount,
+        worker: Worker,
+        rounds: u64,
+    ) -> (Reply, u64)
+        ensures once { count.new ≡ ordered count.old }
         ensures turn { IsOrder worker rounds result.0 self.old.core self.new.core }
         ensures number { ends_job result.0 ≡ false
             → (self.new.jobs ≡ counted worker self.old.jobs) × (result.1 ≡ job_of self.new.jobs worker) }
         ensures refused { ends_job result.0 ≡ true → self.new.jobs ≡ self.old.jobs }
         ensures ended { self.new.ended ≡ self.old.ended }
     {
+        count.add();
         let reply = order(&mut self.core, worker, rounds);
         if !ends_job(&reply) {
             self.jobs.count(worker);
@@ -163,6 +164,19 @@ impl Booked {
         }
         let taken = self.core.take_up(worker);
         (taken, self.waking(held))
+    }
+
+    /// Takes up the job of a worker that was begun last, as `take_up`. Returns its number too.
+    pub(crate) fn resume(&mut self, worker: Worker) -> (u64, Taken, Waking)
+        ensures number { result.0 ≡ job_of self.old.jobs worker }
+        ensures turn { IsTakenUp worker self.old.core result.1 self.new.core }
+        ensures jobs { self.new.jobs ≡ self.old.jobs }
+        ensures ended { self.new.ended ≡ self.old.ended }
+        ensures wakes { result.2.go_on ≡ ends_waits self.old self.new }
+    {
+        let number = self.jobs.of(worker);
+        let (taken, waking) = self.take_up(worker, number);
+        (number, taken, waking)
     }
 
     /// As `take_up` of the dumper, and tells which device calls may be made beside others.
@@ -202,12 +216,14 @@ impl Booked {
     }
 
     /// Cancels the checkpoint that runs or is pending.
-    pub(crate) fn cancel(&mut self) -> (Reply, Waking)
+    pub(crate) fn cancel(&mut self, count: &mut OrderCount) -> (Reply, Waking)
+        ensures once { count.new ≡ ordered count.old }
         ensures turn { IsCancelOrder result.0 self.old.core self.new.core }
         ensures jobs { self.new.jobs ≡ self.old.jobs }
         ensures ended { self.new.ended ≡ self.old.ended }
         ensures wakes { result.1.go_on ≡ ends_waits self.old self.new }
     {
+        count.add();
         let held = self.holds_waits();
         let reply = self.core.cancel();
         (reply, self.waking(held))
@@ -218,11 +234,13 @@ impl Booked {
     /// # Errors
     ///
     /// As `Core::trim`. Nothing changed.
-    pub(crate) fn trim(&mut self) -> Result<Folded, Refusal>
+    pub(crate) fn trim(&mut self, count: &mut OrderCount) -> Result<Folded, Refusal>
+        ensures once { count.new ≡ ordered count.old }
         ensures turn { IsTrimmed result self.old.core self.new.core }
         ensures jobs { self.new.jobs ≡ self.old.jobs }
         ensures ended { self.new.ended ≡ self.old.ended }
     {
+        count.add();
         self.core.trim()
     }
 }

@@ -1,6 +1,7 @@
 //! The writers of a checkpoint.
 use crate::hold::Hold;
 use crate::next::Next;
+use crate::order_count::OrderCount;
 use crate::reports::Reports;
 use crate::shared::Shared;
 use sd_command::{Refusal, Reply};
@@ -22,8 +23,8 @@ pub(crate) struct Crew<'a, R, D: Drop, H> {
 
 impl<'a, R: Wait, D: Disk + Drop, H: Hold> Crew<'a, R, D, H> {
     ghost use Rattle.sd_gate.specs.declared.worker.Worker.TheVariants as its;
-    ghost use Rattle.std.specs.Prelude.{IfSome};
-    ghost use Rattle.sd_shared.specs.Turns.{IsCalled, Orders, Takes, WasRefused, taken_of};
+    ghost use Rattle.std.specs.Prelude.{◌≡◌, IfSome};
+    ghost use Rattle.sd_shared.specs.Turns.{IsCalled, Orders, Takes, WasRefused, ordered, taken_of};
 
     /// Writers who have nothing to tell yet.
     pub(crate) fn new(rt: &'a R, shared: &'a Shared<D>, hold: &'a H) -> Self {
@@ -42,10 +43,11 @@ impl<'a, R: Wait, D: Disk + Drop, H: Hold> Crew<'a, R, D, H> {
     }
 
     /// Begins a checkpoint of so many rounds. Returns the reply, and its number among the jobs of the dumper.
-    pub(crate) fn begin(&self, rounds: u64) -> (Reply, u64)
-        ensures { Orders its.Dumper rounds result.0 result.1 }
+    pub(crate) fn begin(&self, count: &mut OrderCount, rounds: u64) -> (Reply, u64)
+        ensures turn { Orders its.Dumper rounds result.0 result.1 }
+        ensures once { count.new ≡ ordered count.old }
     {
-        self.shared.begin(self.rt, Worker::Dumper, rounds)
+        self.shared.begin(self.rt, count, Worker::Dumper, rounds)
     }
 
     /// What is next of the checkpoint with this number.

@@ -21,7 +21,7 @@ pub(crate) struct Job<'a, R, D: Drop, H> {
 
 impl<'a, R: Wait, D: Disk + Drop, H: Hold> Job<'a, R, D, H> {
     ghost use Rattle.std.specs.Prelude.{◌≡◌};
-    ghost use Rattle.sd_shared.specs.Turns.{IsCalled, IsTold, Takes};
+    ghost use Rattle.sd_shared.specs.Turns.{IsCalled, IsToldBy};
 
     /// The job of a worker with this number, of which this was answered last.
     pub(crate) fn new(
@@ -57,16 +57,23 @@ impl<'a, R: Wait, D: Disk + Drop, H: Hold> Job<'a, R, D, H> {
             .call_device(self.rt, self.hold, self.calls, request)
     }
 
-    /// What the worker is told of its next step, or of its next device call, which is made.
+    /// What a step tells that was taken up, or the device call that it asks for, which is made.
     fn told(&mut self, taken: Taken) -> Reply
-        requires { Takes self.old.worker self.old.number taken }
         ensures same { (self.new.worker ≡ self.old.worker) × (self.new.number ≡ self.old.number) }
-        ensures told { IsTold D.contents self.old.worker self.old.number result }
+        ensures told { IsToldBy D.contents taken result }
     {
         match taken {
             Taken::Step(reply) => reply,
             Taken::Call(request) => self.call(request),
         }
+    }
+
+    /// Is told of a step that was taken up.
+    pub(crate) fn take(&mut self, taken: Taken)
+        ensures same { (self.new.worker ≡ self.old.worker) × (self.new.number ≡ self.old.number) }
+        ensures told { IsToldBy D.contents taken self.new.last }
+    {
+        self.last = self.told(taken);
     }
 }
 
@@ -79,7 +86,7 @@ impl<R: Wait, D: Disk + Drop, H: Hold> Hands for Job<'_, R, D, H> {
 
     fn go_on(&mut self) {
         let taken = self.shared.take_up(self.rt, self.worker, self.number);
-        self.last = self.told(taken);
+        self.take(taken);
     }
 
     fn last(&self) -> &Reply {

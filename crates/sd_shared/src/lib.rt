@@ -11,6 +11,7 @@ mod job;
 mod jobs;
 mod making;
 mod next;
+mod order_count;
 mod relayed_dump;
 mod reports;
 mod seat;

@@ -1,26 +1,41 @@
 //! A checkpoint whose writes of data pages are relayed to writers.
-ghost use Rattle.std.specs.Prelude.{◌≡◌, ◌⊎◌, true};
+ghost use Rattle.std.specs.Prelude.{◌≡◌, ◌⊎◌, true, IfSome};
 ghost use Rattle.sd_gate.specs.declared.worker.Worker.TheVariants as its;
 ghost use Rattle.sd_relay.specs.Fronts.{Stays};
 ghost use Rattle.sd_shared.specs.Told.{ends_job};
-ghost use Rattle.sd_shared.specs.Turns.{IsCalled, IsTold, MakesJob, Takes, taken_of};
+ghost use Rattle.sd_shared.specs.Turns.{IsCalled, IsLastOf, IsTold, IsToldBy, MakesJob, WasRefused, ordered, taken_of};
 
 use crate::crew::Crew;
 use crate::driving::ends_job;
 use crate::hold::Hold;
 use crate::next::Next;
+use crate::order_count::OrderCount;
 use sd_command::{Refusal, Reply};
 use sd_disk::Disk;
 use sd_gate::Request;
 use sd_relay::{Errand, Feeder, Front};
 use std::sync::Wait;
 
+/// The last reply of a checkpoint, of which an outcome may have been refused that a writer handed in.
+pub(crate) fn last_of(last: Reply, refused: Option<Refusal>) -> Reply
+    requires over { ends_job last ≡ true }
+    requires refused { IfSome refused WasRefused }
+    ensures over { ends_job result ≡ true }
+    ensures last { IsLastOf last result }
+{
+    match (last, refused) {
+        (Reply::Refused(_), Some(why)) => Reply::Refused(why),
+        (last, _) => last,
+    }
+}
+
 /// A checkpoint that one thread takes up. It puts the writes of data pages for the writers, and makes every other device
 /// call itself, and each write that is handed back.
-#[derive(Drop)]
 pub(crate) struct RelayedDump<'a, R, D: Drop, H> {
     crew: &'a Crew<'a, R, D, H>,
     rounds: u64,
+    /// How often it was ordered.
+    count: OrderCount,
     /// Its number among the jobs of the dumper.
     number: u64,
     /// How many device calls were taken up.
@@ -33,11 +48,13 @@ pub(crate) struct RelayedDump<'a, R, D: Drop, H> {
 impl<'a, R: Wait, D: Disk + Drop, H: Hold> RelayedDump<'a, R, D, H> {
     /// A checkpoint of so many rounds, of which nothing was done yet.
     pub(crate) fn new(crew: &'a Crew<'a, R, D, H>, rounds: u64) -> Self
-        ensures { result.rounds ≡ rounds }
+        ensures rounds { result.rounds ≡ rounds }
+        ensures count { result.count.made ≡ 0 }
     {
         RelayedDump {
             crew,
             rounds,
+            count: OrderCount::none(),
             number: 0,
             calls: 0,
             put: 0,
@@ -45,17 +62,44 @@ impl<'a, R: Wait, D: Disk + Drop, H: Hold> RelayedDump<'a, R, D, H> {
         }
     }
 
-    /// The last reply.
+    /// The last reply of a checkpoint that was ordered once.
     pub(crate) fn into_last(self) -> Reply
+        requires { self.count.made ≡ 1 }
         ensures { result ≡ self.entry.last }
     {
-        self.last
+        let RelayedDump {
+            crew: _,
+            rounds: _,
+            count,
+            number: _,
+            calls: _,
+            put: _,
+            last,
+        } = self;
+        count.end();
+        last
+    }
+
+    /// Drops a checkpoint that wasn't ordered.
+    pub(crate) fn give_up(self)
+        requires { self.count.made ≡ 0 }
+    {
+        let RelayedDump {
+            crew: _,
+            rounds: _,
+            count,
+            number: _,
+            calls: _,
+            put: _,
+            last: _,
+        } = self;
+        count.end_unused();
     }
 
     /// Puts the write of a data page for the writers. One that is handed back is made here.
     fn put(&mut self, front: &mut Front, request: Request) -> Reply
         ensures stays { Stays front.old front.new }
-        ensures job { self.new.number ≡ self.old.number }
+        ensures same { (self.new.number ≡ self.old.number) × (self.new.count ≡ self.old.count) }
         ensures called { ends_job result ≡ true → IsCalled D.contents request.id result }
     {
         self.calls = self.calls.saturating_add(1);
@@ -85,10 +129,9 @@ impl<'a, R: Wait, D: Disk + Drop, H: Hold> RelayedDump<'a, R, D, H> {
 
     /// What the checkpoint is told of its next step, or of its next device call, which is made, or put for the writers.
     fn told(&mut self, front: &mut Front, next: Next, made: u64) -> Reply
-        requires { Takes its.Dumper self.old.number (taken_of next) }
         ensures stays { Stays front.old front.new }
-        ensures job { self.new.number ≡ self.old.number }
-        ensures told { ends_job result ≡ true → IsTold D.contents its.Dumper self.old.number result }
+        ensures same { (self.new.number ≡ self.old.number) × (self.new.count ≡ self.old.count) }
+        ensures told { ends_job result ≡ true → IsToldBy D.contents (taken_of next) result }
     {
         match next {
             Next::Step(reply) => self.awaited(reply, made),
@@ -103,7 +146,7 @@ impl<'a, R: Wait, D: Disk + Drop, H: Hold> RelayedDump<'a, R, D, H> {
     /// Makes the next step, or the next device call, or puts it for the writers.
     fn go_on(&mut self, front: &mut Front)
         ensures stays { Stays front.old front.new }
-        ensures job { self.new.number ≡ self.old.number }
+        ensures same { (self.new.number ≡ self.old.number) × (self.new.count ≡ self.old.count) }
         ensures told { ends_job self.new.last ≡ true → IsTold D.contents its.Dumper self.old.number self.new.last }
     {
         let made = self.crew.made();
@@ -114,6 +157,7 @@ impl<'a, R: Wait, D: Disk + Drop, H: Hold> RelayedDump<'a, R, D, H> {
     /// Goes on to the end of the checkpoint, or until it is refused.
     fn go_on_to_the_end(&mut self, front: &mut Front)
         ensures stays { Stays front.old front.new }
+        ensures count { self.new.count ≡ self.old.count }
         ensures over { ends_job self.new.last ≡ true }
         ensures told { (self.new.last ≡ self.old.last)
             ⊎ IsTold D.contents its.Dumper self.old.number self.new.last }
@@ -130,10 +174,11 @@ impl<'a, R: Wait, D: Disk + Drop, H: Hold> RelayedDump<'a, R, D, H> {
 
 impl<R: Wait, D: Disk + Drop, H: Hold> Feeder for RelayedDump<'_, R, D, H> {
     ghost fed = { λ before dump.
-        (ends_job dump.last ≡ true) × MakesJob D.contents its.Dumper before.rounds dump.last };
+        (ends_job dump.last ≡ true) × MakesJob D.contents its.Dumper before.rounds dump.last
+        × (dump.count ≡ ordered before.count) };
 
     fn feed(&mut self, front: &mut Front) {
-        let (first, number) = self.crew.begin(self.rounds);
+        let (first, number) = self.crew.begin(&mut self.count, self.rounds);
         self.last = first;
         self.number = number;
         self.go_on_to_the_end(front);

@@ -9,7 +9,7 @@ ghost use Rattle.sd_journal.specs.Receipts.{Accounts, IsFault};
 ghost use Rattle.sd_world.specs.Opens.{HasNoFrame, IsFaultOf};
 ghost use Rattle.sd_gate.specs.declared.worker.Worker.TheVariants as its;
 ghost use Rattle.sd_shared.specs.Told.{IsRefusedAtOnce, ends_job, seats_from_0};
-ghost use Rattle.sd_shared.specs.Turns.{Awaits, Cancels, HandsIn, IsCalled, IsLastOf, LacksSlot, Makes, MakesJob, Orders, RelaysJob, ResumesJob, Takes, TrimsOnce, WasRefused, taken_of, turned};
+ghost use Rattle.sd_shared.specs.Turns.{Awaits, Cancels, HandsIn, IsCalled, LacksSlot, Makes, MakesJob, Orders, RelaysJob, Resumes, ResumesJob, Takes, TrimsOnce, ordered, taken_of, turned};
 
 use crate::booked::Booked;
 use crate::crew::Crew;
@@ -18,7 +18,8 @@ use crate::hands::Hands;
 use crate::hold::Hold;
 use crate::job::Job;
 use crate::next::Next;
-use crate::relayed_dump::RelayedDump;
+use crate::order_count::OrderCount;
+use crate::relayed_dump::{RelayedDump, last_of};
 use crate::seat::Seat;
 use crate::settling::settle;
 use crate::thaw::Thaw;
@@ -56,19 +57,6 @@ fn seats_of(alloc: Global, count: usize) -> Result<Vec<Seat>, AllocError>
         seats.push(Seat { number, turns: 0 })?;
     }
     Ok(seats)
-}
-
-/// The last reply of a checkpoint, of which an outcome may have been refused that a writer handed in.
-fn last_of(last: Reply, refused: Option<Refusal>) -> Reply
-    requires over { ends_job last ≡ true }
-    requires refused { IfSome refused WasRefused }
-    ensures over { ends_job result ≡ true }
-    ensures last { IsLastOf last result }
-{
-    match (last, refused) {
-        (Reply::Refused(_), Some(why)) => Reply::Refused(why),
-        (last, _) => last,
-    }
 }
 
 impl<D: Disk + Drop> Shared<D> {
@@ -204,7 +192,10 @@ impl<D: Disk + Drop> Shared<D> {
         let mut dump = RelayedDump::new(&crew, rounds);
         match relay(rt, self.alloc, writers, &mut dump, &crew) {
             Ok(_) => last_of(dump.into_last(), crew.into_refused()),
-            Err(_) => Reply::Refused(Refusal::OutOfMemory),
+            Err(_) => {
+                dump.give_up();
+                Reply::Refused(Refusal::OutOfMemory)
+            }
         }
     }
 
@@ -228,7 +219,9 @@ impl<D: Disk + Drop> Shared<D> {
         ensures over { ends_job result ≡ true }
         ensures job { MakesJob D.contents worker rounds result }
     {
-        let (first, number) = self.begin(rt, worker, rounds);
+        let mut count = OrderCount::none();
+        let (first, number) = self.begin(rt, &mut count, worker, rounds);
+        count.end();
         let mut job = Job::new(rt, self, hold, worker, number, first);
         go_on(rt, &mut job);
         job.into_last()
@@ -263,8 +256,9 @@ impl<D: Disk + Drop> Shared<D> {
         ensures over { ends_job result ≡ true }
         ensures told { ResumesJob D.contents worker result }
     {
-        let number = self.core.lock(rt).job_of(worker);
+        let (number, taken) = self.resume(rt, worker);
         let mut job = Job::new(rt, self, hold, worker, number, Reply::Worked);
+        job.take(taken);
         go_on(rt, &mut job);
         job.into_last()
     }
@@ -273,8 +267,10 @@ impl<D: Disk + Drop> Shared<D> {
     pub fn cancel(&self, rt: &impl Wait) -> Reply
         ensures turn { Cancels result }
     {
-        let (reply, waking) = self.core.lock(rt).cancel();
+        let mut count = OrderCount::none();
+        let (reply, waking) = self.core.lock(rt).cancel(&mut count);
         waking.wake(&self.thawed);
+        count.end();
         reply
     }
 
@@ -288,14 +284,33 @@ impl<D: Disk + Drop> Shared<D> {
     pub fn trim(&self, rt: &impl Wait) -> Result<Folded, Refusal>
         ensures turn { TrimsOnce result }
     {
-        self.core.lock(rt).trim()
+        let mut count = OrderCount::none();
+        let folded = self.core.lock(rt).trim(&mut count);
+        count.end();
+        folded
     }
 
     /// Orders a worker's job. Returns the reply, and the job's number, where it was begun.
-    pub(crate) fn begin(&self, rt: &impl Wait, worker: Worker, rounds: u64) -> (Reply, u64)
+    pub(crate) fn begin(
+        &self,
+        rt: &impl Wait,
+        count: &mut OrderCount,
+        worker: Worker,
+        rounds: u64,
+    ) -> (Reply, u64)
         ensures turn { Orders worker rounds result.0 result.1 }
+        ensures once { count.new ≡ ordered count.old }
     {
-        self.core.lock(rt).order(worker, rounds)
+        self.core.lock(rt).order(count, worker, rounds)
+    }
+
+    /// The first step of the job of a worker that stands, or that it asks for a device call, and the job's number.
+    fn resume(&self, rt: &impl Wait, worker: Worker) -> (u64, Taken)
+        ensures turn { Resumes worker result.0 result.1 }
+    {
+        let (number, taken, waking) = self.core.lock(rt).resume(worker);
+        waking.wake(&self.thawed);
+        (number, taken)
     }
 
     /// The next step of a worker's job. One that ends the job may end a freeze.

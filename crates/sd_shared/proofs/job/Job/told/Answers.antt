@@ -1,10 +1,11 @@
-use Rattle.std.proofs.Common.{inl, inr, subst}
+use Rattle.std.proofs.Common.{refl, subst, sym}
 use Rattle.sd_core.specs.declared.taken.Taken.{Taken}
-use Rattle.sd_shared.specs.Turns.{Takes}
+use Rattle.sd_shared.specs.Turns.{IsToldBy}
 use Rattle.sd_shared.proofs.job.Job.told.Goals as goal
 
 pub returns-in-Step-clause-told : goal.returns-in-Step-clause-told
-returns-in-Step-clause-told g c = inl (subst (λ (taken : Taken). Takes c.args.self.now.worker c.args.self.now.number taken) c.in-Step.is c.requires)
+returns-in-Step-clause-told g c = subst (λ (taken : Taken). IsToldBy g.D.Disk.contents taken c.in-Step.reply) (sym c.in-Step.is) refl
 
 pub returns-in-Call-clause-told : goal.returns-in-Call-clause-told
-returns-in-Call-clause-told g c = inr (_, subst (λ (taken : Taken). Takes c.args.self.now.worker c.args.self.now.number taken) c.in-Call.is c.requires, c.call.ensures.called)
+returns-in-Call-clause-told g c =
+    subst (λ (taken : Taken). IsToldBy g.D.Disk.contents taken c.call.result) (sym c.in-Call.is) c.call.ensures.called
