@@ -8,7 +8,7 @@ use sd_world::{Event, World};
 use std::alloc::Global;
 
 /// The space of a new store.
-const SPACE: SpaceId = SpaceId::new(1);
+const SPACE: u64 = 1;
 
 /// The address of the ledger, and its length in bytes.
 const ADDRESS: u64 = 0x10000;
@@ -58,7 +58,7 @@ fn make_ledger<D: Disk>(alloc: Global, world: &mut World<D>) -> Result<()> {
         execute: false,
     };
     let map = Command::Mmap {
-        space: SPACE,
+        space: SpaceId::new(SPACE),
         address: ADDRESS,
         length: LENGTH,
         prot,
@@ -81,17 +81,18 @@ fn sum_of_accounts<D: Disk>(world: &World<D>) -> Result<u64> {
 /// Loads a number. A load through the world, as a command, would stand in its journal.
 fn number_at<D: Disk>(world: &World<D>, place: u16) -> Result<u64> {
     let mut bytes = [0; 8];
-    world
-        .core()
-        .memory()
-        .load(SPACE, ADDRESS + u64::from(place) * 8, &mut bytes)?;
+    world.core().memory().load(
+        SpaceId::new(SPACE),
+        ADDRESS + u64::from(place) * 8,
+        &mut bytes,
+    )?;
     Ok(u64::from_le_bytes(bytes))
 }
 
 /// Stores a number.
 fn put_number<D: Disk>(alloc: Global, world: &mut World<D>, place: u16, number: u64) -> Result<()> {
     let store = Command::Store {
-        space: SPACE,
+        space: SpaceId::new(SPACE),
         address: ADDRESS + u64::from(place) * 8,
         bytes: Bytes::new(Vec::from_array(alloc, number.to_le_bytes())?),
     };

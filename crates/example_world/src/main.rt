@@ -12,7 +12,7 @@ use sd_disk::{DirDisk, Disk, Folder, MemDisk};
 use sd_world::{Event, World};
 
 /// Opens the store of a ledger and makes transfers until it has had so many. Each hundredth is saved.
-fn keep_ledger<D: Disk>(rt: &HostRuntime, disk: D, wanted: u64) -> Result<()> {
+fn keep_ledger<D: Disk + Drop>(rt: &HostRuntime, disk: D, wanted: u64) -> Result<()> {
     let mut world = World::start(rt.alloc(), disk, 16)?; // goes on from the memory that the store shows
     let had = open_ledger(rt.alloc(), &mut world)?; // maps two pages and fills them, in a new store
     println!(rt; "{had} transfers")?;
@@ -52,6 +52,6 @@ fn main(rt: HostRuntime) -> Result<()> {
         (Some(folder), Some(count)) => {
             keep_ledger(&rt, folder_disk(&rt, folder)?, count.parse::<u64>()?)
         }
-        _ => keep_ledger(&rt, MemDisk::new(rt.alloc(), 8, 100_000, 10_000)?, 1250),
+        _ => keep_ledger(&rt, MemDisk::new(rt.alloc(), 16, 100_000, 10_000)?, 1250),
     }
 }
