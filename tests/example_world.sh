@@ -14,7 +14,7 @@ ledger_that_is_killed_loses_nothing() {
   local turn acked=0 had
   for turn in $(seq 200); do
     "$ledger" store 1000000000 > told 2> err &
-    sleep "0.$(printf %03d $((RANDOM % 150)))"
+    sleep "0.$(printf %03d $((RANDOM % 600)))"
     kill -9 $!
     wait $! 2> ended
     [ ! -s err ] || { cat err; return 1; }
