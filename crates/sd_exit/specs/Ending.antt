@@ -39,8 +39,8 @@ end_text (Err why) = stop_text why
 abbrev pub IsTold : Option (List ℕ) → Option (List ℕ) → Bool → List ℕ → ℕ → ℕ → Type 0
 IsTold before after refused text wanted status = ((status ≡ wanted) × Appends before after text) ⊎ (refused ≡ true)
 
--- how a program exits behind a last text: nothing was ever refused, that text is written and flushed, and the status is the one that comes
--- with it; or something was refused, and the status is 1
+-- how a program exits behind a last text: nothing was ever refused, the writer took that text, and the status is the one that comes with it;
+-- or something was refused, and the status is 1
 abbrev pub Exits : Option (List ℕ) → Option (List ℕ) → Bool → List ℕ → ℕ → ℕ → Type 0
 Exits before after refused text wanted status = ((refused ≡ false) × Appends before after text × (status ≡ wanted)) ⊎ ((refused ≡ true) × (status ≡ 1))
 

@@ -25,8 +25,8 @@ const NOTHING_SAVED: u8 = 3;
 /// checkpoint, 2 for a script that doesn't fit the language, and else 1. It is 1 also where anything was ever refused; what
 /// the writer answered then is the output's `error`.
 pub fn exit<W: Write>(ended: &Result<(), Stop>, out: &mut Output<W>) -> u8
-    // All is written and flushed, the last line too, and the status is that of the end; or something was refused, and it
-    // is 1.
+    // The writer took all, the last line too, and the status is that of the end; or something was refused, and it is 1.
+    // What the writer itself keeps back no clause tells: of a flush std says only that no byte is lost by it.
     ensures exits { Exits (W.contents out.old.writer) (W.contents out.new.writer) out.new.refused
         (end_text ended.now) (end_status ended.now) result }
     // What was refused before is not forgotten.

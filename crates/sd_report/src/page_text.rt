@@ -26,7 +26,10 @@ const BYTES: usize = DIGITS + 17;
 /// The length of a line with an address of 16 digits.
 const LINE_LEN: usize = BYTES + 2 * LINE_BYTES + 1;
 
-/// Prints the lines of a page that aren't all zeros, each in one piece: `bytes 0x10000 6865..`.
+/// The length of the lines of a page that has no zeros, with addresses of 16 digits.
+const PAGE_LEN: usize = LINES * LINE_LEN;
+
+/// Prints the lines of a page that aren't all zeros, in one piece: `bytes 0x10000 6865..`.
 pub fn print_page<W: Write>(address: u64, page: &[u8], out: &mut Output<W>) -> io::Result<()>
     requires fits { address + 4096 ≤ 2 ^ 48 }
     requires page { length page.now ≡ 4096 }
@@ -34,28 +37,42 @@ pub fn print_page<W: Write>(address: u64, page: &[u8], out: &mut Output<W>) -> i
         (Appends (W.contents out.old.writer) (W.contents out.new.writer) (page_text address page.now)) }
     ensures refused { OnErr result (out.new.refused ≡ true) }
 {
-    for number in 0..LINES {
-        let place = LINE_BYTES * number;
-        print_part(
-            address + place as u64,
-            &page[place..place + LINE_BYTES],
-            out,
-        )?;
-    }
-    Ok(())
+    let mut text = [0; PAGE_LEN];
+    let length = put_page(&mut text, address, page);
+    out.write_all(&text[..length])
 }
 
-/// Prints the line of bytes, unless they are all zeros.
-fn print_part<W: Write>(address: u64, bytes: &[u8], out: &mut Output<W>) -> io::Result<()>
-    requires { length bytes.now ≡ 32 }
-    ensures text { OnOk result
-        (Appends (W.contents out.old.writer) (W.contents out.new.writer) (bytes_line address bytes.now)) }
-    ensures refused { OnErr result (out.new.refused ≡ true) }
+/// Puts the lines of a page that aren't all zeros at the start of a text, and returns where they end.
+fn put_page(text: &mut [u8; PAGE_LEN], address: u64, page: &[u8]) -> usize
+    requires fits { address + 4096 ≤ 2 ^ 48 }
+    requires page { length page.now ≡ 4096 }
+    ensures within { result ≤ 11520 }
+    ensures text { take result text.new ≡ page_text address page.now }
+{
+    let mut end = 0;
+    for number in 0..LINES {
+        let place = LINE_BYTES * number;
+        end = put_part(
+            text,
+            end,
+            address + place as u64,
+            &page[place..place + LINE_BYTES],
+        );
+    }
+    end
+}
+
+/// Puts the line of bytes at a place of a text, unless they are all zeros, and returns where it ends.
+fn put_part(text: &mut [u8; PAGE_LEN], place: usize, address: u64, bytes: &[u8]) -> usize
+    requires bytes { length bytes.now ≡ 32 }
+    requires room { place + 90 ≤ 11520 }
+    ensures within { result ≤ place + 90 }
+    ensures text { take result text.new ≡ take place text.old ++ bytes_line address bytes.now }
 {
     if are_zeros(bytes) {
-        return Ok(());
+        return place;
     }
-    print_line(address, bytes, out)
+    put_line(text, place, address, bytes)
 }
 
 /// Whether bytes are zeros alone. It passes over all of them, some at a time.
@@ -69,20 +86,32 @@ fn are_zeros(bytes: &[u8]) -> bool
     ones == 0
 }
 
-/// Prints a line. Its address is put behind the place of the zeros before it, and those are left out.
-fn print_line<W: Write>(address: u64, bytes: &[u8], out: &mut Output<W>) -> io::Result<()>
-    requires { length bytes.now ≡ 32 }
-    ensures text { OnOk result
-        (Appends (W.contents out.old.writer) (W.contents out.new.writer) (line_text address bytes.now)) }
-    ensures refused { OnErr result (out.new.refused ≡ true) }
+/// Puts a line at a place of a text, and returns where it ends. Its address is put behind the place of the zeros before it,
+/// and those are left out.
+fn put_line(text: &mut [u8; PAGE_LEN], place: usize, address: u64, bytes: &[u8]) -> usize
+    requires bytes { length bytes.now ≡ 32 }
+    requires room { place + 90 ≤ 11520 }
+    ensures within { result ≤ place + 90 }
+    ensures text { take result text.new ≡ take place text.old ++ line_text address bytes.now }
 {
     let mut digits = [0; 16];
     hex::encode_to_slice(&address.to_be_bytes(), digits.as_mut_slice()).unwrap();
     let mut shown = [0; 2 * LINE_BYTES];
     hex::encode_to_slice(bytes, shown.as_mut_slice()).unwrap();
     let zeros = zero_digits(address);
-    let text = line_from(zeros, &digits, &shown);
-    print_from(&text, zeros, out)
+    let line = line_from(zeros, &digits, &shown);
+    put_at(text, place, &line[zeros..])
+}
+
+/// Puts bytes at a place of a text, and returns where they end.
+fn put_at(text: &mut [u8; PAGE_LEN], place: usize, bytes: &[u8]) -> usize
+    requires { place + length bytes.now ≤ 11520 }
+    ensures end { result ≡ place + length bytes.now }
+    ensures text { take result text.new ≡ take place text.old ++ bytes.now }
+{
+    let end = place + bytes.len();
+    text[place..end].copy_from_slice(bytes);
+    end
 }
 
 /// The text of a line, behind so many bytes that are left out as the address has zeros before its digits.
@@ -113,14 +142,4 @@ fn zero_digits(address: u64) -> usize
     ensures { IsZeroCount address result }
 {
     (address.leading_zeros() / 4).min(15) as usize
-}
-
-/// Prints a line's text from a place on.
-fn print_from<W: Write>(text: &[u8; LINE_LEN], place: usize, out: &mut Output<W>) -> io::Result<()>
-    requires { place ≤ 90 }
-    ensures text { OnOk result
-        (Appends (W.contents out.old.writer) (W.contents out.new.writer) (drop place text.now)) }
-    ensures refused { OnErr result (out.new.refused ≡ true) }
-{
-    out.write_all(&text[place..])
 }

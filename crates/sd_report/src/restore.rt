@@ -50,7 +50,7 @@ pub fn restore_to<D: Disk, W: Write>(alloc: Global, disk: &mut D, out: &mut Outp
     // Status 3 comes with its line, and with nothing else.
     ensures told { result ≡ 3
         → Appends (W.contents out.old.writer) (W.contents out.new.writer) (fault_line fault.EmptyChain) }
-    // All was written and flushed, but where the status is 1.
+    // Nothing was refused, but where the status is 1.
     ensures whole { result ≢ 1 → out.new.refused ≡ false }
     // However it ends: the text or a beginning of it, the last line, and the status that comes with it.
     ensures answers { Answers reader.Restore (D.is_honest disk.new) (D.contents disk.old)

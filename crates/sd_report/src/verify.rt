@@ -24,7 +24,7 @@ pub fn verify_to<D: Disk, W: Write>(alloc: Global, disk: &mut D, out: &mut Outpu
         → PrintsVerdict (D.contents disk.old) (W.contents out.old.writer) (W.contents out.new.writer) }
     // A store without a checkpoint is no fault here.
     ensures status { result ≤ 1 }
-    // All was written and flushed, but where the status is 1.
+    // Nothing was refused, but where the status is 1.
     ensures whole { result ≢ 1 → out.new.refused ≡ false }
     // However it ends: the text or a beginning of it, the last line, and the status that comes with it.
     ensures answers { Answers reader.Verify (D.is_honest disk.new) (D.contents disk.old)
