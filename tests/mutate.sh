@@ -9,14 +9,26 @@ memory_of() {  # memory_of THREADS
   done
 }
 
+# The images of the store's chain, from the newest one back along their parents, each with its kind and its checkpoint; and how
+# many images are open.
+chain() {
+  awk '/^slot / { image[$7] = $3 " " $11; parent[$7] = $9; open++ }
+    /^tip / { at = $2 }
+    END { while (at != 0 && ++seen <= open) { printf "%s, ", image[at]; at = parent[at] } print open " open" }' "$@"
+}
+
 # Looks at what a run of so many threads left: eight images were made, three for each of the first two checkpoints, one by the
-# merge, and the last one for the third checkpoint.
+# merge, and the last one for the third checkpoint. The merged one stands for the first checkpoint's dump, and its two rounds
+# are gone; or, where the merge came late, for the second one's.
 is_whole() {  # is_whole THREADS
   same "the memory of $1" "$("$ckpt" restore store)" "$(memory_of "$1")" || return 1
   "$ckpt" list store > list
-  has "the list of $1" "$(cat list)" " merged serial " || return 1
   has "the list of $1" "$(cat list)" " dump serial 8 " || return 1
   same "the tip of $1" "$(tail -n 1 list)" "tip 8" || return 1
+  case $(chain list) in
+    "dump 3, dump 2, pre-dump 2, pre-dump 2, merged 1, 5 open" | "dump 3, merged 2, 2 open") ;;
+    *) echo "the chain of $1: $(chain list)"; cat list; return 1 ;;
+  esac
   same "verify of $1" "$("$ckpt" verify store)" "ok checkpoint 3 images $(grep -c '^slot ' list)"
 }
 

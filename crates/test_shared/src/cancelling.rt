@@ -3,7 +3,7 @@ use crate::cases::Store;
 use crate::holds::Free;
 use crate::mutator::{Mutator, load};
 use sd_command::{Refusal, Reply};
-use sd_shared::{Shared, Thaw};
+use sd_shared::{Hold, Shared, Thaw};
 use std::process::Abort;
 use std::sync::Wait;
 use std::sync::atomic::{AtomicU64, Ordering};
@@ -12,10 +12,10 @@ use std::thread::Threads;
 use std::time::{Clock, Duration};
 
 /// How many checkpoints are cancelled.
-const ROUNDS: u64 = 20;
+const ROUNDS: u64 = 300;
 
 /// How many checkpoints are made at most until one is cancelled.
-const CHECKPOINTS: u64 = 1_000;
+const CHECKPOINTS: u64 = 100_000;
 
 /// How often a cancel is tried.
 const TRIES: u64 = 100_000_000;
@@ -30,14 +30,15 @@ fn make_room<R: Wait>(rt: &R, shared: &Shared<Store>) -> bool {
 
 /// Makes checkpoints of so many pre-dumps until one is refused, not for want of a slot alone. Returns the refusal, and keeps
 /// the numbers that were acknowledged.
-fn save_until_refused<R: Wait>(
+pub(crate) fn save_until_refused<R: Wait>(
     rt: &R,
     shared: &Shared<Store>,
     pre_dumps: u64,
+    hold: &impl Hold,
     acks: &mut Vec<u64>,
 ) -> Option<Refusal> {
     for _ in 0..CHECKPOINTS {
-        match shared.run_dumper(rt, pre_dumps, &Free) {
+        match shared.run_dumper(rt, pre_dumps, hold) {
             Reply::Acked(number) => {
                 if acks.push(number).is_err() {
                     return None;
@@ -111,7 +112,7 @@ fn cancel_beside<R: Threads + Wait + Clock + Sync>(
     let over = AtomicU64::new(0);
     let (ended, (reply, waited)) = thread::join(
         rt,
-        || save_until_refused(rt, shared, pre_dumps, acks),
+        || save_until_refused(rt, shared, pre_dumps, &Free, acks),
         || {
             thread::join(
                 rt,

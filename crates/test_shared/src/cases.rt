@@ -9,6 +9,7 @@ use crate::jobs::Job;
 use crate::mutator::Mutator;
 use crate::told::Told;
 use crate::trimming::trims_beside;
+use crate::waiting::{waits_asleep, wakes_by_a_cancel};
 use crate::writers::{falls_beside, writes_beside, writes_twenty_pages};
 use sd_command::Reply;
 use sd_core::Core;
@@ -20,6 +21,7 @@ use sd_world::{OpenFault, audit};
 use std::alloc::{AllocError, Global};
 use std::mem::forget;
 use std::process::Abort;
+use std::rt::Files;
 use std::sync::Wait;
 use std::test::Fail;
 use std::thread::Threads;
@@ -61,6 +63,8 @@ enum Case {
     TwentyPages,
     /// Checkpoints beside two mutators, each of which is trimmed.
     Trimmed,
+    /// A checkpoint beside a thread that waits for the thaw, and others that are cancelled beside one.
+    Awaited,
 }
 
 impl Case {
@@ -81,7 +85,7 @@ impl Case {
     fn pages(self) -> u64 {
         match self {
             Case::Merged | Case::Falls => 1,
-            Case::TwentyPages => 20,
+            Case::TwentyPages | Case::Awaited => 20,
             _ => 2,
         }
     }
@@ -129,7 +133,7 @@ fn save(
 }
 
 /// Does what a case says, by two mutators, behind the commands that map the pages.
-fn act<R: Threads + Wait + Clock + Abort + Sync>(
+fn act<R: Threads + Wait + Clock + Files + Alloc + Abort + Sync>(
     rt: &R,
     alloc: Global,
     shared: &Shared<Store>,
@@ -167,6 +171,12 @@ fn act<R: Threads + Wait + Clock + Abort + Sync>(
             Ok(acks.push(2)?)
         }
         Case::Trimmed => trims_beside(rt, alloc, shared, mutators),
+        Case::Awaited => {
+            waits_asleep(rt, shared);
+            acks.push(1)?;
+            wakes_by_a_cancel(rt, shared, mutators.0, acks);
+            Ok(())
+        }
         Case::TwentyPages => {
             writes_twenty_pages(rt, shared);
             Ok(acks.push(1)?)
@@ -214,7 +224,7 @@ fn room_for_acks(alloc: Global) -> Result<Vec<u64>, AllocError> {
 }
 
 /// Opens the store of a shared core, maps a page or two, and does what a case says.
-fn work<R: Threads + Wait + Clock + Abort + Sync>(
+fn work<R: Threads + Wait + Clock + Files + Alloc + Abort + Sync>(
     rt: &R,
     alloc: Global,
     shared: &Shared<Store>,
@@ -283,7 +293,7 @@ fn closes(rt: &impl Abort, alloc: Global, shared: Shared<Store>, told: &Told) ->
     }
 }
 
-fn run<R: Threads + Wait + Clock + Abort + Sync>(
+fn run<R: Threads + Wait + Clock + Files + Alloc + Abort + Sync>(
     rt: &R,
     alloc: Global,
     case: Case,
@@ -362,6 +372,12 @@ fn a_write_of_another_thread_fails(rt: HostRuntime) -> Result<(), Fail> {
 #[test]
 fn twenty_pages(rt: HostRuntime) -> Result<(), Fail> {
     run(&rt, rt.alloc(), Case::TwentyPages)
+}
+
+/// A thread that waits for the thaw sleeps meanwhile, and a cancel wakes it.
+#[test]
+fn a_wait_sleeps_until_it_is_woken(rt: HostRuntime) -> Result<(), Fail> {
+    run(&rt, rt.alloc(), Case::Awaited)
 }
 
 /// Each checkpoint is trimmed behind its acknowledgement, while two mutators store.

@@ -24,4 +24,6 @@ mod told;
 #[cfg(test)]
 mod trimming;
 #[cfg(test)]
+mod waiting;
+#[cfg(test)]
 mod writers;
