@@ -30,18 +30,52 @@ fill_store() {  # fill_store COUNT
   done
 }
 
+# What is told of a request for which too few slots are free, behind its script or at once.
+few_slots="a merge frees those of the images that it takes in"
+
 few_slots_are_told() {
   fill_store 63
-  printf 'checkpoint 1\n' > script
+  printf '# two lines\n\nwords 1 0 1\ncheckpoint 1\n' > script
+  local told="ckpt: store: script line 4: no-slot: free slots: 1, wanted: 3; $few_slots"
+  ends_with 0 "reopened 63
+words 0000000000000000
+refused 12 no-slot" "$told" "$ckpt" run store script || return 1
   ends_with 1 "reopened 63
-refused 12 no-slot" "script line 1: checkpoint 1: refused 12 no-slot
-ckpt: store: no-slot: of its slots 1 are free, and 3 wanted; a merge frees those of the images that it takes in" \
-    "$ckpt" run --strict store script || return 1
-  ends_with 1 "reopened 63
-refused 12 no-slot" "" "$ckpt" run --strict --quiet store script || return 1
+words 0000000000000000
+refused 12 no-slot" "script line 4: checkpoint 1: refused 12 no-slot
+$told" "$ckpt" run --strict store script || return 1
+  for words in "" "--strict"; do
+    "$ckpt" run $words --quiet store script > out 2> err
+    same "what a quiet run tells" "$(cat err)" "" || return 1
+  done
+}
+
+# The first of them is told, with the slots that were free then, also where a merge has freed some since.
+the_first_request_with_few_slots_is_told() {
+  fill_store 63
+  printf 'checkpoint 0\nmerge\ncheckpoint 0\nbegin 8\n' > script
+  ends_with 0 "reopened 63
+refused 12 no-slot
+merged 64
+acked 64
+begun 65" "ckpt: store: script line 1: no-slot: free slots: 1, wanted: 2; $few_slots" "$ckpt" run store script
+}
+
+# A merge and a shell tell it at once.
+few_slots_are_told_at_once() {
   fill_store 64
-  ends_with 1 "refused 12 no-slot" "ckpt: store: no-slot: of its slots 0 are free, and 1 wanted; a merge frees those of the images that \
-it takes in" "$ckpt" merge store
+  ends_with 1 "refused 12 no-slot" "ckpt: store: no-slot: free slots: 0, wanted: 1; $few_slots" "$ckpt" merge store || return 1
+  fill_store 63
+  printf 'checkpoint 1\nmerge\ncheckpoint 0\n' > script
+  ends_with 0 "reopened 63
+refused 12 no-slot
+merged 64
+acked 64" "ckpt: store: no-slot: free slots: 1, wanted: 3; $few_slots" "$ckpt" shell store < script || return 1
+  fill_store 63
+  ends_with 0 "reopened 63
+refused 12 no-slot
+merged 64
+acked 64" "" "$ckpt" shell --quiet store < script
 }
 
 # Other refusals are told without slots.
@@ -87,6 +121,8 @@ unfit_lines_are_explained() {
 try damage_is_told_in_words
 try broken_chains_are_told
 try few_slots_are_told
+try the_first_request_with_few_slots_is_told
+try few_slots_are_told_at_once
 try other_refusals_have_no_slots
 try files_that_are_no_files_are_told
 try folders_without_files_are_told

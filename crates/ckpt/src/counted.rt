@@ -1,8 +1,9 @@
 //! Scripts, shells and merges as the words ask for them, also with what is to be seen of them.
 
 use crate::cause::{Causes, tell, tell_failure};
-use crate::ends::{tell_few_slots, wanted_at};
-use crate::shell::{Asking, run_shell};
+use crate::course::Course;
+use crate::ends::tell_few_at;
+use crate::shell::{Asked, run_shell};
 use crate::stats::{Counting, Counts, meter_for};
 use crate::strict::run_strictly;
 use crate::verbose::{Seen, unseen};
@@ -11,7 +12,8 @@ use sd_disk::{DirDisk, Disk};
 use sd_exit::{Output, Stop, exit};
 use sd_run::{Watch, merge_to};
 use sd_script::Script;
-use sd_stats::Metered;
+use sd_stats::{Gated, Metered};
+use std::alloc::Global;
 use std::io;
 use std::io::{Input, Write};
 
@@ -19,7 +21,7 @@ use std::io::{Input, Write};
 #[derive(Clone, Copy)]
 pub struct RunAsked<'a> {
     pub folder: &'a str,
-    pub bytes: &'a [u8],
+    pub course: &'a Course<'a>,
     pub restores: bool,
     pub strict: bool,
     pub causes: Causes,
@@ -34,15 +36,13 @@ fn run_strict<D: Disk, W: Write, S: Watch>(
     out: &mut Output<W>,
     watch: &mut S,
 ) -> (D, u8) {
-    let (mut disk, ended) = run_strictly(rt.alloc(), disk, asked.bytes, out, watch);
+    let script = asked.course.script();
+    let (disk, ended) = run_strictly(rt.alloc(), disk, script, out, watch);
     let ended = match ended {
         Ok(None) if asked.restores => return restore_over(rt.alloc(), disk, out),
         Ok(None) => Ok(()),
         Ok(Some(failure)) => {
-            tell_failure(rt, asked.causes, asked.bytes, &failure);
-            if let Some(wanted) = wanted_at(rt.alloc(), asked.bytes, failure.number) {
-                tell_few_slots(rt, asked.causes, asked.folder, &mut disk, wanted);
-            }
+            tell_failure(rt, asked.causes, script, &failure);
             Err(Stop::Refused)
         }
         Err(stop) => Err(stop),
@@ -59,11 +59,22 @@ pub fn run_asked<D: Disk, W: Write, S: Watch>(
     out: &mut Output<W>,
     watch: &mut S,
 ) -> (D, u8) {
-    if asked.strict {
-        run_strict(rt, asked, disk, out, watch)
+    let course = asked.course;
+    let gated = Gated::new(course.gates(), disk);
+    let (gated, status) = if asked.strict {
+        run_strict(rt, asked, gated, out, watch)
     } else {
-        run_over(rt.alloc(), disk, script, asked.restores, out, watch)
-    }
+        run_over(rt.alloc(), gated, script, asked.restores, out, watch)
+    };
+    course.clear();
+    tell_few_at(
+        rt,
+        asked.causes,
+        asked.folder,
+        course.script(),
+        course.few(),
+    );
+    (gated.into_inner(), status)
 }
 
 /// Runs a script over a store, and tells what its images, checkpoints and merges took.
@@ -89,10 +100,24 @@ pub fn run_counted<W: Write, S: Watch + Drop>(
     (disk, told_counts(rt, asked.causes, status, counted))
 }
 
+/// Merges the newest chain of a store, and sees its gates.
+pub fn merge_gated<D: Disk, W: Write, S: Watch>(
+    alloc: Global,
+    course: &Course<'_>,
+    disk: D,
+    out: &mut Output<W>,
+    watch: &mut S,
+) -> (D, u8) {
+    let gated = Gated::new(course.gates(), disk);
+    let (gated, status) = merge_to(alloc, gated, out, watch);
+    (gated.into_inner(), status)
+}
+
 /// Merges the newest chain of a store, and logs what is done.
 pub fn merge_counted<W: Write, S: Watch + Drop>(
     rt: &HostRuntime,
     seen: Seen<'_>,
+    course: &Course<'_>,
     counts: Counts,
     disk: DirDisk,
     out: &mut Output<W>,
@@ -104,7 +129,7 @@ pub fn merge_counted<W: Write, S: Watch + Drop>(
     };
     let mut counting = Counting::new(rt, seen.log, &meter, counts, watch);
     let metered = Metered::new(rt, &meter, seen.disk("opening", disk));
-    let (metered, status) = merge_to(rt.alloc(), metered, out, &mut counting);
+    let (metered, status) = merge_gated(rt.alloc(), course, metered, out, &mut counting);
     let counted = counting.finish();
     let disk = unseen(metered.into_inner());
     (disk, told_counts(rt, Causes::Told, status, counted))
@@ -116,7 +141,7 @@ pub fn shell_counted<W: Write, S: Watch + Drop>(
     seen: Seen<'_>,
     counts: Counts,
     disk: DirDisk,
-    asking: Asking,
+    asked: Asked<'_>,
     out: &mut Output<W>,
     watch: S,
 ) -> (DirDisk, u8) {
@@ -126,7 +151,7 @@ pub fn shell_counted<W: Write, S: Watch + Drop>(
     };
     let mut counting = Counting::new(rt, seen.log, &meter, counts, watch);
     let metered = Metered::new(rt, &meter, seen.disk("opening", disk));
-    let (metered, ended) = run_shell(rt.alloc(), metered, rt.reader(), asking, out, &mut counting);
+    let (metered, ended) = run_shell(asked, metered, rt.reader(), out, &mut counting);
     let counted = counting.finish();
     let disk = unseen(metered.into_inner());
     let status = exit(&ended, out);

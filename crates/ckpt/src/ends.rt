@@ -1,8 +1,8 @@
 //! What stands behind the end of a program, and what may be done about it: one line on the standard error.
 
 use crate::cause::{Causes, line_of, tell};
+use crate::course::{FewAt, line_of_request};
 use clap::ArgMatches;
-use sd_disk::Disk;
 use sd_image::Reason;
 use sd_restore::Fault;
 use sd_script::{Line, Script};
@@ -41,9 +41,9 @@ impl fmt::Display for Damage<'_> {
 
 /// Too few free slots, where a job wants some.
 #[derive(Clone, Copy)]
-struct FewSlots {
-    free: usize,
-    wanted: u64,
+pub struct FewSlots {
+    pub free: usize,
+    pub wanted: u64,
 }
 
 impl fmt::Display for FewSlots {
@@ -51,8 +51,8 @@ impl fmt::Display for FewSlots {
         let FewSlots { free, wanted } = self;
         write!(
             f,
-            "no-slot: of its slots {free} are free, and {wanted} wanted; a merge frees those of \
-the images that it takes in"
+            "no-slot: free slots: {free}, wanted: {wanted}; a merge frees those of the images that \
+it takes in"
         )
     }
 }
@@ -96,37 +96,15 @@ fn tell_no_files(
 const NO_FILES: &str =
     "it has none of the files img-000 to img-063; is it the folder that is meant?";
 
-/// Whether no image is open in a slot. One that can't be read counts as none.
-fn is_free<D: Disk>(disk: &mut D, slot: usize) -> bool {
-    if slot >= disk.slots() {
-        return false;
-    }
-    let mut gate = [0];
-    match disk.len(slot) {
-        Ok(0) => true,
-        Ok(_) => disk.read(slot, 0, &mut gate).is_ok() && gate[0] != sd_image::GATE,
-        Err(_) => false,
-    }
-}
-
-/// How many slots have no open image.
-fn free_slots<D: Disk>(disk: &mut D) -> usize {
-    let mut free = 0usize;
-    for slot in 0..disk.slots() {
-        free = free.saturating_add(usize::from(is_free(disk, slot)));
-    }
-    free
-}
-
 /// How many free slots the request of a line of a script wants, if it is one that wants some. Lines are counted from 1.
-pub fn wanted_at(alloc: Global, script: &[u8], number: usize) -> Option<u64> {
+fn wanted_at(alloc: Global, script: &[u8], number: usize) -> Option<u64> {
     let line = line_of(script, number)?;
     let asked = Script::parse(alloc, line).ok()?;
     wanted_slots(asked.lines.first()?)
 }
 
 /// How many free slots a request wants, if it is one that wants some.
-fn wanted_slots(request: &Line) -> Option<u64> {
+pub fn wanted_slots(request: &Line) -> Option<u64> {
     match request {
         Line::Begin(rounds) | Line::Checkpoint(rounds) => Some(rounds.saturating_add(2)),
         Line::BeginMerge | Line::Merge => Some(1),
@@ -134,17 +112,52 @@ fn wanted_slots(request: &Line) -> Option<u64> {
     }
 }
 
+impl FewSlots {
+    /// Whether fewer slots are free than are wanted.
+    fn are_few(self) -> bool {
+        (self.free as u64) < self.wanted
+    }
+}
+
 /// Tells how many slots are free where fewer are than are wanted.
-pub fn tell_few_slots<D: Disk>(
-    rt: &impl Eprint,
+pub fn tell_few_slots(rt: &impl Eprint, causes: Causes, folder: &str, slots: FewSlots) {
+    if slots.are_few() {
+        tell(rt, causes, folder, &slots);
+    }
+}
+
+/// The same of the request of a line of a script, behind its run.
+#[derive(Clone, Copy)]
+struct FewSlotsAt {
+    line: usize,
+    slots: FewSlots,
+}
+
+impl fmt::Display for FewSlotsAt {
+    fn fmt<W: fmt::Write>(&self, f: &mut fmt::Formatter<W>) -> fmt::Result {
+        write!(f, "script line {}: {}", self.line, self.slots)
+    }
+}
+
+/// Tells of the first request of a script that found too few free slots, if one did.
+pub fn tell_few_at(
+    rt: &(impl Eprint + AllocGlobal),
     causes: Causes,
     folder: &str,
-    disk: &mut D,
-    wanted: u64,
+    script: &[u8],
+    few: Option<FewAt>,
 ) {
-    let free = free_slots(disk);
-    if (free as u64) < wanted {
-        tell(rt, causes, folder, &FewSlots { free, wanted });
+    let Some(FewAt { request, free }) = few else {
+        return;
+    };
+    let Some(line) = line_of_request(script, request) else {
+        return;
+    };
+    if let Some(wanted) = wanted_at(rt.alloc(), script, line) {
+        let slots = FewSlots { free, wanted };
+        if slots.are_few() {
+            tell(rt, causes, folder, &FewSlotsAt { line, slots });
+        }
     }
 }
 

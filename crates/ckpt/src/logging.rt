@@ -2,6 +2,7 @@
 
 use log::{Log, debug};
 use sd_disk::{DeviceError, Disk};
+use std::fmt;
 
 /// A disk whose calls are logged, each behind its end.
 #[derive(Drop)]
@@ -21,12 +22,32 @@ impl<'a, L: Log, D: Disk> Logging<'a, L, D> {
     }
 }
 
-/// How a call ended.
-fn ending<T>(answer: &Result<T, DeviceError>) -> &'static str {
-    match answer {
-        Ok(_) => "done",
-        Err(_) => "failed",
+/// A call on a slot's file.
+#[derive(Clone, Copy)]
+enum Call {
+    Length,
+    Read { bytes: usize, at: usize },
+    Write { bytes: usize, at: usize },
+    Cut { bytes: usize },
+    Sync,
+}
+
+impl fmt::Display for Call {
+    fn fmt<W: fmt::Write>(&self, f: &mut fmt::Formatter<W>) -> fmt::Result {
+        match self {
+            Call::Length => f.write_str("length"),
+            Call::Read { bytes, at } => write!(f, "read {bytes} bytes at {at}"),
+            Call::Write { bytes, at } => write!(f, "write {bytes} bytes at {at}"),
+            Call::Cut { bytes } => write!(f, "cut to {bytes} bytes"),
+            Call::Sync => f.write_str("sync"),
+        }
     }
+}
+
+/// Logs a call, behind its end.
+fn log_call<L: Log>(log: &L, slot: usize, call: Call, is_done: bool) {
+    let ending = if is_done { "done" } else { "failed" };
+    debug!(log; target: "ckpt", "img-{slot:03}: {call}: {ending}");
 }
 
 impl<L: Log, D: Disk> Disk for Logging<'_, L, D> {
@@ -62,31 +83,33 @@ impl<L: Log, D: Disk> Disk for Logging<'_, L, D> {
 
     fn len(&mut self, slot: usize) -> Result<usize, DeviceError> {
         let answer = self.disk.len(slot);
-        debug!(self.log; target: "ckpt", "img-{slot:03}: length: {}", ending(&answer));
+        log_call(self.log, slot, Call::Length, answer.is_ok());
         answer
     }
 
     fn read(&mut self, slot: usize, at: usize, buffer: &mut [u8]) -> Result<(), DeviceError> {
         let answer = self.disk.read(slot, at, buffer);
-        debug!(self.log; target: "ckpt", "img-{slot:03}: read {} bytes at {at}: {}", buffer.len(), ending(&answer));
+        let bytes = buffer.len();
+        log_call(self.log, slot, Call::Read { bytes, at }, answer.is_ok());
         answer
     }
 
     fn write_at(&mut self, slot: usize, at: usize, bytes: &[u8]) -> Result<(), DeviceError> {
         let answer = self.disk.write_at(slot, at, bytes);
-        debug!(self.log; target: "ckpt", "img-{slot:03}: write {} bytes at {at}: {}", bytes.len(), ending(&answer));
+        let bytes = bytes.len();
+        log_call(self.log, slot, Call::Write { bytes, at }, answer.is_ok());
         answer
     }
 
     fn cut(&mut self, slot: usize, len: usize) -> Result<(), DeviceError> {
         let answer = self.disk.cut(slot, len);
-        debug!(self.log; target: "ckpt", "img-{slot:03}: cut to {len} bytes: {}", ending(&answer));
+        log_call(self.log, slot, Call::Cut { bytes: len }, answer.is_ok());
         answer
     }
 
     fn sync(&mut self, slot: usize) -> Result<(), DeviceError> {
         let answer = self.disk.sync(slot);
-        debug!(self.log; target: "ckpt", "img-{slot:03}: sync: {}", ending(&answer));
+        log_call(self.log, slot, Call::Sync, answer.is_ok());
         answer
     }
 }

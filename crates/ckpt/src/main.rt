@@ -10,8 +10,9 @@ ghost use Rattle.ckpt.specs.Reading.{RunsScript};
 
 use cause::{Causes, causes_asked, tell, tell_device};
 use clap::ArgMatches;
-use counted::{RunAsked, merge_counted, run_asked, run_counted, shell_counted};
-use ends::{tell_end, tell_few_slots};
+use counted::{RunAsked, merge_counted, merge_gated, run_asked, run_counted, shell_counted};
+use course::{Course, FewAt, Noted};
+use ends::{FewSlots, tell_end, tell_few_slots};
 use folders::make_store;
 use mutating::mutate_program;
 use progress::ProgressLine;
@@ -20,9 +21,9 @@ use scripts::{parse_script, read_script};
 use sd_disk::Disk;
 use sd_exit::{Output, Stop, exit};
 use sd_report::restore_to;
-use sd_run::{Watch, merge_to, run_lines};
+use sd_run::{Watch, run_lines};
 use sd_script::Script;
-use shell::{Asking, run_shell};
+use shell::{Asked, Asking, run_shell};
 use stats::{counts_asked, counts_seen};
 use std::alloc::Global;
 use std::fs::File;
@@ -38,6 +39,7 @@ use verbose::{is_watched, logger_for, seen_by};
 mod cause;
 mod command_line;
 mod counted;
+mod course;
 mod ends;
 mod export;
 mod folders;
@@ -114,6 +116,7 @@ fn run_program<R: Clock + Wait, W: Write>(
     rt: &HostRuntime,
     threads: &R,
     words: &ArgMatches<'_>,
+    course: &Course<'_>,
     out: &mut Output<W>,
 ) -> Result<u8, Stop> {
     let folder = words.get_str("DIR").unwrap_or("");
@@ -128,10 +131,11 @@ fn run_program<R: Clock + Wait, W: Write>(
     let seen = seen_by(rt, &log, words, is_watched(rt, causes));
     let counts = counts_asked(rt, causes, words, seen)?;
     let disk = make_store(rt, threads, causes, folder)?;
-    let mut watch = ProgressLine::new(rt, rt.stderr().lock(), seen.shows);
+    course.begin(bytes, seen.shows && !rt.stdout().is_terminal());
+    let mut watch = ProgressLine::new(rt, course, rt.stderr().lock(), seen.shows);
     let asked = RunAsked {
         folder,
-        bytes: &bytes,
+        course,
         restores: words.get_flag("restore"),
         strict: words.get_flag("strict"),
         causes,
@@ -149,6 +153,7 @@ fn shell_program<R: Clock + Wait, W: Write>(
     rt: &HostRuntime,
     threads: &R,
     words: &ArgMatches<'_>,
+    course: &Course<'_>,
     out: &mut Output<W>,
 ) -> Result<u8, Stop> {
     let folder = words.get_str("DIR").unwrap_or("");
@@ -156,12 +161,18 @@ fn shell_program<R: Clock + Wait, W: Write>(
     let disk = make_store(rt, threads, causes, folder)?;
     let log = logger_for(rt, words);
     let seen = seen_by(rt, &log, words, is_watched(rt, causes));
-    let mut watch = ProgressLine::new(rt, rt.stderr().lock(), seen.shows);
-    let asking = asking_of(rt.stdin().is_terminal());
+    let mut watch = ProgressLine::new(rt, course, rt.stderr().lock(), seen.shows);
+    let asked = Asked {
+        rt,
+        causes,
+        folder,
+        gates: course.gates(),
+        asking: asking_of(rt.stdin().is_terminal()),
+    };
     let (disk, status) = match counts_seen(seen) {
-        Some(counts) => shell_counted(rt, seen, counts, disk, asking, out, watch),
+        Some(counts) => shell_counted(rt, seen, counts, disk, asked, out, watch),
         None => {
-            let (disk, ended) = run_shell(rt.alloc(), disk, rt.reader(), asking, out, &mut watch);
+            let (disk, ended) = run_shell(asked, disk, rt.reader(), out, &mut watch);
             (disk, exit(&ended, out))
         }
     };
@@ -183,6 +194,7 @@ fn merge_program<R: Clock + Wait, W: Write>(
     rt: &HostRuntime,
     threads: &R,
     words: &ArgMatches<'_>,
+    course: &Course<'_>,
     out: &mut Output<W>,
 ) -> Result<u8, Stop> {
     let folder = words.get_str("DIR").unwrap_or("");
@@ -190,14 +202,14 @@ fn merge_program<R: Clock + Wait, W: Write>(
     let disk = make_store(rt, threads, causes, folder)?;
     let log = logger_for(rt, words);
     let seen = seen_by(rt, &log, words, is_watched(rt, causes));
-    let mut watch = ProgressLine::new(rt, rt.stderr().lock(), seen.shows);
-    let (mut disk, status) = match counts_seen(seen) {
-        Some(counts) => merge_counted(rt, seen, counts, disk, out, watch),
-        None => merge_to(rt.alloc(), disk, out, &mut watch),
+    let mut watch = ProgressLine::new(rt, course, rt.stderr().lock(), seen.shows);
+    let (disk, status) = match counts_seen(seen) {
+        Some(counts) => merge_counted(rt, seen, course, counts, disk, out, watch),
+        None => merge_gated(rt.alloc(), course, disk, out, &mut watch),
     };
     tell_device(rt, causes, folder, &disk);
-    if status == FAILED && out.fault().is_none() && !out.is_refused() {
-        tell_few_slots(rt, causes, folder, &mut disk, 1);
+    if let Some(FewAt { free, .. }) = course.few() {
+        tell_few_slots(rt, causes, folder, FewSlots { free, wanted: 1 });
     }
     Ok(status)
 }
@@ -229,12 +241,13 @@ fn run_matches<R: Clock + Threads + Wait + Sync, W: Write>(
     rt: &HostRuntime,
     threads: &R,
     matches: &ArgMatches<'_>,
+    course: &Course<'_>,
     out: &mut Output<W>,
 ) -> Result<u8, Stop> {
     match matches.subcommand() {
-        Some(("run", words)) => run_program(rt, threads, words, out),
-        Some(("shell", words)) => shell_program(rt, threads, words, out),
-        Some(("merge", words)) => merge_program(rt, threads, words, out),
+        Some(("run", words)) => run_program(rt, threads, words, course, out),
+        Some(("shell", words)) => shell_program(rt, threads, words, course, out),
+        Some(("merge", words)) => merge_program(rt, threads, words, course, out),
         Some(("mutate", words)) => mutate_program(rt, threads, words, out),
         Some(("show", words)) => show::show_program(rt, causes_asked(words), words, out),
         Some(("export", words)) => export::export_program(rt, causes_asked(words), words, out),
@@ -252,12 +265,13 @@ fn run_words<R: Clock + Threads + Wait + Sync, W: Write>(
     rt: &HostRuntime,
     threads: &R,
     words: &[String],
+    course: &Course<'_>,
     out: &mut Output<W>,
 ) -> Result<(Causes, u8), clap::Error> {
     let run_help = command_line::run_help(rt.alloc())?;
     let command = command_line::command(rt.alloc(), &run_help)?;
     let matches = command.try_get_matches_from(words)?;
-    let status = match run_matches(rt, threads, &matches, out) {
+    let status = match run_matches(rt, threads, &matches, course, out) {
         Ok(status) => status,
         Err(stop) => exit(&Err(stop), out),
     };
@@ -278,8 +292,10 @@ fn run_command<R: Clock + Threads + Wait + Sync>(
     threads: &R,
     words: &[String],
 ) -> io::Result<u8> {
-    let mut out = Output::new(BufWriter::new(rt.alloc(), io::writer(rt))?);
-    match run_words(rt, threads, words, &mut out) {
+    let course = Course::new(rt);
+    let writer = BufWriter::new(rt.alloc(), io::writer(rt))?;
+    let mut out = Output::new(Noted::new(&course, writer));
+    match run_words(rt, threads, words, &course, &mut out) {
         Ok((causes, status)) => {
             if let Some(error) = out.error() {
                 tell(rt, causes, PRINTED, error);

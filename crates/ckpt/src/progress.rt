@@ -1,5 +1,7 @@
 //! How far a job is that takes long: one line, which is written over and over and cleared at the job's end.
 
+use crate::course::Course;
+use sd_areas::{Area, AreaMap, SPACE_LIMIT, SpaceId};
 use sd_core::Core;
 use sd_gate::Worker;
 use sd_run::Watch;
@@ -17,7 +19,7 @@ const PAUSE_SECS: u64 = 1;
 pub const CLEAR: &str = "\r\x1b[K";
 
 /// How much of something is done.
-#[derive(Clone, Copy, Debug, PartialEq, Eq)]
+#[derive(Clone, Copy)]
 pub struct Done {
     pub done: u128,
     pub of: u128,
@@ -51,7 +53,7 @@ impl fmt::Display for Done {
 }
 
 /// When a line is to be written: a second behind the beginning, and then each second.
-#[derive(Clone, Copy, Debug)]
+#[derive(Clone, Copy)]
 pub struct Pace {
     begun: Option<Instant>,
     last: Option<Instant>,
@@ -84,6 +86,7 @@ impl Pace {
 #[derive(Drop)]
 pub struct ProgressLine<'a, R, W> {
     clock: &'a R,
+    course: &'a Course<'a>,
     out: W,
     is_on: bool,
     steps: u64,
@@ -95,9 +98,10 @@ pub struct ProgressLine<'a, R, W> {
 
 impl<'a, R: Clock, W: Write> ProgressLine<'a, R, W> {
     /// A line that is written only where it is on.
-    pub fn new(clock: &'a R, out: W, is_on: bool) -> Self {
+    pub fn new(clock: &'a R, course: &'a Course<'a>, out: W, is_on: bool) -> Self {
         ProgressLine {
             clock,
+            course,
             out,
             is_on,
             steps: 0,
@@ -120,20 +124,44 @@ impl<'a, R: Clock, W: Write> ProgressLine<'a, R, W> {
     /// Writes the line over the one that stands there.
     fn write(&mut self, core: &Core, worker: Worker, took: Duration) -> io::Result<()> {
         let done = self.done(core, worker, took);
+        write!(self.out, "{CLEAR}")?;
+        if let Some(line) = self.course.line() {
+            write!(self.out, "{line}: ")?;
+        }
         match worker {
             Worker::Dumper => {
                 let frozen = if core.is_frozen() { ", frozen" } else { "" };
-                let pages = core.pages();
+                let (pages, mapped) = (core.pages(), mapped_pages(core));
                 write!(
                     self.out,
-                    "{CLEAR}checkpoint: {done}, {pages} pages written into this image{frozen}"
+                    "checkpoint: {done}, {pages} of {mapped} pages written into this image{frozen}"
                 )?;
             }
-            Worker::Merger => write!(self.out, "{CLEAR}merge: {done}")?,
-            Worker::Opener => write!(self.out, "{CLEAR}opening: {done}")?,
+            Worker::Merger => write!(self.out, "merge: {done}")?,
+            Worker::Opener => write!(self.out, "opening: {done}")?,
         }
         self.out.flush()
     }
+}
+
+/// How many pages an area map has.
+fn pages_of(areas: &AreaMap) -> u64 {
+    let mut pages = 0u64;
+    for Area { count, .. } in areas.areas() {
+        pages = pages.saturating_add(*count);
+    }
+    pages
+}
+
+/// How many pages are mapped in all spaces.
+fn mapped_pages(core: &Core) -> u64 {
+    let mut pages = 0u64;
+    for number in 1..SPACE_LIMIT + 1 {
+        if let Some(areas) = core.memory().areas(SpaceId::new(number)) {
+            pages = pages.saturating_add(pages_of(areas));
+        }
+    }
+    pages
 }
 
 impl<'a, R: Clock, W: Write> Watch for ProgressLine<'a, R, W> {

@@ -1,12 +1,15 @@
 //! `ckpt shell`: requests from the standard input, one by one, each answered before the next one is read.
 
+use crate::cause::Causes;
+use crate::ends::{FewSlots, tell_few_slots, wanted_slots};
+use sd_command::{Refusal, Reply};
 use sd_disk::Disk;
 use sd_exit::{Output, Stop};
 use sd_restore::Fault;
 use sd_run::{FRAMES, Watch, run_line, unopened};
-use sd_script::{Line, Script, ScriptError, blame_line};
+use sd_script::{Answer, Line, Script, ScriptError, blame_line};
+use sd_stats::{Gated, Gates};
 use sd_world::{OpenError, World};
-use std::alloc::Global;
 use std::io;
 use std::io::{BufRead, Write};
 
@@ -23,39 +26,58 @@ pub enum Asking {
     Silent,
 }
 
+/// How requests are asked for, of which store, and where is told what stands behind an answer.
+#[derive(Clone, Copy)]
+pub struct Asked<'a> {
+    pub rt: &'a HostRuntime,
+    pub causes: Causes,
+    pub folder: &'a str,
+    pub gates: &'a Gates,
+    pub asking: Asking,
+}
+
+impl Asked<'_> {
+    /// Tells how many slots are free, where a request was refused because too few are.
+    fn tell_answer(self, wanted: Option<u64>, answer: &Answer) {
+        if let (Some(wanted), Answer::Reply(Reply::Refused(Refusal::NoSlot))) = (wanted, answer) {
+            let free = self.gates.free();
+            tell_few_slots(self.rt, self.causes, self.folder, FewSlots { free, wanted });
+        }
+    }
+}
+
 /// Runs requests over a store: it is opened, and opened again, whose reply is printed; then each line of the input is
 /// answered, and its answer flushed, up to the end of the input or the line `quit`. A line that doesn't fit the language is
 /// answered with `script line N` and changes nothing. Returns the disk, and why the shell ended early, if it did.
 pub fn run_shell<D: Disk, I: BufRead + Drop, W: Write, S: Watch>(
-    alloc: Global,
+    asked: Asked<'_>,
     disk: D,
     input: I,
-    asking: Asking,
     out: &mut Output<W>,
     watch: &mut S,
 ) -> (D, Result<(), Stop>) {
-    match World::open(alloc, disk, FRAMES) {
+    let gated = Gated::new(asked.gates, disk);
+    match World::open(asked.rt.alloc(), gated, FRAMES) {
         Ok(mut world) => {
-            let ended = answer_all(alloc, &mut world, input, asking, out, watch);
-            (world.close(), ended)
+            let ended = answer_all(asked, &mut world, input, out, watch);
+            (world.close().into_inner(), ended)
         }
-        Err(OpenError { fault, disk }) => (disk, Err(unopened(fault))),
+        Err(OpenError { fault, disk }) => (disk.into_inner(), Err(unopened(fault))),
     }
 }
 
 /// Opens the store again, and answers the lines of the input.
 fn answer_all<D: Disk, I: BufRead + Drop, W: Write, S: Watch>(
-    alloc: Global,
+    asked: Asked<'_>,
     world: &mut World<D>,
     input: I,
-    asking: Asking,
     out: &mut Output<W>,
     watch: &mut S,
 ) -> Result<(), Stop> {
-    run_line(alloc, world, Line::Reopen, out, watch)?;
-    prompt(asking, out)?;
+    run_line(asked.rt.alloc(), world, Line::Reopen, out, watch)?;
+    prompt(asked.asking, out)?;
     let mut number = 0usize;
-    for line in input.split(alloc, b'\n') {
+    for line in input.split(asked.rt.alloc(), b'\n') {
         let Ok(line) = line else {
             return Err(Stop::CannotReadScript);
         };
@@ -63,43 +85,43 @@ fn answer_all<D: Disk, I: BufRead + Drop, W: Write, S: Watch>(
             return Ok(());
         }
         number = number.saturating_add(1);
-        answer(alloc, world, &line, number, asking, out, watch)?;
-        prompt(asking, out)?;
+        answer(asked, world, &line, number, out, watch)?;
+        prompt(asked.asking, out)?;
     }
     Ok(())
 }
 
 /// Answers the request of a line, if it has one.
 fn answer<D: Disk, W: Write, S: Watch>(
-    alloc: Global,
+    asked: Asked<'_>,
     world: &mut World<D>,
     line: &[u8],
     number: usize,
-    asking: Asking,
     out: &mut Output<W>,
     watch: &mut S,
 ) -> Result<(), Stop> {
-    match Script::parse(alloc, line) {
+    match Script::parse(asked.rt.alloc(), line) {
         Ok(script) => {
             for request in script.lines {
-                run_line(alloc, world, request, out, watch)?;
+                let wanted = wanted_slots(&request);
+                let given = run_line(asked.rt.alloc(), world, request, out, watch)?;
+                asked.tell_answer(wanted, &given);
             }
             Ok(())
         }
-        Err(ScriptError::Line(_)) => refuse(alloc, line, number, asking, out),
+        Err(ScriptError::Line(_)) => refuse(asked, line, number, out),
         Err(ScriptError::OutOfMemory) => Err(Stop::Fault(Fault::OutOfMemory)),
     }
 }
 
 /// Tells that a line doesn't fit the language, and on a terminal what is wrong with it.
 fn refuse<W: Write>(
-    alloc: Global,
+    asked: Asked<'_>,
     line: &[u8],
     number: usize,
-    asking: Asking,
     out: &mut Output<W>,
 ) -> Result<(), Stop> {
-    match (asking, blame_line(alloc, line)) {
+    match (asked.asking, blame_line(asked.rt.alloc(), line)) {
         (Asking::Prompts, Ok(blame)) => writeln!(out, "script line {number}: {blame}")?,
         _ => writeln!(out, "script line {number}")?,
     }

@@ -18,7 +18,7 @@ use std::fmt;
 use std::slice::from_ref;
 
 /// How many pages an import gave a space, and how many of the space's pages are others than before.
-#[derive(Clone, Copy, Debug, PartialEq, Eq)]
+#[derive(Clone, Copy)]
 pub struct Tally {
     pub imported: u64,
     /// Those that were mapped, unmapped, or got other bytes or permissions.

@@ -10,7 +10,7 @@ use std::alloc::Global;
 use std::io::Write;
 
 /// The request at which a strict run ended: its line's number, counted from 1, and its answer.
-#[derive(Debug, Drop)]
+#[derive(Drop)]
 pub struct Failure {
     pub number: usize,
     pub answer: Answer,
