@@ -60,7 +60,9 @@ fn seats_of(alloc: Global, count: usize) -> Result<Vec<Seat>, AllocError>
 }
 
 impl<D: Disk + Drop> Shared<D> {
-    /// Opens a store, as `World::open`, for so many seats, which are numbered from 0 in the order of the list.
+    /// Opens a store, as `World::open`, over so many frames, 1 to 65,536, and for so many seats, at most 1,000 for `close` to
+    /// be quick; they are numbered from 0 in the order of the list, and each is moved to its thread. The core's store isn't
+    /// open yet: call [`Shared::run_opener`] before a checkpoint or a merge.
     ///
     /// # Errors
     ///
@@ -153,7 +155,15 @@ impl<D: Disk + Drop> Shared<D> {
         WaitsEnded::new()
     }
 
-    /// Begins a checkpoint of so many rounds and makes it, beside the seats. Returns the last reply.
+    /// Begins a checkpoint with 0 to 8 rounds before its freeze and makes it, beside the seats, whose commands are answered
+    /// but between its freeze and its end. Returns the last reply: `Acked` with its number where it came to its end. Note
+    /// that number for `close`.
+    ///
+    /// # Errors
+    ///
+    /// The refusal of its beginning, as `Core::begin`: nothing changed. `OutOfMemory` of a step: it stands, and
+    /// [`Shared::go_on_dumper`] goes on with it, or [`Shared::cancel`] gives it up. `Device` or `StoreDown` where a device
+    /// call failed: next comes [`Shared::run_opener`]. `Idle` where another thread cancelled it meanwhile.
     pub fn run_dumper<R: Wait>(&self, rt: &R, rounds: u64, hold: &impl Hold) -> Reply
         ensures over { ends_job result ≡ true }
         ensures job { MakesJob D.contents its.Dumper rounds result }
@@ -199,7 +209,13 @@ impl<D: Disk + Drop> Shared<D> {
         }
     }
 
-    /// Begins a merge and makes it. Returns the last reply.
+    /// Begins a merge of the newest checkpoint's chain and makes it, also beside a checkpoint. Returns the last reply:
+    /// `Merged` with the image's serial where it came to its end.
+    ///
+    /// # Errors
+    ///
+    /// The refusal of its beginning, as `Core::merge`, `Idle` where there is no checkpoint: nothing changed. Else as
+    /// [`Shared::run_dumper`]; [`Shared::go_on_merger`] goes on with it.
     pub fn run_merger<R: Wait>(&self, rt: &R, hold: &impl Hold) -> Reply
         ensures over { ends_job result ≡ true }
         ensures job { MakesJob D.contents its.Merger 0 result }
@@ -207,7 +223,13 @@ impl<D: Disk + Drop> Shared<D> {
         self.run(rt, Worker::Merger, 0, hold)
     }
 
-    /// Opens the store again. Returns the last reply.
+    /// Opens the store, at first or behind a device call that failed. Returns the last reply: `Reopened` with the number of
+    /// the checkpoint that the store shows, if it shows one. Seats are answered meanwhile, but of a memory that is frozen.
+    ///
+    /// # Errors
+    ///
+    /// `Busy` where the store is open or a device call is out. `Damaged` where the disk holds another store than this one.
+    /// Else as [`Shared::run_dumper`]; [`Shared::go_on_opener`] goes on with it.
     pub fn run_opener<R: Wait>(&self, rt: &R, hold: &impl Hold) -> Reply
         ensures over { ends_job result ≡ true }
         ensures job { MakesJob D.contents its.Opener 0 result }
@@ -263,7 +285,13 @@ impl<D: Disk + Drop> Shared<D> {
         job.into_last()
     }
 
-    /// Cancels the checkpoint that runs or is pending, as `Core::cancel`.
+    /// Cancels the checkpoint that runs or is pending: the seats go on, and the next checkpoint is whole. Returns `Cancelled`
+    /// with its number.
+    ///
+    /// # Errors
+    ///
+    /// `Idle` where none runs or is pending; `Busy` while a device call of it is out or the gate of its dump may be open, or
+    /// an opener runs. Nothing changed: whoever runs it goes on with it.
     pub fn cancel(&self, rt: &impl Wait) -> Reply
         ensures turn { Cancels result }
     {

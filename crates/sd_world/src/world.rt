@@ -78,7 +78,8 @@ impl<D: Disk> Model for World<D> {
 
 impl<D: Disk> World<D> {
     /// Opens a store: syncs each slot, reads what it shows, and starts a run from it, over so many frames, 1 to 65,536.
-    /// The core's store isn't open yet. Where nothing was saved the run starts from space 1 alone, without areas.
+    /// The core's store isn't open yet, so checkpoints and merges are refused as not open: [`World::reopen_now`] opens it, and
+    /// [`World::start`] does both. Where nothing was saved the run starts from space 1 alone, without areas.
     ///
     /// # Errors
     ///
@@ -148,7 +149,8 @@ impl<D: Disk> World<D> {
         is_asked(&self.kept, worker)
     }
 
-    /// The disk, as it stands.
+    /// The disk, as it stands. What was acknowledged is on it; a checkpoint that runs is given up, as by a crash, and what
+    /// was stored since the last one is gone. `restore` reads what it shows, and [`World::start`] goes on from it.
     pub fn close(self) -> D
         ensures { result ≡ self.disk }
     {
@@ -240,7 +242,14 @@ impl<D: Disk> World<D> {
         restore_left(self.alloc, crashed)
     }
 
-    /// Makes one event, and answers it.
+    /// Makes one event, and answers it: one command, one order, one step of a worker, or one device call.
+    ///
+    /// A command is answered by what POSIX.1-2017 and the limits say (`Done`, `Bytes`, `Child`, `NeedsFault`, `Segv`, or
+    /// `Refused`), and journaled with its reply; refused as `JournalFull` or `OutOfMemory` it isn't, and nothing changes.
+    /// Between a freeze and its end every command is refused as `Frozen`. Orders begin a job or end it: `Begun`, `Worked`,
+    /// `Cancelled`, `Trimmed`. A worker's next event is `Perform` where [`World::is_out`], and else `Work`, up to `Acked`,
+    /// `Merged` or `Reopened`: [`World::finish`] makes them. Behind a device call that failed (`Device`) the next step is
+    /// refused as `StoreDown`, and so are all jobs until the store is opened again.
     pub fn step(&mut self, event: &Event) -> Reply
         // What it does to the core, the disk and what is kept.
         ensures does { Does D.Disk event.now self.old result self.new }
