@@ -141,7 +141,7 @@ pub fn shell_counted<W: Write, S: Watch + Drop>(
     seen: Seen<'_>,
     counts: Counts,
     disk: DirDisk,
-    asked: Asked<'_>,
+    asked: Asked<'_, '_, '_>,
     out: &mut Output<W>,
     watch: S,
 ) -> (DirDisk, u8) {

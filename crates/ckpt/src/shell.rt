@@ -28,15 +28,15 @@ pub enum Asking {
 
 /// How requests are asked for, of which store, and where is told what stands behind an answer.
 #[derive(Clone, Copy)]
-pub struct Asked<'a> {
-    pub rt: &'a HostRuntime,
+pub struct Asked<'r, 'f, 'g> {
+    pub rt: &'r HostRuntime,
     pub causes: Causes,
-    pub folder: &'a str,
-    pub gates: &'a Gates,
+    pub folder: &'f str,
+    pub gates: &'g Gates,
     pub asking: Asking,
 }
 
-impl Asked<'_> {
+impl Asked<'_, '_, '_> {
     /// Tells how many slots are free, where a request was refused because too few are.
     fn tell_answer(self, wanted: Option<u64>, answer: &Answer) {
         if let (Some(wanted), Answer::Reply(Reply::Refused(Refusal::NoSlot))) = (wanted, answer) {
@@ -50,7 +50,7 @@ impl Asked<'_> {
 /// answered, and its answer flushed, up to the end of the input or the line `quit`. A line that doesn't fit the language is
 /// answered with `script line N` and changes nothing. Returns the disk, and why the shell ended early, if it did.
 pub fn run_shell<D: Disk, I: BufRead + Drop, W: Write, S: Watch>(
-    asked: Asked<'_>,
+    asked: Asked<'_, '_, '_>,
     disk: D,
     input: I,
     out: &mut Output<W>,
@@ -68,7 +68,7 @@ pub fn run_shell<D: Disk, I: BufRead + Drop, W: Write, S: Watch>(
 
 /// Opens the store again, and answers the lines of the input.
 fn answer_all<D: Disk, I: BufRead + Drop, W: Write, S: Watch>(
-    asked: Asked<'_>,
+    asked: Asked<'_, '_, '_>,
     world: &mut World<D>,
     input: I,
     out: &mut Output<W>,
@@ -93,7 +93,7 @@ fn answer_all<D: Disk, I: BufRead + Drop, W: Write, S: Watch>(
 
 /// Answers the request of a line, if it has one.
 fn answer<D: Disk, W: Write, S: Watch>(
-    asked: Asked<'_>,
+    asked: Asked<'_, '_, '_>,
     world: &mut World<D>,
     line: &[u8],
     number: usize,
@@ -116,7 +116,7 @@ fn answer<D: Disk, W: Write, S: Watch>(
 
 /// Tells that a line doesn't fit the language, and on a terminal what is wrong with it.
 fn refuse<W: Write>(
-    asked: Asked<'_>,
+    asked: Asked<'_, '_, '_>,
     line: &[u8],
     number: usize,
     out: &mut Output<W>,
