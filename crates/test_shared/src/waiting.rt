@@ -211,6 +211,10 @@ pub(crate) fn wakes_by_a_cancel<R: Threads + Wait + Clock + Abort + Sync>(
                 )
             },
         );
-        assert_eq!(rt; ended, (Some(Refusal::Idle), (true, Ok(()))), "round {round}");
+        assert_eq!(rt;
+            ended,
+            (Some(Refusal::Idle), (true, Ok(()))),
+            "round {round}"
+        );
     }
 }
