@@ -190,6 +190,30 @@ is_refused() {  # is_refused CORE LINE CAUSE
   [ ! -e store ] || { echo "$3: a store was made"; return 1; }
 }
 
+# Each read of an import in turn gives another first byte, as where somebody else writes the file meanwhile: what is
+# acknowledged is the memory of the file, or nothing is saved. A page that is read in two ways is told as `core changed`.
+core_that_changes_is_not_saved() {
+  local number count said=0
+  command -v cc > /dev/null || { echo "no C compiler"; return 77; }
+  cc -O2 -shared -fPIC -o fail.so "$here/fail_call.c" || return 1
+  export ASAN_OPTIONS=verify_asan_link_order=0
+  one_area_core 7 > core
+  COUNTED=count LD_PRELOAD=./fail.so "$ckpt" import store core > out || return 1
+  count=$(($(cat count)))
+  "$ckpt" restore store > whole || return 1
+  for ((number = 1; number <= count; number++)); do
+    rm -rf store
+    FAILED=$number HOW=other NAMED=called LD_PRELOAD=./fail.so "$ckpt" import --quiet store core > out 2> err
+    [ "$(cat called)" = pread ] || continue
+    case $(tail -n 1 out) in
+      acked*) same "what read $number leaves" "$("$ckpt" restore store)" "$(cat whole)" || return 1 ;;
+      "core changed") said=$((said + 1)) ;;
+    esac
+    [ "$(tail -n 1 out)" = "acked 1" ] || [ ! -e store ] || same "the store of read $number" "$("$ckpt" verify store)" "ok empty" || return 1
+  done
+  [ "$said" -ge 2 ] || { echo "core changed was told $said times of $count"; return 1; }
+}
+
 damaged_headers_are_told() {
   local place byte step=1
   [ -z "${CHECKED:-}" ] || step=7
@@ -316,6 +340,7 @@ try import_changes_one_space
 try import_makes_the_least_free_space
 try second_import_changes_what_differs
 try cores_by_chance_go_in_and_out
+try core_that_changes_is_not_saved
 try damaged_headers_are_told
 try cut_headers_are_told
 try segments_that_no_space_has_are_told

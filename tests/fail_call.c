@@ -5,7 +5,7 @@
      NAMED     a file to which the name of that call is written, or the path that it opens
      HOW       how it fails: `unmade` (EIO, and nothing is done), `made` (done, and then EIO), `full` (ENOSPC, and all later
                calls that make or change a file too), `interrupted` (EINTR once, and nothing is done), `short` (a read or a
-               write of half the bytes) */
+               write of half the bytes), `other` (a read whose first byte is another one: somebody else wrote it) */
 #define _GNU_SOURCE
 #include <dlfcn.h>
 #include <errno.h>
@@ -17,9 +17,9 @@
 #include <sys/stat.h>
 #include <unistd.h>
 
-enum how { UNMADE, MADE, FULL, INTERRUPTED, SHORT };
+enum how { UNMADE, MADE, FULL, INTERRUPTED, SHORT, OTHER };
 
-static const char *const ways[] = {"unmade", "made", "full", "interrupted", "short"};
+static const char *const ways[] = {"unmade", "made", "full", "interrupted", "short", "other"};
 
 static unsigned long calls, failed;
 static enum how how;
@@ -87,7 +87,7 @@ static int forget(void) {
 
 #define FAIL_OR(name, changes, call)                                                                                   \
   do {                                                                                                                 \
-    if (!fails(name, changes) || how == SHORT)                                                                         \
+    if (!fails(name, changes) || how == SHORT || how == OTHER)                                                                         \
       return call;                                                                                                     \
     if (how != MADE)                                                                                                   \
       return refuse();                                                                                                 \
@@ -119,9 +119,19 @@ int fdatasync(int file) { FAIL_OR("fdatasync", 1, next_fdatasync(file)); }
 /* How many bytes a read or a write moves that is to fail. */
 static size_t half(size_t length) { return length > 1 ? length / 2 : length; }
 
+/* A read whose first byte is another one. */
+static ssize_t other_pread(int file, void *bytes, size_t length, off_t at) {
+  ssize_t had = next_pread(file, bytes, length, at);
+  if (had > 0)
+    *(unsigned char *)bytes ^= 1;
+  return had;
+}
+
 ssize_t pread(int file, void *bytes, size_t length, off_t at) {
-  int is_short = how == SHORT && calls + 1 == failed;
-  FAIL_OR("pread", 0, next_pread(file, bytes, is_short ? half(length) : length, at));
+  int is_it = calls + 1 == failed;
+  if (how == OTHER && is_it)
+    FAIL_OR("pread", 0, other_pread(file, bytes, length, at));
+  FAIL_OR("pread", 0, next_pread(file, bytes, how == SHORT && is_it ? half(length) : length, at));
 }
 
 ssize_t pwrite(int file, const void *bytes, size_t length, off_t at) {

@@ -1,7 +1,8 @@
 #!/usr/bin/env bash
 # Memory that is refused, growth by growth, to tests that were built beside the program (crates/test_failures and
 # crates/test_shared): they give what was refused once more, and pass all the same.
-# `tests/growths.sh all` refuses every growth of the threads' tests, in some minutes; the gate every 97th, and every 13th.
+# `tests/growths.sh all` refuses every growth of the threads' tests, in a quarter of an hour; the gate every 97th, and every
+# 13th.
 
 # Makes the library that refuses a growth.
 growths_can_be_refused() {
@@ -9,12 +10,15 @@ growths_can_be_refused() {
   cc -O2 -shared -fPIC -o refuse.so "$here/refuse_growth.c"
 }
 
+# Whether a run ended since no thread could be made: the mutators then come behind the dumper, which has waited for them in vain.
+lacks_a_thread() { grep -q '^  left: (Err(Idle), Err(Idle))$' out err; }
+
 # Runs a test once for each growth, or once for so many of them, which is refused. Growths are counted from 1.
-pass_without() {  # pass_without CRATE TEST STEP
-  local program=$here/../crates/$1/out/$1_tests number=1
+pass_without() {  # pass_without CRATE TEST STEP [FIRST]
+  local program=$here/../crates/$1/out/$1_tests number=${4:-1}
   [ -x "$program" ] || { echo "$1 isn't built"; return 77; }
-  while REFUSED=$number LD_PRELOAD=./refuse.so timeout 60 "$program" "$2" > out 2> err; do
-    grep -q '^growth refused$' err || return 0
+  while REFUSED=$number LD_PRELOAD=./refuse.so timeout 60 "$program" "$2" > out 2> err || lacks_a_thread; do
+    grep -q '^growth refused$' err || { echo "$number" > ended; return 0; }
     number=$((number + $3))
   done
   echo "$2, growth $number"
@@ -40,15 +44,26 @@ memory_is_refused_to_eight_writers() {
   pass_without test_shared cases::twenty_pages "${1:-13}"
 }
 
-# Every growth of the threads' tests, in a folder of its own.
+# Refuses every growth of one of the threads' tests, so many side by side, each in a folder of its own.
+refuse_each() {  # refuse_each NAME JOBS
+  local job
+  for job in $(seq "$2"); do
+    mkdir "$1-$job" && cp refuse.so "$1-$job"
+    (cd "$1-$job" && pass_without test_shared "cases::$1" "$2" "$job" || touch failed) &
+  done
+  wait
+  ! ls "$1"-*/failed > failed 2>&1 && echo "$1: all passed, $(($(cat "$1"-*/ended | sort -n | head -n 1) - 1)) growths"
+}
+
+# Every growth of the threads' tests.
 refuse_all() {
   here=$(cd "$(dirname "${BASH_SOURCE[0]}")" && pwd)
-  local room status
+  local room status jobs
+  jobs=${JOBS:-$(nproc)}
   room=$(mktemp -d) && cd "$room" || return
-  memory_is_refused_to_threads 1 && memory_is_refused_to_eight_writers 1
+  growths_can_be_refused && refuse_each threads "$jobs" && refuse_each twenty_pages "$jobs"
   status=$?
   rm -rf "$room"
-  [ "$status" -eq 0 ] && echo "every growth was refused in turn, and all runs passed"
   return "$status"
 }
 

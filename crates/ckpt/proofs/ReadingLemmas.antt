@@ -2,8 +2,8 @@
 use Rattle.std.proofs.Common.{◌≡◌, ℕ, Bool, List, Option, sym, subst}
 use Rattle.sd_disk.specs.declared.dir_disk.DirDisk.{DirDisk}
 use Rattle.sd_disk.specs.Folder.{IsFolderHonest, folder_files}
-use Rattle.sd_report.specs.declared.steady.Reader.{Reader}
-use Rattle.sd_report.specs.Reading.{Answers}
+use Rattle.sd_readers.specs.declared.steady.Reader.{Reader}
+use Rattle.sd_readers.specs.Reading.{Answers}
 
 -- a read leaves the files as they are, so what was printed is of those that are left
 pub answers_folder : (by : Reader) (old new : DirDisk) (before after : Option (List ℕ)) (refused : Bool) (status : ℕ) → folder_files new ≡ folder_files old

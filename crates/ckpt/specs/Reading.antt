@@ -6,9 +6,9 @@ use Rattle.sd_disk.specs.Folder.{IsFolderHonest, folder_files}
 use Rattle.sd_disk.specs.Reads.{OnlyReads}
 use Rattle.sd_exit.specs.declared.stop.Stop.{Stop}
 use Rattle.sd_exit.specs.Ending.{Exits, OnWriter, end_status, end_text}
-use Rattle.sd_report.specs.declared.steady.Reader.{Reader}
-use Rattle.sd_report.specs.declared.steady.Reader.TheVariants.{Restore}
-use Rattle.sd_report.specs.Reading.{Answers}
+use Rattle.sd_readers.specs.declared.steady.Reader.{Reader}
+use Rattle.sd_readers.specs.declared.steady.Reader.TheVariants.{Restore}
+use Rattle.sd_readers.specs.Reading.{Answers}
 use Rattle.sd_script.specs.declared.line.Line.{Line}
 use Rattle.sd_run.specs.Promise.{PromiseAnyway}
 use Rattle.sd_run.specs.Whole.{IsWholeRun}

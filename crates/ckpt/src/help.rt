@@ -126,8 +126,8 @@ they are. A space that isn't alive is made where it has the least number that is
 kernel's addresses are left out; what a segment doesn't have in the file is zeros.
 
 Status: 0 where the checkpoint was acknowledged; 1 where CORE isn't read (not a core, core too large,
-cannot read CORE), a request was refused (refused N NAME), or the store, its device, memory or the
-printing failed (damaged SSS WHY, device, out-of-memory, cannot open DIR): nothing is saved then; 2
-for a fault of the command line.
+cannot read CORE), another program changed it meanwhile (core changed), a request was refused (refused
+N NAME), or the store, its device, memory or the printing failed (damaged SSS WHY, device,
+out-of-memory, cannot open DIR): nothing is saved then; 2 for a fault of the command line.
 
 Only one program at a time can have a store open that is run, merged or mutated.";

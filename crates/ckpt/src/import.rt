@@ -2,35 +2,22 @@
 
 use crate::cause::{Causes, tell, tell_device};
 use crate::folders::make_store;
-use crate::space_import::import_core;
 use clap::ArgMatches;
 use sd_areas::SpaceId;
 use sd_command::Reply;
 use sd_disk::Disk;
 use sd_elf::{Core, ReadError, read_core};
 use sd_exit::{Output, Stop, exit};
+use sd_import::{ImportError, import_core};
 use sd_restore::Fault;
-use sd_run::{FRAMES, Unwatched, run_line, unopened};
-use sd_script::{Answer, Line, print_answer};
+use sd_run::{FRAMES, unopened};
+use sd_script::{Answer, print_answer};
 use sd_world::{OpenError, World};
-use std::alloc::{AllocError, AllocFailed, Global};
 use std::fs::File;
 use std::io;
 use std::io::Write;
 use std::sync::Wait;
 use std::time::Clock;
-
-/// Why an import ends early. Nothing of it is saved.
-#[derive(Drop)]
-pub enum ImportError {
-    /// The core's bytes are no core that a space can have, or they can't be read.
-    Core(ReadError),
-    /// A request was answered so.
-    Answer(Answer),
-    /// Nothing more can be printed.
-    Writer(io::Error),
-    OutOfMemory,
-}
 
 /// What is asked of an import.
 #[derive(Drop)]
@@ -39,47 +26,9 @@ struct Order {
     rounds: u64,
 }
 
-/// Whether an answer says that its request wasn't carried out.
-pub fn is_failure(answer: &Answer) -> bool {
-    matches!(answer, Answer::Reply(Reply::Refused(_) | Reply::Segv(_)))
-}
-
-/// Makes a request whose answer is printed.
-fn order_line<D: Disk, W: Write>(
-    alloc: Global,
-    world: &mut World<D>,
-    line: Line,
-    out: &mut Output<W>,
-) -> Result<(), Stop> {
-    let answer = run_line(alloc, world, line, out, &mut Unwatched)?;
-    if is_failure(&answer) {
-        Err(Stop::Refused)
-    } else {
-        Ok(())
-    }
-}
-
-/// Why a request has no answer.
-fn unanswered(stop: Stop) -> ImportError {
-    match stop {
-        Stop::Writer(error) => ImportError::Writer(error),
-        _ => ImportError::OutOfMemory,
-    }
-}
-
-/// Makes a request whose answer is printed only where it is a failure.
-pub fn ask<D: Disk>(
-    alloc: Global,
-    world: &mut World<D>,
-    line: Line,
-) -> Result<Answer, ImportError> {
-    let mut out = Output::new(io::sink());
-    let answer = run_line(alloc, world, line, &mut out, &mut Unwatched).map_err(unanswered)?;
-    if is_failure(&answer) {
-        Err(ImportError::Answer(answer))
-    } else {
-        Ok(answer)
-    }
+/// Prints a reply that ends an import, and how the program ends behind it.
+fn replied<W: Write>(reply: Reply, out: &mut Output<W>) -> Stop {
+    stopped(print_answer(&Answer::Reply(reply), out))
 }
 
 /// Gives a space the memory of a core, and makes a checkpoint.
@@ -91,16 +40,17 @@ fn import_into<D: Disk, W: Write>(
     order: &Order,
     out: &mut Output<W>,
 ) -> Result<(), Stop> {
-    let reopened = ask(rt.alloc(), world, Line::Reopen);
-    let imported = match reopened {
-        Ok(_) => import_core(rt.alloc(), world, &source.file, &source.core, order.space),
-        Err(error) => Err(error),
-    };
-    match imported {
+    if let Err(why) = world.reopen_now() {
+        return Err(replied(Reply::Refused(why), out));
+    }
+    match import_core(rt.alloc(), world, &source.file, &source.core, order.space) {
         Ok(tally) => writeln!(out, "{tally}")?,
         Err(error) => return Err(ended_with(rt, causes, source.name, error, out)),
     }
-    order_line(rt.alloc(), world, Line::Checkpoint(order.rounds), out)
+    match world.checkpoint(order.rounds) {
+        Ok(number) => Ok(print_answer(&Answer::Reply(Reply::Acked(number)), out)?),
+        Err(why) => Err(replied(Reply::Refused(why), out)),
+    }
 }
 
 /// Prints why an import ended early, and tells its cause.
@@ -111,14 +61,19 @@ fn ended_with<W: Write>(
     error: ImportError,
     out: &mut Output<W>,
 ) -> Stop {
-    let printed = match error {
-        ImportError::Core(error) => return core_ended_with(rt, causes, name, error, out),
-        ImportError::Answer(answer) => print_answer(&answer, out),
-        ImportError::Writer(error) => return Stop::Writer(error),
-        ImportError::OutOfMemory => return Stop::Fault(Fault::OutOfMemory),
-    };
-    stopped(printed)
+    match error {
+        ImportError::Core(error) => core_ended_with(rt, causes, name, error, out),
+        ImportError::Answer(reply) => replied(reply, out),
+        ImportError::Changed => {
+            tell(rt, causes, name, &CHANGED);
+            stopped(out.write_all(b"core changed\n"))
+        }
+        ImportError::OutOfMemory => Stop::Fault(Fault::OutOfMemory),
+    }
 }
+
+/// What is told of a core file that another program changed while it was imported.
+const CHANGED: &str = "it was changed while it was imported; nothing is saved";
 
 /// How a program ends behind its last line.
 fn stopped(printed: io::Result<()>) -> Stop {
@@ -198,29 +153,5 @@ pub fn import_program<R: Clock + Wait, W: Write>(
             tell_device(rt, causes, folder, &disk);
             Err(unopened(fault))
         }
-    }
-}
-
-impl From<ReadError> for ImportError {
-    fn from(error: ReadError) -> ImportError {
-        ImportError::Core(error)
-    }
-}
-
-impl From<io::Error> for ImportError {
-    fn from(error: io::Error) -> ImportError {
-        ImportError::Writer(error)
-    }
-}
-
-impl From<AllocError> for ImportError {
-    fn from(_error: AllocError) -> ImportError {
-        ImportError::OutOfMemory
-    }
-}
-
-impl<T: Drop> From<AllocFailed<T>> for ImportError {
-    fn from(_error: AllocFailed<T>) -> ImportError {
-        ImportError::OutOfMemory
     }
 }

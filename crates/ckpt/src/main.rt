@@ -4,8 +4,8 @@
 ghost use Rattle.std.specs.Prelude.{◌≡◌, ◌∷◌};
 ghost use Rattle.sd_disk.specs.Reads.{OnlyReads};
 ghost use Rattle.sd_script.specs.declared.line.Line.TheVariants as asked;
-ghost use Rattle.sd_report.specs.declared.steady.Reader.TheVariants as reader;
-ghost use Rattle.sd_report.specs.Reading.{Answers};
+ghost use Rattle.sd_readers.specs.declared.steady.Reader.TheVariants as reader;
+ghost use Rattle.sd_readers.specs.Reading.{Answers};
 ghost use Rattle.ckpt.specs.Reading.{RunsScript};
 
 use cause::{Causes, causes_asked, tell, tell_device};
@@ -20,7 +20,7 @@ use reading::{read_seen, read_store, reader_of};
 use scripts::{parse_script, read_script};
 use sd_disk::Disk;
 use sd_exit::{Output, Stop, exit};
-use sd_report::restore_to;
+use sd_readers::restore_to;
 use sd_run::{Watch, run_lines};
 use sd_script::Script;
 use shell::{Asked, Asking, run_shell};
@@ -54,7 +54,6 @@ mod scripts;
 mod shell;
 mod show;
 mod shown;
-mod space_import;
 mod stats;
 mod strict;
 mod verbose;

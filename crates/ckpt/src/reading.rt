@@ -2,7 +2,7 @@
 ghost use Rattle.std.specs.Prelude.{◌≡◌, false, [], Some, IfOk};
 ghost use Rattle.sd_disk.specs.Reads.{OnlyReads};
 ghost use Rattle.sd_disk.specs.Folder.{IsFolderHonest, folder_files};
-ghost use Rattle.sd_report.specs.Reading.{Answers};
+ghost use Rattle.sd_readers.specs.Reading.{Answers};
 ghost use Rattle.ckpt.specs.Reading.{ReadsFolder};
 
 use crate::FAILED;
@@ -11,7 +11,7 @@ use crate::folders::open_store;
 use crate::verbose::{Seen, unseen};
 use sd_disk::{DirDisk, Disk, is_being_written};
 use sd_exit::{Output, Stop};
-use sd_report::{Reader, list_to, print_held, restore_to, verify_to};
+use sd_readers::{Reader, list_to, print_held, restore_to, verify_to};
 use sd_restore::Fault;
 use std::alloc::Global;
 use std::fs::File;

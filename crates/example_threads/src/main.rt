@@ -10,8 +10,8 @@ mod table;
 
 use anyhow::{Error, Result, anyhow, bail, ensure};
 use row::Row;
-use saving::{Free, save, save_beside};
-use sd_command::{Refusal, Reply};
+use saving::{save, save_beside};
+use sd_command::Refusal;
 use sd_disk::{DirDisk, Disk, Folder, MemDisk};
 use sd_journal::Receipt;
 use sd_restore::restore;
@@ -46,15 +46,12 @@ fn rows_of(alloc: Global, seats: Vec<Seat>) -> Result<Vec<Row>, AllocError> {
     Ok(rows)
 }
 
-/// Opens the store, and maps the table's pages.
+/// Maps the table's pages, by the first seat.
 fn prepare<D: Disk + Drop>(
     rt: &impl Wait,
     shared: &Shared<D>,
     rows: &mut [Row],
 ) -> Result<(), Refusal> {
-    if let Reply::Refused(why) = shared.run_opener(rt, &Free) {
-        return Err(why);
-    }
     match rows.first_mut() {
         Some(first) => first.map_table(rt, shared),
         None => Ok(()),
@@ -104,6 +101,15 @@ fn work<R: Threads + Wait + Sync, D: Disk + Drop + Send>(
     Ok(told)
 }
 
+/// Reads the memory that the store shows, and looks for the table in it.
+fn shows_table(alloc: Global, disk: &mut impl Disk) -> Result<()> {
+    match restore(alloc, disk) {
+        Ok(snapshot) => ensure!(has_table(&snapshot), "the store shows something else"),
+        Err(fault) => bail!("the store can't be restored: {fault}"),
+    }
+    Ok(())
+}
+
 /// Compares the journal with what the threads were told, and what the store shows with the table.
 fn check<D: Disk + Drop>(
     rt: &(impl Print + AllocGlobal),
@@ -123,10 +129,7 @@ fn check<D: Disk + Drop>(
     println!(rt;
         "the journal accounts for what each of them was told, and for {saved} checkpoints"
     )?;
-    match restore(rt.alloc(), &mut disk) {
-        Ok(snapshot) => ensure!(has_table(&snapshot), "the store shows something else"),
-        Err(fault) => bail!("the store can't be restored: {fault}"),
-    }
+    shows_table(rt.alloc(), &mut disk)?;
     println!(rt; "the store shows the table")?;
     Ok(())
 }
@@ -136,7 +139,7 @@ fn fill_table<R: Threads + Wait + Sync + Print + AllocGlobal, D: Disk + Drop + S
     rt: &R,
     disk: D,
 ) -> Result<()> {
-    let Ok((shared, seats)) = Shared::open(rt.alloc(), disk, 16, ROWS) else {
+    let Ok((shared, seats)) = Shared::start(rt.alloc(), disk, 16, ROWS) else {
         bail!("the store isn't opened");
     };
     match work(rt, rt.alloc(), &shared, seats) {

@@ -3,16 +3,9 @@ use crate::table::{COLUMNS, load_command, map_command, store_command, sum_of};
 use sd_command::{Command, Refusal, Reply};
 use sd_disk::Disk;
 use sd_journal::Receipt;
-use sd_shared::{Seat, Shared, Thaw};
-use std::alloc::{AllocError, Global};
+use sd_shared::{Seat, Shared};
+use std::alloc::Global;
 use std::sync::Wait;
-
-/// What is done at a place of the row.
-#[derive(Clone, Copy)]
-enum Deed {
-    Store(u64),
-    Load(u64),
-}
 
 /// A row of the table, the seat under which its thread makes commands, and what those were answered.
 #[derive(Drop)]
@@ -35,7 +28,8 @@ impl Row {
         }
     }
 
-    /// Makes a command, and keeps the receipt of its entry in the journal, for which there is room before.
+    /// Makes a command, and keeps the receipt of its entry in the journal, for which there is room before. While the memory is
+    /// frozen for a checkpoint it waits for the thaw.
     fn call<D: Disk + Drop>(
         &mut self,
         rt: &impl Wait,
@@ -45,7 +39,7 @@ impl Row {
         if self.receipts.try_reserve(1).is_err() {
             return Err(Refusal::OutOfMemory);
         }
-        let receipt = shared.call(rt, &mut self.seat, command)?;
+        let receipt = shared.call_thawed(rt, &mut self.seat, command)?;
         let ended = match receipt.reply {
             Reply::Refused(why) => Err(why),
             _ => Ok(()),
@@ -63,42 +57,19 @@ impl Row {
         self.call(rt, shared, map_command())
     }
 
-    fn command(&self, deed: Deed) -> Result<Command, AllocError> {
-        let row = (self.seat.number() as u64).wrapping_add(1);
-        match deed {
-            Deed::Store(column) => store_command(self.alloc, row, column),
-            Deed::Load(column) => Ok(load_command(row, column)),
-        }
-    }
-
-    /// Stores or loads a number. While the memory is frozen for a checkpoint it waits for the thaw, and tries again.
-    fn make<D: Disk + Drop>(
-        &mut self,
-        rt: &impl Wait,
-        shared: &Shared<D>,
-        deed: Deed,
-    ) -> Result<(), Refusal> {
-        for _ in rt.forever() {
-            let Ok(command) = self.command(deed) else {
-                return Err(Refusal::OutOfMemory);
-            };
-            match self.call(rt, shared, command) {
-                Err(Refusal::Frozen) if shared.wait_thaw(rt) == Thaw::Thawed => {}
-                ended => return ended,
-            }
-        }
-        unreachable!()
-    }
-
     /// Stores the number at each place of the row, and loads it back.
     fn fill_places<D: Disk + Drop>(
         &mut self,
         rt: &impl Wait,
         shared: &Shared<D>,
     ) -> Result<(), Refusal> {
+        let row = (self.seat.number() as u64).wrapping_add(1);
         for column in 1..=COLUMNS {
-            self.make(rt, shared, Deed::Store(column))?;
-            self.make(rt, shared, Deed::Load(column))?;
+            let Ok(store) = store_command(self.alloc, row, column) else {
+                return Err(Refusal::OutOfMemory);
+            };
+            self.call(rt, shared, store)?;
+            self.call(rt, shared, load_command(row, column))?;
         }
         Ok(())
     }

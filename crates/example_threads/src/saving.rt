@@ -11,7 +11,7 @@ use std::thread::Threads;
 const ROUNDS: u64 = 2;
 
 /// A hold is told of each device call before it is made. This one does nothing.
-pub struct Free;
+struct Free;
 
 impl Hold for Free {
     fn before(&self, _call: u64) {}

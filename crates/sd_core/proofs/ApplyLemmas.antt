@@ -14,9 +14,9 @@ use Rattle.sd_journal.specs.Marked.{Told, Marked, IsTracked, entries_of}
 use Rattle.sd_journal.specs.TrackedLaws.{TrackedLaws}
 use Rattle.sd_pagetable.specs.Contents.{Contents, IsSound}
 use Rattle.sd_pagetable.specs.Tracking.{Step}
-use Rattle.sd_belief.specs.CoreSteps.{CoreSteps, IsApplied, IsCommanded, SameCore}
-use Rattle.sd_belief.specs.Calls.{AreGivenUp, Stays}
-use Rattle.sd_belief.specs.View.{CoreView}
+use Rattle.sd_crash_safety.specs.CoreSteps.{CoreSteps, IsApplied, IsCommanded, SameCore}
+use Rattle.sd_crash_safety.specs.Calls.{AreGivenUp, Stays}
+use Rattle.sd_crash_safety.specs.View.{CoreView}
 use Rattle.sd_core.specs.Answering.{IsAnswered}
 
 -- ---- what a reply with bytes changes: nothing

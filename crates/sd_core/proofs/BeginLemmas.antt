@@ -8,9 +8,9 @@ use Rattle.sd_journal.specs.History.{Base}
 use Rattle.sd_journal.specs.Marked.{Marked}
 use Rattle.sd_opener.specs.Looking.{Looking}
 use Rattle.sd_gate.specs.declared.phase.Phase.{Phase}
-use Rattle.sd_belief.specs.declared.standing.Standing.{Standing}
-use Rattle.sd_belief.specs.declared.standing.Standing.TheVariants as standing
-use Rattle.sd_belief.specs.View.{CoreView}
+use Rattle.sd_crash_safety.specs.declared.standing.Standing.{Standing}
+use Rattle.sd_crash_safety.specs.declared.standing.Standing.TheVariants as standing
+use Rattle.sd_crash_safety.specs.View.{CoreView}
 use Rattle.sd_core.specs.declared.numbers.Numbers.{Numbers}
 use Rattle.sd_core.specs.Beginning.{are_used_up, begin_refusal, free_entries, is_down, is_not_open}
 use Rattle.sd_core.specs.Sound.{AreCounted, AreNumbers, IsOpening}

@@ -7,8 +7,8 @@ use Rattle.sd_merge.specs.Merger as merger
 use Rattle.sd_merge.specs.Merger.{Doing, Retiring, due, copying, opened, retiring}
 use Rattle.sd_rounds.specs.Dumper.{begun_checkpoint}
 use Rattle.sd_rounds.specs.Writes.{no_writes}
-use Rattle.sd_belief.specs.View.{CoreView}
-use Rattle.sd_slots.specs.Taken.{FreeSlotsLaw, IsReservedBy}
+use Rattle.sd_crash_safety.specs.View.{CoreView}
+use Rattle.sd_free_slots.specs.Taken.{FreeSlotsLaw, IsReservedBy}
 use Rattle.sd_core.specs.declared.numbers.Numbers.{Numbers}
 use Rattle.sd_core.specs.Beginning.{AreReserved}
 use Rattle.sd_core.specs.Sound.{IsDoing, IsMerging, due_serials}

@@ -14,7 +14,7 @@ use Rattle.sd_merge.specs.Merger as merger
 use Rattle.sd_rounds.specs.Dumper.{Dumping, HasSlot, Running, image_serial, out_of_running, serial_of, writes_of_running}
 use Rattle.sd_rounds.specs.Making.{Making}
 use Rattle.sd_rounds.specs.Writes.{no_writes}
-use Rattle.sd_belief.specs.Merges.{IsOtherImage, IsSpared, MakesOther}
+use Rattle.sd_crash_safety.specs.Merges.{IsOtherImage, IsSpared, MakesOther}
 use Rattle.sd_core.specs.Dumping.{ReleasesPlace}
 use Rattle.sd_core.specs.Refusals.{is_page_out}
 use Rattle.sd_core.specs.declared.numbers.Numbers.{Numbers}

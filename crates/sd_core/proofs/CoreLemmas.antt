@@ -12,9 +12,9 @@ use Rattle.sd_merge.specs.Merger as merger
 use Rattle.sd_opener.specs.Looking.{IsDoneAsAsked, Looking}
 use Rattle.sd_rounds.specs.Dumper.{Running, out_of_running, writes_of_running}
 use Rattle.sd_rounds.specs.Writes.{no_writes}
-use Rattle.sd_belief.specs.declared.standing.Standing.{Standing}
-use Rattle.sd_belief.specs.declared.standing.Standing.TheVariants.{Open}
-use Rattle.sd_belief.specs.OpenerSteps.{nobody, opener_alone}
+use Rattle.sd_crash_safety.specs.declared.standing.Standing.{Standing}
+use Rattle.sd_crash_safety.specs.declared.standing.Standing.TheVariants.{Open}
+use Rattle.sd_crash_safety.specs.OpenerSteps.{nobody, opener_alone}
 use Rattle.sd_core.specs.Opening.{GoesOn, LetsGo, TeachesOpener}
 use Rattle.sd_core.specs.Sound.{AreOuts, IsCore, IsOpening, Parts, held_for, out_of_opener, worker_of}
 use Rattle.sd_core.proofs.OutsLemmas.{no_write, nobody_out}

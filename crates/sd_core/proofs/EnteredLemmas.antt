@@ -5,8 +5,8 @@ use Rattle.sd_chain.specs.Catalog.{Changes, IsHeld, Opened, Places, place_of, wi
 use Rattle.sd_rounds.specs.declared.new_image.NewImage.{NewImage}
 use Rattle.sd_rounds.specs.Dumper.{HasSlot, Running, after_pre_dump, slot_of}
 use Rattle.sd_rounds.specs.Making.{Making}
-use Rattle.sd_belief.specs.DumperOutcomes.{LeavesCatalog}
-use Rattle.sd_belief.specs.Merges.{IsOtherImage, IsSpared, MakesOther}
+use Rattle.sd_crash_safety.specs.DumperOutcomes.{LeavesCatalog}
+use Rattle.sd_crash_safety.specs.Merges.{IsOtherImage, IsSpared, MakesOther}
 use Rattle.sd_core.specs.declared.numbers.Numbers.{Numbers}
 use Rattle.sd_core.specs.Sound.{IsCore, IsMerging, Parts}
 use Rattle.sd_core.proofs.MergeLemmas.{merging_stays}

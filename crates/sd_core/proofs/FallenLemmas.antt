@@ -10,10 +10,10 @@ use Rattle.sd_opener.specs.Left.{looking_left, slots_left}
 use Rattle.sd_opener.specs.Looking.{Looking}
 use Rattle.sd_journal.specs.Kept.{Kept}
 use Rattle.sd_rounds.specs.Dumper.{Dumping, Running}
-use Rattle.sd_belief.specs.Calls.{IsFree}
-use Rattle.sd_belief.specs.declared.standing.Standing.{Standing}
-use Rattle.sd_belief.specs.declared.standing.Standing.TheVariants.{NotOpen, Open, Down}
-use Rattle.sd_belief.specs.View.{CoreView}
+use Rattle.sd_crash_safety.specs.Calls.{IsFree}
+use Rattle.sd_crash_safety.specs.declared.standing.Standing.{Standing}
+use Rattle.sd_crash_safety.specs.declared.standing.Standing.TheVariants.{NotOpen, Open, Down}
+use Rattle.sd_crash_safety.specs.View.{CoreView}
 use Rattle.sd_core.specs.Grown.{AreFlags, IsGated}
 use Rattle.sd_core.specs.Dumping.{LetsGoOfTwo}
 use Rattle.sd_core.specs.LittleWork.{HasLittle}

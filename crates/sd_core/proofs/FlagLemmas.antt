@@ -24,7 +24,7 @@ use Rattle.sd_rounds.specs.Dumper.{Running, is_last}
 use Rattle.sd_rounds.specs.Making.{GoesOn, IsReadyFor, IsWritten, Making, plan_of, stage_after, stage_behind, with_plan}
 use Rattle.sd_rounds.specs.Pass.{Pass}
 use Rattle.sd_rounds.specs.Sound.{IsSoundImage}
-use Rattle.sd_belief.specs.DumperSteps.{opens_gate}
+use Rattle.sd_crash_safety.specs.DumperSteps.{opens_gate}
 use Rattle.sd_core.specs.Grown.{AreFlags, HasNoOpen, IsGated, IsGatedImage, IsGatedStage, has_grown, has_swept}
 
 -- ---- by the journal

@@ -14,7 +14,7 @@ use Rattle.sd_rounds.specs.Making.{Making, out_of}
 use Rattle.sd_rounds.specs.Waits.{dumper_must_wait, image_must_wait, is_over}
 use Rattle.sd_opener.specs.Looking.{Looking}
 use Rattle.sd_rounds.specs.Writes.{are_all_out, is_any_out, no_writes}
-use Rattle.sd_belief.specs.View.{CoreView}
+use Rattle.sd_crash_safety.specs.View.{CoreView}
 use Rattle.sd_core.specs.Beginning.{first_of}
 use Rattle.sd_core.specs.GoingOn.{AreOwnLanes, CanGoOn, HasNoneOut, OpenerAsksAlone}
 use Rattle.sd_core.specs.Refusals.{is_idle, is_page_out, must_wait, none_at, work_refusal}

@@ -18,12 +18,12 @@ use Rattle.sd_merge.specs.Merger as merger
 use Rattle.sd_opener.specs.Looking.{Looking}
 use Rattle.sd_rounds.specs.Dumper.{Running, out_of_running, writes_of_running}
 use Rattle.sd_rounds.specs.Writes.{no_writes}
-use Rattle.sd_belief.specs.declared.standing.Standing.{Standing}
-use Rattle.sd_belief.specs.declared.standing.Standing.TheVariants.{NotOpen, Open, Down}
-use Rattle.sd_belief.specs.Calls.{AddsByOutcome, AreGivenUp, HandedIn}
-use Rattle.sd_belief.specs.DumperOutcomes.{DumperOutcomes, IsDumpersOutcome, closes_for_sure, is_closing, is_sync}
-use Rattle.sd_belief.specs.MergerOutcomes.{IsMergersOutcome, MergerOutcomes, OutcomeIsBelieved}
-use Rattle.sd_belief.specs.View.{CoreView, history_of}
+use Rattle.sd_crash_safety.specs.declared.standing.Standing.{Standing}
+use Rattle.sd_crash_safety.specs.declared.standing.Standing.TheVariants.{NotOpen, Open, Down}
+use Rattle.sd_crash_safety.specs.Calls.{AddsByOutcome, AreGivenUp, HandedIn}
+use Rattle.sd_crash_safety.specs.DumperOutcomes.{DumperOutcomes, IsDumpersOutcome, closes_for_sure, is_closing, is_sync}
+use Rattle.sd_crash_safety.specs.MergerOutcomes.{IsMergersOutcome, MergerOutcomes, OutcomeIsBelieved}
+use Rattle.sd_crash_safety.specs.View.{CoreView, history_of}
 use Rattle.sd_core.specs.Refusals.{is_idle}
 use Rattle.sd_core.specs.Sound.{AreInPages, IsCore, Parts, out_of_opener, worker_of}
 use Rattle.sd_core.proofs.ApplyLemmas.{same_phases}

@@ -18,9 +18,9 @@ use Rattle.sd_rounds.specs.Making.{GoesOn, IsWritten, Making, Opens, WritesPage,
 use Rattle.sd_rounds.specs.Pass.{data_pages}
 use Rattle.sd_rounds.specs.Sound.{IsSoundImage}
 use Rattle.sd_rounds.specs.Writes.{no_writes}
-use Rattle.sd_belief.specs.Calls.{HandedIn, IsApart}
-use Rattle.sd_belief.specs.DumperOutcomes.{IsDumpersOutcome, closes_for_sure, is_closing}
-use Rattle.sd_belief.specs.View.{CoreView, page_lane}
+use Rattle.sd_crash_safety.specs.Calls.{HandedIn, IsApart}
+use Rattle.sd_crash_safety.specs.DumperOutcomes.{IsDumpersOutcome, closes_for_sure, is_closing}
+use Rattle.sd_crash_safety.specs.View.{CoreView, page_lane}
 use Rattle.sd_core.specs.Sound.{HasWrites, IsCore, Parts}
 use Rattle.sd_core.proofs.MergeLemmas.{asks_apart}
 use Rattle.sd_core.proofs.OutsLemmas.{IsOfDumper, far, lane_at, no_write, on_slot}

@@ -12,8 +12,8 @@ use Rattle.sd_merge.specs.declared.retired.Retired.{Retired}
 use Rattle.sd_merge.specs.Merger as merger
 use Rattle.sd_merge.specs.Copying.{Copying}
 use Rattle.sd_merge.specs.Merger.{Doing, HandsAt, HandsClosing, HandsCopying, Retiring, StaysStrange, due, copying, opened, retiring}
-use Rattle.sd_belief.specs.Calls.{IsFree}
-use Rattle.sd_belief.specs.View.{CoreView}
+use Rattle.sd_crash_safety.specs.Calls.{IsFree}
+use Rattle.sd_crash_safety.specs.View.{CoreView}
 use Rattle.sd_core.specs.Lasting.{FixesNoList, IsLeftAlone, IsSameMerge, fixed_in}
 use Rattle.sd_core.specs.Merging.{BeginsCopy, IsMergedImage, IsSerialOf, IsStepOf, StepsAt}
 use Rattle.sd_core.specs.Sound.{IsCore, IsDoing, Parts}

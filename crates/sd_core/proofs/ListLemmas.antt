@@ -17,12 +17,12 @@ use Rattle.sd_merge.specs.Merger as merger
 use Rattle.sd_merge.specs.Merger.{Doing, HandsAt, Retires, Retiring, copying, list_in, list_of, opened, retiring, source_of}
 use Rattle.sd_rounds.specs.declared.new_image.NewImage.{NewImage}
 use Rattle.sd_rounds.specs.Dumper.{Running}
-use Rattle.sd_belief.specs.Calls.{IsFree}
-use Rattle.sd_belief.specs.Copies.{IsCopyThere, IsOrderly}
-use Rattle.sd_belief.specs.MergerOutcomes.{MergerOutcomes}
-use Rattle.sd_belief.specs.Merges.{IsSpared}
-use Rattle.sd_belief.specs.View.{CoreView}
-use Rattle.sd_slots.specs.Taken.{IsListOf}
+use Rattle.sd_crash_safety.specs.Calls.{IsFree}
+use Rattle.sd_crash_safety.specs.Copies.{IsCopyAtRest, IsCopyThere, IsOrderly}
+use Rattle.sd_crash_safety.specs.MergerOutcomes.{MergerOutcomes}
+use Rattle.sd_crash_safety.specs.Merges.{IsSpared}
+use Rattle.sd_crash_safety.specs.View.{CoreView}
+use Rattle.sd_free_slots.specs.Taken.{IsListOf}
 use Rattle.sd_core.specs.Merging.{AreCut, FixesList, HasItsList, IsAsBelieved, IsMergedImage, IsOneByte, OpensMerged, RetiresThese, opened_merge, retires_as}
 use Rattle.sd_core.specs.Refusals.{is_idle}
 use Rattle.sd_core.specs.Sound.{IsCore, IsDoing, Parts}
@@ -166,6 +166,17 @@ module _ (places : Places) (laws : MergerOutcomes places) (core : Parts) (old ne
       (λ slot spared. subst (λ all. IsFree (slice_set all 1 None) slot) (sym outs_are) (free_spared core slot sound (merger_works core merge sound runs).stands (subst (λ r. IsSpared r slot) a.old_running spared)))
       b.out b.believes))
 
+  pub opened_rests : (other : merger.Running) (serial : ℕ) (bodies : List (List ℕ)) → OpensMerged other serial old new → IsAsBelieved old made.request bodies
+      → IsCopyAtRest other.source.serial serial old.catalog new (bodies_after bodies made.request.id made.request.bytes)
+  opened_rests other serial bodies opens b =
+      let is = the_merge other serial opens in
+      subst (λ n. IsCopyAtRest other.source.serial n old.catalog new (bodies_after bodies made.request.id made.request.bytes)) (sym is.1)
+      (subst (λ (m : merger.Running). IsCopyAtRest m.source.serial serial_now old.catalog new (bodies_after bodies made.request.id made.request.bytes)) (sym is.0)
+      (laws.rests old new merge o.copy made phase image fixes.list (retires_as ended) b.asked bodies b.files
+      (merged_opens places core old new merge made phase image doing before ended core.room a o before_is in_order changes fixes)
+      (λ slot spared. subst (λ all. IsFree (slice_set all 1 None) slot) (sym outs_are) (free_spared core slot sound (merger_works core merge sound runs).stands (subst (λ r. IsSpared r slot) a.old_running spared)))
+      b.out b.believes))
+
   pub opened_image : (other : merger.Running) (serial : ℕ) → OpensMerged other serial old new → IsMergedImage other new.catalog serial
   opened_image other serial opens =
       let is = the_merge other serial opens in
@@ -250,6 +261,10 @@ pub enters_seen : (merge : merger.Running) (serial : ℕ) (bodies : List (List �
     → IsCopyThere merge.source.serial serial seen.catalog new bodies × IsMergedImage merge new.catalog serial × IsFree new.outs merge.slot
     → IsCopyThere merge.source.serial serial now.catalog new bodies × IsMergedImage merge new.catalog serial × IsFree new.outs merge.slot
 enters_seen merge serial bodies seen now new is enters = (copies_seen merge.source.serial serial bodies seen now new is enters.0, enters.1, enters.2)
+
+pub rests_seen : (merge : merger.Running) (serial : ℕ) (bodies : List (List ℕ)) (seen now new : CoreView) → seen ≡ now
+    → IsCopyAtRest merge.source.serial serial seen.catalog new bodies → IsCopyAtRest merge.source.serial serial now.catalog new bodies
+rests_seen merge serial bodies seen now new is rests = subst (λ (v : CoreView). IsCopyAtRest merge.source.serial serial v.catalog new bodies) is rests
 
 pub cut_seen : (seen now new : CoreView) → seen ≡ now → AreCut seen new → AreCut now new
 cut_seen seen now new is cut = subst (λ old. AreCut old new) is cut

@@ -42,7 +42,7 @@ use Rattle.sd_rounds.specs.Pass.{Place}
 use Rattle.sd_rounds.specs.Rises.{IsRising}
 use Rattle.sd_rounds.specs.Sound.{IsSoundImage}
 use Rattle.sd_core.specs.LittleWork.{HasLittle, IsFrozenFor, TakesLittle, visits_of, way_due}
-use Rattle.sd_belief.specs.View.{CoreView}
+use Rattle.sd_crash_safety.specs.View.{CoreView}
 use Rattle.sd_core.specs.Answering.{IsAnswered}
 use Rattle.sd_core.specs.Sound.{IsCore, IsHeaderOf, Parts}
 use Rattle.sd_core.specs.Visited.{IsClean, is_closing}

@@ -9,10 +9,10 @@ use Rattle.sd_merge.specs.Merger as merger
 use Rattle.sd_merge.specs.Merger.{begun_merge}
 use Rattle.sd_merge.specs.Sources.{source_from}
 use Rattle.sd_rounds.specs.Dumper.{HasSlot, Running, out_of_running, writes_of_running}
-use Rattle.sd_belief.specs.declared.standing.Standing.TheVariants as standing
-use Rattle.sd_belief.specs.MergerSteps.{IsUncalled}
-use Rattle.sd_belief.specs.View.{CoreView}
-use Rattle.sd_slots.specs.Taken.{FreeSlotsLaw, NamesParent}
+use Rattle.sd_crash_safety.specs.declared.standing.Standing.TheVariants as standing
+use Rattle.sd_crash_safety.specs.MergerSteps.{IsUncalled}
+use Rattle.sd_crash_safety.specs.View.{CoreView}
+use Rattle.sd_free_slots.specs.Taken.{FreeSlotsLaw, NamesParent}
 use Rattle.sd_core.specs.Beginning.{FreeSlots, first_of, is_down, is_not_open}
 use Rattle.sd_core.specs.Merging.{has_tip, merge_refusal}
 use Rattle.sd_core.specs.Sound.{IsCore, Parts}

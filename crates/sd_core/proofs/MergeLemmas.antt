@@ -6,8 +6,8 @@ use Rattle.sd_merge.specs.Merger as merger
 use Rattle.sd_merge.specs.Merger.{Doing, Retiring, due, copying, opened, retiring}
 use Rattle.sd_rounds.specs.Dumper.{HasSlot, Running, slot_of}
 use Rattle.sd_rounds.specs.Making.{Making}
-use Rattle.sd_belief.specs.declared.standing.Standing.TheVariants.{Open}
-use Rattle.sd_belief.specs.Merges.{IsSpared, MakesOther}
+use Rattle.sd_crash_safety.specs.declared.standing.Standing.TheVariants.{Open}
+use Rattle.sd_crash_safety.specs.Merges.{IsSpared, MakesOther}
 use Rattle.sd_core.specs.Merging.{IsMergedImage}
 use Rattle.sd_core.specs.Sound.{IsCore, IsDoing, IsMerging, Parts, due_serials_in}
 

@@ -12,11 +12,11 @@ use Rattle.sd_merge.specs.Copying.{Copying, IsSoundCopying, Steps}
 use Rattle.sd_merge.specs.Merger as merger
 use Rattle.sd_merge.specs.Merger.{AreRunning, CopiesOn, Doing, HasSoundCopy, HasSoundCopyIn, IsRetiring, IsRunningAt, Loses, LosesPage, RetiresOn, Retiring, due, copying, opened, retiring}
 use Rattle.sd_rounds.specs.Dumper.{HasSlot}
-use Rattle.sd_belief.specs.Believes.{Believes}
-use Rattle.sd_belief.specs.Calls.{IsFree}
-use Rattle.sd_belief.specs.MergerSteps.{MergerSteps, MergesOn, OnlyMerges}
-use Rattle.sd_belief.specs.Merges.{IsSpared}
-use Rattle.sd_belief.specs.View.{CoreView}
+use Rattle.sd_crash_safety.specs.Believes.{Believes}
+use Rattle.sd_crash_safety.specs.Calls.{IsFree}
+use Rattle.sd_crash_safety.specs.MergerSteps.{MergerSteps, MergesOn, OnlyMerges}
+use Rattle.sd_crash_safety.specs.Merges.{IsSpared}
+use Rattle.sd_crash_safety.specs.View.{CoreView}
 use Rattle.sd_core.specs.declared.numbers.Numbers.{Numbers}
 use Rattle.sd_core.specs.Merging.{MayRead, StepsAt}
 use Rattle.sd_core.specs.Sound.{HasHeader, IsCore, IsDoing, IsMerging, Parts, due_serials}

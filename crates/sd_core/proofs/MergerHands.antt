@@ -17,12 +17,12 @@ use Rattle.sd_merge.specs.Copying.{Copying, GoesOn, IsSoundCopying, out_of, stag
 use Rattle.sd_merge.specs.Merger as merger
 use Rattle.sd_merge.specs.Merger.{AreRunning, Doing, GoesOnWith, Hands, HandsAt, HandsClosing, HasSoundCopy, HasSoundCopyIn, IsRetiring, IsRunningAt, Retiring, due, copying, opened, retiring}
 use Rattle.sd_rounds.specs.Dumper.{HasSlot, out_of_running, writes_of_running}
-use Rattle.sd_belief.specs.Calls.{IsFree}
-use Rattle.sd_belief.specs.DumperOutcomes.{LeavesCatalog, closes_for_sure}
-use Rattle.sd_belief.specs.MergerOutcomes.{IsMergersOutcome, MergerOutcomes, OutcomeIsBelieved, RetiringGoesOn}
-use Rattle.sd_belief.specs.MergerSteps.{OnlyMerges}
-use Rattle.sd_belief.specs.declared.standing.Standing.TheVariants.{Open}
-use Rattle.sd_belief.specs.View.{CoreView}
+use Rattle.sd_crash_safety.specs.Calls.{IsFree}
+use Rattle.sd_crash_safety.specs.DumperOutcomes.{LeavesCatalog, closes_for_sure}
+use Rattle.sd_crash_safety.specs.MergerOutcomes.{IsMergersOutcome, MergerOutcomes, OutcomeIsBelieved, RetiringGoesOn}
+use Rattle.sd_crash_safety.specs.MergerSteps.{OnlyMerges}
+use Rattle.sd_crash_safety.specs.declared.standing.Standing.TheVariants.{Open}
+use Rattle.sd_crash_safety.specs.View.{CoreView}
 use Rattle.sd_core.specs.Sound.{HasHeader, IsCore, IsDoing, IsMerging, Parts, due_serials}
 use Rattle.sd_core.proofs.BesideLemmas.{LeavesWork, copy_goes_on, core_beside, free_spared, jobs_out, merger_works, retiring_goes_on}
 use Rattle.sd_core.proofs.EnteredLemmas.{left_image}

@@ -19,11 +19,11 @@ use Rattle.sd_merge.specs.Merger.{AreRunning, BeginsList, Doing, HandsAt, HasSou
 use Rattle.sd_rounds.specs.declared.new_image.NewImage.{NewImage}
 use Rattle.sd_rounds.specs.Dumper.{Running}
 use Rattle.sd_rounds.specs.Making.{Making}
-use Rattle.sd_belief.specs.MergerOutcomes.{IsMergersOutcome, MayAllRetire, MayRetire, MergedOpens, MergerOutcomes, OutcomeIsBelieved}
-use Rattle.sd_belief.specs.MergerSteps.{IsUncalled, OnlyMerges}
-use Rattle.sd_belief.specs.Merges.{IsOtherImage, MakesOther}
-use Rattle.sd_belief.specs.View.{CoreView}
-use Rattle.sd_slots.specs.Taken.{IsLeftOver, IsListOf, IsReservedBy, NamesParent}
+use Rattle.sd_crash_safety.specs.MergerOutcomes.{IsMergersOutcome, MayAllRetire, MayRetire, MergedOpens, MergerOutcomes, OutcomeIsBelieved}
+use Rattle.sd_crash_safety.specs.MergerSteps.{IsUncalled, OnlyMerges}
+use Rattle.sd_crash_safety.specs.Merges.{IsOtherImage, MakesOther}
+use Rattle.sd_crash_safety.specs.View.{CoreView}
+use Rattle.sd_free_slots.specs.Taken.{IsLeftOver, IsListOf, IsReservedBy, NamesParent}
 use Rattle.sd_core.specs.Merging.{FixesList, IsMergedImage, retires_as}
 use Rattle.sd_core.specs.Sound.{AreCounted, HasHeader, IsCopyOf, IsCore, IsDoing, IsMergedHeader, IsMerging, Parts, due_serials}
 use Rattle.sd_core.proofs.BesideLemmas.{LeavesWork, core_beside, merger_works}

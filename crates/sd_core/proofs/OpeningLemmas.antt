@@ -18,10 +18,10 @@ use Rattle.sd_journal.specs.Marked.{Told, entries_of}
 use Rattle.sd_image.specs.Shows.{Shows}
 use Rattle.sd_opener.specs.Looking.{Looking}
 use Rattle.sd_opener.specs.Sees.{Sees}
-use Rattle.sd_belief.specs.Calls.{AreGivenUp, HandedIn, HandsOut, IsFree, MakesStep, Stays}
-use Rattle.sd_belief.specs.Laws.{IsOpenAs, ReopenedIsBelieved}
-use Rattle.sd_belief.specs.OpenerSteps.{Decodes, GivesUpOpening, IsHandedIn, IsTaught, LooksOn, OnlyOpens, OpenerSteps, Reopens, nobody, opener_alone}
-use Rattle.sd_belief.specs.View.{CoreView, history_of}
+use Rattle.sd_crash_safety.specs.Calls.{AreGivenUp, HandedIn, HandsOut, IsFree, MakesStep, Stays}
+use Rattle.sd_crash_safety.specs.Laws.{IsOpenAs, ReopenedIsBelieved}
+use Rattle.sd_crash_safety.specs.OpenerSteps.{Decodes, GivesUpOpening, IsHandedIn, IsTaught, LooksOn, OnlyOpens, OpenerSteps, Reopens, nobody, opener_alone}
+use Rattle.sd_crash_safety.specs.View.{CoreView, history_of}
 use Rattle.sd_rounds.specs.Dumper.{Running}
 use Rattle.sd_core.specs.Opening.{with_opening}
 use Rattle.sd_core.specs.Sound.{held_for}

@@ -12,8 +12,8 @@ use Rattle.sd_rounds.specs.declared.stage.Stage.{Stage}
 use Rattle.sd_rounds.specs.declared.stage.Stage.TheVariants.{Format, Freeze, Pass as PassStage, Close}
 use Rattle.sd_rounds.specs.Dumper.{Running}
 use Rattle.sd_rounds.specs.Making.{is_passing, plan_of}
-use Rattle.sd_belief.specs.DumperOutcomes.{LeavesCatalog}
-use Rattle.sd_belief.specs.View.{CoreView}
+use Rattle.sd_crash_safety.specs.DumperOutcomes.{LeavesCatalog}
+use Rattle.sd_crash_safety.specs.View.{CoreView}
 use Rattle.sd_core.specs.declared.taken.Taken.{Taken}
 use Rattle.sd_core.specs.declared.taken.Taken.TheVariants.{Step}
 use Rattle.sd_core.specs.Beside.{LeavesOthers, OrdersBeside, StepsBeside}

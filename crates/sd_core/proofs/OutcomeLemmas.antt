@@ -22,10 +22,10 @@ use Rattle.sd_rounds.specs.declared.new_image.NewImage.{NewImage}
 use Rattle.sd_rounds.specs.Dumper.{AreRunning, Running, is_frozen_image, is_last, order_of}
 use Rattle.sd_core.specs.Images.{HasImage}
 use Rattle.sd_rounds.specs.Making.{Making, Opens, is_past_freeze}
-use Rattle.sd_belief.specs.Believes.{Believes}
-use Rattle.sd_belief.specs.Calls.{AddsByOutcome, AreGivenUp, HandedIn}
-use Rattle.sd_belief.specs.DumperOutcomes.{IsDumpersOutcome, LeavesCatalog}
-use Rattle.sd_belief.specs.View.{CoreView, history_of}
+use Rattle.sd_crash_safety.specs.Believes.{Believes}
+use Rattle.sd_crash_safety.specs.Calls.{AddsByOutcome, AreGivenUp, HandedIn}
+use Rattle.sd_crash_safety.specs.DumperOutcomes.{IsDumpersOutcome, LeavesCatalog}
+use Rattle.sd_crash_safety.specs.View.{CoreView, history_of}
 use Rattle.sd_core.specs.declared.numbers.Numbers.{Numbers}
 use Rattle.sd_core.specs.Sound.{AreCounted, AreNumbers, IsCore, IsHeaderOf, IsImageOf, IsJournal, IsStageOf, Parts}
 use Rattle.sd_core.specs.Visited.{IsClean}

@@ -12,10 +12,10 @@ use Rattle.sd_rounds.specs.declared.stage.Stage.{Stage}
 use Rattle.sd_rounds.specs.declared.stage.Stage.TheVariants.{Format, Freeze, Pass as PassStage, Close}
 use Rattle.sd_rounds.specs.Pass.{data_pages}
 use Rattle.sd_rounds.specs.Writes.{IsPageWrite, is_any_out, no_writes}
-use Rattle.sd_belief.specs.Calls.{AreOtherPages}
-use Rattle.sd_belief.specs.declared.standing.Standing.TheVariants.{NotOpen, Open}
-use Rattle.sd_belief.specs.OpenerSteps.{nobody}
-use Rattle.sd_belief.specs.View.{page_lane}
+use Rattle.sd_crash_safety.specs.Calls.{AreOtherPages}
+use Rattle.sd_crash_safety.specs.declared.standing.Standing.TheVariants.{NotOpen, Open}
+use Rattle.sd_crash_safety.specs.OpenerSteps.{nobody}
+use Rattle.sd_crash_safety.specs.View.{page_lane}
 use Rattle.sd_core.specs.Sound.{AreInPages, AreOuts, HasWrites, worker_of}
 
 pub far : (k : ℕ) → page_lane k ≡ suc (suc (suc k))

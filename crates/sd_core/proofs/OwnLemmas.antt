@@ -5,8 +5,8 @@ use Rattle.std.proofs.lemmas.List.{get_or_past}
 use Rattle.std.proofs.lemmas.Option.{same_Some, slice_get-get_or}
 use Rattle.sd_rounds.specs.Dumper.{AreRunning, HasSlot, Running, slot_of}
 use Rattle.sd_rounds.specs.Making.{Making}
-use Rattle.sd_belief.specs.MergerSteps.{MakesInItsSlot, MakesItInSlot}
-use Rattle.sd_belief.specs.Merges.{IsSpared}
+use Rattle.sd_crash_safety.specs.MergerSteps.{MakesInItsSlot, MakesItInSlot}
+use Rattle.sd_crash_safety.specs.Merges.{IsSpared}
 use Rattle.sd_core.proofs.WorkLemmas.{own_slot}
 
 -- each place has one of its slots

@@ -5,7 +5,7 @@ use Rattle.std.proofs.lemmas.Bool.Decides.{eqb_tells}
 use Rattle.sd_chain.specs.Catalog.{Changes, IsHeld, Opened, Places, place_of, without_slot}
 use Rattle.sd_image.specs.declared.header.Kind.TheVariants.{Dump, PreDump}
 use Rattle.sd_rounds.specs.Dumper.{AreRunning, Running, is_last, slot_of}
-use Rattle.sd_belief.specs.DumperOutcomes.{LeavesCatalog}
+use Rattle.sd_crash_safety.specs.DumperOutcomes.{LeavesCatalog}
 use Rattle.sd_core.specs.Images.{AreApart, HasImage, HasPreDumps, IsPreDump, begun_as}
 
 -- each of the first pre-dumps stays

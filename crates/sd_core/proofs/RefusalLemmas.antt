@@ -11,9 +11,9 @@ use Rattle.sd_pagetable.specs.Contents.{plain_of}
 use Rattle.sd_rounds.specs.Dumper.{Running}
 use Rattle.sd_rounds.specs.Waits.{dumper_must_wait}
 use Rattle.sd_rounds.specs.Writes.{is_any_out}
-use Rattle.sd_belief.specs.declared.standing.Standing.TheVariants as standing
-use Rattle.sd_belief.specs.OpenerSteps.{nobody}
-use Rattle.sd_belief.specs.View.{CoreView, history_of, index}
+use Rattle.sd_crash_safety.specs.declared.standing.Standing.TheVariants as standing
+use Rattle.sd_crash_safety.specs.OpenerSteps.{nobody}
+use Rattle.sd_crash_safety.specs.View.{CoreView, history_of, index}
 use Rattle.sd_core.specs.Beginning.{first_of, free_entries}
 use Rattle.sd_core.specs.Refusals.{are_resting, cancel_refusal, cant_cancel, has_checkpoint, is_idle, is_in_use, is_open, is_page_out, is_resting, must_wait, must_wait_for_pages, none_at, reopen_refusal, wants_entry, work_refusal}
 use Rattle.sd_core.specs.Sound.{IsCore, Parts}

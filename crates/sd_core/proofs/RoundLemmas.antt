@@ -21,10 +21,10 @@ use Rattle.sd_rounds.specs.Dumper.{AreRunning, HasSlot, Running, out_of_running,
 use Rattle.sd_rounds.specs.Pass.{Place}
 use Rattle.sd_store_laws.specs.Beliefs.{Belief}
 use Rattle.sd_store_laws.specs.Store.{Store}
-use Rattle.sd_belief.specs.Believes.{Believes}
-use Rattle.sd_belief.specs.InUse.{id_of, ids_of}
-use Rattle.sd_belief.specs.Merges.{IsAskedIn, IsMergeAt, IsMergeOn}
-use Rattle.sd_belief.specs.View.{CoreView}
+use Rattle.sd_crash_safety.specs.Believes.{Believes}
+use Rattle.sd_crash_safety.specs.InUse.{id_of, ids_of}
+use Rattle.sd_crash_safety.specs.Merges.{IsAskedIn, IsMergeAt, IsMergeOn}
+use Rattle.sd_crash_safety.specs.View.{CoreView}
 use Rattle.sd_core.specs.Rounds.{HasFewOpen, IsNextRound, IsSameRound, OpensImage, SameRound, TurnsRound}
 use Rattle.sd_core.specs.Sound.{IsCore, IsDoing, Parts}
 use Rattle.sd_core.specs.Working.{HasFallen, LeavesByOutcome}

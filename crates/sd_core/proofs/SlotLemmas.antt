@@ -11,10 +11,10 @@ use Rattle.sd_merge.specs.declared.source.Source.{Source}
 use Rattle.sd_merge.specs.Merger as merger
 use Rattle.sd_merge.specs.Merger.{list_in, source_in}
 use Rattle.sd_rounds.specs.Dumper.{IsReserved, Running, begun_checkpoint}
-use Rattle.sd_belief.specs.CheckpointSteps.{HasParent, IsUnreached, IsUnread, LeavesMerge, LeavesMergeAt}
-use Rattle.sd_belief.specs.View.{CoreView}
-use Rattle.sd_slots.specs.Marks.{IsReachedAt}
-use Rattle.sd_slots.specs.Taken.{FreeSlotsLaw, IsReservedBy}
+use Rattle.sd_crash_safety.specs.CheckpointSteps.{HasParent, IsUnreached, IsUnread, LeavesMerge, LeavesMergeAt}
+use Rattle.sd_crash_safety.specs.View.{CoreView}
+use Rattle.sd_free_slots.specs.Marks.{IsReachedAt}
+use Rattle.sd_free_slots.specs.Taken.{FreeSlotsLaw, IsReservedBy}
 use Rattle.sd_core.specs.Beginning.{AreReserved, FreeSlots, IsFirstParent}
 
 -- ---- free slots

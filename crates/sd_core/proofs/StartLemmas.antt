@@ -17,7 +17,7 @@ use Rattle.sd_pagetable.specs.Contents.{Contents, plain_of}
 use Rattle.sd_pagetable.specs.Tracking.{IsBeginning, clears, is_dirty, since, touches}
 use Rattle.sd_core.specs.declared.numbers.Numbers.{Numbers}
 use Rattle.sd_core.specs.Sound.{AreNumbers, IsJournal}
-use Rattle.sd_belief.specs.InUse.{id_of, ids_of}
+use Rattle.sd_crash_safety.specs.InUse.{id_of, ids_of}
 use Rattle.sd_core.specs.Starts.{nothing_asked, shown_base}
 use Rattle.sd_core.proofs.OutsLemmas.{nobody_out}
 

@@ -11,10 +11,10 @@ use Rattle.sd_rounds.specs.declared.image_step.ImageStep.TheVariants.{Call}
 use Rattle.sd_rounds.specs.Dumper.{Running}
 use Rattle.sd_rounds.specs.Making.{IsAskedBy, Making}
 use Rattle.sd_rounds.specs.Pass.{data_pages}
-use Rattle.sd_belief.specs.Believes.{Believes}
-use Rattle.sd_belief.specs.Calls.{AreGivenUp, HandsOut, IsFree, MakesStep, running_number}
-use Rattle.sd_belief.specs.DumperSteps.{AsksFor, AsksToWrite, BeginsImage, DumperSteps, FreezesMemory, IsOnPages, WorksOnMemory}
-use Rattle.sd_belief.specs.View.{CoreView, page_lane}
+use Rattle.sd_crash_safety.specs.Believes.{Believes}
+use Rattle.sd_crash_safety.specs.Calls.{AreGivenUp, HandsOut, IsFree, MakesStep, running_number}
+use Rattle.sd_crash_safety.specs.DumperSteps.{AsksFor, AsksToWrite, BeginsImage, DumperSteps, FreezesMemory, IsOnPages, WorksOnMemory}
+use Rattle.sd_crash_safety.specs.View.{CoreView, page_lane}
 use Rattle.sd_core.proofs.ApplyLemmas.{same_phases}
 
 -- a device call is asked for

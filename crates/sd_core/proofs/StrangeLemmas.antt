@@ -8,8 +8,8 @@ use Rattle.sd_opener.specs.Looking.{Looking}
 use Rattle.sd_restore.specs.declared.fault.Fault.{Fault}
 use Rattle.sd_restore.specs.declared.fault.Fault.TheVariants.{EmptyChain, Damaged, Device, OutOfMemory}
 use Rattle.sd_restore.specs.Faulty.{IsDamage, Names}
-use Rattle.sd_belief.specs.Laws.{OpenerFinds}
-use Rattle.sd_belief.specs.View.{CoreView, history_of}
+use Rattle.sd_crash_safety.specs.Laws.{OpenerFinds}
+use Rattle.sd_crash_safety.specs.View.{CoreView, history_of}
 use Rattle.sd_core.specs.declared.taken.Taken.{Taken}
 use Rattle.sd_core.specs.Grown.{has_swept}
 use Rattle.sd_core.specs.Opening.{IsDamaged, IsExpected, IsOwnStore, OpensBelieved, RefusesRightly, awaited}

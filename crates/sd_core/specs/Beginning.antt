@@ -6,10 +6,10 @@ use Rattle.sd_command.specs.declared.refusal.Refusal.TheVariants as refusal
 use Rattle.sd_command.specs.declared.reply.Reply.{Reply}
 use Rattle.sd_command.specs.declared.reply.Reply.TheVariants as reply
 use Rattle.sd_rounds.specs.Dumper.{begun_checkpoint}
-use Rattle.sd_belief.specs.declared.standing.Standing.{Standing}
-use Rattle.sd_belief.specs.declared.standing.Standing.TheVariants as standing
-use Rattle.sd_belief.specs.View.{CoreView, Numbers, history_of}
-use Rattle.sd_slots.specs.Taken.{AreFree}
+use Rattle.sd_crash_safety.specs.declared.standing.Standing.{Standing}
+use Rattle.sd_crash_safety.specs.declared.standing.Standing.TheVariants as standing
+use Rattle.sd_crash_safety.specs.View.{CoreView, Numbers, history_of}
+use Rattle.sd_free_slots.specs.Taken.{AreFree}
 use Rattle.sd_core.specs.declared.beginning.Slots.{Slots}
 use Rattle.sd_core.specs.Grown.{has_grown}
 

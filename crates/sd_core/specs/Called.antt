@@ -12,8 +12,8 @@ use Rattle.sd_gate.specs.Requests.{Made}
 use Rattle.sd_journal.specs.History.{pending}
 use Rattle.sd_opener.specs.Looking.{IsDoneAsAsked}
 use Rattle.sd_rounds.specs.Dumper.{Running}
-use Rattle.sd_belief.specs.Calls.{AddsByCancel, AddsByOrder, Applies, HandedIn, IsOut, Stays}
-use Rattle.sd_belief.specs.View.{CoreView, history_of}
+use Rattle.sd_crash_safety.specs.Calls.{AddsByCancel, AddsByOrder, Applies, HandedIn, IsOut, Stays}
+use Rattle.sd_crash_safety.specs.View.{CoreView, history_of}
 use Rattle.sd_core.specs.declared.taken.Taken.{Taken}
 use Rattle.sd_core.specs.declared.taken.Taken.TheVariants.{Step}
 use Rattle.sd_core.specs.Answering.{IsAnswered}
@@ -25,7 +25,7 @@ use Rattle.sd_core.specs.Images.{IsAcked}
 use Rattle.sd_core.specs.Kept.{KeepsImages}
 use Rattle.sd_core.specs.Lasting.{FixesNoList, MergeLasts}
 use Rattle.sd_core.specs.LittleWork.{IsLittleDump, IsLittlePreDump, OpensPreDump}
-use Rattle.sd_core.specs.Merging.{EndsCut, EntersAsCopy, FixesItsList, IsMerged, ListsTheUnneeded, MergesAs, merge_refusal}
+use Rattle.sd_core.specs.Merging.{EndsCut, EntersAsCopy, EntersAtRest, FixesItsList, IsMerged, ListsTheUnneeded, MergesAs, merge_refusal}
 use Rattle.sd_core.specs.Noted.{KeepsMarks}
 use Rattle.sd_core.specs.Opening.{OpensBelieved, OpensOwn, RefusesAsScan, RefusesRightly}
 use Rattle.sd_core.specs.Orders.{BeginsToOpen, IsCancelled}
@@ -126,6 +126,7 @@ pub record IsHandedIn (made : Made) (answer : Reply) (old new : CoreView) : Type
   pub lists : IsOut old made.request.id → made.request.id.worker ≡ Merger → FixesItsList old new
   pub retires : IsOut old made.request.id → made.request.id.worker ≡ Merger → ListsTheUnneeded old made.request new
   pub copies : IsOut old made.request.id → made.request.id.worker ≡ Merger → EntersAsCopy old made.request new
+  pub rests : IsOut old made.request.id → made.request.id.worker ≡ Merger → EntersAtRest old made.request new
   pub cuts : (serial : ℕ) → IsOut old made.request.id → answer ≡ reply.Merged serial → EndsCut old made.request new
   pub flags : FlagsByOutcome old answer new
   pub beside : IsOut old made.request.id → HandsBeside made old new

@@ -6,7 +6,7 @@ use Rattle.sd_command.specs.declared.reply.Reply.TheVariants as reply
 use Rattle.sd_merge.specs.Copying.{Copying}
 use Rattle.sd_merge.specs.Merger as merger
 use Rattle.sd_merge.specs.Merger.{copying, source_of}
-use Rattle.sd_belief.specs.View.{CoreView}
+use Rattle.sd_crash_safety.specs.View.{CoreView}
 use Rattle.sd_core.specs.Merging.{OpensMerged}
 
 -- a merge that made its image, and repeats its source no more though no call failed, has that image in the catalog

@@ -11,8 +11,8 @@ use Rattle.sd_gate.specs.Requests.{Asked}
 use Rattle.sd_merge.specs.Merger as merger
 use Rattle.sd_merge.specs.Merger.{Doing, copying, due, opened, retiring, slot_before}
 use Rattle.sd_rounds.specs.Dumper.{is_dumping, next_slot, serial_of as serial_of_running}
-use Rattle.sd_belief.specs.DumperSteps.{opens_gate}
-use Rattle.sd_belief.specs.View.{CoreView, Numbers}
+use Rattle.sd_crash_safety.specs.DumperSteps.{opens_gate}
+use Rattle.sd_crash_safety.specs.View.{CoreView, Numbers}
 use Rattle.sd_core.specs.declared.taken.Taken.{Taken}
 use Rattle.sd_core.specs.declared.taken.Taken.TheVariants.{Step, Call}
 

@@ -11,7 +11,7 @@ use Rattle.sd_rounds.specs.declared.stage.Stage.{Stage}
 use Rattle.sd_rounds.specs.declared.stage.Stage.TheVariants.{Format, Freeze as FreezeStage, Pass as PassStage, Close}
 use Rattle.sd_rounds.specs.Dumper.{Running, is_last}
 use Rattle.sd_rounds.specs.Making.{Making}
-use Rattle.sd_belief.specs.DumperSteps.{opens_gate}
+use Rattle.sd_crash_safety.specs.DumperSteps.{opens_gate}
 
 -- what was folded last is an acknowledgement
 abbrev pub grows_from : Origin → Bool

@@ -19,7 +19,7 @@ use Rattle.sd_rounds.specs.LittleWork.{TakesDue, TakesVisited, TookVisited}
 use Rattle.sd_rounds.specs.Making.{Making, is_frozen}
 use Rattle.sd_rounds.specs.Pass.{Place}
 use Rattle.sd_rounds.specs.Visits as visits
-use Rattle.sd_belief.specs.View.{CoreView, history_of}
+use Rattle.sd_crash_safety.specs.View.{CoreView, history_of}
 use Rattle.sd_core.specs.Images.{HasImage}
 use Rattle.sd_core.specs.Visited.{IsClean, is_closing}
 

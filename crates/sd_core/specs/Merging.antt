@@ -27,12 +27,13 @@ use Rattle.sd_merge.specs.Merger as merger
 use Rattle.sd_merge.specs.Merger.{CopiesOn, Retires, RetiresOn, begun_merge, copying, due, list_of, opened, retiring}
 use Rattle.sd_merge.specs.Sources.{source_from}
 use Rattle.sd_rounds.specs.Dumper.{Running}
-use Rattle.sd_belief.specs.Believes.{Believes}
-use Rattle.sd_belief.specs.Calls.{IsFree}
-use Rattle.sd_belief.specs.Copies.{IsCopyThere}
-use Rattle.sd_belief.specs.Merges.{IsSpared}
-use Rattle.sd_belief.specs.View.{CoreView, index}
-use Rattle.sd_slots.specs.Taken.{IsLeftOver, IsListOf, IsNeededAt}
+use Rattle.sd_crash_safety.specs.Believes.{Believes}
+use Rattle.sd_crash_safety.specs.Calls.{IsFree}
+use Rattle.sd_crash_safety.specs.declared.standing.Standing.TheVariants.{Open}
+use Rattle.sd_crash_safety.specs.Copies.{IsCopyAtRest, IsCopyThere}
+use Rattle.sd_crash_safety.specs.Merges.{IsSpared}
+use Rattle.sd_crash_safety.specs.View.{CoreView, index}
+use Rattle.sd_free_slots.specs.Taken.{IsLeftOver, IsListOf, IsNeededAt}
 use Rattle.sd_core.specs.Beginning.{FreeSlots, first_of, is_down, is_not_open}
 
 -- ---- refusals
@@ -206,6 +207,11 @@ ListsTheUnneeded old request new = (merge : merger.Running) (serial : ℕ) (bodi
 abbrev pub EntersAsCopy : CoreView → Asked → CoreView → Type 0
 EntersAsCopy old request new = (merge : merger.Running) (serial : ℕ) (bodies : List (List ℕ)) → OpensMerged merge serial old new → IsAsBelieved old request bodies
     → IsCopyThere merge.source.serial serial old.catalog new (bodies_after bodies request.id request.bytes) × IsMergedImage merge new.catalog serial × IsFree new.outs merge.slot
+
+-- and no request is out on the slots of its source and of what that reaches; the store is open
+abbrev pub EntersAtRest : CoreView → Asked → CoreView → Type 0
+EntersAtRest old request new = (merge : merger.Running) (serial : ℕ) (bodies : List (List ℕ)) → OpensMerged merge serial old new → IsAsBelieved old request bodies
+    → (new.standing ≡ Open) × IsCopyAtRest merge.source.serial serial old.catalog new (bodies_after bodies request.id request.bytes)
 
 -- ---- the end of a merge
 

@@ -7,7 +7,7 @@ use Rattle.sd_journal.specs.declared.mark.Mark.TheVariants.{Start, Visit, Table}
 use Rattle.sd_journal.specs.Marked.{Marked, Noted, Told}
 use Rattle.sd_rounds.specs.Dumper.{Running, next_slot, serial_of}
 use Rattle.sd_rounds.specs.Making.{Making, is_passing}
-use Rattle.sd_belief.specs.View.{CoreView}
+use Rattle.sd_crash_safety.specs.View.{CoreView}
 use Rattle.sd_core.specs.declared.taken.Taken.{Taken}
 use Rattle.sd_core.specs.declared.taken.Taken.TheVariants.{Step, Call}
 

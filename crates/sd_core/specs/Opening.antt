@@ -24,8 +24,8 @@ use Rattle.sd_opener.specs.Looking.{IsDoneAsAsked, Looking, MovesOn, StepMoves, 
 use Rattle.sd_opener.specs.Sees.{IsOpened, IsToldOf, Sees, SeesAfter, StepNames}
 use Rattle.sd_restore.specs.Faulty.{IsDamage, IsFirstFaulty}
 use Rattle.sd_restore.specs.Reading.{AreRightlyDigested}
-use Rattle.sd_belief.specs.Believes.{Believes}
-use Rattle.sd_belief.specs.View.{CoreView, history_of}
+use Rattle.sd_crash_safety.specs.Believes.{Believes}
+use Rattle.sd_crash_safety.specs.View.{CoreView, history_of}
 use Rattle.sd_core.specs.declared.taken.Taken.{Taken}
 use Rattle.sd_core.specs.Grown.{has_swept}
 use Rattle.sd_core.specs.declared.taken.Taken.TheVariants.{Step, Call}

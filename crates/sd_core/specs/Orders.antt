@@ -6,8 +6,8 @@ use Rattle.sd_command.specs.declared.reply.Reply.TheVariants as reply
 use Rattle.sd_gate.specs.declared.worker.Worker.TheVariants.{Opener}
 use Rattle.sd_gate.specs.Phases.{given_up}
 use Rattle.sd_journal.specs.History.{pending}
-use Rattle.sd_belief.specs.Calls.{running_number}
-use Rattle.sd_belief.specs.View.{CoreView, history_of}
+use Rattle.sd_crash_safety.specs.Calls.{running_number}
+use Rattle.sd_crash_safety.specs.View.{CoreView, history_of}
 use Rattle.sd_core.specs.Refusals.{is_idle}
 
 -- the number of the checkpoint that runs, or of the one that is pending

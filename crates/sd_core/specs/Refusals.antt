@@ -9,9 +9,9 @@ use Rattle.sd_journal.specs.History.{pending}
 use Rattle.sd_pagetable.specs.Contents.{plain_of}
 use Rattle.sd_rounds.specs.Waits.{dumper_must_wait}
 use Rattle.sd_rounds.specs.Writes.{is_any_out}
-use Rattle.sd_belief.specs.declared.standing.Standing.{Standing}
-use Rattle.sd_belief.specs.declared.standing.Standing.TheVariants as standing
-use Rattle.sd_belief.specs.View.{CoreView, history_of, index}
+use Rattle.sd_crash_safety.specs.declared.standing.Standing.{Standing}
+use Rattle.sd_crash_safety.specs.declared.standing.Standing.TheVariants as standing
+use Rattle.sd_crash_safety.specs.View.{CoreView, history_of, index}
 use Rattle.sd_core.specs.Beginning.{first_of, free_entries}
 
 -- no request is out of a worker

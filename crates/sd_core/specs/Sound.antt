@@ -29,11 +29,11 @@ use Rattle.sd_rounds.specs.Dumper.{Dumping, HasSlot, IsReserved, Running, is_fro
 use Rattle.sd_rounds.specs.Making.{Making, is_passing}
 use Rattle.sd_rounds.specs.Pass.{Pass, data_pages}
 use Rattle.sd_rounds.specs.Writes.{AreWrites, no_writes}
-use Rattle.sd_belief.specs.declared.standing.Standing.{Standing}
-use Rattle.sd_belief.specs.declared.standing.Standing.TheVariants.{NotOpen, Open}
-use Rattle.sd_belief.specs.Calls.{AreOtherPages}
-use Rattle.sd_belief.specs.Merges.{IsSpared, MakesOther}
-use Rattle.sd_belief.specs.OpenerSteps.{nobody}
+use Rattle.sd_crash_safety.specs.declared.standing.Standing.{Standing}
+use Rattle.sd_crash_safety.specs.declared.standing.Standing.TheVariants.{NotOpen, Open}
+use Rattle.sd_crash_safety.specs.Calls.{AreOtherPages}
+use Rattle.sd_crash_safety.specs.Merges.{IsSpared, MakesOther}
+use Rattle.sd_crash_safety.specs.OpenerSteps.{nobody}
 use Rattle.sd_core.specs.declared.numbers.Numbers.{Numbers}
 use Rattle.sd_core.specs.Grown.{AreFlags, IsGated}
 use Rattle.sd_core.specs.Images.{AreApart, HasPreDumps, begun_as}

@@ -10,10 +10,10 @@ use Rattle.sd_journal.specs.Allowed.{Shown}
 use Rattle.sd_journal.specs.History.{Base}
 use Rattle.sd_pagetable.specs.Contents.{Contents}
 use Rattle.sd_rounds.specs.Dumper.{idle}
-use Rattle.sd_belief.specs.declared.standing.Standing.TheVariants.{NotOpen}
-use Rattle.sd_belief.specs.Calls.{HandsOut, MakesStep}
-use Rattle.sd_belief.specs.OpenerSteps.{nobody}
-use Rattle.sd_belief.specs.View.{CoreView}
+use Rattle.sd_crash_safety.specs.declared.standing.Standing.TheVariants.{NotOpen}
+use Rattle.sd_crash_safety.specs.Calls.{HandsOut, MakesStep}
+use Rattle.sd_crash_safety.specs.OpenerSteps.{nobody}
+use Rattle.sd_crash_safety.specs.View.{CoreView}
 use Rattle.sd_core.specs.declared.base.CoreBase.{CoreBase}
 use Rattle.sd_core.specs.Flags.{HasFlags, numbers_from}
 use Rattle.sd_core.specs.declared.taken.Taken.{Taken}

@@ -6,8 +6,8 @@ use Rattle.sd_journal.specs.Kept.{Kept}
 use Rattle.sd_journal.specs.Marked.{Marked, entries_of}
 use Rattle.sd_journal.specs.Trimming.{IsFolded, base_after}
 use Rattle.sd_receipts.specs.declared.folded.Folded.{Folded}
-use Rattle.sd_belief.specs.Trims.{trimmed}
-use Rattle.sd_belief.specs.View.{CoreView}
+use Rattle.sd_crash_safety.specs.Trims.{trimmed}
+use Rattle.sd_crash_safety.specs.View.{CoreView}
 use Rattle.sd_core.specs.declared.base.CoreBase.{CoreBase}
 use Rattle.sd_core.specs.Starts.{base_of}
 

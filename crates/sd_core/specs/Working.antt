@@ -11,10 +11,10 @@ use Rattle.sd_opener.specs.Left.{looking_left}
 use Rattle.sd_opener.specs.Looking.{Looking}
 use Rattle.sd_pagetable.specs.Contents.{plain_of}
 use Rattle.sd_rounds.specs.Left.{left_of}
-use Rattle.sd_belief.specs.declared.standing.Standing.{Standing}
-use Rattle.sd_belief.specs.declared.standing.Standing.TheVariants.{NotOpen, Open, Down}
-use Rattle.sd_belief.specs.Believes.{Believes}
-use Rattle.sd_belief.specs.View.{CoreView}
+use Rattle.sd_crash_safety.specs.declared.standing.Standing.{Standing}
+use Rattle.sd_crash_safety.specs.declared.standing.Standing.TheVariants.{NotOpen, Open, Down}
+use Rattle.sd_crash_safety.specs.Believes.{Believes}
+use Rattle.sd_crash_safety.specs.View.{CoreView}
 use Rattle.sd_core.specs.declared.taken.Taken.{Taken}
 use Rattle.sd_core.specs.declared.taken.Taken.TheVariants.{Step, Call}
 use Rattle.sd_core.specs.Images.{job_of}

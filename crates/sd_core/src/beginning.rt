@@ -3,9 +3,9 @@ ghost use Rattle.std.specs.Prelude.{◌≡◌};
 ghost use Rattle.sd_core.specs.Beginning.{IsFirstParent, IsReserving, first_of, is_down, is_not_open};
 ghost use Rattle.sd_core.specs.Merging.{has_tip};
 
-use sd_belief::Standing;
 use sd_chain::Catalog;
 use sd_command::Refusal;
+use sd_crash_safety::Standing;
 
 /// The slots of a checkpoint.
 #[derive(Debug, Drop)]

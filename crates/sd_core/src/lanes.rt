@@ -1,7 +1,7 @@
 //! The requests that are out, each in a lane of its own: those of the three workers, and the writes of data pages.
 ghost use Rattle.std.specs.Prelude.{◌≡◌, ◌<◌, ◌↔◌, None, Some, IfSome, IsTrue, MatchOption, slice_get, slice_set};
 ghost use Rattle.sd_rounds.specs.Writes.{IsInLane, is_any_out};
-ghost use Rattle.sd_belief.specs.View.{index, page_lane};
+ghost use Rattle.sd_crash_safety.specs.View.{index, page_lane};
 ghost use Rattle.sd_core.specs.Refusals.{are_resting, is_page_out, is_resting};
 
 use sd_gate::{RequestId, Worker};

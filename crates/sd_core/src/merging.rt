@@ -8,11 +8,11 @@ ghost use Rattle.sd_core.specs.declared.merging.StepFault.TheVariants.{Lost};
 ghost use Rattle.sd_core.specs.Merging.{BeginsCopy, EndsCheckpoint, FixesList, IsStepOf, MayRead};
 
 use sd_chain::Catalog;
+use sd_free_slots::ListRoom;
 use sd_gate::{Request, RequestId, SlotState};
 use sd_journal::Journal;
 use sd_merge::{MergeProgress, MergeStep, Merger, NextImage, Source, WorkError};
 use sd_rounds::Dumper;
-use sd_slots::ListRoom;
 use std::alloc::{AllocError, Global};
 use std::mem;
 

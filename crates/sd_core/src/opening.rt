@@ -12,8 +12,8 @@ ghost use Rattle.sd_core.specs.Opening.{HoldsForOpening, IsExpected, IsFresh, Is
 ghost use Rattle.sd_core.specs.Refusals.{is_open};
 ghost use Rattle.sd_core.specs.Working.{opener_left};
 
-use sd_belief::Standing;
 use sd_chain::Catalog;
+use sd_crash_safety::Standing;
 use sd_gate::{Outcome, Phase, RequestId};
 use sd_image::{one_store, tip_once};
 use sd_journal::Journal;

@@ -9,9 +9,9 @@ ghost use Rattle.sd_image.specs.Shows.{Shows};
 ghost use Rattle.sd_gate.specs.Laws.{found_phase};
 ghost use Rattle.sd_merge.specs.Merger.{Running as RunningMerge};
 ghost use Rattle.sd_journal.specs.History.{pending};
-ghost use Rattle.sd_belief.specs.Believes.{Believes};
-ghost use Rattle.sd_belief.specs.Calls.{AddsByCancel, AddsByOrder, Applies, HandedIn, IsOut, Stays};
-ghost use Rattle.sd_belief.specs.View.{CoreView, history_of};
+ghost use Rattle.sd_crash_safety.specs.Believes.{Believes};
+ghost use Rattle.sd_crash_safety.specs.Calls.{AddsByCancel, AddsByOrder, Applies, HandedIn, IsOut, Stays};
+ghost use Rattle.sd_crash_safety.specs.View.{CoreView, history_of};
 ghost use Rattle.sd_gate.specs.declared.worker.Worker.TheVariants as its;
 ghost use Rattle.sd_command.specs.declared.refusal.Refusal.{Refusal as Why};
 ghost use Rattle.sd_rounds.specs.Dumper.{Running, next_slot, pages_of};
@@ -21,7 +21,7 @@ ghost use Rattle.sd_core.specs.Beginning.{BeginsAs, FreeSlots, begin_refusal};
 ghost use Rattle.sd_core.specs.Beside.{HandsBeside, OrdersBeside, StepsBeside};
 ghost use Rattle.sd_core.specs.Images.{IsAcked};
 ghost use Rattle.sd_core.specs.LittleWork.{IsLittleDump, IsLittlePreDump, OpensPreDump};
-ghost use Rattle.sd_core.specs.Called.{IsApplied, IsBegun, IsCancelOrder, IsHandedIn, IsMergeOrder, IsReopenOrder, IsTakenUp};
+ghost use Rattle.sd_core.specs.Called.{IsBegun, IsCancelOrder, IsHandedIn, IsMergeOrder, IsReopenOrder, IsTakenUp};
 ghost use Rattle.sd_core.specs.Entering.{EntersFirst};
 ghost use Rattle.sd_core.specs.Flags.{FlagsByBegin, FlagsByCancel, FlagsByOutcome, FlagsByStep, KeepsFlags};
 ghost use Rattle.sd_core.specs.Lasting.{MergeLasts};
@@ -36,10 +36,8 @@ ghost use Rattle.sd_core.specs.declared.taken.Taken.TheVariants as taken;
 ghost use Rattle.sd_gate.specs.Calls.{is_done};
 ghost use Rattle.sd_opener.specs.Looking.{IsDoneAsAsked};
 
-use crate::answering::answer;
 use crate::base::CoreBase;
 use crate::beginning::{first_of, first_parent, is_down, is_not_open, reserve_slots};
-use crate::copies::{copy_command, copy_reply};
 use crate::dumping::{
     begin_checkpoint, begin_next, closes_for_sure, enter_catalog, is_committing, is_swept,
     leave_catalog, release_place, release_unfrozen, step_on,
@@ -49,12 +47,13 @@ use crate::numbers::Numbers;
 use crate::opening::{follow_call, fresh_opener, give_up_all, left_of_opener, put_opener};
 use crate::start::Start;
 use crate::taken::Taken;
-use sd_belief::{
+use sd_chain::Catalog;
+use sd_command::{Refusal, Reply};
+use sd_crash_safety::{
     Standing, beginning_law, cancelling_law, core_steps, dumper_outcomes, dumper_steps, found_law,
     merger_outcomes, opener_steps,
 };
-use sd_chain::Catalog;
-use sd_command::{Command, Refusal, Reply};
+use sd_free_slots::{ListRoom, free_in, free_law};
 use sd_gate::{Outcome, Phase, RequestId, Worker};
 use sd_journal::{Entry, Journal, Mark, Origin, due_laws, tracked_laws};
 use sd_merge::Merger;
@@ -63,10 +62,10 @@ use sd_pagetable::{Memory, clear_law, plain_law};
 use sd_rounds::{
     Dumper, ImageStep, NextImage, PageBuffers, Progress, left_law, little_law, rises_law,
 };
-use sd_slots::{ListRoom, free_in, free_law};
 use std::alloc::{AllocError, Global};
 use std::marker::Model;
 
+mod applies;
 mod merges;
 mod openings;
 mod refusing;
@@ -101,7 +100,7 @@ pub struct Core {
 impl Model for Core {
     ghost use Rattle.std.specs.Prelude.{None};
     ghost use Rattle.std.specs.Coded.{codes};
-    ghost use Rattle.sd_belief.specs.View.{CoreView, core_code};
+    ghost use Rattle.sd_crash_safety.specs.View.{CoreView, core_code};
     ghost use Rattle.sd_core.specs.Sound.{IsCore};
     ghost use Rattle.sd_core.specs.Starts.{base_of};
 
@@ -211,47 +210,6 @@ impl Core {
         ensures { result ≡ pages_of self.now.dumper.running }
     {
         self.dumper.pages()
-    }
-
-    /// Applies a command of a seat, and journals it with its reply. Returns the entry's number, and the reply. While a
-    /// checkpoint is pending a command is refused as frozen, which is a reply too.
-    ///
-    /// # Errors
-    ///
-    /// `JournalFull` where no entry is free beside those held. `OutOfMemory` where a growth was refused. Nothing changes.
-    pub fn apply(&mut self, seat: usize, command: &Command) -> Result<(u64, Reply), Refusal>
-        ensures { IsApplied seat command.now result self.old self.new }
-    {
-        core_steps();
-        tracked_laws();
-        self.memory.sound();
-        if self.journal.free() == 0 {
-            return Err(Refusal::JournalFull);
-        }
-        let Ok(()) = self.journal.reserve() else {
-            return Err(Refusal::OutOfMemory);
-        };
-        let Ok(command) = copy_command(self.alloc, command) else {
-            return Err(Refusal::OutOfMemory);
-        };
-        let Ok(reply) = answer(
-            self.alloc,
-            &mut self.memory,
-            self.pending.is_some(),
-            &command,
-        ) else {
-            return Err(Refusal::OutOfMemory);
-        };
-        let Ok(told) = copy_reply(self.alloc, &reply) else {
-            return Err(Refusal::OutOfMemory);
-        };
-        let number = self.journal.next_number();
-        self.journal.append(Entry::Applied {
-            seat,
-            command,
-            reply,
-        });
-        Ok((number, told))
     }
 
     /// Why a checkpoint of so many pre-dumps can't begin, before its slots are looked for.

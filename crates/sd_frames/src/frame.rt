@@ -34,6 +34,14 @@ impl Frame {
         Frame { count: 1, bytes }
     }
 
+    /// Its page, without the count.
+    pub(crate) fn into_page(self) -> Box<[u8; PAGE_SIZE]>
+        ensures { result.value ≡ self.bytes }
+    {
+        let Frame { bytes, .. } = self;
+        bytes
+    }
+
     /// How many entries have it.
     pub(crate) fn count(&self) -> u32
         ensures { result ≡ self.now.count }

@@ -4,6 +4,8 @@ ghost use Rattle.sd_frames.specs.Bytes.{stored_at};
 ghost use Rattle.sd_frames.specs.Frames.{Cell};
 
 use crate::frame::Frame;
+use sd_areas::PAGE_SIZE;
+use std::mem;
 
 /// A place for a frame: in use, or a link to the next free one.
 #[derive(Drop)]
@@ -14,7 +16,7 @@ pub(crate) enum FrameCell {
 
 impl FrameCell {
     ghost use Rattle.sd_frames.specs.FrameCells.{cell_of};
-    ghost use Rattle.sd_frames.specs.declared.frame_cell.FrameCell.TheVariants.{Used};
+    ghost use Rattle.sd_frames.specs.declared.frame_cell.FrameCell.TheVariants.{Used, Free};
 
     /// One entry more has its frame.
     pub(crate) fn share(&mut self)
@@ -39,6 +41,16 @@ impl FrameCell {
     {
         if let FrameCell::Used(frame) = self {
             frame.release();
+        }
+    }
+
+    /// Frees its place, which leads to the next free one, and gives the page of its frame out.
+    pub(crate) fn free(&mut self, next: Option<u32>) -> Option<Box<[u8; PAGE_SIZE]>>
+        ensures { self.new ≡ Free next }
+    {
+        match mem::replace(self, FrameCell::Free(next)) {
+            FrameCell::Used(frame) => Some(frame.into_page()),
+            FrameCell::Free(_) => None,
         }
     }
 

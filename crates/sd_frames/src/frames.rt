@@ -6,20 +6,22 @@ ghost use Rattle.sd_frames.specs.Frames.{Cell, cell_at, count_at, bytes_at, Sets
 
 use crate::frame::Frame;
 use crate::frame_cell::{FrameCell, next_free};
+use crate::spare_pages::SparePages;
 use sd_areas::PAGE_SIZE;
 use std::alloc::{AllocError, Global};
 use std::marker::Model;
 
 static ZEROS: [u8; PAGE_SIZE] = [0; PAGE_SIZE];
 
-/// The frames of a pool. A frame's bytes are allocated where it is first needed, and given back
-/// once no entry has it; its number is used again.
+/// The frames of a pool. A frame's bytes are allocated where it is first needed. Once no entry has it, its number is used
+/// again, and its bytes are kept for another frame, up to a limit.
 #[derive(Drop)]
 pub struct Frames {
     alloc: Global,
     pool: u32,
     slots: Vec<FrameCell>,
     free: Option<u32>,
+    spare: SparePages,
 }
 
 impl Model for Frames {
@@ -47,6 +49,7 @@ impl Frames {
             pool,
             slots: Vec::new(alloc),
             free: None,
+            spare: SparePages::new(alloc),
         }
     }
 
@@ -124,7 +127,7 @@ impl Frames {
         self.slots[number as usize].write(offset, bytes);
     }
 
-    /// Decrements a frame's reference count. Where that becomes 0, the frame is free.
+    /// Decrements a frame's reference count. Where that becomes 0, the frame is free. It needs no memory.
     pub fn release(&mut self, number: u32)
         requires { 0 < count_at self.old number }
         ensures { SetsCell self.old self.new number
@@ -132,7 +135,8 @@ impl Frames {
             else Some (record { count = count_at self.old number - 1; bytes = bytes_at self.old number })) }
     {
         if self.count(number) == 1 {
-            self.slots[number as usize] = FrameCell::Free(self.free);
+            let page = self.slots[number as usize].free(self.free);
+            keep(&mut self.spare, page);
             self.free = Some(number);
         } else {
             self.slots[number as usize].release();
@@ -153,7 +157,7 @@ impl Frames {
             (Some (record { count = 1; bytes = zeros }))) }
         ensures err { OnErr result (self.new ≡ self.old) }
     {
-        let bytes = Box::new(self.alloc, [0; PAGE_SIZE])?;
+        let bytes = self.page_of_zeros()?;
         self.place(Frame::new(bytes))
     }
 
@@ -172,9 +176,33 @@ impl Frames {
             (Some (record { count = 1; bytes = bytes_at self.old from }))) }
         ensures err { OnErr result (self.new ≡ self.old) }
     {
-        let mut bytes = Box::new(self.alloc, [0; PAGE_SIZE])?;
-        fill(&mut bytes, self.bytes(from));
+        let bytes = self.page_like(from)?;
         self.place(Frame::new(bytes))
+    }
+
+    /// A page of zeros, in no frame yet.
+    fn page_of_zeros(&mut self) -> Result<Box<[u8; PAGE_SIZE]>, AllocError>
+        ensures zeros { IfOk result (λ page. page.value ≡ zeros) }
+        ensures same { self.new ≡ self.old }
+    {
+        let Some(mut page) = self.spare.take() else {
+            return Ok(Box::new(self.alloc, [0; PAGE_SIZE])?);
+        };
+        fill(&mut page, &ZEROS);
+        Ok(page)
+    }
+
+    /// A page with the bytes of a frame, in no frame yet.
+    fn page_like(&mut self, from: u32) -> Result<Box<[u8; PAGE_SIZE]>, AllocError>
+        requires { IsSome (cell_at self.old from) }
+        ensures copy { IfOk result (λ page. page.value ≡ bytes_at self.old from) }
+        ensures same { self.new ≡ self.old }
+    {
+        let Some(mut page) = self.spare.take() else {
+            return self.copy_of_page(page_of(self.bytes(from)));
+        };
+        fill(&mut page, self.bytes(from));
+        Ok(page)
     }
 
     /// A page with these bytes, in no frame yet.
@@ -217,10 +245,30 @@ impl Frames {
     }
 }
 
+/// Keeps the page of a frame that was freed, if it had one.
+fn keep(spare: &mut SparePages, page: Option<Box<[u8; PAGE_SIZE]>>)
+    ensures { spare.old ≤ spare.new }
+{
+    if let Some(page) = page {
+        spare.keep(page);
+    }
+}
+
 /// Copies bytes over a page.
 fn fill(page: &mut [u8; PAGE_SIZE], bytes: &[u8])
     requires { length bytes.now ≡ 4096 }
     ensures { page.new ≡ bytes.now }
 {
     page.copy_from_slice(bytes);
+}
+
+/// The bytes as a page.
+fn page_of(bytes: &[u8]) -> &[u8; PAGE_SIZE]
+    requires { length bytes.now ≡ 4096 }
+    ensures { result.now ≡ bytes.now }
+{
+    match bytes.try_into() {
+        Ok(page) => page,
+        Err(_) => unreachable!(),
+    }
 }

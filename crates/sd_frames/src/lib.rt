@@ -4,6 +4,7 @@
 mod frame;
 mod frame_cell;
 mod frames;
+mod spare_pages;
 
 pub use frame::Frame;
 pub use frames::Frames;

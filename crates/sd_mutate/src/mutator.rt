@@ -4,7 +4,7 @@ use sd_areas::{PAGE_BYTES, Prot, SpaceId};
 use sd_command::{Bytes, Command, Refusal, Reply};
 use sd_disk::Disk;
 use sd_journal::Receipt;
-use sd_shared::{Seat, Shared, Thaw};
+use sd_shared::{Seat, Shared};
 use std::alloc::{AllocError, Global};
 use std::sync::Wait;
 
@@ -76,7 +76,7 @@ impl Mutator {
         Ok(())
     }
 
-    /// Makes a command, and keeps its receipt, for which there is room before. Returns the place of the receipt.
+    /// Makes a command once nothing is frozen, and keeps its receipt, for which there is room before.
     fn call<D: Disk + Drop>(
         &mut self,
         rt: &impl Wait,
@@ -86,7 +86,7 @@ impl Mutator {
         let Ok(()) = self.receipts.try_reserve(1) else {
             return Err(Refusal::OutOfMemory);
         };
-        let receipt = shared.call(rt, &mut self.seat, command)?;
+        let receipt = shared.call_thawed(rt, &mut self.seat, command)?;
         let refused = match receipt.reply {
             Reply::Refused(why) => Err(why),
             _ => Ok(()),
@@ -95,41 +95,24 @@ impl Mutator {
         refused
     }
 
-    /// Makes a command; while the memory is frozen it waits for the thaw and tries again.
-    fn call_thawed<D: Disk + Drop>(
-        &mut self,
-        rt: &impl Wait,
-        shared: &Shared<D>,
-        number: Option<u64>,
-    ) -> Result<(), Refusal> {
-        for _ in rt.forever() {
-            match self.call(rt, shared, self.command(number)?) {
-                Err(Refusal::Frozen) if shared.wait_thaw(rt) == Thaw::Thawed => {}
-                ended => return ended,
-            }
-        }
-        unreachable!()
-    }
-
-    /// The store of a number at the start of the page, or the load of what stands there.
-    fn command(&self, number: Option<u64>) -> Result<Command, Refusal> {
-        let space = SpaceId::new(1);
-        let address = self.address;
-        let Some(number) = number else {
-            let count = 8;
-            return Ok(Command::Load {
-                space,
-                address,
-                count,
-            });
-        };
+    /// The store of a number at the start of the page.
+    fn store_command(&self, number: u64) -> Result<Command, Refusal> {
         match bytes_of(self.alloc, number) {
             Ok(bytes) => Ok(Command::Store {
-                space,
-                address,
+                space: SpaceId::new(1),
+                address: self.address,
                 bytes,
             }),
             Err(_) => Err(Refusal::OutOfMemory),
+        }
+    }
+
+    /// The load of the number that stands there.
+    fn load_command(&self) -> Command {
+        Command::Load {
+            space: SpaceId::new(1),
+            address: self.address,
+            count: 8,
         }
     }
 
@@ -153,8 +136,8 @@ impl Mutator {
         shared: &Shared<D>,
         number: u64,
     ) -> Result<(), Refusal> {
-        self.call_thawed(rt, shared, Some(number))?;
-        self.call_thawed(rt, shared, None)?;
+        self.call(rt, shared, self.store_command(number)?)?;
+        self.call(rt, shared, self.load_command())?;
         if self.has_loaded(number) {
             self.stores = self.stores.saturating_add(1);
         }

@@ -1,6 +1,6 @@
 -- A memory as plain memory, with its areas.
 use Rattle.std.proofs.Common.{◌≡◌, ℕ, ◌+◌, ◌≤◌, ◌%◌, Bool, true, false, cond, nat_eq, ◌&&◌, ◌||◌, is_some, List, [], Option, Some, None, IsSome, unwrap_or, refl, sym, ◌∙◌, ap, subst, inl, inr, arith}
-use Rattle.std.proofs.lemmas.Bool.{cases_Bool, cond-true, cond-false, or_parts, ltb-false, and_from}
+use Rattle.std.proofs.lemmas.Bool.{cases_Bool, cond-true, cond-false, or_parts, ltb-false, and_from, and_left, not_from_true}
 use Rattle.std.proofs.lemmas.Bool.Decides.{nat_tests}
 use Rattle.std.specs.Option.{option_map, option_map_or}
 use Rattle.std.specs.Ordering.{nat_cmp, is_eq}
@@ -21,8 +21,8 @@ use Rattle.sd_pagetable.specs.declared.segv.Segv.TheVariants.{Maperr, Accerr}
 use Rattle.sd_tables.specs.declared.entry.Entry.{Entry}
 use Rattle.sd_pagetable.specs.Nested.{Table, Nested, map_values, inside, value_at, is_alive, put_at}
 use Rattle.sd_pagetable.specs.Page.{Page, plain_page, writable_page, stored_page}
-use Rattle.sd_pagetable.specs.Contents.{Contents, page_at, put_page, plain_of}
-use Rattle.sd_pagetable.specs.View.{entry_of}
+use Rattle.sd_pagetable.specs.Contents.{Contents, page_at, put_page, plain_of, IsSound}
+use Rattle.sd_pagetable.specs.View.{entry_of, HasEntry}
 use Rattle.sd_pagetable.specs.Access.{allows, stored_at, is_bad_access}
 use Rattle.sd_pagetable.specs.declared.memory_refusal.MemoryRefusal.TheVariants.{NoSuchSpace, Einval}
 use Rattle.sd_pagetable.specs.Effects.{after_store}
@@ -33,6 +33,7 @@ use Rattle.sd_pagetable.specs.declared.memory_error.MemoryError.{MemoryError}
 use Rattle.sd_pagetable.specs.declared.memory_error.MemoryError.TheVariants.{Denied as DeniedError}
 use Rattle.sd_pagetable.specs.Kept.{prots_of, HasAreas}
 use Rattle.sd_pagetable.proofs.TableLemmas.{turned_test, map_values-empty, get_put, map_values-insert, same_again, turned_in, some_of, get-map_values}
+use Rattle.sd_pagetable.proofs.ViewLemmas.{alone_in}
 use Rattle.sd_pagetable.proofs.NestedLemmas.{same_nested, value_at-insert, value_at-put, alive-put, alive-put_same, value_at-map, alive-map, alive_at, tests}
 
 pub plain_alive : (m : Contents) (s : ℕ) → is_alive (plain_of m) s ≡ is_alive m.spaces s
@@ -106,6 +107,33 @@ none_seen_page (Some x) h = absurd (let f : ◌≡◌ {A = Option Entry} (Some (
 
 pub no_page_seen : (m : Contents) (s p : ℕ) → option_map entry_of (page_at m s p) ≡ None → page_at m s p ≡ None
 no_page_seen m s p h = none_seen_page (page_at m s p) h
+
+-- a writable page is as a fault makes it, and needs no frame
+same_page : (x : Page) (k : ℕ) → x.class ≡ Some k → x.writable ≡ true → x.soft_dirty ≡ true → writable_page x k x.bytes ≡ x
+same_page x k class writable dirty =
+    ap (λ (c : Option ℕ). record { prot = x.prot; bytes = x.bytes; class = c; writable = true; soft_dirty = true }) (sym class)
+    ∙ ap (λ (w : Bool). record { prot = x.prot; bytes = x.bytes; class = x.class; writable = w; soft_dirty = true }) (sym writable)
+    ∙ ap (λ (d : Bool). record { prot = x.prot; bytes = x.bytes; class = x.class; writable = x.writable; soft_dirty = d }) (sym dirty)
+
+pub writable_already : (m : Contents) (s p : ℕ) (e : Entry) → IsSound m → HasEntry m s p e → e.writable ≡ true → MakesWritable m s p (λ bytes. bytes) m
+writable_already m s p e sound h w =
+    let x = page_of_seen m s p e h in
+    let writable : x.0.writable ≡ true = ap (λ (y : Entry). y.writable) x.2 ∙ w in
+    let is = sound.writable s p x.0 x.1 writable in
+    let alone = alone_in m x.0 is.alone in
+    let same = same_page x.0 alone.0 alone.1 writable is.soft_dirty in (
+      x.0,
+      alone.0,
+      x.1,
+      inl (is.alone, alone.1),
+      sym (ap (λ (y : Page). put_page m s p y) same ∙ ap (λ (spaces : Nested Page). record { pool = m.pool; spaces = spaces }) (put_again m.spaces s p x.0 x.1)),
+    )
+
+pub none_due : (m : Contents) (s p : ℕ) (e : Entry) → IsSound m → HasEntry m s p e → e.writable ≡ true → frame_due m (page_at m s p) ≡ None
+none_due m s p e sound h w =
+    let x = page_of_seen m s p e h in
+    let is = sound.writable s p x.0 x.1 (ap (λ (y : Entry). y.writable) x.2 ∙ w) in
+    ap (frame_due m) x.1 ∙ cond-false _ _ _ (and_left _ _ (not_from_true _ is.alone))
 
 -- what is due at a page, by the page
 pub due_none : (m : Contents) (s p : ℕ) (need : Access) → page_at m s p ≡ None → page_due need (value_at (plain_of m) s p) ≡ Some (Stopped Maperr)

@@ -1,16 +1,16 @@
 -- Frames and entries as the contents of a memory, after a change of one entry.
 use Rattle.std.proofs.Common.{◌≡◌, ◌⊎◌, ℕ, ◌<◌, ◌≤◌, ◌^◌, Bool, true, false, cond, nat_eq, ◌&&◌, ◌||◌, Option, Some, None, refl, sym, ◌∙◌, ap, subst, inl, inr, arith}
 use Rattle.std.proofs.lemmas.Bool.Decides.{nat_tests}
-use Rattle.std.proofs.lemmas.Bool.{cases_Bool, eqb-true, eq-eqb}
+use Rattle.std.proofs.lemmas.Bool.{cases_Bool, cond-true, and_from, eqb-true, eq-eqb}
 use Rattle.std.specs.Option.{option_map, option_map_or}
 use Rattle.sd_tables.specs.declared.entry.Entry.{Entry}
 use Rattle.sd_pagetable.specs.Nested.{Nested, map_values, value_at, is_alive, put_at, remove_at}
 use Rattle.sd_pagetable.specs.Page.{Page}
 use Rattle.sd_pagetable.specs.Contents.{Contents, page_at, put_page, remove_page, members, share_of, is_alone, page_count, IsWritable, IsSound}
 use Rattle.sd_frames.specs.Frames.{Pool}
-use Rattle.sd_pagetable.specs.View.{page_of_entry, contents_of}
+use Rattle.sd_pagetable.specs.View.{page_of_entry, entry_of, contents_of, HasEntry}
 use Rattle.sd_pagetable.proofs.TableLemmas.{turned_in, turned_out}
-use Rattle.sd_pagetable.proofs.NestedLemmas.{same_nested, value_at-put, value_at-remove, alive-put, alive-remove, alive-put_same, value_at-map, alive-map}
+use Rattle.sd_pagetable.proofs.NestedLemmas.{same_nested, value_at-put, value_at-remove, alive-put, alive-remove, alive-put_same, alive_at, value_at-map, alive-map}
 use Rattle.sd_pagetable.proofs.TotalLemmas.{total_within-put, total_within-remove, total_within_ge}
 
 pub same_contents : (m n : Contents) → m.pool ≡ n.pool → m.spaces ≡ n.spaces → m ≡ n
@@ -32,6 +32,26 @@ seen_entry pool (Some e) x h = (e, refl, (let f : ◌≡◌ {A = Option Page} (S
 -- a page of the contents is that of an entry
 pub page_entry : (pool : Pool) (tables : Nested Entry) (s p : ℕ) (x : Page) → page_at (contents_of pool tables) s p ≡ Some x → (e : Entry) × (value_at tables s p ≡ Some e) × (page_of_entry pool e ≡ x)
 page_entry pool tables s p x h = seen_entry pool (value_at tables s p) x (sym (page_at-view pool tables s p) ∙ h)
+
+-- a page's entry is the one in the tables
+pub entry_seen : (pool : Pool) (tables : Nested Entry) (m : Contents) (s p : ℕ) (e : Entry) → contents_of pool tables ≡ m → HasEntry m s p e → value_at tables s p ≡ Some e
+entry_seen pool tables m s p e v h =
+    again (value_at tables s p) ∙ ap (option_map entry_of) (sym (page_at-view pool tables s p)) ∙ ap (λ (n : Contents). option_map entry_of (page_at n s p)) v ∙ h
+  where
+    again : (o : Option Entry) → o ≡ option_map entry_of (option_map (page_of_entry pool) o)
+    again None = refl
+    again (Some x) = refl
+
+-- a space with a page is alive in the tables
+pub alive_at_view : (pool : Pool) (tables : Nested Entry) (m : Contents) (s p : ℕ) (x : Page) → contents_of pool tables ≡ m → page_at m s p ≡ Some x → is_alive tables s ≡ true
+alive_at_view pool tables m s p x v h =
+    let e = page_entry pool tables s p x (ap (λ (n : Contents). page_at n s p) v ∙ h) in
+    alive_at tables s p e.0 e.1
+
+-- and so is one that was put
+pub put_seen : (pool : Pool) (tables : Nested Entry) (s p : ℕ) (e : Entry) → HasEntry (contents_of pool (put_at tables s p e)) s p e
+put_seen pool tables s p e =
+    ap (option_map entry_of) (entry_there pool (put_at tables s p e) s p e (value_at-put tables s p e s p ∙ cond-true _ _ _ (and_from _ _ (eq-eqb s s refl) (eq-eqb p p refl))))
 
 abbrev pub is_at : ℕ → ℕ → ℕ → ℕ → Bool
 is_at s p q r = nat_eq q s && nat_eq r p

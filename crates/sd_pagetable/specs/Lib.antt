@@ -18,3 +18,4 @@ pub mod Ranges
 pub mod RangeCalls
 pub mod Loaded
 pub use Rattle.sd_tables.specs.Firsts
+pub mod Sectors

@@ -1,10 +1,11 @@
 -- How frames and entries are seen as the contents of a memory.
 use Rattle.std.specs.Prelude.{◌≡◌, ℕ, ◌<◌, Some}
+use Rattle.std.specs.Option.{option_map}
 use Rattle.sd_tables.specs.declared.entry.Entry.{Entry}
 use Rattle.sd_pagetable.specs.Nested.{Nested, map_values}
 use Rattle.sd_pagetable.specs.Page.{Page}
 use Rattle.sd_frames.specs.Frames.{Pool, Cell, cell_at, count_at, frame_bytes}
-use Rattle.sd_pagetable.specs.Contents.{Contents, members, IsSound, page_count}
+use Rattle.sd_pagetable.specs.Contents.{Contents, page_at, members, IsSound, page_count}
 
 -- an entry with its frame, as a page; the class is the frame's number
 abbrev pub page_of_entry : Pool → Entry → Page
@@ -13,6 +14,10 @@ page_of_entry pool entry = record { prot = entry.prot; bytes = frame_bytes pool 
 -- the entry of a page
 abbrev pub entry_of : Page → Entry
 entry_of page = record { prot = page.prot; frame = page.class; writable = page.writable; soft_dirty = page.soft_dirty }
+
+-- a page is mapped, with this entry
+abbrev pub HasEntry : Contents → ℕ → ℕ → Entry → Type 0
+HasEntry contents space number entry = option_map entry_of (page_at contents space number) ≡ Some entry
 
 abbrev pub contents_of : Pool → Nested Entry → Contents
 contents_of pool tables = record { pool = pool.size; spaces = map_values (map_values (page_of_entry pool)) tables }

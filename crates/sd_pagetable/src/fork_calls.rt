@@ -53,7 +53,7 @@ fn end_space(paging: &mut Paging, space: SpaceId)
     paging.remove_space(space);
 }
 
-/// `exit` over the pages of all spaces and the areas beside them. It takes no memory.
+/// `exit` over the pages of all spaces and the areas beside them. It needs no memory.
 pub(crate) fn exit(
     paging: &mut Paging,
     areas: &mut Areas,

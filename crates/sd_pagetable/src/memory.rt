@@ -11,16 +11,18 @@ use crate::segv::Segv;
 use crate::store_outcome::StoreOutcome;
 use crate::{fork_calls, loading, range_calls};
 use sd_areas::{AreaMap, PAGE_BYTES, PAGE_SIZE, PageNo, Prot, SPACE_LIMIT, Snapshot, SpaceId};
+use sd_tables::Entry;
 use std::alloc::{AllocError, Global};
 use std::collections::BTreeMap;
 use std::marker::Model;
 use std::ops::Bound;
 
-/// Where an access begins.
+/// Where an access begins, and the entry of its page.
 #[derive(Clone, Copy)]
 struct Place {
     page: PageNo,
     offset: usize,
+    entry: Entry,
 }
 
 /// Address spaces of private anonymous memory, with the soft-dirty bits of their pages.
@@ -58,6 +60,8 @@ impl Memory {
     ghost use Rattle.sd_pagetable.specs.Order.{IsNextPage, IsFirstPage, IsFirstIn};
     ghost use Rattle.sd_pagetable.specs.RangeCalls.{IsRangeIn};
     ghost use Rattle.sd_pagetable.specs.Kept.{prots_of};
+    ghost use Rattle.sd_pagetable.specs.Sectors.{sector_bytes};
+    ghost use Rattle.sd_pagetable.specs.View.{HasEntry};
     ghost use Rattle.sd_pagetable.specs.Loaded.{nonzero_pages, snapshot_due, IsLoaded};
     ghost use Rattle.sd_pagetable.specs.declared.memory_error.MemoryError.TheVariants.{OutOfMemory};
     ghost use Rattle.sd_pagetable.specs.declared.access.Access.TheVariants.{Read, Write};
@@ -231,7 +235,7 @@ impl Memory {
         fork_calls::fork(&mut self.paging, &mut self.areas, space)
     }
 
-    /// Ends a space. It takes no memory.
+    /// Ends a space. It needs no memory.
     ///
     /// # Errors
     ///
@@ -256,6 +260,7 @@ impl Memory {
         ensures page { IfOk result (λ place. place.page ≡ page_of address) }
         ensures offset { IfOk result (λ place. place.offset ≡ address % 4096) }
         ensures within { IfOk result (λ place. place.offset + bytes ≤ 4096) }
+        ensures entry { IfOk result (λ place. HasEntry self.now space place.page place.entry) }
         ensures permitted { OnOk result
             (page_due need (value_at (plain_of self.now) space (page_of address)) ≡ None) }
         ensures ok { OnOk result (access_due (plain_of self.now) space address bytes need ≡ None) }
@@ -269,13 +274,23 @@ impl Memory {
         if is_bad_access(offset, bytes) {
             return Err(AccessError::Refused(MemoryRefusal::Einval));
         }
-        let page = self.permitted(space, address, need)?;
-        Ok(Place { page, offset })
+        let (page, entry) = self.permitted(space, address, need)?;
+        Ok(Place {
+            page,
+            offset,
+            entry,
+        })
     }
 
-    /// The page of an address, if it is mapped with the permission that the access needs.
-    fn permitted(&self, space: SpaceId, address: u64, need: Access) -> Result<PageNo, AccessError>
-        ensures page { IfOk result (λ page. page ≡ page_of address) }
+    /// The page of an address and its entry, if it is mapped with the permission that the access needs.
+    fn permitted(
+        &self,
+        space: SpaceId,
+        address: u64,
+        need: Access,
+    ) -> Result<(PageNo, Entry), AccessError>
+        ensures page { IfOk result (λ found. found.0 ≡ page_of address) }
+        ensures entry { IfOk result (λ found. HasEntry self.now space found.0 found.1) }
         ensures ok { OnOk result
             (page_due need (value_at (plain_of self.now) space (page_of address)) ≡ None) }
         ensures refused { IfErr result
@@ -286,7 +301,7 @@ impl Memory {
             return Err(AccessError::Segv(Segv::Maperr));
         };
         if allows(need, found.1.prot) {
-            Ok(found.0)
+            Ok(found)
         } else {
             Err(AccessError::Segv(Segv::Accerr))
         }
@@ -309,9 +324,8 @@ impl Memory {
         ensures err { OnErr result (buffer.new ≡ buffer.old) }
     {
         let place = self.place(space, address, buffer.len(), Access::Read)?;
-        if let Some(bytes) = self.paging.bytes(space, place.page) {
-            buffer.copy_from_slice(&bytes[place.offset..place.offset + buffer.len()]);
-        }
+        let bytes = self.paging.bytes_of(space, place.page, place.entry);
+        buffer.copy_from_slice(&bytes[place.offset..place.offset + buffer.len()]);
         Ok(())
     }
 
@@ -337,13 +351,12 @@ impl Memory {
         ensures err { OnErr result (self.new ≡ self.old) }
     {
         let place = self.place(space, address, bytes.len(), Access::Write)?;
-        match self.paging.entry(space, place.page) {
-            Some(entry) if entry.writable => {
-                self.paging.write(space, place.page, place.offset, bytes);
-                Ok(StoreOutcome::Done)
-            }
-            _ => Ok(StoreOutcome::NeedsFault),
+        if !place.entry.writable {
+            return Ok(StoreOutcome::NeedsFault);
         }
+        self.paging
+            .write(space, place.page, place.entry, place.offset, bytes);
+        Ok(StoreOutcome::Done)
     }
 
     /// Takes a fault at an address: the page gets a frame of its own (a copy where it was shared),
@@ -367,8 +380,9 @@ impl Memory {
         if !self.paging.is_alive(space) {
             return Err(MemoryRefusal::NoSuchSpace.into());
         }
-        let page = self.permitted(space, address, Access::Write)?;
-        self.paging.make_writable(space, page)
+        let (page, entry) = self.permitted(space, address, Access::Write)?;
+        self.paging.make_writable(space, page, entry)?;
+        Ok(())
     }
 
     /// Stores 1 to 64 bytes from an address on, within one page, with a fault where one is needed.
@@ -394,8 +408,9 @@ impl Memory {
         ensures err { OnErr result (self.new ≡ self.old) }
     {
         let place = self.place(space, address, bytes.len(), Access::Write)?;
-        self.paging.make_writable(space, place.page)?;
-        self.paging.write(space, place.page, place.offset, bytes);
+        let entry = self.paging.make_writable(space, place.page, place.entry)?;
+        self.paging
+            .write(space, place.page, entry, place.offset, bytes);
         Ok(())
     }
 
@@ -409,7 +424,8 @@ impl Memory {
         ensures none { result ≡ None → self.new ≡ self.old }
     {
         let entry = self.paging.entry(space, page)?;
-        self.paging.write_protect(space, page, entry.prot, false);
+        self.paging
+            .write_protect(space, page, entry, entry.prot, false);
         Some(entry.soft_dirty)
     }
 
@@ -436,6 +452,46 @@ impl Memory {
         let start = SECTOR_SIZE * sector;
         bytes.copy_from_slice(&found[start..start + SECTOR_SIZE]);
         true
+    }
+
+    /// One of a page's eight sectors of 512 bytes, 0 to 7, where the page is mapped.
+    pub fn sector(&self, space: SpaceId, page: PageNo, sector: usize) -> Option<&[u8]>
+        requires { sector < 8 }
+        ensures mapped { is_some result ≡ is_some (page_at self.now space page) }
+        ensures whole { IfSome (page_at self.now space page)
+            (λ (found : Page). length found.bytes ≡ 4096) }
+        ensures bytes { IfSome result (λ bytes. IfSome (page_at self.now space page) (λ (found : Page).
+            bytes.now ≡ slice_range found.bytes (512 * sector) (512 * sector + 512))) }
+        ensures length { IfSome result (λ bytes. length bytes.now ≡ 512) }
+    {
+        self.paging.whole();
+        let found = self.paging.bytes(space, page)?;
+        let start = SECTOR_SIZE * sector;
+        Some(&found[start..start + SECTOR_SIZE])
+    }
+
+    /// One of a page's eight sectors of 512 bytes, 0 to 7, where the page is mapped: none inside where the page has no
+    /// frame, so that the sector is zeros and needn't be looked at.
+    pub fn framed_sector(
+        &self,
+        space: SpaceId,
+        page: PageNo,
+        sector: usize,
+    ) -> Option<Option<&[u8]>>
+        requires { sector < 8 }
+        ensures mapped { is_some result ≡ is_some (page_at self.now space page) }
+        ensures whole { IfSome (page_at self.now space page)
+            (λ (found : Page). length found.bytes ≡ 4096) }
+        ensures bytes { IfSome result (λ part. IfSome (page_at self.now space page) (λ (found : Page).
+            sector_bytes part ≡ slice_range found.bytes (512 * sector) (512 * sector + 512))) }
+        ensures length { IfSome result (λ part. length (sector_bytes part) ≡ 512) }
+    {
+        self.paging.whole();
+        let Some(bytes) = self.paging.framed(space, page)? else {
+            return Some(None);
+        };
+        let start = SECTOR_SIZE * sector;
+        Some(Some(&bytes[start..start + SECTOR_SIZE]))
     }
 
     /// The word of a page, as the kernel document `pagemap` has it: bit 63 where it has a frame,

@@ -3,7 +3,7 @@ ghost use Rattle.std.specs.Prelude.{◌≡◌, ◌+◌, ◌<◌, ◌≤◌, ◌^
 ghost use Rattle.sd_areas.specs.Pages.{page_of};
 ghost use Rattle.std.specs.Option.{option_map, option_map_or};
 ghost use Rattle.std.specs.FinMap as finmap;
-ghost use Rattle.sd_pagetable.specs.Nested.{inside, is_alive};
+ghost use Rattle.sd_pagetable.specs.Nested.{inside, is_alive, put_at, value_at};
 ghost use Rattle.sd_pagetable.specs.Page.{Page, fresh_page, shared_page, inherited_page, stored_page, changed_page};
 ghost use Rattle.sd_pagetable.specs.Contents.{page_at, put_page, remove_page, is_alone, is_full, page_count, word_at, AreWhole, IsSound};
 ghost use Rattle.sd_pagetable.specs.Access.{stored_at};
@@ -17,7 +17,8 @@ ghost use Rattle.sd_pagetable.specs.Due.{Answers, frame_due, needs_frame};
 ghost use Rattle.std.specs.Prelude.{◌-◌};
 ghost use Rattle.sd_pagetable.specs.Nested.{change_within, fill_within};
 ghost use Rattle.sd_pagetable.specs.Tracking.{MakesWritable, with_space};
-ghost use Rattle.sd_pagetable.specs.View.{entry_of};
+ghost use Rattle.sd_pagetable.specs.Sectors.{framed_bytes};
+ghost use Rattle.sd_pagetable.specs.View.{entry_of, HasEntry};
 ghost use Rattle.sd_areas.specs.Memory.{page_of_snapshot};
 ghost use Rattle.sd_pagetable.specs.Loaded.{is_zero_page, Loads, GivesFrame};
 
@@ -135,6 +136,29 @@ impl Paging {
     {
         let entry = self.tables.get(space, page)?;
         Some(self.frames.bytes_of(entry.frame))
+    }
+
+    /// The bytes of a page's frame, if it is mapped: none inside where it has no frame, and reads as zeros.
+    pub(crate) fn framed(&self, space: SpaceId, page: PageNo) -> Option<Option<&[u8]>>
+        ensures value { option_map framed_bytes result
+            ≡ option_map (λ (page : Page). page.bytes) (page_at self.now space page) }
+        ensures length { IfSome result (λ part. length (framed_bytes part) ≡ 4096) }
+    {
+        let entry = self.tables.get(space, page)?;
+        let Some(frame) = entry.frame else {
+            return Some(None);
+        };
+        Some(Some(self.frames.bytes(frame)))
+    }
+
+    /// The bytes of a page with this entry. Without a frame it reads as zeros.
+    pub(crate) fn bytes_of(&self, space: SpaceId, page: PageNo, entry: Entry) -> &[u8]
+        requires { HasEntry self.now space page entry }
+        ensures value { IfSome (page_at self.now space page)
+            (λ (found : Page). result.now ≡ found.bytes) }
+        ensures length { length result.now ≡ 4096 }
+    {
+        self.frames.bytes_of(entry.frame)
     }
 
     /// Each page has 4,096 bytes. It does nothing: a caller learns it.
@@ -345,10 +369,9 @@ impl Paging {
         requires { IsSome (page_at self.old space page) }
         ensures { self.new ≡ remove_page self.old space page }
     {
-        let Some(entry) = self.tables.get(space, page) else {
+        let Some(entry) = self.tables.take(space, page) else {
             return;
         };
-        self.tables.remove(space, page);
         release(&mut self.frames, entry.frame);
         self.mapped -= 1;
     }
@@ -365,29 +388,28 @@ impl Paging {
         release(&mut self.frames, entry.frame);
     }
 
-    /// Sets a page's permissions and its soft-dirty bit, and write-protects it.
+    /// Sets the permissions and the soft-dirty bit of a page with this entry, and write-protects it.
     pub(crate) fn write_protect(
         &mut self,
         space: SpaceId,
         page: PageNo,
+        entry: Entry,
         prot: Prot,
         soft_dirty: bool,
     )
-        requires { IsSome (page_at self.old space page) }
+        requires { HasEntry self.old space page entry }
         ensures { IfSome (page_at self.old space page) (λ (before : Page).
             self.new ≡ put_page self.old space page
             (record before { prot = prot; writable = false; soft_dirty = soft_dirty })) }
     {
-        if let Some(entry) = self.tables.get(space, page) {
-            let frame = entry.frame;
-            let protected = Entry {
-                prot,
-                frame,
-                writable: false,
-                soft_dirty,
-            };
-            self.tables.replace(space, page, protected);
-        }
+        let frame = entry.frame;
+        let protected = Entry {
+            prot,
+            frame,
+            writable: false,
+            soft_dirty,
+        };
+        self.tables.replace(space, page, protected);
     }
 
     /// Makes a child's page, which has no frame, share the frame of the parent's, and
@@ -404,26 +426,32 @@ impl Paging {
         let Some(entry) = self.tables.get(parent, page) else {
             return;
         };
-        self.tables
-            .replace(parent, page, entry.write_protected(entry.soft_dirty));
+        protect_entry(&mut self.tables, parent, page, entry);
         self.tables
             .replace(child, page, entry.write_protected(true));
         share(&mut self.frames, entry.frame);
     }
 
-    /// Makes a page writable and soft-dirty. It gets a frame of its own: a copy where its frame was
-    /// shared.
+    /// Makes a page with this entry writable and soft-dirty, and returns its entry then. It gets a frame of its own: a
+    /// copy where its frame was shared. A page that is writable stays as it is.
     ///
     /// # Errors
     ///
     /// No-frame where a frame is needed and every frame of the pool is used, and out of memory
     /// where the frame's bytes can't be allocated. An error changes nothing.
-    pub(crate) fn make_writable(&mut self, space: SpaceId, page: PageNo) -> Result<(), MemoryError>
+    pub(crate) fn make_writable(
+        &mut self,
+        space: SpaceId,
+        page: PageNo,
+        entry: Entry,
+    ) -> Result<Entry, MemoryError>
+        requires there { HasEntry self.old space page entry }
         requires permitted { IfSome (page_at self.old space page)
             (λ (before : Page). before.prot.write ≡ true) }
-        requires there { IsSome (page_at self.old space page) }
         ensures writable { OnOk result
             (MakesWritable self.old space page (λ bytes. bytes) self.new) }
+        ensures entry { IfOk result (λ made. HasEntry self.new space page made) }
+        ensures stores { IfOk result (λ made. made.writable ≡ true) }
         ensures due { Answers (frame_due self.old (page_at self.old space page)) result }
         ensures needed { result ≡ Err OutOfMemory
             → needs_frame self.old (page_at self.old space page) ≡ true }
@@ -431,27 +459,33 @@ impl Paging {
             → frame_due self.old (page_at self.old space page) ≡ None }
         ensures err { OnErr result (self.new ≡ self.old) }
     {
-        let Some(entry) = self.tables.get(space, page) else {
-            return Ok(());
-        };
+        let _mapped = self.mapped;
+        if entry.writable {
+            return Ok(entry);
+        }
         let frame = own_frame(&mut self.frames, entry.frame)?;
-        self.tables.replace(space, page, entry.made_writable(frame));
-        Ok(())
+        let made = entry.made_writable(frame);
+        self.tables.replace(space, page, made);
+        Ok(made)
     }
 
-    /// Writes bytes into a writable page, from an offset on.
-    pub(crate) fn write(&mut self, space: SpaceId, page: PageNo, offset: usize, bytes: &[u8])
-        requires there { IsSome (page_at self.old space page) }
-        requires writable { IfSome (page_at self.old space page)
-            (λ (before : Page). before.writable ≡ true) }
+    /// Writes bytes into a page with this entry, a writable one, from an offset on.
+    pub(crate) fn write(
+        &mut self,
+        space: SpaceId,
+        page: PageNo,
+        entry: Entry,
+        offset: usize,
+        bytes: &[u8],
+    )
+        requires there { HasEntry self.old space page entry }
+        requires writable { entry.writable ≡ true }
         requires within { offset + length bytes.now ≤ 4096 }
         ensures { IfSome (page_at self.old space page) (λ (before : Page).
             self.new ≡ put_page self.old space page
             (stored_page before (stored_at before.bytes offset bytes.now))) }
     {
-        let Some(entry) = self.tables.get(space, page) else {
-            return;
-        };
+        let _mapped = self.mapped;
         let Some(frame) = entry.frame else {
             return;
         };
@@ -464,6 +498,17 @@ fn dirty_bit(entry: Entry) -> u64
     ensures { result ≡ (if entry.soft_dirty then 2 ^ 55 else 0) }
 {
     if entry.soft_dirty { SOFT_DIRTY } else { 0 }
+}
+
+/// Write-protects a page that has this entry. One that is write-protected already stays as it is.
+fn protect_entry(tables: &mut Tables, space: SpaceId, page: PageNo, entry: Entry)
+    requires { value_at tables.old space page ≡ Some entry }
+    ensures { tables.new ≡ put_at tables.old space page
+        (record { prot = entry.prot; frame = entry.frame; writable = false; soft_dirty = entry.soft_dirty }) }
+{
+    if entry.writable {
+        tables.replace(space, page, entry.write_protected(entry.soft_dirty));
+    }
 }
 
 /// Decrements the reference count of a frame, if there is one.

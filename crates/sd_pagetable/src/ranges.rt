@@ -229,7 +229,7 @@ fn protect_page(paging: &mut Paging, space: SpaceId, page: PageNo, prot: Prot)
     let Some(entry) = paging.entry(space, page) else {
         return;
     };
-    paging.write_protect(space, page, prot, entry.soft_dirty);
+    paging.write_protect(space, page, entry, prot, entry.soft_dirty);
 }
 
 /// Sets the permissions of pages of a run that are mapped, and write-protects them, from its first on. It

@@ -21,3 +21,4 @@ pub mod MakingLaws
 pub mod Files
 pub mod ImageVisits
 pub mod LittleWork
+pub mod PassSteps

@@ -7,6 +7,7 @@ ghost use Rattle.sd_rounds.specs.Left.{left_of};
 ghost use Rattle.sd_rounds.specs.Room.{StepWants};
 ghost use Rattle.sd_rounds.specs.Sound.{HasSoundImage};
 ghost use Rattle.sd_rounds.specs.Waits.{dumper_must_wait};
+ghost use Rattle.sd_rounds.specs.PassSteps.{Passes};
 ghost use Rattle.sd_rounds.specs.Dumper.{AreRunning, Dumping, Fills, Hands, HasCounted, Works, begun_checkpoint, dump_slot, ends, idle, is_dumping, is_strange, next_slot, pages_of, parent_of, pre_dump_slots, serial_of};
 
 use crate::checkpoint::Checkpoint;
@@ -232,6 +233,32 @@ impl Dumper {
                 Ok(checkpoint.work(self.alloc, memory, image, ticket)?)
             }
         }
+    }
+
+    /// Makes the next step where it visits a page or copies a sector, as `work` does, and needs no serial, slot or ticket
+    /// for it. None where the next step is another: nothing changed, and `work` makes it.
+    ///
+    /// # Errors
+    ///
+    /// Idle where no checkpoint runs, Busy where an outcome is awaited, as `work`. Out of memory where an entry or a sector
+    /// finds no room, and only where one is wanted. Nothing changed.
+    #[inline]
+    pub fn pass(&mut self, memory: &mut Memory) -> Result<Option<PassStep>, WorkError>
+        ensures passes { IfOk result (λ found. Passes self.old memory.old found self.new memory.new) }
+        ensures idle { result ≡ Err Idle ↔ self.old.running ≡ None }
+        ensures busy { result ≡ Err Busy ↔ dumper_must_wait self.old.running (plain_of memory.old) ≡ true }
+        ensures wanted { result ≡ Err OutOfMemory → StepWants self.old.running memory.old }
+        ensures err { OnErr result (self.new ≡ self.old) }
+        ensures err_memory { OnErr result (memory.new ≡ memory.old) }
+    {
+        let Some(checkpoint) = &mut self.checkpoint else {
+            return Err(WorkError::Idle);
+        };
+        if checkpoint.must_wait(memory) {
+            return Err(WorkError::Busy);
+        }
+        let found = checkpoint.pass_step(memory)?;
+        Ok(found)
     }
 
     /// Takes the outcome of a request that is out. After one that failed no checkpoint runs.

@@ -16,6 +16,7 @@ mod left;
 mod new_image;
 mod next_image;
 mod page_buffers;
+mod page_copy;
 mod pass_step;
 mod progress;
 mod round;
@@ -37,6 +38,7 @@ pub use laws::{
 pub use new_image::NewImage;
 pub use next_image::NextImage;
 pub use page_buffers::PageBuffers;
+pub use pass_step::PassStep;
 pub use progress::Progress;
 pub use round::Round;
 pub use standing::Standing;

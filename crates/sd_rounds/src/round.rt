@@ -1,10 +1,10 @@
 //! A pass over the pages of a memory, which makes the entries of an image.
-ghost use Rattle.std.specs.Prelude.{◌≡◌, ◌≢◌, length, vec_capacity, vec_len, ◌||◌, ◌+◌, ◌*◌, ◌<◌, ◌≤◌, ◌^◌, true, false, None, Some, IsSome, IsErr, IfOk, OnOk, OnErr, MatchOption, ◌==◌, ◌++◌};
-ghost use Rattle.std.specs.List.{list_all};
+ghost use Rattle.std.specs.Prelude.{◌≡◌, ◌≢◌, length, ◌||◌, ◌<◌, ◌≤◌, ◌^◌, true, false, None, Some, IsSome, IsErr, IfOk, OnOk, OnErr, MatchOption, ◌++◌};
 ghost use Rattle.sd_image.specs.declared.run.RunKind.TheVariants.{Parent};
 ghost use Rattle.sd_pagetable.specs.Contents.{page_at, plain_of};
 ghost use Rattle.sd_pagetable.specs.Order.{is_above};
 ghost use Rattle.sd_pagetable.specs.Page.{Page};
+ghost use Rattle.sd_pagetable.specs.Sectors.{sector_bytes};
 ghost use Rattle.sd_pagetable.specs.Tracking.{Cleared, Step};
 ghost use Rattle.sd_rounds.specs.Left.{pass_left};
 ghost use Rattle.sd_rounds.specs.Pass.{Taking, begun_to_take, copied_more, data_pages, dropped, left_to_parent, opened, place_taken, visited, with_entry};
@@ -17,6 +17,7 @@ ghost use Rattle.sd_rounds.specs.Waits.{is_over};
 use crate::copied::Copied;
 use crate::entries::push_entry;
 use crate::left::{PAGE_AHEAD, WRITE, pages_ahead};
+use crate::page_copy::PageCopy;
 use crate::standing::Standing;
 use crate::visit::Visit;
 use sd_areas::{PAGE_SIZE, PageNo, SpaceId};
@@ -37,7 +38,7 @@ pub struct Round {
     tables: Vec<SpaceTable>,
     after: Option<(SpaceId, PageNo)>,
     taking: Option<(SpaceId, PageNo)>,
-    buffer: Vec<u8>,
+    copy: PageCopy,
 }
 
 impl Model for Round {
@@ -46,21 +47,9 @@ impl Model for Round {
 
     ghost Value = { Pass };
 
-    ghost view = { λ r. pass_of r.takes_all r.tables.items r.after r.taking r.buffer.items };
+    ghost view = { λ r. pass_of r.takes_all r.tables.items r.after r.taking r.copy };
 
-    ghost invariant = { λ r. IsRound r.takes_all r.tables.items r.after r.taking r.buffer.items };
-}
-
-/// A page of zeros, which is compared with others many bytes at a time.
-static ZEROS: [u8; PAGE_SIZE] = [0; PAGE_SIZE];
-
-/// Whether bytes, a page of them at most, are zeros alone.
-#[inline]
-fn is_zero(bytes: &[u8]) -> bool
-    requires { length bytes.now ≤ 4096 }
-    ensures { result ≡ list_all (λ byte. byte == 0) bytes.now }
-{
-    bytes == &ZEROS[..bytes.len()]
+    ghost invariant = { λ r. IsRound r.takes_all r.tables.items r.after r.taking r.copy };
 }
 
 impl Round {
@@ -74,7 +63,7 @@ impl Round {
             tables: Vec::new(alloc),
             after: None,
             taking: None,
-            buffer: Vec::new(alloc),
+            copy: PageCopy::new(Vec::new(alloc)),
         }
     }
 
@@ -85,7 +74,7 @@ impl Round {
     {
         match self.taking {
             None => Standing::Free,
-            Some(_) if self.buffer.len() == PAGE_SIZE => Standing::Copied,
+            Some(_) if self.copy.len() == PAGE_SIZE => Standing::Copied,
             Some(_) => Standing::Copying,
         }
     }
@@ -123,7 +112,7 @@ impl Round {
     {
         let ahead = PAGE_AHEAD * pages_ahead(memory, self.after);
         match self.taking {
-            Some(_) => ahead + (SECTORS - self.buffer.len() / SECTOR_SIZE) as u64 + WRITE,
+            Some(_) => ahead + (SECTORS - self.copy.len() / SECTOR_SIZE) as u64 + WRITE,
             None => ahead,
         }
     }
@@ -175,16 +164,16 @@ impl Round {
         let Some((space, page)) = self.taking else {
             unreachable!()
         };
-        let mut sector = [0; SECTOR_SIZE];
-        if !memory.read_sector(space, page, self.buffer.len() / SECTOR_SIZE, &mut sector) {
+        let number = self.copy.len() / SECTOR_SIZE;
+        let Some(sector) = memory.framed_sector(space, page, number) else {
             self.drop_page();
             return Ok(Copied::Gone);
-        }
-        if self.ends_in_zeros(&sector) {
+        };
+        if self.ends_in_zeros(sector) {
             self.enter_taken(space, page, RunKind::Zero)?;
             return Ok(Copied::Zero);
         }
-        self.append(&sector)?;
+        self.append(sector)?;
         Ok(Copied::More)
     }
 
@@ -204,7 +193,8 @@ impl Round {
         };
         push_entry(self.alloc, &mut self.tables, space, page, RunKind::Data)?;
         self.taking = None;
-        Ok(mem::replace(&mut self.buffer, Vec::new(self.alloc)))
+        let next = PageCopy::new(Vec::new(self.alloc));
+        Ok(mem::replace(&mut self.copy, next).into_buffer())
     }
 
     /// Gives the buffer of a page back that was written.
@@ -212,13 +202,13 @@ impl Round {
         requires { self.old.taking ≡ None }
         ensures { self.new ≡ self.old }
     {
-        self.buffer = buffer;
+        self.copy = PageCopy::new(buffer);
     }
 
     /// The buffer that pages are copied to.
     pub(crate) fn into_buffer(self) -> Vec<u8> {
-        let Round { buffer, .. } = self;
-        buffer
+        let Round { copy, .. } = self;
+        copy.into_buffer()
     }
 
     /// Whether no page is left to be visited, and none is being taken.
@@ -231,11 +221,12 @@ impl Round {
 
     /// Whether the page that is being taken is whole with this sector, and all zeros.
     #[inline]
-    fn ends_in_zeros(&self, sector: &[u8; SECTOR_SIZE]) -> bool
+    fn ends_in_zeros(&self, sector: Option<&[u8]>) -> bool
+        requires { length (sector_bytes sector) ≡ 512 }
         ensures { (taking : Taking) → self.now.taking ≡ Some taking
-            → result ≡ is_page_of_zeros (taking.copied ++ sector.now) }
+            → result ≡ is_page_of_zeros (taking.copied ++ sector_bytes sector.entry) }
     {
-        self.buffer.len() + SECTOR_SIZE == PAGE_SIZE && is_zero(&self.buffer) && is_zero(sector)
+        self.copy.len() + SECTOR_SIZE == PAGE_SIZE && self.copy.stays_zeros(sector)
     }
 
     /// The page that was being taken is no longer mapped.
@@ -260,15 +251,16 @@ impl Round {
 
     /// Puts a sector behind those that were copied.
     #[inline]
-    fn append(&mut self, sector: &[u8; SECTOR_SIZE]) -> Result<(), AllocError>
+    fn append(&mut self, sector: Option<&[u8]>) -> Result<(), AllocError>
         requires copying { IsCopying self.old }
+        requires length { length (sector_bytes sector) ≡ 512 }
         requires some { (taking : Taking) → self.old.taking ≡ Some taking
-            → is_page_of_zeros (taking.copied ++ sector.now) ≡ false }
+            → is_page_of_zeros (taking.copied ++ sector_bytes sector) ≡ false }
         ensures more { OnOk result ((taking : Taking) → self.old.taking ≡ Some taking
-            → self.new ≡ copied_more self.old taking sector.now) }
+            → self.new ≡ copied_more self.old taking (sector_bytes sector.entry)) }
         ensures err { OnErr result (self.new ≡ self.old) }
     {
-        add_sector(&mut self.buffer, sector)?;
+        self.copy.add(sector)?;
         Ok(())
     }
 
@@ -299,7 +291,7 @@ impl Round {
         requires greatest { space ≤ 16 }
         ensures { self.new ≡ begun_to_take self.old (space, page) }
     {
-        self.buffer.clear();
+        self.copy.clear();
         self.after = Some((space, page));
         self.taking = Some((space, page));
     }
@@ -319,20 +311,6 @@ impl Round {
         self.after = Some((space, page));
         Ok(())
     }
-}
-
-/// Puts a sector behind those of a buffer.
-///
-/// # Errors
-///
-/// Out of memory only where the buffer has no room for it: what it has stays.
-#[inline]
-fn add_sector(buffer: &mut Vec<u8>, sector: &[u8]) -> Result<(), AllocError>
-    ensures items { OnOk result (buffer.new.items ≡ buffer.old.items ++ sector.now) }
-    ensures full { OnErr result (vec_capacity buffer.old < vec_len buffer.old + length sector.now) }
-    ensures err { OnErr result (buffer.new.items ≡ buffer.old.items) }
-{
-    buffer.extend_from_slice(sector)
 }
 
 /// Whether a page is soft-dirty.

@@ -7,8 +7,8 @@ use Rattle.sd_disk.specs.Reads.{OnlyReads}
 use Rattle.sd_disk.specs.declared.disk.Disk.{Ghosts}
 use Rattle.sd_image.specs.Shows.{Shows}
 use Rattle.sd_journal.specs.Marked.{IsTracked}
-use Rattle.sd_belief.specs.Shown.{ShowsAllowed}
-use Rattle.sd_belief.specs.View.{history_of}
+use Rattle.sd_crash_safety.specs.Shown.{ShowsAllowed}
+use Rattle.sd_crash_safety.specs.View.{history_of}
 use Rattle.sd_core.specs.Starts.{shown_base}
 use Rattle.sd_script.specs.declared.answer.Answer.{Answer}
 use Rattle.sd_script.specs.declared.line.Line.{Line}

@@ -9,6 +9,8 @@ ghost use Rattle.sd_world.specs.Points.{StandsAt};
 ghost use Rattle.sd_world.specs.Promise.{Point};
 ghost use Rattle.sd_run.specs.Ending.{IsUnprinted};
 ghost use Rattle.sd_world.specs.Goes.{GoesOn};
+ghost use Rattle.sd_world.specs.Runs.{IsStep};
+ghost use Rattle.sd_world.specs.declared.event.Event.TheVariants.{Command as CommandEvent};
 ghost use Rattle.sd_run.specs.Lines.{AnswersLine};
 ghost use Rattle.sd_run.specs.Promise.{RunsLine, Tells};
 ghost use Rattle.sd_run.specs.Whole.{PrintsLines, TellsSome};
@@ -17,7 +19,7 @@ ghost use Rattle.sd_run.specs.Words.{AreGiven};
 use crate::page_words;
 use crate::printing::print_line;
 use sd_areas::SpaceId;
-use sd_command::Reply;
+use sd_command::{Command, Reply};
 use sd_disk::Disk;
 use sd_exit::{Output, Stop};
 use sd_gate::Worker;
@@ -28,6 +30,14 @@ use std::io::Write;
 
 /// The seat that a script's commands come from.
 const SCRIPT_SEAT: usize = 0;
+
+/// Makes the event of a command.
+fn apply<D: Disk>(world: &mut World<D>, command: Command) -> Reply
+    ensures step { IsStep D.Disk (CommandEvent 0 command) world.old result world.new }
+    ensures goes_on { GoesOn D.Disk world.old world.new }
+{
+    world.apply(SCRIPT_SEAT, command)
+}
 
 /// Makes the events of a line, and returns what the last of them is answered. A line that asks for words makes none.
 fn answer<D: Disk, S: Watch>(
@@ -40,10 +50,7 @@ fn answer<D: Disk, S: Watch>(
     ensures goes_on { GoesOn D.Disk world.old world.new }
 {
     let reply = match line {
-        Line::Command(command) => world.make(Event::Command {
-            seat: SCRIPT_SEAT,
-            command,
-        }),
+        Line::Command(command) => apply(world, command),
         Line::Begin(rounds) => world.make(Event::Begin(rounds)),
         Line::BeginMerge => world.make(Event::Merge),
         Line::Cancel => world.make(Event::Cancel),

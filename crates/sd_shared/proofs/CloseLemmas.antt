@@ -1,6 +1,6 @@
 -- A fault of one core is the fault of some core.
 use Rattle.std.proofs.Common.{Result, Ok, Err, IfErr}
-use Rattle.sd_belief.specs.View.{CoreView}
+use Rattle.sd_crash_safety.specs.View.{CoreView}
 
 pub of_some : {T F : Type 0} (P : CoreView → F → Type 0) (result : Result T F) (core : CoreView)
     → IfErr result (P core) → IfErr result (λ fault. (own : CoreView) × P own fault)

@@ -6,7 +6,7 @@ use Rattle.sd_command.specs.declared.refusal.Refusal.TheVariants.{LockBusy}
 use Rattle.sd_command.specs.declared.reply.Reply.{Reply}
 use Rattle.sd_command.specs.declared.reply.Reply.TheVariants as reply
 use Rattle.sd_journal.specs.declared.receipt.Receipt.{Receipt}
-use Rattle.sd_belief.specs.Calls.{IsUnjournaled}
+use Rattle.sd_crash_safety.specs.Calls.{IsUnjournaled}
 use Rattle.sd_shared.specs.declared.seat.Seat.{Seat}
 
 -- the number and the reply of a receipt

@@ -11,8 +11,8 @@ use Rattle.sd_gate.specs.declared.request_id.RequestId.{RequestId}
 use Rattle.sd_gate.specs.Requests.{Asked, Made}
 use Rattle.sd_journal.specs.History.{last, pending}
 use Rattle.sd_journal.specs.declared.receipt.Receipt.{Receipt}
-use Rattle.sd_belief.specs.Calls.{GoesOn}
-use Rattle.sd_belief.specs.View.{CoreView, history_of}
+use Rattle.sd_crash_safety.specs.Calls.{GoesOn}
+use Rattle.sd_crash_safety.specs.View.{CoreView, history_of}
 use Rattle.sd_core.specs.declared.taken.Taken.{Taken}
 use Rattle.sd_core.specs.declared.taken.Taken.TheVariants as taken
 use Rattle.sd_core.specs.Beginning.{is_down}
@@ -99,6 +99,11 @@ Awaits ended = (booked : Booked) × (holds_waits booked ≡ false) × (ended ≡
 -- a command of a seat was made, or was refused without an entry
 abbrev pub Makes : ℕ → Command → Result Receipt Refusal → Type 0
 Makes seat command result = (old : CoreView) × (new : CoreView) × IsApplied seat command (told result) old new
+
+-- a command of a seat was made, or was refused without an entry, where whoever waits for the thaw goes on
+abbrev pub MakesThawed : ℕ → Command → Result Receipt Refusal → Type 0
+MakesThawed seat command result =
+    (old : Booked) × (new : CoreView) × (holds_waits old ≡ false) × IsApplied seat command (told result) old.core new
 
 -- a worker's job was ordered; where it was begun it has this number
 abbrev pub Orders : Worker → ℕ → Reply → ℕ → Type 0

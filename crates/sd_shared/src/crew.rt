@@ -95,6 +95,6 @@ impl<R: Wait, D: Disk + Drop, H: Hold> Writer for Crew<'_, R, D, H> {
     {
         let reply = self.call(errand.call, errand.request);
         self.reports.lock(self.rt).take(&reply);
-        self.reported.notify_all();
+        self.reported.notify_one();
     }
 }

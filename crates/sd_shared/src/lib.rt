@@ -14,10 +14,12 @@ mod next;
 mod order_count;
 mod relayed_dump;
 mod reports;
+mod running;
 mod seat;
 mod settling;
 mod shared;
 mod thaw;
+mod turning;
 mod waits_ended;
 mod waking;
 

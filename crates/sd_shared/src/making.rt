@@ -2,8 +2,8 @@
 ghost use Rattle.std.specs.Prelude.{◌≡◌, ◌↔◌, ◌+◌, length, is_some, Err, IfOk, IfErr};
 ghost use Rattle.sd_command.specs.declared.refusal.Refusal.TheVariants.{JournalFull};
 ghost use Rattle.sd_journal.specs.History.{pending};
-ghost use Rattle.sd_belief.specs.Calls.{Applies, IsUnjournaled, Stays};
-ghost use Rattle.sd_belief.specs.View.{history_of};
+ghost use Rattle.sd_crash_safety.specs.Calls.{Applies, IsUnjournaled, Stays};
+ghost use Rattle.sd_crash_safety.specs.View.{history_of};
 ghost use Rattle.sd_core.specs.Answering.{IsAnswered};
 ghost use Rattle.sd_core.specs.Called.{IsApplied};
 ghost use Rattle.sd_shared.specs.Told.{told};

@@ -1,6 +1,6 @@
 //! Closing: the journal against the receipts.
 ghost use Rattle.std.specs.Prelude.{◌≡◌, ◌↔◌, IsOk, IfOk, IfErr, reverse};
-ghost use Rattle.sd_belief.specs.View.{history_of};
+ghost use Rattle.sd_crash_safety.specs.View.{history_of};
 ghost use Rattle.sd_journal.specs.Receipts.{Accounts, IsFault};
 
 use sd_core::Core;

@@ -100,13 +100,16 @@ impl PageTable {
         let _ = insert_in(&mut self.top, self.alloc, page.number(), entry);
     }
 
-    /// Takes the entry of a page out.
-    pub(crate) fn remove(&mut self, page: PageNo)
-        ensures { self.new ≡ finmap.remove self.old page }
+    /// Takes the entry of a page out, and returns it, if the page is mapped.
+    pub(crate) fn take(&mut self, page: PageNo) -> Option<Entry>
+        ensures entry { result ≡ finmap.get self.old page }
+        ensures taken { self.new ≡ finmap.remove self.old page }
     {
-        if remove_in(&mut self.top, page.number()).is_some() {
+        let before = remove_in(&mut self.top, page.number());
+        if before.is_some() {
             self.mapped -= 1;
         }
+        before
     }
 
     /// The page up to which those from one on are mapped, at most an end.

@@ -197,9 +197,18 @@ impl Tables {
         requires { is_alive self.old space ≡ true }
         ensures { self.new ≡ remove_at self.old space page }
     {
+        let _entry = self.take(space, page);
+    }
+
+    /// Takes the entry of a page out, and returns it, if the page is mapped.
+    pub fn take(&mut self, space: SpaceId, page: PageNo) -> Option<Entry>
+        requires { is_alive self.old space ≡ true }
+        ensures entry { result ≡ value_at self.old space page }
+        ensures taken { self.new ≡ remove_at self.old space page }
+    {
         let Some(table) = self.spaces.get_mut(&space) else {
-            return;
+            return None;
         };
-        table.remove(page);
+        table.take(page)
     }
 }

@@ -16,9 +16,9 @@ use Rattle.sd_gate.specs.Requests.{Asked, Made}
 use Rattle.sd_image.specs.Image.{IsImage}
 use Rattle.sd_rounds.specs.Dumper.{Dumping, Running, slot_of}
 use Rattle.sd_store_laws.specs.Beliefs.{Closing, Kept as KeptBelief}
-use Rattle.sd_belief.specs.declared.standing.Standing.TheVariants.{Open}
-use Rattle.sd_belief.specs.Calls.{AddsByOutcome, AddsByStep, IsFree, IsOut}
-use Rattle.sd_belief.specs.View.{CoreView, history_of}
+use Rattle.sd_crash_safety.specs.declared.standing.Standing.TheVariants.{Open}
+use Rattle.sd_crash_safety.specs.Calls.{AddsByOutcome, AddsByStep, IsFree, IsOut}
+use Rattle.sd_crash_safety.specs.View.{CoreView, history_of}
 use Rattle.sd_core.specs.declared.taken.Taken.{Taken}
 use Rattle.sd_core.specs.declared.taken.Taken.TheVariants.{Step, Call}
 use Rattle.sd_core.specs.Beginning.{Begins, BeginsAs, begin_refusal}

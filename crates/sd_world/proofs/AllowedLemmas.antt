@@ -19,9 +19,9 @@ use Rattle.sd_journal.specs.History.{Base, History}
 use Rattle.sd_store_laws.specs.Beliefs.{AreSlotsOf, Belief, Closed, ContentsShow, FitsBelief}
 use Rattle.sd_store_laws.specs.Gates.{IsBelievedAs, IsWeaker, LeftAsBelieved, MayBelieve}
 use Rattle.sd_store_laws.specs.Store.{IsSound, Store}
-use Rattle.sd_belief.specs.Believes.{IsCovered, ShowsLast, ShowsPending}
-use Rattle.sd_belief.specs.Shown.{ShowsAllowed}
-use Rattle.sd_belief.specs.View.{history_of}
+use Rattle.sd_crash_safety.specs.Believes.{IsCovered, ShowsLast, ShowsPending}
+use Rattle.sd_crash_safety.specs.Shown.{ShowsAllowed}
+use Rattle.sd_crash_safety.specs.View.{history_of}
 use Rattle.sd_world.specs.declared.kept.Kept.{Kept}
 use Rattle.sd_world.specs.declared.kept.Kept.TheVariants.{Nothing, Request, Outcome}
 use Rattle.sd_world.specs.Consistent.{AreInPlace, IsConsistent, IsWorld, SlotNow, slot_after, slot_now}
@@ -187,7 +187,7 @@ module _ {D : Type 0} (g : Ghosts D) (world : WorldView D) (left : LeftAsBelieve
       (was.believes.has.believed.each slot phase belief at has)
   believed_now slot phase belief at has (FirstOn.OneOutcome lane made there on) = with_one slot phase belief lane made at has there on
 
-  fits_at : (c : List (List ℕ)) → g.may_leave world.disk c → (slot : ℕ) (belief : Belief) (file : List ℕ)
+  pub fits_at : (c : List (List ℕ)) → g.may_leave world.disk c → (slot : ℕ) (belief : Belief) (file : List ℕ)
       → slice_get was.believes.beliefs slot ≡ Some belief → slice_get c slot ≡ Some file → FitsBelief belief file
   fits_at c may slot belief file has at =
       let count : length was.believes.beliefs ≡ length world.core.phases = was.believes.has.believed.count in

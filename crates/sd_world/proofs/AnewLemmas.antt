@@ -9,9 +9,9 @@ use Rattle.sd_gate.specs.declared.request_id.RequestId.{RequestId}
 use Rattle.sd_gate.specs.Fits.{SlotFits, DiskLeaves}
 use Rattle.sd_gate.specs.Laws.{found_phase}
 use Rattle.sd_store_laws.specs.GateSteps.{SyncedIsFound}
-use Rattle.sd_belief.specs.Calls.{NoneOut, StartsAnew}
-use Rattle.sd_belief.specs.Knows.{IsRefound}
-use Rattle.sd_belief.specs.View.{CoreView}
+use Rattle.sd_crash_safety.specs.Calls.{NoneOut, StartsAnew}
+use Rattle.sd_crash_safety.specs.Knows.{IsRefound}
+use Rattle.sd_crash_safety.specs.View.{CoreView}
 use Rattle.sd_world.specs.declared.kept.Kept.{Kept}
 use Rattle.sd_world.specs.declared.kept.Kept.TheVariants.{Outcome}
 use Rattle.sd_world.specs.Consistent.{IsConsistent, IsWorld, SlotNow, slot_now}

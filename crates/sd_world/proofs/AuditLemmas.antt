@@ -2,7 +2,7 @@
 use Rattle.std.proofs.Common.{◌≡◌, ◌↔◌, ℕ, Bool, List, Result, Ok, Err, IfOk, IsTrue, reverse, sym, ◌∙◌, ap}
 use Rattle.std.proofs.lemmas.List.{reverse-reverse}
 use Rattle.sd_audit.specs.ShowsOne.{ShowsOne}
-use Rattle.sd_belief.specs.Shown.{ShowsAllowed}
+use Rattle.sd_crash_safety.specs.Shown.{ShowsAllowed}
 use Rattle.sd_journal.specs.History.{Base, History}
 use Rattle.sd_journal.specs.Laws.{JournalLaws}
 use Rattle.sd_restore.specs.declared.fault.Fault.{Fault}

@@ -24,9 +24,9 @@ use Rattle.sd_merge.specs.Merger.{Doing, Retiring, begun_merge, copying, due, op
 use Rattle.sd_pagetable.specs.Contents.{Contents, plain_of}
 use Rattle.sd_pagetable.specs.declared.access_error.AccessError.{AccessError}
 use Rattle.sd_pagetable.specs.declared.access_error.AccessError.TheVariants.{Refused, Segv}
-use Rattle.sd_belief.specs.Calls.{AddsByCancel, AddsByOrder, AddsByStep, IsOut}
+use Rattle.sd_crash_safety.specs.Calls.{AddsByCancel, AddsByOrder, AddsByStep, IsOut}
 use Rattle.sd_journal.specs.History.{pending}
-use Rattle.sd_belief.specs.View.{CoreView, history_of}
+use Rattle.sd_crash_safety.specs.View.{CoreView, history_of}
 use Rattle.sd_core.specs.declared.taken.Taken.{Taken}
 use Rattle.sd_core.specs.declared.taken.Taken.TheVariants.{Step as StepTaken, Call as CallTaken}
 use Rattle.sd_core.specs.Answering.{IsAnswered}

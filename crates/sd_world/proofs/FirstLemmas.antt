@@ -15,7 +15,7 @@ use Rattle.sd_gate.specs.declared.worker.Worker.{Worker}
 use Rattle.sd_gate.specs.declared.worker.Worker.TheVariants.{Dumper, Merger, Opener}
 use Rattle.sd_gate.specs.Calls.{HasCause}
 use Rattle.sd_gate.specs.Requests.{Asked}
-use Rattle.sd_belief.specs.View.{CoreView, index}
+use Rattle.sd_crash_safety.specs.View.{CoreView, index}
 use Rattle.sd_world.specs.declared.call_state.CallState.{CallState}
 use Rattle.sd_world.specs.declared.call_state.CallState.TheVariants as its
 use Rattle.sd_world.specs.declared.kept.Kept.{Kept}

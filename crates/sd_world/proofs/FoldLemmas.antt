@@ -13,7 +13,7 @@ use Rattle.sd_journal.specs.Allowed.{IsAllowed, Shown}
 use Rattle.sd_journal.specs.History.{Base, History, at_base, at_freeze, memory_after, pending}
 use Rattle.sd_journal.specs.Legal.{IsAbove, IsLegal, MayFollow}
 use Rattle.sd_journal.specs.Trimming.{IsEnded, TrimLaws, base_after}
-use Rattle.sd_belief.specs.Shown.{ShowsAllowed}
+use Rattle.sd_crash_safety.specs.Shown.{ShowsAllowed}
 use Rattle.sd_world.specs.Points.{Folds}
 use Rattle.sd_world.specs.Promise.{ShowsFreeze, ShowsReply}
 

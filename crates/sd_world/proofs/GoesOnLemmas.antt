@@ -5,8 +5,8 @@ use Rattle.sd_command.specs.declared.reply.Reply.{Reply}
 use Rattle.sd_disk.specs.Crash.{Within}
 use Rattle.sd_disk.specs.Spans.{LeavesOnly, nothing_called, span_widened, spans_join}
 use Rattle.sd_disk.specs.declared.disk.Disk.{Ghosts}
-use Rattle.sd_belief.specs.Shown.{ShowsAllowed}
-use Rattle.sd_belief.specs.View.{history_of}
+use Rattle.sd_crash_safety.specs.Shown.{ShowsAllowed}
+use Rattle.sd_crash_safety.specs.View.{history_of}
 use Rattle.sd_world.specs.declared.event.Event.{Event}
 use Rattle.sd_world.specs.Runs.{IsStep, Runs, ShowsAllowedWithin}
 use Rattle.sd_world.specs.View.{WorldView}

@@ -12,10 +12,10 @@ use Rattle.sd_gate.specs.Fits.{Reads}
 use Rattle.sd_gate.specs.Laws.{GivenUpFits, WritesCommute}
 use Rattle.sd_gate.specs.Phases.{after as phase_after, body_after, bodies_after, phases_after}
 use Rattle.sd_gate.specs.Requests.{Made}
-use Rattle.sd_belief.specs.Believes.{Believes}
-use Rattle.sd_belief.specs.Calls.{AreGivenUp, HandedIn, IsOut}
-use Rattle.sd_belief.specs.InUse.{IsPageOf}
-use Rattle.sd_belief.specs.View.{CoreView}
+use Rattle.sd_crash_safety.specs.Believes.{Believes}
+use Rattle.sd_crash_safety.specs.Calls.{AreGivenUp, HandedIn, IsOut}
+use Rattle.sd_crash_safety.specs.InUse.{IsPageOf}
+use Rattle.sd_crash_safety.specs.View.{CoreView}
 use Rattle.sd_world.specs.declared.kept.Kept.{Kept}
 use Rattle.sd_world.specs.declared.kept.Kept.TheVariants.{Nothing, Outcome}
 use Rattle.sd_world.specs.Consistent.{AreInPlace, IsConsistent, IsWorld, slot_now}

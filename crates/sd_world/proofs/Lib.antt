@@ -4,7 +4,10 @@ mod AllowedLemmas
 mod AnewLemmas
 mod BegunLemmas
 mod AuditLemmas
+mod BusyLemmas
 mod Calls
+mod CommandLemmas
+mod CopiedLemmas
 mod FirstLemmas
 mod FoldLemmas
 mod GoesLemmas
@@ -35,3 +38,4 @@ pub mod GoesOnLemmas
 mod JobLemmas
 pub mod PointLemmas
 mod StartLemmas
+pub mod SavedLemmas

@@ -7,8 +7,8 @@ use Rattle.sd_command.specs.declared.reply.Reply.TheVariants as reply
 use Rattle.sd_disk.specs.declared.disk.Disk.{Ghosts}
 use Rattle.sd_gate.specs.declared.worker.Worker.{Worker}
 use Rattle.sd_journal.specs.History.{History}
-use Rattle.sd_belief.specs.Calls.{AddsByStep, IsOut}
-use Rattle.sd_belief.specs.View.{CoreView, history_of}
+use Rattle.sd_crash_safety.specs.Calls.{AddsByStep, IsOut}
+use Rattle.sd_crash_safety.specs.View.{CoreView, history_of}
 use Rattle.sd_world.specs.declared.event.Event.{Event}
 use Rattle.sd_world.specs.declared.event.Event.TheVariants.{Command, Begin, Work, TakeUp, HandInAt, Perform, PerformAt, Merge, Cancel, Reopen, Trim}
 use Rattle.sd_world.specs.Consistent.{IsWorld}

@@ -18,8 +18,8 @@ use Rattle.sd_image.specs.Image.{IsImage}
 use Rattle.sd_journal.specs.History.{History}
 use Rattle.sd_merge.specs.Merger as merger
 use Rattle.sd_merge.specs.Merger.{Retiring, list_of, retiring}
-use Rattle.sd_belief.specs.Calls.{AddsByStep, IsFree, IsOut}
-use Rattle.sd_belief.specs.View.{CoreView, history_of}
+use Rattle.sd_crash_safety.specs.Calls.{AddsByStep, IsFree, IsOut}
+use Rattle.sd_crash_safety.specs.View.{CoreView, history_of}
 use Rattle.sd_core.specs.GoingOn.{AreOwnLanes}
 use Rattle.sd_core.specs.Lasting.{LeavesMerged}
 use Rattle.sd_core.specs.Merging.{IsAsBelieved, OpensMerged}
@@ -55,7 +55,7 @@ reads_free contents may_leave phases kept bodies outs slot phase are stand free 
 no_step : (worker : Worker) (core : CoreView) (answer : Reply) (serial : ℕ) (old new : History) → answer ≡ reply.Merged serial → AddsByStep worker core answer old new → ⊥
 no_step worker core answer serial old new is adds = subst (λ a. AddsByStep worker core a old new) is adds
 
-same_opened : (a b : Opened) → Some (Some a) ≡ Some (Some b) → a ≡ b
+pub same_opened : (a b : Opened) → Some (Some a) ≡ Some (Some b) → a ≡ b
 same_opened a b e = cc
 
 module _ {D : Type 0} (g : Ghosts D) (old new : WorldView D) (world : IsWorld g old) (law : WritesCommute) (gives : GivenUpFits (g.contents old.disk) (g.may_leave old.disk))
@@ -65,16 +65,16 @@ module _ {D : Type 0} (g : Ghosts D) (old new : WorldView D) (world : IsWorld g 
   none_taken worker answer serial (TakesUp.call request taken left worked) is = (let no : reply.Worked ≡ reply.Merged serial = sym worked ∙ is in cc)
 
   module _ (worker : Worker) (place : ℕ) (answer : Reply) (hands : HandsInAt worker place old.core old.kept answer new.core new.kept) (was : IsConsistent g old) where
-    out : IsOut old.core hands.made.request.id
+    pub out : IsOut old.core hands.made.request.id
     out = is_out g old new world hands.lane hands.made hands.is
 
-    stands : (new.core.outs ≡ map id_of new.kept)
+    pub stands : (new.core.outs ≡ map id_of new.kept)
         × Stand (g.contents old.disk) (g.may_leave old.disk) new.core.phases new.kept (bodies_after was.bodies hands.made.request.id hands.made.request.bytes)
     stands = subst (λ kept. (new.core.outs ≡ map id_of kept)
         × Stand (g.contents old.disk) (g.may_leave old.disk) new.core.phases kept (bodies_after was.bodies hands.made.request.id hands.made.request.bytes)) (sym hands.hands.left)
         (handed_stands g old.disk old.core new.core old.kept hands.lane hands.made answer law hands.is gives hands.hands.does.handed world was)
 
-    believed : hands.made.request.id.worker ≡ Merger → IsAsBelieved old.core hands.made.request was.bodies
+    pub believed : hands.made.request.id.worker ≡ Merger → IsAsBelieved old.core hands.made.request was.bodies
     believed merger =
         let lane_is : hands.lane ≡ 1 = merger_lane hands.lane (sym (own hands.lane hands.made.request.id
         (ap (λ outs. slice_get outs hands.lane) world.outs ∙ get_map id_of old.kept hands.lane (Outcome hands.made) hands.is)) ∙ merger) in

@@ -11,8 +11,8 @@ use Rattle.sd_gate.specs.Calls.{is_done}
 use Rattle.sd_gate.specs.Requests.{Made}
 use Rattle.sd_disk.specs.declared.disk.Disk.{Ghosts}
 use Rattle.sd_rounds.specs.Dumper.{Dumping, Running}
-use Rattle.sd_belief.specs.Calls.{IsOut, running_number}
-use Rattle.sd_belief.specs.View.{CoreView}
+use Rattle.sd_crash_safety.specs.Calls.{IsOut, running_number}
+use Rattle.sd_crash_safety.specs.View.{CoreView}
 use Rattle.sd_core.specs.declared.taken.Taken.{Taken}
 use Rattle.sd_core.specs.declared.taken.Taken.TheVariants.{Step, Call}
 use Rattle.sd_core.specs.Beginning.{BeginsAs, begin_refusal}

@@ -12,10 +12,10 @@ use Rattle.sd_gate.specs.Looks.{IsTold}
 use Rattle.sd_gate.specs.Phases.{after as phase_after, body_after, is_ready}
 use Rattle.sd_gate.specs.Requests.{Asked, Made}
 use Rattle.sd_gate.specs.Sequences.{data_place}
-use Rattle.sd_belief.specs.Believes.{Believes}
-use Rattle.sd_belief.specs.InUse.{IsPageOf}
-use Rattle.sd_belief.specs.Laws.{PerformedIsBelieved}
-use Rattle.sd_belief.specs.View.{CoreView}
+use Rattle.sd_crash_safety.specs.Believes.{Believes}
+use Rattle.sd_crash_safety.specs.InUse.{IsPageOf}
+use Rattle.sd_crash_safety.specs.Laws.{PerformedIsBelieved}
+use Rattle.sd_crash_safety.specs.View.{CoreView}
 use Rattle.sd_world.specs.declared.kept.Kept.{Kept}
 use Rattle.sd_world.specs.declared.kept.Kept.TheVariants.{Request, Outcome}
 use Rattle.sd_world.specs.Consistent.{AreInPages, AreInPlace, IsConsistent, IsWorld, SlotNow, slot_after, slot_now}

@@ -14,9 +14,9 @@ use Rattle.sd_journal.specs.History.{Base, History, at_freeze}
 use Rattle.sd_journal.specs.Legal.{IsLegal}
 use Rattle.sd_journal.specs.Marked.{Marked, Noted, Told, entries_of}
 use Rattle.sd_journal.specs.Trimming.{TrimLaws}
-use Rattle.sd_belief.specs.Calls.{AddsByCancel, AddsByOrder, IsJournaled, IsUnjournaled, running_number}
-use Rattle.sd_belief.specs.Shown.{ShowsAllowed}
-use Rattle.sd_belief.specs.View.{CoreView, history_of}
+use Rattle.sd_crash_safety.specs.Calls.{AddsByCancel, AddsByOrder, IsJournaled, IsUnjournaled, running_number}
+use Rattle.sd_crash_safety.specs.Shown.{ShowsAllowed}
+use Rattle.sd_crash_safety.specs.View.{CoreView, history_of}
 use Rattle.sd_world.specs.declared.event.Event.{Event}
 use Rattle.sd_world.specs.declared.event.Event.TheVariants.{Command as CommandEvent, Begin, Work, TakeUp, HandInAt, Perform, PerformAt, Merge, Cancel, Reopen, Trim}
 use Rattle.sd_world.specs.Adds.{Adds, AddsByCommand, AddsByPerform, AddsByWork}

@@ -10,7 +10,7 @@ use Rattle.sd_disk.specs.declared.disk.Disk.{Ghosts}
 use Rattle.sd_gate.specs.declared.request_id.RequestId.{RequestId}
 use Rattle.sd_gate.specs.declared.worker.Worker.{Worker}
 use Rattle.sd_gate.specs.declared.worker.Worker.TheVariants.{Dumper, Merger, Opener}
-use Rattle.sd_belief.specs.View.{CoreView, index}
+use Rattle.sd_crash_safety.specs.View.{CoreView, index}
 use Rattle.sd_core.specs.declared.taken.Taken.TheVariants.{Step as StepTaken}
 use Rattle.sd_core.specs.GoingOn.{CanGoOn, HasNoneOut, OpenerAsksAlone}
 use Rattle.sd_core.specs.Refusals.{is_idle}

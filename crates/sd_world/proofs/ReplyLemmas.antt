@@ -17,9 +17,9 @@ use Rattle.sd_journal.specs.Allowed.{IsLastPair, IsPendingPair, Shown}
 use Rattle.sd_journal.specs.History.{Base, History, at_freeze, last, memory_after, pending, unless_it_is}
 use Rattle.sd_journal.specs.Legal.{IsLegal}
 use Rattle.sd_journal.specs.Marked.{IsMarked, Marked, Noted, Told, entries_of}
-use Rattle.sd_belief.specs.Calls.{AddsByCancel, AddsByOrder}
-use Rattle.sd_belief.specs.Shown.{ShowsAllowed}
-use Rattle.sd_belief.specs.View.{CoreView, history_of}
+use Rattle.sd_crash_safety.specs.Calls.{AddsByCancel, AddsByOrder}
+use Rattle.sd_crash_safety.specs.Shown.{ShowsAllowed}
+use Rattle.sd_crash_safety.specs.View.{CoreView, history_of}
 use Rattle.sd_gate.specs.declared.worker.Worker.{Worker}
 use Rattle.sd_world.specs.declared.event.Event.{Event}
 use Rattle.sd_world.specs.declared.event.Event.TheVariants.{Command as CommandEvent, Begin, Work, TakeUp, HandInAt, Perform, PerformAt, Merge, Cancel, Reopen, Trim}

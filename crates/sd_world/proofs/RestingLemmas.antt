@@ -5,8 +5,8 @@ use Rattle.sd_disk.specs.declared.disk.Disk.{Ghosts}
 use Rattle.sd_gate.specs.declared.phase.Phase.{Phase}
 use Rattle.sd_gate.specs.declared.request_id.RequestId.{RequestId}
 use Rattle.sd_gate.specs.Fits.{DiskLeaves, SlotFits}
-use Rattle.sd_belief.specs.Calls.{NoneOut}
-use Rattle.sd_belief.specs.View.{CoreView}
+use Rattle.sd_crash_safety.specs.Calls.{NoneOut}
+use Rattle.sd_crash_safety.specs.View.{CoreView}
 use Rattle.sd_world.specs.declared.kept.Kept.{Kept}
 use Rattle.sd_world.specs.Consistent.{IsConsistent, IsWorld, SlotNow, slot_now}
 use Rattle.sd_world.specs.View.{asked_of, id_of}

@@ -9,7 +9,7 @@ use Rattle.sd_journal.specs.History.{Base, History}
 use Rattle.sd_restore.specs.declared.fault.Fault.{Fault}
 use Rattle.sd_restore.specs.declared.fault.Fault.TheVariants.{EmptyChain, Damaged, Device, OutOfMemory}
 use Rattle.sd_restore.specs.Faulty.{Names}
-use Rattle.sd_belief.specs.Shown.{ShowsAllowed}
+use Rattle.sd_crash_safety.specs.Shown.{ShowsAllowed}
 use Rattle.sd_world.specs.Restored.{IsRestored, IsRestoredAs}
 
 restored_as : ShownOnce → (contents : List (List ℕ)) (shown : Shown) (result : Result Snapshot Fault) → Shows contents shown

@@ -10,9 +10,9 @@ use Rattle.sd_gate.specs.declared.worker.Worker.TheVariants.{Dumper, Opener}
 use Rattle.sd_journal.specs.declared.entry.Entry.TheVariants as entry
 use Rattle.sd_journal.specs.History.{Base, History, last as last_number, pending}
 use Rattle.sd_journal.specs.Marked.{entries_of}
-use Rattle.sd_belief.specs.declared.standing.Standing.TheVariants.{Open}
-use Rattle.sd_belief.specs.Calls.{AddsByOrder}
-use Rattle.sd_belief.specs.View.{CoreView, history_of}
+use Rattle.sd_crash_safety.specs.declared.standing.Standing.TheVariants.{Open}
+use Rattle.sd_crash_safety.specs.Calls.{AddsByOrder}
+use Rattle.sd_crash_safety.specs.View.{CoreView, history_of}
 use Rattle.sd_core.specs.declared.taken.Taken.TheVariants.{Step}
 use Rattle.sd_core.specs.Called.{IsTakenUp}
 use Rattle.sd_core.specs.Grown.{has_swept}

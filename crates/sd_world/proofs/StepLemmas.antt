@@ -7,8 +7,8 @@ use Rattle.sd_gate.specs.declared.phase.Phase.{Phase}
 use Rattle.sd_gate.specs.declared.worker.Worker.{Worker}
 use Rattle.sd_gate.specs.Laws.{GivenUpFits, WritesCommute}
 use Rattle.sd_store_laws.specs.GateSteps.{SyncedIsFound}
-use Rattle.sd_belief.specs.Calls.{HandsOut, Stays}
-use Rattle.sd_belief.specs.Laws.{PerformedIsBelieved}
+use Rattle.sd_crash_safety.specs.Calls.{HandsOut, Stays}
+use Rattle.sd_crash_safety.specs.Laws.{PerformedIsBelieved}
 use Rattle.sd_world.specs.declared.event.Event.{Event}
 use Rattle.sd_world.specs.declared.event.Event.TheVariants.{Command, Begin, Work, TakeUp, HandInAt, Perform, PerformAt, Merge, Cancel, Reopen, Trim}
 use Rattle.sd_world.specs.declared.kept.Kept.TheVariants.{Nothing, Request, Outcome}

@@ -8,9 +8,9 @@ use Rattle.sd_disk.specs.declared.disk.Disk.{Ghosts}
 use Rattle.sd_gate.specs.declared.request_id.RequestId.{RequestId}
 use Rattle.sd_gate.specs.declared.worker.Worker.{Worker}
 use Rattle.sd_gate.specs.Requests.{Asked, Made}
-use Rattle.sd_belief.specs.Calls.{HandsOut, IsOut, MakesStep, Stays}
-use Rattle.sd_belief.specs.OpenerSteps.{nobody}
-use Rattle.sd_belief.specs.View.{CoreView, Numbers}
+use Rattle.sd_crash_safety.specs.Calls.{HandsOut, IsOut, MakesStep, Stays}
+use Rattle.sd_crash_safety.specs.OpenerSteps.{nobody}
+use Rattle.sd_crash_safety.specs.View.{CoreView, Numbers}
 use Rattle.sd_core.specs.declared.taken.Taken.TheVariants.{Step}
 use Rattle.sd_core.specs.Called.{IsHandedIn, IsTakenUp}
 use Rattle.sd_core.specs.Flags.{AsksFlags, FlagsByBegin, FlagsByCancel, FlagsByOutcome, FlagsByReply, HasFlags, begins_image, numbers_asked, ticket_after}

@@ -9,8 +9,8 @@ use Rattle.sd_journal.specs.History.{last}
 use Rattle.sd_journal.specs.Marked.{Marked, entries_of}
 use Rattle.sd_journal.specs.Trimming.{IsFolded}
 use Rattle.sd_receipts.specs.declared.folded.Folded.{Folded}
-use Rattle.sd_belief.specs.Trims.{trimmed}
-use Rattle.sd_belief.specs.View.{CoreView, history_of}
+use Rattle.sd_crash_safety.specs.Trims.{trimmed}
+use Rattle.sd_crash_safety.specs.View.{CoreView, history_of}
 use Rattle.sd_core.specs.Trims.{Trims, TrimsFront, unfolded}
 use Rattle.sd_world.specs.Trims.{TrimsFrontTo, TrimsJournal}
 

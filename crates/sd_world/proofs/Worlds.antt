@@ -8,9 +8,9 @@ use Rattle.sd_gate.specs.declared.worker.Worker.{Worker}
 use Rattle.sd_gate.specs.Fits.{SlotFits}
 use Rattle.sd_gate.specs.Laws.{GivenUpFits}
 use Rattle.sd_gate.specs.Requests.{Asked}
-use Rattle.sd_belief.specs.Believes.{Believes}
-use Rattle.sd_belief.specs.Calls.{AreGivenUp, HandsOut, Stays}
-use Rattle.sd_belief.specs.View.{CoreView}
+use Rattle.sd_crash_safety.specs.Believes.{Believes}
+use Rattle.sd_crash_safety.specs.Calls.{AreGivenUp, HandsOut, Stays}
+use Rattle.sd_crash_safety.specs.View.{CoreView}
 use Rattle.sd_world.specs.declared.kept.Kept.{Kept}
 use Rattle.sd_world.specs.declared.kept.Kept.TheVariants.{Nothing, Request, Outcome}
 use Rattle.sd_world.specs.Consistent.{AreInPages, IsWorld, SlotNow, slot_now}

@@ -8,8 +8,8 @@ use Rattle.sd_gate.specs.declared.worker.Worker.{Worker}
 use Rattle.sd_gate.specs.declared.worker.Worker.TheVariants.{Dumper, Opener}
 use Rattle.sd_journal.specs.declared.entry.Entry.TheVariants.{Applied, Acked, Reopened}
 use Rattle.sd_journal.specs.History.{History}
-use Rattle.sd_belief.specs.Calls.{AddsByCancel, AddsByOrder, AddsByWorked, IsJournaled, IsUnjournaled}
-use Rattle.sd_belief.specs.View.{CoreView, history_of}
+use Rattle.sd_crash_safety.specs.Calls.{AddsByCancel, AddsByOrder, AddsByWorked, IsJournaled, IsUnjournaled}
+use Rattle.sd_crash_safety.specs.View.{CoreView, history_of}
 use Rattle.sd_world.specs.declared.event.Event.{Event}
 use Rattle.sd_world.specs.declared.event.Event.TheVariants.{Command as CommandEvent, Begin, Work, TakeUp, HandInAt, Perform, PerformAt, Merge, Cancel, Reopen, Trim}
 

@@ -5,7 +5,7 @@ use Rattle.sd_command.specs.declared.reply.Reply.TheVariants as reply
 use Rattle.sd_disk.specs.declared.disk.Disk.{Ghosts}
 use Rattle.sd_merge.specs.Merger as merger
 use Rattle.sd_merge.specs.Merger.{Retiring, list_of, retiring}
-use Rattle.sd_belief.specs.View.{CoreView}
+use Rattle.sd_crash_safety.specs.View.{CoreView}
 use Rattle.sd_core.specs.Merging.{OpensMerged}
 use Rattle.sd_world.specs.Merges.{AreCutThere, IsMergedThere}
 use Rattle.sd_world.specs.View.{WorldView}

@@ -8,8 +8,8 @@ use Rattle.sd_gate.specs.Fits.{SlotFits}
 use Rattle.sd_gate.specs.Looks.{IsTold}
 use Rattle.sd_gate.specs.Phases.{after, body_after}
 use Rattle.sd_gate.specs.Requests.{Asked, Made}
-use Rattle.sd_belief.specs.Believes.{Believes}
-use Rattle.sd_belief.specs.InUse.{IsPageOf}
+use Rattle.sd_crash_safety.specs.Believes.{Believes}
+use Rattle.sd_crash_safety.specs.InUse.{IsPageOf}
 use Rattle.sd_world.specs.declared.kept.Kept.{Kept}
 use Rattle.sd_world.specs.declared.kept.Kept.TheVariants.{Nothing, Request, Outcome}
 use Rattle.sd_world.specs.View.{WorldView, asked_of, id_of}

@@ -3,6 +3,7 @@ pub mod Adds
 pub mod Begun
 pub mod Closing
 pub mod Consistent
+pub mod Copied
 pub mod Goes
 pub mod Jobs
 pub mod KeptCheckpoint

@@ -13,7 +13,7 @@ use Rattle.sd_merge.specs.declared.retired.Retired.{Retired}
 use Rattle.sd_merge.specs.Merger as merger
 use Rattle.sd_merge.specs.Merger.{Retiring, list_of, retiring}
 use Rattle.sd_store_laws.specs.Makers.{IsMergedOf}
-use Rattle.sd_belief.specs.Copies.{AreImagesOf}
+use Rattle.sd_crash_safety.specs.Copies.{AreImagesOf}
 use Rattle.sd_core.specs.Merging.{OpensMerged}
 use Rattle.sd_world.specs.declared.call_state.CallState.TheVariants as its
 use Rattle.sd_world.specs.declared.event.Event.{Event}

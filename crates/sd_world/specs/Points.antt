@@ -5,8 +5,8 @@ use Rattle.sd_disk.specs.declared.disk.Disk.{Ghosts}
 use Rattle.sd_journal.specs.History.{Base, History}
 use Rattle.sd_journal.specs.Legal.{IsLegal}
 use Rattle.sd_journal.specs.Trimming.{IsEnded, base_after}
-use Rattle.sd_belief.specs.Calls.{running_number}
-use Rattle.sd_belief.specs.View.{history_of}
+use Rattle.sd_crash_safety.specs.Calls.{running_number}
+use Rattle.sd_crash_safety.specs.View.{history_of}
 use Rattle.sd_world.specs.declared.event.Event.{Event}
 use Rattle.sd_world.specs.Promise.{Moves, Point}
 use Rattle.sd_world.specs.Runs.{IsStep}

@@ -5,12 +5,13 @@ use Rattle.sd_disk.specs.Crash.{Within}
 use Rattle.sd_disk.specs.Spans.{LeavesOnly}
 use Rattle.sd_disk.specs.declared.disk.Disk.{Ghosts}
 use Rattle.sd_journal.specs.Marked.{IsTracked}
-use Rattle.sd_belief.specs.Shown.{ShowsAllowed}
-use Rattle.sd_belief.specs.View.{history_of}
+use Rattle.sd_crash_safety.specs.Shown.{ShowsAllowed}
+use Rattle.sd_crash_safety.specs.View.{history_of}
 use Rattle.sd_world.specs.declared.event.Event.{Event}
 use Rattle.sd_world.specs.declared.event.Event.TheVariants.{Trim}
 use Rattle.sd_world.specs.Adds.{Adds}
 use Rattle.sd_world.specs.Closing.{ClosesBehind, EndsBehind}
+use Rattle.sd_world.specs.Copied.{DoesCopy}
 use Rattle.sd_world.specs.KeptCheckpoint.{KeepsCheckpoint}
 use Rattle.sd_world.specs.Little.{DoesLittle}
 use Rattle.sd_world.specs.Merges.{DoesMerge, KeepsMerged}
@@ -31,6 +32,8 @@ pub record IsStep {D : Type 0} (g : Ghosts D) (event : Event) (old : WorldView D
   pub keeps : KeepsMerged g old new
   pub closes : g.is_honest new.disk → ClosesBehind g old new
   pub ends : g.is_honest new.disk → EndsBehind g old answer new
+  -- that a merged image is read from what stands on the disk, and which images are to be closed behind it
+  pub copies : g.is_honest new.disk → DoesCopy g event old new
   -- for what alone the next step of a job is refused
   pub jobs : g.is_honest new.disk → GoesOnUnless event old answer
   -- and the disk was honest before it

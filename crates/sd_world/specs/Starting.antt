@@ -8,7 +8,7 @@ use Rattle.sd_disk.specs.Reads.{OnlyReads}
 use Rattle.sd_disk.specs.declared.disk.Disk.{Ghosts}
 use Rattle.sd_gate.specs.declared.worker.Worker.TheVariants.{Opener}
 use Rattle.sd_image.specs.Shows.{Shows}
-use Rattle.sd_belief.specs.declared.standing.Standing.TheVariants.{NotOpen}
+use Rattle.sd_crash_safety.specs.declared.standing.Standing.TheVariants.{NotOpen}
 use Rattle.sd_core.specs.Starts.{shown_base}
 use Rattle.sd_world.specs.declared.event.Event.TheVariants.{Reopen}
 use Rattle.sd_world.specs.declared.open_fault.OpenFault.{OpenFault}

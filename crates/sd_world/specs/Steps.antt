@@ -17,9 +17,9 @@ use Rattle.sd_gate.specs.Calls.{HasCause, IsAnswerTo, Tells, is_done}
 use Rattle.sd_gate.specs.Fits.{SlotFits}
 use Rattle.sd_gate.specs.Phases.{after, body_after, is_ready}
 use Rattle.sd_gate.specs.Requests.{Asked, Made}
-use Rattle.sd_belief.specs.Calls.{GoesOn}
-use Rattle.sd_belief.specs.Laws.{IsMadeOf}
-use Rattle.sd_belief.specs.View.{CoreView}
+use Rattle.sd_crash_safety.specs.Calls.{GoesOn}
+use Rattle.sd_crash_safety.specs.Laws.{IsMadeOf}
+use Rattle.sd_crash_safety.specs.View.{CoreView}
 use Rattle.sd_core.specs.declared.taken.Taken.TheVariants.{Step as StepTaken, Call as CallTaken}
 use Rattle.sd_core.specs.Called.{IsApplied, IsBegun, IsCancelOrder, IsHandedIn, IsMergeOrder, IsReopenOrder, IsTakenUp}
 use Rattle.sd_world.specs.declared.event.Event.{Event}

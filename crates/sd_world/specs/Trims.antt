@@ -6,8 +6,8 @@ use Rattle.sd_command.specs.declared.reply.Reply.TheVariants as reply
 use Rattle.sd_journal.specs.History.{last}
 use Rattle.sd_journal.specs.Marked.{Marked, entries_of}
 use Rattle.sd_journal.specs.Trimming.{IsFolded}
-use Rattle.sd_belief.specs.Trims.{trimmed}
-use Rattle.sd_belief.specs.View.{CoreView, history_of}
+use Rattle.sd_crash_safety.specs.Trims.{trimmed}
+use Rattle.sd_crash_safety.specs.View.{CoreView, history_of}
 use Rattle.sd_core.specs.Trims.{MayRefuse, folded_with, unfolded}
 
 -- The front is folded into the base, and nothing else changes; the answer is how many entries it had.

@@ -1,11 +1,11 @@
 -- A world as callers see it.
-use Rattle.std.specs.Prelude.{◌≡◌, ℕ, Bool, false, ◌&&◌, ◌==◌, nat_lt, List, Option, Some, None, slice_get, replicate, refl}
+use Rattle.std.specs.Prelude.{◌≡◌, ℕ, Bool, true, false, cond, ◌&&◌, ◌==◌, nat_lt, List, Option, Some, None, slice_get, replicate, refl}
 use Rattle.std.specs.Coded.{Coded, code_by, coded×}
 use Rattle.std.specs.List.{count_by, list_any}
 use Rattle.sd_gate.specs.declared.request_id.RequestId.{RequestId}
 use Rattle.sd_gate.specs.declared.worker.Worker.{Worker}
 use Rattle.sd_gate.specs.Requests.{Asked}
-use Rattle.sd_belief.specs.View.{CoreView, Rest, core_code, index}
+use Rattle.sd_crash_safety.specs.View.{CoreView, Rest, core_code, index}
 use Rattle.sd_world.specs.declared.call_state.CallState.{CallState}
 use Rattle.sd_world.specs.declared.call_state.CallState.TheVariants as its
 use Rattle.sd_world.specs.declared.kept.Kept.{Kept}
@@ -25,6 +25,18 @@ world_code {D} rest disk kept = code_by (CoreView × (D × List Kept)) (coded× 
 -- nothing is
 abbrev pub nothing_kept : List Kept
 nothing_kept = replicate 11 Nothing
+
+-- how many lanes keep something
+abbrev pub is_busy : Kept → Bool
+is_busy Nothing = false
+is_busy (Request request) = true
+is_busy (Outcome made) = true
+
+abbrev pub busy_of : Kept → ℕ
+busy_of kept = cond (is_busy kept) 1 0
+
+abbrev pub busy_count : List Kept → ℕ
+busy_count kept = count_by is_busy kept
 
 -- ---- one lane
 

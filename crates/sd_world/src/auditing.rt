@@ -1,8 +1,8 @@
 //! What a store shows against what the journal of a core allows.
 ghost use Rattle.std.specs.Prelude.{◌≡◌, ◌≢◌, ◌↔◌, ◌⊎◌, ◌<◌, ℕ, Option, Err, IfOk, IfErr, IsErrOf, IsTrue};
 ghost use Rattle.sd_areas.specs.PlainMemory.{PlainMemory};
-ghost use Rattle.sd_belief.specs.Shown.{ShowsAllowed};
-ghost use Rattle.sd_belief.specs.View.{history_of};
+ghost use Rattle.sd_crash_safety.specs.Shown.{ShowsAllowed};
+ghost use Rattle.sd_crash_safety.specs.View.{history_of};
 ghost use Rattle.sd_disk.specs.Reads.{OnlyReads};
 ghost use Rattle.sd_image.specs.Shows.{Shows};
 ghost use Rattle.sd_restore.specs.Faulty.{IsBrokenChain, IsDamage, Names};

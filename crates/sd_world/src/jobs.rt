@@ -1,11 +1,14 @@
 //! A worker's events, one after the other, and its jobs.
-ghost use Rattle.std.specs.Prelude.{◌≡◌, ◌<◌, ◌≤◌, [], ◌∷◌, false, true};
+ghost use Rattle.std.specs.Prelude.{◌≡◌, ◌<◌, ◌≤◌, [], ◌∷◌, None, Some, false, true, IfOk};
 ghost use Rattle.sd_command.specs.declared.reply.Reply.TheVariants as reply;
-ghost use Rattle.sd_belief.specs.View.{history_of};
+ghost use Rattle.sd_crash_safety.specs.View.{history_of};
 ghost use Rattle.sd_core.specs.Working.{left_by};
 ghost use Rattle.sd_disk.specs.Crash.{Within};
 ghost use Rattle.sd_gate.specs.declared.worker.Worker.{Worker as WorkerKind};
 ghost use Rattle.sd_gate.specs.declared.worker.Worker.TheVariants.{Dumper, Merger, Opener};
+ghost use Rattle.sd_image.specs.Shows.{Shows};
+ghost use Rattle.sd_journal.specs.History.{pending};
+ghost use Rattle.sd_pagetable.specs.Contents.{plain_of};
 ghost use Rattle.sd_world.specs.declared.event.Event.TheVariants.{Begin, Merge, Perform, Reopen, Work};
 ghost use Rattle.sd_world.specs.Goes.{GoesOn};
 ghost use Rattle.sd_world.specs.Jobs.{AreDriven, EndsAs, GoesByJob, IsDriven, IsFinished, IsJob, is_end, last_reply, next_event};
@@ -227,7 +230,12 @@ impl<D: Disk> World<D> {
         ensures promise { D.is_honest self.new.disk → (first : Point D) → StandsAt self.old first
             → (last : Point D) × StandsAt self.new last
             × GoesByJob D.Disk (Begin rounds ∷ []) Dumper first (last_reply reply.Acked result) last }
+        // The memory stays as it was, and where no checkpoint was pending it is what `Ok(n)` saved.
+        ensures memory { plain_of self.new.core.memory ≡ plain_of self.old.core.memory }
+        ensures saves { IfOk result (λ n. D.is_honest self.new.disk → pending (history_of self.old.core) ≡ None
+            → Within (D.may_leave self.new.disk) (λ c. Shows c (Some (n, plain_of self.old.core.memory)))) }
     {
+        self.sound();
         acked(self.do_job(Event::Begin(rounds), Worker::Dumper, &mut Unwatched))
     }
 
@@ -249,7 +257,10 @@ impl<D: Disk> World<D> {
         ensures promise { D.is_honest self.new.disk → (first : Point D) → StandsAt self.old first
             → (last : Point D) × StandsAt self.new last
             × GoesByJob D.Disk (Merge ∷ []) Merger first (last_reply reply.Merged result) last }
+        // The memory stays as it was.
+        ensures memory { plain_of self.new.core.memory ≡ plain_of self.old.core.memory }
     {
+        self.sound();
         merged(self.do_job(Event::Merge, Worker::Merger, &mut Unwatched))
     }
 
@@ -273,7 +284,10 @@ impl<D: Disk> World<D> {
         ensures promise { D.is_honest self.new.disk → (first : Point D) → StandsAt self.old first
             → (last : Point D) × StandsAt self.new last
             × GoesByJob D.Disk (Reopen ∷ []) Opener first (last_reply reply.Reopened result) last }
+        // The memory stays as it was.
+        ensures memory { plain_of self.new.core.memory ≡ plain_of self.old.core.memory }
     {
+        self.sound();
         reopened(self.do_job(Event::Reopen, Worker::Opener, &mut Unwatched))
     }
 }

@@ -1,12 +1,13 @@
 //! What is kept of the workers between their events.
 ghost use Rattle.std.specs.Prelude.{◌≡◌, ◌↔◌, ◌<◌, Some, IfSome, IsTrue, MatchOption, slice_get, slice_set};
-ghost use Rattle.sd_belief.specs.View.{index};
+ghost use Rattle.sd_crash_safety.specs.View.{index};
 ghost use Rattle.sd_world.specs.declared.kept.Kept.TheVariants.{Nothing};
-ghost use Rattle.sd_world.specs.View.{IsAt, IsNowhere, asked_id, earlier, id_in, is_asked, is_before, is_of, made_id, nothing_kept};
+ghost use Rattle.sd_world.specs.View.{IsAt, IsNowhere, asked_id, busy_of, earlier, id_in, is_asked, is_before, is_of, made_id, nothing_kept};
 
 use crate::call_state::CallState;
 use sd_core::LANES;
 use sd_gate::{Outcome, Request, RequestId, Worker};
+use std::marker::Model;
 use std::mem;
 
 /// What is kept of a lane in which a request may be out.
@@ -21,7 +22,7 @@ pub enum Kept {
 }
 
 /// Nothing is kept in any lane.
-pub(crate) fn nothing_kept() -> [Kept; LANES]
+fn nothing_kept() -> [Kept; LANES]
     ensures { result ≡ nothing_kept }
 {
     [
@@ -121,12 +122,7 @@ fn is_at(kept: &[Kept; LANES], state: CallState, worker: Worker, place: u64, lan
 }
 
 /// The lane of the worker's device call at this place, from 0, of those in this state by rising ticket.
-pub(crate) fn lane_at(
-    kept: &[Kept; LANES],
-    state: CallState,
-    worker: Worker,
-    place: u64,
-) -> Option<usize>
+fn lane_at(kept: &[Kept; LANES], state: CallState, worker: Worker, place: u64) -> Option<usize>
     ensures found { MatchOption result (IsNowhere kept.now state worker place)
         (IsAt kept.now state worker place) }
     ensures within { IfSome result (λ lane. lane < 11) }
@@ -139,26 +135,103 @@ pub(crate) fn lane_at(
     None
 }
 
-/// Takes out what is kept in a lane.
-pub(crate) fn take_kept(kept: &mut [Kept; LANES], lane: usize) -> Kept
-    requires { lane < 11 }
-    ensures taken { slice_get kept.old lane ≡ Some result }
-    ensures left { kept.new ≡ slice_set kept.old lane Nothing }
+/// 1 for a lane that keeps something, and 0 for another.
+fn busy_of(kept: &Kept) -> usize
+    ensures { result ≡ busy_of kept.now }
 {
-    mem::replace(&mut kept[lane], Kept::Nothing)
-}
-
-/// Keeps this in a lane.
-pub(crate) fn put_kept(kept: &mut [Kept; LANES], lane: usize, new: Kept)
-    requires { lane < 11 }
-    ensures { kept.new ≡ slice_set kept.old lane new }
-{
-    kept[lane] = new;
+    match kept {
+        Kept::Nothing => 0,
+        Kept::Request(_) | Kept::Outcome(_) => 1,
+    }
 }
 
 /// Whether a device call of a worker is out that wasn't made yet.
-pub(crate) fn is_asked(kept: &[Kept; LANES], worker: Worker) -> bool
+fn is_asked(kept: &[Kept; LANES], worker: Worker) -> bool
     ensures { result ≡ is_asked kept.now worker }
 {
     kept.iter().any(|one| is_of(worker, asked_id(one)))
+}
+
+/// What is kept of each lane. It looks through them only where some lane keeps something.
+#[derive(Drop)]
+pub(crate) struct Lanes {
+    kept: [Kept; LANES],
+    /// How many keep something.
+    busy: usize,
+}
+
+impl Model for Lanes {
+    ghost use Rattle.std.specs.Prelude.{◌≡◌, List};
+    ghost use Rattle.sd_world.specs.declared.kept.Kept.{Kept};
+    ghost use Rattle.sd_world.specs.View.{busy_count};
+
+    ghost Value = { List Kept };
+
+    ghost view = { λ l. l.kept };
+
+    ghost invariant = { λ l. l.busy ≡ busy_count l.kept };
+}
+
+impl Lanes {
+    /// Nothing is kept in any lane.
+    pub(crate) fn new() -> Lanes
+        ensures { result ≡ nothing_kept }
+    {
+        Lanes {
+            kept: nothing_kept(),
+            busy: 0,
+        }
+    }
+
+    /// The lane of the worker's device call at this place, from 0, of those in this state by rising ticket.
+    pub(crate) fn lane_at(&self, state: CallState, worker: Worker, place: u64) -> Option<usize>
+        ensures found { MatchOption result (IsNowhere self.now state worker place)
+            (IsAt self.now state worker place) }
+        ensures within { IfSome result (λ lane. lane < 11) }
+    {
+        if self.busy == 0 {
+            return None;
+        }
+        lane_at(&self.kept, state, worker, place)
+    }
+
+    /// Whether a device call of a worker is out that wasn't made yet.
+    pub(crate) fn is_asked(&self, worker: Worker) -> bool
+        ensures { result ≡ is_asked self.now worker }
+    {
+        if self.busy == 0 {
+            return false;
+        }
+        is_asked(&self.kept, worker)
+    }
+
+    /// Keeps this in a lane, and returns what was kept there.
+    fn replace(&mut self, lane: usize, new: Kept) -> Kept
+        requires { lane < 11 }
+        ensures taken { slice_get self.old lane ≡ Some result }
+        ensures left { self.new ≡ slice_set self.old lane new }
+    {
+        let more = busy_of(&new);
+        let old = mem::replace(&mut self.kept[lane], new);
+        let less = busy_of(&old);
+        self.busy = self.busy + more - less;
+        old
+    }
+
+    /// Takes out what is kept in a lane.
+    pub(crate) fn take(&mut self, lane: usize) -> Kept
+        requires { lane < 11 }
+        ensures taken { slice_get self.old lane ≡ Some result }
+        ensures left { self.new ≡ slice_set self.old lane Nothing }
+    {
+        self.replace(lane, Kept::Nothing)
+    }
+
+    /// Keeps this in a lane.
+    pub(crate) fn put(&mut self, lane: usize, new: Kept)
+        requires { lane < 11 }
+        ensures { self.new ≡ slice_set self.old lane new }
+    {
+        drop(self.replace(lane, new));
+    }
 }

@@ -1,7 +1,7 @@
 //! Reading back what a crash left.
 ghost use Rattle.std.specs.Prelude.{◌<◌, IsErrOf};
 ghost use Rattle.sd_journal.specs.History.{Base, History};
-ghost use Rattle.sd_belief.specs.Shown.{ShowsAllowed};
+ghost use Rattle.sd_crash_safety.specs.Shown.{ShowsAllowed};
 ghost use Rattle.sd_world.specs.Restored.{IsRestored};
 
 use sd_areas::Snapshot;

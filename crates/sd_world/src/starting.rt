@@ -3,8 +3,8 @@ ghost use Rattle.std.specs.Prelude.{◌≡◌, ◌≤◌, [], ◌∷◌, IfOk, I
 ghost use Rattle.sd_command.specs.declared.reply.Reply.TheVariants as reply;
 ghost use Rattle.sd_image.specs.Shows.{Shows};
 ghost use Rattle.sd_journal.specs.declared.entry.Entry.TheVariants as entry;
-ghost use Rattle.sd_belief.specs.declared.standing.Standing.TheVariants.{Open};
-ghost use Rattle.sd_belief.specs.View.{history_of};
+ghost use Rattle.sd_crash_safety.specs.declared.standing.Standing.TheVariants.{Open};
+ghost use Rattle.sd_crash_safety.specs.View.{history_of};
 ghost use Rattle.sd_core.specs.Starts.{shown_base};
 ghost use Rattle.sd_world.specs.Starting.{IsReopened, IsUnstarted};
 

@@ -2,21 +2,21 @@
 ghost use Rattle.std.specs.Prelude.{◌≡◌, ◌<◌, ℕ, List, Option, Some, length, slice_get};
 ghost use Rattle.sd_gate.specs.Requests.{Asked, Made};
 ghost use Rattle.sd_rounds.specs.Writes.{IsInLane};
-ghost use Rattle.sd_belief.specs.Calls.{GoesOn};
+ghost use Rattle.sd_crash_safety.specs.Calls.{GoesOn};
 ghost use Rattle.sd_world.specs.Steps.{Does, HandsIn, HandsInIfAny, KeepsOutcome, KeepsRequest, Performs, TakesUp, Works, answer_of, reply_of};
 ghost use Rattle.sd_world.specs.Trims.{TrimsJournal};
 ghost use Rattle.sd_world.specs.declared.kept.Kept.TheVariants.{Outcome as OutcomeKept, Request as RequestKept};
 
 use crate::call_state::CallState;
 use crate::event::Event;
-use crate::kept::{Kept, lane_at, put_kept, take_kept};
+use crate::kept::{Kept, Lanes};
 use sd_command::{Refusal, Reply};
-use sd_core::{Core, LANES, Taken};
+use sd_core::{Core, Taken};
 use sd_disk::Disk;
 use sd_gate::{Answer, Request, Worker, perform};
 
 /// How a command is answered.
-fn answer_of(told: Result<(u64, Reply), Refusal>) -> Reply
+pub(crate) fn answer_of(told: Result<(u64, Reply), Refusal>) -> Reply
     ensures { result ≡ answer_of told }
 {
     match told {
@@ -36,18 +36,18 @@ fn reply_of(answer: Answer) -> Reply
 }
 
 /// Keeps a request in the lane in which it is out.
-fn keep_request(core: &Core, kept: &mut [Kept; LANES], request: Request)
+fn keep_request(core: &Core, kept: &mut Lanes, request: Request)
     requires { IsInLane core.now.outs request.id }
     ensures { KeepsRequest core.now.outs kept.old request kept.new }
 {
     let Some(lane) = core.lane_of(&request.id()) else {
         return;
     };
-    put_kept(kept, lane, Kept::Request(request));
+    kept.put(lane, Kept::Request(request));
 }
 
 /// Makes a worker's next step, or keeps the request for its next device call.
-fn take_up(core: &mut Core, kept: &mut [Kept; LANES], worker: Worker) -> Reply
+fn take_up(core: &mut Core, kept: &mut Lanes, worker: Worker) -> Reply
     ensures { TakesUp worker core.old kept.old result core.new kept.new }
 {
     match core.take_up(worker) {
@@ -60,12 +60,12 @@ fn take_up(core: &mut Core, kept: &mut [Kept; LANES], worker: Worker) -> Reply
 }
 
 /// Hands in the outcome that is kept in a lane.
-fn hand_in(core: &mut Core, kept: &mut [Kept; LANES], lane: usize) -> Reply
+fn hand_in(core: &mut Core, kept: &mut Lanes, lane: usize) -> Reply
     requires within { lane < 11 }
     ensures { (made : Made) → slice_get kept.old lane ≡ Some (OutcomeKept made)
         → HandsIn lane core.old kept.old made result core.new kept.new }
 {
-    match take_kept(kept, lane) {
+    match kept.take(lane) {
         Kept::Outcome(outcome) => core.hand_in(outcome),
         Kept::Nothing | Kept::Request(_) => Reply::Refused(Refusal::Idle),
     }
@@ -73,38 +73,38 @@ fn hand_in(core: &mut Core, kept: &mut [Kept; LANES], lane: usize) -> Reply
 
 /// A worker's event: its outcome with the least ticket is handed in; else it makes its next step, or its next request is
 /// kept.
-fn work(core: &mut Core, kept: &mut [Kept; LANES], worker: Worker) -> Reply
+fn work(core: &mut Core, kept: &mut Lanes, worker: Worker) -> Reply
     ensures { Works worker core.old kept.old result core.new kept.new }
 {
-    match lane_at(kept, CallState::Made, worker, 0) {
+    match kept.lane_at(CallState::Made, worker, 0) {
         Some(lane) => hand_in(core, kept, lane),
         None => take_up(core, kept, worker),
     }
 }
 
 /// Hands in the outcome of a worker at this place. Refused as idle where there is none.
-fn hand_in_at(core: &mut Core, kept: &mut [Kept; LANES], worker: Worker, place: u64) -> Reply
+fn hand_in_at(core: &mut Core, kept: &mut Lanes, worker: Worker, place: u64) -> Reply
     ensures { HandsInIfAny worker place core.old kept.old result core.new kept.new }
 {
-    match lane_at(kept, CallState::Made, worker, place) {
+    match kept.lane_at(CallState::Made, worker, place) {
         Some(lane) => hand_in(core, kept, lane),
         None => Reply::Refused(Refusal::Idle),
     }
 }
 
 /// Performs the request that is kept in a lane, and keeps its outcome.
-fn perform_in<D: Disk>(disk: &mut D, kept: &mut [Kept; LANES], lane: usize) -> Reply
+fn perform_in<D: Disk>(disk: &mut D, kept: &mut Lanes, lane: usize) -> Reply
     requires within { lane < 11 }
     requires slot { (request : Asked) → slice_get kept.old lane ≡ Some (RequestKept request)
         → request.id.slot < length (D.contents disk.old) }
     ensures { (request : Asked) → slice_get kept.old lane ≡ Some (RequestKept request)
         → KeepsOutcome D.Disk lane request disk.old kept.old result disk.new kept.new }
 {
-    match take_kept(kept, lane) {
+    match kept.take(lane) {
         Kept::Request(request) => {
             let outcome = perform(disk, request);
             let answer = outcome.answer();
-            put_kept(kept, lane, Kept::Outcome(outcome));
+            kept.put(lane, Kept::Outcome(outcome));
             reply_of(answer)
         }
         Kept::Nothing | Kept::Outcome(_) => Reply::Refused(Refusal::Idle),
@@ -112,12 +112,12 @@ fn perform_in<D: Disk>(disk: &mut D, kept: &mut [Kept; LANES], lane: usize) -> R
 }
 
 /// Performs the request of a worker at this place, and keeps its outcome. Refused as idle where there is none.
-fn perform_at<D: Disk>(disk: &mut D, kept: &mut [Kept; LANES], worker: Worker, place: u64) -> Reply
+fn perform_at<D: Disk>(disk: &mut D, kept: &mut Lanes, worker: Worker, place: u64) -> Reply
     requires { (lane : ℕ) (request : Asked) → slice_get kept.old lane ≡ Some (RequestKept request)
         → request.id.slot < length (D.contents disk.old) }
     ensures { Performs D.Disk worker place disk.old kept.old result disk.new kept.new }
 {
-    match lane_at(kept, CallState::Asked, worker, place) {
+    match kept.lane_at(CallState::Asked, worker, place) {
         Some(lane) => perform_in(disk, kept, lane),
         None => Reply::Refused(Refusal::Idle),
     }
@@ -138,7 +138,7 @@ fn trim(core: &mut Core) -> Reply
 pub(crate) fn make_step<D: Disk>(
     core: &mut Core,
     disk: &mut D,
-    kept: &mut [Kept; LANES],
+    kept: &mut Lanes,
     event: &Event,
 ) -> Reply
     requires { (lane : ℕ) (request : Asked) → slice_get kept.old lane ≡ Some (RequestKept request)

@@ -7,19 +7,20 @@ ghost use Rattle.sd_disk.specs.Reads.{OnlyReads};
 ghost use Rattle.sd_disk.specs.Spans.{LeavesOnly};
 ghost use Rattle.sd_image.specs.Shows.{Shows};
 ghost use Rattle.sd_pagetable.specs.Contents.{plain_of};
-ghost use Rattle.sd_belief.specs.declared.standing.Standing.TheVariants.{NotOpen};
+ghost use Rattle.sd_crash_safety.specs.declared.standing.Standing.TheVariants.{NotOpen};
 ghost use Rattle.sd_core.specs.Starts.{shown_base};
 ghost use Rattle.sd_core.specs.Working.{left_by};
 ghost use Rattle.sd_world.specs.Opens.{HasNoFrame, IsFaultOf, bare_memory};
 ghost use Rattle.sd_gate.specs.declared.worker.Worker.{Worker as WorkerKind};
 ghost use Rattle.sd_journal.specs.Marked.{IsTracked};
-ghost use Rattle.sd_belief.specs.Shown.{ShowsAllowed};
-ghost use Rattle.sd_belief.specs.View.{history_of};
+ghost use Rattle.sd_crash_safety.specs.Shown.{ShowsAllowed};
+ghost use Rattle.sd_crash_safety.specs.View.{history_of};
 ghost use Rattle.sd_world.specs.declared.event.Event.TheVariants.{HandInAt, Perform, PerformAt, TakeUp, Trim, Work};
 ghost use Rattle.sd_world.specs.Acked.{DoesAck, HasPreDumpsThere};
 ghost use Rattle.sd_world.specs.Adds.{Adds};
 ghost use Rattle.sd_world.specs.Begun.{RunsAsBegun};
 ghost use Rattle.sd_world.specs.Closing.{ClosesBehind, EndsBehind};
+ghost use Rattle.sd_world.specs.Copied.{DoesCopy};
 ghost use Rattle.sd_world.specs.KeptCheckpoint.{KeepsCheckpoint};
 ghost use Rattle.sd_world.specs.Little.{DoesLittle};
 ghost use Rattle.sd_world.specs.Merged.{MergesStand};
@@ -35,16 +36,16 @@ ghost use Rattle.sd_world.specs.Tickets.{HasOwnTickets, TicketsLast};
 ghost use Rattle.sd_world.specs.View.{asked_count, is_asked, nothing_kept};
 
 use crate::event::Event;
-use crate::kept::{Kept, is_asked, nothing_kept};
+use crate::kept::Lanes;
 use crate::open_error::OpenError;
 use crate::open_fault::OpenFault;
 use crate::opening::start_of;
 use crate::restoring::restore_left;
 use crate::stepping::make_step;
 use sd_areas::Snapshot;
-use sd_belief::performed_law;
 use sd_command::{Refusal, Reply};
-use sd_core::{Core, LANES};
+use sd_core::Core;
+use sd_crash_safety::performed_law;
 use sd_disk::Disk;
 use sd_gate::{Worker, all_found_fit, given_up_fits, writes_commute};
 use sd_journal::trim_laws;
@@ -53,13 +54,15 @@ use sd_store_laws::{contents_show, left_as_believed, synced_is_found};
 use std::alloc::Global;
 use std::marker::Model;
 
+mod applying;
+
 /// A core, its disk, and what is kept of the workers between events.
 #[derive(Drop)]
 pub struct World<D: Disk> {
     alloc: Global,
     core: Core,
     disk: D,
-    kept: [Kept; LANES],
+    kept: Lanes,
 }
 
 impl<D: Disk> Model for World<D> {
@@ -123,7 +126,7 @@ impl<D: Disk> World<D> {
             Ok(start) => {
                 all_found_fit(&disk);
                 let core = Core::new(alloc, start);
-                let kept = nothing_kept();
+                let kept = Lanes::new();
                 Ok(World {
                     alloc,
                     core,
@@ -146,7 +149,7 @@ impl<D: Disk> World<D> {
     pub fn is_out(&self, worker: Worker) -> bool
         ensures { result ≡ is_asked self.now.kept worker }
     {
-        is_asked(&self.kept, worker)
+        self.kept.is_asked(worker)
     }
 
     /// The disk, as it stands. What was acknowledged is on it; a checkpoint that runs is given up, as by a crash, and what
@@ -294,6 +297,9 @@ impl<D: Disk> World<D> {
         // A merge that closes images behind it, or ends with it, did so before, or its image enters by it.
         ensures closes { D.is_honest self.new.disk → ClosesBehind D.Disk self.old self.new }
         ensures ends { D.is_honest self.new.disk → EndsBehind D.Disk self.old result self.new }
+        // As it enters, its source stands on the disk with all that this reaches, so it has what these hold there; and the list
+        // of the images to close is fixed.
+        ensures copies { D.is_honest self.new.disk → DoesCopy D.Disk event.now self.old self.new }
         // Behind an acknowledgement the checkpoint's dump and each of its pre-dumps are open in their slots of the contents,
         // and each names the one before as its parent.
         ensures acked { D.is_honest self.new.disk → DoesAck D.Disk event.now self.old result self.new }

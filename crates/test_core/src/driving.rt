@@ -143,6 +143,14 @@ fn apply(core: &mut Core, command: &Command) -> Answer {
     }
 }
 
+/// Makes a command that the journal keeps. Returns whether it was journaled.
+fn apply_owned(core: &mut Core, command: Command) -> Answer {
+    match core.apply_owned(0, command) {
+        Ok(_) => Answer::Journaled,
+        Err(why) => Answer::NotJournaled(why),
+    }
+}
+
 /// Loads a byte so many times.
 fn load(core: &mut Core, count: u64) -> Answer {
     let command = load_byte();
@@ -162,7 +170,7 @@ fn ask(core: &mut Core, order: Order) -> Answer {
         Order::Merge => Answer::of(&core.merge()),
         Order::Cancel => Answer::of(&core.cancel()),
         Order::Reopen => Answer::of(&core.reopen()),
-        Order::Map => apply(core, &map_page()),
+        Order::Map => apply_owned(core, map_page()),
         Order::Loads(count) => load(core, count),
         Order::Left(worker) => Answer::Left(core.left(worker)),
         Order::Idle(worker) => Answer::Idle(core.is_idle(worker)),

@@ -9,6 +9,7 @@ use std::test::Fail;
 fn stores_to_fresh(rt: &impl Abort, memory: &mut Memory, page: PageNo) -> Result<(), Fail> {
     let space = SpaceId::new(1);
     assert_eq!(rt; memory.word(space, page), FRESH);
+    assert_eq!(rt; memory.framed_sector(space, page, 7), Some(None));
     let needs_fault = Ok(StoreOutcome::NeedsFault);
     assert_eq!(rt; memory.try_store(space, 0x10000, &[0x61]), needs_fault);
     memory.store_now(space, 0x10000, &[0x61])?;
@@ -29,6 +30,11 @@ fn is_read(rt: &impl Abort, memory: &Memory, page: PageNo) {
     let mut sector = [7; 512];
     assert!(rt; memory.read_sector(space, page, 0, &mut sector));
     assert_eq!(rt; (sector[0], sector[1]), (0x61, 0));
+    assert_eq!(rt; memory.sector(space, page, 0), Some(&sector[..]));
+    assert_eq!(rt;
+        memory.framed_sector(space, page, 0),
+        Some(Some(&sector[..]))
+    );
     assert_eq!(rt; memory.next_page(None), Some((space, page)));
     assert_eq!(rt; memory.next_page(Some((space, page))), None);
 }

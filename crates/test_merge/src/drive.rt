@@ -4,12 +4,12 @@ use crate::stop::Stop;
 use sd_areas::{Prot, SpaceId};
 use sd_chain::{Catalog, PlacedTable};
 use sd_disk::{Fused, MemDisk};
+use sd_free_slots::ListRoom;
 use sd_gate::RequestId;
 use sd_image::Header;
 use sd_merge::{MergeProgress, Merger, Retired};
 use sd_pagetable::Memory;
 use sd_rounds::{Dumper, PageBuffers};
-use sd_slots::ListRoom;
 use std::alloc::{AllocError, Global};
 
 pub(crate) const SPACE: u64 = 1;

@@ -5,11 +5,11 @@ use crate::stop::Stop;
 use sd_areas::{PageNo, Snapshot, SpaceId};
 use sd_chain::Catalog;
 use sd_disk::Disk;
+use sd_free_slots::{ListRoom, free_in};
 use sd_gate::{Call, RequestId, Worker};
 use sd_image::Kind;
 use sd_merge::Retired;
 use sd_restore::restore;
-use sd_slots::{ListRoom, free_in};
 use std::alloc::{AllocError, Global};
 
 /// Kind, serial, number, parent, checkpoint and data pages of an image.

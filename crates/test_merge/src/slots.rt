@@ -2,8 +2,8 @@
 use crate::deeds::{Deed, run};
 use crate::facts::Fact;
 use crate::rows::{CHAIN, NEVER};
+use sd_free_slots::free_law;
 use sd_merge::Retired;
-use sd_slots::free_law;
 use std::test::Fail;
 
 /// The tip reaches the images in the slots 0 to 2 of eight. The merge has slot 3, the checkpoint 5 and 6. Once the

@@ -7,7 +7,7 @@ use sd_gate::{Request, SlotState, perform};
 use sd_image::Header;
 use sd_pagetable::{Memory, StoreOutcome};
 use sd_restore::restore;
-use sd_rounds::{Dumper, ImageStep, NextImage, PageBuffers, Progress, WorkError};
+use sd_rounds::{Dumper, ImageStep, NextImage, PageBuffers, PassStep, Progress, WorkError};
 use std::alloc::{AllocError, Global};
 
 pub(crate) const SPACE: u64 = 1;
@@ -92,9 +92,16 @@ impl Drive {
         Ok(())
     }
 
-    /// Asks the dumper for a step.
+    /// Asks the dumper for a step: with every other ticket for one of the pass first.
     pub(crate) fn work(&mut self, image: NextImage, ticket: u64) -> Result<ImageStep, WorkError> {
-        self.dumper.work(&mut self.memory, image, ticket)
+        if ticket % 2 == 1 {
+            return self.dumper.work(&mut self.memory, image, ticket);
+        }
+        match self.dumper.pass(&mut self.memory)? {
+            Some(PassStep::Visited(visit)) => Ok(ImageStep::Visited(visit)),
+            Some(PassStep::Copied(copied)) => Ok(ImageStep::Copied(copied)),
+            None => self.dumper.work(&mut self.memory, image, ticket),
+        }
     }
 
     /// How much the checkpoint has before it.

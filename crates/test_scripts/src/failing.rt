@@ -2,7 +2,7 @@
 use crate::run::{CHAIN, FIRST, FIRST_SHOWN, fresh, printed};
 use sd_disk::{Disk, Fused};
 use sd_exit::Output;
-use sd_report::restore_to;
+use sd_readers::restore_to;
 use sd_run::run_script;
 use std::alloc::Global;
 use std::io;

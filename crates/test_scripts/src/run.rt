@@ -1,7 +1,7 @@
 //! Runs of scripts, and what is printed of the stores that they leave.
 use sd_disk::{DirDisk, Disk, Folder, MemDisk, OpenError};
 use sd_exit::Output;
-use sd_report::{list_to, restore_to, verify_to};
+use sd_readers::{list_to, restore_to, verify_to};
 use sd_run::run_script;
 use std::alloc::{AllocError, Global};
 use std::process::{self, Abort};

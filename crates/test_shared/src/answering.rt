@@ -108,7 +108,7 @@ fn store_beside<R: Wait + Clock, D: Disk + Drop>(
     Ok(receipt.reply == Reply::Done)
 }
 
-/// Opens the store, and makes a checkpoint of one round, while another thread stores. Returns whether that was answered
+/// Makes a checkpoint of one round, while another thread stores. Returns whether that was answered
 /// while the page's write was under way.
 fn save_and_store<R: Threads + Wait + Clock + Sync, D: Disk + Drop + Send>(
     rt: &R,
@@ -117,9 +117,6 @@ fn save_and_store<R: Threads + Wait + Clock + Sync, D: Disk + Drop + Send>(
     seat: &mut Seat,
     flags: &Flags,
 ) -> Result<bool, Refusal> {
-    if shared.run_opener(rt, &Free) != Reply::Reopened(None) {
-        return Ok(false);
-    }
     shared.call(rt, seat, mmap(1))?;
     shared.call(rt, seat, store(alloc, 0, 7)?)?;
     let (reply, stored) = thread::join(
@@ -144,8 +141,8 @@ fn a_device_call_holds_no_command_up(rt: HostRuntime) -> Result<(), Fail> {
         flags: &flags,
         disk: MemDisk::new(alloc, 8, 1_000_000, 10_000)?,
     };
-    let Ok((shared, mut seats)) = Shared::open(alloc, disk, 64, 1) else {
-        return Err(Fail::from("not opened"));
+    let Ok((shared, mut seats)) = Shared::start(alloc, disk, 64, 1) else {
+        return Err(Fail::from("not started"));
     };
     let Some(seat) = seats.first_mut() else {
         forget(shared);

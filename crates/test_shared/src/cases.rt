@@ -172,7 +172,7 @@ fn act<R: Threads + Wait + Clock + Files + Alloc + Abort + Sync>(
         }
         Case::Trimmed => trims_beside(rt, alloc, shared, mutators),
         Case::Awaited => {
-            waits_asleep(rt, shared);
+            waits_asleep(rt, shared, mutators.0);
             acks.push(1)?;
             wakes_by_a_cancel(rt, shared, mutators.0, acks);
             Ok(())

@@ -66,7 +66,7 @@ pub(crate) fn falls<R: Threads + Wait + Clock + Abort + Sync>(
     let down = (Reply::Refused(Refusal::StoreDown), Some(Thaw::Down));
     assert_eq!(rt; ended, down);
     assert_eq!(rt;
-        mutator.make(rt, shared, load(0)),
+        mutator.make_thawed(rt, shared, load(0)),
         Ok(Some(Refusal::Frozen))
     );
     assert_eq!(rt; Job::Opening.make(rt, shared, &Free), Reply::Reopened(None));

@@ -60,6 +60,22 @@ impl Mutator<'_> {
         self.keep(receipt)
     }
 
+    /// Makes a command once nothing is frozen, or the store is down, as `make`.
+    ///
+    /// # Errors
+    ///
+    /// The command wasn't journaled.
+    pub(crate) fn make_thawed(
+        &mut self,
+        rt: &impl Wait,
+        shared: &Shared<Store>,
+        command: Command,
+    ) -> Result<Option<Refusal>, Refusal> {
+        self.make_room()?;
+        let receipt = shared.call_thawed(rt, self.seat, command)?;
+        self.keep(receipt)
+    }
+
     /// Makes one of the first commands, again where memory is refused once.
     fn make_first(
         &mut self,

@@ -76,10 +76,24 @@ fn wait_kept<R: Wait + Clock + Files + Alloc>(
     Some((thaw, kept, nanos_used(rt)?.saturating_sub(before)))
 }
 
-/// A thread waits as long as all is frozen, and not longer, and uses next to none of a processor's time.
+/// Loads once nothing is frozen. Returns whether that was answered, and behind the end of the freeze.
+fn load_kept<R: Wait + Clock>(
+    rt: &R,
+    shared: &Shared<Store>,
+    mutator: &mut Mutator<'_>,
+    hold: &Keeping<'_, R>,
+) -> bool {
+    await_flag(rt, hold.begun)
+        && mutator.make_thawed(rt, shared, load(0)) == Ok(None)
+        && hold.ended.load(Ordering::SeqCst) != 0
+}
+
+/// A thread waits as long as all is frozen, and not longer, and uses next to none of a processor's time; and a command that waits
+/// for that is made behind it.
 pub(crate) fn waits_asleep<R: Threads + Wait + Clock + Files + Alloc + Abort + Sync>(
     rt: &R,
     shared: &Shared<Store>,
+    mutator: &mut Mutator<'_>,
 ) {
     let (begun, ended) = (AtomicU64::new(0), AtomicU64::new(0));
     let hold = Keeping {
@@ -90,13 +104,19 @@ pub(crate) fn waits_asleep<R: Threads + Wait + Clock + Files + Alloc + Abort + S
     let (reply, waited) = thread::join(
         rt,
         || shared.run_dumper(rt, 0, &hold),
-        || wait_kept(rt, shared, &hold),
+        || {
+            thread::join(
+                rt,
+                || wait_kept(rt, shared, &hold),
+                || load_kept(rt, shared, mutator, &hold),
+            )
+        },
     );
     assert_eq!(rt; reply, Reply::Acked(1));
-    let Some((thaw, kept, nanos)) = waited else {
+    let (Some((thaw, kept, nanos)), loaded) = waited else {
         panic!(rt; "nothing was frozen, or the thread's time can't be read");
     };
-    assert_eq!(rt; (thaw, kept), (Thaw::Thawed, true));
+    assert_eq!(rt; (thaw, kept, loaded), (Thaw::Thawed, true, true));
     assert!(rt; nanos < MOST_NANOS, "{nanos} ns");
 }
 

@@ -103,6 +103,7 @@ fn ask(alloc: Global, world: &mut Tested, request: &str) -> Result<Reply, AllocE
         "loads" => Ok(repeat(world, &loading(), number)),
         "finish" => Ok(world.finish(Worker::Dumper)),
         "open" => Ok(world.finish(Worker::Opener)),
+        "map" | "store" => Ok(world.apply(0, command(alloc, word, number)?)),
         _ => step(alloc, world, word, number),
     }
 }

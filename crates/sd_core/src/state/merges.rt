@@ -5,13 +5,13 @@ ghost use Rattle.sd_command.specs.declared.reply.Reply.TheVariants as reply;
 ghost use Rattle.sd_gate.specs.Calls.{is_done};
 ghost use Rattle.sd_gate.specs.declared.worker.Worker.TheVariants as its;
 ghost use Rattle.sd_merge.specs.Merger.{slot_before};
-ghost use Rattle.sd_belief.specs.Calls.{AddsByOrder, HandedIn, Stays};
-ghost use Rattle.sd_belief.specs.View.{history_of};
+ghost use Rattle.sd_crash_safety.specs.Calls.{AddsByOrder, HandedIn, Stays};
+ghost use Rattle.sd_crash_safety.specs.View.{history_of};
 ghost use Rattle.sd_core.specs.Beside.{HandsBeside, OrdersBeside, StepsBeside};
 ghost use Rattle.sd_core.specs.Entering.{EntersFirst};
 ghost use Rattle.sd_core.specs.Flags.{FlagsByOutcome, FlagsByStep, KeepsFlags};
 ghost use Rattle.sd_core.specs.Lasting.{FixesNoList, MergeLasts};
-ghost use Rattle.sd_core.specs.Merging.{EndsCut, EntersAsCopy, FixesItsList, IsMerged, ListsTheUnneeded, MergesAs, merge_refusal};
+ghost use Rattle.sd_core.specs.Merging.{EndsCut, EntersAsCopy, EntersAtRest, FixesItsList, IsMerged, ListsTheUnneeded, MergesAs, merge_refusal};
 ghost use Rattle.sd_core.specs.Refusals.{is_idle, work_refusal};
 ghost use Rattle.sd_core.specs.Starts.{TakesUp};
 ghost use Rattle.sd_core.specs.Working.{FindsSource, Leaves, LeavesByOutcome};
@@ -26,11 +26,11 @@ use crate::merging::{
 };
 use crate::opening::follow_call;
 use crate::taken::Taken;
-use sd_belief::{Standing, core_steps, merge_beginning_law, merger_outcomes, merger_steps};
 use sd_command::{Refusal, Reply};
+use sd_crash_safety::{Standing, core_steps, merge_beginning_law, merger_outcomes, merger_steps};
+use sd_free_slots::{ListRoom, free_law};
 use sd_gate::{Outcome, Worker};
 use sd_merge::{MergeProgress, MergeStep, NextImage, Source, left_law};
-use sd_slots::{ListRoom, free_law};
 
 impl Core {
     /// Why a merge can't begin, before its slot is looked for.
@@ -201,6 +201,7 @@ impl Core {
         ensures lists { FixesItsList self.old self.new }
         ensures retires { ListsTheUnneeded self.old outcome.request self.new }
         ensures copies { EntersAsCopy self.old outcome.request self.new }
+        ensures rests { EntersAtRest self.old outcome.request self.new }
         ensures cuts { (serial : ℕ) → result ≡ reply.Merged serial → EndsCut self.old outcome.request self.new }
     {
         self.merger.sound();

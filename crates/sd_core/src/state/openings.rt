@@ -5,7 +5,7 @@ ghost use Rattle.sd_command.specs.declared.reply.Reply.TheVariants as reply;
 ghost use Rattle.sd_gate.specs.Calls.{is_done};
 ghost use Rattle.sd_gate.specs.declared.worker.Worker.TheVariants as its;
 ghost use Rattle.sd_opener.specs.Looking.{IsDoneAsAsked};
-ghost use Rattle.sd_belief.specs.Calls.{HandedIn, MakesStep};
+ghost use Rattle.sd_crash_safety.specs.Calls.{HandedIn, MakesStep};
 ghost use Rattle.sd_core.specs.Beside.{HandsBeside, StepsBeside};
 ghost use Rattle.sd_core.specs.Flags.{FlagsByOutcome, FlagsByReply, FlagsByStep};
 ghost use Rattle.sd_core.specs.Opening.{IsAllRead, OpensBelieved, OpensOwn, RefusesAsScan, RefusesDamage, RefusesRightly, RefusesStrange};
@@ -21,8 +21,8 @@ use crate::opening::{
     teach,
 };
 use crate::taken::Taken;
-use sd_belief::{Standing, opener_finds, opener_steps, reopened_law};
 use sd_command::{Refusal, Reply};
+use sd_crash_safety::{Standing, opener_finds, opener_steps, reopened_law};
 use sd_gate::{Outcome, Worker};
 use sd_journal::{Entry, tracked_laws};
 use sd_opener::{Opened, OpenerStep};

@@ -6,7 +6,7 @@ ghost use Rattle.sd_journal.specs.History.{pending};
 ghost use Rattle.sd_journal.specs.Legal.{IsAbove};
 ghost use Rattle.sd_journal.specs.Marked.{IsTracked};
 ghost use Rattle.sd_rounds.specs.Writes.{IsInLane};
-ghost use Rattle.sd_belief.specs.View.{history_of};
+ghost use Rattle.sd_crash_safety.specs.View.{history_of};
 ghost use Rattle.sd_core.specs.Beginning.{is_down};
 ghost use Rattle.sd_core.specs.GoingOn.{AreOwnLanes, CanGoOn, OpenerAsksAlone};
 ghost use Rattle.sd_core.specs.Grown.{has_grown};

@@ -2,15 +2,15 @@
 ghost use Rattle.std.specs.Prelude.{◌≡◌, None, Some, Err, ℕ};
 ghost use Rattle.sd_command.specs.declared.refusal.Refusal.TheVariants.{Idle};
 ghost use Rattle.sd_journal.specs.History.{last};
-ghost use Rattle.sd_belief.specs.Calls.{GoesOn};
-ghost use Rattle.sd_belief.specs.View.{history_of};
+ghost use Rattle.sd_crash_safety.specs.Calls.{GoesOn};
+ghost use Rattle.sd_crash_safety.specs.View.{history_of};
 ghost use Rattle.sd_core.specs.Flags.{KeepsFlags};
 ghost use Rattle.sd_core.specs.Trims.{Trims, unfolded};
 
 use super::Core;
 use crate::trimming::{are_too_many, fold_front, unfolded};
-use sd_belief::trim_step;
 use sd_command::Refusal;
+use sd_crash_safety::trim_step;
 use sd_journal::{marked_trim_laws, tracked_laws, trim_laws};
 use sd_pagetable::plain_law;
 use sd_receipts::Folded;

@@ -13,10 +13,10 @@ returns-clause-answered g c =
     let line = c.args.line in
     let reply = c.match-line.reply in
     elim c.match-line.branch [
-      | in-Command w ↦ answered_as g.D.Disk first last w.make-reply.new.self line _ reply w.make-reply.result w.in-Command.is w.reply-is w.world-is
+      | in-Command w ↦ answered_as g.D.Disk first last w.apply-reply.new.world line _ reply w.apply-reply.result w.in-Command.is w.reply-is w.world-is
+          w.apply-reply.ensures.step
+      | in-Begin w ↦ answered_as g.D.Disk first last w.make-reply.new.self line _ reply w.make-reply.result w.in-Begin.is w.reply-is w.world-is
           w.make-reply.ensures.step
-      | in-Begin w ↦ answered_as g.D.Disk first last w.make-reply-in-Begin.new.self line _ reply w.make-reply-in-Begin.result w.in-Begin.is w.reply-is w.world-is
-          w.make-reply-in-Begin.ensures.step
       | in-BeginMerge w ↦ answered_as g.D.Disk first last w.make-reply-in-BeginMerge.new.self line _ reply w.make-reply-in-BeginMerge.result w.in-BeginMerge.is w.reply-is w.world-is
           w.make-reply-in-BeginMerge.ensures.step
       | in-Cancel w ↦ answered_as g.D.Disk first last w.make-reply-in-Cancel.new.self line _ reply w.make-reply-in-Cancel.result w.in-Cancel.is w.reply-is w.world-is
@@ -45,8 +45,8 @@ pub returns-clause-goes_on : goal.returns-clause-goes_on
 returns-clause-goes_on g c =
     let first = c.args.world.now in
     elim c.match-line.branch [
-      | in-Command w ↦ subst (GoesOn g.D.Disk first) (sym w.world-is) w.make-reply.ensures.goes_on
-      | in-Begin w ↦ subst (GoesOn g.D.Disk first) (sym w.world-is) w.make-reply-in-Begin.ensures.goes_on
+      | in-Command w ↦ subst (GoesOn g.D.Disk first) (sym w.world-is) w.apply-reply.ensures.goes_on
+      | in-Begin w ↦ subst (GoesOn g.D.Disk first) (sym w.world-is) w.make-reply.ensures.goes_on
       | in-BeginMerge w ↦ subst (GoesOn g.D.Disk first) (sym w.world-is) w.make-reply-in-BeginMerge.ensures.goes_on
       | in-Cancel w ↦ subst (GoesOn g.D.Disk first) (sym w.world-is) w.make-reply-in-Cancel.ensures.goes_on
       | in-Work w ↦ subst (GoesOn g.D.Disk first) (sym w.world-is) w.make-reply-in-Work.ensures.goes_on

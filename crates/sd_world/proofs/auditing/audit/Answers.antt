@@ -1,6 +1,6 @@
 use Rattle.std.proofs.Common.{◌≡◌, ◌↔◌, IfOk, IsTrue, reverse, subst, sym}
 use Rattle.sd_audit.specs.ShowsOne.{ShowsOne, base_of}
-use Rattle.sd_belief.specs.View.{history_of}
+use Rattle.sd_crash_safety.specs.View.{history_of}
 use Rattle.sd_journal.specs.Legal.{IsLegal}
 use Rattle.sd_journal.specs.Marked.{entries_of}
 use Rattle.sd_world.proofs.AuditLemmas.{audited, same_history}

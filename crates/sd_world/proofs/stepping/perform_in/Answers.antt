@@ -12,7 +12,7 @@ returns-in-Request g c = λ asked is.
     let request = c.in-Request.request in
     let made = c.perform-outcome.result in
     let did = c.perform-outcome.ensures in
-    subst (λ r. KeepsOutcome D c.args.lane r c.args.disk.now c.args.kept.now c.reply_of.result c.perform-outcome.new.disk c.put_kept.new.kept)
+    subst (λ r. KeepsOutcome D c.args.lane r c.args.disk.now c.args.kept.now c.reply_of.result c.perform-outcome.new.disk c.put.new.self)
     (same_request request asked (sym c.in-Request.ensures.taken ∙ is))
     (record {
       made = made;
@@ -34,7 +34,7 @@ returns-in-Request g c = λ asked is.
         one_call = did.one_call;
         cause = did.cause;
       };
-      left = c.put_kept.ensures ∙ ap (λ k. slice_set k c.args.lane (Outcome made)) c.in-Request.ensures.left
+      left = c.put.ensures ∙ ap (λ k. slice_set k c.args.lane (Outcome made)) c.in-Request.ensures.left
           ∙ set_twice c.args.kept.now c.args.lane (Outcome made) Nothing;
       replied = c.reply_of.ensures ∙ ap reply_of c.answer-answer.ensures;
     })

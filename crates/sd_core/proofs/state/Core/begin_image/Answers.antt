@@ -13,12 +13,12 @@ use Rattle.sd_journal.specs.Legal.{IsAbove}
 use Rattle.sd_journal.specs.Marked.{Noted, entries_of}
 use Rattle.sd_merge.specs.Merger as merger
 use Rattle.sd_rounds.specs.declared.image_order.ImageOrder.{ImageOrder}
-use Rattle.sd_belief.specs.Merges.{IsSpared, MakesOther}
+use Rattle.sd_crash_safety.specs.Merges.{IsSpared, MakesOther}
 use Rattle.sd_rounds.specs.Dumper.{AreRunning, HasSlot, is_dumping, is_frozen_image, is_last, next_slot, order_of, serial_of, slot_of}
 use Rattle.sd_rounds.specs.Making.{Making, begun_image, out_of}
 use Rattle.sd_rounds.specs.Writes.{no_writes}
-use Rattle.sd_belief.specs.DumperSteps.{opens_gate}
-use Rattle.sd_belief.specs.View.{CoreView}
+use Rattle.sd_crash_safety.specs.DumperSteps.{opens_gate}
+use Rattle.sd_crash_safety.specs.View.{CoreView}
 use Rattle.sd_core.proofs.FlagLemmas.{format_has_no_open, gate_swept, gated_asked, sure_asked}
 use Rattle.sd_core.specs.Grown.{IsGatedStage, has_grown, has_swept}
 use Rattle.sd_core.specs.declared.numbers.Numbers.{Numbers}

@@ -5,8 +5,8 @@ use Rattle.sd_journal.specs.Legal.{IsAbove}
 use Rattle.sd_journal.specs.Marked.{entries_of}
 use Rattle.sd_merge.specs.Merger as merger
 use Rattle.sd_rounds.specs.Dumper.{begun_checkpoint, out_of_running, slot_of, writes_of_running}
-use Rattle.sd_belief.specs.CheckpointSteps.{HasParent}
-use Rattle.sd_belief.specs.View.{CoreView}
+use Rattle.sd_crash_safety.specs.CheckpointSteps.{HasParent}
+use Rattle.sd_crash_safety.specs.View.{CoreView}
 use Rattle.sd_core.proofs.FlagLemmas.{same_flags}
 use Rattle.sd_core.specs.Beginning.{AreReserved, IsFirstParent}
 use Rattle.sd_core.specs.declared.numbers.Numbers.{Numbers}

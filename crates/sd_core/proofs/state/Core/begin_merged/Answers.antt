@@ -10,8 +10,8 @@ use Rattle.sd_merge.specs.Copying.{begun_copy}
 use Rattle.sd_merge.specs.Merger as merger
 use Rattle.sd_merge.specs.Merger.{copying, slot_before, slot_due}
 use Rattle.sd_rounds.specs.Dumper.{HasSlot}
-use Rattle.sd_belief.specs.Calls.{IsFree}
-use Rattle.sd_belief.specs.View.{CoreView}
+use Rattle.sd_crash_safety.specs.Calls.{IsFree}
+use Rattle.sd_crash_safety.specs.View.{CoreView}
 use Rattle.sd_core.specs.declared.numbers.Numbers.{Numbers}
 use Rattle.sd_core.specs.Sound.{HasHeader, IsDoing, due_serials}
 use Rattle.sd_core.specs.Starts.{base_of}

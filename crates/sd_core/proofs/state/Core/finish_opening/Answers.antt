@@ -9,8 +9,8 @@ use Rattle.sd_journal.specs.History.{Base}
 use Rattle.sd_journal.specs.History.{last, pending}
 use Rattle.sd_opener.specs.Looking.{Looking, out_of}
 use Rattle.sd_opener.specs.Sees.{Sees}
-use Rattle.sd_belief.specs.declared.standing.Standing.TheVariants.{Open}
-use Rattle.sd_belief.specs.View.{CoreView}
+use Rattle.sd_crash_safety.specs.declared.standing.Standing.TheVariants.{Open}
+use Rattle.sd_crash_safety.specs.View.{CoreView}
 use Rattle.sd_journal.specs.Marked.{entries_of}
 use Rattle.sd_core.specs.Noted.{marks_of}
 use Rattle.sd_core.proofs.OthersLemmas.{beside_seen, none_now}

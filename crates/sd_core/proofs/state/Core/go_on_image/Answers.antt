@@ -14,8 +14,8 @@ use Rattle.sd_merge.specs.Merger as merger
 use Rattle.sd_rounds.specs.declared.image_order.ImageOrder.{ImageOrder}
 use Rattle.sd_rounds.specs.Dumper.{is_dumping, is_last, next_slot, slot_of}
 use Rattle.sd_rounds.specs.Making.{Making, is_passing, is_past_freeze}
-use Rattle.sd_belief.specs.DumperSteps.{opens_gate}
-use Rattle.sd_belief.specs.View.{page_lane}
+use Rattle.sd_crash_safety.specs.DumperSteps.{opens_gate}
+use Rattle.sd_crash_safety.specs.View.{page_lane}
 use Rattle.sd_core.proofs.FlagLemmas.{gate_swept, gated_asked, gated_of, sure_asked, table_gated, table_sure, table_swept_by}
 use Rattle.sd_core.specs.Grown.{IsGatedStage, has_grown, has_swept}
 use Rattle.sd_core.specs.Dumping.{StepsOn}

@@ -4,8 +4,8 @@ use Rattle.sd_gate.specs.declared.worker.Worker.TheVariants as its
 use Rattle.sd_command.specs.declared.refusal.Refusal.TheVariants.{Damaged}
 use Rattle.sd_command.specs.declared.reply.Reply.TheVariants as reply
 use Rattle.sd_merge.specs.Merger.{AreRunning, HasSoundCopy}
-use Rattle.sd_belief.specs.Believes.{Believes}
-use Rattle.sd_belief.specs.View.{CoreView}
+use Rattle.sd_crash_safety.specs.Believes.{Believes}
+use Rattle.sd_crash_safety.specs.View.{CoreView}
 use Rattle.sd_core.specs.contracts.state.Core.{the_view}
 use Rattle.sd_core.specs.Merging.{MayRead, StepsAt}
 use Rattle.sd_core.proofs.ApplyLemmas.{same_phases}

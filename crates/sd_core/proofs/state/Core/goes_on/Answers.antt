@@ -1,5 +1,5 @@
 use Rattle.std.proofs.Common.{refl, subst}
-use Rattle.sd_belief.specs.View.{CoreView}
+use Rattle.sd_crash_safety.specs.View.{CoreView}
 use Rattle.sd_core.specs.GoingOn.{AreOwnLanes, CanGoOn, OpenerAsksAlone}
 use Rattle.sd_core.specs.contracts.state.Core.{the_view}
 use Rattle.sd_core.proofs.GoOnLemmas.{asks_alone, can_go_on, own_lanes}

@@ -1,6 +1,6 @@
 use Rattle.std.proofs.Common.{◌≡◌, Some, slice_get, sym, ◌∙◌, ap, subst, rules}
 use Rattle.sd_gate.specs.declared.request_id.RequestId.{RequestId}
-use Rattle.sd_belief.specs.View.{CoreView}
+use Rattle.sd_crash_safety.specs.View.{CoreView}
 use Rattle.sd_core.specs.Refusals.{is_idle}
 use Rattle.sd_core.specs.Rounds.{OpensItsGate}
 use Rattle.sd_core.proofs.HandedLemmas.{merger_lane, opener_lane}
@@ -33,6 +33,7 @@ returns-then-is_idle c = record {
   lists = search rules;
   retires = search rules;
   copies = search rules;
+  rests = search rules;
   cuts = search rules;
   flags = search rules;
   beside = search rules;
@@ -66,6 +67,7 @@ returns-in-Dumper c = record {
   lists = search rules;
   retires = search rules;
   copies = search rules;
+  rests = search rules;
   cuts = search rules;
   flags = search rules;
   beside = search rules;
@@ -96,6 +98,7 @@ returns-in-Merger c = record {
   lists = search rules;
   retires = search rules;
   copies = search rules;
+  rests = search rules;
   cuts = λ serial out is. c.hand_in_merger.ensures.cuts serial is;
   flags = search rules;
   beside = search rules;
@@ -126,6 +129,7 @@ returns-in-Opener c = record {
   lists = search rules;
   retires = search rules;
   copies = search rules;
+  rests = search rules;
   cuts = search rules;
   flags = search rules;
   beside = search rules;

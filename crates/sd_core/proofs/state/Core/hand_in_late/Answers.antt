@@ -7,8 +7,8 @@ use Rattle.sd_gate.specs.Calls.{is_done}
 use Rattle.sd_gate.specs.Phases.{phases_after}
 use Rattle.sd_command.specs.declared.refusal.Refusal.TheVariants.{StoreDown}
 use Rattle.sd_command.specs.declared.reply.Reply.TheVariants as reply
-use Rattle.sd_belief.specs.declared.standing.Standing.TheVariants.{Open, Down}
-use Rattle.sd_belief.specs.View.{CoreView}
+use Rattle.sd_crash_safety.specs.declared.standing.Standing.TheVariants.{Open, Down}
+use Rattle.sd_crash_safety.specs.View.{CoreView}
 use Rattle.sd_core.specs.contracts.state.Core.{the_view}
 use Rattle.sd_core.specs.Refusals.{is_idle}
 use Rattle.sd_core.specs.Sound.{held_for}

@@ -8,10 +8,10 @@ use Rattle.sd_command.specs.declared.refusal.Refusal.TheVariants.{StoreDown}
 use Rattle.sd_command.specs.declared.reply.Reply.TheVariants as reply
 use Rattle.sd_journal.specs.Marked.{entries_of}
 use Rattle.sd_merge.specs.Merger.{AreRunning, Hands, HasSoundCopy}
-use Rattle.sd_belief.specs.Calls.{AddsByOutcome}
-use Rattle.sd_belief.specs.DumperOutcomes.{LeavesCatalog, closes_for_sure}
-use Rattle.sd_belief.specs.MergerOutcomes.{IsMergersOutcome}
-use Rattle.sd_belief.specs.View.{CoreView}
+use Rattle.sd_crash_safety.specs.Calls.{AddsByOutcome}
+use Rattle.sd_crash_safety.specs.DumperOutcomes.{LeavesCatalog, closes_for_sure}
+use Rattle.sd_crash_safety.specs.MergerOutcomes.{IsMergersOutcome}
+use Rattle.sd_crash_safety.specs.View.{CoreView}
 use Rattle.sd_core.specs.contracts.state.Core.{the_view}
 use Rattle.sd_core.specs.Merging.{FixesList}
 use Rattle.sd_core.specs.Sound.{held_for}
@@ -19,7 +19,7 @@ use Rattle.sd_core.proofs.BesideLemmas.{merger_works}
 use Rattle.sd_core.proofs.CoreLemmas.{after_count}
 use Rattle.sd_core.proofs.FallenLemmas.{fallen_core, free_after, let_go_all}
 use Rattle.sd_core.proofs.HandedLemmas.{handed_merger, sync_of}
-use Rattle.sd_core.proofs.ListLemmas.{believed_seen, cut_seen, ended_cut, enters_seen, none_cut, not_copying, not_opened, opened_enters, opened_list, opened_now, opened_retires, opens_seen, still_copies}
+use Rattle.sd_core.proofs.ListLemmas.{believed_seen, cut_seen, ended_cut, enters_seen, none_cut, not_copying, not_opened, opened_enters, opened_list, opened_now, opened_rests, opened_retires, opens_seen, rests_seen, still_copies}
 use Rattle.sd_core.proofs.MergerHands.{IsMore, core_goes_on, handed_on, its_out, list_free, core_merged, ends_list, goes_on_believed, goes_rests, merged_believed}
 use Rattle.sd_core.proofs.OpenedLemmas.{core_opened, opened_believed, opens_beside}
 use Rattle.sd_core.proofs.OpeningLemmas.{handed_seen}
@@ -276,6 +276,10 @@ pub returns-in-Failed-clause-copies : goal.returns-in-Failed-clause-copies
 returns-in-Failed-clause-copies c =
     λ merge serial bodies o b. absurd (not_opened _ merge serial _ _ c.self.invariant (sym (ap (λ (v : CoreView). v.merger) c.self.view_is)) (λ n held. held) o)
 
+pub returns-in-Failed-clause-rests : goal.returns-in-Failed-clause-rests
+returns-in-Failed-clause-rests c =
+    λ merge serial bodies o b. absurd (not_opened _ merge serial _ _ c.self.invariant (sym (ap (λ (v : CoreView). v.merger) c.self.view_is)) (λ n held. held) o)
+
 pub returns-in-More-clause-lists : goal.returns-in-More-clause-lists
 returns-in-More-clause-lists c =
     let made = c.args.outcome in
@@ -315,6 +319,19 @@ returns-in-More-clause-copies c =
     (subst (λ (i : RequestId). LeavesCatalog c.closes_for_sure-closed.result i.slot c.self.inside.catalog c.leave_catalog.new.catalog) c.id-id.ensures c.leave_catalog.ensures) in
     λ merge serial bodies o b. absurd (not_opened _ merge serial _ _ c.self.invariant (sym (ap (λ (v : CoreView). v.merger) c.self.view_is)) (λ n held. left_held (closes_for_sure phase id.call) id.slot c.self.inside.catalog c.leave_catalog.new.catalog n leaves held) o)
 
+pub returns-in-More-clause-rests : goal.returns-in-More-clause-rests
+returns-in-More-clause-rests c =
+    let made = c.args.outcome in
+    let id = made.request.id in
+    let phases = c.self.inside.phases.items in
+    let phase = slice_index_or phases id.slot c.index.result.now in
+    let closed = c.closes_for_sure-closed.ensures ∙ ap (λ p. closes_for_sure p c.id-id.result.call) (c.index.ensures ∙ ap (λ (i : RequestId). slice_index_or phases i.slot c.index.result.now) c.id-id.ensures)
+    ∙ ap (λ (i : RequestId). closes_for_sure phase i.call) c.id-id.ensures in
+    let leaves : LeavesCatalog (closes_for_sure phase id.call) id.slot c.self.inside.catalog c.leave_catalog.new.catalog =
+    subst (λ b. LeavesCatalog b id.slot c.self.inside.catalog c.leave_catalog.new.catalog) closed
+    (subst (λ (i : RequestId). LeavesCatalog c.closes_for_sure-closed.result i.slot c.self.inside.catalog c.leave_catalog.new.catalog) c.id-id.ensures c.leave_catalog.ensures) in
+    λ merge serial bodies o b. absurd (not_opened _ merge serial _ _ c.self.invariant (sym (ap (λ (v : CoreView). v.merger) c.self.view_is)) (λ n held. left_held (closes_for_sure phase id.call) id.slot c.self.inside.catalog c.leave_catalog.new.catalog n leaves held) o)
+
 pub returns-in-Merged-clause-lists : goal.returns-in-Merged-clause-lists
 returns-in-Merged-clause-lists c =
     let made = c.args.outcome in
@@ -343,6 +360,19 @@ returns-in-Merged-clause-retires c =
 
 pub returns-in-Merged-clause-copies : goal.returns-in-Merged-clause-copies
 returns-in-Merged-clause-copies c =
+    let made = c.args.outcome in
+    let id = made.request.id in
+    let phases = c.self.inside.phases.items in
+    let phase = slice_index_or phases id.slot c.index.result.now in
+    let closed = c.closes_for_sure-closed.ensures ∙ ap (λ p. closes_for_sure p c.id-id.result.call) (c.index.ensures ∙ ap (λ (i : RequestId). slice_index_or phases i.slot c.index.result.now) c.id-id.ensures)
+    ∙ ap (λ (i : RequestId). closes_for_sure phase i.call) c.id-id.ensures in
+    let leaves : LeavesCatalog (closes_for_sure phase id.call) id.slot c.self.inside.catalog c.leave_catalog-in-Merged.new.catalog =
+    subst (λ b. LeavesCatalog b id.slot c.self.inside.catalog c.leave_catalog-in-Merged.new.catalog) closed
+    (subst (λ (i : RequestId). LeavesCatalog c.closes_for_sure-closed.result i.slot c.self.inside.catalog c.leave_catalog-in-Merged.new.catalog) c.id-id.ensures c.leave_catalog-in-Merged.ensures) in
+    λ merge serial bodies o b. absurd (not_opened _ merge serial _ _ c.self.invariant (sym (ap (λ (v : CoreView). v.merger) c.self.view_is)) (λ n held. left_held (closes_for_sure phase id.call) id.slot c.self.inside.catalog c.leave_catalog-in-Merged.new.catalog n leaves held) o)
+
+pub returns-in-Merged-clause-rests : goal.returns-in-Merged-clause-rests
+returns-in-Merged-clause-rests c =
     let made = c.args.outcome in
     let id = made.request.id in
     let phases = c.self.inside.phases.items in
@@ -501,6 +531,46 @@ returns-after-fix_list-clause-copies c =
     }) o (h.is ∙ ap Some h.hands.is) c.sound-in-Opened.ensures c.enter_catalog.ensures
     (subst (λ n. FixesList c.enter_catalog.new.catalog c.self.inside.dumper.running c.put_out.new.outs n c.hand_in-progress.new.self c.fix_list.result c.fix_list.new.merger) c.take_room-room.ensures c.fix_list.ensures.fixes)
     refl refl count merge serial bodies (opens_seen merge serial _ _ _ c.self.view_is opens) (believed_seen made.request bodies _ _ c.self.view_is b))
+
+pub returns-after-fix_list-clause-rests : goal.returns-after-fix_list-clause-rests
+returns-after-fix_list-clause-rests c =
+    let made = c.args.outcome in
+    let id = made.request.id in
+    let phases = c.self.inside.phases.items in
+    let own : slice_get c.self.inside.outs 1 ≡ Some (Some id) = ap (λ (v : CoreView). slice_get v.outs 1) c.self.view_is ∙ c.requires.out in
+    let within = c.self.invariant.outs_are.within 1 id own in
+    let follows : (phase : Phase) → slice_get phases id.slot ≡ Some phase → c.follow_call.new.phases.items ≡ phases_after phases id phase (is_done made.answer) =
+    (λ phase is. c.follow_call.ensures phase (ap (λ (i : RequestId). slice_get phases i.slot) c.id-id.ensures ∙ is)
+    ∙ ap (λ i. phases_after phases i phase c.is_done-done.result) c.id-id.ensures
+    ∙ ap (phases_after phases id phase) (c.is_done-done.ensures ∙ ap is_done c.answer.ensures)) in
+    let count = after_count phases c.follow_call.new.phases.items id (is_done made.answer) within follows in
+    let phase = slice_index_or phases id.slot c.index.result.now in
+    let phase_is = slice_get-get_or phases id.slot c.index.result.now within in
+    let h = subst (λ p. Hands c.self.inside.merger made p c.hand_in-progress.new.self) c.in-Opened.is c.hand_in-progress.ensures in
+    let m = merger_works _ h.running c.self.invariant h.was in
+    let o = opens_beside _ h.running made c.in-Opened.image h.next.doing c.self.invariant h.was (subst AreRunning h.was c.sound.ensures.running) (subst HasSoundCopy h.was c.sound.ensures.copy) h.hands.hands in
+    let outcome : IsMergersOutcome _ made phase _ = record {
+      out = own;
+      outs = c.put_out.ensures;
+      apart = free_after _ c.self.inside.outs _ _ _ _ 1 id c.self.invariant.outs_are own (omega arith);
+      phase_is = phase_is;
+      phases = follows phase phase_is;
+    } in
+    λ merge serial bodies opens b. (
+      m.stands,
+      rests_seen merge serial (bodies_after bodies id made.request.bytes) _ _ _ c.self.view_is
+          (opened_rests _ c.merger_outcomes-in-Opened.ensures _ (the_view c.self.inside) _ h.running made phase c.in-Opened.image h.next.doing c.hand_in-progress.new.self c.fix_list.result c.self.invariant h.was (record {
+            outcome = outcome;
+            rest = record { stands = m.stands; base = refl; history = refl; memory = refl; closed = m.closed; grows = refl; committing = refl; dumper = refl; makes = makes_in c.self.inside.dumper.since_freeze c.self.inside.dumper.running c.sound-2.ensures.running };
+            serial = refl;
+            old_places = refl;
+            old_running = refl;
+            its_catalog = refl;
+            was = h.was;
+          }) o (h.is ∙ ap Some h.hands.is) c.sound-in-Opened.ensures c.enter_catalog.ensures
+          (subst (λ n. FixesList c.enter_catalog.new.catalog c.self.inside.dumper.running c.put_out.new.outs n c.hand_in-progress.new.self c.fix_list.result c.fix_list.new.merger) c.take_room-room.ensures c.fix_list.ensures.fixes)
+          refl refl count merge serial bodies (opens_seen merge serial _ _ _ c.self.view_is opens) (believed_seen made.request bodies _ _ c.self.view_is b)),
+    )
 
 pub returns-after-fix_list-clause-cuts : goal.returns-after-fix_list-clause-cuts
 returns-after-fix_list-clause-cuts c =

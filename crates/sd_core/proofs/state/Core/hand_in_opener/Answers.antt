@@ -6,11 +6,11 @@ use Rattle.sd_gate.specs.Calls.{is_done}
 use Rattle.sd_gate.specs.Phases.{phases_after}
 use Rattle.sd_command.specs.declared.reply.Reply.TheVariants as reply
 use Rattle.sd_command.specs.declared.refusal.Refusal.TheVariants.{StoreDown}
-use Rattle.sd_belief.specs.View.{CoreView}
+use Rattle.sd_crash_safety.specs.View.{CoreView}
 use Rattle.sd_core.proofs.FlagLemmas.{same_flags}
 use Rattle.sd_core.specs.Sound.{AreNumbers, IsOpening, held_for, out_of_opener}
 use Rattle.sd_core.specs.Working.{opener_left}
-use Rattle.sd_belief.specs.declared.standing.Standing.TheVariants.{Open}
+use Rattle.sd_crash_safety.specs.declared.standing.Standing.TheVariants.{Open}
 use Rattle.sd_core.specs.Starts.{base_of}
 use Rattle.sd_core.proofs.CoreLemmas.{alone_is, after_count, closed_by, held_let_go, held_opening, none_out, not_taught, set_nobody, taught_opener}
 use Rattle.sd_core.proofs.FallenLemmas.{by_worker, fallen_same, opener_left_some, runs_by}

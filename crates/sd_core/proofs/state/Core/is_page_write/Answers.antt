@@ -1,6 +1,6 @@
 use Rattle.std.proofs.Common.{◌≡◌, ◌<◌, Some, slice_get, sym, ◌∙◌, ap, subst}
 use Rattle.std.proofs.lemmas.Bool.{lt-ltb, ltb-true}
-use Rattle.sd_belief.specs.View.{CoreView}
+use Rattle.sd_crash_safety.specs.View.{CoreView}
 use Rattle.sd_core.proofs.LaneLemmas.{same_lane}
 use Rattle.sd_core.proofs.state.Core.is_page_write.Goals as goal
 

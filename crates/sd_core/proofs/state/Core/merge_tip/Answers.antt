@@ -3,7 +3,7 @@ use Rattle.std.proofs.lemmas.Option.{slice_get-get_or}
 use Rattle.sd_chain.specs.Catalog.{IsTip}
 use Rattle.sd_merge.specs.Merger.{begun_merge}
 use Rattle.sd_rounds.specs.Dumper.{HasSlot}
-use Rattle.sd_belief.specs.View.{CoreView}
+use Rattle.sd_crash_safety.specs.View.{CoreView}
 use Rattle.sd_core.specs.contracts.state.Core.{the_view}
 use Rattle.sd_core.specs.Beginning.{FreeSlots}
 use Rattle.sd_core.specs.Merging.{has_tip}

@@ -3,12 +3,12 @@ use Rattle.sd_areas.specs.Memory.{memory_of}
 use Rattle.sd_journal.specs.declared.origin.Origin.TheVariants as origins
 use Rattle.sd_journal.specs.Allowed.{IsLastPair}
 use Rattle.sd_journal.specs.Marked.{entries_of}
-use Rattle.sd_belief.specs.declared.standing.Standing.TheVariants.{NotOpen, Open}
+use Rattle.sd_crash_safety.specs.declared.standing.Standing.TheVariants.{NotOpen, Open}
 use Rattle.sd_rounds.specs.Dumper.{Dumping}
 use Rattle.sd_core.proofs.FlagLemmas.{set_flags}
 use Rattle.sd_core.specs.Grown.{has_grown, has_swept}
 use Rattle.sd_core.specs.Sound.{held_for}
-use Rattle.sd_belief.specs.OpenerSteps.{nobody}
+use Rattle.sd_crash_safety.specs.OpenerSteps.{nobody}
 use Rattle.sd_core.specs.Starts.{nothing_asked, shown_base}
 use Rattle.sd_core.proofs.CoreLemmas.{none_out}
 use Rattle.sd_core.proofs.MergeLemmas.{no_merge}

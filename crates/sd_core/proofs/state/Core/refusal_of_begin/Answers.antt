@@ -1,6 +1,6 @@
 use Rattle.std.proofs.Common.{◌≡◌, ◌-◌, length, nat_lt, is_some, refl, ◌∙◌, ap, arith}
 use Rattle.sd_journal.specs.Marked.{entries_of}
-use Rattle.sd_belief.specs.View.{CoreView}
+use Rattle.sd_crash_safety.specs.View.{CoreView}
 use Rattle.sd_core.specs.Beginning.{are_used_up, free_entries, is_down, is_not_open}
 use Rattle.sd_core.proofs.BeginLemmas.{is_busy, same_first}
 use Rattle.sd_core.proofs.state.Core.refusal_of_begin.Goals as goal

@@ -1,6 +1,6 @@
 use Rattle.std.proofs.Common.{◌^◌, not, nat_le, is_some, ◌∙◌, ap}
 use Rattle.sd_command.specs.declared.refusal.Refusal.TheVariants as refusal
-use Rattle.sd_belief.specs.View.{CoreView}
+use Rattle.sd_crash_safety.specs.View.{CoreView}
 use Rattle.sd_core.specs.Beginning.{is_down, is_not_open}
 use Rattle.sd_core.specs.Merging.{has_tip}
 use Rattle.sd_core.proofs.BeginLemmas.{is_busy}

@@ -4,7 +4,7 @@ use Rattle.sd_gate.specs.declared.worker.Worker.TheVariants as its
 use Rattle.sd_command.specs.declared.reply.Reply.TheVariants as reply
 use Rattle.sd_command.specs.declared.refusal.Refusal.TheVariants.{Damaged as DamagedStore}
 use Rattle.sd_journal.specs.History.{Base}
-use Rattle.sd_belief.specs.OpenerSteps.{opener_alone}
+use Rattle.sd_crash_safety.specs.OpenerSteps.{opener_alone}
 use Rattle.sd_opener.specs.Looking.{out_of}
 use Rattle.sd_opener.specs.Sees.{Sees}
 use Rattle.sd_core.specs.contracts.state.Core.{the_view}

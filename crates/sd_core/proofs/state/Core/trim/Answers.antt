@@ -3,9 +3,9 @@ use Rattle.std.proofs.lemmas.Option.{same_Some}
 use Rattle.sd_command.specs.declared.refusal.Refusal.TheVariants.{NumbersUsed, OutOfMemory}
 use Rattle.sd_journal.specs.History.{last}
 use Rattle.sd_journal.specs.Marked.{entries_of}
-use Rattle.sd_belief.specs.Believes.{Believes}
-use Rattle.sd_belief.specs.Trims.{trimmed}
-use Rattle.sd_belief.specs.View.{CoreView, history_of}
+use Rattle.sd_crash_safety.specs.Believes.{Believes}
+use Rattle.sd_crash_safety.specs.Trims.{trimmed}
+use Rattle.sd_crash_safety.specs.View.{CoreView, history_of}
 use Rattle.sd_core.specs.contracts.state.Core.{the_view}
 use Rattle.sd_core.specs.Starts.{base_of}
 use Rattle.sd_core.specs.Trims.{Trims, unfolded}

@@ -14,15 +14,6 @@ use Rattle.sd_pagetable.proofs.memory.Memory.store_now.Goals as goal
 pub make_writable-requires-clause-permitted : goal.make_writable-requires-clause-permitted
 make_writable-requires-clause-permitted c = let x = write_there c.args.self.now c.self.inside.paging c.args.space (page_of c.args.address) c.in_ok-place.place.page c.self.view_is c.in_ok-place.ensures.page c.in_ok-place.ensures.permitted in rw x.1 x.2
 
-pub make_writable-requires-clause-there : goal.make_writable-requires-clause-there
-make_writable-requires-clause-there c = let x = write_there c.args.self.now c.self.inside.paging c.args.space (page_of c.args.address) c.in_ok-place.place.page c.self.view_is c.in_ok-place.ensures.page c.in_ok-place.ensures.permitted in rw x.1 refl
-
-pub write-requires-clause-there : goal.write-requires-clause-there
-write-requires-clause-there c = let x = writable_there c.self.inside.paging c.make_writable.new.self c.args.space c.in_ok-place.place.page c.in_ok-make_writable.ensures.writable in rw x.1 refl
-
-pub write-requires-clause-writable : goal.write-requires-clause-writable
-write-requires-clause-writable c = let x = writable_there c.self.inside.paging c.make_writable.new.self c.args.space c.in_ok-place.place.page c.in_ok-make_writable.ensures.writable in rw x.1 x.2
-
 stored : (m n l : Contents) (s address p offset : ℕ) (bytes : List ℕ) → p ≡ page_of address → offset ≡ address % 4096 → MakesWritable m s p (λ b. b) n
     → IfSome (page_at n s p) (λ (before : Page). l ≡ put_page n s p (stored_page before (stored_at before.bytes offset bytes)))
     → MakesWritable m s (page_of address) (λ before. stored_at before (address % 4096) bytes) l × (plain_of l ≡ after_store (plain_of m) s address bytes)
@@ -32,11 +23,11 @@ stored m n l s address p offset bytes pe oe o h = stored_after m n l s address b
 
 pub returns-clause-step : goal.returns-clause-step
 returns-clause-step c = (stored c.args.self.now c.make_writable.new.self c.write.new.self c.args.space c.args.address c.in_ok-place.place.page c.in_ok-place.place.offset c.args.bytes.now c.in_ok-place.ensures.page c.in_ok-place.ensures.offset
-    (subst (λ (m : Contents). MakesWritable m c.args.space c.in_ok-place.place.page (λ b. b) c.make_writable.new.self) c.self.view_is c.in_ok-make_writable.ensures.writable) c.write.ensures).0
+    (subst (λ (m : Contents). MakesWritable m c.args.space c.in_ok-place.place.page (λ b. b) c.make_writable.new.self) c.self.view_is c.in_ok-entry.ensures.writable) c.write.ensures).0
 
 pub returns-clause-memory : goal.returns-clause-memory
 returns-clause-memory c = (stored c.args.self.now c.make_writable.new.self c.write.new.self c.args.space c.args.address c.in_ok-place.place.page c.in_ok-place.place.offset c.args.bytes.now c.in_ok-place.ensures.page c.in_ok-place.ensures.offset
-    (subst (λ (m : Contents). MakesWritable m c.args.space c.in_ok-place.place.page (λ b. b) c.make_writable.new.self) c.self.view_is c.in_ok-make_writable.ensures.writable) c.write.ensures).1
+    (subst (λ (m : Contents). MakesWritable m c.args.space c.in_ok-place.place.page (λ b. b) c.make_writable.new.self) c.self.view_is c.in_ok-entry.ensures.writable) c.write.ensures).1
 
 pub invariant_of-self : goal.invariant_of-self
 invariant_of-self c = either_result c.make_writable.result _ _ _ c.make_writable.ensures.writable c.make_writable.ensures.err
@@ -44,6 +35,6 @@ invariant_of-self c = either_result c.make_writable.result _ _ _ c.make_writable
 
 pub invariant_of-self-2 : goal.invariant_of-self-2
 invariant_of-self-2 c =
-    let o = areas_made_writable c.self.inside.areas c.self.inside.paging c.make_writable.new.self c.args.space c.in_ok-place.place.page (λ b. b) c.self.invariant c.in_ok-make_writable.ensures.writable in
-    let x = writable_there c.self.inside.paging c.make_writable.new.self c.args.space c.in_ok-place.place.page c.in_ok-make_writable.ensures.writable in
+    let o = areas_made_writable c.self.inside.areas c.self.inside.paging c.make_writable.new.self c.args.space c.in_ok-place.place.page (λ b. b) c.self.invariant c.in_ok-entry.ensures.writable in
+    let x = writable_there c.self.inside.paging c.make_writable.new.self c.args.space c.in_ok-place.place.page c.in_ok-entry.ensures.writable in
     areas_stored c.self.inside.areas c.make_writable.new.self c.write.new.self c.args.space c.in_ok-place.place.page (λ b. stored_at b c.in_ok-place.place.offset c.args.bytes.now) o (ap is_some x.1) c.write.ensures

@@ -43,10 +43,10 @@ inherits pool tables n parent child page e m kept v h apart mapped fresh =
       none = ap (λ (z : Page). z.class) own.2 ∙ rw x.1 at fresh;
     }
 
-pub replace-requires-2 : goal.replace-requires-2
-replace-requires-2 c =
+pub replace-requires : goal.replace-requires
+replace-requires c =
     let i = inherits c.self.inside.frames c.self.inside.tables c.self.inside.mapped c.args.parent c.args.child c.args.page c.in-Some.entry c.args.self.now c.self.invariant c.self.view_is (sym c.in-Some.ensures) c.requires.apart c.requires.mapped c.requires.fresh in
-    let t : c.replace.new.self ≡ put_at c.self.inside.tables c.args.parent c.args.page (shared_entry c.in-Some.entry) = c.replace.ensures ∙ ap (put_at c.self.inside.tables c.args.parent c.args.page) c.write_protected.ensures in
+    let t : c.protect_entry.new.tables ≡ put_at c.self.inside.tables c.args.parent c.args.page (shared_entry c.in-Some.entry) = c.protect_entry.ensures in
     subst (λ (tables : Nested Entry). IsSome (value_at tables c.args.child c.args.page)) (sym t) (ap is_some i.here)
 
 pub share-requires-clause-used : goal.share-requires-clause-used
@@ -62,9 +62,9 @@ share-requires-clause-few c = λ frame is.
 pub invariant_of-self : goal.invariant_of-self
 invariant_of-self c =
     let i = inherits c.self.inside.frames c.self.inside.tables c.self.inside.mapped c.args.parent c.args.child c.args.page c.in-Some.entry c.args.self.now c.self.invariant c.self.view_is (sym c.in-Some.ensures) c.requires.apart c.requires.mapped c.requires.fresh in
-    let t : c.replace.new.self ≡ put_at c.self.inside.tables c.args.parent c.args.page (shared_entry c.in-Some.entry) = c.replace.ensures ∙ ap (put_at c.self.inside.tables c.args.parent c.args.page) c.write_protected.ensures in
-    let u : c.replace-2.new.self ≡ put_at (put_at c.self.inside.tables c.args.parent c.args.page (shared_entry c.in-Some.entry)) c.args.child c.args.page (inherited_entry c.in-Some.entry) =
-    c.replace-2.ensures ∙ ap (λ (tables : Nested Entry). put_at tables c.args.child c.args.page c.write_protected-2.result) t ∙ ap (put_at (put_at c.self.inside.tables c.args.parent c.args.page (shared_entry c.in-Some.entry)) c.args.child c.args.page) c.write_protected-2.ensures in
+    let t : c.protect_entry.new.tables ≡ put_at c.self.inside.tables c.args.parent c.args.page (shared_entry c.in-Some.entry) = c.protect_entry.ensures in
+    let u : c.replace.new.self ≡ put_at (put_at c.self.inside.tables c.args.parent c.args.page (shared_entry c.in-Some.entry)) c.args.child c.args.page (inherited_entry c.in-Some.entry) =
+    c.replace.ensures ∙ ap (λ (tables : Nested Entry). put_at tables c.args.child c.args.page c.write_protected.result) t ∙ ap (put_at (put_at c.self.inside.tables c.args.parent c.args.page (shared_entry c.in-Some.entry)) c.args.child c.args.page) c.write_protected.ensures in
     subst (λ (tables : Nested Entry). IsKept c.share.new.frames tables c.self.inside.mapped) (sym u)
     (kept_inherited c.self.inside.frames c.share.new.frames (put_at c.self.inside.tables c.args.parent c.args.page (shared_entry c.in-Some.entry)) c.self.inside.mapped c.args.parent c.args.child c.args.page (shared_entry c.in-Some.entry) i.own i.kept i.there refl i.here i.none c.share.ensures (inherited_entry c.in-Some.entry) refl refl)
 
@@ -72,9 +72,9 @@ pub returns : goal.returns
 returns c =
     let i = inherits c.self.inside.frames c.self.inside.tables c.self.inside.mapped c.args.parent c.args.child c.args.page c.in-Some.entry c.args.self.now c.self.invariant c.self.view_is (sym c.in-Some.ensures) c.requires.apart c.requires.mapped c.requires.fresh in
     let h = sym c.in-Some.ensures in
-    let t : c.replace.new.self ≡ put_at c.self.inside.tables c.args.parent c.args.page (shared_entry c.in-Some.entry) = c.replace.ensures ∙ ap (put_at c.self.inside.tables c.args.parent c.args.page) c.write_protected.ensures in
-    let u : c.replace-2.new.self ≡ put_at (put_at c.self.inside.tables c.args.parent c.args.page (shared_entry c.in-Some.entry)) c.args.child c.args.page (inherited_entry c.in-Some.entry) =
-    c.replace-2.ensures ∙ ap (λ (tables : Nested Entry). put_at tables c.args.child c.args.page c.write_protected-2.result) t ∙ ap (put_at (put_at c.self.inside.tables c.args.parent c.args.page (shared_entry c.in-Some.entry)) c.args.child c.args.page) c.write_protected-2.ensures in
+    let t : c.protect_entry.new.tables ≡ put_at c.self.inside.tables c.args.parent c.args.page (shared_entry c.in-Some.entry) = c.protect_entry.ensures in
+    let u : c.replace.new.self ≡ put_at (put_at c.self.inside.tables c.args.parent c.args.page (shared_entry c.in-Some.entry)) c.args.child c.args.page (inherited_entry c.in-Some.entry) =
+    c.replace.ensures ∙ ap (λ (tables : Nested Entry). put_at tables c.args.child c.args.page c.write_protected.result) t ∙ ap (put_at (put_at c.self.inside.tables c.args.parent c.args.page (shared_entry c.in-Some.entry)) c.args.child c.args.page) c.write_protected.ensures in
     let now = ap (contents_of c.share.new.frames) u
     ∙ view_inherited c.self.inside.frames c.share.new.frames (put_at c.self.inside.tables c.args.parent c.args.page (shared_entry c.in-Some.entry)) c.self.inside.mapped c.args.parent c.args.child c.args.page (shared_entry c.in-Some.entry) i.own i.kept i.there refl i.here i.none c.share.ensures (inherited_entry c.in-Some.entry) refl
     ∙ ap (λ (m : Contents). put_page m c.args.child c.args.page (page_of_entry c.self.inside.frames (inherited_entry c.in-Some.entry)))

@@ -7,7 +7,7 @@ use Rattle.sd_rounds.proofs.round.Round.leave.Goals as goal
 
 pub invariant_of-self-2 : goal.invariant_of-self-2
 invariant_of-self-2 c =
-    left_round c.self.inside.takes_all c.self.inside.tables.items c.push_entry.new.tables.items c.self.inside.after c.self.inside.taking c.self.inside.buffer.items
+    left_round c.self.inside.takes_all c.self.inside.tables.items c.push_entry.new.tables.items c.self.inside.after c.self.inside.taking c.self.inside.copy
     (c.args.space, c.args.page) c.self.invariant (subst (λ (p : Pass). p.taking ≡ None) (sym c.self.view_is) c.requires.free)
     (subst (λ (p : Pass). is_above p.after c.args.space c.args.page ≡ true) (sym c.self.view_is) c.requires.above) c.requires.least c.requires.greatest
     (c.in_ok-push_entry.ensures.more (source c.self.inside.takes_all) c.self.invariant.are
@@ -16,7 +16,7 @@ invariant_of-self-2 c =
 
 pub push_entry-requires : goal.push_entry-requires
 push_entry-requires c = record {
-  behind = ends_ahead c.self.inside.takes_all c.self.inside.tables.items c.self.inside.after c.self.inside.taking c.self.inside.buffer.items
+  behind = ends_ahead c.self.inside.takes_all c.self.inside.tables.items c.self.inside.after c.self.inside.taking c.self.inside.copy
       (c.args.space, c.args.page) c.self.invariant (subst (λ (p : Pass). p.taking ≡ None) (sym c.self.view_is) c.requires.free)
       (subst (λ (p : Pass). is_above p.after c.args.space c.args.page ≡ true) (sym c.self.view_is) c.requires.above) c.requires.least;
 }

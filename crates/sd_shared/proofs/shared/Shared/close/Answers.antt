@@ -1,5 +1,5 @@
 use Rattle.std.proofs.Common.{reverse}
-use Rattle.sd_belief.specs.View.{history_of}
+use Rattle.sd_crash_safety.specs.View.{history_of}
 use Rattle.sd_journal.specs.Receipts.{IsFault}
 use Rattle.sd_shared.proofs.CloseLemmas.{of_some}
 use Rattle.sd_shared.proofs.shared.Shared.close.Goals as goal

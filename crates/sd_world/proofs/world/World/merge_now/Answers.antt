@@ -5,6 +5,7 @@ use Rattle.sd_world.specs.Jobs.{GoesByJob, IsJob}
 use Rattle.sd_world.specs.Points.{StandsAt}
 use Rattle.sd_world.specs.Promise.{Point}
 use Rattle.sd_world.proofs.JobLemmas.{merge_ends}
+use Rattle.sd_world.proofs.SavedLemmas.{IsOfJob, job_keeps}
 use Rattle.sd_world.proofs.world.World.merge_now.Goals as goal
 
 pub merged-requires : goal.merged-requires
@@ -17,3 +18,6 @@ pub returns-clause-promise : goal.returns-clause-promise
 returns-clause-promise g c = λ honest first stands.
     subst (λ answer. (last : Point g.row.D.Denot) × StandsAt c.do_job.new.self last × GoesByJob g.D.Disk (Merge ∷ []) Merger first answer last) c.merged.ensures
     (c.do_job.ensures.promise honest first stands)
+
+pub returns-clause-memory : goal.returns-clause-memory
+returns-clause-memory g c = job_keeps g.D.Disk Merge Merger c.args.self.now c.do_job.new.self c.do_job.result IsOfJob.merge c.sound.ensures.tracked c.do_job.ensures.job

@@ -21,7 +21,7 @@ invariant_of-result g c =
     let starts = c.new-core.ensures.starts in
     let read = c.in-Ok.ensures in
     let same : D.contents disk ≡ D.contents c.args.disk = read.reads.same in
-    subst (λ kept. IsWorldThere D (record { core = c.new-core.result; disk = disk; kept = kept })) (sym c.nothing_kept-kept.ensures) (record {
+    subst (λ kept. IsWorldThere D (record { core = c.new-core.result; disk = disk; kept = kept })) (sym c.new-kept.ensures) (record {
       is = record {
         count = ap length same ∙ sym read.count ∙ ap length (sym starts.phases);
         outs = starts.outs;

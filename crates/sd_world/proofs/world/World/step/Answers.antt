@@ -1,11 +1,11 @@
 use Rattle.std.proofs.Common.{refl, subst}
 use Rattle.sd_disk.specs.Crash.{Within}
-use Rattle.sd_belief.specs.Shown.{ShowsAllowed}
+use Rattle.sd_crash_safety.specs.Shown.{ShowsAllowed}
 use Rattle.sd_gate.specs.Laws.{GivenUpFits}
 use Rattle.sd_core.specs.GoingOn.{AreOwnLanes, CanGoOn, OpenerAsksAlone}
 use Rattle.sd_core.specs.Lasting.{LeavesMerged}
 use Rattle.sd_core.specs.Rounds.{HasFewOpen}
-use Rattle.sd_belief.specs.View.{CoreView, history_of}
+use Rattle.sd_crash_safety.specs.View.{CoreView, history_of}
 use Rattle.sd_world.specs.declared.kept.Kept.TheVariants.{Request}
 use Rattle.sd_world.specs.Acked.{HasPreDumpsThere, IsWorldThere}
 use Rattle.sd_world.specs.Consistent.{IsWorld}
@@ -15,6 +15,7 @@ use Rattle.sd_world.proofs.AckedLemmas.{step_acks, step_checkpoint, step_pre_dum
 use Rattle.sd_world.proofs.AddsLemmas.{step_adds, step_base, step_honest, step_span}
 use Rattle.sd_world.proofs.AllowedLemmas.{world_allows}
 use Rattle.sd_world.proofs.ClosesLemmas.{step_closes, step_ends}
+use Rattle.sd_world.proofs.CopiedLemmas.{step_copies}
 use Rattle.sd_world.proofs.FirstLemmas.{device_step, idle_step, made_step}
 use Rattle.sd_world.proofs.LittleLemmas.{step_little}
 use Rattle.sd_world.proofs.MergesLemmas.{step_keeps, step_merges}
@@ -137,6 +138,19 @@ returns-clause-ends g c = λ honest.
     let old = c.args.self.now in
     step_ends g.D.Disk old new (subst (IsWorld g.D.Disk) c.self.view_is c.self.invariant.is) c.args.event.now c.make_step-answer.result
     (subst (λ w. Does g.D.Disk c.args.event.now w c.make_step-answer.result new) c.self.view_is c.make_step-answer.ensures) (returns-clause-merges g c honest)
+
+pub returns-clause-copies : goal.returns-clause-copies
+returns-clause-copies g c = λ honest.
+    let new : WorldView g.row.D.Denot = record { core = c.make_step-answer.new.core; disk = c.make_step-answer.new.disk; kept = c.make_step-answer.new.kept } in
+    let old = c.args.self.now in
+    let world = subst (IsWorld g.D.Disk) c.self.view_is c.self.invariant.is in
+    let does = subst (λ w. Does g.D.Disk c.args.event.now w c.make_step-answer.result new) c.self.view_is c.make_step-answer.ensures in
+    let now = (invariant_of-self g c).is in
+    step_copies g.D.Disk old new world c.writes_commute.ensures
+    (subst (λ (w : WorldView g.row.D.Denot). GivenUpFits (g.D.Disk.contents w.disk) (g.D.Disk.may_leave w.disk)) c.self.view_is c.given_up_fits.ensures)
+    (subst (λ (w : WorldView g.row.D.Denot). AreOwnLanes w.core.outs) c.self.view_is c.goes_on.ensures.lanes)
+    now c.left_as_believed.ensures (g.met.D.Disk.as_read c.make_step-answer.new.disk)
+    c.args.event.now c.make_step-answer.result does (world.consistent (step_honest g.D.Disk old new world c.args.event.now c.make_step-answer.result does honest)) (now.consistent honest)
 
 pub returns-clause-acked : goal.returns-clause-acked
 returns-clause-acked g c = λ honest.

@@ -1,6 +1,0 @@
-use Rattle.sd_belief.proofs.BeginsLaw.{beginning_lem}
-use Rattle.sd_belief.proofs.laws.beginning_law.Goals as goal
-
-pub returns : goal.returns
-returns c = beginning_lem c.gate_steps.ensures c.needs_no_more.ensures c.needed_is_reached.ensures c.args.catalog.now
-    c.catalog_in_use_tells.ensures c.told_reaches_so.ensures c.agrees.ensures

@@ -1,5 +1,0 @@
-use Rattle.sd_belief.proofs.CancelLaw.{cancelling_lem}
-use Rattle.sd_belief.proofs.laws.cancelling_law.Goals as goal
-
-pub returns : goal.returns
-returns c = cancelling_lem c.quiet_steps.ensures c.gate_steps.ensures c.needs_no_more.ensures

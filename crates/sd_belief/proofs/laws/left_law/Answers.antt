@@ -1,5 +1,0 @@
-use Rattle.sd_belief.proofs.Reopened.{left_shows_lem}
-use Rattle.sd_belief.proofs.laws.left_law.Goals as goal
-
-pub returns : goal.returns
-returns c = left_shows_lem c.left_as_believed.ensures c.contents_show.ensures

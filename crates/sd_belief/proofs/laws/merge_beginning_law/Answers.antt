@@ -1,6 +1,0 @@
-use Rattle.sd_belief.proofs.BeginsMerge.{begins_merge_lem}
-use Rattle.sd_belief.proofs.laws.merge_beginning_law.Goals as goal
-
-pub returns : goal.returns
-returns c = begins_merge_lem c.gate_steps.ensures c.needs_no_more.ensures c.making_law.ensures c.needed_is_reached.ensures c.args.catalog.now
-    c.catalog_in_use_tells.ensures c.told_reaches_so.ensures c.agrees.ensures

@@ -1,5 +1,0 @@
-use Rattle.sd_belief.proofs.OpenerSteps.{opener_steps_lem}
-use Rattle.sd_belief.proofs.laws.opener_steps.Goals as goal
-
-pub returns : goal.returns
-returns c = opener_steps_lem c.quiet_steps.ensures c.given_up_syncs.ensures

@@ -1,5 +1,0 @@
-use Rattle.sd_belief.proofs.QuietSteps.{quiet_steps_lem}
-use Rattle.sd_belief.proofs.laws.quiet_steps.Goals as goal
-
-pub returns : goal.returns
-returns c = quiet_steps_lem c.beliefs_follow_calls.ensures c.one_belief_changes.ensures c.journal_laws.ensures

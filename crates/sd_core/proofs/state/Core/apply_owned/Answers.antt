@@ -1,0 +1,122 @@
+use Rattle.std.proofs.Common.{◌≡◌, ◌∷◌, length, IfSome, sym, refl, ◌∙◌, ap, subst, arith, rules}
+use Rattle.sd_journal.specs.History.{Base}
+use Rattle.sd_journal.specs.declared.entry.Entry.TheVariants.{Applied}
+use Rattle.sd_journal.specs.Marked.{Told, entries_of}
+use Rattle.sd_crash_safety.specs.View.{CoreView, history_of}
+use Rattle.sd_core.proofs.FlagLemmas.{same_flags}
+use Rattle.sd_core.specs.Grown.{has_grown, has_swept}
+use Rattle.sd_core.specs.Answering.{IsAnswered}
+use Rattle.sd_core.specs.LittleWork.{HasLittle}
+use Rattle.sd_core.specs.Sound.{AreNumbers, IsAtWork, IsJournal}
+use Rattle.sd_crash_safety.specs.CoreSteps.{IsCommanded}
+use Rattle.sd_core.specs.Starts.{base_of}
+use Rattle.sd_core.specs.Visited.{HasSwept}
+use Rattle.sd_core.proofs.ApplyLemmas.{bytes_pass, commanded, stays_applied, stays_same}
+use Rattle.sd_core.proofs.JournalLemmas.{applied_journal, same_journal}
+use Rattle.sd_core.proofs.LittleLemmas.{applied_little, still_while_frozen}
+use Rattle.sd_core.proofs.OpeningLemmas.{stays_seen}
+use Rattle.sd_core.proofs.SettledLemmas.{swept_answered}
+use Rattle.sd_core.proofs.WorkLemmas.{applied_numbers, applied_work}
+use Rattle.sd_core.proofs.state.Core.apply_owned.Goals as goal
+
+pub invariant_of-self-in_default-copy_reply : goal.invariant_of-self-in_default-copy_reply
+invariant_of-self-in_default-copy_reply c =
+    let base : Base = base_of c.self.inside.base in
+    let bytes = c.in_default-copy_reply.ensures.bytes refl in
+    let same = bytes_pass c.is_some.result c.args.command c.in-Ok-answer.reply bytes.0 c.self.inside.memory c.answer.new.memory bytes.1 c.in-Ok-answer.ensures.answered in
+    let before = c.reserve.ensures.grown.items in
+    record {
+      journal_is = subst (λ m. IsJournal base c.reserve.new.self m c.self.inside.pending c.self.inside.last) (sym same)
+          (same_journal base c.self.inside.journal c.reserve.new.self c.self.inside.memory c.self.inside.pending c.self.inside.last c.reserve.ensures.grown.first before c.reserve.ensures.grown.limit c.self.invariant.journal_is);
+      held = c.reserve.ensures.grown.held ∙ c.self.invariant.held;
+      outs_are = c.self.invariant.outs_are;
+      opening = c.self.invariant.opening;
+      numbers_are = subst (λ all. AreNumbers base all c.self.inside.pending c.self.inside.last c.self.inside.numbers) (sym before) c.self.invariant.numbers_are;
+      counted = c.self.invariant.counted;
+      rests = c.self.invariant.rests;
+      work = subst (λ all. IfSome c.self.inside.dumper.running (IsAtWork base all c.self.inside.pending c.self.inside.standing c.self.inside.phases.items c.self.inside.catalog c.self.inside.merger c.self.inside.opener c.self.inside.numbers)) (sym before) c.self.invariant.work;
+      little = subst (λ m. IfSome c.self.inside.dumper.running (HasLittle base c.reserve.new.self.items m)) (sym same)
+          (subst (λ all. IfSome c.self.inside.dumper.running (HasLittle base all c.self.inside.memory)) (sym before) c.self.invariant.little);
+      swept_is = subst (λ m. HasSwept c.self.inside.swept c.self.inside.pending m) (sym same) c.self.invariant.swept_is;
+      flags_are = same_flags base c.self.inside.journal.items c.reserve.new.self.items c.self.inside.swept c.self.inside.grows c.self.inside.committing before c.self.invariant.flags_are;
+      gated = c.self.invariant.gated;
+      merging = c.self.invariant.merging;
+    }
+
+pub returns-in_default-copy_reply : goal.returns-in_default-copy_reply
+returns-in_default-copy_reply c =
+    let bytes = c.in_default-copy_reply.ensures.bytes refl in
+    let same = bytes_pass c.is_some.result c.args.command c.in-Ok-answer.reply bytes.0 c.self.inside.memory c.answer.new.memory bytes.1 c.in-Ok-answer.ensures.answered in
+    record {
+      applies = search rules;
+      number = search rules;
+      full = search rules;
+      stands = search rules;
+      job = search rules;
+      merge = search rules;
+      answered = search rules;
+      flags = search rules;
+      opening = search rules;
+      marks = search rules;
+      images = search rules;
+      keeps = stays_seen _ _ _ c.self.view_is (stays_same c.core_steps.ensures _ _ (record {
+        store = record { base = refl; phases = refl; outs = refl; opener = refl; standing = refl; catalog = refl; grows = refl; committing = refl; dumper = refl; merger = refl; serial = refl };
+        history = ap entries_of c.reserve.ensures.grown.items;
+        memory = same;
+      }));
+    }
+
+pub invariant_of-self-2 : goal.invariant_of-self-2
+invariant_of-self-2 c =
+    let base : Base = base_of c.self.inside.base in
+    let answered = subst (λ frozen. IsAnswered frozen c.args.command c.in-Ok-answer.reply c.self.inside.memory c.answer.new.memory) c.is_some.ensures c.in-Ok-answer.ensures.answered in
+    let before = same_journal base c.self.inside.journal c.reserve.new.self c.self.inside.memory c.self.inside.pending c.self.inside.last c.reserve.ensures.grown.first c.reserve.ensures.grown.items c.reserve.ensures.grown.limit c.self.invariant.journal_is in
+    let items = c.append.ensures.items ∙ ap (λ all. Told (Applied c.args.seat c.args.command c.in-Ok-answer.reply) ∷ all) c.reserve.ensures.grown.items in
+    record {
+      journal_is = applied_journal c.tracked_laws.ensures base c.reserve.new.self c.append.new.self c.self.inside.memory c.answer.new.memory c.self.inside.pending c.self.inside.last
+          c.args.seat c.args.command c.in-Ok-answer.reply c.append.ensures.items c.append.ensures.numbers.first c.append.ensures.numbers.limit c.sound.ensures before answered;
+      held = c.append.ensures.held ∙ c.reserve.ensures.grown.held ∙ c.self.invariant.held;
+      outs_are = c.self.invariant.outs_are;
+      opening = c.self.invariant.opening;
+      numbers_are = subst (λ all. AreNumbers base all c.self.inside.pending c.self.inside.last c.self.inside.numbers) (sym items)
+          (applied_numbers base c.self.inside.journal.items c.self.inside.pending c.self.inside.last c.self.inside.numbers c.args.seat c.args.command c.in-Ok-answer.reply c.self.invariant.numbers_are);
+      counted = c.self.invariant.counted;
+      rests = c.self.invariant.rests;
+      work = subst (λ all. IfSome c.self.inside.dumper.running (IsAtWork base all c.self.inside.pending c.self.inside.standing c.self.inside.phases.items c.self.inside.catalog c.self.inside.merger c.self.inside.opener c.self.inside.numbers)) (sym items)
+          (applied_work base c.self.inside.journal.items c.self.inside.pending c.self.inside.standing c.self.inside.phases.items c.self.inside.catalog c.self.inside.merger c.self.inside.opener c.self.inside.numbers
+          c.self.inside.dumper.running c.args.seat c.args.command c.in-Ok-answer.reply c.self.invariant.work);
+      little = subst (λ all. IfSome c.self.inside.dumper.running (HasLittle base all c.answer.new.memory)) (sym items)
+          (applied_little base c.self.inside.journal.items c.self.inside.memory c.answer.new.memory c.self.inside.dumper.running c.args.seat c.args.command c.in-Ok-answer.reply
+          (still_while_frozen _ c.answer.new.memory c.args.command c.in-Ok-answer.reply c.self.invariant answered) c.self.invariant.little);
+      flags_are = record { grown = c.self.invariant.flags_are.grown ∙ ap (λ all. has_grown base (entries_of all)) (sym items); swept_by = c.self.invariant.flags_are.swept_by ∙ ap has_swept (sym items); sure = c.self.invariant.flags_are.sure };
+      gated = c.self.invariant.gated;
+      swept_is = swept_answered c.self.inside.swept c.self.inside.pending c.args.command c.in-Ok-answer.reply c.self.inside.memory c.answer.new.memory answered c.self.invariant.swept_is;
+      merging = c.self.invariant.merging;
+    }
+
+pub returns : goal.returns
+returns c =
+    let count : length (entries_of c.reserve.new.self.items) ≡ length (history_of c.args.self.now) =
+    ap (λ items. length (entries_of items)) c.reserve.ensures.grown.items ∙ ap (λ (v : CoreView). length (history_of v)) c.self.view_is in
+    let number = c.next_number-number.ensures in
+    let folded : c.reserve.new.self.first ≡ c.args.self.now.base.folded = c.reserve.ensures.grown.first ∙ c.self.invariant.journal_is.first ∙ ap (λ (v : CoreView). v.base.folded) c.self.view_is in
+    let answered = subst (λ frozen. IsAnswered frozen c.args.command c.in-Ok-answer.reply c.self.inside.memory c.answer.new.memory) c.is_some.ensures c.in-Ok-answer.ensures.answered in
+    record {
+      applies = search rules;
+      number = omega (arith, count, number, folded);
+      full = search rules;
+      stands = search rules;
+      job = search rules;
+      merge = search rules;
+      answered = search rules;
+      flags = search rules;
+      opening = search rules;
+      marks = search rules;
+      images = search rules;
+      keeps = stays_seen _ _ _ c.self.view_is (stays_applied c.core_steps.ensures _ _ c.args.seat c.args.command c.in-Ok-answer.reply (record {
+        store = record { base = refl; phases = refl; outs = refl; opener = refl; standing = refl; catalog = refl; grows = refl; committing = refl; dumper = refl; merger = refl; serial = refl };
+        items = c.append.ensures.items ∙ ap (λ all. Told (Applied c.args.seat c.args.command c.in-Ok-answer.reply) ∷ all) c.reserve.ensures.grown.items;
+        memory = subst (λ waiting. IsCommanded waiting c.args.command c.in-Ok-answer.reply c.self.inside.memory c.answer.new.memory) c.self.invariant.journal_is.frozen_for
+            (commanded c.self.inside.pending c.args.command c.in-Ok-answer.reply c.self.inside.memory c.answer.new.memory c.sound.ensures answered);
+      }));
+    }

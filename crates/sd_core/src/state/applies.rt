@@ -1,0 +1,70 @@
+//! A core's commands: they are applied to the memory, and journaled.
+ghost use Rattle.sd_core.specs.Called.{IsApplied};
+
+use super::Core;
+use crate::answering::answer;
+use crate::copies::{copy_command, copy_reply};
+use sd_command::{Command, Refusal, Reply};
+use sd_crash_safety::core_steps;
+use sd_journal::{Entry, tracked_laws};
+
+impl Core {
+    /// Applies a command of a seat, and journals it with its reply. Returns the entry's number, and the reply. While a
+    /// checkpoint is pending a command is refused as frozen, which is a reply too. [`Core::apply_owned`] journals the command
+    /// itself, and not a copy.
+    ///
+    /// # Errors
+    ///
+    /// `JournalFull` where no entry is free beside those held. `OutOfMemory` where a growth was refused. Nothing changes.
+    pub fn apply(&mut self, seat: usize, command: &Command) -> Result<(u64, Reply), Refusal>
+        ensures { IsApplied seat command.now result self.old self.new }
+    {
+        core_steps();
+        self.memory.sound();
+        let free = self.journal.free();
+        if free == 0 {
+            return Err(Refusal::JournalFull);
+        }
+        let Ok(command) = copy_command(self.alloc, command) else {
+            return Err(Refusal::OutOfMemory);
+        };
+        self.apply_owned(seat, command)
+    }
+
+    /// As [`Core::apply`], of a command that goes into the journal: the bytes of a store aren't copied.
+    ///
+    /// # Errors
+    ///
+    /// As `apply`. The command is dropped then.
+    pub fn apply_owned(&mut self, seat: usize, command: Command) -> Result<(u64, Reply), Refusal>
+        ensures { IsApplied seat command result self.old self.new }
+    {
+        core_steps();
+        tracked_laws();
+        self.memory.sound();
+        if self.journal.free() == 0 {
+            return Err(Refusal::JournalFull);
+        }
+        let Ok(()) = self.journal.reserve() else {
+            return Err(Refusal::OutOfMemory);
+        };
+        let Ok(reply) = answer(
+            self.alloc,
+            &mut self.memory,
+            self.pending.is_some(),
+            &command,
+        ) else {
+            return Err(Refusal::OutOfMemory);
+        };
+        let Ok(told) = copy_reply(self.alloc, &reply) else {
+            return Err(Refusal::OutOfMemory);
+        };
+        let number = self.journal.next_number();
+        self.journal.append(Entry::Applied {
+            seat,
+            command,
+            reply,
+        });
+        Ok((number, told))
+    }
+}

@@ -1,0 +1,124 @@
+-- What is known of a store that was read.
+use Rattle.std.proofs.Common.{◌≡◌, ℕ, zero, suc, ◌≤◌, true, false, List, [], ◌∷◌, drop, map, Option, Some, None, Contains, option_and_then, slice_get, refl, sym, ◌∙◌, ap, subst, inl, inr, arith}
+use Rattle.std.specs.List.{AllZip}
+use Rattle.std.proofs.lemmas.Option.{same_Some}
+use Rattle.sd_image.specs.declared.header.Kind.{Kind}
+use Rattle.sd_image.specs.declared.header.Kind.TheVariants.{PreDump, Dump, Merged}
+use Rattle.sd_image.specs.Header.{AreNumbers}
+use Rattle.sd_image.specs.Image.{Image}
+use Rattle.sd_gate.specs.Laws.{found_phase}
+use Rattle.sd_gate.specs.Requests.{Asked}
+use Rattle.sd_store_laws.specs.Beliefs.{AreSlotsOf, Belief, Closed, Kept, Closing, Opening, image_in}
+use Rattle.sd_store_laws.specs.GateSteps.{FoundIsExact}
+use Rattle.sd_store_laws.specs.InUse.{CatalogIsFound, IsCatalogInUse}
+use Rattle.sd_store_laws.specs.SlotSteps.{IsFoundAs}
+use Rattle.sd_store_laws.specs.Steps.{opened}
+use Rattle.sd_crash_safety.specs.Calls.{NoneOut}
+use Rattle.sd_crash_safety.specs.InUse.{IsInUseOn, ids_of}
+use Rattle.sd_crash_safety.specs.Laws.{IsOpenAs}
+use Rattle.sd_crash_safety.specs.Merges.{IsMergeInUse, IsMergeOn}
+use Rattle.sd_crash_safety.specs.View.{CoreView, history_of}
+use Rattle.sd_crash_safety.proofs.Places.{free_there}
+use Rattle.sd_crash_safety.proofs.Lanes.{lanes_ids}
+
+-- the file of a slot that was found
+file_of : (beliefs : List Belief) (files : List (List ℕ)) → AllZip IsFoundAs beliefs files → (slot : ℕ) (belief : Belief) → slice_get beliefs slot ≡ Some belief
+    → (file : List ℕ) × IsFoundAs belief file
+file_of [] files all slot belief is = absurd cc
+file_of (b ∷ beliefs) [] all slot belief is = absurd all
+file_of (b ∷ beliefs) (file ∷ files) all zero belief is = (file, subst (λ x. IsFoundAs x file) (same_Some b belief is) all.0)
+file_of (b ∷ beliefs) (file ∷ files) all (suc slot) belief is = file_of beliefs files all.1 slot belief is
+
+pub contains_at : (beliefs : List Belief) (belief : Belief) → Contains beliefs belief → (slot : ℕ) × (slice_get beliefs slot ≡ Some belief)
+contains_at [] belief c = absurd (let within = c.1 in omega (arith, within))
+contains_at (b ∷ beliefs) belief (zero, within, is) = (0, ap Some is)
+contains_at (b ∷ beliefs) belief (suc k, within, is) = let rest = contains_at beliefs belief (k, omega (arith, within), is) in (suc rest.0, rest.1)
+
+-- the number that an image stands for, and its parent, are at most its serial
+pub numbers_fall : (kind : Kind) (serial stands parent : ℕ) → AreNumbers kind serial stands parent → (stands ≤ serial) × (parent ≤ serial)
+numbers_fall PreDump serial stands parent is = let same = is.0 in let less = is.1 in (omega (arith, same), omega (arith, less))
+numbers_fall Dump serial stands parent is = let same = is.0 in let less = is.1 in (omega (arith, same), omega (arith, less))
+numbers_fall Merged serial stands parent is = let less = is.1 in let alone = is.2 in (omega (arith, less), omega (arith, alone))
+
+module _ (core : CoreView) (files : List (List ℕ)) (is : IsOpenAs core files) (beliefs : List Belief) (found : AllZip IsFoundAs beliefs files)
+    (in_use : IsCatalogInUse core.catalog beliefs) where
+  abbrev last : ℕ
+  last = core.numbers.serial
+
+  -- an image that a slot keeps
+  kept_serial : (slot : ℕ) (i : Image) → slice_get beliefs slot ≡ Some (Kept i) → i.header.serial ≤ last
+  kept_serial slot i at =
+      let o = in_use.opened slot i (inl at) in
+      let few = is.serials i.header.serial o.0 o.1 in
+      let same = ap (λ h. h.serial) o.2.header in
+      omega (arith, few, same)
+
+  kept_numbers : (slot : ℕ) (i : Image) → slice_get beliefs slot ≡ Some (Kept i) → (i.header.stands_for ≤ last) × (i.header.parent ≤ last)
+  kept_numbers slot i at =
+      let file = file_of beliefs files found slot (Kept i) at in
+      let falls = numbers_fall i.header.kind i.header.serial i.header.stands_for i.header.parent file.1.header.numbers in
+      let few = kept_serial slot i at in
+      let stands = falls.0 in let parent = falls.1 in
+      (omega (arith, few, stands), omega (arith, few, parent))
+
+  slot_serial : (slot : ℕ) (i : Image) (o : Option Belief) → slice_get beliefs slot ≡ o → option_and_then image_in o ≡ Some i → i.header.serial ≤ last
+  slot_serial slot i None at has = absurd cc
+  slot_serial slot i (Some Closed) at has = absurd cc
+  slot_serial slot i (Some (Kept j)) at has = kept_serial slot i (at ∙ ap (λ x. Some (Kept x)) (same_Some j i has))
+  slot_serial slot i (Some (Closing j)) at has = absurd (file_of beliefs files found slot (Closing j) at).1
+  slot_serial slot i (Some (Opening j)) at has = absurd (file_of beliefs files found slot (Opening j) at).1
+
+  -- an image of the store
+  kept_in : (store_images : List Image) → AreSlotsOf (opened store_images) None beliefs → (i : Image) → Contains store_images i
+      → (slot : ℕ) × (slice_get beliefs slot ≡ Some (Kept i))
+  kept_in store_images slots i member = elim ((slots.catalog i).0 member) [
+    | inl kept ↦ contains_at beliefs (Kept i) kept
+    | inr closing ↦ let at = contains_at beliefs (Closing i) closing in absurd (file_of beliefs files found at.0 (Closing i) at.1).1
+  ]
+
+pub found_in_use : FoundIsExact → CatalogIsFound → (core : CoreView) (asked : List (Option Asked)) (files : List (List ℕ)) (images : List Image) (beliefs : List Belief)
+    → core.phases ≡ map found_phase files → NoneOut asked → ids_of asked ≡ core.outs → IsOpenAs core files → AllZip IsFoundAs beliefs files
+    → AreSlotsOf (opened images) None beliefs
+    → IsInUseOn core.base (history_of core) core.catalog core.grows core.memory core.phases asked (map (drop 1) files) core.numbers.serial (opened images) None beliefs core.dumper.running
+found_in_use exact catalog_is core asked files images beliefs phases none out is found slots =
+    let in_use = catalog_is core.catalog files beliefs is.order is.catalog found in
+    let free : slice_get asked 0 ≡ Some None = free_there asked 0 (ap (λ ids. slice_get ids 0) (out ∙ is.outs)) in
+    subst (λ running. IsInUseOn core.base (history_of core) core.catalog core.grows core.memory core.phases asked (map (drop 1) files) core.numbers.serial (opened images) None beliefs running)
+    (sym is.idle) (record {
+      catalog = in_use;
+      grows_is = sym is.grows;
+      used = record {
+        above = record {
+          serials = λ i member. let at = kept_in core files is beliefs found in_use images slots i member in
+              let few = kept_serial core files is beliefs found in_use at.0 i at.1 in omega (arith, few);
+          stands = λ i member. let at = kept_in core files is beliefs found in_use images slots i member in
+              let few = (kept_numbers core files is beliefs found in_use at.0 i at.1).0 in omega (arith, few);
+          parents = λ i member. let at = kept_in core files is beliefs found in_use images slots i member in
+              let few = (kept_numbers core files is beliefs found in_use at.0 i at.1).1 in omega (arith, few);
+          jobs = λ asked_for member. absurd (let within = member.1 in omega (arith, within));
+          source = tt;
+        };
+        slots = λ slot i has. slot_serial core files is beliefs found in_use slot i (slice_get beliefs slot) refl has;
+      };
+      exact = λ slot phase belief at of free_slot. exact files beliefs found slot phase belief (ap (λ p. slice_get p slot) (sym phases) ∙ at) of;
+      writes = lanes_ids asked ∙ ap (drop 3) (out ∙ is.outs);
+      job = record {
+        gives = λ grows. absurd (let no : true ≡ false = sym grows ∙ is.grows in cc);
+        none = free;
+        alone = refl;
+        idle = refl;
+      };
+    })
+
+-- no merge runs, and each image stands in a file
+pub found_merging : (core : CoreView) (asked : List (Option Asked)) (files : List (List ℕ)) (images : List Image) (beliefs : List Belief)
+    → ids_of asked ≡ core.outs → IsOpenAs core files → AllZip IsFoundAs beliefs files → AreSlotsOf (opened images) None beliefs
+    → IsMergeInUse core.phases asked (map (drop 1) files) core.numbers.serial (opened images) beliefs core.dumper.running core.merger
+found_merging core asked files images beliefs out is found slots = record {
+  spelled = λ i member. elim ((slots.catalog i).0 member) [
+    | inl kept ↦ (let at = contains_at beliefs (Kept i) kept in file_of beliefs files found at.0 (Kept i) at.1)
+    | inr closing ↦ (let at = contains_at beliefs (Closing i) closing in absurd (file_of beliefs files found at.0 (Closing i) at.1).1)
+  ];
+  is = subst (λ merge. IsMergeOn core.phases asked (map (drop 1) files) core.numbers.serial (opened images) beliefs core.dumper.running merge) (sym is.unmerged)
+      (record { source = refl; work = refl }, free_there asked 1 (ap (λ ids. slice_get ids 1) (out ∙ is.outs)));
+}

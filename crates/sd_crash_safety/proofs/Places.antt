@@ -1,0 +1,125 @@
+-- Lists of which one place changes.
+use Rattle.std.proofs.Common.{◌≡◌, ◌≢◌, ◌⊎◌, ℕ, zero, suc, ◌<◌, true, false, List, [], ◌∷◌, length, Option, Some, None, slice_get, slice_index_or, slice_set, Contains, refl, sym, ◌∙◌, ap, inl, inr, arith}
+use Rattle.std.proofs.lemmas.Bool.{both_ways}
+use Rattle.std.proofs.lemmas.Option.{slice_get_within}
+use Rattle.sd_disk.specs.Contents.{file_at}
+use Rattle.sd_gate.specs.declared.request_id.RequestId.{RequestId}
+use Rattle.sd_gate.specs.Requests.{Asked}
+use Rattle.sd_image.specs.Image.{Image}
+use Rattle.sd_store_laws.specs.Steps.{Adds}
+use Rattle.sd_crash_safety.specs.Calls.{NoneOut}
+use Rattle.sd_rounds.specs.Writes.{is_any_out}
+use Rattle.sd_crash_safety.specs.InUse.{id_of, ids_of}
+use Rattle.sd_crash_safety.specs.OpenerSteps.{nobody}
+use Rattle.std.specs.Option.{option_map}
+
+-- lists of one length have values at the same places
+pub has_too : {X Y : Type 0} (xs : List X) (ys : List Y) (at : ℕ) (x : X) → length ys ≡ length xs → slice_get xs at ≡ Some x
+    → (y : Y) × (slice_get ys at ≡ Some y)
+has_too xs [] at x count is = absurd (let within : at < length xs = slice_get_within xs at x is in omega (arith, within, count))
+has_too [] (y ∷ ys) at x count is = absurd cc
+has_too (z ∷ xs) (y ∷ ys) zero x count is = (y, refl)
+has_too (z ∷ xs) (y ∷ ys) (suc at) x count is = has_too xs ys at x (omega (arith, count)) is
+
+-- what is there may be put there again
+pub set_again : {X : Type 0} (xs : List X) (at : ℕ) (x : X) → slice_get xs at ≡ Some x → slice_set xs at x ≡ xs
+set_again [] at x is = refl
+set_again (y ∷ xs) zero x is = ap (λ z. z ∷ xs) (sym (some_is is))
+  where
+    some_is : Some y ≡ Some x → y ≡ x
+    some_is e = cc
+set_again (y ∷ xs) (suc at) x is = ap (λ zs. y ∷ zs) (set_again xs at x is)
+
+pub body_again : (bodies : List (List ℕ)) (at : ℕ) → slice_set bodies at (file_at bodies at) ≡ bodies
+body_again [] at = refl
+body_again (body ∷ bodies) zero = refl
+body_again (body ∷ bodies) (suc at) = ap (λ all. body ∷ all) (body_again bodies at)
+
+pub body_other : (bodies : List (List ℕ)) (at k : ℕ) (body : List ℕ) → k ≢ at → file_at (slice_set bodies at body) k ≡ file_at bodies k
+body_other [] at k body other = refl
+body_other (b ∷ bodies) zero zero body other = absurd (other refl)
+body_other (b ∷ bodies) zero (suc k) body other = refl
+body_other (b ∷ bodies) (suc at) zero body other = refl
+body_other (b ∷ bodies) (suc at) (suc k) body other = body_other bodies at k body (λ same. other (ap suc same))
+
+pub set_count : {X : Type 0} (xs : List X) (at : ℕ) (x : X) → length (slice_set xs at x) ≡ length xs
+set_count [] at x = refl
+set_count (y ∷ xs) zero x = refl
+set_count (y ∷ xs) (suc at) x = ap suc (set_count xs at x)
+
+pub set_other : {X : Type 0} (xs : List X) (at k : ℕ) (x : X) → k ≢ at → slice_get (slice_set xs at x) k ≡ slice_get xs k
+set_other [] at k x other = refl
+set_other (y ∷ xs) zero zero x other = absurd (other refl)
+set_other (y ∷ xs) zero (suc k) x other = refl
+set_other (y ∷ xs) (suc at) zero x other = refl
+set_other (y ∷ xs) (suc at) (suc k) x other = set_other xs at k x (λ same. other (ap suc same))
+
+pub set_same : {X : Type 0} (xs : List X) (at : ℕ) (was x : X) → slice_get xs at ≡ Some was → slice_get (slice_set xs at x) at ≡ Some x
+set_same [] at was x e = absurd cc
+set_same (y ∷ xs) zero was x e = refl
+set_same (y ∷ xs) (suc at) was x e = set_same xs at was x e
+
+-- an image more
+pub in_front : (images : List Image) (i : Image) → Adds images i (i ∷ images)
+in_front images i j = (λ c. front j c.0 c.1 c.2, λ e. back j e)
+  where
+    front : (j : Image) (k : ℕ) → k < length (i ∷ images) → slice_index_or (i ∷ images) k j ≡ j → (j ≡ i) ⊎ Contains images j
+    front j zero within is = inl (sym is)
+    front j (suc k) within is = inr (k, omega arith, is)
+
+    back : (j : Image) → (j ≡ i) ⊎ Contains images j → Contains (i ∷ images) j
+    back j e = elim e [
+      | inl same ↦ (0, omega arith, sym same)
+      | inr among ↦ (suc among.0, omega arith, among.2)
+    ]
+
+pub get_contains : {X : Type 0} (xs : List X) (at : ℕ) (x : X) → slice_get xs at ≡ Some x → Contains xs x
+get_contains [] at x is = absurd cc
+get_contains (y ∷ xs) zero x is = (0, omega arith, some_here is)
+  where
+    some_here : Some y ≡ Some x → y ≡ x
+    some_here e = cc
+get_contains (y ∷ xs) (suc at) x is = let rest = get_contains xs at x is in (suc rest.0, omega arith, rest.2)
+
+-- ---- the ids of requests that are out
+
+-- a request that takes the place of one with its id
+pub ids_same : (asked : List (Option Asked)) (at : ℕ) (r was : Asked) → slice_get asked at ≡ Some (Some was) → r.id ≡ was.id
+    → ids_of (slice_set asked at (Some r)) ≡ ids_of asked
+ids_same [] at r was is same = refl
+ids_same (a ∷ asked) zero r was is same = ap (λ o. o ∷ ids_of asked) (ap Some same ∙ ap (option_map id_of) (sym (first is)))
+  where
+    first : Some a ≡ Some (Some was) → a ≡ Some was
+    first e = cc
+ids_same (a ∷ asked) (suc at) r was is same = ap (λ all. option_map id_of a ∷ all) (ids_same asked at r was is same)
+
+pub ids_set : (asked : List (Option Asked)) (at : ℕ) (o : Option Asked) → ids_of (slice_set asked at o) ≡ slice_set (ids_of asked) at (option_map id_of o)
+ids_set [] at o = refl
+ids_set (a ∷ asked) zero o = refl
+ids_set (a ∷ asked) (suc at) o = ap (λ all. option_map id_of a ∷ all) (ids_set asked at o)
+
+-- where an id is, its request is out
+pub id_there : (asked : List (Option Asked)) (at : ℕ) (request : Asked) → slice_get asked at ≡ Some (Some request) → slice_get (ids_of asked) at ≡ Some (Some request.id)
+id_there [] at request is = absurd cc
+id_there (a ∷ asked) zero request is = ap Some (ap (option_map id_of) (first is))
+  where
+    first : Some a ≡ Some (Some request) → a ≡ Some request
+    first e = cc
+id_there (a ∷ asked) (suc at) request is = id_there asked at request is
+
+-- where none is, none is out
+pub free_there : (asked : List (Option Asked)) (at : ℕ) → slice_get (ids_of asked) at ≡ Some None → slice_get asked at ≡ Some None
+free_there [] at is = absurd cc
+free_there (None ∷ asked) zero is = refl
+free_there (Some r ∷ asked) zero is = absurd (let no : Some (Some r.id) ≡ Some None = is in cc)
+free_there (a ∷ asked) (suc at) is = free_there asked at is
+
+-- no id is in a list of none
+none_in : (ids : List (Option RequestId)) (at : ℕ) (id : RequestId) → is_any_out ids ≡ false → slice_get ids at ≡ Some (Some id) → ⊥
+none_in [] at id none is = let no : None ≡ Some (Some id) = is in cc
+none_in (None ∷ ids) zero id none is = let no : Some None ≡ Some (Some id) = is in cc
+none_in (None ∷ ids) (suc at) id none is = none_in ids at id none is
+none_in (Some own ∷ ids) at id none is = both_ways true none refl
+
+pub nobody_out : (asked : List (Option Asked)) → ids_of asked ≡ nobody → NoneOut asked
+nobody_out asked is worker request out = none_in nobody worker request.id refl (ap (λ ids. slice_get ids worker) (sym is) ∙ id_there asked worker request out)

@@ -1,0 +1,169 @@
+-- Pages that are compared sector by sector, and the pages of a space.
+use Rattle.std.proofs.Common.{◌≡◌, ◌⊎◌, inl, inr, ℕ, ◌+◌, ◌-◌, ◌*◌, ◌<◌, ◌≤◌, zero, suc, List, [], ◌∷◌, ◌/◌, ◌^◌, Bool, Option, Some, None, Result, Ok, IfSome, is_some, true, false, All, length, slice_index_or, sum_by, slice_range, slice_index, unwrap_or, take, drop, get_or, refl, sym, ◌∙◌, ap, subst, arith, get_or-take, get_or-drop}
+use Rattle.std.proofs.lemmas.Bool.{cases_lt, eqb-true}
+use Rattle.std.proofs.Math.Dec.{eqb}
+use borrow.Author.Count.{below_more}
+use Rattle.std.specs.FinMap as finmap
+use Rattle.std.specs.Option.{option_map}
+use Rattle.std.specs.Ordering.{nat_cmp}
+use Rattle.sd_areas.specs.Areas.{PageMap}
+use Rattle.sd_areas.specs.declared.prot.Prot.{Prot}
+use Rattle.sd_elf.specs.Cores.{IsCore, segment_byte}
+use Rattle.sd_elf.specs.Segments.{AreSegments, extent_after, no_extent, prot_of_flags}
+use Rattle.sd_elf.specs.declared.segments.Extent.{Extent}
+use Rattle.sd_elf.specs.declared.program_header.ProgramHeader.{ProgramHeader}
+use Rattle.sd_areas.specs.PlainMemory.{Space}
+use Rattle.sd_import.specs.Imported.{HasCore, HasPage, HasSegment, page_count}
+use Rattle.sd_pagetable.specs.Contents.{Contents, page_at, plain_of, AreWhole}
+use Rattle.sd_pagetable.specs.Kept.{prots_of}
+use Rattle.sd_pagetable.specs.Nested.{Table, inside, map_values}
+use Rattle.sd_pagetable.specs.Page.{Page, plain_page}
+use Rattle.sd_pagetable.proofs.MemoryLemmas.{plain_at}
+use Rattle.sd_pagetable.proofs.PlainRanges.{plain_inside}
+use Rattle.sd_pagetable.proofs.TableLemmas.{get-map_values, len-map_values}
+
+part_at : (xs : List ℕ) (n k : ℕ) → n ≤ k → k < n + 512 → slice_index (slice_range xs n (n + 512)) (k - n) ≡ slice_index xs k
+part_at xs n k from to = grind (arith, get_or-take, get_or-drop)
+
+-- a sector of a page that was read
+pub same_sector : (o : Option Page) (start : ℕ) (part bytes : List ℕ) → is_some o ≡ true → IfSome o (λ found. part ≡ slice_range found.bytes start (start + 512))
+    → part ≡ bytes → (found : Page) × (o ≡ Some found) × (slice_range found.bytes start (start + 512) ≡ bytes)
+same_sector None start part bytes there read same = absurd (let no : false ≡ true = there in cc)
+same_sector (Some found) start part bytes there read same = (found, refl, sym read ∙ same)
+
+-- bytes that are the same up to a sector are so behind it, where it is the same
+pub sectors_more : (xs ys : List ℕ) (n : ℕ) → slice_range xs n (n + 512) ≡ slice_range ys n (n + 512)
+    → ((k : ℕ) → k < n → slice_index xs k ≡ slice_index ys k) → (k : ℕ) → k < n + 512 → slice_index xs k ≡ slice_index ys k
+sectors_more xs ys n same before k to = elim (cases_lt k n) [
+  | inl below ↦ before k below
+  | inr from ↦ sym (part_at xs n k from to) ∙ ap (λ part. slice_index part (k - n)) same ∙ part_at ys n k from to
+]
+
+-- the permissions of a page, among those of its space
+pub prot_at : (m : Contents) (space page : ℕ) (pages : Table Page) (found : Page) → finmap.get m.spaces space ≡ Some pages → page_at m space page ≡ Some found
+    → finmap.get (prots_of pages) page ≡ Some found.prot
+prot_at m space page pages found alive there =
+    let at : finmap.get pages page ≡ Some found = (rw alive at there) in
+    get-map_values (λ (p : Page). p.prot) pages page ∙ ap (option_map (λ (p : Page). p.prot)) at
+
+-- a space has as many pages as its permissions
+pub pages_of_prots : (m : Contents) (space : ℕ) (pages : Table Page) → finmap.get m.spaces space ≡ Some pages
+    → finmap.len (prots_of pages) ≡ finmap.len (inside (plain_of m) space)
+pages_of_prots m space pages alive =
+    len-map_values (λ (p : Page). p.prot) pages
+    ∙ sym (ap finmap.len (plain_inside m space) ∙ len-map_values plain_page (inside m.spaces space) ∙ ap finmap.len (rw alive))
+
+-- a page is the one that is there
+pub same_page : (o : Option Page) (one other : Page) → o ≡ Some one → o ≡ Some other → one ≡ other
+same_page o one other is too = let both : Some one ≡ Some other = sym is ∙ too in cc
+
+-- how many pages a living space has, by its permissions
+pub mapped_some : (m : Contents) (space : ℕ) (prots : PageMap) (count : ℕ) → Some prots ≡ option_map prots_of (finmap.get m.spaces space)
+    → count ≡ finmap.len prots → count ≡ finmap.len (inside (plain_of m) space)
+mapped_some m space prots count areas counted = by (finmap.get m.spaces space) refl
+  where
+    by : (o : Option (Table Page)) → finmap.get m.spaces space ≡ o → count ≡ finmap.len (inside (plain_of m) space)
+    by None is = absurd (let no : Some prots ≡ None = areas ∙ ap (option_map prots_of) is in cc)
+    by (Some pages) is =
+        let same : Some prots ≡ Some (prots_of pages) = areas ∙ ap (option_map prots_of) is in
+        let prots_are : prots ≡ prots_of pages = cc in
+        counted ∙ ap finmap.len prots_are ∙ pages_of_prots m space pages is
+
+-- one that isn't alive has none
+pub mapped_none : (m : Contents) (space : ℕ) → option_map prots_of (finmap.get m.spaces space) ≡ None → 0 ≡ finmap.len (inside (plain_of m) space)
+mapped_none m space areas = by (finmap.get m.spaces space) refl
+  where
+    by : (o : Option (Table Page)) → finmap.get m.spaces space ≡ o → 0 ≡ finmap.len (inside (plain_of m) space)
+    by None is = sym (ap finmap.len (plain_inside m space) ∙ len-map_values plain_page (inside m.spaces space) ∙ ap (λ o. finmap.len (unwrap_or o finmap.empty)) is ∙ finmap.len-empty nat_cmp Page)
+    by (Some pages) is = absurd (let no : None ≡ Some (prots_of pages) = sym areas ∙ ap (option_map prots_of) is in cc)
+
+-- the permissions of a page, by those of its space
+pub found_prot : (m : Contents) (space page : ℕ) (prots : PageMap) (prot : Prot) (found : Page) → Some prots ≡ option_map prots_of (finmap.get m.spaces space)
+    → Some prot ≡ finmap.get prots page → page_at m space page ≡ Some found → found.prot ≡ prot
+found_prot m space page prots prot found areas permitted there = by (finmap.get m.spaces space) refl
+  where
+    by : (o : Option (Table Page)) → finmap.get m.spaces space ≡ o → found.prot ≡ prot
+    by None is = absurd (let no : Some prots ≡ None = areas ∙ ap (option_map prots_of) is in cc)
+    by (Some pages) is =
+        let same : Some prots ≡ Some (prots_of pages) = areas ∙ ap (option_map prots_of) is in
+        let prots_are : prots ≡ prots_of pages = cc in
+        let both : Some found.prot ≡ Some prot = sym (prot_at m space page pages found is there) ∙ ap (λ (t : PageMap). finmap.get t page) (sym prots_are) ∙ sym permitted in
+        cc
+
+pub found_prots : (m : Contents) (space page : ℕ) (prots : PageMap) (o : Option Prot) → Some prots ≡ option_map prots_of (finmap.get m.spaces space)
+    → o ≡ finmap.get prots page → IfSome o (λ prot. (found : Page) → page_at m space page ≡ Some found → found.prot ≡ prot)
+found_prots m space page prots None areas permitted = tt
+found_prots m space page prots (Some prot) areas permitted = λ found there. found_prot m space page prots prot found areas permitted there
+
+-- ---- a page of a segment
+
+-- a page that is mapped with the segment's permissions, and has the bytes that were read of the file
+pub page_compared : (E : Type 0) (o : Option (List ℕ)) (m : Contents) (s : ProgramHeader) (space number behind page : ℕ) (bytes : List ℕ) (b : Bool)
+    → behind ≡ 4096 * number → page ≡ s.p_vaddr / 4096 + number → AreWhole m → length bytes ≡ 4096
+    → ((found : Page) → page_at m space page ≡ Some found → found.prot ≡ prot_of_flags s.p_flags)
+    → (b ≡ true → (found : Page) × (page_at m space page ≡ Some found) × ((k : ℕ) → k < 4096 → slice_index found.bytes k ≡ slice_index bytes k))
+    → IfSome o (λ held. s.p_offset + s.p_filesz < 2 ^ 64 → (k : ℕ) → k < length bytes → slice_index bytes k ≡ segment_byte held s (behind + k))
+    → IfSome o (λ held. s.p_offset + s.p_filesz < 2 ^ 64 → ◌≡◌ {A = Result Bool E} (Ok b) (Ok true) → HasPage held (inside (plain_of m) space) s number)
+page_compared E None m s space number behind page bytes b behind_is page_is whole long permitted compared read = tt
+page_compared E (Some held) m s space number behind page bytes b behind_is page_is whole long permitted compared read = λ small is.
+    let passes : b ≡ true = cc in
+    let told = compared passes in
+    record {
+      page = plain_page told.0;
+      there = ap (finmap.get (inside (plain_of m) space)) (sym page_is) ∙ plain_at m space page ∙ ap (option_map plain_page) told.1;
+      is = record {
+        prot = permitted told.0 told.1;
+        whole = whole space page told.0 told.1;
+        bytes = λ k below. told.2 k below ∙ read small k (rw long below) ∙ ap (λ at. segment_byte held s (at + k)) behind_is;
+      };
+    }
+
+-- a page more of a segment
+pub pages_more : (E : Type 0) (o : Option (List ℕ)) (small : Type 0) (P : List ℕ → ℕ → Type 0) (n : ℕ) (b : Bool) → b ≡ true
+    → IfSome o (λ held. small → (k : ℕ) → k < n → P held k) → IfSome o (λ held. small → ◌≡◌ {A = Result Bool E} (Ok b) (Ok true) → P held n)
+    → IfSome o (λ held. small → (k : ℕ) → k < n + 1 → P held k)
+pages_more E None small P n b passes before this = tt
+pages_more E (Some held) small P n b passes before this = λ is. below_more (P held) n (before is) (this is (ap (λ v. let r : Result Bool E = Ok v in r) passes))
+
+-- a segment more of a core
+pub segments_more : (E : Type 0) (o : Option (List ℕ)) (segments : List ProgramHeader) (small : ProgramHeader → Type 0) (P : List ℕ → ProgramHeader → Type 0)
+    (n : ℕ) (s : ProgramHeader) (b : Bool) → b ≡ true → n < length segments → ((d : ProgramHeader) → s ≡ slice_index_or segments n d)
+    → IfSome o (λ held. All small segments → (k : ℕ) (d : ProgramHeader) → k < n → P held (slice_index_or segments k d))
+    → IfSome o (λ held. small s → ◌≡◌ {A = Result Bool E} (Ok b) (Ok true) → P held s)
+    → IfSome o (λ held. All small segments → (k : ℕ) (d : ProgramHeader) → k < n + 1 → P held (slice_index_or segments k d))
+segments_more E None segments small P n s b passes inside_it there before this = tt
+segments_more E (Some held) segments small P n s b passes inside_it there before this = λ are k d below.
+    let here : (e : ProgramHeader) → P held (slice_index_or segments n e) =
+    λ e. subst (P held) (there e) (this (subst small (sym (there e)) (are n e inside_it)) (ap (λ v. let r : Result Bool E = Ok v in r) passes)) in
+    below_more (λ j. P held (slice_index_or segments j d)) n (λ j under. before are j d under) (here d) k below
+
+-- all segments are there, and no other page
+pub core_there : (E : Type 0) (o : Option (List ℕ)) (segments : List ProgramHeader) (small : ProgramHeader → Type 0) (space : Space) (n mapped counted : ℕ)
+    → length segments ≤ n → mapped ≡ finmap.len space → counted ≡ sum_by page_count segments
+    → IfSome o (λ held. All small segments → (k : ℕ) (d : ProgramHeader) → k < n → HasSegment held space (slice_index_or segments k d))
+    → IfSome o (λ held. All small segments → ◌≡◌ {A = Result Bool E} (Ok (eqb mapped counted)) (Ok true) → HasCore held segments space)
+core_there E None segments small space n mapped counted all mapped_is counted_is there = tt
+core_there E (Some held) segments small space n mapped counted all mapped_is counted_is there = λ are is.
+    let same : eqb mapped counted ≡ true = cc in
+    record {
+      pages = λ k d below. there are k d (omega (arith, below, all));
+      only = sym mapped_is ∙ eqb-true mapped counted same ∙ counted_is;
+    }
+
+-- ---- a whole core
+
+-- the bytes of each segment are within the file
+small_at : (size : ℕ) (e : Extent) (segments : List ProgramHeader) (k : ℕ) (d : ProgramHeader) → AreSegments size e segments → k < length segments
+    → (slice_index_or segments k d).p_offset + (slice_index_or segments k d).p_filesz ≤ size
+small_at size e [] k d are below = let no : ⊥ = omega (arith, below) in absurd no
+small_at size e (s ∷ ss) zero d are below = are.0.bytes.inside
+small_at size e (s ∷ ss) (suc k) d are below = small_at size (extent_after e s) ss k d are.1 (omega (arith, below))
+
+-- what the comparison found of a core that fits
+pub core_imported : (E : Type 0) (o : Option (List ℕ)) (segments : List ProgramHeader) (space : Space) (b : Bool) → b ≡ true
+    → IfSome o (λ held. All (λ (s : ProgramHeader). s.p_offset + s.p_filesz < 2 ^ 64) segments → ◌≡◌ {A = Result Bool E} (Ok b) (Ok true) → HasCore held segments space)
+    → IfSome o (λ held. length held < 2 ^ 64 → IsCore held segments → HasCore held segments space)
+core_imported E None segments space b passes found = tt
+core_imported E (Some held) segments space b passes found = λ short is.
+    found (λ k d below. let in_file = small_at (length held) no_extent segments k d is.fits below in omega (arith, in_file, short))
+    (ap (λ v. let r : Result Bool E = Ok v in r) passes)

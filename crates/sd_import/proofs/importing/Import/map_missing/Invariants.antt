@@ -1,0 +1,6 @@
+use Rattle.sd_import.specs.Changes.{ChangesOnly}
+use Rattle.sd_import.proofs.importing.Import.map_missing.Given as goal
+
+-- the space alone was changed so far
+abbrev pub invariant-loop-run : goal.invariant-loop-run
+invariant-loop-run g l = ChangesOnly g.D.Disk l.self.space l.fn.world l.world

@@ -1,0 +1,12 @@
+//! The memory of an ELF core file as the memory of a space.
+#![tactic(auto)]
+
+mod checking;
+mod import_error;
+mod importing;
+mod requests;
+mod tally;
+
+pub use import_error::ImportError;
+pub use importing::import_core;
+pub use tally::Tally;

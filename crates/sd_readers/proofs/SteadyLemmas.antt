@@ -1,0 +1,143 @@
+-- What came of a program that reads a store, by its parts.
+use Rattle.std.proofs.Common.{◌≡◌, ◌≢◌, ℕ, true, false, List, [], Option, Some, None, Result, Ok, Err, OnOk, IfErr, ◌++◌, append-nil, refl, ◌∙◌, ap, subst, inl, inr, length}
+use Rattle.std.specs.Prelude.{filter}
+use Rattle.std.specs.Io.KnownBytes.{Appends, Keeps}
+use Rattle.sd_image.specs.Image.{is_open}
+use Rattle.sd_restore.specs.declared.fault.Fault.{Fault}
+use Rattle.sd_restore.specs.declared.fault.Fault.TheVariants.{EmptyChain, Damaged, Device, OutOfMemory}
+use Rattle.sd_readers.specs.declared.steady.Reader.{Reader}
+use Rattle.sd_readers.specs.declared.steady.Reader.TheVariants as reader
+use Rattle.sd_exit.specs.declared.stop.Stop.{Stop}
+use Rattle.sd_exit.specs.declared.stop.Stop.TheVariants as stop
+use Rattle.sd_exit.specs.Ending.{OnFault}
+use Rattle.sd_exit.proofs.EndingLemmas.{on_fault}
+use Rattle.sd_readers.specs.Ending.{IsOutside, StandsAlone, writer_failed}
+use Rattle.sd_readers.specs.Printed.{BeginsToPrint, Prints}
+use Rattle.sd_readers.specs.Reading.{ReadsStore}
+use Rattle.sd_readers.specs.Texts.{memory_text, verdict_text}
+use Rattle.sd_readers.proofs.BreakLemmas.{begins_all}
+use Rattle.sd_readers.proofs.EndingLemmas.{not_alone, prints_moved}
+
+no_two : {A : Type 0} → true ≡ false → A
+no_two e = absurd (let f : true ≡ false = e in cc)
+
+inner : (a b : Fault) (ended : Result Unit Stop) → ended ≡ Err (stop.Fault a) → ended ≡ Err (stop.Fault b) → a ≡ b
+inner a b ended first second = cc
+
+-- the whole text was printed, so a beginning of it
+whole_begins : (by : Reader) (contents : List (List ℕ)) (before after : Option (List ℕ)) → Prints by contents before after → BeginsToPrint by contents before after
+whole_begins reader.Restore contents before after is =
+    inr (memory_text is.moment, record { moment = is.moment; shows = is.shows; printed = refl }, begins_all before after (memory_text is.moment) is.printed)
+whole_begins reader.List contents before after is =
+    inr (
+      is.text,
+      record { places = is.places; catalog = is.catalog; order = is.order; none_held = is.none_held; text = is.text; listing = is.listing; printed = refl },
+      begins_all before after is.text is.printed,
+    )
+whole_begins reader.Verify contents before after is =
+    let text = verdict_text is.shown (length (filter is_open contents)) in
+    inr (text, record { shown = is.shown; shows = is.shows; printed = refl }, begins_all before after text is.printed)
+
+module _ (by : Reader) (contents : List (List ℕ)) where
+  abbrev Reads : Type 0 → Result Unit Stop → Option (List ℕ) → Option (List ℕ) → Type 0
+  Reads honest ended before after = ReadsStore by honest contents ended before after
+
+  -- what is true of an honest device is so of one that was honest for longer
+  pub longer_honest : (before_honest honest : Type 0) (ended : Result Unit Stop) (before after : Option (List ℕ)) → (honest → before_honest)
+      → Reads before_honest ended before after → Reads honest ended before after
+  longer_honest before_honest honest ended before after since is = record {
+    text = λ h. is.text (since h);
+    begins = λ h. is.begins (since h);
+    alone = is.alone;
+    empty = λ h. is.empty (since h);
+  }
+
+  -- what a program printed whose writer didn't fail is the text or a beginning of it
+  any_part : (ended : Result Unit Stop) (before after : Option (List ℕ)) → writer_failed ended ≡ false → OnOk ended (Prints by contents before after)
+      → OnFault ended (BeginsToPrint by contents before after) → BeginsToPrint by contents before after
+  any_part (Ok value) before after fine whole begun = whole_begins by contents before after whole
+  any_part (Err (stop.Fault fault)) before after fine whole begun = begun
+  any_part (Err stop.NoFrame) before after fine whole begun = begun
+  any_part (Err (stop.ScriptLine number)) before after fine whole begun = begun
+  any_part (Err stop.CannotReadScript) before after fine whole begun = begun
+  any_part (Err stop.CannotOpenFolder) before after fine whole begun = begun
+  any_part (Err stop.NotEmpty) before after fine whole begun = begun
+  any_part (Err (stop.Order why)) before after fine whole begun = begun
+  any_part (Err stop.Refused) before after fine whole begun = begun
+  any_part (Err (stop.Writer error)) before after fine whole begun = no_two fine
+
+  -- a fault of the device or of the memory behind it
+  pub faulty_behind : (honest : Type 0) (ended : Result Unit Stop) (fault : Fault) (before after : Option (List ℕ)) → writer_failed ended ≡ false → IsOutside (stop.Fault fault)
+      → fault ≢ EmptyChain → Reads honest ended before after → Reads honest (Err (stop.Fault fault)) before after
+  faulty_behind honest ended fault before after fine outside other is = record {
+    text = λ h. record {};
+    begins = λ h. any_part ended before after fine (is.text h) (is.begins h);
+    alone = not_alone before after (stop.Fault fault) outside;
+    empty = λ h empty. absurd (other (inner fault EmptyChain (Err (stop.Fault fault)) refl empty));
+  }
+
+  -- ---- what was kept in a vector, and then printed
+
+  no_bytes : (before after : Option (List ℕ)) (text : List ℕ) → text ≡ [] → Appends before after text → Keeps before after
+  no_bytes None after text none printed = tt
+  no_bytes (Some xs) None text none printed = absurd printed
+  no_bytes (Some xs) (Some ys) text none printed = printed ∙ ap (λ zs. xs ++ zs) none ∙ append-nil xs
+
+  begun_moved : (before after : Option (List ℕ)) (text : List ℕ) → Appends before after text → BeginsToPrint by contents (Some []) (Some text) → BeginsToPrint by contents before after
+  begun_moved before after text taken (inl none) = inl (no_bytes before after text none taken)
+  begun_moved before after text taken (inr begun) =
+      let is = begun.2 in
+      inr (
+        begun.0,
+        begun.1,
+        record {
+          front = is.front;
+          rest = is.rest;
+          whole = is.whole;
+          printed = subst (Appends before after) is.printed taken;
+        },
+      )
+
+  alone_moved : (before after : Option (List ℕ)) (text : List ℕ) (why : Stop) → Appends before after text → StandsAlone (Some []) (Some text) why → StandsAlone before after why
+  alone_moved before after text why taken none = λ is. no_bytes before after text (none is) taken
+
+  unknown : (by : Reader) (before : Option (List ℕ)) → Prints by contents (Some []) None → Prints by contents before None
+  unknown reader.Restore before is = absurd is.printed
+  unknown reader.List before is = absurd is.printed
+  unknown reader.Verify before is = absurd is.printed
+
+  unknown_text : (ended : Result Unit Stop) (before : Option (List ℕ)) → OnOk ended (Prints by contents (Some []) None) → OnOk ended (Prints by contents before None)
+  unknown_text (Ok value) before is = unknown by before is
+  unknown_text (Err why) before is = record {}
+
+  unknown_beginning : (before : Option (List ℕ)) → BeginsToPrint by contents (Some []) None → BeginsToPrint by contents before None
+  unknown_beginning before (inl none) = absurd none
+  unknown_beginning before (inr begun) = absurd begun.2.printed
+
+  unknown_alone : (ended : Result Unit Stop) (before : Option (List ℕ)) → IfErr ended (StandsAlone (Some []) None) → IfErr ended (StandsAlone before None)
+  unknown_alone (Ok value) before is = record {}
+  unknown_alone (Err why) before is = λ yes. absurd (is yes)
+
+  pub moved_out : (honest : Type 0) (ended : Result Unit Stop) (before after : Option (List ℕ)) (text : List ℕ) → Appends before after text
+      → Reads honest ended (Some []) (Some text) → Reads honest ended before after
+  moved_out honest (Ok value) before after text taken is = record {
+    text = λ h. prints_moved by contents before after text (is.text h) taken;
+    begins = λ h. record {};
+    alone = record {};
+    empty = is.empty;
+  }
+  moved_out honest (Err why) before after text taken is = record {
+    text = λ h. record {};
+    begins = λ h. on_fault (Err why) (begun_moved before after text taken) (is.begins h);
+    alone = alone_moved before after text why taken is.alone;
+    empty = is.empty;
+  }
+
+  -- nothing that a vector holds is unknown
+  pub never_held : (honest : Type 0) (ended : Result Unit Stop) (before : Option (List ℕ)) → Reads honest ended (Some []) None → Reads honest ended before None
+  never_held honest ended before is = record {
+    text = λ h. unknown_text ended before (is.text h);
+    begins = λ h. on_fault ended (unknown_beginning before) (is.begins h);
+    alone = unknown_alone ended before is.alone;
+    empty = is.empty;
+  }

@@ -1,0 +1,135 @@
+//! What a program that reads a store prints, by the program's name; and answers that are of one moment of the store.
+ghost use Rattle.std.specs.Prelude.{◌≡◌, ◌≢◌, ◌<◌, true, length, IfErr, OnOk};
+ghost use Rattle.sd_disk.specs.Reads.{OnlyReads};
+ghost use Rattle.sd_restore.specs.declared.fault.Fault.TheVariants as fault;
+ghost use Rattle.sd_restore.specs.Faulty.{Names};
+ghost use Rattle.sd_exit.specs.Ending.{OnWriter};
+ghost use Rattle.sd_readers.specs.declared.steady.Reader.TheVariants.{Restore, List};
+ghost use Rattle.sd_readers.specs.Ending.{EndsWithOne, IsReadable, writer_failed};
+ghost use Rattle.sd_readers.specs.Reading.{ReadsStore};
+
+use crate::list::print_list;
+use crate::restore::print_restored;
+use crate::verify::print_report;
+use sd_disk::{DeviceError, Disk};
+use sd_exit::{Output, Stop};
+use sd_image::{GATE, HEADER_SIZE};
+use sd_restore::Fault;
+use std::alloc::Global;
+use std::io::Write;
+
+/// A program that reads a store.
+#[derive(Clone, Copy, Debug, PartialEq, Eq)]
+pub enum Reader {
+    Restore,
+    List,
+    Verify,
+}
+
+/// How much of a slot's file tells its image apart: with its serial and its digest.
+const FRONT: usize = 96;
+
+/// The front of an open image's file. None of a slot that is closed, or in which an image is being made.
+type Front = Option<[u8; FRONT]>;
+
+/// Prints what a program prints of a store.
+fn print_by<D: Disk, W: Write>(
+    alloc: Global,
+    reader: Reader,
+    disk: &mut D,
+    out: &mut Output<W>,
+) -> Result<(), Stop>
+    ensures store { ReadsStore reader (D.is_honest disk.new) (D.contents disk.old) result
+        (W.contents out.old.writer) (W.contents out.new.writer) }
+    ensures readable { D.is_honest disk.new → reader ≡ List → OnOk result (IsReadable (D.contents disk.old)) }
+    ensures stopped { reader ≢ Restore → EndsWithOne result }
+    ensures writer { OnWriter result (out.new.refused ≡ true) }
+    ensures reads { OnlyReads D.Disk disk.old disk.new }
+{
+    match reader {
+        Reader::Restore => print_restored(alloc, disk, out),
+        Reader::List => print_list(alloc, disk, out),
+        Reader::Verify => print_report(alloc, disk, out),
+    }
+}
+
+/// The length of a slot's file, in bytes.
+fn file_len<D: Disk>(disk: &mut D, slot: usize) -> Result<usize, DeviceError>
+    requires { slot < length (D.contents disk.old) }
+    ensures { OnlyReads D.Disk disk.old disk.new }
+{
+    disk.len(slot)
+}
+
+/// Fills the buffer from the start of a slot's file.
+fn read_start<D: Disk>(disk: &mut D, slot: usize, buffer: &mut [u8]) -> Result<(), DeviceError>
+    requires { slot < length (D.contents disk.old) }
+    ensures { OnlyReads D.Disk disk.old disk.new }
+{
+    disk.read(slot, 0, buffer)
+}
+
+/// The front of a slot's file.
+fn front_of<D: Disk>(disk: &mut D, slot: usize) -> Result<Front, DeviceError>
+    requires { slot < length (D.contents disk.old) }
+    ensures { OnlyReads D.Disk disk.old disk.new }
+{
+    if file_len(disk, slot)? < HEADER_SIZE {
+        return Ok(None);
+    }
+    let mut bytes = [0; FRONT];
+    read_start(disk, slot, &mut bytes)?;
+    Ok((bytes[0] == GATE).then_some(bytes))
+}
+
+/// The fronts of all slots' files. As long as they stay the same, so do the images.
+fn fronts<D: Disk>(alloc: Global, disk: &mut D) -> Result<Vec<Front>, Fault>
+    ensures unnamed { IfErr result (Names (λ _ _. ⊥)) }
+    ensures empty { result ≢ Err fault.EmptyChain }
+    ensures reads { OnlyReads D.Disk disk.old disk.new }
+{
+    let mut fronts = Vec::new(alloc);
+    for slot in 0..disk.slots() {
+        fronts.push(front_of(disk, slot)?)?;
+    }
+    Ok(fronts)
+}
+
+/// Prints what a program prints of a store. Where its images changed meanwhile, the device failed: no answer mixes two
+/// moments.
+///
+/// # Errors
+///
+/// Those of the program; `Device` and `OutOfMemory` also behind all that it prints.
+pub(crate) fn print_steady<D: Disk, W: Write>(
+    alloc: Global,
+    reader: Reader,
+    disk: &mut D,
+    out: &mut Output<W>,
+) -> Result<(), Stop>
+    // At its end the whole text of what the store shows is written, and before it a beginning.
+    ensures store { ReadsStore reader (D.is_honest disk.new) (D.contents disk.old) result
+        (W.contents out.old.writer) (W.contents out.new.writer) }
+    ensures readable { D.is_honest disk.new → reader ≡ List → OnOk result (IsReadable (D.contents disk.old)) }
+    ensures stopped { reader ≢ Restore → EndsWithOne result }
+    ensures writer { OnWriter result (out.new.refused ≡ true) }
+    ensures reads { OnlyReads D.Disk disk.old disk.new }
+{
+    let before = fronts(alloc, disk)?;
+    let ended = print_by(alloc, reader, disk, out);
+    if writer_failed(&ended) {
+        return ended;
+    }
+    if fronts(alloc, disk)? == before {
+        ended
+    } else {
+        Err(Stop::Fault(Fault::Device))
+    }
+}
+
+/// Whether nothing more can be printed.
+fn writer_failed(ended: &Result<(), Stop>) -> bool
+    ensures { result ≡ writer_failed ended.now }
+{
+    matches!(ended, Err(Stop::Writer(_)))
+}

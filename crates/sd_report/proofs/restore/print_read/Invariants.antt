@@ -1,7 +1,0 @@
-use Rattle.std.specs.Io.KnownBytes.{Appends}
-use Rattle.sd_report.specs.Texts.{pages_text}
-use Rattle.sd_report.proofs.restore.print_read.Given as goal
-
--- the pages so far are printed
-abbrev pub invariant-loop-k : goal.invariant-loop-k
-invariant-loop-k g l = Appends (g.W.Write.contents l.fn.out.writer) (g.W.Write.contents l.out.writer) (pages_text l.first l.bytes l.k)

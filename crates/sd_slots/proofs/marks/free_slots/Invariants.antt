@@ -1,6 +1,0 @@
-use Rattle.std.proofs.Common.{◌≡◌, take}
-use Rattle.sd_slots.specs.Marks.{free_from}
-use Rattle.sd_slots.proofs.marks.free_slots.Given as goal
-
-abbrev pub invariant-loop-slot : goal.invariant-loop-slot
-invariant-loop-slot l = l.slots.items ≡ free_from 0 (take l.slot l.fn.marks)

@@ -1,0 +1,64 @@
+-- How many lanes keep something.
+use Rattle.std.proofs.Common.{◌≡◌, ℕ, zero, suc, ◌+◌, ◌≤◌, false, List, [], ◌∷◌, length, Some, None, slice_get, slice_set, refl, sym, ◌∙◌, ap, subst, arith}
+use Rattle.std.proofs.lemmas.List.Sums.{sum_by-cons}
+use Rattle.std.proofs.lemmas.Option.{same_Some}
+use Rattle.sd_gate.specs.declared.worker.Worker.{Worker}
+use Rattle.sd_world.specs.declared.call_state.CallState.{CallState}
+use Rattle.sd_world.specs.declared.call_state.CallState.TheVariants as its
+use Rattle.sd_world.specs.declared.kept.Kept.{Kept}
+use Rattle.sd_world.specs.declared.kept.Kept.TheVariants.{Nothing, Request, Outcome}
+use Rattle.sd_world.specs.View.{IsNowhere, busy_count, busy_of, id_in, is_asked}
+
+pub busy_cons : (k : Kept) (kept : List Kept) → busy_count (k ∷ kept) ≡ busy_of k + busy_count kept
+busy_cons k kept = sum_by-cons busy_of k kept
+
+busy_most : (k : Kept) → busy_of k ≤ 1
+busy_most Nothing = omega arith
+busy_most (Request request) = omega arith
+busy_most (Outcome made) = omega arith
+
+-- no more than there are lanes
+pub busy_within : (kept : List Kept) → busy_count kept ≤ length kept
+busy_within [] = omega arith
+busy_within (k ∷ kept) = (let e = busy_cons k kept in let one = busy_most k in let rest = busy_within kept in omega arith)
+
+-- what is put in counts, and what is taken out doesn't
+pub busy_set : (kept : List Kept) (lane : ℕ) (old new : Kept) → slice_get kept lane ≡ Some old → busy_count (slice_set kept lane new) + busy_of old ≡ busy_count kept + busy_of new
+busy_set [] lane old new is = absurd cc
+busy_set (k ∷ kept) zero old new is =
+    let same : busy_of k ≡ busy_of old = ap busy_of (same_Some k old is) in
+    let now = busy_cons new kept in
+    let was = busy_cons k kept in
+    omega (arith, same, now, was)
+busy_set (k ∷ kept) (suc lane) old new is =
+    let rest = busy_set kept lane old new is in
+    let now = busy_cons k (slice_set kept lane new) in
+    let was = busy_cons k kept in
+    omega (arith, rest, now, was)
+
+-- where none is counted nothing is kept
+pub none_busy : (kept : List Kept) (lane : ℕ) (k : Kept) → busy_count kept ≡ 0 → slice_get kept lane ≡ Some k → k ≡ Nothing
+none_busy [] lane k none is = absurd cc
+none_busy (x ∷ kept) zero k none is = sym (same_Some x k is) ∙ nothing x (let e = busy_cons x kept in omega (arith, e, none))
+  where
+    nothing : (one : Kept) → busy_of one ≡ 0 → one ≡ Nothing
+    nothing Nothing idle = refl
+    nothing (Request request) idle = absurd (let no : 1 ≡ 0 = idle in cc)
+    nothing (Outcome made) idle = absurd (let no : 1 ≡ 0 = idle in cc)
+none_busy (x ∷ kept) (suc lane) k none is = none_busy kept lane k (let e = busy_cons x kept in omega (arith, e, none)) is
+
+none_in : (state : CallState) → id_in state Nothing ≡ None
+none_in its.Asked = refl
+none_in its.Made = refl
+
+pub idle_nowhere : (kept : List Kept) (state : CallState) (worker : Worker) (place : ℕ) → busy_count kept ≡ 0 → IsNowhere kept state worker place
+idle_nowhere kept state worker place none lane at =
+    let gone : at.there ≡ Nothing = none_busy kept lane at.there none at.is in
+    let no : None ≡ Some at.id = sym (none_in state) ∙ ap (id_in state) (sym gone) ∙ at.id_is in
+    cc
+
+pub idle_unasked : (kept : List Kept) (worker : Worker) → busy_count kept ≡ 0 → is_asked kept worker ≡ false
+idle_unasked [] worker none = refl
+idle_unasked (k ∷ kept) worker none =
+    let gone : k ≡ Nothing = none_busy (k ∷ kept) 0 k none refl in
+    subst (λ one. is_asked (one ∷ kept) worker ≡ false) (sym gone) (idle_unasked kept worker (let e = busy_cons k kept in omega (arith, e, none)))
