@@ -1,18 +1,12 @@
--- What a seat is told of its command, and a worker of its job.
-use Rattle.std.specs.Prelude.{◌≡◌, ◌⊎◌, ℕ, Bool, true, false, List, map, Result, Ok, Err}
+-- Why a seat is refused, and what a worker is told of its job.
+use Rattle.std.specs.Prelude.{◌≡◌, ◌⊎◌, ℕ, Bool, true, false, List, map}
 use Rattle.std.specs.List.{range_with_len}
 use Rattle.sd_command.specs.declared.refusal.Refusal.{Refusal}
 use Rattle.sd_command.specs.declared.refusal.Refusal.TheVariants.{LockBusy}
 use Rattle.sd_command.specs.declared.reply.Reply.{Reply}
 use Rattle.sd_command.specs.declared.reply.Reply.TheVariants as reply
-use Rattle.sd_journal.specs.declared.receipt.Receipt.{Receipt}
 use Rattle.sd_crash_safety.specs.Calls.{IsUnjournaled}
 use Rattle.sd_shared.specs.declared.seat.Seat.{Seat}
-
--- the number and the reply of a receipt
-abbrev pub told : Result Receipt Refusal → Result (ℕ × Reply) Refusal
-told (Ok receipt) = Ok (receipt.number, receipt.reply)
-told (Err why) = Err why
 
 -- why a command that doesn't wait is refused: another thread may have the lock, or as one that waits
 abbrev pub IsRefusedAtOnce : Refusal → Type 0

@@ -21,7 +21,8 @@ use Rattle.sd_core.specs.Flags.{KeepsFlags}
 use Rattle.sd_core.specs.Refusals.{IsPageOut}
 use Rattle.sd_core.specs.Trims.{Trims, unfolded}
 use Rattle.sd_receipts.specs.declared.folded.Folded.{Folded}
-use Rattle.sd_shared.specs.Told.{ends_job, told}
+use Rattle.sd_settling.specs.Told.{told}
+use Rattle.sd_shared.specs.Told.{ends_job}
 use Rattle.sd_shared.specs.declared.booked.Booked.{Booked}
 use Rattle.sd_shared.specs.declared.jobs.Jobs.{Jobs}
 use Rattle.sd_shared.specs.declared.next.Next.{Next}

@@ -8,12 +8,12 @@ ghost use Rattle.sd_crash_safety.specs.Calls.{IsUnjournaled};
 ghost use Rattle.sd_core.specs.declared.taken.Taken.TheVariants as taken;
 ghost use Rattle.sd_shared.specs.declared.next.Next.TheVariants as next;
 ghost use Rattle.sd_core.specs.Called.{IsApplied, IsCancelOrder, IsHandedIn, IsTakenUp};
-ghost use Rattle.sd_shared.specs.Told.{ends_job, told};
+ghost use Rattle.sd_settling.specs.Told.{told};
+ghost use Rattle.sd_shared.specs.Told.{ends_job};
 ghost use Rattle.sd_shared.specs.Turns.{IsOrder, IsSorted, IsTrimmed, counted, ends_waits, holds_waits, job_of, ordered, taken_of, thaw_of, turned};
 
 use crate::driving::ends_job;
 use crate::jobs::Jobs;
-use crate::making::make;
 use crate::next::Next;
 use crate::order_count::OrderCount;
 use crate::seat::Seat;
@@ -24,6 +24,7 @@ use sd_core::{Core, Taken};
 use sd_gate::{Outcome, Worker};
 use sd_journal::Receipt;
 use sd_receipts::Folded;
+use sd_settling::make;
 
 /// A core, how many jobs of its workers were begun, and whether waits for a thaw were ended.
 #[derive(Drop)]

@@ -9,10 +9,10 @@ ghost use Rattle.sd_shared.specs.Told.{seats_from_0};
 
 use crate::booked::Booked;
 use crate::seat::Seat;
-use crate::settling::settle;
 use sd_core::Core;
 use sd_disk::Disk;
 use sd_journal::{CloseFault, Receipt};
+use sd_settling::settle;
 use sd_world::{OpenError, OpenFault, StartError, StartFault, World};
 use std::alloc::{AllocError, Global};
 use std::sync::{Condvar, Mutex};

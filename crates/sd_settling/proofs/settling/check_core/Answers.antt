@@ -2,7 +2,7 @@ use Rattle.std.proofs.Common.{IfErr, reverse, subst}
 use Rattle.sd_journal.specs.Marked.{entries_of}
 use Rattle.sd_journal.specs.Receipts.{IsFault}
 use Rattle.sd_receipts.specs.InTime.{in_time}
-use Rattle.sd_shared.proofs.settling.check_core.Goals as goal
+use Rattle.sd_settling.proofs.settling.check_core.Goals as goal
 
 pub returns-clause-fault : goal.returns-clause-fault
 returns-clause-fault c =

@@ -6,18 +6,19 @@ ghost use Rattle.sd_crash_safety.specs.Calls.{Applies, IsUnjournaled, Stays};
 ghost use Rattle.sd_crash_safety.specs.View.{history_of};
 ghost use Rattle.sd_core.specs.Answering.{IsAnswered};
 ghost use Rattle.sd_core.specs.Called.{IsApplied};
-ghost use Rattle.sd_shared.specs.Told.{told};
+ghost use Rattle.sd_settling.specs.Told.{told};
 
 use sd_command::{Command, Refusal};
 use sd_core::Core;
 use sd_journal::Receipt;
 
-/// Applies a command of a seat, journals it with its reply, and tells both.
+/// Applies a command of a seat, journals it with its reply, and tells both, as `Core::apply`. The receipt is kept for
+/// [`settle`](crate::settle).
 ///
 /// # Errors
 ///
-/// As `Core::apply`: nothing changes.
-pub(crate) fn make(core: &mut Core, seat: usize, command: Command) -> Result<Receipt, Refusal>
+/// `JournalFull`, `OutOfMemory`: nothing changed, and nothing is journaled.
+pub fn make(core: &mut Core, seat: usize, command: Command) -> Result<Receipt, Refusal>
     ensures seat { IfOk result (λ receipt. receipt.seat ≡ seat) }
     ensures command { IfOk result (λ receipt. receipt.command ≡ command) }
     ensures number { IfOk result (λ receipt. receipt.number ≡ core.old.base.folded + length (history_of core.old)) }

@@ -28,12 +28,13 @@ fn refuse<D: Drop>(_core: Core, _disk: D, fault: CloseFault) -> CloseFault
     fault
 }
 
-/// Gives the core and the disk back where the journal accounts for the receipts and the acknowledged numbers.
+/// Gives the core and the disk back where the journal accounts for the receipts, each seat's in the order in which they
+/// were given, and for the acknowledged numbers.
 ///
 /// # Errors
 ///
-/// The first fault, as `check_receipts`.
-pub(crate) fn settle<D: Drop>(
+/// The first fault, as `check_receipts`. The core and the disk are dropped.
+pub fn settle<D: Drop>(
     core: Core,
     disk: D,
     receipts: &[Receipt],

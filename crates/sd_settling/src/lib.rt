@@ -1,0 +1,9 @@
+//! The receipts of a core: a command is made and its seat told so, and at the end the journal is compared with all that was
+//! told.
+#![tactic(auto)]
+
+mod making;
+mod settling;
+
+pub use making::make;
+pub use settling::settle;
