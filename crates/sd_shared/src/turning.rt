@@ -24,7 +24,18 @@ use std::hint::spin_loop;
 use std::sync::{MutexGuard, Wait};
 
 /// How often a seat looks whether the core's lock is free before it sleeps: a turn is shorter than a sleep and a wake.
-const LOOKS: u32 = 1_000;
+const LOOKS: u32 = 64;
+
+/// How many pauses of the processor lie between two looks. The thread that has the core at hand makes some turns meanwhile,
+/// which is faster than to hand it over for each.
+const PAUSES: u32 = 256;
+
+/// Lets the processor pause between two looks.
+fn pause() {
+    for _ in 0..PAUSES {
+        spin_loop();
+    }
+}
 
 impl<D: Disk + Drop> Shared<D> {
     /// Takes the core's lock for a seat. Workers and orders sleep for it at once: it is then left to them in turn, so that a
@@ -34,7 +45,7 @@ impl<D: Disk + Drop> Shared<D> {
             if let Some(core) = self.core.try_lock() {
                 return core;
             }
-            spin_loop();
+            pause();
         }
         self.core.lock(rt)
     }
