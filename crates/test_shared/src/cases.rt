@@ -9,7 +9,7 @@ use crate::jobs::Job;
 use crate::mutator::Mutator;
 use crate::told::Told;
 use crate::trimming::trims_beside;
-use crate::waiting::{waits_asleep, wakes_by_a_cancel};
+use crate::waiting::{loads_thawed, waits_asleep, wakes_by_a_cancel};
 use crate::writers::{falls_beside, writes_beside, writes_twenty_pages};
 use sd_command::Reply;
 use sd_core::Core;
@@ -172,8 +172,10 @@ fn act<R: Threads + Wait + Clock + Files + Alloc + Abort + Sync>(
         }
         Case::Trimmed => trims_beside(rt, alloc, shared, mutators),
         Case::Awaited => {
-            waits_asleep(rt, shared, mutators.0);
+            waits_asleep(rt, shared);
             acks.push(1)?;
+            loads_thawed(rt, shared, mutators.0);
+            acks.push(2)?;
             wakes_by_a_cancel(rt, shared, mutators.0, acks);
             Ok(())
         }

@@ -28,7 +28,7 @@ const TURNS: u64 = 10_000;
 /// How often a cancel, or a load, is tried.
 const TRIES: u64 = 100_000_000;
 
-/// The device call that writes the first page, in a checkpoint without pre-dumps: all is frozen.
+/// The device call that writes the first page, or else the table, in a checkpoint without pre-dumps: all is frozen.
 const FIRST_PAGE: u64 = 4;
 
 /// How many nanoseconds of a processor's time this thread has used, as Linux counts them.
@@ -88,12 +88,10 @@ fn load_kept<R: Wait + Clock>(
         && hold.ended.load(Ordering::SeqCst) != 0
 }
 
-/// A thread waits as long as all is frozen, and not longer, and uses next to none of a processor's time; and a command that waits
-/// for that is made behind it.
+/// A thread waits as long as all is frozen, and not longer, and uses next to none of a processor's time.
 pub(crate) fn waits_asleep<R: Threads + Wait + Clock + Files + Alloc + Abort + Sync>(
     rt: &R,
     shared: &Shared<Store>,
-    mutator: &mut Mutator<'_>,
 ) {
     let (begun, ended) = (AtomicU64::new(0), AtomicU64::new(0));
     let hold = Keeping {
@@ -104,20 +102,34 @@ pub(crate) fn waits_asleep<R: Threads + Wait + Clock + Files + Alloc + Abort + S
     let (reply, waited) = thread::join(
         rt,
         || shared.run_dumper(rt, 0, &hold),
-        || {
-            thread::join(
-                rt,
-                || wait_kept(rt, shared, &hold),
-                || load_kept(rt, shared, mutator, &hold),
-            )
-        },
+        || wait_kept(rt, shared, &hold),
     );
     assert_eq!(rt; reply, Reply::Acked(1));
-    let (Some((thaw, kept, nanos)), loaded) = waited else {
+    let Some((thaw, kept, nanos)) = waited else {
         panic!(rt; "nothing was frozen, or the thread's time can't be read");
     };
-    assert_eq!(rt; (thaw, kept, loaded), (Thaw::Thawed, true, true));
+    assert_eq!(rt; (thaw, kept), (Thaw::Thawed, true));
     assert!(rt; nanos < MOST_NANOS, "{nanos} ns");
+}
+
+/// A command that waits for the thaw is made behind it. The checkpoint is the second one.
+pub(crate) fn loads_thawed<R: Threads + Wait + Clock + Abort + Sync>(
+    rt: &R,
+    shared: &Shared<Store>,
+    mutator: &mut Mutator<'_>,
+) {
+    let (begun, ended) = (AtomicU64::new(0), AtomicU64::new(0));
+    let hold = Keeping {
+        rt,
+        begun: &begun,
+        ended: &ended,
+    };
+    let told = thread::join(
+        rt,
+        || shared.run_dumper(rt, 0, &hold),
+        || load_kept(rt, shared, mutator, &hold),
+    );
+    assert_eq!(rt; told, (Reply::Acked(2), true));
 }
 
 /// What a thread that waits, and others, tell each other.
