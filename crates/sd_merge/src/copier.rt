@@ -10,17 +10,14 @@ ghost use Rattle.sd_gate.specs.Plans.{Gives, begun};
 ghost use Rattle.sd_gate.specs.Sequences.{data_place};
 ghost use Rattle.sd_chain.specs.Passes.{IsBehind, IsNextPage};
 ghost use Rattle.sd_chain.specs.Ways.{AreImages};
-ghost use Rattle.sd_rounds.specs.Making.{IsUnderWay};
-ghost use Rattle.sd_rounds.specs.Pass.{data_pages};
-ghost use Rattle.sd_merge.specs.declared.stage.Stage.TheVariants.{Close, Format, PageWrite, Pass as PassStage};
+ghost use Rattle.sd_merge.specs.declared.stage.Stage.TheVariants.{Pass as PassStage};
 ghost use Rattle.sd_merge.specs.declared.work_error.WorkError.TheVariants.{Busy, Idle, Lost, OutOfMemory};
-ghost use Rattle.sd_merge.specs.Copying.{HandsIn, IsAskedBy, IsLost, IsAbsent, IsReading, IsSoundCopying, ReadsPage, Steps, TakesZero, WritesPage, WritesTable, begun_copy, cursor, header_of, out_of, page_of};
+ghost use Rattle.sd_merge.specs.Copying.{IsAskedBy, IsLost, IsAbsent, IsReading, IsSoundCopying, ReadsPage, Steps, TakesZero, WritesPage, WritesTable, begun_copy, cursor, header_of, out_of, page_of};
 ghost use Rattle.sd_merge.specs.Left.{copy_left};
-ghost use Rattle.sd_merge.specs.PlanSteps.{IsPageCallOf, IsReadCallOf, IsTableCallOf, IsZeroStep, at_stage};
+ghost use Rattle.sd_merge.specs.PlanSteps.{IsPageCallOf, IsReadCallOf, IsTableCallOf, IsZeroStep};
 
 use crate::copies::Copies;
 use crate::copy_order::CopyOrder;
-use crate::copy_progress::CopyProgress;
 use crate::merge_step::MergeStep;
 use crate::plans::{ask, first_request, plan_left, settle};
 use crate::source::PAGE_LIMIT;
@@ -28,12 +25,14 @@ use crate::stage::Stage;
 use crate::work_error::WorkError;
 use sd_areas::{PAGE_SIZE, PageNo, SpaceId};
 use sd_chain::{Catalog, Found, PlacedTable};
-use sd_gate::{Outcome, Plan, Request, RequestId, Settled, Worker};
+use sd_gate::{Outcome, Plan, Request, Settled, Worker};
 use sd_image::{Digester, Header, Kind, RunKind, Version, encode_table, few_pages};
-use sd_rounds::{NewImage, digest_page, with_digest};
+use sd_rounds::{digest_page, with_digest};
 use std::alloc::{AllocError, Global};
 use std::marker::Model;
 use std::mem;
+
+mod outcomes;
 
 /// A merged image that is made of its source, page by page.
 #[derive(Debug, Drop)]
@@ -350,127 +349,6 @@ impl Copier {
             Stage::PageRead(plan) => plan_left(plan) + pages,
             Stage::PageWrite(plan) => plan_left(plan) + pages,
             Stage::Close { plan, .. } => plan_left(plan),
-        }
-    }
-
-    /// Whether this is the request that is out.
-    fn is_out(&self, id: &RequestId) -> bool
-        ensures { IsTrue result ↔ out_of self.now.stage ≡ Some id.now }
-    {
-        match &self.stage {
-            Stage::Format(plan) => plan.is_out(id),
-            Stage::PageRead(plan) => plan.is_out(id),
-            Stage::PageWrite(plan) => plan.is_out(id),
-            Stage::Close { plan, .. } => plan.is_out(id),
-            Stage::Pass => false,
-        }
-    }
-
-    /// Takes the outcome of the request that is out.
-    pub(crate) fn hand_in(&mut self, outcome: Outcome) -> CopyProgress
-        ensures { HandsIn self.old outcome result self.new }
-    {
-        if !self.is_out(&outcome.id()) {
-            return CopyProgress::Strange;
-        }
-        match mem::replace(&mut self.stage, Stage::Pass) {
-            Stage::Format(plan) => self.end_format(plan, outcome),
-            Stage::PageRead(plan) => match read_of(plan, outcome) {
-                Some(buffer) => {
-                    self.read = Some(buffer);
-                    CopyProgress::More
-                }
-                None => {
-                    self.taking = None;
-                    CopyProgress::Failed
-                }
-            },
-            Stage::PageWrite(plan) => self.end_page(plan, outcome),
-            Stage::Close {
-                plan,
-                header,
-                table,
-            } => self.end_close(plan, header, table, outcome),
-            Stage::Pass => unreachable!(),
-        }
-    }
-
-    /// Takes the outcome of a call of the format.
-    fn end_format(&mut self, mut plan: Plan, outcome: Outcome) -> CopyProgress
-        requires stage { self.old.stage ≡ PassStage }
-        requires fresh { self.old.entries ≡ [] }
-        requires free { self.old.taking ≡ None }
-        requires under_way { IsUnderWay plan }
-        requires own { plan.slot ≡ self.old.order.slot }
-        requires out { plan.out ≡ Some outcome.request.id }
-        ensures { HandsIn (at_stage self.old (Format plan)) outcome result self.new }
-    {
-        match settle(&mut plan, outcome) {
-            Settled::Strange | Settled::Failed => CopyProgress::Failed,
-            Settled::More => {
-                self.stage = Stage::Format(plan);
-                CopyProgress::More
-            }
-            Settled::Finished => CopyProgress::More,
-        }
-    }
-
-    /// Takes the outcome of a page's write, and keeps its buffer for the next.
-    fn end_page(&mut self, mut plan: Plan, outcome: Outcome) -> CopyProgress
-        requires stage { self.old.stage ≡ PassStage }
-        requires free { self.old.taking ≡ None }
-        requires under_way { IsUnderWay plan }
-        requires own { plan.slot ≡ self.old.order.slot }
-        requires out { plan.out ≡ Some outcome.request.id }
-        ensures { HandsIn (at_stage self.old (PageWrite plan)) outcome result self.new }
-    {
-        match settle(&mut plan, outcome) {
-            Settled::Strange | Settled::Failed => CopyProgress::Failed,
-            Settled::More => {
-                self.stage = Stage::PageWrite(plan);
-                CopyProgress::More
-            }
-            Settled::Finished => {
-                let sd_gate::Found { first, .. } = plan.into_found();
-                if let Some(buffer) = first {
-                    self.spare = buffer;
-                }
-                CopyProgress::More
-            }
-        }
-    }
-
-    /// Takes the outcome of a call that closes the body. Behind the last the image is open.
-    fn end_close(
-        &mut self,
-        mut plan: Plan,
-        header: Header,
-        table: PlacedTable,
-        outcome: Outcome,
-    ) -> CopyProgress
-        requires stage { self.old.stage ≡ PassStage }
-        requires free { self.old.taking ≡ None }
-        requires pages { header.pages ≡ data_pages self.old.entries }
-        requires under_way { IsUnderWay plan }
-        requires own { plan.slot ≡ self.old.order.slot }
-        requires out { plan.out ≡ Some outcome.request.id }
-        ensures { HandsIn (at_stage self.old (Close plan header table)) outcome result self.new }
-    {
-        match settle(&mut plan, outcome) {
-            Settled::Strange | Settled::Failed => CopyProgress::Failed,
-            Settled::More => {
-                self.stage = Stage::Close {
-                    plan,
-                    header,
-                    table,
-                };
-                CopyProgress::More
-            }
-            Settled::Finished => CopyProgress::Opened(NewImage {
-                slot: self.order.slot,
-                header,
-                table,
-            }),
         }
     }
 }

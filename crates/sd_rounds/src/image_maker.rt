@@ -1,47 +1,38 @@
 //! One image in the making: its slot is formatted, the pages of a memory are passed, and its gate is opened.
-ghost use Rattle.std.specs.Prelude.{◌≡◌, ◌≢◌, ◌↔◌, ℕ, ◌<◌, ◌≤◌, ◌^◌, ◌==◌, None, Some, Ok, Err, IsSome, IsTrue, IsErr, true, false, IfOk, OnErr, MatchOption, ◌++◌, List, length, map, replicate, slice_get};
-ghost use Rattle.sha2.specs.Sha256.{sha256};
-ghost use Rattle.sd_image.specs.Digests.{HasFed};
-ghost use Rattle.sd_image.specs.Header.{HasWords, header_front};
-ghost use Rattle.sd_image.specs.Table.{listing_of};
+ghost use Rattle.std.specs.Prelude.{◌≡◌, ◌≢◌, ℕ, ◌<◌, ◌≤◌, ◌^◌, None, Some, IsSome, IsErr, false, IfOk, OnErr, MatchOption, length, replicate, slice_get};
+ghost use Rattle.sd_image.specs.Header.{HasWords};
 ghost use Rattle.sd_gate.specs.Plans.{Gives, Planned};
 ghost use Rattle.sd_gate.specs.Sequences.{data_place};
 ghost use Rattle.sd_gate.specs.declared.call.Call.TheVariants.{Write};
-ghost use Rattle.sd_rounds.specs.declared.stage.Stage.TheVariants.{Close, Format, Pass as PassStage};
-ghost use Rattle.sd_image.specs.declared.header.Header.{Header};
+ghost use Rattle.sd_rounds.specs.declared.stage.Stage.TheVariants.{Format, Pass as PassStage};
 ghost use Rattle.sd_pagetable.specs.Contents.{Contents, plain_of};
-ghost use Rattle.sd_pagetable.specs.Order.{IsNextPage};
 ghost use Rattle.sd_rounds.specs.Left.{image_left, plan_left};
-ghost use Rattle.sd_rounds.specs.Making.{HandsIn, HasTable, IsAskedBy, IsUnderWay, Steps, WritesPage, WritesTable, begun_image, header_of, is_frozen, out_of, stage_behind};
-ghost use Rattle.sd_rounds.specs.PlanSteps.{HasNoPage, IsPageCallOf, IsTableCallOf, Settles, at_stage, image_step, is_freeze};
-ghost use Rattle.sd_rounds.specs.Pass.{data_pages, opened};
+ghost use Rattle.sd_rounds.specs.Making.{IsAskedBy, IsUnderWay, Steps, WritesPage, begun_image, header_of, is_frozen, out_of, stage_behind};
+ghost use Rattle.sd_rounds.specs.PlanSteps.{HasNoPage, IsPageCallOf, Settles, image_step, is_freeze};
+ghost use Rattle.sd_rounds.specs.Pass.{data_pages};
 ghost use Rattle.sd_rounds.specs.Room.{ImageWants};
 ghost use Rattle.sd_rounds.specs.Rounds.{IsCopied};
 ghost use Rattle.sd_rounds.specs.Sound.{IsSoundImage};
 ghost use Rattle.sd_rounds.specs.Waits.{must_wait};
-ghost use Rattle.sd_rounds.specs.Writes.{no_writes};
 
-use crate::digests::{digest_page, with_digest};
+use crate::digests::digest_page;
 use crate::image_order::ImageOrder;
-use crate::image_progress::ImageProgress;
 use crate::image_step::ImageStep;
-use crate::lanes::{LANES, free_lane, is_any_out, lane_of, writes_out};
-use crate::laws::made_law;
+use crate::lanes::{LANES, free_lane, is_any_out, writes_out};
 use crate::left::{CLOSE, FREEZE};
-use crate::new_image::NewImage;
 use crate::page_buffers::PageBuffers;
 use crate::pass_step::PassStep;
 use crate::round::Round;
 use crate::stage::Stage;
 use crate::standing::Standing;
-use crate::tables::{dump_table, pre_dump_table};
-use sd_chain::PlacedTable;
 use sd_gate::{Outcome, Plan, Request, RequestId, Settled, Worker};
-use sd_image::{Digester, Header, Kind, Table, Version, encode_table};
+use sd_image::{Digester, Header, Kind, Version};
 use sd_pagetable::{Memory, plain_law};
 use std::alloc::{AllocError, Global};
 use std::marker::Model;
-use std::mem;
+
+mod closing;
+mod outcomes;
 
 /// An image that is written while its memory is in use.
 #[derive(Debug, Drop)]
@@ -306,59 +297,6 @@ impl ImageMaker {
         Ok(ImageStep::PageCall { lane, request })
     }
 
-    /// Makes the table, and asks for its write.
-    #[inline(never)]
-    fn close(&mut self, memory: &Memory, ticket: u64) -> Result<ImageStep, AllocError>
-        requires stage { self.old.stage ≡ PassStage }
-        requires free { self.old.pass.taking ≡ None }
-        requires over { IsNextPage memory.now.spaces self.old.pass.after None }
-        requires rests { self.old.writes ≡ no_writes }
-        ensures table { IfOk result (IsTableCallOf (λ request. WritesTable self.old memory.now request self.new
-            × IsAskedBy ticket request)) }
-        ensures err { OnErr result (self.new ≡ self.old) }
-    {
-        let table = self.table(memory)?;
-        let text = encode_table(self.alloc, &table)?;
-        let header = self.header(self.digester.clone()?, &text);
-        let table = PlacedTable::new(self.alloc, table)?;
-        let mut plan = Plan::close_body(self.order.slot, header, text);
-        let request = ask(&mut plan, ticket);
-        self.stage = Stage::Close {
-            plan,
-            header,
-            table,
-        };
-        Ok(ImageStep::TableCall(request))
-    }
-
-    /// The table of the image: a dump has the areas of the memory.
-    fn table(&self, memory: &Memory) -> Result<Table, AllocError>
-        ensures { IfOk result (λ table. (header : Header)
-            → header.kind ≡ self.now.order.kind → header.parent ≡ self.now.order.parent
-            → header.pages ≡ data_pages self.now.pass.entries
-            → HasTable self.now.order.kind memory.now self.now.pass.entries header
-            (map listing_of table.spaces.items)) }
-    {
-        plain_law();
-        made_law();
-        match self.order.kind {
-            Kind::PreDump => pre_dump_table(self.alloc, self.round.tables()),
-            Kind::Dump | Kind::Merged => dump_table(self.alloc, self.round.tables(), memory),
-        }
-    }
-
-    /// The header of the image, whose data pages were digested, and whose table has this text.
-    fn header(&self, digester: Digester, text: &[u8]) -> Header
-        ensures numbers { result ≡ header_of self.now.order (data_pages self.now.pass.entries)
-            (length text.now) result.digest }
-        ensures digest { (fed : List ℕ) → HasFed digester fed
-            → result.digest ≡ sha256 (fed ++ text.now ++ header_front result) }
-        ensures words { HasWords result }
-    {
-        let header = own_header(self.order, self.stored as u64, text.len() as u64);
-        with_digest(digester, text, header)
-    }
-
     /// How many steps and outcomes the image has before it, at most.
     pub(crate) fn left(&self, memory: &Memory) -> u128
         ensures left { result ≡ image_left self.now (plain_of memory.now) }
@@ -404,116 +342,5 @@ impl ImageMaker {
         ensures { IsSoundImage self.now }
     {
         self.round.rising();
-    }
-
-    /// Whether this is the request of its plan that is out.
-    fn is_out(&self, id: &RequestId) -> bool
-        ensures { IsTrue result ↔ out_of self.now.stage ≡ Some id.now }
-    {
-        match &self.stage {
-            Stage::Format(plan) => plan.is_out(id),
-            Stage::Close { plan, .. } => plan.is_out(id),
-            Stage::Freeze | Stage::Pass => false,
-        }
-    }
-
-    /// Takes the outcome of a request that is out. The buffer of a page that was written is spare again.
-    pub(crate) fn hand_in(&mut self, outcome: Outcome, buffers: &mut PageBuffers) -> ImageProgress
-        ensures { HandsIn self.old outcome result self.new }
-    {
-        let id = outcome.id();
-        if let Some(lane) = lane_of(&self.writes, &id) {
-            return self.end_page(lane, outcome, buffers);
-        }
-        if !self.is_out(&id) {
-            return ImageProgress::Strange;
-        }
-        match mem::replace(&mut self.stage, Stage::Pass) {
-            Stage::Format(plan) => self.end_format(plan, outcome),
-            Stage::Close {
-                plan,
-                header,
-                table,
-            } => self.end_close(plan, header, table, outcome),
-            Stage::Freeze | Stage::Pass => unreachable!(),
-        }
-    }
-
-    /// Takes the outcome of a call of the format. Behind the last a dump freezes the memory.
-    fn end_format(&mut self, mut plan: Plan, outcome: Outcome) -> ImageProgress
-        requires stage { self.old.stage ≡ PassStage }
-        requires fresh { self.old.pass ≡ opened (self.old.order.parent == 0) }
-        requires rests { self.old.writes ≡ no_writes }
-        requires under_way { IsUnderWay plan }
-        requires out { plan.out ≡ Some outcome.request.id }
-        ensures { HandsIn (at_stage self.old (Format plan)) outcome result self.new }
-    {
-        match settle(&mut plan, outcome) {
-            Settled::Strange | Settled::Failed => ImageProgress::Failed,
-            Settled::More => {
-                self.stage = Stage::Format(plan);
-                ImageProgress::More
-            }
-            Settled::Finished => {
-                self.stage = behind_format(self.order.kind);
-                ImageProgress::More
-            }
-        }
-    }
-
-    /// Takes the outcome of a page's write.
-    fn end_page(
-        &mut self,
-        lane: usize,
-        outcome: Outcome,
-        buffers: &mut PageBuffers,
-    ) -> ImageProgress
-        requires out { slice_get self.old.writes lane ≡ Some (Some outcome.request.id) }
-        requires within { lane < 8 }
-        ensures { HandsIn self.old outcome result self.new }
-    {
-        self.writes[lane] = None;
-        let done = outcome.answer().is_done();
-        if let Some(buffer) = outcome.into_buffer() {
-            buffers.give(buffer);
-        }
-        if done {
-            ImageProgress::More
-        } else {
-            ImageProgress::Failed
-        }
-    }
-
-    /// Takes the outcome of a call that closes the body. Behind the last the image is open.
-    fn end_close(
-        &mut self,
-        mut plan: Plan,
-        header: Header,
-        table: PlacedTable,
-        outcome: Outcome,
-    ) -> ImageProgress
-        requires stage { self.old.stage ≡ PassStage }
-        requires pages { header.pages ≡ data_pages self.old.pass.entries }
-        requires rests { self.old.writes ≡ no_writes }
-        requires under_way { IsUnderWay plan }
-        requires out { plan.out ≡ Some outcome.request.id }
-        ensures { HandsIn (at_stage self.old (Close plan header table)) outcome result self.new }
-    {
-        match settle(&mut plan, outcome) {
-            Settled::Strange | Settled::Failed => ImageProgress::Failed,
-            Settled::More => {
-                self.stage = Stage::Close {
-                    plan,
-                    header,
-                    table,
-                };
-                ImageProgress::More
-            }
-            Settled::Finished => ImageProgress::Opened(NewImage {
-                slot: self.order.slot,
-                header,
-                table,
-            }),
-        }
     }
 }

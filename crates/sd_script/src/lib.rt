@@ -4,6 +4,7 @@
 mod answer;
 mod blame;
 mod digits;
+mod field_values;
 mod forms;
 mod line;
 mod line_error;

@@ -1,7 +1,7 @@
 //! What in a line doesn't fit the language, for a reader. `Script::parse` alone decides whether a line fits.
 
+use crate::field_values::{hex_bytes, number, permissions, worker_named};
 use crate::forms::form_of;
-use crate::line::{hex_bytes, number, permissions, worker_named};
 use crate::line_error::LineError;
 use crate::line_fault::{FieldKind, LineFault};
 use std::alloc::{AllocError, Global};

@@ -3,8 +3,8 @@ use Rattle.std.proofs.Common.{◌≡◌, ◌≤◌, ◌+◌, ◌*◌, ◌^◌, �
 use Rattle.std.specs.Char.{digit_value}
 use Rattle.sd_script.specs.Line.{numeral_of}
 use Rattle.sd_script.proofs.Numerals.{Reads, large-more, numeral-unfit, numeral-large, numeral-read, reads-none, reads-more, some_digits}
-use Rattle.sd_script.proofs.line.numeral.Goals.{then-value-radix-via-then-value-radix, then-value-radix-via-else-value-radix+then-number-most}
-use Rattle.sd_script.proofs.line.numeral.Goals as goal
+use Rattle.sd_script.proofs.field_values.numeral.Goals.{then-value-radix-via-then-value-radix, then-value-radix-via-else-value-radix+then-number-most}
+use Rattle.sd_script.proofs.field_values.numeral.Goals as goal
 
 pub loop-byte-init : goal.loop-byte-init
 loop-byte-init c = reads-none c.args.radix c.as_bytes-byte-items.result.now

@@ -1,6 +1,6 @@
 -- The digits so far are read.
 use Rattle.sd_script.proofs.Numerals.{Reads}
-use Rattle.sd_script.proofs.line.numeral.Given as goal
+use Rattle.sd_script.proofs.field_values.numeral.Given as goal
 
 abbrev pub invariant-loop-byte : goal.invariant-loop-byte
 invariant-loop-byte l = Reads l.radix l.byte-items l.byte-index l.number

@@ -1,0 +1,258 @@
+//! A core's dumper: how it makes the images of a checkpoint, step by step.
+ghost use Rattle.std.specs.Prelude.{◌≡◌, ◌≢◌, ◌↔◌, ℕ, true, false, slice_get, Some, None, IsSome};
+ghost use Rattle.sd_pagetable.specs.Contents.{plain_of};
+ghost use Rattle.sd_command.specs.declared.refusal.Refusal.TheVariants.{StoreDown};
+ghost use Rattle.sd_command.specs.declared.reply.Reply.TheVariants as reply;
+ghost use Rattle.sd_merge.specs.Merger.{Running as RunningMerge};
+ghost use Rattle.sd_crash_safety.specs.Calls.{HandedIn};
+ghost use Rattle.sd_gate.specs.declared.worker.Worker.TheVariants as its;
+ghost use Rattle.sd_rounds.specs.Dumper.{Running, next_slot};
+ghost use Rattle.sd_rounds.specs.Waits.{dumper_must_wait};
+ghost use Rattle.sd_core.specs.Beside.{HandsBeside, StepsBeside};
+ghost use Rattle.sd_core.specs.Images.{IsAcked};
+ghost use Rattle.sd_core.specs.LittleWork.{IsLittleDump, IsLittlePreDump, OpensPreDump};
+ghost use Rattle.sd_core.specs.Flags.{FlagsByOutcome, FlagsByStep};
+ghost use Rattle.sd_core.specs.Lasting.{MergeLasts};
+ghost use Rattle.sd_core.specs.Merging.{OpensMerged};
+ghost use Rattle.sd_core.specs.Refusals.{is_idle, work_refusal};
+ghost use Rattle.sd_core.specs.Rounds.{OpensItsGate, SameRound, TurnsRound};
+ghost use Rattle.sd_core.specs.Starts.{TakesUp};
+ghost use Rattle.sd_core.specs.Working.{Leaves, LeavesByOutcome};
+ghost use Rattle.sd_gate.specs.Calls.{is_done};
+
+use super::Core;
+use crate::dumping::{
+    begin_next, closes_for_sure, enter_catalog, is_committing, is_swept, leave_catalog,
+    release_unfrozen, step_on,
+};
+use crate::lanes::{DUMPER, page_lane, put_out};
+use crate::opening::follow_call;
+use crate::taken::Taken;
+use sd_command::{Refusal, Reply};
+use sd_crash_safety::{Standing, core_steps, dumper_outcomes, dumper_steps, merger_outcomes};
+use sd_gate::Outcome;
+use sd_journal::{Entry, Mark, due_laws, tracked_laws};
+use sd_pagetable::{clear_law, plain_law};
+use sd_rounds::{ImageStep, NextImage, Progress, left_law, little_law, rises_law};
+
+impl Core {
+    /// Makes the dumper's next step, or hands out its next device call.
+    pub(super) fn take_up_dumper(&mut self) -> Taken
+        requires { work_refusal self.old its.Dumper ≡ None }
+        ensures takes { TakesUp self.old its.Dumper result self.new }
+        ensures flags { FlagsByStep self.old its.Dumper result self.new }
+        ensures beside { StepsBeside its.Dumper self.old result self.new }
+        ensures leaves { Leaves self.old its.Dumper result self.new }
+        ensures round { SameRound self.old.dumper.running self.new.dumper.running }
+        ensures merger { self.new.merger ≡ self.old.merger }
+    {
+        match self.dumper.next_slot() {
+            Some(slot) => self.begin_image(slot),
+            None => self.go_on_image(),
+        }
+    }
+
+    /// Begins the next image of the checkpoint, which gets the next serial, and hands out the first device call on its slot.
+    ///
+    /// # Errors
+    ///
+    /// `OutOfMemory` where a growth was refused.
+    pub(super) fn begin_image(&mut self, slot: usize) -> Taken
+        requires next { next_slot self.old.dumper.running ≡ Some slot }
+        ensures takes { TakesUp self.old its.Dumper result self.new }
+        ensures flags { FlagsByStep self.old its.Dumper result self.new }
+        ensures beside { StepsBeside its.Dumper self.old result self.new }
+        ensures leaves { Leaves self.old its.Dumper result self.new }
+        ensures round { SameRound self.old.dumper.running self.new.dumper.running }
+        ensures merger { self.new.merger ≡ self.old.merger }
+    {
+        core_steps();
+        dumper_steps();
+        rises_law();
+        tracked_laws();
+        little_law();
+        self.dumper.sound();
+        let Ok(()) = self.journal.reserve_mark() else {
+            return Taken::Step(Reply::Refused(Refusal::OutOfMemory));
+        };
+        let serial = self.numbers.serial + 1;
+        let Ok(()) = self.catalog.hold(serial) else {
+            return Taken::Step(Reply::Refused(Refusal::OutOfMemory));
+        };
+        let image = NextImage {
+            serial,
+            state: self.phases[slot].state(),
+        };
+        let request = begin_next(
+            &mut self.dumper,
+            &mut self.memory,
+            image,
+            self.numbers.ticket,
+        );
+        self.dumper.sound();
+        self.numbers.give();
+        self.numbers.tick();
+        self.journal.note(Mark::Start(serial));
+        put_out(&mut self.outs, DUMPER, Some(request.id()));
+        self.committing = is_committing(self.committing, &self.dumper, request.id().call);
+        Taken::Call(request)
+    }
+
+    /// Makes the next step of the image in the making, or hands out its next device call.
+    ///
+    /// # Errors
+    ///
+    /// `OutOfMemory` where a growth was refused.
+    pub(super) fn go_on_image(&mut self) -> Taken
+        requires begun { next_slot self.old.dumper.running ≡ None }
+        requires runs { IsSome self.old.dumper.running }
+        requires rests { slice_get self.old.outs 0 ≡ Some None }
+        requires goes { dumper_must_wait self.old.dumper.running (plain_of self.old.memory) ≡ false }
+        ensures takes { TakesUp self.old its.Dumper result self.new }
+        ensures flags { FlagsByStep self.old its.Dumper result self.new }
+        ensures beside { StepsBeside its.Dumper self.old result self.new }
+        ensures leaves { Leaves self.old its.Dumper result self.new }
+        ensures round { SameRound self.old.dumper.running self.new.dumper.running }
+        ensures merger { self.new.merger ≡ self.old.merger }
+    {
+        core_steps();
+        dumper_steps();
+        tracked_laws();
+        due_laws();
+        little_law();
+        clear_law();
+        self.dumper.sound();
+        let Ok(()) = self.journal.reserve_mark() else {
+            return Taken::Step(Reply::Refused(Refusal::OutOfMemory));
+        };
+        let Ok(step) = step_on(&mut self.dumper, &mut self.memory, self.numbers.ticket) else {
+            return Taken::Step(Reply::Refused(Refusal::OutOfMemory));
+        };
+        self.dumper.sound();
+        let Some(serial) = self.dumper.serial() else {
+            unreachable!();
+        };
+        match step {
+            ImageStep::PageCall { lane, request } => {
+                self.numbers.tick();
+                put_out(&mut self.outs, page_lane(lane), Some(request.id()));
+                Taken::Call(request)
+            }
+            ImageStep::Call(request) => {
+                self.numbers.tick();
+                put_out(&mut self.outs, DUMPER, Some(request.id()));
+                self.committing = is_committing(self.committing, &self.dumper, request.id().call);
+                Taken::Call(request)
+            }
+            ImageStep::TableCall(request) => {
+                self.journal.note(Mark::Table(serial));
+                self.swept = is_swept(self.swept, &self.dumper);
+                self.numbers.tick();
+                put_out(&mut self.outs, DUMPER, Some(request.id()));
+                self.committing = is_committing(self.committing, &self.dumper, request.id().call);
+                Taken::Call(request)
+            }
+            ImageStep::Frozen => {
+                self.journal.append_held(Entry::Freeze(self.numbers.begun));
+                self.pending = Some(self.numbers.begun);
+                Taken::Step(Reply::Worked)
+            }
+            ImageStep::Visited(visit) => {
+                self.journal.note(Mark::Visit {
+                    serial,
+                    space: visit.space,
+                    page: visit.page,
+                });
+                Taken::Step(Reply::Worked)
+            }
+            ImageStep::Copied(_) => Taken::Step(Reply::Worked),
+        }
+    }
+
+    /// Takes the outcome of a call whose job has ended, since the store went down.
+    pub(super) fn hand_in_late(&mut self, lane: usize, outcome: Outcome) -> Reply
+        requires out { slice_get self.old.outs lane ≡ Some (Some outcome.request.id) }
+        requires idle { is_idle self.old outcome.request.id.worker ≡ true }
+        ensures handed { HandedIn self.old lane outcome result self.new }
+        ensures leaves { LeavesByOutcome self.old outcome.request.id.worker result self.new }
+        ensures merger { self.new.merger ≡ self.old.merger }
+        ensures late { result ≡ reply.Refused StoreDown }
+        ensures flags { FlagsByOutcome self.old result self.new }
+        ensures beside { HandsBeside outcome self.old self.new }
+        ensures closed { outcome.request.id.worker ≢ its.Opener }
+        ensures images { (running : Running) → OpensPreDump running self.old self.new → ⊥ }
+        ensures merges { outcome.request.id.worker ≡ its.Merger → (merge : RunningMerge) (serial : ℕ)
+            → OpensMerged merge serial self.old self.new → ⊥ }
+    {
+        dumper_outcomes();
+        merger_outcomes(&self.catalog);
+        let id = outcome.id();
+        let done = outcome.answer().is_done();
+        follow_call(&mut self.phases, &id, done);
+        put_out(&mut self.outs, lane, None);
+        drop(outcome);
+        Reply::Refused(Refusal::StoreDown)
+    }
+
+    /// Takes the outcome of the dumper's call.
+    pub(super) fn hand_in_dumper(&mut self, lane: usize, outcome: Outcome) -> Reply
+        requires out { slice_get self.old.outs lane ≡ Some (Some outcome.request.id) }
+        requires dumper { outcome.request.id.worker ≡ its.Dumper }
+        requires runs { is_idle self.old its.Dumper ≡ false }
+        ensures handed { HandedIn self.old lane outcome result self.new }
+        ensures failed { is_done outcome.answer ≡ false ↔ result ≡ reply.Refused StoreDown }
+        ensures leaves { LeavesByOutcome self.old its.Dumper result self.new }
+        ensures flags { FlagsByOutcome self.old result self.new }
+        ensures beside { HandsBeside outcome self.old self.new }
+        ensures lasts { MergeLasts self.old self.new }
+        ensures acked { (n : ℕ) → result ≡ reply.Acked n → IsAcked n self.old self.new }
+        ensures little { (n : ℕ) → result ≡ reply.Acked n → IsLittleDump n self.old self.new }
+        ensures round { (running : Running) → OpensPreDump running self.old self.new
+            → IsLittlePreDump running self.old self.new }
+        ensures rounds { TurnsRound self.old.dumper.running self.new.dumper.running self.new.catalog }
+        ensures gates { OpensItsGate self.old lane outcome.request result self.new }
+    {
+        dumper_outcomes();
+        tracked_laws();
+        due_laws();
+        little_law();
+        left_law();
+        plain_law();
+        self.dumper.sound();
+        let id = outcome.id();
+        let done = outcome.answer().is_done();
+        let closed = closes_for_sure(self.phases[id.slot], id.call);
+        follow_call(&mut self.phases, &id, done);
+        put_out(&mut self.outs, lane, None);
+        match self.dumper.hand_in(outcome) {
+            Progress::Strange => unreachable!(),
+            Progress::Failed => {
+                self.standing = Standing::Down;
+                release_unfrozen(&mut self.journal, self.pending);
+                self.merger.cancel();
+                Reply::Refused(Refusal::StoreDown)
+            }
+            Progress::More => {
+                self.dumper.sound();
+                leave_catalog(&mut self.catalog, id.slot, closed);
+                Reply::Worked
+            }
+            Progress::PreDump(image) => {
+                enter_catalog(&mut self.catalog, image);
+                Reply::Worked
+            }
+            Progress::Dump(image) => {
+                self.memory.sound();
+                enter_catalog(&mut self.catalog, image);
+                let number = self.numbers.begun;
+                self.journal.append_held(Entry::Acked(number));
+                self.pending = None;
+                self.last = Some(number);
+                self.grows = true;
+                self.committing = false;
+                self.swept = false;
+                Reply::Acked(number)
+            }
+        }
+    }
+}

@@ -1,0 +1,140 @@
+//! Outcomes that are handed to a merged image in the making.
+ghost use Rattle.std.specs.Prelude.{◌≡◌, ◌↔◌, [], None, Some, IsTrue};
+ghost use Rattle.sd_rounds.specs.Making.{IsUnderWay};
+ghost use Rattle.sd_rounds.specs.Pass.{data_pages};
+ghost use Rattle.sd_merge.specs.declared.stage.Stage.TheVariants.{Close, Format, PageWrite, Pass as PassStage};
+ghost use Rattle.sd_merge.specs.Copying.{HandsIn, out_of};
+ghost use Rattle.sd_merge.specs.PlanSteps.{at_stage};
+
+use super::{Copier, read_of};
+use crate::copy_progress::CopyProgress;
+use crate::plans::settle;
+use crate::stage::Stage;
+use sd_chain::PlacedTable;
+use sd_gate::{Outcome, Plan, RequestId, Settled};
+use sd_image::Header;
+use sd_rounds::NewImage;
+use std::mem;
+
+impl Copier {
+    /// Whether this is the request that is out.
+    pub(super) fn is_out(&self, id: &RequestId) -> bool
+        ensures { IsTrue result ↔ out_of self.now.stage ≡ Some id.now }
+    {
+        match &self.stage {
+            Stage::Format(plan) => plan.is_out(id),
+            Stage::PageRead(plan) => plan.is_out(id),
+            Stage::PageWrite(plan) => plan.is_out(id),
+            Stage::Close { plan, .. } => plan.is_out(id),
+            Stage::Pass => false,
+        }
+    }
+
+    /// Takes the outcome of the request that is out.
+    pub(crate) fn hand_in(&mut self, outcome: Outcome) -> CopyProgress
+        ensures { HandsIn self.old outcome result self.new }
+    {
+        if !self.is_out(&outcome.id()) {
+            return CopyProgress::Strange;
+        }
+        match mem::replace(&mut self.stage, Stage::Pass) {
+            Stage::Format(plan) => self.end_format(plan, outcome),
+            Stage::PageRead(plan) => match read_of(plan, outcome) {
+                Some(buffer) => {
+                    self.read = Some(buffer);
+                    CopyProgress::More
+                }
+                None => {
+                    self.taking = None;
+                    CopyProgress::Failed
+                }
+            },
+            Stage::PageWrite(plan) => self.end_page(plan, outcome),
+            Stage::Close {
+                plan,
+                header,
+                table,
+            } => self.end_close(plan, header, table, outcome),
+            Stage::Pass => unreachable!(),
+        }
+    }
+
+    /// Takes the outcome of a call of the format.
+    pub(super) fn end_format(&mut self, mut plan: Plan, outcome: Outcome) -> CopyProgress
+        requires stage { self.old.stage ≡ PassStage }
+        requires fresh { self.old.entries ≡ [] }
+        requires free { self.old.taking ≡ None }
+        requires under_way { IsUnderWay plan }
+        requires own { plan.slot ≡ self.old.order.slot }
+        requires out { plan.out ≡ Some outcome.request.id }
+        ensures { HandsIn (at_stage self.old (Format plan)) outcome result self.new }
+    {
+        match settle(&mut plan, outcome) {
+            Settled::Strange | Settled::Failed => CopyProgress::Failed,
+            Settled::More => {
+                self.stage = Stage::Format(plan);
+                CopyProgress::More
+            }
+            Settled::Finished => CopyProgress::More,
+        }
+    }
+
+    /// Takes the outcome of a page's write, and keeps its buffer for the next.
+    pub(super) fn end_page(&mut self, mut plan: Plan, outcome: Outcome) -> CopyProgress
+        requires stage { self.old.stage ≡ PassStage }
+        requires free { self.old.taking ≡ None }
+        requires under_way { IsUnderWay plan }
+        requires own { plan.slot ≡ self.old.order.slot }
+        requires out { plan.out ≡ Some outcome.request.id }
+        ensures { HandsIn (at_stage self.old (PageWrite plan)) outcome result self.new }
+    {
+        match settle(&mut plan, outcome) {
+            Settled::Strange | Settled::Failed => CopyProgress::Failed,
+            Settled::More => {
+                self.stage = Stage::PageWrite(plan);
+                CopyProgress::More
+            }
+            Settled::Finished => {
+                let sd_gate::Found { first, .. } = plan.into_found();
+                if let Some(buffer) = first {
+                    self.spare = buffer;
+                }
+                CopyProgress::More
+            }
+        }
+    }
+
+    /// Takes the outcome of a call that closes the body. Behind the last the image is open.
+    pub(super) fn end_close(
+        &mut self,
+        mut plan: Plan,
+        header: Header,
+        table: PlacedTable,
+        outcome: Outcome,
+    ) -> CopyProgress
+        requires stage { self.old.stage ≡ PassStage }
+        requires free { self.old.taking ≡ None }
+        requires pages { header.pages ≡ data_pages self.old.entries }
+        requires under_way { IsUnderWay plan }
+        requires own { plan.slot ≡ self.old.order.slot }
+        requires out { plan.out ≡ Some outcome.request.id }
+        ensures { HandsIn (at_stage self.old (Close plan header table)) outcome result self.new }
+    {
+        match settle(&mut plan, outcome) {
+            Settled::Strange | Settled::Failed => CopyProgress::Failed,
+            Settled::More => {
+                self.stage = Stage::Close {
+                    plan,
+                    header,
+                    table,
+                };
+                CopyProgress::More
+            }
+            Settled::Finished => CopyProgress::Opened(NewImage {
+                slot: self.order.slot,
+                header,
+                table,
+            }),
+        }
+    }
+}

@@ -1,0 +1,80 @@
+//! The end of an image in the making: its table and its header are written.
+ghost use Rattle.std.specs.Prelude.{◌≡◌, ℕ, None, IfOk, OnErr, ◌++◌, List, length, map};
+ghost use Rattle.sha2.specs.Sha256.{sha256};
+ghost use Rattle.sd_image.specs.Digests.{HasFed};
+ghost use Rattle.sd_image.specs.Header.{HasWords, header_front};
+ghost use Rattle.sd_image.specs.Table.{listing_of};
+ghost use Rattle.sd_rounds.specs.declared.stage.Stage.TheVariants.{Pass as PassStage};
+ghost use Rattle.sd_image.specs.declared.header.Header.{Header};
+ghost use Rattle.sd_pagetable.specs.Order.{IsNextPage};
+ghost use Rattle.sd_rounds.specs.Making.{HasTable, IsAskedBy, WritesTable, header_of};
+ghost use Rattle.sd_rounds.specs.PlanSteps.{IsTableCallOf};
+ghost use Rattle.sd_rounds.specs.Pass.{data_pages};
+ghost use Rattle.sd_rounds.specs.Writes.{no_writes};
+
+use super::{ImageMaker, ask, own_header};
+use crate::digests::with_digest;
+use crate::image_step::ImageStep;
+use crate::laws::made_law;
+use crate::stage::Stage;
+use crate::tables::{dump_table, pre_dump_table};
+use sd_chain::PlacedTable;
+use sd_gate::Plan;
+use sd_image::{Digester, Header, Kind, Table, encode_table};
+use sd_pagetable::{Memory, plain_law};
+use std::alloc::AllocError;
+
+impl ImageMaker {
+    /// Makes the table, and asks for its write.
+    #[inline(never)]
+    pub(super) fn close(&mut self, memory: &Memory, ticket: u64) -> Result<ImageStep, AllocError>
+        requires stage { self.old.stage ≡ PassStage }
+        requires free { self.old.pass.taking ≡ None }
+        requires over { IsNextPage memory.now.spaces self.old.pass.after None }
+        requires rests { self.old.writes ≡ no_writes }
+        ensures table { IfOk result (IsTableCallOf (λ request. WritesTable self.old memory.now request self.new
+            × IsAskedBy ticket request)) }
+        ensures err { OnErr result (self.new ≡ self.old) }
+    {
+        let table = self.table(memory)?;
+        let text = encode_table(self.alloc, &table)?;
+        let header = self.header(self.digester.clone()?, &text);
+        let table = PlacedTable::new(self.alloc, table)?;
+        let mut plan = Plan::close_body(self.order.slot, header, text);
+        let request = ask(&mut plan, ticket);
+        self.stage = Stage::Close {
+            plan,
+            header,
+            table,
+        };
+        Ok(ImageStep::TableCall(request))
+    }
+
+    /// The table of the image: a dump has the areas of the memory.
+    pub(super) fn table(&self, memory: &Memory) -> Result<Table, AllocError>
+        ensures { IfOk result (λ table. (header : Header)
+            → header.kind ≡ self.now.order.kind → header.parent ≡ self.now.order.parent
+            → header.pages ≡ data_pages self.now.pass.entries
+            → HasTable self.now.order.kind memory.now self.now.pass.entries header
+            (map listing_of table.spaces.items)) }
+    {
+        plain_law();
+        made_law();
+        match self.order.kind {
+            Kind::PreDump => pre_dump_table(self.alloc, self.round.tables()),
+            Kind::Dump | Kind::Merged => dump_table(self.alloc, self.round.tables(), memory),
+        }
+    }
+
+    /// The header of the image, whose data pages were digested, and whose table has this text.
+    pub(super) fn header(&self, digester: Digester, text: &[u8]) -> Header
+        ensures numbers { result ≡ header_of self.now.order (data_pages self.now.pass.entries)
+            (length text.now) result.digest }
+        ensures digest { (fed : List ℕ) → HasFed digester fed
+            → result.digest ≡ sha256 (fed ++ text.now ++ header_front result) }
+        ensures words { HasWords result }
+    {
+        let header = own_header(self.order, self.stored as u64, text.len() as u64);
+        with_digest(digester, text, header)
+    }
+}
