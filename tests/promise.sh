@@ -1,4 +1,4 @@
-# docs/PROMISE.md, docs/BELIEVED.md and the README: what they quote, link to and list stands in the sources.
+# docs/PROMISE.md, docs/BELIEVED.md, docs/CLAUSES.md and the README: what they quote, link to and list stands in the sources.
 
 sources=$(cd "$here/.." && pwd)
 headline=(sd_run run_lines promise so_far + sd_world restore_left restored)
@@ -46,13 +46,26 @@ what_is_believed_is_listed() {
   done < rows
 }
 
-# Each link of the README leads to the line of its function or clause.
-readme_links_to_clauses() {
+# Each link of the README and of docs/CLAUSES.md leads to the line of its function or clause.
+links_lead_to_clauses() {
   command -v python3 > found || { echo "needs python3"; return 77; }
   "$sources/docs/links"
+}
+
+# Each row of the README's table of promises names wrong bodies that the gate refuses.
+each_promise_names_wrong_bodies() {
+  local rows name
+  sed -n '/^| Promise | Carried by | Refused/,/^$/p' "$sources/README.md" | sed '1,2d; /^$/d' > rows
+  rows=$(wc -l < rows)
+  [ "$rows" -ge 12 ] || { cat rows; return 1; }
+  same "the rows with a wrong body" "$(grep -cE '\| `[a-z_]+`[^|]* \|$' rows)" "$rows" || return 1
+  for name in $(sed -E 's/.*\| ([^|]*) \|$/\1/; s/[`,]//g' rows); do
+    ls "$sources"/crates/*/must-fail/"$name.edit" > /dev/null 2>&1 || { echo "no wrong body $name"; return 1; }
+  done
 }
 
 try promise_quotes_the_definitions
 try promise_is_small
 try what_is_believed_is_listed
-try readme_links_to_clauses
+try links_lead_to_clauses
+try each_promise_names_wrong_bodies
