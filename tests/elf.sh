@@ -191,8 +191,8 @@ is_refused() {  # is_refused CORE LINE CAUSE
 }
 
 # Each read of an import in turn gives another first byte, as where somebody else writes the file meanwhile: what is
-# acknowledged is the memory of the file, or nothing is saved. A page that is read in two ways is told as `core changed`. A
-# build with checks tries every second read.
+# acknowledged is the memory of the file, or nothing is saved. A page that is read in two ways is told as `core changed`.
+# A build with checks tries every second read.
 core_that_changes_is_not_saved() {
   local number count said=0 step=1
   [ -z "${CHECKED:-}" ] || step=2

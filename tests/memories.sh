@@ -11,8 +11,8 @@ areas_of() {  # areas_of SPACE
   sed -n "/^space $1\$/,/^space/{/^area/p}" shown
 }
 
-# Lines that map 1,024 areas of three pages each, with one page between them; in a build with checks, which is slow for each
-# page, those behind the first four have one page.
+# Lines that map 1,024 areas of three pages each, with one page between them; in a build with checks, which is slow for
+# each page, those behind the first four have one page.
 full_space() {
   local number length=0x3000
   for number in {0..1023}; do

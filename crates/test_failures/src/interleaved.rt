@@ -102,8 +102,9 @@ fn stops_everywhere(
     Err("a call that isn't made".into())
 }
 
-/// A merge is cut in at each place of the checkpoint. A run that stops before its merge is the one that stops there before
-/// a later merge, so calls that were made before the merge of the last run are behind it. Returns how many places there are.
+/// A merge is cut in at each place of the checkpoint. A run that stops before its merge is the one that stops there
+/// before a later merge, so calls that were made before the merge of the last run are behind it. Returns how many places
+/// there are.
 fn cuts_in(rt: &(impl Abort + Eprint + AllocGlobal), first: &'static [u8]) -> Result<u64, Fail> {
     let mut behind = calls_of(rt, &[Line::Open], 0)?;
     for events in (0..MOST).step_by(EACH as usize) {

@@ -100,8 +100,8 @@ impl Case {
     }
 }
 
-/// An empty disk whose slots have room for images of so many pages, where memory is refused once at most. What a disk in
-/// memory costs in a build with checks goes by its room.
+/// An empty disk whose slots have room for images of so many pages, where memory is refused once at most. What a disk
+/// in memory costs in a build with checks goes by its room.
 fn empty(alloc: Global, pages: u64) -> Result<MemDisk, AllocError> {
     let data = PAGE_BYTES.saturating_mul(pages as usize);
     let room = data.saturating_add(FRONT_BYTES + TABLE_BYTES);

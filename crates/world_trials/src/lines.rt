@@ -194,8 +194,8 @@ fn images_of(lines: &[Line]) -> u64 {
     images
 }
 
-/// An empty store with no more room than lines want that are played over the store that others leave: each crash takes all
-/// of it once more.
+/// An empty store with no more room than lines want that are played over the store that others leave: each crash takes
+/// all of it once more.
 fn empty(alloc: Global, before: &[Line], lines: &[Line]) -> Result<MemDisk, AllocError> {
     let pages = pages_of(before).max(pages_of(lines));
     let data = PAGE_BYTES.saturating_mul(pages);
@@ -227,8 +227,8 @@ fn end_of(alloc: Global, record: &Record) -> Result<MemDisk, Trouble> {
     Ok(disk.crash(alloc, &mut Rule::Now)?)
 }
 
-/// Plays lines over a copy of a store, which is synced, and crashes it behind each call; or, where a call is to fail, behind
-/// that one and at the end. Returns what was found.
+/// Plays lines over a copy of a store, which is synced, and crashes it behind each call; or, where a call is to fail,
+/// behind that one and at the end. Returns what was found.
 ///
 /// # Errors
 ///

@@ -11,8 +11,8 @@ use sd_restore::Fault;
 use sd_world::{Event, restore_left};
 use std::alloc::{AllocError, Global};
 
-/// Where no checkpoint is pending, a crash comes behind the device calls whose steps have a number that is divisible by this.
-/// tests/quick raises it in its copy.
+/// Where no checkpoint is pending, a crash comes behind the device calls whose steps have a number that is divisible by
+/// this. tests/quick raises it in its copy.
 const EACH: usize = 1;
 
 /// An event, and how it was answered.
