@@ -11,7 +11,7 @@ use std::thread;
 use std::thread::Threads;
 use std::time::{Clock, Duration};
 
-/// How many checkpoints are cancelled. tests/quick lessens it in its copy.
+/// How many checkpoints are cancelled.
 const ROUNDS: u64 = 300;
 
 /// How many checkpoints are made at most until one is cancelled.
