@@ -36,14 +36,16 @@ read_beside() {
 }
 
 readers_beside_a_run_see_one_moment() {
-  write_numbered_script 200 > script
+  local count=200
+  [ -z "${CHECKED:-}" ] || count=50
+  write_numbered_script $count > script
   "$ckpt" run store script > answers &
   local run=$! reads=0 number=0 last=0
   while kill -0 $run 2> /dev/null; do
     read_beside || { kill $run; return 1; }
   done
   wait $run
-  same "the last checkpoint" "$("$ckpt" restore store)" "$(numbered_memory 200)" || return 1
+  same "the last checkpoint" "$("$ckpt" restore store)" "$(numbered_memory $count)" || return 1
   [ "$reads" -gt 0 ] || { echo "nothing was read"; return 1; }
 }
 

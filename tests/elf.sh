@@ -192,8 +192,10 @@ is_refused() {  # is_refused CORE LINE CAUSE
 
 # Each read of an import in turn gives another first byte, as where somebody else writes the file meanwhile: what is
 # acknowledged is the memory of the file, or nothing is saved. A page that is read in two ways is told as `core changed`.
+# A build with checks tries every second read.
 core_that_changes_is_not_saved() {
-  local number count said=0
+  local number count said=0 step=1
+  [ -z "${CHECKED:-}" ] || step=2
   command -v cc > /dev/null || { echo "no C compiler"; return 77; }
   cc -O2 -shared -fPIC -o fail.so "$here/fail_call.c" || return 1
   export ASAN_OPTIONS=verify_asan_link_order=0
@@ -201,7 +203,7 @@ core_that_changes_is_not_saved() {
   COUNTED=count LD_PRELOAD=./fail.so "$ckpt" import store core > out || return 1
   count=$(($(cat count)))
   "$ckpt" restore store > whole || return 1
-  for ((number = 1; number <= count; number++)); do
+  for ((number = 1; number <= count; number += step)); do
     rm -rf store
     FAILED=$number HOW=other NAMED=called LD_PRELOAD=./fail.so "$ckpt" import --quiet store core > out 2> err
     [ "$(cat called)" = pread ] || continue
@@ -211,7 +213,7 @@ core_that_changes_is_not_saved() {
     esac
     [ "$(tail -n 1 out)" = "acked 1" ] || [ ! -e store ] || same "the store of read $number" "$("$ckpt" verify store)" "ok empty" || return 1
   done
-  [ "$said" -ge 2 ] || { echo "core changed was told $said times of $count"; return 1; }
+  [ "$said" -ge $((3 - step)) ] || { echo "core changed was told $said times of $count"; return 1; }
 }
 
 damaged_headers_are_told() {

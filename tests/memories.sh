@@ -11,11 +11,13 @@ areas_of() {  # areas_of SPACE
   sed -n "/^space $1\$/,/^space/{/^area/p}" shown
 }
 
-# Lines that map 1,024 areas of three pages each, with one page between them.
+# Lines that map 1,024 areas of three pages each, with one page between them; in a build with checks, which is slow for
+# each page, those behind the first four have one page.
 full_space() {
-  local number
+  local number length=0x3000
   for number in {0..1023}; do
-    printf 'mmap 1 0x%x 0x3000 r\n' $((number * 0x4000))
+    [ -z "${CHECKED:-}" ] || [ "$number" -lt 4 ] || length=0x1000
+    printf 'mmap 1 0x%x %s r\n' $((number * 0x4000)) "$length"
   done
 }
 
@@ -86,27 +88,30 @@ an_area_is_freed() {
   done <<< "$in_turn"
 }
 
-# Stores to a thousand pages in turn, and a fork of two thousand with a store to each.
-many_stores_script() {
+# Stores to so many pages in turn, twenty to each, and a fork of twice as many with a store to each.
+many_stores_script() {  # many_stores_script PAGES
   local turn
-  echo "mmap 1 0 $((2000 * 4096)) rw"
-  for turn in {0..19999}; do
-    echo "store 1 $((turn % 1000 * 4096)) 01020304"
+  echo "mmap 1 0 $((2 * $1 * 4096)) rw"
+  for ((turn = 0; turn < 20 * $1; turn++)); do
+    echo "store 1 $((turn % $1 * 4096)) 01020304"
   done
   echo 'fork 1'
-  for turn in {0..1999}; do
+  for ((turn = 0; turn < 2 * $1; turn++)); do
     echo "store 2 $((turn * 4096)) 02"
   done
 }
 
 # Words and bytes on both sides of the last page that the parent stored to.
 many_stores() {
-  { many_stores_script; printf '%s\n' 'words 1 0x3e7000 2' 'words 2 0x3e7000 2' 'load 1 0x3e7000 4' \
-    'load 1 0x3e8000 4' 'load 2 0x3e7000 4' 'load 2 0x3e8000 4'; } > script
+  local pages=1000 last behind stores
+  [ -z "${CHECKED:-}" ] || pages=50
+  last=$(((pages - 1) * 4096)) behind=$((pages * 4096)) stores=$((22 * pages))
+  { many_stores_script $pages; printf '%s\n' "words 1 $last 2" "words 2 $last 2" "load 1 $last 4" \
+    "load 1 $behind 4" "load 2 $last 4" "load 2 $behind 4"; } > script
   answers_to script > answers || { cat answers; return 1; }
-  same "the answers to the stores" "$(head -n 22002 answers | sort | uniq -c | sed 's/^ *//')" "1 child 2
-22001 done" || return 1
-  same "what is left" "$(tail -n +22003 answers)" "words 8180000000000000 0080000000000000
+  same "the answers to the stores" "$(head -n $((stores + 2)) answers | sort | uniq -c | sed 's/^ *//')" "1 child 2
+$((stores + 1)) done" || return 1
+  same "what is left" "$(tail -n +$((stores + 3)) answers)" "words 8180000000000000 0080000000000000
 words 8180000000000000 8180000000000000
 bytes 01020304
 bytes 00000000

@@ -40,9 +40,11 @@ close ok" || return 1
   is_whole 2
 }
 
+# A build with checks makes one run of each number of threads.
 a_hundred_runs_of_threads_end_so() {
-  local run threads
-  for run in $(seq 100); do
+  local run threads runs=100
+  [ -z "${CHECKED:-}" ] || runs=7
+  for run in $(seq $runs); do
     threads=$((2 + run % 7))
     rm -rf store
     same "run $run of $threads threads" "$("$ckpt" mutate store $threads)" "threads $threads stores ${threads}000 acked 3
@@ -97,12 +99,14 @@ mutate_without() {  # mutate_without THREAD STEP COUNT
 }
 
 # Of the first thread, which opens the store and makes the last checkpoint, of the one that makes the others, and of a mutator.
+# Of a build with checks fewer growths.
 mutate_is_refused_memory() {
   growths_can_be_refused || return
-  mutate_without 1 7 1 && mutate_without 1 7 1000000 || return
-  local thread
+  local thread few=7 many=97
+  [ -z "${CHECKED:-}" ] || few=23 many=397
+  mutate_without 1 $few 1 && mutate_without 1 $few 1000000 || return
   for thread in 0 2; do
-    mutate_without "$thread" 97 1 && mutate_without "$thread" 97 1000000 || return
+    mutate_without "$thread" $many 1 && mutate_without "$thread" $many 1000000 || return
   done
 }
 

@@ -111,8 +111,9 @@ three_spaces_behind_a_run_meet_a_full_output() {
   printf '# nothing\n' > empty.ckpt
   run_three_spaces || return 1
   (echo "reopened 4"; cat "$here/printing/three_spaces.restore") > whole
-  local limit
-  for limit in 0 1 10 11 12 100 8191 8192 8193 20000 "$(($(wc -c < whole) - 1))" "$(wc -c < whole)"; do
+  local limit limits="0 1 10 11 12 100 8191 8192 8193 20000"
+  [ -z "${CHECKED:-}" ] || limits="0 11 8192"
+  for limit in $limits "$(($(wc -c < whole) - 1))" "$(wc -c < whole)"; do
     prints_at_most "$limit" whole "$ckpt" run store empty.ckpt --restore || return 1
   done
 }

@@ -62,9 +62,12 @@ pub(crate) fn fresh(alloc: Global) -> Result<Core, AllocError> {
     }
 }
 
+/// Room in each slot for an image of one page, behind 4,096 bytes of front and before a table.
+const ROOM: usize = 4_096 + 4_096 + 512;
+
 /// A disk of empty files, of at most sixteen slots.
 pub(crate) fn empty(alloc: Global, store: Store) -> Result<Fused<MemDisk>, AllocError> {
     let slots = store.slots.clamp(1, 16);
-    let disk = MemDisk::new(alloc, slots, 100_000, 100)?;
+    let disk = MemDisk::new(alloc, slots, ROOM, 100)?;
     Ok(Fused::new(disk, store.calls))
 }

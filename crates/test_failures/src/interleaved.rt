@@ -15,6 +15,15 @@ const BELLO: &[u8] = b"bello";
 /// Bytes of zeros.
 const ZEROS: &[u8] = &[0; 5];
 
+/// At each how manyth place a merge is cut in. tests/quick raises it in its copy.
+const EACH: u64 = 1;
+
+/// How many places there are.
+const PLACES: u64 = 87;
+
+/// How many lines come before the merge.
+const BEFORE_THE_MERGE: usize = 8;
+
 /// A checkpoint, and a second one of two pre-dumps, in which behind so many events a merge is made.
 fn cut_in(first: &'static [u8], events: u64) -> [Line; 11] {
     [
@@ -32,14 +41,15 @@ fn cut_in(first: &'static [u8], events: u64) -> [Line; 11] {
     ]
 }
 
-/// How many calls come before the store takes commands.
-fn calls_of_opening(rt: &(impl Abort + Eprint + AllocGlobal)) -> Result<u64, Fail> {
-    for calls in 0..MOST {
+/// How many calls lines make, which are so many at least.
+fn calls_of(
+    rt: &(impl Abort + Eprint + AllocGlobal),
+    lines: &[Line],
+    least: u64,
+) -> Result<u64, Fail> {
+    for calls in least..MOST {
         let mut told = Told::new(rt.alloc())?;
-        let run = Run {
-            lines: &[Line::Open],
-            then: None,
-        };
+        let run = Run { lines, then: None };
         drop(make(
             rt,
             rt.alloc(),
@@ -51,7 +61,7 @@ fn calls_of_opening(rt: &(impl Abort + Eprint + AllocGlobal)) -> Result<u64, Fai
             return Ok(calls);
         }
     }
-    Err("an opening that ends".into())
+    Err("lines that end".into())
 }
 
 /// Stops a run behind this call. What is shown is the checkpoint that was acknowledged last, or the one behind it. Returns
@@ -77,30 +87,33 @@ fn stops(
     Ok(told.end() == Ended::Done)
 }
 
-/// Stops a run behind each of its calls. Returns how many it made.
+/// Stops a run behind each of its calls that come behind so many.
 fn stops_everywhere(
     rt: &(impl Abort + Eprint + AllocGlobal),
     lines: &[Line],
     saved: &[&[u8]],
-    opening: u64,
-) -> Result<u64, Fail> {
-    for calls in opening..MOST {
+    behind: u64,
+) -> Result<(), Fail> {
+    for calls in behind..MOST {
         if stops(rt, lines, saved, calls)? {
-            return Ok(calls.saturating_sub(opening));
+            return Ok(());
         }
     }
     Err("a call that isn't made".into())
 }
 
-/// A merge is cut in at each place of the checkpoint. Returns how many places there are.
+/// A merge is cut in at each place of the checkpoint. A run that stops before its merge is the one that stops there
+/// before a later merge, so calls that were made before the merge of the last run are behind it. Returns how many places
+/// there are.
 fn cuts_in(rt: &(impl Abort + Eprint + AllocGlobal), first: &'static [u8]) -> Result<u64, Fail> {
-    let opening = calls_of_opening(rt)?;
-    for events in 0..MOST {
+    let mut behind = calls_of(rt, &[Line::Open], 0)?;
+    for events in (0..MOST).step_by(EACH as usize) {
         let lines = cut_in(first, events);
-        stops_everywhere(rt, &lines, &[&[], first, BELLO], opening)?;
+        stops_everywhere(rt, &lines, &[&[], first, BELLO], behind)?;
         if is_over(rt, &lines)? {
             return Ok(events);
         }
+        behind = calls_of(rt, &lines[..BEFORE_THE_MERGE], behind)?;
     }
     Err("a checkpoint that ends".into())
 }
@@ -129,12 +142,18 @@ fn is_over(rt: &(impl Abort + Eprint + AllocGlobal), lines: &[Line]) -> Result<b
 
 #[test]
 fn merges_of_a_page_are_cut_into_rounds(rt: HostRuntime) -> Result<(), Fail> {
-    assert_eq!(&rt; cuts_in(&rt, HELLO)?, 87);
+    assert_eq!(&rt;
+        cuts_in(&rt, HELLO)?,
+        PLACES.div_ceil(EACH).saturating_mul(EACH)
+    );
     Ok(())
 }
 
 #[test]
 fn merges_of_zeros_are_cut_into_rounds(rt: HostRuntime) -> Result<(), Fail> {
-    assert_eq!(&rt; cuts_in(&rt, ZEROS)?, 87);
+    assert_eq!(&rt;
+        cuts_in(&rt, ZEROS)?,
+        PLACES.div_ceil(EACH).saturating_mul(EACH)
+    );
     Ok(())
 }

@@ -9,6 +9,9 @@ use std::alloc::{AllocError, Global};
 /// More device calls than any of the runs makes.
 pub(crate) const MOST: u64 = 500;
 
+/// Room in each slot for the one page, behind 4,096 bytes of front and before a table.
+const ROOM: usize = 4_096 + 4_096 + 256;
+
 /// A run: its lines, and what it does when the device has failed.
 #[derive(Clone, Copy)]
 pub(crate) struct Run<'a> {
@@ -18,9 +21,9 @@ pub(crate) struct Run<'a> {
 
 /// An empty store, with room for all calls. Memory is refused once at most.
 pub(crate) fn empty(alloc: Global) -> Result<MemDisk, AllocError> {
-    match MemDisk::new(alloc, 8, 10_000, 1_000) {
+    match MemDisk::new(alloc, 8, ROOM, 1_000) {
         Ok(disk) => Ok(disk),
-        Err(_) => MemDisk::new(alloc, 8, 10_000, 1_000),
+        Err(_) => MemDisk::new(alloc, 8, ROOM, 1_000),
     }
 }
 

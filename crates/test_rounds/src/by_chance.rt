@@ -9,7 +9,7 @@ use crate::stop::Stop;
 use sd_pagetable::Memory;
 use std::alloc::Global;
 
-/// How many checkpoints a case makes.
+/// How many checkpoints a case makes. tests/quick lessens it in its copy.
 const CHECKPOINTS: u64 = 700;
 
 /// How many checkpoints stand above one another: the next takes the whole memory.

@@ -1,5 +1,5 @@
 //! Merges of the chain in a store, also where its device fails.
-use crate::run::{CHAIN, CHAIN_SHOWN, answers, fresh, is_printed};
+use crate::run::{CHAIN, CHAIN_SHOWN, ROOM, answers, fresh, is_printed};
 use sd_disk::{Disk, Fused, MemDisk};
 use sd_exit::Output;
 use sd_run::{Unwatched, merge_to};
@@ -43,7 +43,7 @@ fn a_store_that_fails_is_not_merged(rt: HostRuntime) -> Result<(), Fail> {
 
 /// The chain in a store of four slots.
 fn chain_of_four(rt: &(impl Abort + AllocGlobal)) -> Result<MemDisk, Fail> {
-    let disk = MemDisk::new(rt.alloc(), 4, 20_000, 1_000)?;
+    let disk = MemDisk::new(rt.alloc(), 4, ROOM, 1_000)?;
     answers(rt, disk, "reopened none", CHAIN)
 }
 

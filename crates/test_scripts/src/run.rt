@@ -33,9 +33,12 @@ area 0x10000 0x11000 rw-
 bytes 0x10000 68656c6c6f000000000000000000000000000000000000000000000000000000
 ";
 
+/// Room in each slot for an image of the one page, behind 4,096 bytes of front and before a table.
+pub(crate) const ROOM: usize = 4_096 + 4_096 + 512;
+
 /// An empty disk.
 pub(crate) fn empty(alloc: Global) -> Result<MemDisk, Fail> {
-    Ok(MemDisk::new(alloc, 8, 40_000, 4_000)?)
+    Ok(MemDisk::new(alloc, 8, ROOM, 4_000)?)
 }
 
 /// A path in the system's folder for temporary files that no other process uses.

@@ -1,5 +1,5 @@
 //! Stores of few slots.
-use crate::run::answers;
+use crate::run::{ROOM, answers};
 use sd_disk::MemDisk;
 use std::process::Abort;
 use std::test::Fail;
@@ -26,7 +26,7 @@ checkpoint 0 => acked 4";
 const SMALL: [(usize, &str); 3] = [(2, TWO), (3, THREE), (4, FOUR)];
 
 fn is_answered(rt: &(impl Abort + AllocGlobal), slots: usize, rows: &str) -> Result<(), Fail> {
-    let disk = MemDisk::new(rt.alloc(), slots.clamp(1, 8), 20_000, 400)?;
+    let disk = MemDisk::new(rt.alloc(), slots.clamp(1, 8), ROOM, 400)?;
     answers(rt, disk, "reopened none", rows)?;
     Ok(())
 }

@@ -19,6 +19,9 @@ use std::time::Clock;
 /// How many bytes a page has.
 const PAGE_BYTES: usize = 4096;
 
+/// Room in each slot for the one page, behind 4,096 bytes of front and before a table.
+const ROOM: usize = 4_096 + PAGE_BYTES + 512;
+
 /// What a disk and a thread with a seat tell each other.
 #[derive(Drop)]
 struct Flags {
@@ -139,7 +142,7 @@ fn a_device_call_holds_no_command_up(rt: HostRuntime) -> Result<(), Fail> {
     let disk = Answering {
         rt: &rt,
         flags: &flags,
-        disk: MemDisk::new(alloc, 8, 1_000_000, 10_000)?,
+        disk: MemDisk::new(alloc, 8, ROOM, 10_000)?,
     };
     let Ok((shared, mut seats)) = Shared::start(alloc, disk, 64, 1) else {
         return Err(Fail::from("not started"));

@@ -33,6 +33,15 @@ pub(crate) type Store = Device<Fused<MemDisk>>;
 /// How many writes, cuts and syncs a disk has room for.
 const CALLS: usize = 1_000_000_000;
 
+/// The bytes of an image's front.
+const FRONT_BYTES: usize = 4_096;
+
+/// The bytes of a page.
+const PAGE_BYTES: usize = 4_096;
+
+/// More bytes than the table of an image of twenty pages takes.
+const TABLE_BYTES: usize = 1_024;
+
 /// How many device calls come before the first page's write of a dump, in a store that was empty.
 const CALLS_BEFORE_A_PAGE: u64 = 43;
 
@@ -81,7 +90,7 @@ impl Case {
         matches!(self, Case::Dropped)
     }
 
-    /// How many pages are mapped.
+    /// How many pages are mapped. The disk has room for as many in each slot.
     fn pages(self) -> u64 {
         match self {
             Case::Merged | Case::Falls => 1,
@@ -91,17 +100,20 @@ impl Case {
     }
 }
 
-/// An empty disk, where memory is refused once at most.
-fn empty(alloc: Global) -> Result<MemDisk, AllocError> {
-    match MemDisk::new(alloc, 8, 1_000_000, CALLS) {
+/// An empty disk whose slots have room for images of so many pages, where memory is refused once at most. What a disk
+/// in memory costs in a build with checks goes by its room.
+fn empty(alloc: Global, pages: u64) -> Result<MemDisk, AllocError> {
+    let data = PAGE_BYTES.saturating_mul(pages as usize);
+    let room = data.saturating_add(FRONT_BYTES + TABLE_BYTES);
+    match MemDisk::new(alloc, 8, room, CALLS) {
         Ok(disk) => Ok(disk),
-        Err(_) => MemDisk::new(alloc, 8, 1_000_000, CALLS),
+        Err(_) => MemDisk::new(alloc, 8, room, CALLS),
     }
 }
 
 fn store(alloc: Global, case: Case) -> Result<Store, AllocError> {
     Ok(Device {
-        disk: Fused::new(empty(alloc)?, case.fuse()),
+        disk: Fused::new(empty(alloc, case.pages())?, case.fuse()),
         drops: case.drops(),
     })
 }
@@ -271,7 +283,7 @@ fn audits(
     disk: &mut Store,
     acks: &[u64],
 ) -> Result<(), Fail> {
-    let mut other = empty(alloc)?;
+    let mut other = empty(alloc, 0)?;
     let is_kept = !disk.drops;
     assert_eq!(rt; audit_again(alloc, core, disk), Ok(is_kept));
     let is_empty = core.base_number().is_none() && acks.is_empty();

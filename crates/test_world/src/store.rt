@@ -2,8 +2,8 @@
 use sd_disk::{Fused, MemDisk};
 use std::alloc::{AllocError, Global};
 
-/// The bytes of each slot.
-const BYTES: usize = 20_000;
+/// The bytes of each slot: an image of one page has 4,096 bytes of front and a table.
+const BYTES: usize = 4_096 + 4_096 + 512;
 
 /// The disk of a world.
 pub(crate) type Device = Fused<MemDisk>;

@@ -79,6 +79,11 @@ impl Account {
         self.may_freeze && self.pending.is_none()
     }
 
+    /// Whether a checkpoint is pending.
+    pub(crate) fn is_pending(&self) -> bool {
+        self.pending.is_some()
+    }
+
     /// Which pair it is that a store shows.
     pub(crate) fn pair(&self, shown: &Option<Saved>) -> Pair {
         let Some(saved) = shown else {

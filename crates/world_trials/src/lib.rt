@@ -17,5 +17,5 @@ mod trouble;
 pub use by_chance::try_by_chance;
 pub use figures::Figures;
 pub use lab::Failing;
-pub use lines::{Line, try_lines};
+pub use lines::{Line, store_of, try_lines};
 pub use trouble::Trouble;

@@ -27,6 +27,18 @@ const RULES: [Rule; 8] = [
     Rule::Greatest(0xFF),
 ];
 
+/// The bytes of an image's front.
+const FRONT_BYTES: u64 = 4_096;
+
+/// More bytes than the table of an image of these runs takes.
+const TABLE_BYTES: u64 = 512;
+
+/// As many slots as any of these runs fills, and one more.
+const SLOTS: u64 = 6;
+
+/// More device calls than any of these runs makes.
+const CALLS: usize = 100_000;
+
 /// The first address of the pages.
 const FIRST: u64 = 0x10000;
 
@@ -160,13 +172,49 @@ fn play(
     }
 }
 
-/// The store that lines leave, synced.
-fn store_of(alloc: Global, lines: &[Line]) -> Result<MemDisk, Trouble> {
-    let empty = MemDisk::new(alloc, 6, 24_000, 100_000)?;
+/// How many pages lines map at once, at most.
+fn pages_of(lines: &[Line]) -> u64 {
+    let mut most: u64 = 0;
+    for line in lines {
+        if let Line::Map(pages) = line {
+            most = most.max(*pages);
+        }
+    }
+    most
+}
+
+/// How many images lines make, where each checkpoint comes to its end.
+fn images_of(lines: &[Line]) -> u64 {
+    let mut images: u64 = 0;
+    for line in lines {
+        if let Line::Begin(rounds) = line {
+            images = images.saturating_add(rounds.saturating_add(1));
+        }
+    }
+    images
+}
+
+/// An empty store with no more room than lines want that are played over the store that others leave: each crash takes
+/// all of it once more.
+fn empty(alloc: Global, before: &[Line], lines: &[Line]) -> Result<MemDisk, AllocError> {
+    let pages = pages_of(before).max(pages_of(lines));
+    let data = PAGE_BYTES.saturating_mul(pages);
+    let room = data.saturating_add(FRONT_BYTES + TABLE_BYTES);
+    let images = images_of(before).saturating_add(images_of(lines));
+    let slots = images.saturating_add(1).min(SLOTS);
+    MemDisk::new(alloc, slots as usize, room as usize, CALLS)
+}
+
+/// The store that lines leave, synced, with room for others that are played over it.
+///
+/// # Errors
+///
+/// Out of memory; and where a run that is made again is answered in another way.
+pub fn store_of(alloc: Global, before: &[Line], lines: &[Line]) -> Result<MemDisk, Trouble> {
     let record = play(
         alloc,
-        empty,
-        lines,
+        empty(alloc, before, lines)?,
+        before,
         Failing::Nothing,
         &mut Figures::default(),
     )?;
@@ -179,20 +227,20 @@ fn end_of(alloc: Global, record: &Record) -> Result<MemDisk, Trouble> {
     Ok(disk.crash(alloc, &mut Rule::Now)?)
 }
 
-/// Plays lines over the store that others leave, and crashes it behind each call; or, where a call is to fail, behind that
-/// one and at the end. Returns what was found.
+/// Plays lines over a copy of a store, which is synced, and crashes it behind each call; or, where a call is to fail,
+/// behind that one and at the end. Returns what was found.
 ///
 /// # Errors
 ///
 /// Out of memory; and where a run that is made again is answered in another way.
 pub fn try_lines(
     alloc: Global,
-    before: &[Line],
+    store: &MemDisk,
     lines: &[Line],
     failing: Failing,
 ) -> Result<Figures, Trouble> {
     let mut figures = Figures::default();
-    let start = store_of(alloc, before)?;
+    let start = store.crash(alloc, &mut Rule::Now)?;
     let record = play(alloc, start, lines, failing, &mut figures)?;
     crash(&record, failing, &mut figures)?;
     Ok(figures)

@@ -11,6 +11,10 @@ use sd_restore::Fault;
 use sd_world::{Event, restore_left};
 use std::alloc::{AllocError, Global};
 
+/// Where no checkpoint is pending, a crash comes behind the device calls whose steps have a number that is divisible by
+/// this. tests/quick raises it in its copy.
+const EACH: usize = 1;
+
 /// An event, and how it was answered.
 #[derive(Drop)]
 pub(crate) struct Step {
@@ -180,7 +184,8 @@ impl Record {
     ) -> Result<(), Trouble> {
         for (index, step) in self.steps.iter().enumerate() {
             figures.reply(account.take(&step.event, &step.reply)?);
-            if is_call(&step.event, &step.reply) {
+            let is_tried = index % EACH == 0 || account.is_pending();
+            if is_tried && is_call(&step.event, &step.reply) {
                 self.crash_behind(index.saturating_add(1), account, rules, figures)?;
             }
         }
