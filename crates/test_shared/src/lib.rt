@@ -8,6 +8,8 @@ mod beside;
 #[cfg(test)]
 mod cancelling;
 #[cfg(test)]
+mod case;
+#[cfg(test)]
 mod cases;
 #[cfg(test)]
 mod device;

@@ -444,8 +444,6 @@ returns-in-PreDump-clause-handed c =
     let now = opened_now _ _ _ h.hands.0.image opened made image h.hands.0.hands in
     let changes : Changes c.self.inside.catalog c.enter_catalog.new.catalog h.hands.0.image.order.serial (Some (Some (record { slot = opened.slot; header = opened.header; spaces = opened.table }))) =
     subst (λ s. Changes c.self.inside.catalog c.enter_catalog.new.catalog s (Some (Some (record { slot = opened.slot; header = opened.header; spaces = opened.table })))) now.serial c.enter_catalog.ensures in
-    let counted = counted_opened c.self.inside.numbers c.self.inside.catalog c.enter_catalog.new.catalog h.hands.0.image.order.serial _ changes
-    (checkpoint_used _ c.self.inside.dumper.since_freeze h.running h.hands.0.image opened c.self.invariant c.sound.ensures.running h.was h.hands.0.was now) c.self.invariant.counted in
     let phase = slice_index_or phases id.slot c.index.result.now in
     let phase_is = slice_get-get_or phases id.slot c.index.result.now within in
     let zero_is = opens_lane _ h.running h.hands.0.image c.args.lane made _ c.self.invariant h.was h.hands.0.was own h.hands.0.hands in
@@ -501,8 +499,6 @@ returns-in-Dump-clause-handed c =
     let now = opened_now _ _ _ h.hands.0.image opened made image h.hands.0.hands in
     let changes : Changes c.self.inside.catalog c.enter_catalog-in-Dump.new.catalog h.hands.0.image.order.serial (Some (Some (record { slot = opened.slot; header = opened.header; spaces = opened.table }))) =
     subst (λ s. Changes c.self.inside.catalog c.enter_catalog-in-Dump.new.catalog s (Some (Some (record { slot = opened.slot; header = opened.header; spaces = opened.table })))) now.serial c.enter_catalog-in-Dump.ensures in
-    let counted = counted_opened c.self.inside.numbers c.self.inside.catalog c.enter_catalog-in-Dump.new.catalog h.hands.0.image.order.serial _ changes
-    (checkpoint_used _ c.self.inside.dumper.since_freeze h.running h.hands.0.image opened c.self.invariant c.sound.ensures.running h.was h.hands.0.was now) c.self.invariant.counted in
     let phase = slice_index_or phases id.slot c.index.result.now in
     let phase_is = slice_get-get_or phases id.slot c.index.result.now within in
     let zero_is = opens_lane _ h.running h.hands.0.image c.args.lane made _ c.self.invariant h.was h.hands.0.was own h.hands.0.hands in
@@ -543,7 +539,6 @@ returns-in-Dump-clause-handed c =
 pub returns-in-Dump-clause-acked : goal.returns-in-Dump-clause-acked
 returns-in-Dump-clause-acked c n is =
     let made = c.args.outcome in
-    let id = made.request.id in
     let h = subst (λ p. Hands c.self.inside.dumper made p c.hand_in.new.self) c.in-Dump.is c.hand_in.ensures.hands in
     let work = at_work _ h.running c.self.invariant h.was in
     let opened = c.in-Dump.image in
@@ -621,7 +616,6 @@ returns-in-PreDump-clause-round c running opens =
 
 pub returns-in-PreDump-clause-gates : goal.returns-in-PreDump-clause-gates
 returns-in-PreDump-clause-gates c =
-    let base : Base = base_of c.self.inside.base in
     let made = c.args.outcome in
     let id = made.request.id in
     let phases = c.self.inside.phases.items in
@@ -633,14 +627,11 @@ returns-in-PreDump-clause-gates c =
     (λ phase is. c.follow_call.ensures phase (ap (λ (i : RequestId). slice_get phases i.slot) c.id-id.ensures ∙ is)
     ∙ ap (λ i. phases_after phases i phase c.is_done-done.result) c.id-id.ensures
     ∙ ap (phases_after phases id phase) (c.is_done-done.ensures ∙ ap is_done c.answer.ensures)) in
-    let count = after_count phases c.follow_call.new.phases.items id (is_done made.answer) within follows in
     let opened = c.in-PreDump.image in
     let image = image_of_work _ h.running h.hands.0.image c.self.invariant h.was h.hands.0.was in
     let now = opened_now _ _ _ h.hands.0.image opened made image h.hands.0.hands in
     let changes : Changes c.self.inside.catalog c.enter_catalog.new.catalog h.hands.0.image.order.serial (Some (Some (record { slot = opened.slot; header = opened.header; spaces = opened.table }))) =
     subst (λ s. Changes c.self.inside.catalog c.enter_catalog.new.catalog s (Some (Some (record { slot = opened.slot; header = opened.header; spaces = opened.table })))) now.serial c.enter_catalog.ensures in
-    let counted = counted_opened c.self.inside.numbers c.self.inside.catalog c.enter_catalog.new.catalog h.hands.0.image.order.serial _ changes
-    (checkpoint_used _ c.self.inside.dumper.since_freeze h.running h.hands.0.image opened c.self.invariant c.sound.ensures.running h.was h.hands.0.was now) c.self.invariant.counted in
     let phase = slice_index_or phases id.slot c.index.result.now in
     let phase_is = slice_get-get_or phases id.slot c.index.result.now within in
     let zero_is = opens_lane _ h.running h.hands.0.image c.args.lane made _ c.self.invariant h.was h.hands.0.was own h.hands.0.hands in
@@ -682,7 +673,6 @@ returns-in-PreDump-clause-gates c =
 
 pub returns-in-Dump-clause-gates : goal.returns-in-Dump-clause-gates
 returns-in-Dump-clause-gates c =
-    let base : Base = base_of c.self.inside.base in
     let made = c.args.outcome in
     let id = made.request.id in
     let phases = c.self.inside.phases.items in
@@ -694,14 +684,11 @@ returns-in-Dump-clause-gates c =
     (λ phase is. c.follow_call.ensures phase (ap (λ (i : RequestId). slice_get phases i.slot) c.id-id.ensures ∙ is)
     ∙ ap (λ i. phases_after phases i phase c.is_done-done.result) c.id-id.ensures
     ∙ ap (phases_after phases id phase) (c.is_done-done.ensures ∙ ap is_done c.answer.ensures)) in
-    let count = after_count phases c.follow_call.new.phases.items id (is_done made.answer) within follows in
     let opened = c.in-Dump.image in
     let image = image_of_work _ h.running h.hands.0.image c.self.invariant h.was h.hands.0.was in
     let now = opened_now _ _ _ h.hands.0.image opened made image h.hands.0.hands in
     let changes : Changes c.self.inside.catalog c.enter_catalog-in-Dump.new.catalog h.hands.0.image.order.serial (Some (Some (record { slot = opened.slot; header = opened.header; spaces = opened.table }))) =
     subst (λ s. Changes c.self.inside.catalog c.enter_catalog-in-Dump.new.catalog s (Some (Some (record { slot = opened.slot; header = opened.header; spaces = opened.table })))) now.serial c.enter_catalog-in-Dump.ensures in
-    let counted = counted_opened c.self.inside.numbers c.self.inside.catalog c.enter_catalog-in-Dump.new.catalog h.hands.0.image.order.serial _ changes
-    (checkpoint_used _ c.self.inside.dumper.since_freeze h.running h.hands.0.image opened c.self.invariant c.sound.ensures.running h.was h.hands.0.was now) c.self.invariant.counted in
     let phase = slice_index_or phases id.slot c.index.result.now in
     let phase_is = slice_get-get_or phases id.slot c.index.result.now within in
     let zero_is = opens_lane _ h.running h.hands.0.image c.args.lane made _ c.self.invariant h.was h.hands.0.was own h.hands.0.hands in

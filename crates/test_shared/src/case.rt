@@ -1,0 +1,60 @@
+//! What is done with a shared core, and the disk that it wants.
+use crate::beside::Way;
+
+/// How many device calls come before the first page's write of a dump, in a store that was empty.
+const CALLS_BEFORE_A_PAGE: u64 = 43;
+
+/// What is done with a shared core.
+#[derive(Clone, Copy)]
+pub(crate) enum Case {
+    /// A checkpoint, of which all is told.
+    Saved,
+    /// A receipt is missing.
+    LacksReceipt,
+    /// An acknowledgement too many is told.
+    TellsMore,
+    /// A merge behind a checkpoint.
+    Merged,
+    /// A checkpoint beside two mutators.
+    Beside(Way),
+    /// A checkpoint that is cancelled.
+    Cancelled,
+    /// The device fails while all is frozen.
+    Falls,
+    /// A checkpoint on a disk that drops what it is given.
+    Dropped,
+    /// A checkpoint whose pages two threads write, and one without threads behind it.
+    Relayed,
+    /// One of which the first page's write fails, and another one.
+    RelayFalls,
+    /// A checkpoint of twenty pages, which eight threads write.
+    TwentyPages,
+    /// Checkpoints beside two mutators, each of which is trimmed.
+    Trimmed,
+    /// A checkpoint beside a thread that waits for the thaw, and others that are cancelled beside one.
+    Awaited,
+}
+
+impl Case {
+    /// After how many device calls one fails.
+    pub(crate) fn fuse(self) -> u64 {
+        match self {
+            Case::Falls | Case::RelayFalls => CALLS_BEFORE_A_PAGE,
+            _ => u64::MAX,
+        }
+    }
+
+    /// Whether the disk drops what it is given.
+    pub(crate) fn drops(self) -> bool {
+        matches!(self, Case::Dropped)
+    }
+
+    /// How many pages are mapped. The disk has room for as many in each slot.
+    pub(crate) fn pages(self) -> u64 {
+        match self {
+            Case::Merged | Case::Falls => 1,
+            Case::TwentyPages | Case::Awaited => 20,
+            _ => 2,
+        }
+    }
+}
