@@ -9,7 +9,8 @@ use sd_script::{LINE_FORMS, LineForm};
 use std::alloc::{AllocError, Global};
 use std::fmt::Write;
 
-/// What `--version` prints: the version of the program, the images that it writes and reads, and the kit it is proved with.
+/// What `--version` prints: the version of the program, the images that it writes and reads, and the kit it is proved
+/// with.
 const VERSION: &str = "1.3.0, writes images of version 2 and reads 1 and 2, rattle-kit-13f";
 
 const DIR: &str = "The folder of a store, with the files img-000 to img-063";
@@ -94,7 +95,8 @@ fn run<'a>(alloc: Global, help: &'a str) -> Result<Command<'a>, Error> {
         .arg(flag(
             alloc,
             "strict",
-            "Ends at the first request that is refused or answered segv, and tells its line on standard error: status 1",
+            "Ends at the first request that is refused or answered segv, and tells its line on standard error: \
+             status 1",
         ))?
         .arg(stats(alloc))?
         .arg(flag(

@@ -27,8 +27,8 @@ pub struct RunAsked<'a> {
     pub causes: Causes,
 }
 
-/// Runs the lines of a script over a store up to the first that isn't answered as it was meant, and returns the store with
-/// the exit status. With `restores` the memory that the store then shows is printed behind the answers.
+/// Runs the lines of a script over a store up to the first that isn't answered as it was meant, and returns the store
+/// with the exit status. With `restores` the memory that the store then shows is printed behind the answers.
 fn run_strict<D: Disk, W: Write, S: Watch>(
     rt: &HostRuntime,
     asked: RunAsked<'_>,

@@ -1,4 +1,5 @@
-//! How far the run of a script is: the line that is being answered, and the first request that found too few free slots.
+//! How far the run of a script is: the line that is being answered, and the first request that found too few free
+//! slots.
 
 use crate::progress::{CLEAR, Done, Pace};
 use sd_stats::Gates;

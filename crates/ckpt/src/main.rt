@@ -75,8 +75,8 @@ fn restore_over<D: Disk, W: Write>(alloc: Global, disk: D, out: &mut Output<W>) 
     (disk, status)
 }
 
-/// Runs a script over a store, and returns the store with the exit status. With `restores` the memory that the store then
-/// shows is printed behind the answers.
+/// Runs a script over a store, and returns the store with the exit status. With `restores` the memory that the store
+/// then shows is printed behind the answers.
 fn run_over<D: Disk, W: Write, S: Watch>(
     alloc: Global,
     disk: D,
@@ -85,8 +85,8 @@ fn run_over<D: Disk, W: Write, S: Watch>(
     out: &mut Output<W>,
     watch: &mut S,
 ) -> (D, u8)
-    // The answers of the script's lines are printed, or a beginning of them; and then the text of the memory that the store
-    // shows, or a beginning of it; and why the program was stopped, if it was.
+    // The answers of the script's lines are printed, or a beginning of them; and then the text of the memory that the
+    // store shows, or a beginning of it; and why the program was stopped, if it was.
     ensures runs { RunsScript D.Disk restores (asked.Reopen ∷ script.lines.items) disk result.0
         (W.contents out.old.writer) (W.contents out.new.writer) out.new.refused result.1 }
 {
@@ -258,8 +258,8 @@ fn run_matches<R: Clock + Threads + Wait + Sync, W: Write>(
     }
 }
 
-/// Runs the program that the words ask for, and returns its exit status and whether causes are told. The outer error is a
-/// fault of the words.
+/// Runs the program that the words ask for, and returns its exit status and whether causes are told. The outer error is
+/// a fault of the words.
 fn run_words<R: Clock + Threads + Wait + Sync, W: Write>(
     rt: &HostRuntime,
     threads: &R,

@@ -157,8 +157,8 @@ fn read_alone<W: Write>(
 ///
 /// # Errors
 ///
-/// Where the store can't be opened; and while a run writes it also the fault of the store, which then stands alone, and where
-/// there is no room for what is held back.
+/// Where the store can't be opened; and while a run writes it also the fault of the store, which then stands alone, and
+/// where there is no room for what is held back.
 pub fn read_store<R: Clock + Wait, W: Write>(
     rt: &(impl Files<File = File> + Eprint + AllocGlobal),
     clock: &R,

@@ -47,8 +47,9 @@ impl Asked<'_, '_, '_> {
 }
 
 /// Runs requests over a store: it is opened, and opened again, whose reply is printed; then each line of the input is
-/// answered, and its answer flushed, up to the end of the input or the line `quit`. A line that doesn't fit the language is
-/// answered with `script line N` and changes nothing. Returns the disk, and why the shell ended early, if it did.
+/// answered, and its answer flushed, up to the end of the input or the line `quit`. A line that doesn't fit the
+/// language is answered with `script line N` and changes nothing. Returns the disk, and why the shell ended early, if
+/// it did.
 pub fn run_shell<D: Disk, I: BufRead + Drop, W: Write, S: Watch>(
     asked: Asked<'_, '_, '_>,
     disk: D,

@@ -10,8 +10,8 @@ use sd_show::{Stop as ShowStop, show_slot, show_slot_json, show_slots, show_slot
 use std::alloc::Global;
 use std::io::{IsTerminal, Write};
 
-/// Shows one slot of a store, or all of them, and returns whether any is damaged. A slot that the store doesn't have isn't
-/// there to be damaged.
+/// Shows one slot of a store, or all of them, and returns whether any is damaged. A slot that the store doesn't have
+/// isn't there to be damaged.
 fn show_in<D: Disk, W: Write>(
     alloc: Global,
     disk: &mut D,

@@ -1,7 +1,7 @@
-//! `example_threads DIR`: eight threads fill a table in the memory of a space, each a row of its own, while another one makes
-//! checkpoints of that memory, and merges the images of the first. Afterwards the journal is compared with what each thread
-//! was told, and what the store shows with the table. The store stands in DIR, and is made where it is missing; without an
-//! argument it is in memory.
+//! `example_threads DIR`: eight threads fill a table in the memory of a space, each a row of its own, while another one
+//! makes checkpoints of that memory, and merges the images of the first. Afterwards the journal is compared with what
+//! each thread was told, and what the store shows with the table. The store stands in DIR, and is made where it is
+//! missing; without an argument it is in memory.
 #![tactic(auto)]
 
 mod row;
@@ -58,8 +58,8 @@ fn prepare<D: Disk + Drop>(
     }
 }
 
-/// Fills each row in a thread of its own, beside three checkpoints, and makes a fourth one behind that. Returns the numbers
-/// under which they were acknowledged.
+/// Fills each row in a thread of its own, beside three checkpoints, and makes a fourth one behind that. Returns the
+/// numbers under which they were acknowledged.
 fn fill_and_save<R: Threads + Wait + Sync, D: Disk + Drop + Send>(
     rt: &R,
     alloc: Global,

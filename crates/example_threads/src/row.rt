@@ -28,8 +28,8 @@ impl Row {
         }
     }
 
-    /// Makes a command, and keeps the receipt of its entry in the journal, for which there is room before. While the memory is
-    /// frozen for a checkpoint it waits for the thaw.
+    /// Makes a command, and keeps the receipt of its entry in the journal, for which there is room before. While the
+    /// memory is frozen for a checkpoint it waits for the thaw.
     fn call<D: Disk + Drop>(
         &mut self,
         rt: &impl Wait,

@@ -1,4 +1,5 @@
-//! The table: a multiplication table of numbers of eight bytes, a page for each row. Rows and columns are counted from 1.
+//! The table: a multiplication table of numbers of eight bytes, a page for each row. Rows and columns are counted from
+//! 1.
 use sd_areas::{PAGE_BYTES, PageNo, Prot, Snapshot, SpaceId};
 use sd_command::{Bytes, Command};
 use std::alloc::{AllocError, Global};

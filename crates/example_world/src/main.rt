@@ -1,6 +1,6 @@
-//! `example_world DIR COUNT`: a ledger of accounts in the memory of a space, over the store in DIR, which is made where it
-//! is missing. Transfers keep the sum of the accounts, and each hundredth is saved. It goes on from what the store shows,
-//! also where it was killed, until the ledger has had COUNT transfers. Without arguments the store is in memory.
+//! `example_world DIR COUNT`: a ledger of accounts in the memory of a space, over the store in DIR, which is made where
+//! it is missing. Transfers keep the sum of the accounts, and each hundredth is saved. It goes on from what the store
+//! shows, also where it was killed, until the ledger has had COUNT transfers. Without arguments the store is in memory.
 #![tactic(auto)]
 
 mod ledger;
@@ -26,8 +26,8 @@ fn keep_ledger<D: Disk + Drop>(rt: &HostRuntime, disk: D, wanted: u64) -> Result
     Ok(())
 }
 
-/// Saves the memory in one image, with what changed since the last one, and trims the journal. Each tenth time the images
-/// are merged into one, so that neither their number nor the journal grows without end.
+/// Saves the memory in one image, with what changed since the last one, and trims the journal. Each tenth time the
+/// images are merged into one, so that neither their number nor the journal grows without end.
 fn save<D: Disk>(world: &mut World<D>) -> Result<()> {
     let checkpoint = world.checkpoint(0).map_err(refused)?;
     world.step(&Event::Trim);

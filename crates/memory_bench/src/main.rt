@@ -241,7 +241,8 @@ fn timed(alloc: Global, word: &str) -> Result<&'static str, MemoryError> {
         "sparse_walk" => sparse_walk(alloc)?,
         _ => {
             return Ok(
-                "usage: memory_bench stores|random|loads|words|pages|fork|child|ranges|anew|protects|walk|sparse|sparse_walk",
+                "usage: memory_bench stores|random|loads|words|pages|fork|child|ranges|anew|protects|walk|\
+                sparse|sparse_walk",
             );
         }
     }

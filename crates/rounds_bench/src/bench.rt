@@ -185,8 +185,8 @@ fn copy_pages(memory: &Memory, disk: &mut MemDisk, buffer: &mut Vec<u8>) -> Resu
     Ok(())
 }
 
-/// Makes a device call, and hands its outcome in. Returns whether the dump is open then. It is apart from the steps, which
-/// need no room for a request.
+/// Makes a device call, and hands its outcome in. Returns whether the dump is open then. It is apart from the steps,
+/// which need no room for a request.
 #[inline(never)]
 fn call(disk: &mut MemDisk, dumper: &mut Dumper, request: Request) -> Result<bool, BenchError> {
     if disk.slots() <= request.id().slot {

@@ -1,5 +1,6 @@
 -- The areas of a space: the maximal runs of pages with equal permissions.
-use Rattle.std.specs.Prelude.{◌≡◌, ℕ, ◌+◌, ◌<◌, ◌^◌, Bool, true, not, ◌&&◌, ◌||◌, ◌==◌, nat_lt, nat_le, if◌then◌else◌, IsTrue, List, [], ◌∷◌, map, flat_map, Option, Some, None, IsSome}
+use Rattle.std.specs.Prelude.{◌≡◌, ℕ, ◌+◌, ◌<◌, ◌^◌, Bool, true, not, ◌&&◌, ◌||◌, ◌==◌, nat_lt, nat_le, if◌then◌else◌}
+use Rattle.std.specs.Prelude.{IsTrue, List, [], ◌∷◌, map, flat_map, Option, Some, None, IsSome}
 use Rattle.std.specs.Ordering.{nat_cmp}
 use Rattle.std.specs.FinMap as finmap
 use Rattle.sd_areas.specs.declared.area.Area.{Area}
@@ -52,7 +53,8 @@ pages_of areas = finmap.from_entries (flat_map (λ area. map (λ page. (page, ar
 abbrev pub put_page_before : ℕ → Prot → List Area → List Area
 put_page_before page prot [] = record { first = page; count = 1; prot = prot } ∷ []
 put_page_before page prot (area ∷ areas) =
-    if page + 1 == area.first && prot_bits prot == prot_bits area.prot then record { first = page; count = area.count + 1; prot = area.prot } ∷ areas
+    if page + 1 == area.first && prot_bits prot == prot_bits area.prot
+    then record { first = page; count = area.count + 1; prot = area.prot } ∷ areas
     else record { first = page; count = 1; prot = prot } ∷ area ∷ areas
 
 -- the areas of entries whose pages rise

@@ -1,5 +1,6 @@
 -- What the calls of POSIX.1-2017 on an address space do: the space afterwards, or why they are refused.
-use Rattle.std.specs.Prelude.{◌≡◌, ℕ, ◌%◌, Bool, not, ◌==◌, nat_lt, if◌then◌else◌, ◌++◌, map, length, Result, Ok, Err, is_some}
+use Rattle.std.specs.Prelude.{◌≡◌, ℕ, ◌%◌, Bool, not, ◌==◌, nat_lt, if◌then◌else◌, ◌++◌, map, length, Result, Ok, Err}
+use Rattle.std.specs.Prelude.{is_some}
 use Rattle.std.specs.List.{list_any}
 use Rattle.std.specs.FinMap as finmap
 use Rattle.sd_areas.specs.declared.prot.Prot.{Prot}
@@ -12,7 +13,8 @@ use Rattle.sd_areas.specs.Areas.{PageMap, areas_of}
 
 -- every page of the run has these permissions, and every other page is as before
 unfoldable pub set_pages : PageMap → ℕ → ℕ → Prot → PageMap
-set_pages pages first count prot = finmap.from_entries (map (λ page. (page, prot)) (pages_from first count) ++ finmap.entries pages)
+set_pages pages first count prot =
+    finmap.from_entries (map (λ page. (page, prot)) (pages_from first count) ++ finmap.entries pages)
 
 -- no page of the run is there, and every other page is as before
 unfoldable pub remove_pages : PageMap → ℕ → ℕ → PageMap

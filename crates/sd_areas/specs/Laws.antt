@@ -1,5 +1,6 @@
 -- What holds of address spaces, in words that name no fold and no loop.
-use Rattle.std.specs.Prelude.{◌≡◌, ◌↔◌, ℕ, ◌<◌, if◌then◌else◌, List, length, sum_by, Some, None, Ok, Err, IsSome, IsTrue}
+use Rattle.std.specs.Prelude.{◌≡◌, ◌↔◌, ℕ, ◌<◌, if◌then◌else◌, List, length, sum_by, Some, None, Ok, Err, IsSome}
+use Rattle.std.specs.Prelude.{IsTrue}
 use Rattle.std.specs.FinMap as finmap
 use Rattle.std.specs.Option.{option_map}
 use Rattle.std.specs.Ordering.{nat_cmp}
@@ -25,7 +26,8 @@ OneListLaw = (pages : PageMap) (one other : List Area) → AreAreasOf pages one 
 
 -- the areas have as many pages as are mapped
 abbrev pub CountLaw : Type 0
-CountLaw = (pages : PageMap) (areas : List Area) → AreAreasOf pages areas → sum_by (λ (area : Area). area.count) areas ≡ finmap.len pages
+CountLaw = (pages : PageMap) (areas : List Area) → AreAreasOf pages areas
+    → sum_by (λ (area : Area). area.count) areas ≡ finmap.len pages
 
 -- a space with more areas than it may have
 abbrev pub IsCrowded : PageMap → Type 0
@@ -37,22 +39,33 @@ LimitLaw = (pages : PageMap) → AreInSpace pages → (within_areas pages ≡ Er
 
 -- `mmap` gives each whole page of the range the permissions, and leaves every other page
 abbrev pub MappedLaw : Type 0
-MappedLaw = (before after : PageMap) (address bytes : ℕ) (prot : Prot) → map_result before address bytes prot ≡ Ok after →
-    (page : ℕ) → finmap.get after page ≡ (if is_within (page_of address) (pages_for bytes) page then Some prot else finmap.get before page)
+MappedLaw =
+    (before after : PageMap) (address bytes : ℕ) (prot : Prot) → map_result before address bytes prot ≡ Ok after →
+    (page : ℕ)
+    → finmap.get after page
+    ≡ (if is_within (page_of address) (pages_for bytes) page then Some prot else finmap.get before page)
 
 -- `munmap` removes each whole page of the range, and leaves every other page
 abbrev pub UnmappedLaw : Type 0
 UnmappedLaw = (before after : PageMap) (address bytes : ℕ) → unmap_result before address bytes ≡ Ok after →
-    (page : ℕ) → finmap.get after page ≡ (if is_within (page_of address) (pages_for bytes) page then None else finmap.get before page)
+    (page : ℕ)
+    → finmap.get after page
+    ≡ (if is_within (page_of address) (pages_for bytes) page then None else finmap.get before page)
 
 -- `mprotect` does as `mmap`, where every page of the range was mapped
 abbrev pub ProtectedLaw : Type 0
-ProtectedLaw = (before after : PageMap) (address bytes : ℕ) (prot : Prot) → protect_result before address bytes prot ≡ Ok after →
-    (page : ℕ) → (finmap.get after page ≡ (if is_within (page_of address) (pages_for bytes) page then Some prot else finmap.get before page))
+ProtectedLaw =
+    (before after : PageMap) (address bytes : ℕ) (prot : Prot) → protect_result before address bytes prot ≡ Ok after →
+    (page : ℕ)
+    → (finmap.get after page
+    ≡ (if is_within (page_of address) (pages_for bytes) page then Some prot else finmap.get before page))
     × (IsTrue (is_within (page_of address) (pages_for bytes) page) → IsSome (finmap.get before page))
 
 -- a space is in the memory where the snapshot has it, with a page where that space has it
 abbrev pub MemoryLaw : Type 0
 MemoryLaw = (snapshot : Snapshot) (space page : ℕ) →
-    (finmap.get (memory_of snapshot) space ≡ option_map (λ pages. space_of pages.entries) (lookup (is_at (nat_cmp space)) snapshot.spaces.entries))
-    × ((pages : BTreeMap ℕ SnapshotPage) → finmap.get (space_of pages.entries) page ≡ option_map page_of_snapshot (lookup (is_at (nat_cmp page)) pages.entries))
+    (finmap.get (memory_of snapshot) space
+    ≡ option_map (λ pages. space_of pages.entries) (lookup (is_at (nat_cmp space)) snapshot.spaces.entries))
+    × ((pages : BTreeMap ℕ SnapshotPage)
+    → finmap.get (space_of pages.entries) page
+    ≡ option_map page_of_snapshot (lookup (is_at (nat_cmp page)) pages.entries))

@@ -24,4 +24,5 @@ prots_of entries = finmap.from_entries (map (λ e. (e.0, e.1.prot)) entries)
 
 -- a page put into a space
 abbrev pub put_page : PlainMemory → ℕ → ℕ → Page → PlainMemory
-put_page memory space page found = finmap.insert memory space (finmap.insert (unwrap_or (finmap.get memory space) finmap.empty) page found)
+put_page memory space page found =
+    finmap.insert memory space (finmap.insert (unwrap_or (finmap.get memory space) finmap.empty) page found)

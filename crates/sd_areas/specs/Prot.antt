@@ -8,4 +8,5 @@ prot_bits prot = (if prot.read then 1 else 0) + (if prot.write then 2 else 0) + 
 
 -- the letters `rwx`, each a `-` where the permission is missing
 abbrev pub prot_text : Prot → List ℕ
-prot_text prot = (if prot.read then 114 else 45) ∷ (if prot.write then 119 else 45) ∷ (if prot.execute then 120 else 45) ∷ []
+prot_text prot =
+    (if prot.read then 114 else 45) ∷ (if prot.write then 119 else 45) ∷ (if prot.execute then 120 else 45) ∷ []

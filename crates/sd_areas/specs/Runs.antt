@@ -1,5 +1,6 @@
 -- Lists of areas, as a call builds them from the front.
-use Rattle.std.specs.Prelude.{◌≡◌, Bool, ◌==◌, ℕ, ◌+◌, ◌≤◌, ◌<◌, List, [], ◌∷◌, ◌&&◌, nat_le, nat_lt, if◌then◌else◌, Option, Some, None, min, max, IsSome}
+use Rattle.std.specs.Prelude.{◌≡◌, Bool, ◌==◌, ℕ, ◌+◌, ◌≤◌, ◌<◌, List, [], ◌∷◌, ◌&&◌, nat_le, nat_lt, if◌then◌else◌}
+use Rattle.std.specs.Prelude.{Option, Some, None, min, max, IsSome}
 use Rattle.sd_areas.specs.declared.area.Area.{Area}
 use Rattle.sd_areas.specs.Pages.{is_within}
 use Rattle.sd_areas.specs.Prot.{prot_bits}
@@ -27,7 +28,8 @@ is_continued last area = (last.first + last.count == area.first) && (prot_bits l
 pub record IsExtended (old new : List Area) (area : Area) : Type 0 where
   pub maximal : AreMaximal None new
   pub ends : end_of_all new ≡ area.first + area.count
-  pub same : (page : ℕ) → prot_in new page ≡ (if is_within area.first area.count page then Some area.prot else prot_in old page)
+  pub same : (page : ℕ)
+      → prot_in new page ≡ (if is_within area.first area.count page then Some area.prot else prot_in old page)
 
 -- the part of an area from one page up to another
 pub record IsPart (area : Area) (from to : ℕ) (part : Area) : Type 0 where
@@ -40,18 +42,22 @@ pub record IsPart (area : Area) (from to : ℕ) (part : Area) : Type 0 where
 pub record HasPart (old new : List Area) (area : Area) (from to : ℕ) : Type 0 where
   pub maximal : AreMaximal None new
   pub ends : end_of_all new ≤ max (end_of_all old) (min (area.first + area.count) to)
-  pub same : (page : ℕ) → prot_in new page ≡ (if (nat_le from page && nat_lt page to) && is_within area.first area.count page then Some area.prot else prot_in old page)
+  pub same : (page : ℕ)
+      → prot_in new page ≡ (if (nat_le from page && nat_lt page to) && is_within area.first area.count page
+      then Some area.prot else prot_in old page)
 
 -- the parts of a list of areas from one page up to another were put behind the others
 pub record HasParts (old new source : List Area) (from to : ℕ) : Type 0 where
   pub maximal : AreMaximal None new
   pub ends : end_of_all new ≤ max from (min (end_of_all source) to)
-  pub same : (page : ℕ) → prot_in new page ≡ (if nat_le from page && nat_lt page to then prot_in source page else prot_in old page)
+  pub same : (page : ℕ)
+      → prot_in new page ≡ (if nat_le from page && nat_lt page to then prot_in source page else prot_in old page)
 
 -- the pages of one area have its permissions, and every other page is as before
 pub record HasRun (old new : List Area) (area : Area) : Type 0 where
   pub maximal : AreMaximal None new
-  pub same : (page : ℕ) → prot_in new page ≡ (if is_within area.first area.count page then Some area.prot else prot_in old page)
+  pub same : (page : ℕ)
+      → prot_in new page ≡ (if is_within area.first area.count page then Some area.prot else prot_in old page)
 
 -- no page of the run is there, and every other page is as before
 pub record HasGap (old new : List Area) (first count : ℕ) : Type 0 where

@@ -1,6 +1,7 @@
 //! Changes of a list of areas in place. A change reads and replaces the areas that meet a run of
 //! pages or touch it; the areas behind them move as a whole.
-ghost use Rattle.std.specs.Prelude.{◌≡◌, ◌≢◌, ◌⊎◌, ◌+◌, ◌<◌, ◌≤◌, ◌^◌, [], nat_lt, length, Ok, OnOk, OnErr, IfErr, None};
+ghost use Rattle.std.specs.Prelude.{◌≡◌, ◌≢◌, ◌⊎◌, ◌+◌, ◌<◌, ◌≤◌, ◌^◌, [], nat_lt, length, Ok, OnOk, OnErr, IfErr};
+ghost use Rattle.std.specs.Prelude.{None};
 ghost use Rattle.std.specs.List.{splice, AllWithin, position};
 ghost use Rattle.sd_areas.specs.Areas.{AreMaximal, pages_of};
 ghost use Rattle.sd_areas.specs.Calls.{set_pages, remove_pages, within_areas, Answers};

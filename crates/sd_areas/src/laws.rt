@@ -1,5 +1,6 @@
 //! Laws of address spaces, each the contract of a function that does nothing.
-ghost use Rattle.sd_areas.specs.Laws.{AreasLaw, OneListLaw, CountLaw, LimitLaw, MappedLaw, UnmappedLaw, ProtectedLaw, MemoryLaw};
+ghost use Rattle.sd_areas.specs.Laws.{AreasLaw, OneListLaw, CountLaw, LimitLaw, MappedLaw, UnmappedLaw, ProtectedLaw};
+ghost use Rattle.sd_areas.specs.Laws.{MemoryLaw};
 
 /// The list of areas that the contracts name is the one of maximal runs.
 pub fn areas_law()

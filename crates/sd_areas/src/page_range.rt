@@ -1,4 +1,5 @@
-ghost use Rattle.std.specs.Prelude.{◌≡◌, ◌<◌, ◌%◌, ◌==◌, not, is_some, IfSome, IsOk, IfOk, IfErr, IsTrue, IsFalse, Err, ◌+◌, ◌≤◌, ◌^◌};
+ghost use Rattle.std.specs.Prelude.{◌≡◌, ◌<◌, ◌%◌, ◌==◌, not, is_some, IfSome, IsOk, IfOk, IfErr, IsTrue, IsFalse, Err};
+ghost use Rattle.std.specs.Prelude.{◌+◌, ◌≤◌, ◌^◌};
 ghost use Rattle.sd_areas.specs.Pages.{page_of, pages_for, is_invalid, is_outside};
 ghost use Rattle.sd_areas.specs.Areas.{PageMap};
 ghost use Rattle.sd_areas.specs.Calls.{map_result, unmap_result, within_areas, set_pages, remove_pages};

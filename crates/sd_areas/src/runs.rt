@@ -1,5 +1,6 @@
 //! Lists of areas that rise and are maximal, built from the front.
-ghost use Rattle.std.specs.Prelude.{◌≡◌, if◌then◌else◌, ℕ, ◌+◌, ◌<◌, ◌≤◌, ◌^◌, OnOk, IfOk, Some, None, MatchOption, min, max};
+ghost use Rattle.std.specs.Prelude.{◌≡◌, if◌then◌else◌, ℕ, ◌+◌, ◌<◌, ◌≤◌, ◌^◌, OnOk, IfOk, Some, None, MatchOption};
+ghost use Rattle.std.specs.Prelude.{min, max};
 ghost use Rattle.sd_areas.specs.Areas.{AreMaximal, prot_in, pages_of};
 ghost use Rattle.sd_areas.specs.Pages.{is_within};
 ghost use Rattle.sd_areas.specs.Calls.{has_hole};

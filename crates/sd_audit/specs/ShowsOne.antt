@@ -8,7 +8,8 @@ use Rattle.sd_journal.specs.declared.origin.Origin.TheVariants.{Opened}
 use Rattle.sd_journal.specs.History.{Base, History}
 use Rattle.sd_journal.specs.Allowed.{Shown, IsAllowed}
 
--- what a run goes on from: a memory, with the number of its checkpoint if it has one. Where these come from matters to no audit.
+-- what a run goes on from: a memory, with the number of its checkpoint if it has one. Where these come from matters to
+-- no audit.
 abbrev pub base_of : Option ℕ → Snapshot → Base
 base_of number snapshot = record { number = number; memory = memory_of snapshot; origin = Opened; folded = 0 }
 

@@ -13,8 +13,8 @@ pub(crate) fn is_last_or_pending(number: Option<u64>, entries: &[Entry], checkpo
     last_number(number, entries) == Some(checkpoint) || pending_number(entries) == Some(checkpoint)
 }
 
-/// The number of the last checkpoint: that in the latest acknowledgement or reopening, else the one that the run started
-/// from.
+/// The number of the last checkpoint: that in the latest acknowledgement or reopening, else the one that the run
+/// started from.
 pub(crate) fn last_number(number: Option<u64>, entries: &[Entry]) -> Option<u64>
     ensures { (base : Base) → base.number ≡ number → result ≡ last base (reverse entries.now) }
 {
@@ -37,8 +37,8 @@ fn last_after(before: Option<u64>, entry: &Entry) -> Option<u64>
     }
 }
 
-/// The number of the pending checkpoint: of a freeze after which the entries neither acknowledge nor cancel it, and have
-/// no reopening.
+/// The number of the pending checkpoint: of a freeze after which the entries neither acknowledge nor cancel it, and
+/// have no reopening.
 pub(crate) fn pending_number(entries: &[Entry]) -> Option<u64>
     ensures { result ≡ pending (reverse entries.now) }
 {

@@ -1,5 +1,6 @@
 -- The catalog as it is seen: the places of serials, rising, each held or with an open image.
-use Rattle.std.specs.Prelude.{◌≡◌, ◌≢◌, ◌⊎◌, ℕ, ◌<◌, ◌≤◌, ◌==◌, if◌then◌else◌, Bool, true, not, List, [], ◌∷◌, Option, Some, None, IsSorted, All, nat_eq, Contains, MatchOption}
+use Rattle.std.specs.Prelude.{◌≡◌, ◌≢◌, ◌⊎◌, ℕ, ◌<◌, ◌≤◌, ◌==◌, if◌then◌else◌, Bool, true, not, List, [], ◌∷◌, Option}
+use Rattle.std.specs.Prelude.{Some, None, IsSorted, All, nat_eq, Contains, MatchOption}
 use Rattle.std.specs.Borrow.{Bor}
 use Rattle.std.specs.List.{filter_map, AllByRecursion, IsDistinct}
 use Rattle.std.specs.Map.{lookup, keys_of}
@@ -42,7 +43,8 @@ IsHeld places serial = place_of places serial ≡ Some None
 
 -- one serial's place changes to this, and every other stays
 abbrev pub Changes : Places → Places → ℕ → Option (Option Opened) → Type 0
-Changes old new serial place = (other : ℕ) → place_of new other ≡ (if serial == other then place else place_of old other)
+Changes old new serial place =
+    (other : ℕ) → place_of new other ≡ (if serial == other then place else place_of old other)
 
 -- a place is held, or its image is in another slot
 abbrev pub is_elsewhere : ℕ → Option Opened → Bool
@@ -69,7 +71,8 @@ IsRestored i = i.header.kind ≢ PreDump
 
 -- the order of the pairs (checkpoint, serial)
 abbrev pub IsNotAfter : Opened → Opened → Type 0
-IsNotAfter i j = (i.header.checkpoint < j.header.checkpoint) ⊎ ((i.header.checkpoint ≡ j.header.checkpoint) × (i.header.serial ≤ j.header.serial))
+IsNotAfter i j = (i.header.checkpoint < j.header.checkpoint)
+    ⊎ ((i.header.checkpoint ≡ j.header.checkpoint) × (i.header.serial ≤ j.header.serial))
 
 -- the image with the greatest pair of those that are restored
 pub record IsNewestAmong (all : List Opened) (i : Opened) : Type 0 where
@@ -85,7 +88,8 @@ abbrev pub IsNewestChoice : List Opened → Option (Bor Opened) → Type 0
 IsNewestChoice all chosen = MatchOption chosen (All (λ i. IsRestored i → ⊥) all) (λ i. IsNewestAmong all i.now)
 
 abbrev pub IsNamedChoice : ℕ → List Opened → Option (Bor Opened) → Type 0
-IsNamedChoice number all chosen = MatchOption chosen (All (λ i. i.header.stands_for ≢ number) all) (λ i. IsNamedAmong all number i.now)
+IsNamedChoice number all chosen =
+    MatchOption chosen (All (λ i. i.header.stands_for ≢ number) all) (λ i. IsNamedAmong all number i.now)
 
 -- the numbers of an image
 abbrev pub serial_of : Opened → ℕ

@@ -10,10 +10,12 @@ use Rattle.sd_chain.specs.declared.way.Way.TheVariants as way
 use Rattle.sd_chain.specs.Catalog.{Opened, Places, Names, place_of}
 use Rattle.sd_chain.specs.Ways.{HasPage, LiesBySerial, BreaksBySerial, IsAbsent}
 
--- The chain of the image of a serial: it begins with that image, and the parent number of each image names the next one, that of the last none.
+-- The chain of the image of a serial: it begins with that image, and the parent number of each image names the next
+-- one, that of the last none.
 pub record IsChainOf (places : Places) (serial : ℕ) (chain : List Opened) : Type 0 where
   pub first : (i : Opened) → (place_of places serial ≡ Some (Some i)) ↔ (slice_get chain 0 ≡ Some i)
-  pub next : (k : ℕ) (i p : Opened) → slice_get chain k ≡ Some i → Names places i.header.parent p ↔ (slice_get chain (k + 1) ≡ Some p)
+  pub next : (k : ℕ) (i p : Opened) → slice_get chain k ≡ Some i
+      → Names places i.header.parent p ↔ (slice_get chain (k + 1) ≡ Some p)
 
 -- what following a page of the image of a serial comes to
 pub record IsTraced (places : Places) (serial : ℕ) (page : ℕ × ℕ) (answer : Trace) : Type 0 where

@@ -16,6 +16,7 @@ ClosedSlotAddsNothing = (contents : List (List ℕ)) (places : Places) (file : L
 -- A slot more that is an image, with a serial that no other has, adds it to the catalog.
 abbrev pub OpenSlotAddsItsImage : Type 0
 OpenSlotAddsItsImage = (contents : List (List ℕ)) (old new : Places) (file : List ℕ) (i : Opened) (image : Image)
-    → IsCatalogOf contents old → IsImage file image → image.header ≡ i.header → image.spaces ≡ i.spaces → i.slot ≡ length contents
+    → IsCatalogOf contents old → IsImage file image → image.header ≡ i.header → image.spaces ≡ i.spaces
+    → i.slot ≡ length contents
     → ((other : Opened) → place_of old i.header.serial ≡ Some (Some other) → ⊥)
     → Changes old new i.header.serial (Some (Some i)) → IsCatalogOf (contents ++ file ∷ []) new

@@ -1,5 +1,6 @@
 -- The pages that a table lists, one after the other: rising by space and page.
-use Rattle.std.specs.Prelude.{◌≡◌, ◌⊎◌, ◌==◌, ◌^◌, ◌+◌, ℕ, ◌<◌, ◌≤◌, nat_lt, if◌then◌else◌, List, Option, Some, None, MatchOption, Contains, IsNone, IsTrue}
+use Rattle.std.specs.Prelude.{◌≡◌, ◌⊎◌, ◌==◌, ◌^◌, ◌+◌, ℕ, ◌<◌, ◌≤◌, nat_lt, if◌then◌else◌, List, Option, Some, None}
+use Rattle.std.specs.Prelude.{MatchOption, Contains, IsNone, IsTrue}
 use Rattle.sd_areas.specs.Pages.{is_within}
 use Rattle.sd_image.specs.declared.run.Run.{Run}
 use Rattle.sd_image.specs.declared.table.SpaceTable.{SpaceTable}
@@ -28,7 +29,8 @@ pub record IsNextOf (spaces : List Listed) (after : Option (ℕ × ℕ)) (page :
 
 -- the first that a table lists behind a place, or it lists none there
 abbrev pub IsNextOrNone : List Listed → Option (ℕ × ℕ) → Option (ℕ × ℕ) → Type 0
-IsNextOrNone spaces after next = MatchOption next ((page : ℕ × ℕ) → IsListed spaces page → IsBehind after page → ⊥) (IsNextOf spaces after)
+IsNextOrNone spaces after next =
+    MatchOption next ((page : ℕ × ℕ) → IsListed spaces page → IsBehind after page → ⊥) (IsNextOf spaces after)
 
 -- the same of the image of a serial; where no image has it there is none
 abbrev pub IsNextPage : Places → ℕ → Option (ℕ × ℕ) → Option (ℕ × ℕ) → Type 0
@@ -60,7 +62,8 @@ HasSpace spaces page = (s : SpaceTable) × Contains spaces s × (page.0 ≡ s.sp
 abbrev pub IsFirstFrom : List SpaceTable → ℕ × ℕ → Option (ℕ × ℕ) → Type 0
 IsFirstFrom spaces place first = MatchOption first
     ((page : ℕ × ℕ) → IsFrom place page → HasSpace spaces page → ⊥)
-    (λ found. IsFrom place found × HasSpace spaces found × ((page : ℕ × ℕ) → IsFrom place page → HasSpace spaces page → IsBefore page found → ⊥))
+    (λ found. IsFrom place found × HasSpace spaces found
+    × ((page : ℕ × ℕ) → IsFrom place page → HasSpace spaces page → IsBefore page found → ⊥))
 
 -- from which number on the pages of a space are at a place or behind it
 abbrev pub from_within : ℕ → ℕ × ℕ → ℕ

@@ -4,7 +4,8 @@ use Rattle.sd_image.specs.declared.run.Run.{Run}
 use Rattle.sd_image.specs.declared.table.SpaceTable.{SpaceTable}
 use Rattle.sd_image.specs.Table.{is_data}
 
--- how many data pages stand before the end of a run, where this many stand before its start; a number of 64 bits at most
+-- how many data pages stand before the end of a run, where this many stand before its start; a number of 64 bits at
+-- most
 abbrev pub after_run : ℕ → Run → ℕ
 after_run before run = if is_data run then min (before + run.count) (2 ^ 64 - 1) else before
 
@@ -20,4 +21,5 @@ places_of before (run ∷ runs) = before ∷ places_of (after_run before run) ru
 -- how many data pages stand before each run of each space
 abbrev pub all_places_of : ℕ → List SpaceTable → List (List ℕ)
 all_places_of before [] = []
-all_places_of before (space ∷ spaces) = places_of before space.runs.items ∷ all_places_of (after_runs before space.runs.items) spaces
+all_places_of before (space ∷ spaces) =
+    places_of before space.runs.items ∷ all_places_of (after_runs before space.runs.items) spaces

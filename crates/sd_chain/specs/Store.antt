@@ -1,5 +1,6 @@
 -- The catalog of a store: its images are those of the open slots.
-use Rattle.std.specs.Prelude.{◌≡◌, ◌↔◌, ℕ, ◌+◌, ◌<◌, ◌≤◌, true, List, [], length, Option, Some, MatchOption, Contains, replicate, slice_get, slice_index_or, slice_range}
+use Rattle.std.specs.Prelude.{◌≡◌, ◌↔◌, ℕ, ◌+◌, ◌<◌, ◌≤◌, true, List, [], length, Option, Some, MatchOption, Contains}
+use Rattle.std.specs.Prelude.{replicate, slice_get, slice_index_or, slice_range}
 use Rattle.std.specs.Borrow.{Bor}
 use Rattle.sd_image.specs.Image.{Image, IsImage, is_open}
 use Rattle.sd_image.specs.Shows.{Holds, IsNamed, IsRestorable, IsStore, IsTip}
@@ -18,16 +19,21 @@ pub record IsOpenedAs (contents : List (List ℕ)) (i : Opened) (image : Image) 
 
 -- The catalog of these contents: each of its images is that of its slot's file, and each open slot has its image in it.
 pub record IsCatalogOf (contents : List (List ℕ)) (places : Places) : Type 0 where
-  pub sound : (serial : ℕ) (i : Opened) → place_of places serial ≡ Some (Some i) → (image : Image) × IsOpenedAs contents i image
+  pub sound : (serial : ℕ) (i : Opened) → place_of places serial ≡ Some (Some i)
+      → (image : Image) × IsOpenedAs contents i image
   pub all : (slot : ℕ) (file : List ℕ) → slice_get contents slot ≡ Some file → is_open file ≡ true
       → (serial : ℕ) × (i : Opened) × (place_of places serial ≡ Some (Some i)) × (i.slot ≡ slot)
 
 -- The images of a catalog of contents are those of the contents, and a number names alike in both.
 pub record HasTheImages (contents : List (List ℕ)) (places : Places) (all : List Image) : Type 0 where
-  pub image : (i : Opened) → Contains (images places) i → (image : Image) × Contains all image × IsOpenedAs contents i image
-  pub opened : (image : Image) → Contains all image → (i : Opened) × Contains (images places) i × IsOpenedAs contents i image
-  pub named : (number : ℕ) (i : Opened) (image : Image) → IsOpenedAs contents i image → Names places number i → IsNamed all number image
-  pub names : (number : ℕ) (i : Opened) (image : Image) → Contains (images places) i → IsOpenedAs contents i image → IsNamed all number image → Names places number i
+  pub image : (i : Opened) → Contains (images places) i
+      → (image : Image) × Contains all image × IsOpenedAs contents i image
+  pub opened : (image : Image) → Contains all image
+      → (i : Opened) × Contains (images places) i × IsOpenedAs contents i image
+  pub named : (number : ℕ) (i : Opened) (image : Image) → IsOpenedAs contents i image → Names places number i
+      → IsNamed all number image
+  pub names : (number : ℕ) (i : Opened) (image : Image) → Contains (images places) i → IsOpenedAs contents i image
+      → IsNamed all number image → Names places number i
   pub fall : ParentsFall places
 
 -- the file of a slot
@@ -58,7 +64,9 @@ pub record FindsTip (contents : List (List ℕ)) (chosen : Option (Bor Opened)) 
       ((image : Image) → Contains images image → IsRestorable image → ⊥)
       (λ i. (image : Image) × IsOpenedAs contents i.now image × IsTip images image)
 
--- Where a page of an image was found, its bytes there are those that the image holds; where it was not, the image holds none.
+-- Where a page of an image was found, its bytes there are those that the image holds; where it was not, the image holds
+-- none.
 abbrev pub FindsHeld : List (List ℕ) → List Image → ℕ → ℕ × ℕ → Option Found → Type 0
 FindsHeld contents images serial page place = (image : Image) → Contains images image → image.header.serial ≡ serial
-    → (bytes : List ℕ) → Holds images page.0 page.1 bytes image ↔ MatchOption place ⊥ (λ there. bytes ≡ bytes_at contents there)
+    → (bytes : List ℕ)
+    → Holds images page.0 page.1 bytes image ↔ MatchOption place ⊥ (λ there. bytes ≡ bytes_at contents there)

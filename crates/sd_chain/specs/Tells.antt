@@ -23,59 +23,81 @@ pub record Tells (places : Places) (all : List Image) : Type 0 where
 -- a page's bytes are stored where it lies: zeros, or a data page of the image that is in the slot
 abbrev pub IsStoredAt : Places → List Image → Found → List ℕ → Type 0
 IsStoredAt places all found.Zero bytes = bytes ≡ replicate 4096 0
-IsStoredAt places all (found.Data slot offset) bytes = (i : Opened) × (image : Image) × (place : ℕ) × Contains (images places) i × Contains all image × IsToldAs i image
+IsStoredAt places all (found.Data slot offset) bytes =
+    (i : Opened) × (image : Image) × (place : ℕ) × Contains (images places) i × Contains all image × IsToldAs i image
     × (i.slot ≡ slot) × (offset ≡ 4096 + 4096 * place) × (slice_get image.pages place ≡ Some bytes)
 
 -- each data page that a table lists is there
 abbrev pub HavePages : List Image → Type 0
-HavePages all = (image : Image) → Contains all image → (place : ℕ) (page : ℕ × ℕ) → slice_get (pages_of Data image.spaces) place ≡ Some page
+HavePages all = (image : Image) → Contains all image → (place : ℕ) (page : ℕ × ℕ)
+    → slice_get (pages_of Data image.spaces) place ≡ Some page
     → (bytes : List ℕ) × (slice_get image.pages place ≡ Some bytes)
 
 -- The tip, what a number names and where pages lie are the same in both.
 pub record Agrees (places : Places) (all : List Image) : Type 0 where
-  pub at : (serial : ℕ) (i : Opened) → place_of places serial ≡ Some (Some i) → (image : Image) × Contains all image × IsToldAs i image × (image.header.serial ≡ serial)
-  pub stands : (image : Image) → Contains all image → (i : Opened) × (place_of places image.header.serial ≡ Some (Some i)) × IsToldAs i image
-  pub tip : (i : Opened) (image : Image) → Contains (images places) i → Contains all image → IsToldAs i image → catalog.IsTip places i ↔ IsTip all image
-  pub named : (number : ℕ) (i : Opened) (image : Image) → Contains (images places) i → Contains all image → IsToldAs i image
+  pub at : (serial : ℕ) (i : Opened) → place_of places serial ≡ Some (Some i)
+      → (image : Image) × Contains all image × IsToldAs i image × (image.header.serial ≡ serial)
+  pub stands : (image : Image) → Contains all image
+      → (i : Opened) × (place_of places image.header.serial ≡ Some (Some i)) × IsToldAs i image
+  pub tip : (i : Opened) (image : Image) → Contains (images places) i → Contains all image → IsToldAs i image
+      → catalog.IsTip places i ↔ IsTip all image
+  pub named : (number : ℕ) (i : Opened) (image : Image) → Contains (images places) i → Contains all image
+      → IsToldAs i image
       → catalog.Names places number i ↔ IsNamed all number image
-  pub held : (page : ℕ × ℕ) (bytes : List ℕ) (i : Opened) (image : Image) → Contains (images places) i → Contains all image → IsToldAs i image
-      → Holds all page.0 page.1 bytes image → (there : Found) × LiesAt places page there i × IsStoredAt places all there bytes
-  pub lies : HavePages all → (page : ℕ × ℕ) (there : Found) (i : Opened) (image : Image) → Contains (images places) i → Contains all image → IsToldAs i image
-      → LiesAt places page there i → (bytes : List ℕ) × Holds all page.0 page.1 bytes image × IsStoredAt places all there bytes
+  pub held : (page : ℕ × ℕ) (bytes : List ℕ) (i : Opened) (image : Image) → Contains (images places) i
+      → Contains all image → IsToldAs i image
+      → Holds all page.0 page.1 bytes image
+      → (there : Found) × LiesAt places page there i × IsStoredAt places all there bytes
+  pub lies : HavePages all → (page : ℕ × ℕ) (there : Found) (i : Opened) (image : Image) → Contains (images places) i
+      → Contains all image → IsToldAs i image
+      → LiesAt places page there i
+      → (bytes : List ℕ) × Holds all page.0 page.1 bytes image × IsStoredAt places all there bytes
   pub fall : ParentsFall places ↔ ((image : Image) → Contains all image → image.header.parent < image.header.stands_for)
 
 -- What the changes of a catalog do to its images. The places of a catalog are in order, before and after.
 
 -- holding and releasing a place leave them
 abbrev pub HeldPlacesTellNothing : Type 0
-HeldPlacesTellNothing = (old new : Places) (serial : ℕ) (place : Option (Option Opened)) (all : List Image) → catalog.AreInOrder old → catalog.AreInOrder new
-    → ((i : Opened) → place_of old serial ≡ Some (Some i) → ⊥) → ((i : Opened) → place ≡ Some (Some i) → ⊥) → Changes old new serial place
+HeldPlacesTellNothing = (old new : Places) (serial : ℕ) (place : Option (Option Opened)) (all : List Image)
+    → catalog.AreInOrder old → catalog.AreInOrder new
+    → ((i : Opened) → place_of old serial ≡ Some (Some i) → ⊥) → ((i : Opened) → place ≡ Some (Some i) → ⊥)
+    → Changes old new serial place
     → Tells old all ↔ Tells new all
 
 -- adding an image adds it
 abbrev pub AddedImageIsTold : Type 0
-AddedImageIsTold = (old new : Places) (i : Opened) (image : Image) (all : List Image) → catalog.AreInOrder old → catalog.AreInOrder new
-    → ((other : Opened) → place_of old i.header.serial ≡ Some (Some other) → ⊥) → Changes old new i.header.serial (Some (Some i)) → IsToldAs i image
+AddedImageIsTold =
+    (old new : Places) (i : Opened) (image : Image) (all : List Image) → catalog.AreInOrder old → catalog.AreInOrder new
+    → ((other : Opened) → place_of old i.header.serial ≡ Some (Some other) → ⊥)
+    → Changes old new i.header.serial (Some (Some i)) → IsToldAs i image
     → (Tells old all → Tells new (image ∷ all))
-    × (((other : Image) → Contains all other → other.header.serial ≢ i.header.serial) → Tells new (image ∷ all) → Tells old all)
+    × (((other : Image) → Contains all other → other.header.serial ≢ i.header.serial) → Tells new (image ∷ all)
+    → Tells old all)
 
 -- these are the images that are in other slots
 abbrev pub AreElsewhere : Places → ℕ → List Image → List Image → Type 0
-AreElsewhere old slot all left = (image : Image) → Contains left image ↔ (Contains all image × ((i : Opened) → place_of old image.header.serial ≡ Some (Some i) → i.slot ≢ slot))
+AreElsewhere old slot all left = (image : Image)
+    → Contains left image ↔
+    (Contains all image × ((i : Opened) → place_of old image.header.serial ≡ Some (Some i) → i.slot ≢ slot))
 
 -- removing a slot leaves those that are in other slots
 abbrev pub RemovedSlotIsUntold : Type 0
-RemovedSlotIsUntold = (old new : Places) (slot : ℕ) (all left : List Image) → catalog.AreInOrder old → catalog.AreInOrder new
+RemovedSlotIsUntold =
+    (old new : Places) (slot : ℕ) (all left : List Image) → catalog.AreInOrder old → catalog.AreInOrder new
     → ((serial : ℕ) → place_of new serial ≡ without_slot slot (place_of old serial)) → AreElsewhere old slot all left
     → Tells old all → Tells new left
 
 -- the images of a slot are told by some of these, and those of these that have its serials tell them
 pub record AreToldAt (old : Places) (slot : ℕ) (all : List Image) : Type 0 where
-  pub image : (i : Opened) → Contains (images old) i → i.slot ≡ slot → (image : Image) × Contains all image × IsToldAs i image
-  pub opened : (image : Image) (i : Opened) → Contains all image → place_of old image.header.serial ≡ Some (Some i) → i.slot ≡ slot → IsToldAs i image
+  pub image : (i : Opened) → Contains (images old) i → i.slot ≡ slot
+      → (image : Image) × Contains all image × IsToldAs i image
+  pub opened : (image : Image) (i : Opened) → Contains all image → place_of old image.header.serial ≡ Some (Some i)
+      → i.slot ≡ slot → IsToldAs i image
 
 -- and where those that are left are told afterwards, all were before
 abbrev pub RemovedSlotWasTold : Type 0
-RemovedSlotWasTold = (old new : Places) (slot : ℕ) (all left : List Image) → catalog.AreInOrder old → catalog.AreInOrder new
-    → ((serial : ℕ) → place_of new serial ≡ without_slot slot (place_of old serial)) → AreElsewhere old slot all left → AreToldAt old slot all
+RemovedSlotWasTold =
+    (old new : Places) (slot : ℕ) (all left : List Image) → catalog.AreInOrder old → catalog.AreInOrder new
+    → ((serial : ℕ) → place_of new serial ≡ without_slot slot (place_of old serial)) → AreElsewhere old slot all left
+    → AreToldAt old slot all
     → Tells new left → Tells old all

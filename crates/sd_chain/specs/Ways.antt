@@ -17,30 +17,37 @@ HasPage spaces page (way.Data place) = slice_get (pages_of Data spaces) place �
 HasPage spaces page way.Parent = Contains (pages_of Parent spaces) page
 HasPage spaces page way.Zero = Contains (pages_of Zero spaces) page
 
--- The chain of an image has a page there: in the image's own file, behind its header and the data pages before it; nowhere,
--- as it is zeros; or where the chain of the image has it that its parent number names.
+-- The chain of an image has a page there: in the image's own file, behind its header and the data pages before it;
+-- nowhere, as it is zeros; or where the chain of the image has it that its parent number names.
 pub data LiesAt (places : Places) (page : ℕ × ℕ) (there : Found) : Opened → Type 0 where
-  by_data : (i : Opened) (place : ℕ) → HasPage i.spaces page (way.Data place) → there ≡ found.Data i.slot (4096 + 4096 * place) → LiesAt places page there i
+  by_data : (i : Opened) (place : ℕ) → HasPage i.spaces page (way.Data place)
+      → there ≡ found.Data i.slot (4096 + 4096 * place) → LiesAt places page there i
   by_zero : (i : Opened) → HasPage i.spaces page way.Zero → there ≡ found.Zero → LiesAt places page there i
-  by_parent : (i parent : Opened) → HasPage i.spaces page way.Parent → Names places i.header.parent parent → LiesAt places page there parent → LiesAt places page there i
+  by_parent : (i parent : Opened) → HasPage i.spaces page way.Parent → Names places i.header.parent parent
+      → LiesAt places page there parent → LiesAt places page there i
 
 -- the chain of the image of a serial has a page there
 abbrev pub LiesBySerial : Places → ℕ → ℕ × ℕ → Found → Type 0
-LiesBySerial places serial page there = (i : Opened) × (place_of places serial ≡ Some (Some i)) × LiesAt places page there i
+LiesBySerial places serial page there =
+    (i : Opened) × (place_of places serial ≡ Some (Some i)) × LiesAt places page there i
 
 -- an image doesn't list a page
 abbrev pub IsUnlisted : ℕ × ℕ → Opened → Type 0
 IsUnlisted page i = (w : Way) → HasPage i.spaces page w → ⊥
 
--- The chain of an image breaks at the image of a slot: here, as the image has the page in its parent, and no image that its parent
--- number names lists the page; or beyond, at an image of the chain of the one that its parent number names.
+-- The chain of an image breaks at the image of a slot: here, as the image has the page in its parent, and no image that
+-- its parent number names lists the page; or beyond, at an image of the chain of the one that its parent number names.
 pub data BreaksAt (places : Places) (page : ℕ × ℕ) (slot : ℕ) : Opened → Type 0 where
-  here : (i : Opened) → HasPage i.spaces page way.Parent → ((parent : Opened) → Names places i.header.parent parent → IsUnlisted page parent) → slot ≡ i.slot → BreaksAt places page slot i
-  beyond : (i parent : Opened) → HasPage i.spaces page way.Parent → Names places i.header.parent parent → BreaksAt places page slot parent → BreaksAt places page slot i
+  here : (i : Opened) → HasPage i.spaces page way.Parent
+      → ((parent : Opened) → Names places i.header.parent parent → IsUnlisted page parent) → slot ≡ i.slot
+      → BreaksAt places page slot i
+  beyond : (i parent : Opened) → HasPage i.spaces page way.Parent → Names places i.header.parent parent
+      → BreaksAt places page slot parent → BreaksAt places page slot i
 
 -- the chain of the image of a serial breaks there
 abbrev pub BreaksBySerial : Places → ℕ → ℕ × ℕ → ℕ → Type 0
-BreaksBySerial places serial page slot = (i : Opened) × (place_of places serial ≡ Some (Some i)) × BreaksAt places page slot i
+BreaksBySerial places serial page slot =
+    (i : Opened) × (place_of places serial ≡ Some (Some i)) × BreaksAt places page slot i
 
 -- no image of the serial lists a page
 abbrev pub IsAbsent : Places → ℕ → ℕ × ℕ → Type 0

@@ -1,9 +1,11 @@
 //! The catalog of a store's open images.
-ghost use Rattle.std.specs.Prelude.{◌≡◌, ◌≢◌, ◌⊎◌, ◌==◌, ◌<◌, ◌↔◌, ℕ, not, List, [], None, Some, IsTrue, IsSome, IfOk, OnOk, OnErr, IsErrOf, IsOk, IsNone, IfSome, MatchOption, All, Contains, map};
+ghost use Rattle.std.specs.Prelude.{◌≡◌, ◌≢◌, ◌⊎◌, ◌==◌, ◌<◌, ◌↔◌, ℕ, not, List, [], None, Some, IsTrue, IsSome, IfOk};
+ghost use Rattle.std.specs.Prelude.{OnOk, OnErr, IsErrOf, IsOk, IsNone, IfSome, MatchOption, All, Contains, map};
 ghost use Rattle.sd_image.specs.Image.{Image, OpenImages};
 ghost use Rattle.sd_chain.specs.declared.error.CatalogError.TheVariants.{DoubleSerial};
 ghost use Rattle.sd_chain.specs.Store.{IsCatalogOf, FindsNamed, FindsTip, HasTheImages};
-ghost use Rattle.sd_chain.specs.Catalog.{Opened, place_of, images, IsHeld, Changes, is_elsewhere, without_slot, Names, IsTip, IsRestored, IsGreatest, IsSound, serial_of, checkpoint_of};
+ghost use Rattle.sd_chain.specs.Catalog.{Opened, place_of, images, IsHeld, Changes, is_elsewhere, without_slot, Names};
+ghost use Rattle.sd_chain.specs.Catalog.{IsTip, IsRestored, IsGreatest, IsSound, serial_of, checkpoint_of};
 ghost use Rattle.sd_chain.specs.Tells.{Agrees, Tells};
 
 use crate::choice::{Places, greatest_checkpoint, greatest_serial, images_of, named_of, newest_of};
@@ -60,7 +62,8 @@ impl Catalog {
     ///
     /// # Errors
     ///
-    /// `DoubleSerial` where the serial is there or held. `OutOfMemory` where the place finds no room. An error changes nothing.
+    /// `DoubleSerial` where the serial is there or held. `OutOfMemory` where the place finds no room. An error changes
+    /// nothing.
     pub fn hold(&mut self, serial: u64) -> Result<(), CatalogError>
         ensures held { OnOk result (Changes self.old self.new serial (Some None)) }
         ensures double { IsErrOf result DoubleSerial ↔ IsSome (place_of self.old serial) }

@@ -15,8 +15,8 @@ use sd_image::{few_pages, one_kind, one_place};
 use std::alloc::{AllocError, Global};
 use std::marker::Model;
 
-/// The images of a chain: an image, the one that its parent number names, and so on. It knows where in the table of each
-/// it looked for a page last, so that of pages that rise each is found there or in the next run.
+/// The images of a chain: an image, the one that its parent number names, and so on. It knows where in the table of
+/// each it looked for a page last, so that of pages that rise each is found there or in the next run.
 #[derive(Drop)]
 pub struct Chain<'a> {
     images: Vec<&'a OpenImage>,

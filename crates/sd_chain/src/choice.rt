@@ -1,6 +1,7 @@
 //! Choosing among the open images of a catalog.
 ghost use Rattle.std.specs.Prelude.{◌≡◌, ◌≤◌, ◌↔◌, ℕ, List, [], ◌∷◌, ◌++◌, Option, IfOk, OnOk, IsTrue, map};
-ghost use Rattle.sd_chain.specs.Catalog.{Opened, images, IsGreatest, IsRestored, IsNotAfter, IsNewestChoice, IsNamedChoice, checkpoint_of, number_at, serial_of};
+ghost use Rattle.sd_chain.specs.Catalog.{Opened, images, IsGreatest, IsRestored, IsNotAfter, IsNewestChoice};
+ghost use Rattle.sd_chain.specs.Catalog.{IsNamedChoice, checkpoint_of, number_at, serial_of};
 
 use crate::image::OpenImage;
 use indexmap::IndexMap;

@@ -73,8 +73,8 @@ impl OpenImage {
         self.table.way(space, page)
     }
 
-    /// How the image has a page and as many behind it as it has alike, looked for first near a spot. None where it doesn't
-    /// list the page.
+    /// How the image has a page and as many behind it as it has alike, looked for first near a spot. None where it
+    /// doesn't list the page.
     pub(crate) fn stretch(&self, space: SpaceId, page: PageNo, near: Spot) -> Option<Stretch>
         ensures some { IfSome result (λ s. 0 < s.count) }
         ensures alike { IsTable self.now.header self.now.spaces

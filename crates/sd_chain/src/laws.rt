@@ -1,5 +1,6 @@
 //! Laws about the catalog of a store's slots that the layers above use.
-ghost use Rattle.sd_chain.specs.Tells.{AddedImageIsTold, HeldPlacesTellNothing, RemovedSlotIsUntold, RemovedSlotWasTold};
+ghost use Rattle.sd_chain.specs.Tells.{AddedImageIsTold, HeldPlacesTellNothing, RemovedSlotIsUntold};
+ghost use Rattle.sd_chain.specs.Tells.{RemovedSlotWasTold};
 ghost use Rattle.sd_chain.specs.Laws.{ClosedSlotAddsNothing, EmptyCatalog, OpenSlotAddsItsImage};
 
 /// The catalog of no slots has no images.
@@ -33,8 +34,8 @@ pub fn removed_slot_is_untold()
     ensures { RemovedSlotIsUntold }
 {}
 
-/// Where the images of a slot that was removed are told by some images, these and those in other slots are the catalog's
-/// before.
+/// Where the images of a slot that was removed are told by some images, these and those in other slots are the
+/// catalog's before.
 pub fn removed_slot_was_told()
     ensures { RemovedSlotWasTold }
 {}

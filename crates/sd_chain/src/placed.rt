@@ -1,5 +1,6 @@
 //! A table, with the places of its data pages.
-ghost use Rattle.std.specs.Prelude.{◌≡◌, ◌==◌, ◌≤◌, ◌<◌, ◌+◌, ◌↔◌, ℕ, IfOk, IfSome, MatchOption, All, Some, None, IsTrue, IsNone, length, slice_get, map, position};
+ghost use Rattle.std.specs.Prelude.{◌≡◌, ◌==◌, ◌≤◌, ◌<◌, ◌+◌, ◌↔◌, ℕ, IfOk, IfSome, MatchOption, All, Some, None};
+ghost use Rattle.std.specs.Prelude.{IsTrue, IsNone, length, slice_get, map, position};
 ghost use Rattle.sd_areas.specs.Pages.{is_within};
 ghost use Rattle.sd_image.specs.declared.header.Header.{Header};
 ghost use Rattle.sd_image.specs.declared.run.Run.{Run};
@@ -173,9 +174,9 @@ impl PlacedTable {
         Some(stretch.way)
     }
 
-    /// How the table has a page of a space and as many behind it as it has alike, or none where it doesn't list the page.
-    /// At a spot or in the run behind it a page is found at once. Else the time grows with the logarithm of the space's
-    /// runs.
+    /// How the table has a page of a space and as many behind it as it has alike, or none where it doesn't list the
+    /// page. At a spot or in the run behind it a page is found at once. Else the time grows with the logarithm of the
+    /// space's runs.
     pub(crate) fn stretch(&self, space: SpaceId, page: PageNo, near: Spot) -> Option<Stretch>
         ensures some { IfSome result (λ s. 0 < s.count) }
         ensures alike { (h : Header) → IsTable h self.now

@@ -21,13 +21,16 @@ use Rattle.sd_command.specs.Events.{page_under}
 abbrev pub denial : Contents → Command → Option AccessError
 denial memory (command.Fault space address) = fault_due memory space address
 denial memory (command.Store space address bytes) = store_due memory space address (length bytes)
-denial memory (command.Mmap space address bytes prot) = denial_in (plain_of memory) (command.Mmap space address bytes prot)
+denial memory (command.Mmap space address bytes prot) =
+    denial_in (plain_of memory) (command.Mmap space address bytes prot)
 denial memory (command.Munmap space address bytes) = denial_in (plain_of memory) (command.Munmap space address bytes)
-denial memory (command.Mprotect space address bytes prot) = denial_in (plain_of memory) (command.Mprotect space address bytes prot)
+denial memory (command.Mprotect space address bytes prot) =
+    denial_in (plain_of memory) (command.Mprotect space address bytes prot)
 denial memory (command.Fork space) = denial_in (plain_of memory) (command.Fork space)
 denial memory (command.Exit space) = denial_in (plain_of memory) (command.Exit space)
 denial memory (command.Load space address count) = denial_in (plain_of memory) (command.Load space address count)
-denial memory (command.TryStore space address bytes) = denial_in (plain_of memory) (command.TryStore space address bytes)
+denial memory (command.TryStore space address bytes) =
+    denial_in (plain_of memory) (command.TryStore space address bytes)
 
 -- the reply of a command that returns nothing more
 abbrev pub done_reply : Result (Unit {0}) MemoryError → Result Reply MemoryError
@@ -60,7 +63,9 @@ Does (command.Load space address count) answer old new = (new ≡ old) × IsLoad
 Does (command.TryStore space address bytes) answer old new =
     ((answer ≡ reply.Done) × (try_outcome old space address (length bytes) ≡ Ok outcome.Done)
     × Step old (Tried space (page_of address) (address % 4096) bytes) new)
-    ⊎ ((answer ≡ reply.NeedsFault) × (try_outcome old space address (length bytes) ≡ Ok outcome.NeedsFault) × (new ≡ old))
-Does (command.Fault space address) answer old new = (answer ≡ reply.Done) × Step old (Faulted space (page_of address)) new
+    ⊎ ((answer ≡ reply.NeedsFault) × (try_outcome old space address (length bytes) ≡ Ok outcome.NeedsFault)
+    × (new ≡ old))
+Does (command.Fault space address) answer old new =
+    (answer ≡ reply.Done) × Step old (Faulted space (page_of address)) new
 Does (command.Store space address bytes) answer old new =
     (answer ≡ reply.Done) × Step old (Stored space (page_of address) (address % 4096) bytes) new

@@ -10,7 +10,8 @@ use Rattle.sd_pagetable.specs.Nested.{inside, is_alive}
 use Rattle.sd_pagetable.specs.RangeCalls.{IsRangeIn}
 use Rattle.sd_pagetable.specs.declared.access.Access.TheVariants.{Read}
 use Rattle.sd_pagetable.specs.Page.{Page}
-use Rattle.sd_pagetable.specs.Tracking.{Event, Mapped, Unmapped, Protected, Forked, Exited, Faulted, Tried, Stored, Passed, Step}
+use Rattle.sd_pagetable.specs.Tracking.{Event, Mapped, Unmapped, Protected, Forked, Exited, Faulted, Tried, Stored}
+use Rattle.sd_pagetable.specs.Tracking.{Passed, Step}
 use Rattle.sd_command.specs.declared.command.Command.{Command}
 use Rattle.sd_command.specs.declared.command.Command.TheVariants as command
 use Rattle.sd_command.specs.declared.refusal.Refusal.TheVariants as refusal
@@ -22,7 +23,8 @@ use Rattle.sd_command.specs.Replies.{denial_in, effect}
 abbrev pub event_of : Command → Reply → Event
 event_of (command.Mmap space address bytes prot) reply.Done = Mapped space (page_of address) (pages_for bytes) prot
 event_of (command.Munmap space address bytes) reply.Done = Unmapped space (page_of address) (pages_for bytes)
-event_of (command.Mprotect space address bytes prot) reply.Done = Protected space (page_of address) (pages_for bytes) prot
+event_of (command.Mprotect space address bytes prot) reply.Done =
+    Protected space (page_of address) (pages_for bytes) prot
 event_of (command.Fork space) (reply.Child child) = Forked space child
 event_of (command.Exit space) reply.Done = Exited space
 event_of (command.TryStore space address bytes) reply.Done = Tried space (page_of address) (address % 4096) bytes
@@ -48,9 +50,9 @@ Chooses memory (command.Store space address bytes) answer =
     → (answer ≡ reply.Refused refusal.NoFrame) ↔ (frame_due memory (page_under memory space address) ≢ None)
 Chooses memory _ answer = Unit {0}
 
--- Where a command takes memory, and so may find none: behind all that is tested before. An exit and a try of a store take
--- none; a load takes it for the bytes that it returns; a fault and a store for a frame that the page needs; the areas of a
--- space without pages don't grow.
+-- Where a command takes memory, and so may find none: behind all that is tested before. An exit and a try of a store
+-- take none; a load takes it for the bytes that it returns; a fault and a store for a frame that the page needs; the
+-- areas of a space without pages don't grow.
 abbrev pub TakesMemory : Contents → Command → Type 0
 TakesMemory memory (command.Mmap space address bytes prot) =
     IsRangeIn (is_alive memory.spaces space ≡ true) address bytes
@@ -67,7 +69,8 @@ TakesMemory memory (command.TryStore space address bytes) = ⊥
 TakesMemory memory (command.Fault space address) =
     (fault_due memory space address ≡ None) × (needs_frame memory (page_under memory space address) ≡ true)
 TakesMemory memory (command.Store space address bytes) =
-    (store_due memory space address (length bytes) ≡ None) × (needs_frame memory (page_under memory space address) ≡ true)
+    (store_due memory space address (length bytes) ≡ None)
+    × (needs_frame memory (page_under memory space address) ≡ true)
 
 -- the event of a command and its reply makes of the plain memory what the command makes of it
 abbrev pub EffectLaw : Type 0

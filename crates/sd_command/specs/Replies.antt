@@ -7,8 +7,10 @@ use Rattle.sd_pagetable.specs.declared.access_error.AccessError.{AccessError}
 use Rattle.sd_pagetable.specs.declared.access_error.AccessError.TheVariants.{Refused, Segv}
 use Rattle.sd_pagetable.specs.declared.memory_refusal.MemoryRefusal.{MemoryRefusal}
 use Rattle.sd_pagetable.specs.declared.memory_refusal.MemoryRefusal.TheVariants as due
-use Rattle.sd_pagetable.specs.Due.{in_space, page_due, access_due, mmap_due, munmap_due, mprotect_due, fork_due, exit_due}
-use Rattle.sd_pagetable.specs.Effects.{after_mmap, after_munmap, after_mprotect, after_fork, after_exit, after_store, IsLeastFree}
+use Rattle.sd_pagetable.specs.Due.{in_space, page_due, access_due, mmap_due, munmap_due, mprotect_due, fork_due}
+use Rattle.sd_pagetable.specs.Due.{exit_due}
+use Rattle.sd_pagetable.specs.Effects.{after_mmap, after_munmap, after_mprotect, after_fork, after_exit, after_store}
+use Rattle.sd_pagetable.specs.Effects.{IsLeastFree}
 use Rattle.sd_pagetable.specs.Nested.{value_at}
 use Rattle.sd_command.specs.declared.command.Command.{Command}
 use Rattle.sd_command.specs.declared.command.Command.TheVariants as command
@@ -50,7 +52,8 @@ denial_in memory (command.Fork space) = fork_due memory space
 denial_in memory (command.Exit space) = exit_due memory space
 denial_in memory (command.Load space address count) = access_due memory space address count Read
 denial_in memory (command.TryStore space address bytes) = access_due memory space address (length bytes) Write
-denial_in memory (command.Fault space address) = in_space memory space (page_due Write (value_at memory space (page_of address)))
+denial_in memory (command.Fault space address) =
+    in_space memory space (page_due Write (value_at memory space (page_of address)))
 denial_in memory (command.Store space address bytes) = access_due memory space address (length bytes) Write
 
 -- The replies to a command that isn't denied. Whether a try needs a fault, and whether a frame is left, is open here.
@@ -65,7 +68,8 @@ Accepts (command.Load space address count) memory answer =
     × (answer ≡ reply.Bytes (slice_range page.bytes (address % 4096) (address % 4096 + count)))
 Accepts (command.TryStore space address bytes) memory answer = (answer ≡ reply.Done) ⊎ (answer ≡ reply.NeedsFault)
 Accepts (command.Fault space address) memory answer = (answer ≡ reply.Done) ⊎ (answer ≡ reply.Refused refusal.NoFrame)
-Accepts (command.Store space address bytes) memory answer = (answer ≡ reply.Done) ⊎ (answer ≡ reply.Refused refusal.NoFrame)
+Accepts (command.Store space address bytes) memory answer =
+    (answer ≡ reply.Done) ⊎ (answer ≡ reply.Refused refusal.NoFrame)
 
 -- A legal reply: while the memory is frozen the command is refused so, and else the reply is as the memory has it.
 abbrev pub IsLegalReply : PlainMemory → Bool → Command → Reply → Type 0

@@ -1,5 +1,6 @@
 -- How a checkpoint begins: when it is refused, in which slots it is made, and from which image on.
-use Rattle.std.specs.Prelude.{◌≡◌, ◌⊎◌, ℕ, ◌+◌, ◌-◌, ◌<◌, ◌≤◌, ◌^◌, Bool, true, false, if◌then◌else◌, is_some, nat_le, nat_lt, ◌||◌, List, [], ◌∷◌, length, take, slice_get, Option, Some, None}
+use Rattle.std.specs.Prelude.{◌≡◌, ◌⊎◌, ℕ, ◌+◌, ◌-◌, ◌<◌, ◌≤◌, ◌^◌, Bool, true, false, if◌then◌else◌, is_some, nat_le}
+use Rattle.std.specs.Prelude.{nat_lt, ◌||◌, List, [], ◌∷◌, length, take, slice_get, Option, Some, None}
 use Rattle.sd_chain.specs.Catalog.{IsTip, Opened, Places}
 use Rattle.sd_command.specs.declared.refusal.Refusal.{Refusal}
 use Rattle.sd_command.specs.declared.refusal.Refusal.TheVariants as refusal
@@ -81,8 +82,8 @@ pub record AreFew (core : CoreView) (rounds : ℕ) : Type 0 where
 
 -- ---- the parent
 
--- The first image names the tip, or takes every page where there is none, or none was acknowledged since the store was opened or
--- a checkpoint cancelled.
+-- The first image names the tip, or takes every page where there is none, or none was acknowledged since the store was
+-- opened or a checkpoint cancelled.
 abbrev pub IsFirstParent : Places → Bool → ℕ → Type 0
 IsFirstParent places false number = number ≡ 0
 IsFirstParent places true number = ((number ≡ 0) × ((tip : Opened) → IsTip places tip → ⊥))
@@ -98,7 +99,8 @@ pub record Begins (old : CoreView) (rounds n : ℕ) (new : CoreView) : Type 0 wh
   pub parent : ℕ
   pub reserved : AreReserved old rounds pre_dumps dump
   pub first : IsFirstParent old.catalog old.grows parent
-  -- it takes every page exactly where none was acknowledged behind the latest reopening and the latest cancelling of the journal
+  -- it takes every page exactly where none was acknowledged behind the latest reopening and the latest cancelling of
+  -- the journal
   pub since : IsFirstParent old.catalog (has_grown old.base (history_of old)) parent
   pub running : new.dumper.running ≡ Some (begun_checkpoint n pre_dumps dump parent)
   pub stands : new.standing ≡ old.standing

@@ -25,7 +25,8 @@ use Rattle.sd_core.specs.Images.{IsAcked}
 use Rattle.sd_core.specs.Kept.{KeepsImages}
 use Rattle.sd_core.specs.Lasting.{FixesNoList, MergeLasts}
 use Rattle.sd_core.specs.LittleWork.{IsLittleDump, IsLittlePreDump, OpensPreDump}
-use Rattle.sd_core.specs.Merging.{EndsCut, EntersAsCopy, EntersAtRest, FixesItsList, IsMerged, ListsTheUnneeded, MergesAs, merge_refusal}
+use Rattle.sd_core.specs.Merging.{EndsCut, EntersAsCopy, EntersAtRest, FixesItsList, IsMerged, ListsTheUnneeded}
+use Rattle.sd_core.specs.Merging.{MergesAs, merge_refusal}
 use Rattle.sd_core.specs.Noted.{KeepsMarks}
 use Rattle.sd_core.specs.Opening.{OpensBelieved, OpensOwn, RefusesAsScan, RefusesRightly}
 use Rattle.sd_core.specs.Orders.{BeginsToOpen, IsCancelled}
@@ -35,7 +36,8 @@ use Rattle.sd_core.specs.Starts.{TakesUp}
 use Rattle.sd_core.specs.Working.{FindsSource, Leaves, LeavesByOutcome}
 
 -- a command of a seat
-pub record IsApplied (seat : ℕ) (command : Command) (told : Result (ℕ × Reply) Refusal) (old new : CoreView) : Type 0 where
+pub record IsApplied (seat : ℕ) (command : Command) (told : Result (ℕ × Reply) Refusal)
+    (old new : CoreView) : Type 0 where
   pub applies : Applies seat command told old new
   pub number : IfOk told (λ t. t.0 ≡ old.base.folded + length (history_of old))
   pub full : told ≡ Err JournalFull ↔ length (history_of old) + old.held ≡ old.limit
@@ -115,11 +117,14 @@ pub record IsHandedIn (made : Made) (answer : Reply) (old new : CoreView) : Type
   pub lasts : MergeLasts old new
   pub acked : (n : ℕ) → IsOut old made.request.id → answer ≡ reply.Acked n → IsAcked n old new
   pub little : (n : ℕ) → IsOut old made.request.id → answer ≡ reply.Acked n → IsLittleDump n old new
-  pub round : IsOut old made.request.id → made.request.id.worker ≡ Dumper → (running : Running) → OpensPreDump running old new
+  pub round : IsOut old made.request.id → made.request.id.worker ≡ Dumper → (running : Running)
+      → OpensPreDump running old new
       → IsLittlePreDump running old new
-  pub rounds : IsOut old made.request.id → made.request.id.worker ≡ Dumper → TurnsRound old.dumper.running new.dumper.running new.catalog
+  pub rounds : IsOut old made.request.id → made.request.id.worker ≡ Dumper
+      → TurnsRound old.dumper.running new.dumper.running new.catalog
   -- by the outcome with which an image of the checkpoint enters the catalog
-  pub gates : (out : IsOut old made.request.id) → made.request.id.worker ≡ Dumper → OpensItsGate old out.lane made.request answer new
+  pub gates : (out : IsOut old made.request.id) → made.request.id.worker ≡ Dumper
+      → OpensItsGate old out.lane made.request answer new
   pub merged : (serial : ℕ) → IsOut old made.request.id → answer ≡ reply.Merged serial → IsMerged serial old new
   -- by the outcome with which the merged image enters the catalog
   pub opens : IsOut old made.request.id → made.request.id.worker ≡ Merger → EntersFirst old answer new

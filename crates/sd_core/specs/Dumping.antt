@@ -11,7 +11,8 @@ use Rattle.sd_rounds.specs.Dumper.{Dumping, Running, freezes, order_of}
 use Rattle.sd_rounds.specs.Making.{Making, Steps, begun_image}
 
 -- the next image begins, and asks for the first call of its slot's format
-pub record BeginsNext (serial : ℕ) (state : SlotState) (ticket : ℕ) (old : Dumping) (before : Contents) (request : Asked) (new : Dumping) (after : Contents) : Type 0 where
+pub record BeginsNext (serial : ℕ) (state : SlotState) (ticket : ℕ) (old : Dumping) (before : Contents)
+    (request : Asked) (new : Dumping) (after : Contents) : Type 0 where
   pub running : Running
   pub was : old.running ≡ Some running
   pub none : running.image ≡ None
@@ -21,7 +22,8 @@ pub record BeginsNext (serial : ℕ) (state : SlotState) (ticket : ℕ) (old : D
   pub counted : new.since_freeze ≡ old.since_freeze
 
 -- a step of the image in the making
-pub record StepsOn (ticket : ℕ) (old : Dumping) (before : Contents) (step : ImageStep) (new : Dumping) (after : Contents) : Type 0 where
+pub record StepsOn (ticket : ℕ) (old : Dumping) (before : Contents) (step : ImageStep) (new : Dumping)
+    (after : Contents) : Type 0 where
   pub running : Running
   pub was : old.running ≡ Some running
   pub image : Making

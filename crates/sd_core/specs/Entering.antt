@@ -11,5 +11,6 @@ use Rattle.sd_core.specs.Merging.{OpensMerged}
 
 -- a merge that made its image, and repeats its source no more though no call failed, has that image in the catalog
 abbrev pub EntersFirst : CoreView → Reply → CoreView → Type 0
-EntersFirst old answer new = (merge : merger.Running) (copy : Copying) → old.merger ≡ Some merge → merge.doing ≡ copying copy → source_of new.merger ≡ None
+EntersFirst old answer new = (merge : merger.Running) (copy : Copying) → old.merger ≡ Some merge
+    → merge.doing ≡ copying copy → source_of new.merger ≡ None
     → answer ≢ reply.Refused StoreDown → OpensMerged merge copy.order.serial old new

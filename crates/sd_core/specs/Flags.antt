@@ -1,5 +1,5 @@
--- What each call of a core does to the numbers that were used, to whether the next checkpoint goes on from the tip, and to whether the
--- opening of the gate of the pending checkpoint's dump was taken up.
+-- What each call of a core does to the numbers that were used, to whether the next checkpoint goes on from the tip, and
+-- to whether the opening of the gate of the pending checkpoint's dump was taken up.
 use Rattle.std.specs.Prelude.{◌≡◌, ℕ, ◌+◌, ◌%◌, ◌^◌, max, Bool, true, false, ◌&&◌, ◌||◌, is_some, Option, Some, None}
 use Rattle.sd_chain.specs.Catalog.{IsGreatest, Opened, Places, checkpoint_of, images, serial_of}
 use Rattle.sd_command.specs.declared.reply.Reply.{Reply}
@@ -16,7 +16,8 @@ use Rattle.sd_crash_safety.specs.View.{CoreView, Numbers}
 use Rattle.sd_core.specs.declared.taken.Taken.{Taken}
 use Rattle.sd_core.specs.declared.taken.Taken.TheVariants.{Step, Call}
 
--- whether the next checkpoint goes on from the tip, whether the opening of the dump's gate was taken up, and the numbers that were used
+-- whether the next checkpoint goes on from the tip, whether the opening of the dump's gate was taken up, and the
+-- numbers that were used
 pub record HasFlags (grows committing : Bool) (numbers : Numbers) (core : CoreView) : Type 0 where
   pub grows_is : core.grows ≡ grows
   pub committing_is : core.committing ≡ committing
@@ -102,7 +103,8 @@ serial_made core Opener = None
 -- a request was handed out; where it is the first of an image, that got the next serial
 abbrev pub numbers_asked : Bool → Numbers → Numbers
 numbers_asked false numbers = record numbers { ticket = ticket_after numbers.ticket }
-numbers_asked true numbers = record numbers { serial = numbers.serial + 1; given = numbers.serial + 1; ticket = ticket_after numbers.ticket }
+numbers_asked true numbers =
+    record numbers { serial = numbers.serial + 1; given = numbers.serial + 1; ticket = ticket_after numbers.ticket }
 
 -- the call opens the gate of a checkpoint's dump
 abbrev pub commits : CoreView → Worker → DeviceCall → Bool
@@ -113,7 +115,8 @@ commits core Opener call = false
 -- A request has the next ticket, and an image that begins has the serial that was given out with it.
 pub record AsksFlags (old : CoreView) (worker : Worker) (request : Asked) (new : CoreView) : Type 0 where
   pub ticket : request.id.ticket ≡ old.numbers.ticket
-  pub flags : HasFlags old.grows (old.committing || commits new worker request.id.call) (numbers_asked (begins_image old worker) old.numbers) new
+  pub flags : HasFlags old.grows (old.committing || commits new worker request.id.call)
+      (numbers_asked (begins_image old worker) old.numbers) new
   pub image : begins_image old worker ≡ true → serial_made new worker ≡ Some new.numbers.serial
 
 abbrev pub FlagsByReply : CoreView → Reply → CoreView → Type 0

@@ -17,8 +17,10 @@ HasNoneOut outs worker = (lane : ℕ) (id : RequestId) → slice_get outs lane �
 
 -- while an opener runs, no other worker's request is out
 abbrev pub OpenerAsksAlone : CoreView → Type 0
-OpenerAsksAlone core = is_idle core Opener ≡ false → (lane : ℕ) (id : RequestId) → slice_get core.outs lane ≡ Some (Some id) → id.worker ≡ Opener
+OpenerAsksAlone core = is_idle core Opener ≡ false → (lane : ℕ) (id : RequestId)
+    → slice_get core.outs lane ≡ Some (Some id) → id.worker ≡ Opener
 
 -- a worker that has a job, and of which no request is out, isn't refused
 abbrev pub CanGoOn : CoreView → Type 0
-CanGoOn core = (worker : Worker) → is_idle core worker ≡ false → HasNoneOut core.outs worker → work_refusal core worker ≡ None
+CanGoOn core =
+    (worker : Worker) → is_idle core worker ≡ false → HasNoneOut core.outs worker → work_refusal core worker ≡ None

@@ -39,8 +39,8 @@ has_swept (Noted (Start serial) ∷ earlier) = has_swept earlier
 has_swept (Noted (Visit serial space page) ∷ earlier) = has_swept earlier
 has_swept (Noted (Table serial) ∷ earlier) = is_some (pending (entries_of earlier))
 
--- The next checkpoint goes on from the tip where one was acknowledged; and a gate's opening was taken up only behind the pass of the pending
--- checkpoint's dump.
+-- The next checkpoint goes on from the tip where one was acknowledged; and a gate's opening was taken up only behind
+-- the pass of the pending checkpoint's dump.
 pub record AreFlags (base : Base) (items : Marked) (swept grows committing : Bool) : Type 0 where
   pub grown : grows ≡ has_grown base (entries_of items)
   pub swept_by : swept ≡ has_swept items

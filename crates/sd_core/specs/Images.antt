@@ -26,8 +26,8 @@ pub record IsPreDump (job : Running) (places : Places) (place serial : ℕ) (ima
   pub kind : image.header.kind ≡ PreDump
   pub checkpoint : image.header.checkpoint ≡ job.number
 
--- So many pre-dumps of a checkpoint are in the catalog, the last of them under this serial: each names the one before as its parent, and
--- the first what the checkpoint began with. Where there is none yet, the number is that.
+-- So many pre-dumps of a checkpoint are in the catalog, the last of them under this serial: each names the one before
+-- as its parent, and the first what the checkpoint began with. Where there is none yet, the number is that.
 abbrev pub HasPreDumps : Running → Places → ℕ → ℕ → Type 0
 HasPreDumps job places zero serial = serial ≡ job.first
 HasPreDumps job places (suc place) serial =
@@ -41,8 +41,8 @@ pub record HasImage (running : Running) (places : Places) (image : Opened) : Typ
   pub parent : image.header.parent ≡ running.parent
   pub checkpoint : image.header.checkpoint ≡ running.number
 
--- The dump entered behind all the pre-dumps, each of which names the one before, and the checkpoint is acknowledged: since the freeze there
--- was an outcome for each data page of the dump, and five more.
+-- The dump entered behind all the pre-dumps, each of which names the one before, and the checkpoint is acknowledged:
+-- since the freeze there was an outcome for each data page of the dump, and five more.
 pub record IsAcked (n : ℕ) (old new : CoreView) : Type 0 where
   pub running : Running
   pub was : old.dumper.running ≡ Some running

@@ -14,8 +14,8 @@ fixed_in (copying copy) = None
 fixed_in (opened serial) = None
 fixed_in (retiring r) = Some (r.serial, r.list)
 
--- It repeats the same source into the same slot and knows the same images; its image and its list stay as they were fixed, and the list is
--- fixed behind an image that was begun.
+-- It repeats the same source into the same slot and knows the same images; its image and its list stay as they were
+-- fixed, and the list is fixed behind an image that was begun.
 pub record IsSameMerge (old new : merger.Running) : Type 0 where
   pub source : new.source ≡ old.source
   pub slot : new.slot ≡ old.slot
@@ -25,11 +25,13 @@ pub record IsSameMerge (old new : merger.Running) : Type 0 where
 
 -- a merge that goes on is the one that ran
 abbrev pub MergeLasts : CoreView → CoreView → Type 0
-MergeLasts old new = (merge next : merger.Running) → old.merger ≡ Some merge → new.merger ≡ Some next → IsSameMerge merge next
+MergeLasts old new =
+    (merge next : merger.Running) → old.merger ≡ Some merge → new.merger ≡ Some next → IsSameMerge merge next
 
 -- the list is fixed by no step
 abbrev pub FixesNoList : CoreView → CoreView → Type 0
-FixesNoList old new = (merge next : merger.Running) → old.merger ≡ Some merge → new.merger ≡ Some next → fixed_in next.doing ≡ fixed_in merge.doing
+FixesNoList old new = (merge next : merger.Running) → old.merger ≡ Some merge → new.merger ≡ Some next
+    → fixed_in next.doing ≡ fixed_in merge.doing
 
 -- the merged image stands in the merge's slot, on which no request is out
 pub record IsLeftAlone (core : CoreView) (merge : merger.Running) (serial : ℕ) : Type 0 where
@@ -38,4 +40,5 @@ pub record IsLeftAlone (core : CoreView) (merge : merger.Running) (serial : ℕ)
 
 -- so it is of each merge that closes images
 abbrev pub LeavesMerged : CoreView → Type 0
-LeavesMerged core = (merge : merger.Running) (r : Retiring) → core.merger ≡ Some merge → merge.doing ≡ retiring r → IsLeftAlone core merge r.serial
+LeavesMerged core = (merge : merger.Running) (r : Retiring) → core.merger ≡ Some merge → merge.doing ≡ retiring r
+    → IsLeftAlone core merge r.serial

@@ -1,5 +1,6 @@
 -- Little work: which pages an image has, by the marked journal.
-use Rattle.std.specs.Prelude.{◌≡◌, ◌↔◌, ℕ, ◌+◌, ◌==◌, ◌||◌, Bool, true, if◌then◌else◌, List, [], ◌∷◌, ◌++◌, Contains, Option, Some, IfSome}
+use Rattle.std.specs.Prelude.{◌≡◌, ◌↔◌, ℕ, ◌+◌, ◌==◌, ◌||◌, Bool, true, if◌then◌else◌, List, [], ◌∷◌, ◌++◌, Contains}
+use Rattle.std.specs.Prelude.{Option, Some, IfSome}
 use Rattle.std.specs.Option.{option_map}
 use Rattle.sd_areas.specs.PlainMemory as plain
 use Rattle.sd_chain.specs.Catalog.{Opened}
@@ -25,14 +26,16 @@ use Rattle.sd_core.specs.Visited.{IsClean, is_closing}
 
 -- ---- the dump
 
--- How a dump is to have a page that is mapped at the freeze: where it has no parent, or where something since the page's last visit
--- touched it or it had no visit, as zeros or data, by its bytes; and else in its parent. No other page.
+-- How a dump is to have a page that is mapped at the freeze: where it has no parent, or where something since the
+-- page's last visit touched it or it had no visit, as zeros or data, by its bytes; and else in its parent. No other
+-- page.
 abbrev pub way_due : Bool → Base → Marked → Place → Option RunKind
-way_due whole base frozen at = option_map (λ (page : plain.Page). if whole || is_due base frozen at.0 at.1 then kind_of_bytes page.bytes else Parent)
+way_due whole base frozen at = option_map
+    (λ (page : plain.Page). if whole || is_due base frozen at.0 at.1 then kind_of_bytes page.bytes else Parent)
     (value_at (memory_at base frozen) at.0 at.1)
 
--- The dump's table has exactly the pages that were mapped at the freeze of this number, each in the way that is due by what stood in the
--- marked journal before.
+-- The dump's table has exactly the pages that were mapped at the freeze of this number, each in the way that is due by
+-- what stood in the marked journal before.
 pub record IsLittleDump (n : ℕ) (old new : CoreView) : Type 0 where
   pub running : Running
   pub was : old.dumper.running ≡ Some running
@@ -48,16 +51,18 @@ pub record IsLittleDump (n : ℕ) (old new : CoreView) : Type 0 where
 
 -- ---- a pre-dump
 
--- The visits of an image, in their order, each with whether something since the page's visit before touched it, or it had none.
+-- The visits of an image, in their order, each with whether something since the page's visit before touched it, or it
+-- had none.
 abbrev pub visits_of : Base → Marked → ℕ → List visits.Visit
 visits_of base [] serial = []
 visits_of base (Noted (Visit s space page) ∷ earlier) serial =
-    if s == serial then visits_of base earlier serial ++ (record { place = (space, page); soft_dirty = is_due base earlier space page }) ∷ []
+    if s == serial then visits_of base earlier serial ++
+    (record { place = (space, page); soft_dirty = is_due base earlier space page }) ∷ []
     else visits_of base earlier serial
 visits_of base (_ ∷ earlier) serial = visits_of base earlier serial
 
--- The pre-dump that was open last has as its parent's exactly the visited pages that weren't touched since their visit before, and as data
--- and zeros none but those that were; without a parent all visited pages are taken.
+-- The pre-dump that was open last has as its parent's exactly the visited pages that weren't touched since their visit
+-- before, and as data and zeros none but those that were; without a parent all visited pages are taken.
 pub record IsLittlePreDump (running : Running) (old new : CoreView) : Type 0 where
   pub image : Opened
   pub has : HasImage running new.catalog image

@@ -1,5 +1,6 @@
 -- The merger of a core: when a merge is refused, how one begins, and what its steps and outcomes are.
-use Rattle.std.specs.Prelude.{◌≡◌, ◌↔◌, ℕ, ◌+◌, ◌<◌, ◌^◌, Bool, true, false, not, nat_le, is_some, List, [], ◌∷◌, length, map, Contains, Option, Some, None, slice_get}
+use Rattle.std.specs.Prelude.{◌≡◌, ◌↔◌, ℕ, ◌+◌, ◌<◌, ◌^◌, Bool, true, false, not, nat_le, is_some, List, [], ◌∷◌}
+use Rattle.std.specs.Prelude.{length, map, Contains, Option, Some, None, slice_get}
 use Rattle.std.specs.List.{list_any}
 use Rattle.sd_chain.specs.Catalog.{IsTip, Opened, Places, images, place_of, serial_of}
 use Rattle.sd_command.specs.declared.refusal.Refusal.{Refusal}
@@ -88,7 +89,8 @@ MergesAs old _ new = ⊥
 -- ---- its steps
 
 -- the merged image begins, and asks for the first call of its slot's format
-pub record BeginsCopy (serial : ℕ) (state : SlotState) (ticket : ℕ) (places : Places) (old : Option merger.Running) (request : Asked) (new : Option merger.Running) : Type 0 where
+pub record BeginsCopy (serial : ℕ) (state : SlotState) (ticket : ℕ) (places : Places) (old : Option merger.Running)
+    (request : Asked) (new : Option merger.Running) : Type 0 where
   pub merge : merger.Running
   pub was : old ≡ Some merge
   pub is_due : merge.doing ≡ due
@@ -103,7 +105,8 @@ StepsAt ticket places merge (copying copy) made new = CopiesOn ticket places cop
 StepsAt ticket places merge (merger.opened serial) made new = ⊥
 StepsAt ticket places merge (retiring r) made new = RetiresOn ticket r made new
 
-pub record IsStepOf (ticket : ℕ) (places : Places) (old : Option merger.Running) (made : MergeStep) (new : Option merger.Running) : Type 0 where
+pub record IsStepOf (ticket : ℕ) (places : Places) (old : Option merger.Running) (made : MergeStep)
+    (new : Option merger.Running) : Type 0 where
   pub merge : merger.Running
   pub was : old ≡ Some merge
   pub doing : merger.Doing
@@ -122,7 +125,8 @@ retires_as None = progress.More
 retires_as (Some serial) = progress.Merged serial
 
 -- the list was fixed; where it is empty the merge has ended
-pub record FixesList (places : Places) (running : Option Running) (outs : List (Option RequestId)) (count : ℕ) (old : Option merger.Running) (ended : Option ℕ) (new : Option merger.Running) : Type 0 where
+pub record FixesList (places : Places) (running : Option Running) (outs : List (Option RequestId)) (count : ℕ)
+    (old : Option merger.Running) (ended : Option ℕ) (new : Option merger.Running) : Type 0 where
   pub list : List Retired
   pub is : IsListOf places running old outs count list
   pub retires : Retires old list (retires_as ended) new
@@ -171,7 +175,8 @@ opened_merge merge serial = record merge { doing = opened serial }
 
 -- the list of such a merge is the one of the images that it is to close
 abbrev pub HasItsList : merger.Running → CoreView → Type 0
-HasItsList merge core = IsListOf core.catalog core.dumper.running (Some merge) core.outs (length core.phases) (list_of core.merger)
+HasItsList merge core =
+    IsListOf core.catalog core.dumper.running (Some merge) core.outs (length core.phases) (list_of core.merger)
 
 -- the store is as it is believed to be, with these bodies behind the gates, and this request is out
 pub record IsAsBelieved (core : CoreView) (request : Asked) (bodies : List (List ℕ)) : Type 0 where
@@ -180,7 +185,8 @@ pub record IsAsBelieved (core : CoreView) (request : Asked) (bodies : List (List
   pub out : slice_get asked (index Merger) ≡ Some (Some request)
   pub believes : Believes core asked bodies files
 
--- An image that a merge is to close: it is in the catalog, and was as the merge began, in a slot of the store that no job has, and nobody needs it.
+-- An image that a merge is to close: it is in the catalog, and was as the merge began, in a slot of the store that no
+-- job has, and nobody needs it.
 pub record IsToRetire (merge : merger.Running) (core : CoreView) (one : Retired) : Type 0 where
   pub within : one.slot < length core.phases
   pub left_over : IsLeftOver core.catalog core.dumper.running (Some merge) core.outs one
@@ -189,29 +195,36 @@ pub record IsToRetire (merge : merger.Running) (core : CoreView) (one : Retired)
 -- the list has exactly those images, and rises by slot
 pub record RetiresThese (merge : merger.Running) (core : CoreView) (list : List Retired) : Type 0 where
   pub each : (one : Retired) → Contains list one ↔ IsToRetire merge core one
-  pub rises : (place other : ℕ) (a b : Retired) → place < other → slice_get list place ≡ Some a → slice_get list other ≡ Some b → a.slot < b.slot
+  pub rises : (place other : ℕ) (a b : Retired) → place < other → slice_get list place ≡ Some a
+      → slice_get list other ≡ Some b → a.slot < b.slot
 
 -- ---- what that outcome leaves
 
 -- the list of the images to close is fixed
 abbrev pub FixesItsList : CoreView → CoreView → Type 0
-FixesItsList old new = (merge : merger.Running) (serial : ℕ) → OpensMerged merge serial old new → HasItsList (opened_merge merge serial) new
+FixesItsList old new = (merge : merger.Running) (serial : ℕ) → OpensMerged merge serial old new
+    → HasItsList (opened_merge merge serial) new
 
 -- where the store is as it is believed to be, it is of exactly those that nobody needs any more
 abbrev pub ListsTheUnneeded : CoreView → Asked → CoreView → Type 0
-ListsTheUnneeded old request new = (merge : merger.Running) (serial : ℕ) (bodies : List (List ℕ)) → OpensMerged merge serial old new → IsAsBelieved old request bodies
+ListsTheUnneeded old request new = (merge : merger.Running) (serial : ℕ) (bodies : List (List ℕ))
+    → OpensMerged merge serial old new → IsAsBelieved old request bodies
     → RetiresThese (opened_merge merge serial) new (list_of new.merger)
 
--- and the image that entered is a copy of its source, with its areas: it holds at each page what the source then holds; it stands in the
--- merge's slot, on which no request is out
+-- and the image that entered is a copy of its source, with its areas: it holds at each page what the source then holds;
+-- it stands in the merge's slot, on which no request is out
 abbrev pub EntersAsCopy : CoreView → Asked → CoreView → Type 0
-EntersAsCopy old request new = (merge : merger.Running) (serial : ℕ) (bodies : List (List ℕ)) → OpensMerged merge serial old new → IsAsBelieved old request bodies
-    → IsCopyThere merge.source.serial serial old.catalog new (bodies_after bodies request.id request.bytes) × IsMergedImage merge new.catalog serial × IsFree new.outs merge.slot
+EntersAsCopy old request new = (merge : merger.Running) (serial : ℕ) (bodies : List (List ℕ))
+    → OpensMerged merge serial old new → IsAsBelieved old request bodies
+    → IsCopyThere merge.source.serial serial old.catalog new (bodies_after bodies request.id request.bytes)
+    × IsMergedImage merge new.catalog serial × IsFree new.outs merge.slot
 
 -- and no request is out on the slots of its source and of what that reaches; the store is open
 abbrev pub EntersAtRest : CoreView → Asked → CoreView → Type 0
-EntersAtRest old request new = (merge : merger.Running) (serial : ℕ) (bodies : List (List ℕ)) → OpensMerged merge serial old new → IsAsBelieved old request bodies
-    → (new.standing ≡ Open) × IsCopyAtRest merge.source.serial serial old.catalog new (bodies_after bodies request.id request.bytes)
+EntersAtRest old request new = (merge : merger.Running) (serial : ℕ) (bodies : List (List ℕ))
+    → OpensMerged merge serial old new → IsAsBelieved old request bodies
+    → (new.standing ≡ Open)
+    × IsCopyAtRest merge.source.serial serial old.catalog new (bodies_after bodies request.id request.bytes)
 
 -- ---- the end of a merge
 

@@ -1,5 +1,6 @@
 -- The opener of a core.
-use Rattle.std.specs.Prelude.{◌≡◌, ◌≢◌, ◌⊎◌, ℕ, ◌+◌, Bool, true, false, if◌then◌else◌, List, [], length, Contains, Option, Some, None, Result, Ok, Err}
+use Rattle.std.specs.Prelude.{◌≡◌, ◌≢◌, ◌⊎◌, ℕ, ◌+◌, Bool, true, false, if◌then◌else◌, List, [], length, Contains}
+use Rattle.std.specs.Prelude.{Option, Some, None, Result, Ok, Err}
 use Rattle.sd_disk.specs.Contents.{file_at}
 use Rattle.sd_gate.specs.Calls.{is_done}
 use Rattle.sd_gate.specs.Inspections.{the_length}
@@ -41,7 +42,8 @@ pub record WorksOpener (old : Option Looking) (number : ℕ) (step : OpenerStep)
   pub rests : out_of opener.stage ≡ None
   pub lowers : LowersByStep step opener next
   pub sees : (files : List (List ℕ)) → Sees files None opener → SeesAfter files step next
-  pub names : (files : List (List ℕ)) → Sees files None opener → AreRightlyDigested files → StepNames (IsFirstFaulty files) step
+  pub names : (files : List (List ℕ)) → Sees files None opener → AreRightlyDigested files
+      → StepNames (IsFirstFaulty files) step
 
 -- an opener runs, and has no request out
 pub record IsResting (opener : Option Looking) : Type 0 where
@@ -87,7 +89,8 @@ abbrev pub IsTipNumber : List Image → Option ℕ → Type 0
 IsTipNumber images None = (i : Image) → Contains images i → IsRestorable i → ⊥
 IsTipNumber images (Some n) = (i : Image) × IsTip images i × (i.header.checkpoint ≡ n)
 
--- every open slot of the files is an image with a serial of its own, and the tip has the last checkpoint's number, or the pending one's
+-- every open slot of the files is an image with a serial of its own, and the tip has the last checkpoint's number, or
+-- the pending one's
 pub record IsOwnStore (last pending : Option ℕ) (files : List (List ℕ)) : Type 0 where
   pub images : List Image
   pub store : IsStore files images
@@ -97,7 +100,8 @@ pub record IsOwnStore (last pending : Option ℕ) (files : List (List ℕ)) : Ty
 
 -- the files that an opener saw are no such store
 abbrev pub SawStrange : Looking → Option ℕ → Option ℕ → Type 0
-SawStrange opener last pending = (files : List (List ℕ)) → Sees files None opener → length opener.told ≡ length files → IsOwnStore last pending files → ⊥
+SawStrange opener last pending = (files : List (List ℕ)) → Sees files None opener → length opener.told ≡ length files
+    → IsOwnStore last pending files → ⊥
 
 -- a scan of these files names a slot, and the reason
 pub record IsDamaged (files : List (List ℕ)) : Type 0 where
@@ -116,7 +120,8 @@ IsDamagedOrOther last pending files = IsDamaged files ⊎ IsOtherStore last pend
 
 -- So are the files that an opener saw, as far as it can know: it checks no digest.
 abbrev pub SawDamage : Looking → Option ℕ → Option ℕ → Type 0
-SawDamage opener last pending = (files : List (List ℕ)) → Sees files None opener → length opener.told ≡ length files → AreRightlyDigested files
+SawDamage opener last pending =
+    (files : List (List ℕ)) → Sees files None opener → length opener.told ≡ length files → AreRightlyDigested files
     → IsDamagedOrOther last pending files
 
 -- the pending checkpoint, once the pass of its dump is over: only then the store may show it
@@ -125,16 +130,19 @@ awaited core = if has_swept core.items then pending (history_of core) else None
 
 -- A store is refused as damaged only where it isn't one that shows the last checkpoint or the one that is awaited.
 abbrev pub RefusesStrange : CoreView → Reply → Type 0
-RefusesStrange core answer = answer ≡ reply.Refused Damaged → (opener : Looking) → core.opener ≡ Some opener → (files : List (List ℕ)) → Sees files None opener
+RefusesStrange core answer = answer ≡ reply.Refused Damaged → (opener : Looking) → core.opener ≡ Some opener
+    → (files : List (List ℕ)) → Sees files None opener
     → IsOwnStore (last core.base (history_of core)) (awaited core) files → ⊥
 
 abbrev pub RefusesRightly : CoreView → Taken → Type 0
 RefusesRightly core (Step answer) = RefusesStrange core answer
 RefusesRightly core (Call request) = Unit {0}
 
--- A store is refused as damaged only where a scan names one of its slots, or where it shows neither the last checkpoint nor the one that is awaited.
+-- A store is refused as damaged only where a scan names one of its slots, or where it shows neither the last checkpoint
+-- nor the one that is awaited.
 abbrev pub RefusesDamage : CoreView → Reply → Type 0
-RefusesDamage core answer = answer ≡ reply.Refused Damaged → (opener : Looking) → core.opener ≡ Some opener → (files : List (List ℕ)) → Sees files None opener
+RefusesDamage core answer = answer ≡ reply.Refused Damaged → (opener : Looking) → core.opener ≡ Some opener
+    → (files : List (List ℕ)) → Sees files None opener
     → AreRightlyDigested files → IsDamagedOrOther (last core.base (history_of core)) (awaited core) files
 
 abbrev pub RefusesAsScan : CoreView → Taken → Type 0
@@ -143,11 +151,13 @@ RefusesAsScan core (Call request) = Unit {0}
 
 -- A store is opened only where it shows the last checkpoint or the one that is awaited.
 abbrev pub OpensOwn : CoreView → Taken → Type 0
-OpensOwn core made = (found : Option ℕ) → made ≡ Step (reply.Reopened found) → IsExpected (last core.base (history_of core)) (awaited core) found
+OpensOwn core made = (found : Option ℕ) → made ≡ Step (reply.Reopened found)
+    → IsExpected (last core.base (history_of core)) (awaited core) found
 
 -- Where the store is as it is believed to be, it isn't refused as damaged.
 abbrev pub OpensBelieved : CoreView → Taken → Type 0
-OpensBelieved core made = (asked : List (Option Asked)) (bodies files : List (List ℕ)) → Believes core asked bodies files → DiskLeaves core.phases bodies files
+OpensBelieved core made = (asked : List (Option Asked)) (bodies files : List (List ℕ))
+    → Believes core asked bodies files → DiskLeaves core.phases bodies files
     → made ≢ Step (reply.Refused Damaged)
 
 -- What was read of a store that shows the last checkpoint or the pending one.

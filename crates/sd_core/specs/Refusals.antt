@@ -1,5 +1,6 @@
 -- When calls of a core are refused, by priority.
-use Rattle.std.specs.Prelude.{◌≡◌, ◌==◌, ℕ, ◌<◌, Bool, true, false, not, ◌&&◌, ◌||◌, is_none, is_some, if◌then◌else◌, drop, List, [], ◌∷◌, slice_get, Option, Some, None}
+use Rattle.std.specs.Prelude.{◌≡◌, ◌==◌, ℕ, ◌<◌, Bool, true, false, not, ◌&&◌, ◌||◌, is_none, is_some, if◌then◌else◌}
+use Rattle.std.specs.Prelude.{drop, List, [], ◌∷◌, slice_get, Option, Some, None}
 use Rattle.sd_command.specs.declared.refusal.Refusal.{Refusal}
 use Rattle.sd_command.specs.declared.refusal.Refusal.TheVariants as refusal
 use Rattle.sd_gate.specs.declared.request_id.RequestId.{RequestId}
@@ -72,10 +73,11 @@ is_idle core Dumper = is_none core.dumper.running
 is_idle core Merger = is_none core.merger
 is_idle core Opener = is_none core.opener
 
--- The outcome of the write of a data page is awaited: eight are out, or some where no page is left. A checkpoint that has ended waits for
--- all of them.
+-- The outcome of the write of a data page is awaited: eight are out, or some where no page is left. A checkpoint that
+-- has ended waits for all of them.
 abbrev pub must_wait_for_pages : CoreView → Bool
-must_wait_for_pages core = if is_none core.dumper.running then is_page_out core.outs else dumper_must_wait core.dumper.running (plain_of core.memory)
+must_wait_for_pages core = if is_none core.dumper.running then is_page_out core.outs
+    else dumper_must_wait core.dumper.running (plain_of core.memory)
 
 -- an outcome of a worker is awaited before it goes on
 abbrev pub must_wait : CoreView → Worker → Bool
@@ -83,6 +85,7 @@ must_wait core Dumper = not (is_resting core.outs Dumper) || must_wait_for_pages
 must_wait core Merger = not (is_resting core.outs Merger)
 must_wait core Opener = not (is_resting core.outs Opener)
 
--- why a worker can't go on: also one that is idle may have a request out, since its job may have ended before the outcome
+-- why a worker can't go on: also one that is idle may have a request out, since its job may have ended before the
+-- outcome
 abbrev pub work_refusal : CoreView → Worker → Option Refusal
 work_refusal core worker = first_of ((must_wait core worker, refusal.Busy) ∷ (is_idle core worker, refusal.Idle) ∷ [])

@@ -35,7 +35,8 @@ SameRound old new = IfSome new (λ next. (running : Running) × (old ≡ Some ru
 
 -- one that runs behind an outcome ran before it, and the outcome opens one image at most
 abbrev pub TurnsRound : Option Running → Option Running → Places → Type 0
-TurnsRound old new places = IfSome new (λ next. (running : Running) × (old ≡ Some running) × (IsSameRound running next ⊎ IsNextRound running next places))
+TurnsRound old new places = IfSome new
+    (λ next. (running : Running) × (old ≡ Some running) × (IsSameRound running next ⊎ IsNextRound running next places))
 
 -- the gate of a slot is open, in an open store, and no request is out on it
 pub record IsOpenAt (core : CoreView) (slot : ℕ) : Type 0 where
@@ -45,11 +46,13 @@ pub record IsOpenAt (core : CoreView) (slot : ℕ) : Type 0 where
 
 -- by an outcome the image enters the catalog that the checkpoint made: a pre-dump, or the dump
 abbrev pub OpensImage : Running → CoreView → Reply → CoreView → Type 0
-OpensImage running old answer new = OpensPreDump running old new ⊎ ((old.dumper.running ≡ Some running) × ((n : ℕ) × (answer ≡ reply.Acked n)))
+OpensImage running old answer new =
+    OpensPreDump running old new ⊎ ((old.dumper.running ≡ Some running) × ((n : ℕ) × (answer ≡ reply.Acked n)))
 
 -- where the store is as it is believed to be, the gate of its slot is open then
 abbrev pub OpensItsGate : CoreView → ℕ → Asked → Reply → CoreView → Type 0
-OpensItsGate old lane request answer new = (running : Running) (asked : List (Option Asked)) (bodies files : List (List ℕ)) → OpensImage running old answer new
+OpensItsGate old lane request answer new =
+    (running : Running) (asked : List (Option Asked)) (bodies files : List (List ℕ)) → OpensImage running old answer new
     → slice_get asked lane ≡ Some (Some request) → Believes old asked bodies files → IsOpenAt new (slot_of running)
 
 -- no more images of a checkpoint are open than it has pre-dumps
@@ -58,6 +61,8 @@ HasFewOpen running = IfSome running (λ r. r.opened ≤ length r.pre_dumps)
 
 -- Where the store is as it is believed to be, what is out on the slot of a pre-dump that is open only looks
 abbrev pub LeavesPreDumps : CoreView → Type 0
-LeavesPreDumps core = (running : Running) (place : ℕ) (asked : List (Option Asked)) (bodies files : List (List ℕ)) → core.dumper.running ≡ Some running → place < running.opened
-    → Believes core asked bodies files → (lane : ℕ) (id : RequestId) → slice_get core.outs lane ≡ Some (Some id) → id.slot ≡ get_or running.pre_dumps place running.dump
+LeavesPreDumps core = (running : Running) (place : ℕ) (asked : List (Option Asked)) (bodies files : List (List ℕ))
+    → core.dumper.running ≡ Some running → place < running.opened
+    → Believes core asked bodies files → (lane : ℕ) (id : RequestId) → slice_get core.outs lane ≡ Some (Some id)
+    → id.slot ≡ get_or running.pre_dumps place running.dump
     → IsLook id.call

@@ -1,5 +1,6 @@
 -- What is so of every core.
-use Rattle.std.specs.Prelude.{◌≡◌, ◌≢◌, ◌⊎◌, ℕ, zero, suc, ◌+◌, ◌<◌, ◌≤◌, ◌^◌, Bool, true, false, if◌then◌else◌, List, ◌∷◌, length, Option, Some, None, IfSome, slice_get}
+use Rattle.std.specs.Prelude.{◌≡◌, ◌≢◌, ◌⊎◌, ℕ, zero, suc, ◌+◌, ◌<◌, ◌≤◌, ◌^◌, Bool, true, false, if◌then◌else◌, List}
+use Rattle.std.specs.Prelude.{◌∷◌, length, Option, Some, None, IfSome, slice_get}
 use Rattle.std.specs.List.{list_any}
 use Rattle.sd_chain.specs.Catalog.{IsHeld, Opened, Places, place_of}
 use Rattle.sd_gate.specs.declared.phase.Phase.{Phase}
@@ -25,7 +26,8 @@ use Rattle.sd_pagetable.specs.Contents.{Contents}
 use Rattle.sd_rounds.specs.declared.image_order.ImageOrder.{ImageOrder}
 use Rattle.sd_rounds.specs.declared.stage.Stage.{Stage}
 use Rattle.sd_rounds.specs.declared.stage.Stage.TheVariants.{Format, Freeze, Pass as PassStage, Close}
-use Rattle.sd_rounds.specs.Dumper.{Dumping, HasSlot, IsReserved, Running, is_frozen_image, out_of_image, out_of_running, slot_of, writes_of_running}
+use Rattle.sd_rounds.specs.Dumper.{Dumping, HasSlot, IsReserved, Running, is_frozen_image, out_of_image, out_of_running}
+use Rattle.sd_rounds.specs.Dumper.{slot_of, writes_of_running}
 use Rattle.sd_rounds.specs.Making.{Making, is_passing}
 use Rattle.sd_rounds.specs.Pass.{Pass, data_pages}
 use Rattle.sd_rounds.specs.Writes.{AreWrites, no_writes}
@@ -41,7 +43,8 @@ use Rattle.sd_core.specs.LittleWork.{HasLittle}
 use Rattle.sd_core.specs.Merging.{IsMergedImage}
 use Rattle.sd_core.specs.Visited.{HasSettled, HasSwept, is_begun}
 
--- how many entries are held: two for a checkpoint before its freeze, one while it is pending, and one for an opener with none pending
+-- how many entries are held: two for a checkpoint before its freeze, one while it is pending, and one for an opener
+-- with none pending
 abbrev pub held_for : Option ℕ → Option Running → Option Looking → ℕ
 held_for (Some n) running opener = 1
 held_for None (Some running) opener = 2
@@ -78,19 +81,22 @@ pub record AreInPages (one other : ℕ) (a b : RequestId) : Type 0 where
   pub second : 2 < other
   pub are : AreOtherPages a b
 
--- The requests that are out, in eleven lanes, are on different slots of the store, unless they write different data pages. While it is open
--- they are those of its jobs, and while an opener runs it alone asks. Once it is down the calls of jobs that have ended are out until their
--- outcomes come.
-pub record AreOuts (standing : Standing) (outs : List (Option RequestId)) (phases : List Phase) (running : Option Running) (merge : Option merger.Running)
+-- The requests that are out, in eleven lanes, are on different slots of the store, unless they write different data
+-- pages. While it is open they are those of its jobs, and while an opener runs it alone asks. Once it is down the calls
+-- of jobs that have ended are out until their outcomes come.
+pub record AreOuts (standing : Standing) (outs : List (Option RequestId)) (phases : List Phase)
+    (running : Option Running) (merge : Option merger.Running)
     (opener : Option Looking) : Type 0 where
   pub count : length outs ≡ 11
-  pub jobs : standing ≡ Open → outs ≡ out_of_running running ∷ merger.out_of_merge merge ∷ None ∷ writes_of_running running
+  pub jobs : standing ≡ Open
+      → outs ≡ out_of_running running ∷ merger.out_of_merge merge ∷ None ∷ writes_of_running running
   pub opening : IfSome opener (λ one. outs ≡ None ∷ None ∷ out_of_opener opener ∷ no_writes)
   pub none : standing ≡ NotOpen → opener ≡ None → outs ≡ nobody
   pub two : opener ≡ None → AreTwo outs
   pub within : (lane : ℕ) (id : RequestId) → slice_get outs lane ≡ Some (Some id) → id.slot < length phases
   pub whose : (lane : ℕ) (id : RequestId) → slice_get outs lane ≡ Some (Some id) → id.worker ≡ worker_of lane
-  pub apart : (one other : ℕ) (a b : RequestId) → slice_get outs one ≡ Some (Some a) → slice_get outs other ≡ Some (Some b) → a.slot ≡ b.slot
+  pub apart : (one other : ℕ) (a b : RequestId) → slice_get outs one ≡ Some (Some a)
+      → slice_get outs other ≡ Some (Some b) → a.slot ≡ b.slot
       → (one ≡ other) ⊎ AreInPages one other a b
 
 -- its journal makes its memory, and tells what is pending and what is last
@@ -104,8 +110,8 @@ pub record IsJournal (base : Base) (journal : Kept) (memory : Contents) (frozen 
 
 -- ---- numbers
 
--- The checkpoint begun last has the greatest number of all that the journal speaks of, and is the pending one if there is one; no
--- mark has a serial that wasn't given out. What was found in the store doesn't lower the next numbers.
+-- The checkpoint begun last has the greatest number of all that the journal speaks of, and is the pending one if there
+-- is one; no mark has a serial that wasn't given out. What was found in the store doesn't lower the next numbers.
 pub record AreNumbers (base : Base) (items : Marked) (frozen newest : Option ℕ) (numbers : Numbers) : Type 0 where
   pub used : (n : ℕ) → numbers.begun < n → IsAbove base (entries_of items) n
   pub newest_used : IfSome newest (λ n. n ≤ numbers.begun)
@@ -116,7 +122,8 @@ pub record AreNumbers (base : Base) (items : Marked) (frozen newest : Option ℕ
 
 -- no image has a greater checkpoint number than the greatest that was used
 abbrev pub AreCounted : Numbers → Places → Type 0
-AreCounted numbers places = (serial : ℕ) (o : Opened) → place_of places serial ≡ Some (Some o) → o.header.checkpoint ≤ numbers.checkpoint
+AreCounted numbers places =
+    (serial : ℕ) (o : Opened) → place_of places serial ≡ Some (Some o) → o.header.checkpoint ≤ numbers.checkpoint
 
 -- ---- the checkpoint that runs
 
@@ -176,11 +183,13 @@ due_serials (Some merge) = due_serials_in merge.doing
 -- the writes of data pages that are out are on its slot, and none is while a plan is made
 abbrev pub HasWrites : Running → Option Making → Type 0
 HasWrites running None = Unit {0}
-HasWrites running (Some image) = AreWrites (slot_of running) (data_pages image.pass.entries) image.writes × (is_passing image.stage ≡ false → image.writes ≡ no_writes)
+HasWrites running (Some image) = AreWrites (slot_of running) (data_pages image.pass.entries) image.writes
+    × (is_passing image.stage ≡ false → image.writes ≡ no_writes)
 
--- A checkpoint runs while the store is open, under the number that was begun last, in slots of the store, of which no two are one. The
--- pre-dumps so far are in the catalog.
-pub record IsAtWork (base : Base) (items : Marked) (frozen : Option ℕ) (standing : Standing) (phases : List Phase) (places : Places)
+-- A checkpoint runs while the store is open, under the number that was begun last, in slots of the store, of which no
+-- two are one. The pre-dumps so far are in the catalog.
+pub record IsAtWork (base : Base) (items : Marked) (frozen : Option ℕ) (standing : Standing) (phases : List Phase)
+    (places : Places)
     (merge : Option merger.Running) (opener : Option Looking) (numbers : Numbers) (running : Running) : Type 0 where
   pub stands : standing ≡ Open
   pub closed : opener ≡ None
@@ -216,7 +225,8 @@ HasHeader order (copying_stage.PageRead plan) = Unit {0}
 HasHeader order (copying_stage.PageWrite plan) = Unit {0}
 HasHeader order (copying_stage.Close plan header tables) = IsMergedHeader order header
 
--- The merged image in the making has a serial that was given out, whose place in the catalog is held, and that no image of the checkpoint has.
+-- The merged image in the making has a serial that was given out, whose place in the catalog is held, and that no image
+-- of the checkpoint has.
 pub record IsCopyOf (places : Places) (numbers : Numbers) (running : Option Running) (copy : Copying) : Type 0 where
   pub header : HasHeader copy.order copy.stage
   pub given : copy.order.serial ≤ numbers.given
@@ -229,22 +239,27 @@ pub record IsToClose (phases : List Phase) (running : Option Running) (slot : �
   pub spared : HasSlot running one.slot → ⊥
   pub apart : one.slot ≢ slot
 
--- the merged image is open, and the images of the list, rising by slot, are closed: what is asked for is on none but their slots
-pub record IsClosingAll (phases : List Phase) (places : Places) (running : Option Running) (merge : merger.Running) (r : Retiring) : Type 0 where
+-- the merged image is open, and the images of the list, rising by slot, are closed: what is asked for is on none but
+-- their slots
+pub record IsClosingAll (phases : List Phase) (places : Places) (running : Option Running) (merge : merger.Running)
+    (r : Retiring) : Type 0 where
   pub image : IsMergedImage merge places r.serial
   pub elsewhere : (id : RequestId) → r.plan.out ≡ Some id → id.slot ≢ merge.slot
   pub each : (place : ℕ) (one : Retired) → slice_get r.list place ≡ Some one → IsToClose phases running merge.slot one
-  pub rises : (place other : ℕ) (a b : Retired) → place < other → slice_get r.list place ≡ Some a → slice_get r.list other ≡ Some b → a.slot < b.slot
+  pub rises : (place other : ℕ) (a b : Retired) → place < other → slice_get r.list place ≡ Some a
+      → slice_get r.list other ≡ Some b → a.slot < b.slot
 
 abbrev pub IsDoing : List Phase → Places → Numbers → ℕ → Option Running → merger.Running → Doing → Type 0
 IsDoing phases places numbers room running merge due = (numbers.serial < 2 ^ 63 + 9) × (room ≡ length phases)
-IsDoing phases places numbers room running merge (copying copy) = IsCopyOf places numbers running copy × (room ≡ length phases)
+IsDoing phases places numbers room running merge (copying copy) =
+    IsCopyOf places numbers running copy × (room ≡ length phases)
 IsDoing phases places numbers room running merge (opened serial) = ⊥
 IsDoing phases places numbers room running merge (retiring r) = IsClosingAll phases places running merge r
 
--- A merge runs while the store is open, in a slot of the store that no checkpoint has. What it asks for is on no slot that the checkpoint
--- fills, and a sync on none of its slots.
-pub record IsMerging (standing : Standing) (phases : List Phase) (places : Places) (opener : Option Looking) (numbers : Numbers) (room : ℕ) (running : Option Running)
+-- A merge runs while the store is open, in a slot of the store that no checkpoint has. What it asks for is on no slot
+-- that the checkpoint fills, and a sync on none of its slots.
+pub record IsMerging (standing : Standing) (phases : List Phase) (places : Places) (opener : Option Looking)
+    (numbers : Numbers) (room : ℕ) (running : Option Running)
     (merge : merger.Running) : Type 0 where
   pub stands : standing ≡ Open
   pub closed : opener ≡ None
@@ -288,9 +303,12 @@ pub record IsCore (core : Parts) : Type 0 where
   pub counted : AreCounted core.numbers core.places
   -- while the store is open a checkpoint is pending only while it runs
   pub rests : core.dumper.running ≡ None → core.standing ≡ Open → core.frozen ≡ None
-  pub work : IfSome core.dumper.running (IsAtWork core.base core.journal.items core.frozen core.standing core.phases core.places core.merger core.opener core.numbers)
+  pub work : IfSome core.dumper.running
+      (IsAtWork core.base core.journal.items core.frozen core.standing core.phases core.places core.merger core.opener
+      core.numbers)
   pub little : IfSome core.dumper.running (HasLittle core.base core.journal.items core.memory)
-  pub merging : IfSome core.merger (IsMerging core.standing core.phases core.places core.opener core.numbers core.room core.dumper.running)
+  pub merging : IfSome core.merger
+      (IsMerging core.standing core.phases core.places core.opener core.numbers core.room core.dumper.running)
   pub swept_is : HasSwept core.swept core.frozen core.memory
   pub flags_are : AreFlags core.base core.journal.items core.swept core.grows core.committing
   pub gated : IfSome core.dumper.running (IsGated core.swept)

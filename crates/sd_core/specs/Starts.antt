@@ -21,7 +21,8 @@ use Rattle.sd_core.specs.declared.taken.Taken.TheVariants.{Step, Call}
 
 -- the base of a core
 abbrev pub base_of : CoreBase → Base
-base_of base = record { number = base.number; memory = memory_of base.memory; origin = base.origin; folded = base.folded }
+base_of base =
+    record { number = base.number; memory = memory_of base.memory; origin = base.origin; folded = base.folded }
 
 -- what the base's number and memory are to be shown as
 abbrev pub shown_base : Option ℕ → PlainMemory → Shown
@@ -29,7 +30,8 @@ shown_base None memory = None
 shown_base (Some number) memory = Some (number, memory)
 
 -- a core that starts: its journal is empty, its store isn't open, and nothing is out
-pub record IsStart (number : Option ℕ) (saved : PlainMemory) (loaded : Contents) (found : List Phase) (core : CoreView) : Type 0 where
+pub record IsStart (number : Option ℕ) (saved : PlainMemory) (loaded : Contents) (found : List Phase)
+    (core : CoreView) : Type 0 where
   pub base : core.base ≡ record { number = number; memory = saved; origin = origins.Opened; folded = 0 }
   pub items : core.items ≡ []
   pub held : core.held ≡ 0

@@ -1,5 +1,6 @@
 -- Trims of a core's journal.
-use Rattle.std.specs.Prelude.{◌≡◌, ℕ, ◌+◌, ◌==◌, ◌<◌, ◌≤◌, ◌^◌, if◌then◌else◌, ◌++◌, length, reverse, Option, Some, None, Result, Ok, Err}
+use Rattle.std.specs.Prelude.{◌≡◌, ℕ, ◌+◌, ◌==◌, ◌<◌, ◌≤◌, ◌^◌, if◌then◌else◌, ◌++◌, length, reverse, Option, Some}
+use Rattle.std.specs.Prelude.{None, Result, Ok, Err}
 use Rattle.sd_command.specs.declared.refusal.Refusal.{Refusal}
 use Rattle.sd_command.specs.declared.refusal.Refusal.TheVariants.{NumbersUsed, OutOfMemory}
 use Rattle.sd_journal.specs.Kept.{Kept}
@@ -23,7 +24,8 @@ pub record HandsOutFront (first : ℕ) (front : Marked) (folded : Folded) : Type
   pub entries : folded.entries.items ≡ reverse (entries_of front)
 
 -- the front of the journal is folded into the base, and the rest is kept
-pub record FoldsFront (n : ℕ) (folded : Folded) (old : CoreBase) (before : Kept) (new : CoreBase) (after : Kept) : Type 0 where
+pub record FoldsFront (n : ℕ) (folded : Folded) (old : CoreBase) (before : Kept) (new : CoreBase)
+    (after : Kept) : Type 0 where
   pub front : Marked
   pub parts : before.items ≡ after.items ++ front
   pub ended : IsFolded n front
@@ -45,11 +47,12 @@ MayRefuse old front _ = ⊥
 
 -- what a trim of this front leaves
 abbrev pub TrimsFront : ℕ → CoreView → Marked → Marked → Result Folded Refusal → CoreView → Type 0
-TrimsFront n old kept front (Ok folded) new = (folded_with old front ≤ 2 ^ 62) × HandsOutFront old.base.folded front folded × (new ≡ trimmed old n kept front)
+TrimsFront n old kept front (Ok folded) new =
+    (folded_with old front ≤ 2 ^ 62) × HandsOutFront old.base.folded front folded × (new ≡ trimmed old n kept front)
 TrimsFront n old kept front (Err why) new = MayRefuse old front why × (new ≡ old)
 
--- Up to and with the entry that ended the pending of the last checkpoint the journal is folded, nothing else changes; or this is refused and
--- nothing changes.
+-- Up to and with the entry that ended the pending of the last checkpoint the journal is folded, nothing else changes;
+-- or this is refused and nothing changes.
 pub record Trims (n : ℕ) (old : CoreView) (result : Result Folded Refusal) (new : CoreView) : Type 0 where
   pub kept : Marked
   pub front : Marked

@@ -83,6 +83,8 @@ LeavesByOutcome old worker (reply.Merged serial) new = (worker ≡ Merger) × Ha
 LeavesByOutcome old worker (reply.Refused StoreDown) new = HasFallen old worker new
 LeavesByOutcome old worker _ new = ⊥
 
--- The source of a merge is there to be read, where the store is as it is believed to be: the step isn't refused as damaged.
+-- The source of a merge is there to be read, where the store is as it is believed to be: the step isn't refused as
+-- damaged.
 abbrev pub FindsSource : CoreView → Taken → Type 0
-FindsSource core made = (asked : List (Option Asked)) (bodies files : List (List ℕ)) → Believes core asked bodies files → made ≢ Step (reply.Refused Damaged)
+FindsSource core made = (asked : List (Option Asked)) (bodies files : List (List ℕ)) → Believes core asked bodies files
+    → made ≢ Step (reply.Refused Damaged)

@@ -69,7 +69,8 @@ pub(crate) enum StepFault {
 ///
 /// # Errors
 ///
-/// Out of memory where a growth was refused. Lost where the catalog doesn't have the source's next page. Nothing changed.
+/// Out of memory where a growth was refused. Lost where the catalog doesn't have the source's next page. Nothing
+/// changed.
 pub(crate) fn step_merger(
     merger: &mut Merger,
     catalog: &Catalog,

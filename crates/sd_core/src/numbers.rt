@@ -79,7 +79,8 @@ impl Numbers {
     pub(crate) fn begin(&mut self) -> u64
         requires { self.old.checkpoint < 2 ^ 63 }
         ensures number { result ≡ self.old.checkpoint + 1 }
-        ensures numbers { self.new ≡ record self.old { checkpoint = self.old.checkpoint + 1; begun = self.old.checkpoint + 1 } }
+        ensures numbers { self.new
+            ≡ record self.old { checkpoint = self.old.checkpoint + 1; begun = self.old.checkpoint + 1 } }
     {
         self.checkpoint += 1;
         self.begun = self.checkpoint;

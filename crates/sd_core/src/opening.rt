@@ -1,5 +1,6 @@
 //! The opener of a core: its steps, and what it leaves.
-ghost use Rattle.std.specs.Prelude.{◌≡◌, ◌↔◌, ◌<◌, ◌≤◌, ◌+◌, Option, None, Some, Err, IfOk, IfSome, OnErr, length, map, true, IsTrue, List, ℕ, if◌then◌else◌};
+ghost use Rattle.std.specs.Prelude.{◌≡◌, ◌↔◌, ◌<◌, ◌≤◌, ◌+◌, Option, None, Some, Err, IfOk, IfSome, OnErr, length, map};
+ghost use Rattle.std.specs.Prelude.{true, IsTrue, List, ℕ, if◌then◌else◌};
 ghost use Rattle.sd_chain.specs.Store.{IsCatalogOf};
 ghost use Rattle.sd_image.specs.Image.{Image};
 ghost use Rattle.sd_image.specs.Shows.{IsStore, Shows};
@@ -8,7 +9,8 @@ ghost use Rattle.sd_gate.specs.Phases.{given_up, phases_after};
 ghost use Rattle.sd_gate.specs.declared.phase.Phase.{Phase};
 ghost use Rattle.std.specs.Prelude.{slice_get};
 ghost use Rattle.sd_journal.specs.Kept.{entry_count};
-ghost use Rattle.sd_core.specs.Opening.{HoldsForOpening, IsExpected, IsFresh, IsResting, IsTipNumber, LetsGo, OpensAnew, SawDamage, SawStrange, TeachesOpener, WorksOpener};
+ghost use Rattle.sd_core.specs.Opening.{HoldsForOpening, IsExpected, IsFresh, IsResting, IsTipNumber, LetsGo};
+ghost use Rattle.sd_core.specs.Opening.{OpensAnew, SawDamage, SawStrange, TeachesOpener, WorksOpener};
 ghost use Rattle.sd_core.specs.Refusals.{is_open};
 ghost use Rattle.sd_core.specs.Working.{opener_left};
 

@@ -89,7 +89,13 @@ impl Model for Core {
       dumper = c.dumper;
       merger = c.merger;
       opener = c.opener;
-      numbers = record { checkpoint = c.numbers.checkpoint; serial = c.numbers.serial; begun = c.numbers.begun; given = c.numbers.given; ticket = c.numbers.ticket };
+      numbers = record {
+        checkpoint = c.numbers.checkpoint;
+        serial = c.numbers.serial;
+        begun = c.numbers.begun;
+        given = c.numbers.given;
+        ticket = c.numbers.ticket;
+      };
       grows = c.grows;
       committing = c.committing;
     } };
@@ -196,9 +202,9 @@ impl Core {
     /// # Errors
     ///
     /// `Busy` where a request of the worker is out, but for up to seven writes of data pages while pages are left; else
-    /// `Idle` where it has no job; `OutOfMemory` where a growth was refused. `Damaged` of the opener, which then has ended:
-    /// where the store can't be read, or shows neither the last checkpoint nor the pending one. `Damaged` of the merger,
-    /// where its source isn't there to be read.
+    /// `Idle` where it has no job; `OutOfMemory` where a growth was refused. `Damaged` of the opener, which then has
+    /// ended: where the store can't be read, or shows neither the last checkpoint nor the pending one. `Damaged` of the
+    /// merger, where its source isn't there to be read.
     pub fn take_up(&mut self, worker: Worker) -> Taken
         ensures { IsTakenUp worker self.old result self.new }
     {

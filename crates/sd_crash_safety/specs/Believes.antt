@@ -15,7 +15,8 @@ use Rattle.sd_crash_safety.specs.Knows.{Knows}
 use Rattle.sd_crash_safety.specs.View.{CoreView, history_of}
 
 -- A request that is out: its slot is ready for its call, and what is believed of the slot holds whatever comes of it.
-pub record IsCovered (phases : List Phase) (bodies : List (List ℕ)) (beliefs : List Belief) (request : Asked) : Type 0 where
+pub record IsCovered (phases : List Phase) (bodies : List (List ℕ)) (beliefs : List Belief)
+    (request : Asked) : Type 0 where
   pub phase : Phase
   pub waits : Waits phases request.id phase
   pub belief : Belief
@@ -35,9 +36,10 @@ pub record ShowsPending (base : Base) (history : History) (images : List Image) 
   pub is : IsPendingPair base history shown
   pub shows : ImagesShow images shown
 
--- With these bodies behind the gates, and these requests out: the slots are believed to be those of this sound store, which
--- shows the last pair; and with the dump that is being opened, if one is, it would show the pending pair.
-pub record HasStore (base : Base) (history : History) (phases : List Phase) (asked : List (Option Asked)) (bodies : List (List ℕ))
+-- With these bodies behind the gates, and these requests out: the slots are believed to be those of this sound store,
+-- which shows the last pair; and with the dump that is being opened, if one is, it would show the pending pair.
+pub record HasStore (base : Base) (history : History) (phases : List Phase) (asked : List (Option Asked))
+    (bodies : List (List ℕ))
     (store : Store) (dump : Option Image) (beliefs : List Belief) : Type 0 where
   pub sound : IsSound store
   pub slots : AreSlotsOf store dump beliefs

@@ -1,5 +1,6 @@
 -- What the calls of a core do, as a world sees it.
-use Rattle.std.specs.Prelude.{◌≡◌, ◌≢◌, ◌⊎◌, ℕ, ◌<◌, true, List, ◌∷◌, length, map, drop, Option, Some, None, Result, Ok, Err, slice_get, slice_set}
+use Rattle.std.specs.Prelude.{◌≡◌, ◌≢◌, ◌⊎◌, ℕ, ◌<◌, true, List, ◌∷◌, length, map, drop, Option, Some, None, Result, Ok}
+use Rattle.std.specs.Prelude.{Err, slice_get, slice_set}
 use Rattle.sd_disk.specs.Contents.{file_at}
 use Rattle.sd_command.specs.declared.command.Command.{Command}
 use Rattle.sd_command.specs.declared.refusal.Refusal.{Refusal}
@@ -28,7 +29,8 @@ use Rattle.sd_crash_safety.specs.View.{CoreView, history_of}
 
 -- the core believes as much as before, with these requests out
 abbrev pub GoesOn : CoreView → List (Option Asked) → CoreView → List (Option Asked) → Type 0
-GoesOn old asked new now = (bodies files : List (List ℕ)) → Believes old asked bodies files → Believes new now bodies files
+GoesOn old asked new now =
+    (bodies files : List (List ℕ)) → Believes old asked bodies files → Believes new now bodies files
 
 -- no request is out on a slot
 abbrev pub IsFree : List (Option RequestId) → ℕ → Type 0
@@ -47,13 +49,15 @@ pub record AreOtherPages (id other : RequestId) : Type 0 where
 
 -- each request that is out on the slot of this one writes a data page, as it does, and another one
 abbrev pub IsApart : List (Option RequestId) → RequestId → Type 0
-IsApart outs id = (lane : ℕ) (other : RequestId) → slice_get outs lane ≡ Some (Some other) → other.slot ≡ id.slot → AreOtherPages id other
+IsApart outs id = (lane : ℕ) (other : RequestId) → slice_get outs lane ≡ Some (Some other) → other.slot ≡ id.slot
+    → AreOtherPages id other
 
 -- each slot's phase is as it was, or, where no request is out on it, that of a slot whose job was given up
 pub record AreGivenUp (outs : List (Option RequestId)) (phases new : List Phase) : Type 0 where
   pub count : length new ≡ length phases
   pub each : (slot : ℕ) (phase : Phase) → slice_get new slot ≡ Some phase
-      → (was : Phase) × (slice_get phases slot ≡ Some was) × ((phase ≡ was) ⊎ ((phase ≡ given_up was) × IsFree outs slot))
+      → (was : Phase) × (slice_get phases slot ≡ Some was)
+      × ((phase ≡ was) ⊎ ((phase ≡ given_up was) × IsFree outs slot))
 
 -- ---- a call that hands no request out and takes no outcome
 
@@ -74,11 +78,14 @@ pub record StartsAnew (old new : CoreView) : Type 0 where
   pub outs : new.outs ≡ old.outs
   pub none : (worker : ℕ) (id : RequestId) → slice_get old.outs worker ≡ Some (Some id) → ⊥
   pub count : length new.phases ≡ length old.phases
-  pub refound : (asked : List (Option Asked)) (bodies files : List (List ℕ)) → NoneOut asked → Believes old asked bodies files
+  pub refound : (asked : List (Option Asked)) (bodies files : List (List ℕ)) → NoneOut asked
+      → Believes old asked bodies files
       → (slot : ℕ) (phase : Phase) → slice_get old.phases slot ≡ Some phase → IsRefound phase
-  pub phases : (asked : List (Option Asked)) (bodies files : List (List ℕ)) → NoneOut asked → Believes old asked bodies files
+  pub phases : (asked : List (Option Asked)) (bodies files : List (List ℕ)) → NoneOut asked
+      → Believes old asked bodies files
       → DiskLeaves old.phases bodies files → new.phases ≡ map found_phase files
-  pub believes : (asked : List (Option Asked)) (bodies files : List (List ℕ)) → NoneOut asked → Believes old asked bodies files
+  pub believes : (asked : List (Option Asked)) (bodies files : List (List ℕ)) → NoneOut asked
+      → Believes old asked bodies files
       → DiskLeaves old.phases bodies files → Believes new asked (map (drop 1) files) files
 
 -- ---- what replies add to the journal
@@ -137,15 +144,17 @@ IsJournaled _ = Unit {0}
 abbrev pub IsUnjournaled : Refusal → Type 0
 IsUnjournaled why = (why ≡ JournalFull) ⊎ (why ≡ OutOfMemory)
 
--- A command is answered and journaled at the next number; or the journal is full or memory is wanting, and nothing changes.
+-- A command is answered and journaled at the next number; or the journal is full or memory is wanting, and nothing
+-- changes.
 abbrev pub Applies : ℕ → Command → Result (ℕ × Reply) Refusal → CoreView → CoreView → Type 0
-Applies seat command (Ok told) old new = IsJournaled told.1 × (history_of new ≡ Applied seat command told.1 ∷ history_of old)
+Applies seat command (Ok told) old new =
+    IsJournaled told.1 × (history_of new ≡ Applied seat command told.1 ∷ history_of old)
 Applies seat command (Err why) old new = IsUnjournaled why × (new ≡ old)
 
 -- ---- requests and outcomes
 
--- A request of a worker is handed out in a free lane. What is out on its slot writes other data pages, and each of them, and this request,
--- is in a lane of pages then, where whole data pages are written.
+-- A request of a worker is handed out in a free lane. What is out on its slot writes other data pages, and each of
+-- them, and this request, is in a lane of pages then, where whole data pages are written.
 pub record HandsOut (old : CoreView) (worker : Worker) (request : Asked) (new : CoreView) : Type 0 where
   pub lane : ℕ
   pub free : slice_get old.outs lane ≡ Some None
@@ -157,7 +166,8 @@ pub record HandsOut (old : CoreView) (worker : Worker) (request : Asked) (new : 
   pub slot : request.id.slot < length old.phases
   pub apart : IsApart old.outs request.id
   pub pages : 2 < lane → IsPageOf request.id.slot request
-  pub beside : (other_lane : ℕ) (other : RequestId) → slice_get old.outs other_lane ≡ Some (Some other) → other.slot ≡ request.id.slot
+  pub beside : (other_lane : ℕ) (other : RequestId) → slice_get old.outs other_lane ≡ Some (Some other)
+      → other.slot ≡ request.id.slot
       → (2 < lane) × (2 < other_lane)
   pub goes_on : (asked : List (Option Asked)) → GoesOn old asked new (slice_set asked lane (Some request))
 
@@ -166,8 +176,8 @@ pub record MakesStep (old : CoreView) (worker : Worker) (answer : Reply) (new : 
   pub keeps : Stays old new ⊎ StartsAnew old new
   pub adds : AddsByStep worker old answer (history_of old) (history_of new)
 
--- an outcome tells of its slot's file: behind a call that only looks, what is read of the slot now; and where the call was done, what it
--- read
+-- an outcome tells of its slot's file: behind a call that only looks, what is read of the slot now; and where the call
+-- was done, what it read
 pub record WasTold (phases : List Phase) (bodies files : List (List ℕ)) (made : Made) : Type 0 where
   pub reads : IsLook made.request.id.call → (phase : Phase) → Waits phases made.request.id phase
       → Reads (after phase made.request.id.call (is_done made.answer))

@@ -1,5 +1,6 @@
 -- How the beginning of a checkpoint and its cancelling keep what a core believes.
-use Rattle.std.specs.Prelude.{◌≡◌, ◌≢◌, ◌⊎◌, ◌↔◌, ℕ, ◌<◌, ◌≤◌, true, false, List, ◌∷◌, length, Option, Some, None, slice_get}
+use Rattle.std.specs.Prelude.{◌≡◌, ◌≢◌, ◌⊎◌, ◌↔◌, ℕ, ◌<◌, ◌≤◌, true, false, List, ◌∷◌, length, Option, Some, None}
+use Rattle.std.specs.Prelude.{slice_get}
 use Rattle.sd_chain.specs.Catalog.{IsTip, Opened, Places, place_of}
 use Rattle.sd_chain.specs.Reaches.{ParentsFall, ReachesSerial}
 use Rattle.sd_gate.specs.Requests.{Asked}
@@ -20,7 +21,8 @@ abbrev pub IsUnreached : Places → ℕ → Type 0
 IsUnreached places slot = (serial : ℕ) (o tip : Opened) → place_of places serial ≡ Some (Some o) → o.slot ≡ slot
     → IsTip places tip → ReachesSerial places tip.header.serial serial → ⊥
 
--- its first image has no parent; or, where a checkpoint was acknowledged since the store was opened or one cancelled, the tip
+-- its first image has no parent; or, where a checkpoint was acknowledged since the store was opened or one cancelled,
+-- the tip
 abbrev pub HasParent : Places → CoreView → Running → Type 0
 HasParent places core running = (running.parent ≡ 0)
     ⊎ ((core.grows ≡ true) × (tip : Opened) × IsTip places tip × (running.parent ≡ tip.header.stands_for))
@@ -36,7 +38,8 @@ pub record LeavesMergeAt (places : Places) (merge : merger.Running) (slot : ℕ)
   pub listed : (place : ℕ) (one : Retired) → slice_get (list_in merge.doing) place ≡ Some one → slot ≢ one.slot
   pub source : IsUnread places (source_in merge merge.doing) slot
 
--- What the merge that runs needs is in none of the checkpoint's slots: neither its own image, nor what it repeats or closes.
+-- What the merge that runs needs is in none of the checkpoint's slots: neither its own image, nor what it repeats or
+-- closes.
 abbrev pub LeavesMerge : Places → Running → Option merger.Running → Type 0
 LeavesMerge places running None = Unit {0}
 LeavesMerge places running (Some merge) = (slot : ℕ) → IsReserved running slot → LeavesMergeAt places merge slot
@@ -64,10 +67,12 @@ pub record BeginsCheckpoint (places : Places) (old : CoreView) (running : Runnin
       → slot_of (record running { opened = one }) ≢ slot_of (record running { opened = other })
 
 abbrev pub BeginningIsBelieved : Places → Type 0
-BeginningIsBelieved places = (old new : CoreView) (running : Running) (asked : List (Option Asked)) (bodies files : List (List ℕ))
+BeginningIsBelieved places =
+    (old new : CoreView) (running : Running) (asked : List (Option Asked)) (bodies files : List (List ℕ))
     → BeginsCheckpoint places old running new → Believes old asked bodies files → Believes new asked bodies files
 
--- A checkpoint is cancelled, whose dump's gate nobody began to open: none runs, the next one takes every page, and no place is held.
+-- A checkpoint is cancelled, whose dump's gate nobody began to open: none runs, the next one takes every page, and no
+-- place is held.
 pub record CancelsCheckpoint (old : CoreView) (n : ℕ) (new : CoreView) : Type 0 where
   pub base : new.base ≡ old.base
   pub items : new.items ≡ Told (Cancelled n) ∷ old.items
@@ -81,7 +86,8 @@ pub record CancelsCheckpoint (old : CoreView) (n : ℕ) (new : CoreView) : Type 
   pub written : writes_of_running old.dumper.running ≡ no_writes
   pub sure : old.committing ≡ false
   pub merger : new.merger ≡ old.merger
-  pub images : (serial : ℕ) (o : Opened) → place_of new.catalog serial ≡ Some (Some o) ↔ place_of old.catalog serial ≡ Some (Some o)
+  pub images : (serial : ℕ) (o : Opened)
+      → place_of new.catalog serial ≡ Some (Some o) ↔ place_of old.catalog serial ≡ Some (Some o)
   pub grows : new.grows ≡ false
   pub is : new.dumper.running ≡ None
 

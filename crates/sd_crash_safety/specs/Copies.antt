@@ -14,8 +14,10 @@ use Rattle.sd_crash_safety.specs.View.{CoreView}
 
 -- these are the images of a catalog, each at its serial
 pub record AreImagesOf (places : Places) (images : List Image) : Type 0 where
-  pub image : (serial : ℕ) (o : Opened) → place_of places serial ≡ Some (Some o) → (i : Image) × Contains images i × IsToldAs o i
-  pub opened : (i : Image) → Contains images i → (o : Opened) × (place_of places i.header.serial ≡ Some (Some o)) × IsToldAs o i
+  pub image : (serial : ℕ) (o : Opened) → place_of places serial ≡ Some (Some o)
+      → (i : Image) × Contains images i × IsToldAs o i
+  pub opened : (i : Image) → Contains images i
+      → (o : Opened) × (place_of places i.header.serial ≡ Some (Some o)) × IsToldAs o i
 
 -- an image of a catalog stands in its slot: it is what is behind the slot's open gate
 pub record StandsIn (places : Places) (phases : List Phase) (bodies : List (List ℕ)) (i : Image) : Type 0 where
@@ -27,11 +29,14 @@ pub record StandsIn (places : Places) (phases : List Phase) (bodies : List (List
 -- the parents' numbers of a catalog fall, and no two of its images stand in one slot
 pub record IsOrderly (places : Places) : Type 0 where
   pub falls : ParentsFall places
-  pub apart : (a b : ℕ) (i j : Opened) → place_of places a ≡ Some (Some i) → place_of places b ≡ Some (Some j) → i.slot ≡ j.slot → a ≡ b
+  pub apart : (a b : ℕ) (i j : Opened) → place_of places a ≡ Some (Some i) → place_of places b ≡ Some (Some j)
+      → i.slot ≡ j.slot → a ≡ b
 
--- The image of the one serial is a copy of that of the other: it has the checkpoint, the number and the areas of its source, no page in a
--- parent, and at each page what the source holds among the images that were there before. It stands in its slot, as does what its source reaches.
-pub record IsCopyThere (source_serial serial : ℕ) (before : Places) (new : CoreView) (bodies : List (List ℕ)) : Type 0 where
+-- The image of the one serial is a copy of that of the other: it has the checkpoint, the number and the areas of its
+-- source, no page in a parent, and at each page what the source holds among the images that were there before. It
+-- stands in its slot, as does what its source reaches.
+pub record IsCopyThere (source_serial serial : ℕ) (before : Places) (new : CoreView)
+    (bodies : List (List ℕ)) : Type 0 where
   pub images : List Image
   pub are : AreImagesOf before images
   pub source : Image
@@ -43,6 +48,7 @@ pub record IsCopyThere (source_serial serial : ℕ) (before : Places) (new : Cor
   pub copies : IsMergedOf images source copy
 
 -- So it is, and no request is out on the slot of the source, nor of an image that it reaches.
-pub record IsCopyAtRest (source_serial serial : ℕ) (before : Places) (new : CoreView) (bodies : List (List ℕ)) : Type 0 where
+pub record IsCopyAtRest (source_serial serial : ℕ) (before : Places) (new : CoreView)
+    (bodies : List (List ℕ)) : Type 0 where
   pub copy : IsCopyThere source_serial serial before new bodies
   pub rests : (i : Image) (way : Reaches copy.images i copy.source) → IsFree new.outs (copy.stand i way).opened.slot

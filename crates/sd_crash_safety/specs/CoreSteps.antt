@@ -45,5 +45,6 @@ pub record IsApplied (old : CoreView) (seat : ℕ) (command : Command) (told : R
 pub record CoreSteps : Type 0 where
   pub same : (old new : CoreView) (asked : List (Option Asked)) (bodies files : List (List ℕ)) → SameCore old new
       → Believes old asked bodies files → Believes new asked bodies files
-  pub applied : (old new : CoreView) (seat : ℕ) (command : Command) (told : Reply) (asked : List (Option Asked)) (bodies files : List (List ℕ))
+  pub applied : (old new : CoreView) (seat : ℕ) (command : Command) (told : Reply) (asked : List (Option Asked))
+      (bodies files : List (List ℕ))
       → IsApplied old seat command told new → Believes old asked bodies files → Believes new asked bodies files

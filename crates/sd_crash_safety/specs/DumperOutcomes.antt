@@ -4,7 +4,8 @@ use Rattle.sd_chain.specs.Catalog.{Changes, Places, place_of, without_slot}
 use Rattle.sd_gate.specs.declared.call.Call.{Call}
 use Rattle.sd_gate.specs.declared.call.Call.TheVariants.{Len, Read, Write, WriteHeader, Close, Open, Cut, Sync}
 use Rattle.sd_gate.specs.declared.phase.Phase.{Phase}
-use Rattle.sd_gate.specs.declared.phase.Phase.TheVariants.{Raw, RawClosing, Whole, Closing, Shut, ShutSynced, Bare, Writing, Ready, Opening, Doubt, DoubtSynced}
+use Rattle.sd_gate.specs.declared.phase.Phase.TheVariants.{Raw, RawClosing, Whole, Closing, Shut, ShutSynced, Bare}
+use Rattle.sd_gate.specs.declared.phase.Phase.TheVariants.{Writing, Ready, Opening, Doubt, DoubtSynced}
 use Rattle.sd_gate.specs.Calls.{is_done}
 use Rattle.sd_gate.specs.Phases.{bodies_after, phases_after}
 use Rattle.sd_gate.specs.Requests.{Asked, Made}
@@ -73,7 +74,8 @@ pub record GoesDown (old : CoreView) (lane : ℕ) (made : Made) (phase : Phase) 
   pub committing : new.committing ≡ old.committing
 
 -- the image goes on with its plan: nothing is out on its slot
-pub record ImageGoesOn (old : CoreView) (running : Running) (image : Making) (made : Made) (phase : Phase) (next : Making) (new : CoreView) : Type 0 where
+pub record ImageGoesOn (old : CoreView) (running : Running) (image : Making) (made : Made) (phase : Phase)
+    (next : Making) (new : CoreView) : Type 0 where
   pub outcome : IsDumpersOutcome old 0 made phase new
   pub alone : IsFree (slice_set old.outs 0 None) made.request.id.slot
   pub rest : OnlyDumps old new
@@ -89,7 +91,8 @@ pub record ImageGoesOn (old : CoreView) (running : Running) (image : Making) (ma
   pub is : new.dumper.running ≡ Some (record running { image = Some next })
 
 -- a data page of the image is written
-pub record PageIsWritten (old : CoreView) (running : Running) (image : Making) (made : Made) (phase : Phase) (next : Making) (new : CoreView) : Type 0 where
+pub record PageIsWritten (old : CoreView) (running : Running) (image : Making) (made : Made) (phase : Phase)
+    (next : Making) (new : CoreView) : Type 0 where
   pub hands : IsWritten image made next
   pub outcome : IsDumpersOutcome old (page_lane hands.lane) made phase new
   pub rest : OnlyDumps old new
@@ -104,14 +107,16 @@ pub record PageIsWritten (old : CoreView) (running : Running) (image : Making) (
   pub is : new.dumper.running ≡ Some (record running { image = Some next })
 
 -- The image is open: it enters the catalog, where the place of its serial was held.
-pub record ImageOpens (old : CoreView) (running : Running) (image : Making) (made : Made) (phase : Phase) (opened : NewImage) (new : CoreView) : Type 0 where
+pub record ImageOpens (old : CoreView) (running : Running) (image : Making) (made : Made) (phase : Phase)
+    (opened : NewImage) (new : CoreView) : Type 0 where
   pub outcome : IsDumpersOutcome old 0 made phase new
   pub alone : IsFree (slice_set old.outs 0 None) made.request.id.slot
   pub stands : old.standing ≡ standing.Open
   pub merger : new.merger ≡ old.merger
   pub serial : new.numbers.serial ≡ old.numbers.serial
   pub held : place_of old.catalog image.order.serial ≡ Some None
-  pub catalog : Changes old.catalog new.catalog image.order.serial (Some (Some (record { slot = opened.slot; header = opened.header; spaces = opened.table })))
+  pub catalog : Changes old.catalog new.catalog image.order.serial
+      (Some (Some (record { slot = opened.slot; header = opened.header; spaces = opened.table })))
   pub was : old.dumper.running ≡ Some running
   pub making : running.image ≡ Some image
   pub own : image.order ≡ order_of running image.order.serial image.order.state
@@ -119,7 +124,8 @@ pub record ImageOpens (old : CoreView) (running : Running) (image : Making) (mad
   pub opens : Opens image made opened
 
 -- A pre-dump is: the next image names it.
-pub record PreDumpOpens (old : CoreView) (running : Running) (image : Making) (made : Made) (phase : Phase) (opened : NewImage) (new : CoreView) : Type 0 where
+pub record PreDumpOpens (old : CoreView) (running : Running) (image : Making) (made : Made) (phase : Phase)
+    (opened : NewImage) (new : CoreView) : Type 0 where
   pub opens_it : ImageOpens old running image made phase opened new
   pub history : history_of new ≡ history_of old
   pub grows : new.grows ≡ old.grows
@@ -127,7 +133,8 @@ pub record PreDumpOpens (old : CoreView) (running : Running) (image : Making) (m
   pub is : new.dumper.running ≡ Some (after_pre_dump running opened)
 
 -- The dump is: the checkpoint is acknowledged, and none runs.
-pub record DumpOpens (old : CoreView) (running : Running) (image : Making) (made : Made) (phase : Phase) (opened : NewImage) (new : CoreView) : Type 0 where
+pub record DumpOpens (old : CoreView) (running : Running) (image : Making) (made : Made) (phase : Phase)
+    (opened : NewImage) (new : CoreView) : Type 0 where
   pub opens_it : ImageOpens old running image made phase opened new
   pub items : new.items ≡ Told (Acked running.number) ∷ old.items
   pub legal : IsLegal old.base (history_of old)
@@ -136,22 +143,35 @@ pub record DumpOpens (old : CoreView) (running : Running) (image : Making) (made
   pub is : new.dumper.running ≡ None
 
 pub record DumperOutcomes : Type 0 where
-  pub fails : (old new : CoreView) (lane : ℕ) (made : Made) (phase : Phase) (asked : List (Option Asked)) (bodies files : List (List ℕ))
-      → GoesDown old lane made phase new → slice_get asked lane ≡ Some (Some made.request) → Believes old asked bodies files
+  pub fails : (old new : CoreView) (lane : ℕ) (made : Made) (phase : Phase) (asked : List (Option Asked))
+      (bodies files : List (List ℕ))
+      → GoesDown old lane made phase new → slice_get asked lane ≡ Some (Some made.request)
+      → Believes old asked bodies files
       → Believes new (slice_set asked lane None) (bodies_after bodies made.request.id made.request.bytes) files
-  pub goes_on : (old new : CoreView) (running : Running) (image next : Making) (made : Made) (phase : Phase) (asked : List (Option Asked)) (bodies files : List (List ℕ))
-      → ImageGoesOn old running image made phase next new → slice_get asked 0 ≡ Some (Some made.request) → Believes old asked bodies files
+  pub goes_on : (old new : CoreView) (running : Running) (image next : Making) (made : Made) (phase : Phase)
+      (asked : List (Option Asked)) (bodies files : List (List ℕ))
+      → ImageGoesOn old running image made phase next new → slice_get asked 0 ≡ Some (Some made.request)
+      → Believes old asked bodies files
       → Believes new (slice_set asked 0 None) (bodies_after bodies made.request.id made.request.bytes) files
-  pub written : (old new : CoreView) (running : Running) (image next : Making) (made : Made) (phase : Phase) (asked : List (Option Asked)) (bodies files : List (List ℕ))
-      → (written : PageIsWritten old running image made phase next new) → slice_get asked (page_lane written.hands.lane) ≡ Some (Some made.request) → Believes old asked bodies files
-      → Believes new (slice_set asked (page_lane written.hands.lane) None) (bodies_after bodies made.request.id made.request.bytes) files
-  pub opens_pre_dump : (old new : CoreView) (running : Running) (image : Making) (made : Made) (phase : Phase) (opened : NewImage) (asked : List (Option Asked)) (bodies files : List (List ℕ))
-      → PreDumpOpens old running image made phase opened new → slice_get asked 0 ≡ Some (Some made.request) → Believes old asked bodies files
+  pub written : (old new : CoreView) (running : Running) (image next : Making) (made : Made) (phase : Phase)
+      (asked : List (Option Asked)) (bodies files : List (List ℕ))
+      → (written : PageIsWritten old running image made phase next new)
+      → slice_get asked (page_lane written.hands.lane) ≡ Some (Some made.request) → Believes old asked bodies files
+      → Believes new (slice_set asked (page_lane written.hands.lane) None)
+      (bodies_after bodies made.request.id made.request.bytes) files
+  pub opens_pre_dump : (old new : CoreView) (running : Running) (image : Making) (made : Made) (phase : Phase)
+      (opened : NewImage) (asked : List (Option Asked)) (bodies files : List (List ℕ))
+      → PreDumpOpens old running image made phase opened new → slice_get asked 0 ≡ Some (Some made.request)
+      → Believes old asked bodies files
       → Believes new (slice_set asked 0 None) (bodies_after bodies made.request.id made.request.bytes) files
-  pub opens_dump : (old new : CoreView) (running : Running) (image : Making) (made : Made) (phase : Phase) (opened : NewImage) (asked : List (Option Asked)) (bodies files : List (List ℕ))
-      → DumpOpens old running image made phase opened new → slice_get asked 0 ≡ Some (Some made.request) → Believes old asked bodies files
+  pub opens_dump : (old new : CoreView) (running : Running) (image : Making) (made : Made) (phase : Phase)
+      (opened : NewImage) (asked : List (Option Asked)) (bodies files : List (List ℕ))
+      → DumpOpens old running image made phase opened new → slice_get asked 0 ≡ Some (Some made.request)
+      → Believes old asked bodies files
       → Believes new (slice_set asked 0 None) (bodies_after bodies made.request.id made.request.bytes) files
   -- behind an image that enters the catalog the gate of its slot is open
-  pub enters_open : (old new : CoreView) (running : Running) (image : Making) (made : Made) (phase : Phase) (opened : NewImage) (asked : List (Option Asked)) (bodies files : List (List ℕ))
-      → ImageOpens old running image made phase opened new → slice_get asked 0 ≡ Some (Some made.request) → Believes old asked bodies files
+  pub enters_open : (old new : CoreView) (running : Running) (image : Making) (made : Made) (phase : Phase)
+      (opened : NewImage) (asked : List (Option Asked)) (bodies files : List (List ℕ))
+      → ImageOpens old running image made phase opened new → slice_get asked 0 ≡ Some (Some made.request)
+      → Believes old asked bodies files
       → slice_get new.phases image.order.slot ≡ Some Whole

@@ -1,5 +1,6 @@
 -- How the steps of a dumper keep what a core believes.
-use Rattle.std.specs.Prelude.{◌≡◌, ℕ, ◌+◌, ◌&&◌, ◌||◌, Bool, true, false, List, ◌∷◌, Option, Some, None, slice_get, slice_set}
+use Rattle.std.specs.Prelude.{◌≡◌, ℕ, ◌+◌, ◌&&◌, ◌||◌, Bool, true, false, List, ◌∷◌, Option, Some, None, slice_get}
+use Rattle.std.specs.Prelude.{slice_set}
 use Rattle.sd_chain.specs.Catalog.{Changes}
 use Rattle.sd_gate.specs.declared.call.Call.{Call as DeviceCall}
 use Rattle.sd_gate.specs.declared.call.Call.TheVariants as call
@@ -7,7 +8,8 @@ use Rattle.sd_gate.specs.declared.phase.Phase.{Phase}
 use Rattle.sd_gate.specs.Phases.{state_of}
 use Rattle.sd_gate.specs.Requests.{Asked}
 use Rattle.sd_rounds.specs.declared.image_step.ImageStep.{ImageStep}
-use Rattle.sd_rounds.specs.declared.image_step.ImageStep.TheVariants.{Call, PageCall, TableCall, Frozen, Visited, Copied}
+use Rattle.sd_rounds.specs.declared.image_step.ImageStep.TheVariants.{Call, PageCall, TableCall, Frozen, Visited}
+use Rattle.sd_rounds.specs.declared.image_step.ImageStep.TheVariants.{Copied}
 use Rattle.sd_journal.specs.declared.entry.Entry.TheVariants.{Freeze}
 use Rattle.sd_journal.specs.History.{memory_after}
 use Rattle.sd_journal.specs.Legal.{IsLegal}
@@ -42,7 +44,9 @@ pub record BeginsImage (old : CoreView) (running : Running) (phase : Phase) (new
   pub phase_is : slice_get old.phases (slot_of running) ≡ Some phase
   pub serial : new.numbers.serial ≡ old.numbers.serial + 1
   pub held : Changes old.catalog new.catalog (old.numbers.serial + 1) (Some None)
-  pub is : new.dumper.running ≡ Some (record running { image = Some (begun_image (order_of running (old.numbers.serial + 1) (state_of phase))) })
+  pub is : new.dumper.running
+      ≡ Some (record running
+      { image = Some (begun_image (order_of running (old.numbers.serial + 1) (state_of phase))) })
 
 abbrev pub opens_gate : DeviceCall → Bool
 opens_gate call.Len = false
@@ -59,7 +63,8 @@ abbrev pub commits : Running → DeviceCall → Bool
 commits running asked = is_last running && opens_gate asked
 
 -- A step of an image asks for a device call that writes no data page.
-pub record AsksFor (old : CoreView) (running : Running) (image : Making) (number : ℕ) (step : ImageStep) (request : Asked) (next : Making) (new : CoreView) : Type 0 where
+pub record AsksFor (old : CoreView) (running : Running) (image : Making) (number : ℕ) (step : ImageStep)
+    (request : Asked) (next : Making) (new : CoreView) : Type 0 where
   pub rest : OnlyDumps old new
   pub history : history_of new ≡ history_of old
   pub catalog : new.catalog ≡ old.catalog
@@ -78,7 +83,8 @@ pub record AsksFor (old : CoreView) (running : Running) (image : Making) (number
   pub is : new.dumper.running ≡ Some (record running { image = Some next })
 
 -- A step of an image asks for the write of a data page: what is out on its slot writes others.
-pub record AsksToWrite (old : CoreView) (running : Running) (image : Making) (number lane : ℕ) (request : Asked) (next : Making) (new : CoreView) : Type 0 where
+pub record AsksToWrite (old : CoreView) (running : Running) (image : Making) (number lane : ℕ) (request : Asked)
+    (next : Making) (new : CoreView) : Type 0 where
   pub rest : OnlyDumps old new
   pub history : history_of new ≡ history_of old
   pub catalog : new.catalog ≡ old.catalog
@@ -97,7 +103,8 @@ pub record AsksToWrite (old : CoreView) (running : Running) (image : Making) (nu
   pub is : new.dumper.running ≡ Some (record running { image = Some next })
 
 -- A step of an image works on the memory.
-pub record WorksOnMemory (old : CoreView) (running : Running) (image : Making) (number : ℕ) (step : ImageStep) (next : Making) (new : CoreView) : Type 0 where
+pub record WorksOnMemory (old : CoreView) (running : Running) (image : Making) (number : ℕ) (step : ImageStep)
+    (next : Making) (new : CoreView) : Type 0 where
   pub rest : OnlyDumps old new
   pub history : history_of new ≡ history_of old
   pub catalog : new.catalog ≡ old.catalog
@@ -113,7 +120,8 @@ pub record WorksOnMemory (old : CoreView) (running : Running) (image : Making) (
   pub is : new.dumper.running ≡ Some (record running { image = Some next })
 
 -- The memory is frozen for the running checkpoint.
-pub record FreezesMemory (old : CoreView) (running : Running) (image : Making) (number : ℕ) (next : Making) (new : CoreView) : Type 0 where
+pub record FreezesMemory (old : CoreView) (running : Running) (image : Making) (number : ℕ) (next : Making)
+    (new : CoreView) : Type 0 where
   pub rest : OnlyDumps old new
   pub items : new.items ≡ Told (Freeze running.number) ∷ old.items
   pub legal : IsLegal old.base (Freeze running.number ∷ history_of old)
@@ -139,22 +147,30 @@ IsOnPages (Visited visit) = Unit {0}
 IsOnPages (Copied copied) = Unit {0}
 
 pub record DumperSteps : Type 0 where
-  pub begins_image : (old new : CoreView) (running : Running) (phase : Phase) (asked : List (Option Asked)) (bodies files : List (List ℕ))
+  pub begins_image : (old new : CoreView) (running : Running) (phase : Phase) (asked : List (Option Asked))
+      (bodies files : List (List ℕ))
       → BeginsImage old running phase new → Believes old asked bodies files → Believes new asked bodies files
   -- the next call of a plan
-  pub asks : (old new : CoreView) (running : Running) (image next : Making) (number : ℕ) (request : Asked) (asked : List (Option Asked)) (bodies files : List (List ℕ))
+  pub asks : (old new : CoreView) (running : Running) (image next : Making) (number : ℕ) (request : Asked)
+      (asked : List (Option Asked)) (bodies files : List (List ℕ))
       → AsksFor old running image number (Call request) request next new → Believes old asked bodies files
       → Believes new (slice_set asked 0 (Some request)) bodies files
   -- the write of a page that was copied, and the first that writes the table
-  pub writes_page : (old new : CoreView) (running : Running) (image next : Making) (number lane : ℕ) (request : Asked) (asked : List (Option Asked)) (bodies files : List (List ℕ))
+  pub writes_page : (old new : CoreView) (running : Running) (image next : Making) (number lane : ℕ) (request : Asked)
+      (asked : List (Option Asked)) (bodies files : List (List ℕ))
       → AsksToWrite old running image number lane request next new → Believes old asked bodies files
       → Believes new (slice_set asked (page_lane lane) (Some request)) bodies files
-  pub writes_table : (old new : CoreView) (running : Running) (image next : Making) (number : ℕ) (request : Asked) (asked : List (Option Asked)) (bodies files : List (List ℕ))
+  pub writes_table : (old new : CoreView) (running : Running) (image next : Making) (number : ℕ) (request : Asked)
+      (asked : List (Option Asked)) (bodies files : List (List ℕ))
       → AsksFor old running image number (TableCall request) request next new → Believes old asked bodies files
       → Believes new (slice_set asked 0 (Some request)) bodies files
   -- the freeze
-  pub freezes : (old new : CoreView) (running : Running) (image next : Making) (number : ℕ) (asked : List (Option Asked)) (bodies files : List (List ℕ))
-      → FreezesMemory old running image number next new → Believes old asked bodies files → Believes new asked bodies files
+  pub freezes : (old new : CoreView) (running : Running) (image next : Making) (number : ℕ)
+      (asked : List (Option Asked)) (bodies files : List (List ℕ))
+      → FreezesMemory old running image number next new → Believes old asked bodies files
+      → Believes new asked bodies files
   -- a visit of a page, and a copy of a sector
-  pub works : (old new : CoreView) (running : Running) (image next : Making) (number : ℕ) (step : ImageStep) (asked : List (Option Asked)) (bodies files : List (List ℕ))
-      → IsOnPages step → WorksOnMemory old running image number step next new → Believes old asked bodies files → Believes new asked bodies files
+  pub works : (old new : CoreView) (running : Running) (image next : Making) (number : ℕ) (step : ImageStep)
+      (asked : List (Option Asked)) (bodies files : List (List ℕ))
+      → IsOnPages step → WorksOnMemory old running image number step next new → Believes old asked bodies files
+      → Believes new asked bodies files

@@ -1,5 +1,7 @@
--- What a core knows of a store that is open: of its catalog, of the numbers that were used, and of the checkpoint that runs.
-use Rattle.std.specs.Prelude.{◌≡◌, ◌≢◌, ℕ, ◌+◌, ◌<◌, ◌≤◌, Bool, true, false, ◌==◌, ◌&&◌, ◌||◌, nat_lt, is_some, List, [], ◌∷◌, drop, length, map, Option, Some, None, Contains, IfSome, slice_get}
+-- What a core knows of a store that is open: of its catalog, of the numbers that were used, and of the checkpoint that
+-- runs.
+use Rattle.std.specs.Prelude.{◌≡◌, ◌≢◌, ℕ, ◌+◌, ◌<◌, ◌≤◌, Bool, true, false, ◌==◌, ◌&&◌, ◌||◌, nat_lt, is_some, List}
+use Rattle.std.specs.Prelude.{[], ◌∷◌, drop, length, map, Option, Some, None, Contains, IfSome, slice_get}
 use Rattle.std.specs.Option.{option_map}
 use Rattle.sd_disk.specs.Contents.{file_at}
 use Rattle.sd_image.specs.declared.header.Kind.{Kind}
@@ -54,11 +56,13 @@ lanes_of asked = drop 3 asked
 
 -- no request is out on a slot
 abbrev pub NoneAt : List (Option Asked) → ℕ → Type 0
-NoneAt asked slot = (worker : ℕ) (request : Asked) → slice_get asked worker ≡ Some (Some request) → request.id.slot ≢ slot
+NoneAt asked slot =
+    (worker : ℕ) (request : Asked) → slice_get asked worker ≡ Some (Some request) → request.id.slot ≢ slot
 
 -- ---- numbers
 
--- The last serial that was given out, or found, is above none of the store's numbers, and of none that stands in a slot.
+-- The last serial that was given out, or found, is above none of the store's numbers, and of none that stands in a
+-- slot.
 pub record AreUsed (last : ℕ) (store : Store) (beliefs : List Belief) : Type 0 where
   pub above : IsAbove store (last + 1)
   pub slots : (slot : ℕ) (i : Image) → image_at beliefs slot ≡ Some i → i.header.serial ≤ last
@@ -100,7 +104,8 @@ pub record IsPageOf (slot : ℕ) (request : Asked) : Type 0 where
 -- each lane has the write of a data page of a slot, or none; no two write the same page
 pub record ArePagesOf (slot : ℕ) (lanes : List (Option Asked)) : Type 0 where
   pub each : (lane : ℕ) (request : Asked) → slice_get lanes lane ≡ Some (Some request) → IsPageOf slot request
-  pub apart : (one other : ℕ) (a b : Asked) → slice_get lanes one ≡ Some (Some a) → slice_get lanes other ≡ Some (Some b)
+  pub apart : (one other : ℕ) (a b : Asked) → slice_get lanes one ≡ Some (Some a)
+      → slice_get lanes other ≡ Some (Some b)
       → a.id.call ≡ b.id.call → one ≡ other
 
 -- a body once the writes that are out are done
@@ -117,7 +122,8 @@ pub record IsFilled (pages : Pages) (phase : Phase) (body : List ℕ) (belief : 
   pub closed : belief ≡ Closed
 
 -- one that is being formatted
-pub record IsFormatting (order : ImageOrder) (plan : Planned) (phase : Phase) (body : List ℕ) (request : Option Asked) (belief : Belief) : Type 0 where
+pub record IsFormatting (order : ImageOrder) (plan : Planned) (phase : Phase) (body : List ℕ) (request : Option Asked)
+    (belief : Belief) : Type 0 where
   pub place : ℕ
   pub on : plan.slot ≡ order.slot
   pub left : AreLeft (format_calls order.state) place request plan
@@ -135,7 +141,8 @@ abbrev pub is_opening_at : ℕ → Option Asked → Bool
 is_opening_at place request = nat_lt 3 place || (place == 3 && is_some request)
 
 -- one that holds the image in the end: it is closed until the gate's opening is taken up, and then being opened
-pub record IsClosing (order : ImageOrder) (i : Image) (plan : Planned) (phase : Phase) (body : List ℕ) (request : Option Asked) (belief : Belief) (dump : Option Image) : Type 0 where
+pub record IsClosing (order : ImageOrder) (i : Image) (plan : Planned) (phase : Phase) (body : List ℕ)
+    (request : Option Asked) (belief : Belief) (dump : Option Image) : Type 0 where
   pub place : ℕ
   pub on : plan.slot ≡ order.slot
   pub left : AreLeft (body_calls i.header (table_text i.spaces)) place request plan
@@ -145,16 +152,20 @@ pub record IsClosing (order : ImageOrder) (i : Image) (plan : Planned) (phase : 
 
 -- a slot with this body once the writes of data pages that are out are done
 abbrev pub IsSlotFor : Stage → ImageOrder → Pages → Phase → List ℕ → Option Asked → Belief → Option Image → Type 0
-IsSlotFor (Format plan) order pages phase body request belief dump = IsFormatting order plan phase body request belief × (dump ≡ None)
-IsSlotFor Freeze order pages phase body request belief dump = IsFilled pages phase body belief × (request ≡ None) × (dump ≡ None)
-IsSlotFor PassStage order pages phase body request belief dump = IsFilled pages phase body belief × (request ≡ None) × (dump ≡ None)
+IsSlotFor (Format plan) order pages phase body request belief dump =
+    IsFormatting order plan phase body request belief × (dump ≡ None)
+IsSlotFor Freeze order pages phase body request belief dump =
+    IsFilled pages phase body belief × (request ≡ None) × (dump ≡ None)
+IsSlotFor PassStage order pages phase body request belief dump =
+    IsFilled pages phase body belief × (request ≡ None) × (dump ≡ None)
 IsSlotFor (Close plan header tables) order pages phase body request belief dump =
     IsClosing order (image_of header pages tables) plan phase body request belief dump
 
 -- ---- the checkpoint that runs
 
 -- the memory was frozen as `cut` for the running checkpoint
-pub record IsFrozenAs (base : Base) (history : History) (number : ℕ) (memory : Contents) (pages : Pages) (chain : Chain) (image : Making) : Type 0 where
+pub record IsFrozenAs (base : Base) (history : History) (number : ℕ) (memory : Contents) (pages : Pages) (chain : Chain)
+    (image : Making) : Type 0 where
   pub cut : Contents
   pub pends : pending history ≡ Some number
   pub shown : at_freeze base history number ≡ Some (plain_of cut)
@@ -163,8 +174,10 @@ pub record IsFrozenAs (base : Base) (history : History) (number : ℕ) (memory :
   pub areas : HasAreas cut image
 
 -- an image that is being made
-pub record IsMakingOn (base : Base) (history : History) (memory : Contents) (phases : List Phase) (asked : List (Option Asked)) (bodies : List (List ℕ))
-    (last : ℕ) (store : Store) (dump : Option Image) (beliefs : List Belief) (parent number : ℕ) (image : Making) : Type 0 where
+pub record IsMakingOn (base : Base) (history : History) (memory : Contents) (phases : List Phase)
+    (asked : List (Option Asked)) (bodies : List (List ℕ))
+    (last : ℕ) (store : Store) (dump : Option Image) (beliefs : List Belief) (parent number : ℕ)
+    (image : Making) : Type 0 where
   pub pages : Pages
   pub keeps : KeepsImage pages (chain_of store parent) image memory
   pub files : FilesImage pages image
@@ -172,7 +185,8 @@ pub record IsMakingOn (base : Base) (history : History) (memory : Contents) (pha
   pub serial : image.order.serial ≤ last
   pub fresh : IsNewNumber store image.order.serial
   pub low : parent < image.order.serial
-  pub others : (slot : ℕ) (i : Image) → image_at beliefs slot ≡ Some i → slot ≢ image.order.slot → i.header.serial ≢ image.order.serial
+  pub others : (slot : ℕ) (i : Image) → image_at beliefs slot ≡ Some i → slot ≢ image.order.slot
+      → i.header.serial ≢ image.order.serial
   pub phase : Phase
   pub phase_is : slice_get phases image.order.slot ≡ Some phase
   pub belief : Belief
@@ -182,40 +196,52 @@ pub record IsMakingOn (base : Base) (history : History) (memory : Contents) (pha
   pub asked_at : IfSome request (λ r. r.id.slot ≡ image.order.slot)
   pub rests : is_passing image.stage ≡ false → image.writes ≡ no_writes
   pub writing : ArePagesOf image.order.slot (lanes_of asked)
-  pub slot_is : IsSlotFor image.stage image.order pages phase (body_written (file_at bodies image.order.slot) (lanes_of asked)) request belief dump
+  pub slot_is : IsSlotFor image.stage image.order pages phase
+      (body_written (file_at bodies image.order.slot) (lanes_of asked)) request belief dump
 
 -- between two images the parent's number gives each clean page
-pub record IsBetween (memory : Contents) (asked : List (Option Asked)) (store : Store) (dump : Option Image) (parent : ℕ) : Type 0 where
+pub record IsBetween (memory : Contents) (asked : List (Option Asked)) (store : Store) (dump : Option Image)
+    (parent : ℕ) : Type 0 where
   pub rests : parent ≢ 0 → Rests (chain_of store parent) memory
   pub none : slice_get asked 0 ≡ Some None
   pub alone : dump ≡ None
 
-abbrev pub IsImageOn : Base → History → Contents → List Phase → List (Option Asked) → List (List ℕ) → ℕ → Store → Option Image → List Belief → ℕ → ℕ → Option Making → Type 0
-IsImageOn base history memory phases asked bodies last store dump beliefs parent number None = IsBetween memory asked store dump parent
+abbrev pub IsImageOn : Base → History → Contents → List Phase → List (Option Asked) → List (List ℕ) → ℕ → Store
+    → Option Image → List Belief → ℕ → ℕ → Option Making → Type 0
+IsImageOn base history memory phases asked bodies last store dump beliefs parent number None =
+    IsBetween memory asked store dump parent
 IsImageOn base history memory phases asked bodies last store dump beliefs parent number (Some image) =
     IsMakingOn base history memory phases asked bodies last store dump beliefs parent number image
 
 -- the checkpoint that runs asks for its parent's number; nobody needs what stands in its slots
-pub record IsRunningOn (base : Base) (history : History) (memory : Contents) (phases : List Phase) (asked : List (Option Asked)) (bodies : List (List ℕ))
+pub record IsRunningOn (base : Base) (history : History) (memory : Contents) (phases : List Phase)
+    (asked : List (Option Asked)) (bodies : List (List ℕ))
     (last : ℕ) (store : Store) (dump : Option Image) (beliefs : List Belief) (running : Running) : Type 0 where
   pub some : 0 < running.number
   pub chain : store.chain ≡ running.parent ∷ []
   pub newest : (j : Image) → Contains store.catalog j → IsRestorable j → j.header.checkpoint < running.number
   pub within : (slot : ℕ) → IsReserved running slot → slot < length phases
-  pub unneeded : (slot : ℕ) (i : Image) → IsReserved running slot → image_at beliefs slot ≡ Some i → IsNeededIn store i → ⊥
+  pub unneeded : (slot : ℕ) (i : Image) → IsReserved running slot → image_at beliefs slot ≡ Some i → IsNeededIn store i
+      → ⊥
   pub apart : (one other : ℕ) → running.opened ≤ one → one < other → other ≤ length running.pre_dumps
       → slot_of (record running { opened = one }) ≢ slot_of (record running { opened = other })
-  pub image : IsImageOn base history memory phases asked bodies last store dump beliefs running.parent running.number running.image
+  pub image : IsImageOn base history memory phases asked bodies last store dump beliefs running.parent running.number
+      running.image
 
--- none runs: where a checkpoint was acknowledged since the store was opened or one cancelled, the tip's number gives each clean page
-pub record IsAtRest (grows : Bool) (memory : Contents) (asked : List (Option Asked)) (store : Store) (dump : Option Image) : Type 0 where
-  pub gives : grows ≡ true → (tip : Image) → IsTip store.catalog tip → Rests (chain_of store tip.header.stands_for) memory
+-- none runs: where a checkpoint was acknowledged since the store was opened or one cancelled, the tip's number gives
+-- each clean page
+pub record IsAtRest (grows : Bool) (memory : Contents) (asked : List (Option Asked)) (store : Store)
+    (dump : Option Image) : Type 0 where
+  pub gives : grows ≡ true → (tip : Image) → IsTip store.catalog tip
+      → Rests (chain_of store tip.header.stands_for) memory
   pub none : slice_get asked 0 ≡ Some None
   pub alone : dump ≡ None
   pub idle : store.chain ≡ []
 
-abbrev pub IsAtWork : Base → History → Bool → Contents → List Phase → List (Option Asked) → List (List ℕ) → ℕ → Store → Option Image → List Belief → Option Running → Type 0
-IsAtWork base history grows memory phases asked bodies last store dump beliefs None = IsAtRest grows memory asked store dump
+abbrev pub IsAtWork : Base → History → Bool → Contents → List Phase → List (Option Asked) → List (List ℕ) → ℕ → Store
+    → Option Image → List Belief → Option Running → Type 0
+IsAtWork base history grows memory phases asked bodies last store dump beliefs None =
+    IsAtRest grows memory asked store dump
 IsAtWork base history grows memory phases asked bodies last store dump beliefs (Some running) =
     IsRunningOn base history memory phases asked bodies last store dump beliefs running
 
@@ -223,11 +249,14 @@ IsAtWork base history grows memory phases asked bodies last store dump beliefs (
 
 -- each slot on which no request is out is believed to be what its phase says
 abbrev pub AreExact : List Phase → List (Option Asked) → List (List ℕ) → List Belief → Type 0
-AreExact phases asked bodies beliefs = (slot : ℕ) (phase : Phase) (belief : Belief) → slice_get phases slot ≡ Some phase → slice_get beliefs slot ≡ Some belief
+AreExact phases asked bodies beliefs = (slot : ℕ) (phase : Phase) (belief : Belief) → slice_get phases slot ≡ Some phase
+    → slice_get beliefs slot ≡ Some belief
     → NoneAt asked slot → IsBelievedAs phase (file_at bodies slot) belief
 
-pub record IsInUseOn (base : Base) (history : History) (places : Places) (grows : Bool) (memory : Contents) (phases : List Phase) (asked : List (Option Asked))
-    (bodies : List (List ℕ)) (last : ℕ) (store : Store) (dump : Option Image) (beliefs : List Belief) (running : Option Running) : Type 0 where
+pub record IsInUseOn (base : Base) (history : History) (places : Places) (grows : Bool) (memory : Contents)
+    (phases : List Phase) (asked : List (Option Asked))
+    (bodies : List (List ℕ)) (last : ℕ) (store : Store) (dump : Option Image) (beliefs : List Belief)
+    (running : Option Running) : Type 0 where
   pub catalog : IsCatalogInUse places beliefs
   pub grows_is : store.grows ≡ grows
   pub used : AreUsed last store beliefs

@@ -40,23 +40,29 @@ IsPastSync (Asking plan) = HasSynced plan
 IsPastSync (Read header table) = Unit {0}
 IsPastSync (Broken reason) = Unit {0}
 
--- What an opener was told is so of the files, with the request of it that is out, and nobody else changes them. The slots that it
--- synced are in the phases that their files tell, and a sync brings each other there.
-pub record SeesStore (files : List (List ℕ)) (phases : List Phase) (asked : List (Option Asked)) (opener : Looking) : Type 0 where
+-- What an opener was told is so of the files, with the request of it that is out, and nobody else changes them. The
+-- slots that it synced are in the phases that their files tell, and a sync brings each other there.
+pub record SeesStore (files : List (List ℕ)) (phases : List Phase) (asked : List (Option Asked))
+    (opener : Looking) : Type 0 where
   pub looks : AreLooks asked
   pub request : Option Asked
   pub own : slice_get asked 2 ≡ Some request
   pub sees : Sees files request opener
   pub syncs : (slot : ℕ) (phase : Phase) → slice_get phases slot ≡ Some phase → IsRefound (synced phase)
-  pub told : (slot : ℕ) (phase : Phase) → slice_get phases slot ≡ Some phase → slot < length opener.told → IsRefound phase
-  pub current : IsPastSync opener.stage → (phase : Phase) → slice_get phases (length opener.told) ≡ Some phase → IsRefound phase
+  pub told : (slot : ℕ) (phase : Phase) → slice_get phases slot ≡ Some phase → slot < length opener.told
+      → IsRefound phase
+  pub current : IsPastSync opener.stage → (phase : Phase) → slice_get phases (length opener.told) ≡ Some phase
+      → IsRefound phase
 
 -- with these requests out, these bodies, these files, and these beliefs of this store
-pub record Knows (core : CoreView) (asked : List (Option Asked)) (bodies files : List (List ℕ)) (store : Store) (dump : Option Image) (beliefs : List Belief) : Type 0 where
+pub record Knows (core : CoreView) (asked : List (Option Asked)) (bodies files : List (List ℕ)) (store : Store)
+    (dump : Option Image) (beliefs : List Belief) : Type 0 where
   pub count : length files ≡ length core.phases
   pub out : ids_of asked ≡ core.outs
   pub sees : IfSome core.opener (SeesStore files core.phases asked)
   pub sure : core.committing ≡ false → dump ≡ None
-  pub in_use : core.standing ≡ Open → IsInUseOn core.base (history_of core) core.catalog core.grows core.memory core.phases asked bodies
+  pub in_use : core.standing ≡ Open
+      → IsInUseOn core.base (history_of core) core.catalog core.grows core.memory core.phases asked bodies
       core.numbers.serial store dump beliefs core.dumper.running
-  pub merging : core.standing ≡ Open → IsMergeInUse core.phases asked bodies core.numbers.serial store beliefs core.dumper.running core.merger
+  pub merging : core.standing ≡ Open
+      → IsMergeInUse core.phases asked bodies core.numbers.serial store beliefs core.dumper.running core.merger

@@ -1,5 +1,6 @@
 -- What a core goes on believing.
-use Rattle.std.specs.Prelude.{◌≡◌, ◌⊎◌, ℕ, List, ◌∷◌, ◌≤◌, drop, true, false, length, map, Option, Some, None, slice_get, slice_set}
+use Rattle.std.specs.Prelude.{◌≡◌, ◌⊎◌, ℕ, List, ◌∷◌, ◌≤◌, drop, true, false, length, map, Option, Some, None}
+use Rattle.std.specs.Prelude.{slice_get, slice_set}
 use Rattle.sd_chain.specs.Catalog.{AreInOrder, Opened, place_of}
 use Rattle.sd_chain.specs.Store.{IsCatalogOf}
 use Rattle.sd_gate.specs.Calls.{AreKept, IsLook}
@@ -28,7 +29,8 @@ pub record IsMadeOf (request : Asked) (made : Made) (files new : List (List ℕ)
   pub looks : IsLook request.id.call → new ≡ files
   pub count : length new ≡ length files
 
--- Where the call of a request that is out was made, the core believes the same, with the request as it stands in the outcome.
+-- Where the call of a request that is out was made, the core believes the same, with the request as it stands in the
+-- outcome.
 abbrev pub PerformedIsBelieved : Type 0
 PerformedIsBelieved = (core : CoreView) (asked : List (Option Asked)) (bodies files new : List (List ℕ)) (worker : ℕ)
     (request : Asked) (made : Made)
@@ -39,14 +41,15 @@ PerformedIsBelieved = (core : CoreView) (asked : List (Option Asked)) (bodies fi
 pub record IsOpenAs (core : CoreView) (files : List (List ℕ)) : Type 0 where
   pub catalog : IsCatalogOf files core.catalog
   pub order : AreInOrder core.catalog
-  pub serials : (serial : ℕ) (i : Opened) → place_of core.catalog serial ≡ Some (Some i) → i.header.serial ≤ core.numbers.serial
+  pub serials : (serial : ℕ) (i : Opened) → place_of core.catalog serial ≡ Some (Some i)
+      → i.header.serial ≤ core.numbers.serial
   pub grows : core.grows ≡ false
   pub idle : core.dumper.running ≡ None
   pub unmerged : core.merger ≡ None
   pub outs : core.outs ≡ nobody
 
--- Files that show the last pair are believed, where each slot is in the phase that its file tells, nothing is out, and no
--- opener runs: so a core begins, and so it is when a store was opened again.
+-- Files that show the last pair are believed, where each slot is in the phase that its file tells, nothing is out, and
+-- no opener runs: so a core begins, and so it is when a store was opened again.
 abbrev pub FoundIsBelieved : Type 0
 FoundIsBelieved = (core : CoreView) (asked : List (Option Asked)) (files : List (List ℕ)) (shown : Shown)
     → core.phases ≡ map found_phase files → core.opener ≡ None → NoneOut asked → ids_of asked ≡ core.outs
@@ -63,18 +66,21 @@ LeftShowsAllowed = (core : CoreView) (asked : List (Option Asked)) (bodies files
 pub record ShowsAwaited (core : CoreView) (files : List (List ℕ)) : Type 0 where
   pub shown : Shown
   pub shows : Shows files shown
-  pub awaited : IsLastPair core.base (history_of core) shown ⊎ ((core.committing ≡ true) × IsPendingPair core.base (history_of core) shown)
+  pub awaited : IsLastPair core.base (history_of core) shown
+      ⊎ ((core.committing ≡ true) × IsPendingPair core.base (history_of core) shown)
 
 -- What an opener finds in a store that is as it is believed to be.
 pub record OpenerFinds : Type 0 where
   -- while none of its requests is out it sees the files
   pub sees : (core : CoreView) (opener : Looking) (asked : List (Option Asked)) (bodies files : List (List ℕ))
-      → core.opener ≡ Some opener → slice_get core.outs 2 ≡ Some None → Believes core asked bodies files → Sees files None opener
+      → core.opener ≡ Some opener → slice_get core.outs 2 ≡ Some None → Believes core asked bodies files
+      → Sees files None opener
   -- and these show the last pair, or the pending one
   pub shows : (core : CoreView) (asked : List (Option Asked)) (bodies files left : List (List ℕ))
       → Believes core asked bodies files → DiskLeaves core.phases bodies left → ShowsAwaited core left
 
--- a store was opened again: the journal has the checkpoint that its files show, and each slot is in the phase that its file tells
+-- a store was opened again: the journal has the checkpoint that its files show, and each slot is in the phase that its
+-- file tells
 pub record IsReopened (old new : CoreView) (files : List (List ℕ)) (found : Option ℕ) : Type 0 where
   pub base : new.base ≡ old.base
   pub items : new.items ≡ Told (Reopened found) ∷ old.items
@@ -87,6 +93,8 @@ pub record IsReopened (old new : CoreView) (files : List (List ℕ)) (found : Op
 
 -- What is believed then starts anew from the files, which are as a crash could have left them.
 abbrev pub ReopenedIsBelieved : Type 0
-ReopenedIsBelieved = (old new : CoreView) (asked : List (Option Asked)) (bodies files : List (List ℕ)) (found : Option ℕ)
-    → NoneOut asked → Believes old asked bodies files → DiskLeaves old.phases bodies files → IsReopened old new files found
+ReopenedIsBelieved =
+    (old new : CoreView) (asked : List (Option Asked)) (bodies files : List (List ℕ)) (found : Option ℕ)
+    → NoneOut asked → Believes old asked bodies files → DiskLeaves old.phases bodies files
+    → IsReopened old new files found
     → Believes new asked (map (drop 1) files) files

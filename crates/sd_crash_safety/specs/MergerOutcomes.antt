@@ -43,7 +43,8 @@ pub record MergeGoesDown (old : CoreView) (made : Made) (phase : Phase) (new : C
   pub committing : new.committing ≡ old.committing
 
 -- the merged image goes on
-pub record MergedGoesOn (old : CoreView) (merge : merger.Running) (copy : Copying) (made : Made) (phase : Phase) (next : Copying) (new : CoreView) : Type 0 where
+pub record MergedGoesOn (old : CoreView) (merge : merger.Running) (copy : Copying) (made : Made) (phase : Phase)
+    (next : Copying) (new : CoreView) : Type 0 where
   pub outcome : IsMergersOutcome old made phase new
   pub rest : OnlyMerges old new
   pub serial : new.numbers.serial ≡ old.numbers.serial
@@ -54,7 +55,8 @@ pub record MergedGoesOn (old : CoreView) (merge : merger.Running) (copy : Copyin
   pub hands : HandsIn copy made copies.More next
   pub is : new.merger ≡ Some (record merge { doing = copying next })
 
--- An image of the list: it is in the catalog, no request is out on its slot, nobody needs it, and the checkpoint spares the slot.
+-- An image of the list: it is in the catalog, no request is out on its slot, nobody needs it, and the checkpoint spares
+-- the slot.
 pub record MayRetire (places : Places) (old : CoreView) (one : Retired) : Type 0 where
   pub opened : Opened
   pub there : place_of places one.serial ≡ Some (Some opened)
@@ -67,17 +69,20 @@ pub record MayRetire (places : Places) (old : CoreView) (one : Retired) : Type 0
 -- each image of the list is one, and they stand in different slots
 pub record MayAllRetire (places : Places) (old : CoreView) (list : List Retired) : Type 0 where
   pub each : (place : ℕ) (one : Retired) → slice_get list place ≡ Some one → MayRetire places old one
-  pub apart : (place other : ℕ) (a b : Retired) → place < other → slice_get list place ≡ Some a → slice_get list other ≡ Some b → a.slot ≢ b.slot
+  pub apart : (place other : ℕ) (a b : Retired) → place < other → slice_get list place ≡ Some a
+      → slice_get list other ≡ Some b → a.slot ≢ b.slot
 
--- The merged image is open: it enters the catalog, where the place of its serial was held, and the images that nobody needs any more are
--- listed.
-pub record MergedOpens (places : Places) (old : CoreView) (merge : merger.Running) (copy : Copying) (made : Made) (phase : Phase) (image : NewImage) (list : List Retired)
+-- The merged image is open: it enters the catalog, where the place of its serial was held, and the images that nobody
+-- needs any more are listed.
+pub record MergedOpens (places : Places) (old : CoreView) (merge : merger.Running) (copy : Copying) (made : Made)
+    (phase : Phase) (image : NewImage) (list : List Retired)
     (done : MergeProgress) (new : CoreView) : Type 0 where
   pub outcome : IsMergersOutcome old made phase new
   pub rest : OnlyMerges old new
   pub serial : new.numbers.serial ≡ old.numbers.serial
   pub held : place_of old.catalog copy.order.serial ≡ Some None
-  pub catalog : Changes old.catalog places copy.order.serial (Some (Some (record { slot = image.slot; header = image.header; spaces = image.table })))
+  pub catalog : Changes old.catalog places copy.order.serial
+      (Some (Some (record { slot = image.slot; header = image.header; spaces = image.table })))
   pub its_catalog : new.catalog ≡ places
   pub was : old.merger ≡ Some merge
   pub doing : merge.doing ≡ copying copy
@@ -87,7 +92,8 @@ pub record MergedOpens (places : Places) (old : CoreView) (merge : merger.Runnin
   pub retires : Retires (Some (record merge { doing = opened copy.order.serial })) list done new.merger
 
 -- An outcome of a call on an image of the list. No request is out on the slot of the next one.
-pub record RetiringGoesOn (old : CoreView) (merge : merger.Running) (r : Retiring) (made : Made) (phase : Phase) (done : MergeProgress) (next : Retiring) (new : CoreView) : Type 0 where
+pub record RetiringGoesOn (old : CoreView) (merge : merger.Running) (r : Retiring) (made : Made) (phase : Phase)
+    (done : MergeProgress) (next : Retiring) (new : CoreView) : Type 0 where
   pub outcome : IsMergersOutcome old made phase new
   pub rest : OnlyMerges old new
   pub serial : new.numbers.serial ≡ old.numbers.serial
@@ -110,33 +116,50 @@ goes_on_with merge (progress.Merged serial) next = None
 -- what an outcome of the merger leaves is believed
 abbrev pub OutcomeIsBelieved : CoreView → CoreView → Made → Type 0
 OutcomeIsBelieved old new made = (asked : List (Option Asked)) (bodies files : List (List ℕ))
-    → slice_get asked 1 ≡ Some (Some made.request) → WasTold old.phases bodies files made → Believes old asked bodies files
+    → slice_get asked 1 ≡ Some (Some made.request) → WasTold old.phases bodies files made
+    → Believes old asked bodies files
     → Believes new (slice_set asked 1 None) (bodies_after bodies made.request.id made.request.bytes) files
 
 pub record MergerOutcomes (places : Places) : Type 0 where
-  pub fails : (old new : CoreView) (made : Made) (phase : Phase) → MergeGoesDown old made phase new → OutcomeIsBelieved old new made
+  pub fails : (old new : CoreView) (made : Made) (phase : Phase) → MergeGoesDown old made phase new
+      → OutcomeIsBelieved old new made
   pub goes_on : (old new : CoreView) (merge : merger.Running) (copy next : Copying) (made : Made) (phase : Phase)
       → MergedGoesOn old merge copy made phase next new → OutcomeIsBelieved old new made
-  pub opens : (old new : CoreView) (merge : merger.Running) (copy : Copying) (made : Made) (phase : Phase) (image : NewImage) (list : List Retired) (done : MergeProgress)
+  pub opens : (old new : CoreView) (merge : merger.Running) (copy : Copying) (made : Made) (phase : Phase)
+      (image : NewImage) (list : List Retired) (done : MergeProgress)
       → MergedOpens places old merge copy made phase image list done new → OutcomeIsBelieved old new made
-  -- the image that entered is a copy of its source, where no request but the merger's is out on slots that the checkpoint spares
-  pub copies : (old new : CoreView) (merge : merger.Running) (copy : Copying) (made : Made) (phase : Phase) (image : NewImage) (list : List Retired) (done : MergeProgress)
-      (asked : List (Option Asked)) (bodies files : List (List ℕ)) → MergedOpens places old merge copy made phase image list done new
+  -- the image that entered is a copy of its source, where no request but the merger's is out on slots that the
+  -- checkpoint spares
+  pub copies : (old new : CoreView) (merge : merger.Running) (copy : Copying) (made : Made) (phase : Phase)
+      (image : NewImage) (list : List Retired) (done : MergeProgress)
+      (asked : List (Option Asked)) (bodies files : List (List ℕ))
+      → MergedOpens places old merge copy made phase image list done new
       → ((slot : ℕ) → IsSpared old.dumper.running slot → IsFree (slice_set old.outs 1 None) slot)
       → slice_get asked 1 ≡ Some (Some made.request) → Believes old asked bodies files
-      → IsCopyThere merge.source.serial image.header.serial old.catalog new (bodies_after bodies made.request.id made.request.bytes)
+      → IsCopyThere merge.source.serial image.header.serial old.catalog new
+      (bodies_after bodies made.request.id made.request.bytes)
   -- and none is out on the slots of what its source reaches
-  pub rests : (old new : CoreView) (merge : merger.Running) (copy : Copying) (made : Made) (phase : Phase) (image : NewImage) (list : List Retired) (done : MergeProgress)
-      (asked : List (Option Asked)) (bodies files : List (List ℕ)) → MergedOpens places old merge copy made phase image list done new
+  pub rests : (old new : CoreView) (merge : merger.Running) (copy : Copying) (made : Made) (phase : Phase)
+      (image : NewImage) (list : List Retired) (done : MergeProgress)
+      (asked : List (Option Asked)) (bodies files : List (List ℕ))
+      → MergedOpens places old merge copy made phase image list done new
       → ((slot : ℕ) → IsSpared old.dumper.running slot → IsFree (slice_set old.outs 1 None) slot)
       → slice_get asked 1 ≡ Some (Some made.request) → Believes old asked bodies files
-      → IsCopyAtRest merge.source.serial image.header.serial old.catalog new (bodies_after bodies made.request.id made.request.bytes)
-  pub orderly : (old new : CoreView) (merge : merger.Running) (copy : Copying) (made : Made) (phase : Phase) (image : NewImage) (list : List Retired) (done : MergeProgress)
-      (asked : List (Option Asked)) (bodies files : List (List ℕ)) → MergedOpens places old merge copy made phase image list done new
+      → IsCopyAtRest merge.source.serial image.header.serial old.catalog new
+      (bodies_after bodies made.request.id made.request.bytes)
+  pub orderly : (old new : CoreView) (merge : merger.Running) (copy : Copying) (made : Made) (phase : Phase)
+      (image : NewImage) (list : List Retired) (done : MergeProgress)
+      (asked : List (Option Asked)) (bodies files : List (List ℕ))
+      → MergedOpens places old merge copy made phase image list done new
       → slice_get asked 1 ≡ Some (Some made.request) → Believes old asked bodies files → IsOrderly places
-  pub retires : (old new : CoreView) (merge : merger.Running) (r next : Retiring) (made : Made) (phase : Phase) (done : MergeProgress)
-      → RetiringGoesOn old merge r made phase done next new → new.merger ≡ goes_on_with merge done next → OutcomeIsBelieved old new made
+  pub retires : (old new : CoreView) (merge : merger.Running) (r next : Retiring) (made : Made) (phase : Phase)
+      (done : MergeProgress)
+      → RetiringGoesOn old merge r made phase done next new → new.merger ≡ goes_on_with merge done next
+      → OutcomeIsBelieved old new made
   -- behind the last of these calls each image of the list is closed, and its file one byte long
-  pub cuts : (old new : CoreView) (merge : merger.Running) (r next : Retiring) (made : Made) (phase : Phase) (serial place : ℕ) (one : Retired)
-      (asked : List (Option Asked)) (bodies files : List (List ℕ)) → RetiringGoesOn old merge r made phase (progress.Merged serial) next new
-      → slice_get asked 1 ≡ Some (Some made.request) → Believes old asked bodies files → slice_get r.list place ≡ Some one → slice_get new.phases one.slot ≡ Some Bare
+  pub cuts : (old new : CoreView) (merge : merger.Running) (r next : Retiring) (made : Made) (phase : Phase)
+      (serial place : ℕ) (one : Retired)
+      (asked : List (Option Asked)) (bodies files : List (List ℕ))
+      → RetiringGoesOn old merge r made phase (progress.Merged serial) next new
+      → slice_get asked 1 ≡ Some (Some made.request) → Believes old asked bodies files
+      → slice_get r.list place ≡ Some one → slice_get new.phases one.slot ≡ Some Bare

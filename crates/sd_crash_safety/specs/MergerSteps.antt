@@ -44,11 +44,13 @@ pub record OnlyMerges (old new : CoreView) : Type 0 where
 -- no image that the running checkpoint's next parent number calls for stands in the slot
 abbrev pub IsUncalled : Places → Option Running → ℕ → Type 0
 IsUncalled places None slot = Unit {0}
-IsUncalled places (Some running) slot = (serial : ℕ) (o start : Opened) → place_of places serial ≡ Some (Some o) → o.slot ≡ slot
+IsUncalled places (Some running) slot =
+    (serial : ℕ) (o start : Opened) → place_of places serial ≡ Some (Some o) → o.slot ≡ slot
     → Names places running.parent start → ReachesSerial places start.header.serial serial → ⊥
 
 -- A merge of the tip begins, in a slot that the checkpoint spares, and in which no image stands that is needed.
-pub record BeginsMerge (places : Places) (old : CoreView) (tip : Opened) (slot : ℕ) (before : List ℕ) (new : CoreView) : Type 0 where
+pub record BeginsMerge (places : Places) (old : CoreView) (tip : Opened) (slot : ℕ) (before : List ℕ)
+    (new : CoreView) : Type 0 where
   pub rest : OnlyMerges old new
   pub phases : new.phases ≡ old.phases
   pub outs : new.outs ≡ old.outs
@@ -64,7 +66,8 @@ pub record BeginsMerge (places : Places) (old : CoreView) (tip : Opened) (slot :
   pub is : new.merger ≡ Some (begun_merge (source_from tip) slot before)
 
 abbrev pub MergeBeginningIsBelieved : Places → Type 0
-MergeBeginningIsBelieved places = (old new : CoreView) (tip : Opened) (slot : ℕ) (before : List ℕ) (asked : List (Option Asked)) (bodies files : List (List ℕ))
+MergeBeginningIsBelieved places = (old new : CoreView) (tip : Opened) (slot : ℕ) (before : List ℕ)
+    (asked : List (Option Asked)) (bodies files : List (List ℕ))
     → BeginsMerge places old tip slot before new → Believes old asked bodies files → Believes new asked bodies files
 
 -- The merged image begins: it gets the serial above all that were given out, whose place in the catalog is held.
@@ -78,10 +81,12 @@ pub record BeginsMerged (old : CoreView) (merge : merger.Running) (phase : Phase
   pub held : Changes old.catalog new.catalog (old.numbers.serial + 1) (Some None)
   pub was : old.merger ≡ Some merge
   pub due : merge.doing ≡ due
-  pub is : new.merger ≡ Some (record merge { doing = copying (begun_copy (merger.order_of merge (old.numbers.serial + 1) (state_of phase))) })
+  pub is : new.merger ≡ Some
+      (record merge { doing = copying (begun_copy (merger.order_of merge (old.numbers.serial + 1) (state_of phase))) })
 
 -- A step of the merged image.
-pub record MergesOn (old : CoreView) (merge : merger.Running) (copy : Copying) (ticket : ℕ) (step : MergeStep) (next : Copying) (new : CoreView) : Type 0 where
+pub record MergesOn (old : CoreView) (merge : merger.Running) (copy : Copying) (ticket : ℕ) (step : MergeStep)
+    (next : Copying) (new : CoreView) : Type 0 where
   pub rest : OnlyMerges old new
   pub phases : new.phases ≡ old.phases
   pub serial : new.numbers.serial ≡ old.numbers.serial
@@ -93,19 +98,22 @@ pub record MergesOn (old : CoreView) (merge : merger.Running) (copy : Copying) (
   pub is : new.merger ≡ Some (record merge { doing = copying next })
 
 -- It asks for a device call.
-pub record AsksForMerged (old : CoreView) (merge : merger.Running) (copy : Copying) (ticket : ℕ) (step : MergeStep) (request : Asked) (next : Copying) (new : CoreView) : Type 0 where
+pub record AsksForMerged (old : CoreView) (merge : merger.Running) (copy : Copying) (ticket : ℕ) (step : MergeStep)
+    (request : Asked) (next : Copying) (new : CoreView) : Type 0 where
   pub merges : MergesOn old merge copy ticket step next new
   pub free : slice_get old.outs 1 ≡ Some None
   pub apart : IsFree old.outs request.id.slot
   pub outs : new.outs ≡ slice_set old.outs 1 (Some request.id)
 
 -- It takes a page of zeros.
-pub record TakesZeros (old : CoreView) (merge : merger.Running) (copy : Copying) (ticket : ℕ) (next : Copying) (new : CoreView) : Type 0 where
+pub record TakesZeros (old : CoreView) (merge : merger.Running) (copy : Copying) (ticket : ℕ) (next : Copying)
+    (new : CoreView) : Type 0 where
   pub merges : MergesOn old merge copy ticket Zero next new
   pub outs : new.outs ≡ old.outs
 
 -- The next call on an image of the list is asked for.
-pub record AsksToRetire (old : CoreView) (merge : merger.Running) (r next : Retiring) (ticket : ℕ) (request : Asked) (new : CoreView) : Type 0 where
+pub record AsksToRetire (old : CoreView) (merge : merger.Running) (r next : Retiring) (ticket : ℕ) (request : Asked)
+    (new : CoreView) : Type 0 where
   pub rest : OnlyMerges old new
   pub phases : new.phases ≡ old.phases
   pub serial : new.numbers.serial ≡ old.numbers.serial
@@ -121,20 +129,27 @@ pub record AsksToRetire (old : CoreView) (merge : merger.Running) (r next : Reti
 
 -- A step that asks for such a call.
 abbrev pub AskingIsBelieved : Places → (Asked → MergeStep) → Type 0
-AskingIsBelieved places step = (old new : CoreView) (merge : merger.Running) (copy next : Copying) (ticket : ℕ) (request : Asked) (asked : List (Option Asked)) (bodies files : List (List ℕ))
-    → old.catalog ≡ places → AsksForMerged old merge copy ticket (step request) request next new → Believes old asked bodies files
+AskingIsBelieved places step = (old new : CoreView) (merge : merger.Running) (copy next : Copying) (ticket : ℕ)
+    (request : Asked) (asked : List (Option Asked)) (bodies files : List (List ℕ))
+    → old.catalog ≡ places → AsksForMerged old merge copy ticket (step request) request next new
+    → Believes old asked bodies files
     → Believes new (slice_set asked 1 (Some request)) bodies files
 
 pub record MergerSteps (places : Places) : Type 0 where
-  pub begins_image : (old new : CoreView) (merge : merger.Running) (phase : Phase) (asked : List (Option Asked)) (bodies files : List (List ℕ))
+  pub begins_image : (old new : CoreView) (merge : merger.Running) (phase : Phase) (asked : List (Option Asked))
+      (bodies files : List (List ℕ))
       → BeginsMerged old merge phase new → Believes old asked bodies files → Believes new asked bodies files
   -- a read of the source is in a slot of the store that the checkpoint spares
-  pub spares : (old new : CoreView) (merge : merger.Running) (copy next : Copying) (ticket : ℕ) (request : Asked) (asked : List (Option Asked)) (bodies files : List (List ℕ))
-      → old.catalog ≡ places → MergesOn old merge copy ticket (ReadCall request) next new → Believes old asked bodies files
+  pub spares : (old new : CoreView) (merge : merger.Running) (copy next : Copying) (ticket : ℕ) (request : Asked)
+      (asked : List (Option Asked)) (bodies files : List (List ℕ))
+      → old.catalog ≡ places → MergesOn old merge copy ticket (ReadCall request) next new
+      → Believes old asked bodies files
       → (request.id.slot < length old.phases) × IsSpared old.dumper.running request.id.slot
   -- the source is there to be read: no page of it is lost
-  pub finds : (core : CoreView) (merge : merger.Running) (copy : Copying) (asked : List (Option Asked)) (bodies files : List (List ℕ))
-      → core.catalog ≡ places → core.standing ≡ Open → core.merger ≡ Some merge → merge.doing ≡ copying copy → Believes core asked bodies files → IsLost places copy → ⊥
+  pub finds : (core : CoreView) (merge : merger.Running) (copy : Copying) (asked : List (Option Asked))
+      (bodies files : List (List ℕ))
+      → core.catalog ≡ places → core.standing ≡ Open → core.merger ≡ Some merge → merge.doing ≡ copying copy
+      → Believes core asked bodies files → IsLost places copy → ⊥
   -- the next call of a plan
   pub asks : AskingIsBelieved places Call
   -- the read of the source's next page, and the write of the page that was read
@@ -142,9 +157,12 @@ pub record MergerSteps (places : Places) : Type 0 where
   pub writes_page : AskingIsBelieved places PageCall
   -- the first that writes the table
   pub writes_table : AskingIsBelieved places TableCall
-  pub takes_zeros : (old new : CoreView) (merge : merger.Running) (copy next : Copying) (ticket : ℕ) (asked : List (Option Asked)) (bodies files : List (List ℕ))
-      → old.catalog ≡ places → TakesZeros old merge copy ticket next new → Believes old asked bodies files → Believes new asked bodies files
+  pub takes_zeros : (old new : CoreView) (merge : merger.Running) (copy next : Copying) (ticket : ℕ)
+      (asked : List (Option Asked)) (bodies files : List (List ℕ))
+      → old.catalog ≡ places → TakesZeros old merge copy ticket next new → Believes old asked bodies files
+      → Believes new asked bodies files
   -- a call on an image of the list
-  pub retires : (old new : CoreView) (merge : merger.Running) (r next : Retiring) (ticket : ℕ) (request : Asked) (asked : List (Option Asked)) (bodies files : List (List ℕ))
+  pub retires : (old new : CoreView) (merge : merger.Running) (r next : Retiring) (ticket : ℕ) (request : Asked)
+      (asked : List (Option Asked)) (bodies files : List (List ℕ))
       → AsksToRetire old merge r next ticket request new → Believes old asked bodies files
       → Believes new (slice_set asked 1 (Some request)) bodies files

@@ -60,8 +60,10 @@ pub record IsUnmerged (store : Store) : Type 0 where
 
 -- ---- what a merge needs: its source, and the slot of its image
 
--- The image that is merged stands in a slot that nobody fills, and is the one that the merge was begun with. It holds each page that it lists.
-pub record IsSourceOn (store : Store) (beliefs : List Belief) (running : Option Running) (target : ℕ) (source : Source) (image : Image) : Type 0 where
+-- The image that is merged stands in a slot that nobody fills, and is the one that the merge was begun with. It holds
+-- each page that it lists.
+pub record IsSourceOn (store : Store) (beliefs : List Belief) (running : Option Running) (target : ℕ) (source : Source)
+    (image : Image) : Type 0 where
   pub is : store.source ≡ Some image
   pub work : store.work ≡ image.header.parent ∷ []
   pub serial : source.serial ≡ image.header.serial
@@ -74,10 +76,12 @@ pub record IsSourceOn (store : Store) (beliefs : List Belief) (running : Option 
   pub kept : slice_get beliefs slot ≡ Some (Kept image)
   pub spared : IsSpared running slot
   pub apart : slot ≢ target
-  pub held : (at : Place) → Contains (listed_places image.spaces) at → (bytes : List ℕ) × Holds store.catalog at.0 at.1 bytes image
+  pub held : (at : Place) → Contains (listed_places image.spaces) at
+      → (bytes : List ℕ) × Holds store.catalog at.0 at.1 bytes image
 
 -- nobody else fills the slot of the merged image, and nobody needs what stands in it
-pub record IsTargetOn (phases : List Phase) (store : Store) (beliefs : List Belief) (running : Option Running) (slot : ℕ) : Type 0 where
+pub record IsTargetOn (phases : List Phase) (store : Store) (beliefs : List Belief) (running : Option Running)
+    (slot : ℕ) : Type 0 where
   pub within : slot < length phases
   pub spared : IsSpared running slot
   pub unneeded : (i : Image) → image_at beliefs slot ≡ Some i → IsNeededIn store i → ⊥
@@ -113,7 +117,8 @@ abbrev pub order_of_slot : ℕ → SlotState → ImageOrder
 order_of_slot slot state = record { slot = slot; state = state; kind = Merged; serial = 0; parent = 0; checkpoint = 0 }
 
 -- A page of the source is read: it is in an image that the source reaches, whose slot nobody fills.
-pub record IsReadOn (phases : List Phase) (bodies : List (List ℕ)) (store : Store) (beliefs : List Belief) (running : Option Running) (target : ℕ)
+pub record IsReadOn (phases : List Phase) (bodies : List (List ℕ)) (store : Store) (beliefs : List Belief)
+    (running : Option Running) (target : ℕ)
     (source : Image) (page : Option Place) (request : Asked) : Type 0 where
   pub at : Place
   pub taking : page ≡ Some at
@@ -139,25 +144,30 @@ pub record IsWriteOn (target : ℕ) (plan : Planned) (request : Asked) : Type 0 
   pub call : request.id.call ≡ Write (data_place place)
 
 -- which request of the merger is out
-abbrev pub IsAskedIn : CopyStage → List Phase → List (List ℕ) → Store → List Belief → Option Running → ℕ → Image → Option Place → Option Asked → Type 0
+abbrev pub IsAskedIn : CopyStage → List Phase → List (List ℕ) → Store → List Belief → Option Running → ℕ → Image
+    → Option Place → Option Asked → Type 0
 IsAskedIn (copy.PageRead plan) phases bodies store beliefs running target source page None = ⊥
 IsAskedIn (copy.PageRead plan) phases bodies store beliefs running target source page (Some request) =
     IsReadOn phases bodies store beliefs running target source page request
 IsAskedIn (copy.PageWrite plan) phases bodies store beliefs running target source page None = ⊥
-IsAskedIn (copy.PageWrite plan) phases bodies store beliefs running target source page (Some request) = IsWriteOn target plan request
+IsAskedIn (copy.PageWrite plan) phases bodies store beliefs running target source page (Some request) =
+    IsWriteOn target plan request
 IsAskedIn _ phases bodies store beliefs running target source page None = Unit {0}
 IsAskedIn _ phases bodies store beliefs running target source page (Some request) = request.id.slot ≡ target
 
 -- the merged image is a copy of its source so far, and its slot is ready for it
-pub record IsCopyOn (phases : List Phase) (asked : List (Option Asked)) (bodies : List (List ℕ)) (last : ℕ) (store : Store) (beliefs : List Belief)
+pub record IsCopyOn (phases : List Phase) (asked : List (Option Asked)) (bodies : List (List ℕ)) (last : ℕ)
+    (store : Store) (beliefs : List Belief)
     (running : Option Running) (target : ℕ) (source : Image) (made : Copying) : Type 0 where
   pub pages : Pages
   pub keeps : KeepsCopy store.catalog source pages made
   pub files : FilesCopy source pages made
   pub serial : made.order.serial ≤ last
   pub other : MakesOther running made.order.serial
-  pub above : (j : Image) → Contains store.catalog j → j.header.stands_for ≡ source.header.stands_for → j.header.serial < made.order.serial
-  pub others : (slot : ℕ) (j : Image) → image_at beliefs slot ≡ Some j → slot ≢ target → j.header.serial ≢ made.order.serial
+  pub above : (j : Image) → Contains store.catalog j → j.header.stands_for ≡ source.header.stands_for
+      → j.header.serial < made.order.serial
+  pub others : (slot : ℕ) (j : Image) → image_at beliefs slot ≡ Some j → slot ≢ target
+      → j.header.serial ≢ made.order.serial
   pub phase : Phase
   pub phase_is : slice_get phases target ≡ Some phase
   pub belief : Belief
@@ -166,7 +176,8 @@ pub record IsCopyOn (phases : List Phase) (asked : List (Option Asked)) (bodies 
   pub own : slice_get asked 1 ≡ Some request
   pub asked_in : IsAskedIn made.stage phases bodies store beliefs running target source made.taking request
   pub slot_is : IsSlotFor (stage_in_slot made.stage) (order_of_slot target made.order.state) pages phase
-      (body_written (file_at bodies target) (lanes_in_slot made.stage request)) (request_in_slot made.stage request) belief None
+      (body_written (file_at bodies target) (lanes_in_slot made.stage request))
+      (request_in_slot made.stage request) belief None
 
 -- ---- the images that are closed
 
@@ -178,7 +189,8 @@ pub record IsListedOn (store : Store) (beliefs : List Belief) (running : Option 
   pub spared : IsSpared running one.slot
 
 -- the one that is being closed
-pub record IsRetiredOn (phases : List Phase) (asked : List (Option Asked)) (bodies : List (List ℕ)) (store : Store) (beliefs : List Belief)
+pub record IsRetiredOn (phases : List Phase) (asked : List (Option Asked)) (bodies : List (List ℕ)) (store : Store)
+    (beliefs : List Belief)
     (running : Option Running) (r : Retiring) (one : Retired) : Type 0 where
   pub phase : Phase
   pub phase_is : slice_get phases one.slot ≡ Some phase
@@ -189,54 +201,70 @@ pub record IsRetiredOn (phases : List Phase) (asked : List (Option Asked)) (bodi
   pub request : Option Asked
   pub own : slice_get asked 1 ≡ Some request
   pub asked_at : (out : Asked) → request ≡ Some out → out.id.slot ≡ one.slot
-  pub slot_is : IsSlotFor (Format r.plan) (order_of_slot one.slot OpenSlot) [] phase (file_at bodies one.slot) request belief None
+  pub slot_is : IsSlotFor (Format r.plan) (order_of_slot one.slot OpenSlot) [] phase
+      (file_at bodies one.slot) request belief None
 
 -- one that is closed, and whose file was cut to one byte
 pub record IsCutOn (phases : List Phase) (running : Option Running) (one : Retired) : Type 0 where
   pub bare : slice_get phases one.slot ≡ Some Bare
   pub spared : IsSpared running one.slot
 
-pub record IsRetiringOn (phases : List Phase) (asked : List (Option Asked)) (bodies : List (List ℕ)) (store : Store) (beliefs : List Belief)
+pub record IsRetiringOn (phases : List Phase) (asked : List (Option Asked)) (bodies : List (List ℕ)) (store : Store)
+    (beliefs : List Belief)
     (running : Option Running) (r : Retiring) : Type 0 where
   pub alone : IsUnmerged store
   pub one : Retired
   pub there : slice_get r.list r.ended ≡ Some one
   pub closes : IsRetiredOn phases asked bodies store beliefs running r one
-  pub before : (place : ℕ) (other : Retired) → place < r.ended → slice_get r.list place ≡ Some other → IsCutOn phases running other
-  pub later : (place : ℕ) (other : Retired) → r.ended < place → slice_get r.list place ≡ Some other → IsListedOn store beliefs running other
-  pub apart : (place other : ℕ) (a b : Retired) → place < other → slice_get r.list place ≡ Some a → slice_get r.list other ≡ Some b → a.slot ≢ b.slot
+  pub before : (place : ℕ) (other : Retired) → place < r.ended → slice_get r.list place ≡ Some other
+      → IsCutOn phases running other
+  pub later : (place : ℕ) (other : Retired) → r.ended < place → slice_get r.list place ≡ Some other
+      → IsListedOn store beliefs running other
+  pub apart : (place other : ℕ) (a b : Retired) → place < other → slice_get r.list place ≡ Some a
+      → slice_get r.list other ≡ Some b → a.slot ≢ b.slot
 
 -- ---- all of it
 
--- What is known of a merge that repeats its source: an image whose gate is being opened in another slot stands for another number.
-pub record IsRepeating (phases : List Phase) (store : Store) (beliefs : List Belief) (running : Option Running) (target : ℕ) (origin : Source) : Type 0 where
+-- What is known of a merge that repeats its source: an image whose gate is being opened in another slot stands for
+-- another number.
+pub record IsRepeating (phases : List Phase) (store : Store) (beliefs : List Belief) (running : Option Running)
+    (target : ℕ) (origin : Source) : Type 0 where
   pub image : Image
   pub source : IsSourceOn store beliefs running target origin image
   pub slot : IsTargetOn phases store beliefs running target
-  pub opening : (slot : ℕ) (j : Image) → slice_get beliefs slot ≡ Some (Opening j) → slot ≢ target → j.header.stands_for ≢ image.header.stands_for
+  pub opening : (slot : ℕ) (j : Image) → slice_get beliefs slot ≡ Some (Opening j) → slot ≢ target
+      → j.header.stands_for ≢ image.header.stands_for
 
 -- none of its calls is out
 abbrev pub IsSilent : List (Option Asked) → Type 0
 IsSilent asked = slice_get asked 1 ≡ Some None
 
-pub record IsCopying (phases : List Phase) (asked : List (Option Asked)) (bodies : List (List ℕ)) (last : ℕ) (store : Store) (beliefs : List Belief)
+pub record IsCopying (phases : List Phase) (asked : List (Option Asked)) (bodies : List (List ℕ)) (last : ℕ)
+    (store : Store) (beliefs : List Belief)
     (running : Option Running) (target : ℕ) (origin : Source) (made : Copying) : Type 0 where
   pub repeats : IsRepeating phases store beliefs running target origin
   pub order : (made.order.source ≡ origin) × (made.order.slot ≡ target)
   pub copy : IsCopyOn phases asked bodies last store beliefs running target repeats.image made
 
-abbrev pub IsMergeAt : List Phase → List (Option Asked) → List (List ℕ) → ℕ → Store → List Belief → Option Running → ℕ → Source → Doing → Type 0
-IsMergeAt phases asked bodies last store beliefs running target origin due = IsRepeating phases store beliefs running target origin × IsSilent asked
-IsMergeAt phases asked bodies last store beliefs running target origin (copying made) = IsCopying phases asked bodies last store beliefs running target origin made
+abbrev pub IsMergeAt : List Phase → List (Option Asked) → List (List ℕ) → ℕ → Store → List Belief → Option Running → ℕ
+    → Source → Doing → Type 0
+IsMergeAt phases asked bodies last store beliefs running target origin due =
+    IsRepeating phases store beliefs running target origin × IsSilent asked
+IsMergeAt phases asked bodies last store beliefs running target origin (copying made) =
+    IsCopying phases asked bodies last store beliefs running target origin made
 IsMergeAt phases asked bodies last store beliefs running target origin (opened serial) = ⊥
-IsMergeAt phases asked bodies last store beliefs running target origin (retiring r) = IsRetiringOn phases asked bodies store beliefs running r
+IsMergeAt phases asked bodies last store beliefs running target origin (retiring r) =
+    IsRetiringOn phases asked bodies store beliefs running r
 
-abbrev pub IsMergeOn : List Phase → List (Option Asked) → List (List ℕ) → ℕ → Store → List Belief → Option Running → Option merger.Running → Type 0
+abbrev pub IsMergeOn : List Phase → List (Option Asked) → List (List ℕ) → ℕ → Store → List Belief → Option Running
+    → Option merger.Running → Type 0
 IsMergeOn phases asked bodies last store beliefs running None = IsUnmerged store × IsSilent asked
-IsMergeOn phases asked bodies last store beliefs running (Some merge) = IsMergeAt phases asked bodies last store beliefs running merge.slot merge.source merge.doing
+IsMergeOn phases asked bodies last store beliefs running (Some merge) =
+    IsMergeAt phases asked bodies last store beliefs running merge.slot merge.source merge.doing
 
 -- with these beliefs of this store
-pub record IsMergeInUse (phases : List Phase) (asked : List (Option Asked)) (bodies : List (List ℕ)) (last : ℕ) (store : Store) (beliefs : List Belief)
+pub record IsMergeInUse (phases : List Phase) (asked : List (Option Asked)) (bodies : List (List ℕ)) (last : ℕ)
+    (store : Store) (beliefs : List Belief)
     (running : Option Running) (merge : Option merger.Running) : Type 0 where
   pub spelled : AreSpelled store
   pub is : IsMergeOn phases asked bodies last store beliefs running merge

@@ -52,7 +52,8 @@ pub record Reopens (old : CoreView) (opener : Looking) (new : CoreView) : Type 0
   pub sees : (files : List (List ℕ)) → length files ≡ opener.slots → Sees files None opener
 
 -- its next call is asked for
-pub record LooksOn (old : CoreView) (opener : Looking) (number : ℕ) (request : Asked) (next : Looking) (new : CoreView) : Type 0 where
+pub record LooksOn (old : CoreView) (opener : Looking) (number : ℕ) (request : Asked) (next : Looking)
+    (new : CoreView) : Type 0 where
   pub rest : OnlyOpens old new
   pub none : old.outs ≡ nobody
   pub outs : new.outs ≡ opener_alone request.id
@@ -82,7 +83,8 @@ pub record IsHandedIn (old : CoreView) (made : Made) (phase : Phase) (new : Core
   pub phases : new.phases ≡ phases_after old.phases made.request.id phase (is_done made.answer)
 
 -- it told the slot's file, and the opener goes on
-pub record IsTaught (old : CoreView) (opener : Looking) (made : Made) (phase : Phase) (next : Looking) (new : CoreView) : Type 0 where
+pub record IsTaught (old : CoreView) (opener : Looking) (made : Made) (phase : Phase) (next : Looking)
+    (new : CoreView) : Type 0 where
   pub handed : IsHandedIn old made phase new
   pub done : is_done made.answer ≡ true
   pub was : old.opener ≡ Some opener
@@ -101,17 +103,22 @@ pub record GivesUpOpening (old new : CoreView) : Type 0 where
 pub record OpenerSteps : Type 0 where
   pub reopens : (old new : CoreView) (opener : Looking) (asked : List (Option Asked)) (bodies files : List (List ℕ))
       → Reopens old opener new → Believes old asked bodies files → Believes new asked bodies files
-  pub looks : (old new : CoreView) (opener next : Looking) (number : ℕ) (request : Asked) (asked : List (Option Asked)) (bodies files : List (List ℕ))
+  pub looks : (old new : CoreView) (opener next : Looking) (number : ℕ) (request : Asked) (asked : List (Option Asked))
+      (bodies files : List (List ℕ))
       → LooksOn old opener number request next new → Believes old asked bodies files
       → Believes new (slice_set asked 2 (Some request)) bodies files
-  pub decodes : (old new : CoreView) (opener next : Looking) (asked : List (Option Asked)) (bodies files : List (List ℕ))
+  pub decodes : (old new : CoreView) (opener next : Looking) (asked : List (Option Asked))
+      (bodies files : List (List ℕ))
       → Decodes old opener next new → Believes old asked bodies files → Believes new asked bodies files
-  pub teaches : (old new : CoreView) (opener next : Looking) (made : Made) (phase : Phase) (asked : List (Option Asked)) (bodies files : List (List ℕ))
-      → IsTaught old opener made phase next new → slice_get asked 2 ≡ Some (Some made.request) → WasTold old.phases bodies files made
+  pub teaches : (old new : CoreView) (opener next : Looking) (made : Made) (phase : Phase) (asked : List (Option Asked))
+      (bodies files : List (List ℕ))
+      → IsTaught old opener made phase next new → slice_get asked 2 ≡ Some (Some made.request)
+      → WasTold old.phases bodies files made
       → Believes old asked bodies files
       → Believes new (slice_set asked 2 None) (bodies_after bodies made.request.id made.request.bytes) files
   -- its outcome failed, and it ends
-  pub fails : (old new : CoreView) (made : Made) (phase : Phase) (asked : List (Option Asked)) (bodies files : List (List ℕ))
+  pub fails : (old new : CoreView) (made : Made) (phase : Phase) (asked : List (Option Asked))
+      (bodies files : List (List ℕ))
       → IsHandedIn old made phase new → new.opener ≡ None → slice_get asked 2 ≡ Some (Some made.request)
       → Believes old asked bodies files
       → Believes new (slice_set asked 2 None) (bodies_after bodies made.request.id made.request.bytes) files
@@ -120,4 +127,5 @@ pub record OpenerSteps : Type 0 where
   -- once it was told every slot, each is in the phase that its file tells
   pub refinds : (core : CoreView) (opener : Looking) (asked : List (Option Asked)) (bodies files : List (List ℕ))
       → core.opener ≡ Some opener → length opener.told ≡ opener.slots → NoneOut asked → Believes core asked bodies files
-      → Sees files None opener × ((slot : ℕ) (phase : Phase) → slice_get core.phases slot ≡ Some phase → IsRefound phase)
+      → Sees files None opener
+      × ((slot : ℕ) (phase : Phase) → slice_get core.phases slot ≡ Some phase → IsRefound phase)

@@ -50,7 +50,8 @@ pub record MayOpen (phases : List Phase) (asked : List (Option Asked)) (bodies :
   pub alone : (other : ℕ) (j : Image) → image_at beliefs other ≡ Some j → j.header.serial ≢ i.header.serial
 
 -- the slot's gate was opened and synced, and no request is out on it
-pub record IsOpened (phases : List Phase) (asked : List (Option Asked)) (beliefs : List Belief) (slot : ℕ) (i : Image) : Type 0 where
+pub record IsOpened (phases : List Phase) (asked : List (Option Asked)) (beliefs : List Belief) (slot : ℕ)
+    (i : Image) : Type 0 where
   pub belief : slice_get beliefs slot ≡ Some (Opening i)
   pub phase : slice_get phases slot ≡ Some Whole
   pub none : NoneAt asked slot
@@ -64,35 +65,44 @@ pub record IsShut (phases : List Phase) (asked : List (Option Asked)) (slot : �
 pub record AreGivenUp (asked : List (Option Asked)) (phases new : List Phase) : Type 0 where
   pub count : length new ≡ length phases
   pub each : (slot : ℕ) (phase : Phase) → slice_get new slot ≡ Some phase
-      → (was : Phase) × (slice_get phases slot ≡ Some was) × ((phase ≡ was) ⊎ ((phase ≡ given_up was) × NoneAt asked slot))
+      → (was : Phase) × (slice_get phases slot ≡ Some was)
+      × ((phase ≡ was) ⊎ ((phase ≡ given_up was) × NoneAt asked slot))
 
 -- ---- steps that leave the store and the beliefs
 
--- What is believed stays while requests are handed out and outcomes handed in that open and close nothing, jobs are given up, and
--- the journal gets an entry that leaves what is shown.
+-- What is believed stays while requests are handed out and outcomes handed in that open and close nothing, jobs are
+-- given up, and the journal gets an entry that leaves what is shown.
 pub record QuietSteps : Type 0 where
-  pub asks : (base : Base) (history : History) (phases : List Phase) (asked : List (Option Asked)) (bodies : List (List ℕ))
+  pub asks : (base : Base) (history : History) (phases : List Phase) (asked : List (Option Asked))
+      (bodies : List (List ℕ))
       (store : Store) (dump : Option Image) (beliefs : List Belief) (worker : ℕ) (request : Asked)
       → (may : MayAsk phases asked worker request) → IsQuiet may.phase request.id.call
       → HasStore base history phases asked bodies store dump beliefs
       → HasStore base history phases (slice_set asked worker (Some request)) bodies store dump beliefs
-  pub handed : (base : Base) (history : History) (phases : List Phase) (asked : List (Option Asked)) (bodies : List (List ℕ))
+  pub handed : (base : Base) (history : History) (phases : List Phase) (asked : List (Option Asked))
+      (bodies : List (List ℕ))
       (store : Store) (dump : Option Image) (beliefs : List Belief) (worker : ℕ) (made : Made)
       → (o : IsOutcomeOf phases asked worker made)
       → HasStore base history phases asked bodies store dump beliefs
-      → HasStore base history (phases_after phases made.request.id o.phase (is_done made.answer)) (slice_set asked worker None)
+      → HasStore base history (phases_after phases made.request.id o.phase (is_done made.answer))
+      (slice_set asked worker None)
       (bodies_after bodies made.request.id made.request.bytes) store dump beliefs
-  pub given_up : (base : Base) (history : History) (phases new : List Phase) (asked : List (Option Asked)) (bodies : List (List ℕ))
+  pub given_up : (base : Base) (history : History) (phases new : List Phase) (asked : List (Option Asked))
+      (bodies : List (List ℕ))
       (store : Store) (dump : Option Image) (beliefs : List Belief) → AreGivenUp asked phases new
-      → HasStore base history phases asked bodies store dump beliefs → HasStore base history new asked bodies store dump beliefs
-  pub applied : (base : Base) (history : History) (phases : List Phase) (asked : List (Option Asked)) (bodies : List (List ℕ))
+      → HasStore base history phases asked bodies store dump beliefs
+      → HasStore base history new asked bodies store dump beliefs
+  pub applied : (base : Base) (history : History) (phases : List Phase) (asked : List (Option Asked))
+      (bodies : List (List ℕ))
       (store : Store) (dump : Option Image) (beliefs : List Belief) (seat : ℕ) (command : Command) (told : Reply)
       → HasStore base history phases asked bodies store dump beliefs
       → HasStore base (Applied seat command told ∷ history) phases asked bodies store dump beliefs
-  pub froze : (base : Base) (history : History) (phases : List Phase) (asked : List (Option Asked)) (bodies : List (List ℕ))
+  pub froze : (base : Base) (history : History) (phases : List Phase) (asked : List (Option Asked))
+      (bodies : List (List ℕ))
       (store : Store) (dump : Option Image) (beliefs : List Belief) (n : ℕ) → IsLegal base (Freeze n ∷ history)
       → HasStore base history phases asked bodies store dump beliefs
       → HasStore base (Freeze n ∷ history) phases asked bodies store dump beliefs
-  pub cancelled : (base : Base) (history : History) (phases : List Phase) (asked : List (Option Asked)) (bodies : List (List ℕ))
+  pub cancelled : (base : Base) (history : History) (phases : List Phase) (asked : List (Option Asked))
+      (bodies : List (List ℕ))
       (store : Store) (beliefs : List Belief) (n : ℕ) → HasStore base history phases asked bodies store None beliefs
       → HasStore base (Cancelled n ∷ history) phases asked bodies store None beliefs

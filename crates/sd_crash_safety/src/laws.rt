@@ -4,7 +4,8 @@ ghost use Rattle.sd_crash_safety.specs.CoreSteps.{CoreSteps};
 ghost use Rattle.sd_crash_safety.specs.DumperOutcomes.{DumperOutcomes};
 ghost use Rattle.sd_crash_safety.specs.DumperSteps.{DumperSteps};
 ghost use Rattle.sd_crash_safety.specs.GateSteps.{GateSteps};
-ghost use Rattle.sd_crash_safety.specs.Laws.{FoundIsBelieved, LeftShowsAllowed, OpenerFinds, PerformedIsBelieved, ReopenedIsBelieved};
+ghost use Rattle.sd_crash_safety.specs.Laws.{FoundIsBelieved, LeftShowsAllowed, OpenerFinds, PerformedIsBelieved};
+ghost use Rattle.sd_crash_safety.specs.Laws.{ReopenedIsBelieved};
 ghost use Rattle.sd_crash_safety.specs.MergerOutcomes.{MergerOutcomes};
 ghost use Rattle.sd_crash_safety.specs.MergerSteps.{MergeBeginningIsBelieved, MergerSteps};
 ghost use Rattle.sd_crash_safety.specs.OpenerSteps.{OpenerSteps};
@@ -50,8 +51,8 @@ pub fn left_law()
     contents_show();
 }
 
-/// An opener that rests sees the files, and what a crash could have left of them shows the last checkpoint, or, where the
-/// opening of its dump's gate was taken up, the pending one.
+/// An opener that rests sees the files, and what a crash could have left of them shows the last checkpoint, or, where
+/// the opening of its dump's gate was taken up, the pending one.
 pub fn opener_finds()
     ensures { OpenerFinds }
 {
@@ -68,8 +69,8 @@ pub fn reopened_law()
     journal_laws();
 }
 
-/// Steps that leave what is believed of the slots: requests and outcomes that open and close nothing, jobs that are given
-/// up, commands, a freeze, and a checkpoint that is cancelled before its dump's gate is opened.
+/// Steps that leave what is believed of the slots: requests and outcomes that open and close nothing, jobs that are
+/// given up, commands, a freeze, and a checkpoint that is cancelled before its dump's gate is opened.
 pub fn quiet_steps()
     ensures { QuietSteps }
 {
@@ -130,9 +131,10 @@ pub fn dumper_outcomes()
     unused_is_uncalled();
 }
 
-/// Outcomes of a merger's calls, over the catalog of the store: one that failed, after which the store is down, one with
-/// which the merged image goes on, the last of it, with which it enters the catalog, and those of the calls that close the
-/// images that nobody needs any more. What entered is a copy of its source, and what was closed is one byte long.
+/// Outcomes of a merger's calls, over the catalog of the store: one that failed, after which the store is down, one
+/// with which the merged image goes on, the last of it, with which it enters the catalog, and those of the calls that
+/// close the images that nobody needs any more. What entered is a copy of its source, and what was closed is one byte
+/// long.
 pub fn merger_outcomes(catalog: &Catalog)
     ensures { MergerOutcomes catalog.now }
 {
@@ -181,8 +183,8 @@ pub fn merge_beginning_law(catalog: &Catalog)
     catalog.agrees();
 }
 
-/// Steps of a merger, over the catalog of the store: its image begins, a device call is asked for, a page of the source is
-/// read, or written, or has only zeros, the table is written, and an image is closed that nobody needs any more.
+/// Steps of a merger, over the catalog of the store: its image begins, a device call is asked for, a page of the source
+/// is read, or written, or has only zeros, the table is written, and an image is closed that nobody needs any more.
 pub fn merger_steps(catalog: &Catalog)
     ensures { MergerSteps catalog.now }
 {

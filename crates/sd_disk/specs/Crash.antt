@@ -27,7 +27,8 @@ abbrev pub Only : List (List ℕ) → Outcomes → Type 0
 Only contents outcomes = (c : List (List ℕ)) → outcomes c → c ≡ contents
 
 -- Time goes on: a crash since t might have left what it might have left before, or what it may leave now.
-pub record Elapses (before now : ℕ) (past since : ℕ → List (List ℕ) → Type 0) (outcomes : List (List ℕ) → Type 0) : Type 0 where
+pub record Elapses (before now : ℕ) (past since : ℕ → List (List ℕ) → Type 0)
+    (outcomes : List (List ℕ) → Type 0) : Type 0 where
   pub later : before ≤ now
   pub nothing_else : (t : ℕ) (c : List (List ℕ)) → t ≤ before → since t c → past t c ⊎ outcomes c
   pub keeps : (t : ℕ) (c : List (List ℕ)) → t ≤ before → past t c → since t c

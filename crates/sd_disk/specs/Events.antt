@@ -1,9 +1,11 @@
 -- What a record of calls says of files.
-use Rattle.std.specs.Prelude.{◌≡◌, ℕ, ◌+◌, ◌≤◌, max, min, Bool, true, false, not, cond, ◌&&◌, ◌||◌, nat_lt, List, [], ◌∷◌, length, take, map, slice_index, slice_range, slice_set}
+use Rattle.std.specs.Prelude.{◌≡◌, ℕ, ◌+◌, ◌≤◌, max, min, Bool, true, false, not, cond, ◌&&◌, ◌||◌, nat_lt, List, []}
+use Rattle.std.specs.Prelude.{◌∷◌, length, take, map, slice_index, slice_range, slice_set}
 use Rattle.std.specs.List.{range_with_len}
 use Rattle.sd_disk.specs.Contents.{file_at, file_after_write}
 use Rattle.sd_disk.specs.declared.call.Call.{Call}
-use Rattle.sd_disk.specs.declared.call.Call.TheVariants.{Measured, Read, Written, Cut, Synced, Failed, WriteFailed, CutFailed}
+use Rattle.sd_disk.specs.declared.call.Call.TheVariants.{Measured, Read, Written, Cut, Synced, Failed, WriteFailed}
+use Rattle.sd_disk.specs.declared.call.Call.TheVariants.{CutFailed}
 
 -- what no code knows: what the files held when they were opened, and what a failed write or cut left of its
 -- file, at the number of calls that had failed before it
@@ -32,12 +34,14 @@ failures_in (event ∷ earlier) = cond (is_failure event.0) (failures_in earlier
 
 -- a file of so many bytes, with those of `file` at the places that are kept
 abbrev pub mixed : ℕ → (ℕ → Bool) → List ℕ → List ℕ → List ℕ
-mixed count kept file others = map (λ i. cond (kept i) (slice_index file i) (slice_index others i)) (range_with_len 0 count)
+mixed count kept file others =
+    map (λ i. cond (kept i) (slice_index file i) (slice_index others i)) (range_with_len 0 count)
 
 -- the file after a failed write of n bytes: what was left, so far as such a write reaches
 abbrev pub torn_write : ℕ → ℕ → List ℕ → List ℕ → List ℕ
 torn_write at n file left =
-    mixed (max (length file) (min (length left) (at + n))) (λ i. nat_lt i (length file) && (nat_lt i at || not (nat_lt i (at + n)))) file left
+    mixed (max (length file) (min (length left) (at + n)))
+    (λ i. nat_lt i (length file) && (nat_lt i at || not (nat_lt i (at + n)))) file left
 
 -- the file after a failed cut to n bytes, likewise
 abbrev pub torn_cut : ℕ → List ℕ → List ℕ → List ℕ
@@ -51,13 +55,15 @@ after (Written slot at) bytes left files = slice_set files slot (file_after_writ
 after (Cut slot len) bytes left files = slice_set files slot (take len (file_at files slot))
 after (Synced slot) bytes left files = files
 after Failed bytes left files = files
-after (WriteFailed slot at) bytes left files = slice_set files slot (torn_write at (length bytes) (file_at files slot) left)
+after (WriteFailed slot at) bytes left files =
+    slice_set files slot (torn_write at (length bytes) (file_at files slot) left)
 after (CutFailed slot len) bytes left files = slice_set files slot (torn_cut len (file_at files slot) left)
 
 -- the files after all calls
 abbrev pub files_after : Outside → List Event → List (List ℕ)
 files_after outside [] = outside.found
-files_after outside (event ∷ earlier) = after event.0 event.1 (file_at outside.left (failures_in earlier)) (files_after outside earlier)
+files_after outside (event ∷ earlier) =
+    after event.0 event.1 (file_at outside.left (failures_in earlier)) (files_after outside earlier)
 
 -- what came back is that of these files, and a cut didn't lengthen
 abbrev pub IsAnswer : Call → List ℕ → List (List ℕ) → Type 0
@@ -73,4 +79,5 @@ IsAnswer (CutFailed slot len) bytes files = Unit {0}
 -- what came back was each time that of files which keep what they are given
 abbrev pub AreAnswers : Outside → List Event → Type 0
 AreAnswers outside [] = Unit {0}
-AreAnswers outside (event ∷ earlier) = IsAnswer event.0 event.1 (files_after outside earlier) × AreAnswers outside earlier
+AreAnswers outside (event ∷ earlier) =
+    IsAnswer event.0 event.1 (files_after outside earlier) × AreAnswers outside earlier

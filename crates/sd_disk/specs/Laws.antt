@@ -4,7 +4,8 @@ use Rattle.sd_disk.specs.Contents.{file_at, Torn, Cut, AtSlot}
 use Rattle.sd_disk.specs.Events.{Outside, Event, files_after}
 use Rattle.sd_disk.specs.Outcomes.{MayLeave}
 use Rattle.sd_disk.specs.declared.call.Call.{Call}
-use Rattle.sd_disk.specs.declared.call.Call.TheVariants.{Measured, Read, Written, Cut as Cuts, Synced, Failed, WriteFailed, CutFailed}
+use Rattle.sd_disk.specs.declared.call.Call.TheVariants.{Measured, Read, Written, Cut as Cuts, Synced, Failed}
+use Rattle.sd_disk.specs.declared.call.Call.TheVariants.{WriteFailed, CutFailed}
 
 -- the outcomes after a call are those before it, with any bytes where it wrote or cut
 abbrev pub Leads : Call → List ℕ → List (List ℕ) → List (List ℕ) → List (List ℕ) → Type 0
@@ -20,4 +21,6 @@ Leads (CutFailed slot len) bytes files before c = AtSlot slot (Cut len) before c
 -- The rules, call by call, in both directions.
 abbrev pub CrashOutcomes : Type 0
 CrashOutcomes = (outside : Outside) (event : Event) (earlier : List Event) (c : List (List ℕ))
-    → MayLeave outside (event ∷ earlier) c ↔ ((before : List (List ℕ)) × MayLeave outside earlier before × Leads event.0 event.1 (files_after outside earlier) before c)
+    → MayLeave outside (event ∷ earlier) c ↔
+    ((before : List (List ℕ)) × MayLeave outside earlier before
+    × Leads event.0 event.1 (files_after outside earlier) before c)

@@ -5,12 +5,14 @@
 -- and the greatest since, and all other bytes as synced. A failed write may have changed its range, and a failed
 -- cut may have cut: they count as done. A failed sync promises nothing new. Before its first successful sync
 -- nothing is known of a slot.
-use Rattle.std.specs.Prelude.{◌≡◌, ℕ, ◌+◌, ◌<◌, ◌≤◌, max, min, Bool, true, false, if◌then◌else◌, ◌==◌, ◌&&◌, ◌||◌, nat_lt, nat_le, List, [], ◌∷◌, length, slice_index}
+use Rattle.std.specs.Prelude.{◌≡◌, ℕ, ◌+◌, ◌<◌, ◌≤◌, max, min, Bool, true, false, if◌then◌else◌, ◌==◌, ◌&&◌, ◌||◌}
+use Rattle.std.specs.Prelude.{nat_lt, nat_le, List, [], ◌∷◌, length, slice_index}
 use Rattle.std.proofs.Common.{subst, ap, ◌∙◌}
 use Rattle.sd_disk.specs.Contents.{file_at}
 use Rattle.sd_disk.specs.Events.{Outside, Event, files_after, failures_in}
 use Rattle.sd_disk.specs.declared.call.Call.{Call}
-use Rattle.sd_disk.specs.declared.call.Call.TheVariants.{Measured, Read, Written, Cut, Synced, Failed, WriteFailed, CutFailed}
+use Rattle.sd_disk.specs.declared.call.Call.TheVariants.{Measured, Read, Written, Cut, Synced, Failed, WriteFailed}
+use Rattle.sd_disk.specs.declared.call.Call.TheVariants.{CutFailed}
 
 -- the places from one on and below another
 pub record Range : Type 0 where
@@ -65,12 +67,16 @@ with_cut count n slot = record {
 abbrev pub with_call : Call → List ℕ → ℕ → List ℕ → Unsynced → Unsynced
 with_call (Measured at_slot len) bytes slot file before = before
 with_call (Read at_slot at) bytes slot file before = before
-with_call (Written at_slot at) bytes slot file before = if at_slot == slot then with_write at (length bytes) before else before
-with_call (Cut at_slot len) bytes slot file before = if at_slot == slot then with_cut (length file) len before else before
+with_call (Written at_slot at) bytes slot file before =
+    if at_slot == slot then with_write at (length bytes) before else before
+with_call (Cut at_slot len) bytes slot file before =
+    if at_slot == slot then with_cut (length file) len before else before
 with_call (Synced at_slot) bytes slot file before = if at_slot == slot then at_rest file else before
 with_call Failed bytes slot file before = before
-with_call (WriteFailed at_slot at) bytes slot file before = if at_slot == slot then with_write at (length bytes) before else before
-with_call (CutFailed at_slot len) bytes slot file before = if at_slot == slot then with_cut (length file) len before else before
+with_call (WriteFailed at_slot at) bytes slot file before =
+    if at_slot == slot then with_write at (length bytes) before else before
+with_call (CutFailed at_slot len) bytes slot file before =
+    if at_slot == slot then with_cut (length file) len before else before
 
 -- a slot after all calls, the last of which stands first
 abbrev pub unsynced_after : Outside → List Event → ℕ → Unsynced
@@ -112,6 +118,7 @@ pub read_as : (outside : Outside) (events : List Event) (files : List (List ℕ)
     → MayLeave outside events (files_after outside events) → MayLeave outside events files
 read_as outside events files same left = subst (MayLeave outside events) same left
 
-pub count_as : (outside : Outside) (events : List Event) (files contents : List (List ℕ)) → files_after outside events ≡ files
+pub count_as : (outside : Outside) (events : List Event) (files contents : List (List ℕ))
+    → files_after outside events ≡ files
     → MayLeave outside events contents → length contents ≡ length files
 count_as outside events files contents same left = left.count ∙ ap length same

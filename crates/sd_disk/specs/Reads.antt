@@ -27,7 +27,8 @@ module _ {D : Type 0} (g : Ghosts D) where
   }
 
   -- one call that reads
-  pub one_read : (old new : D) → ((t : ℕ) (c : List (List ℕ)) → t ≤ g.moment old → g.may_leave old c → g.left_since old t c)
+  pub one_read : (old new : D)
+      → ((t : ℕ) (c : List (List ℕ)) → t ≤ g.moment old → g.may_leave old c → g.left_since old t c)
       → g.contents new ≡ g.contents old → Within (g.may_leave new) (g.may_leave old)
       → Elapses (g.moment old) (g.moment new) (g.left_since old) (g.left_since new) (g.may_leave new)
       → (g.is_honest new → g.is_honest old) → g.failed old ≤ g.failed new → OnlyReads g old new
@@ -35,7 +36,8 @@ module _ {D : Type 0} (g : Ghosts D) where
     same = same;
     crash = crash;
     time = time.later;
-    left = λ t c since left. ⊎_elim (λ was. was) (λ now. counts_now t c since (crash c now)) (time.nothing_else t c since left);
+    left = λ t c since left. ⊎_elim (λ was. was) (λ now. counts_now t c since (crash c now))
+        (time.nothing_else t c since left);
     honest = honest;
     failures = failures;
   }

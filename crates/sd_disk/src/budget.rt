@@ -1,5 +1,6 @@
 //! How many more calls a disk in memory has room for.
-ghost use Rattle.std.specs.Prelude.{◌≡◌, ◌+◌, ◌-◌, ◌^◌, ◌<◌, ◌↔◌, false, [], ◌∷◌, length, map, min, IsOk, IsTrue, OnOk, OnErr};
+ghost use Rattle.std.specs.Prelude.{◌≡◌, ◌+◌, ◌-◌, ◌^◌, ◌<◌, ◌↔◌, false, [], ◌∷◌, length, map, min, IsOk, IsTrue, OnOk};
+ghost use Rattle.std.specs.Prelude.{OnErr};
 ghost use Rattle.sd_disk.specs.declared.call.Call.TheVariants.{Failed};
 ghost use Rattle.sd_disk.specs.Events.{Outside};
 

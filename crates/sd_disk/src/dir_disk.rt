@@ -9,9 +9,9 @@ use crate::folder::{self, FOLDER_SLOTS, Folder, FolderLog};
 
 /// A disk over the slots' files in a folder. A file that is missing has length 0, and a write to it fails.
 ///
-/// Each method makes one call on a file and notes it in the log, which takes only calls that were made. No contract says
-/// what a real file gives. So `is_honest` is a premise: each length and each byte that came back was that of the files by the
-/// log, and no file was shorter than what it was cut to.
+/// Each method makes one call on a file and notes it in the log, which takes only calls that were made. No contract
+/// says what a real file gives. So `is_honest` is a premise: each length and each byte that came back was that of the
+/// files by the log, and no file was shorter than what it was cut to.
 #[derive(Drop)]
 pub struct DirDisk {
     folder: Folder,
@@ -22,9 +22,9 @@ pub struct DirDisk {
 impl DirDisk {
     ghost use Rattle.sd_disk.specs.Folder.{folder_files, folder_failures};
 
-    /// The disk of an open folder: slot N is its file `img-NNN`, and a slot without a file has length 0. Each call of `Disk`
-    /// is one call of the system on that file. Behind a failed one, `fault` tells what the system answered. What a program
-    /// left unsynced may be lost by a crash until the slot is synced: `World::open` syncs each.
+    /// The disk of an open folder: slot N is its file `img-NNN`, and a slot without a file has length 0. Each call of
+    /// `Disk` is one call of the system on that file. Behind a failed one, `fault` tells what the system answered. What
+    /// a program left unsynced may be lost by a crash until the slot is synced: `World::open` syncs each.
     ///
     /// `outside` stands for what the files hold, and for what each failed write and cut will leave of them.
     pub fn new(folder: Folder) -> DirDisk
@@ -51,7 +51,8 @@ impl Disk for DirDisk {
     ghost use Rattle.sd_disk.specs.Failures.{HasCause};
     ghost use Rattle.sd_disk.specs.Contents.{file_at};
     ghost use Rattle.sd_disk.specs.Crash.{Within, OnlyAt, Elapses};
-    ghost use Rattle.sd_disk.specs.Folder.{folder_files, folder_events, folder_failures, folder_called, IsFolderHonest, folder_may_leave, folder_moment, folder_left_since};
+    ghost use Rattle.sd_disk.specs.Folder.{folder_files, folder_events, folder_failures, folder_called, IsFolderHonest};
+    ghost use Rattle.sd_disk.specs.Folder.{folder_may_leave, folder_moment, folder_left_since};
     ghost use Rattle.sd_disk.specs.Moments.{counts_now, only_now};
 
     ghost contents = { folder_files };
@@ -72,7 +73,8 @@ impl Disk for DirDisk {
 
     ghost same_slots = { λ disk c left. left.count };
 
-    ghost counts_now = { λ disk t c since now. counts_now disk.log.log.trace.outside (folder_events disk) t c since now };
+    ghost counts_now = { λ disk t c since now. counts_now disk.log.log.trace.outside
+        (folder_events disk) t c since now };
 
     ghost only_now = { λ disk c left. only_now disk.log.log.trace.outside (folder_events disk) c left };
 

@@ -1,4 +1,5 @@
-ghost use Rattle.std.specs.Prelude.{◌≡◌, ℕ, ◌+◌, ◌-◌, ◌<◌, ◌≤◌, ◌^◌, min, List, length, take, OnOk, IfOk, slice_range, slice_set};
+ghost use Rattle.std.specs.Prelude.{◌≡◌, ℕ, ◌+◌, ◌-◌, ◌<◌, ◌≤◌, ◌^◌, min, List, length, take, OnOk, IfOk, slice_range};
+ghost use Rattle.std.specs.Prelude.{slice_set};
 ghost use Rattle.sd_disk.specs.Contents.{file_at, file_after_write, Torn, Cut, AtSlot};
 ghost use Rattle.sd_disk.specs.Crash.{Follows, Within, OnlyAt, Elapses};
 ghost use Rattle.sd_disk.specs.Failures.{HasCause};
@@ -127,7 +128,8 @@ pub trait Disk {
     ghost same_slots: { (disk : Self) (c : List (List ℕ)) → may_leave disk c → length c ≡ length (contents disk) };
 
     /// This moment is one of those since an earlier one.
-    ghost counts_now: { (disk : Self) (t : ℕ) (c : List (List ℕ)) → t ≤ moment disk → may_leave disk c → left_since disk t c };
+    ghost counts_now: { (disk : Self) (t : ℕ) (c : List (List ℕ)) → t ≤ moment disk → may_leave disk c
+        → left_since disk t c };
 
     /// Since this moment there is no other.
     ghost only_now: { (disk : Self) (c : List (List ℕ)) → left_since disk (moment disk) c → may_leave disk c };

@@ -1,7 +1,8 @@
 //! The slots' files of a folder, and the calls on them. `None` is a file that is missing.
 ghost use Rattle.std.specs.Prelude.{◌≡◌, ◌<◌, ◌-◌, ◌^◌, ◌∷◌, [], min, length, slice_index_or, MatchResult};
 ghost use Rattle.sd_disk.specs.Events.{Outside, failures_in};
-ghost use Rattle.sd_disk.specs.declared.call.Call.TheVariants.{Measured, Read, Written, Cut, Synced, Failed, WriteFailed, CutFailed};
+ghost use Rattle.sd_disk.specs.declared.call.Call.TheVariants.{Measured, Read, Written, Cut, Synced, Failed};
+ghost use Rattle.sd_disk.specs.declared.call.Call.TheVariants.{WriteFailed, CutFailed};
 ghost use Rattle.sd_disk.specs.declared.folder.TheConstants.{FOLDER_SLOTS};
 
 use crate::call::Call;
@@ -41,8 +42,8 @@ impl Folder {
     ///
     /// The folder or the first file at fault, with what the system answered: it can't be made, opened or synced; a file
     /// isn't regular, or is a symbolic link that leads nowhere; with `make`, another folder has the lock, or a file has
-    /// another name or is that of two slots, since a run would change both. No file was made or changed where a file that
-    /// is there is at fault. Out of memory where the list of files found no room.
+    /// another name or is that of two slots, since a run would change both. No file was made or changed where a file
+    /// that is there is at fault. Out of memory where the list of files found no room.
     pub fn open(
         rt: &(impl Files<File = File> + AllocGlobal),
         path: &str,

@@ -1,5 +1,6 @@
 //! A disk of which one call fails.
-ghost use Rattle.std.specs.Prelude.{◌≡◌, ◌⊎◌, ◌+◌, ◌<◌, ◌≤◌, true, false, None, Some, length, take, IsTrue, IsErr, IfOk, OnOk, slice_range, slice_set};
+ghost use Rattle.std.specs.Prelude.{◌≡◌, ◌⊎◌, ◌+◌, ◌<◌, ◌≤◌, true, false, None, Some, length, take, IsTrue, IsErr};
+ghost use Rattle.std.specs.Prelude.{IfOk, OnOk, slice_range, slice_set};
 ghost use Rattle.sd_disk.specs.Fuses.{calls_before, blown};
 
 use crate::disk::Disk;

@@ -1,5 +1,6 @@
 //! A disk in memory.
-ghost use Rattle.std.specs.Prelude.{◌≡◌, ℕ, ◌+◌, ◌<◌, ◌≤◌, true, List, [], length, map, replicate, slice_index_or, IfOk, OnOk};
+ghost use Rattle.std.specs.Prelude.{◌≡◌, ℕ, ◌+◌, ◌<◌, ◌≤◌, true, List, [], length, map, replicate, slice_index_or};
+ghost use Rattle.std.specs.Prelude.{IfOk, OnOk};
 ghost use Rattle.sd_disk.specs.Events.{files_after};
 ghost use Rattle.sd_disk.specs.Slots.{held, AreTracked};
 
@@ -28,12 +29,14 @@ pub struct MemDisk {
 impl MemDisk {
     ghost use Rattle.sd_disk.specs.Crash.{Only};
     ghost use Rattle.sd_disk.specs.Slots.{AreAtRest};
-    ghost use Rattle.sd_disk.specs.Memory.{memory_files, memory_rooms, memory_calls, memory_failures, memory_reads, memory_may_leave};
+    ghost use Rattle.sd_disk.specs.Memory.{memory_files, memory_rooms, memory_calls, memory_failures, memory_reads};
+    ghost use Rattle.sd_disk.specs.Memory.{memory_may_leave};
 
-    /// A disk of 1 to 1,000 empty files, with room for so many bytes in each slot, and a record of so many writes, cuts and
-    /// syncs. A call for which there is no room fails as a device does: it changes nothing, and `failures` counts it. All
-    /// memory is taken here, three times the slots' bytes. A world wants a free slot for each image of a checkpoint and one
-    /// more, in each slot 4,096 bytes and so many for each page that isn't all zeros, and a sync of each slot to begin with.
+    /// A disk of 1 to 1,000 empty files, with room for so many bytes in each slot, and a record of so many writes, cuts
+    /// and syncs. A call for which there is no room fails as a device does: it changes nothing, and `failures` counts
+    /// it. All memory is taken here, three times the slots' bytes. A world wants a free slot for each image of a
+    /// checkpoint and one more, in each slot 4,096 bytes and so many for each page that isn't all zeros, and a sync of
+    /// each slot to begin with.
     ///
     /// # Errors
     ///
@@ -116,7 +119,9 @@ impl Disk for MemDisk {
     ghost use Rattle.std.specs.Prelude.{◌↔◌, IsOk, OnErr, take, slice_range, slice_set};
     ghost use Rattle.sd_disk.specs.Contents.{file_at, file_after_write, Torn, Cut, AtSlot};
     ghost use Rattle.sd_disk.specs.Crash.{Follows, Reaches, Within, OnlyAt, Elapses};
-    ghost use Rattle.sd_disk.specs.Memory.{memory_files, memory_calls, memory_failures, memory_called, memory_rooms, memory_reads, memory_events, memory_may_leave, memory_moment, memory_left_since, HasRoom, UsesCall, Refuses, CountsRead};
+    ghost use Rattle.sd_disk.specs.Memory.{memory_files, memory_calls, memory_failures, memory_called, memory_rooms};
+    ghost use Rattle.sd_disk.specs.Memory.{memory_reads, memory_events, memory_may_leave, memory_moment};
+    ghost use Rattle.sd_disk.specs.Memory.{memory_left_since, HasRoom, UsesCall, Refuses, CountsRead};
     ghost use Rattle.sd_disk.specs.Moments.{counts_now, only_now};
     ghost use Rattle.sd_disk.specs.Outcomes.{read_as, count_as};
 
@@ -134,11 +139,14 @@ impl Disk for MemDisk {
 
     ghost is_honest = { λ _. Unit {0} };
 
-    ghost as_read = { λ disk. read_as disk.budget.log.trace.outside (memory_events disk) (memory_files disk) disk.replayed disk.budget.log.as_read };
+    ghost as_read = { λ disk. read_as disk.budget.log.trace.outside (memory_events disk)
+        (memory_files disk) disk.replayed disk.budget.log.as_read };
 
-    ghost same_slots = { λ disk c left. count_as disk.budget.log.trace.outside (memory_events disk) (memory_files disk) c disk.replayed left };
+    ghost same_slots = { λ disk c left. count_as disk.budget.log.trace.outside (memory_events disk)
+        (memory_files disk) c disk.replayed left };
 
-    ghost counts_now = { λ disk t c since now. counts_now disk.budget.log.trace.outside (memory_events disk) t c since now };
+    ghost counts_now = { λ disk t c since now. counts_now disk.budget.log.trace.outside
+        (memory_events disk) t c since now };
 
     ghost only_now = { λ disk c left. only_now disk.budget.log.trace.outside (memory_events disk) c left };
 

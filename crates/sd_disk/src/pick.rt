@@ -4,7 +4,8 @@ ghost use Rattle.sd_disk.specs.Contents.{file_at};
 
 /// Chooses one of the contents that a crash may leave.
 ///
-/// `aims` are the contents that it aims at, if it aims at any: what it returns is then theirs, and it still aims at them.
+/// `aims` are the contents that it aims at, if it aims at any: what it returns is then theirs, and it still aims at
+/// them.
 pub trait Pick {
     ghost aims: { Self → List (List ℕ) → Type 0 };
 

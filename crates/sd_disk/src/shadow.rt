@@ -1,5 +1,6 @@
 //! What a crash has to know of a file in memory: the file as last synced, and what befell it since.
-ghost use Rattle.std.specs.Prelude.{◌≡◌, ℕ, ◌&&◌, ◌||◌, nat_le, nat_lt, ◌+◌, ◌≤◌, false, [], take, length, slice_index_or, max, min, IfOk};
+ghost use Rattle.std.specs.Prelude.{◌≡◌, ℕ, ◌&&◌, ◌||◌, nat_le, nat_lt, ◌+◌, ◌≤◌, false, [], take, length};
+ghost use Rattle.std.specs.Prelude.{slice_index_or, max, min, IfOk};
 
 use std::alloc::{AllocError, Global};
 

@@ -1,5 +1,6 @@
 //! One file in memory, in room that was taken beforehand.
-ghost use Rattle.std.specs.Prelude.{ℕ, ◌<◌, false, List, slice_index, slice_index_or, ◌≡◌, ◌+◌, ◌-◌, ◌≤◌, ◌↔◌, ◌++◌, length, take, drop, replicate, [], IfOk, IsTrue, slice_range};
+ghost use Rattle.std.specs.Prelude.{ℕ, ◌<◌, false, List, slice_index, slice_index_or, ◌≡◌, ◌+◌, ◌-◌, ◌≤◌, ◌↔◌, ◌++◌};
+ghost use Rattle.std.specs.Prelude.{length, take, drop, replicate, [], IfOk, IsTrue, slice_range};
 
 use crate::pick::Pick;
 use crate::shadow::Shadow;

@@ -1,5 +1,6 @@
 -- A core file: its bytes, and the memory that it says.
-use Rattle.std.specs.Prelude.{nat_lt, if◌then◌else◌, slice_index, ◌≡◌, ◌+◌, ◌*◌, ◌≤◌, ℕ, List, length, map, filter, slice_range}
+use Rattle.std.specs.Prelude.{nat_lt, if◌then◌else◌, slice_index, ◌≡◌, ◌+◌, ◌*◌, ◌≤◌, ℕ, List, length, map, filter}
+use Rattle.std.specs.Prelude.{slice_range}
 use Rattle.std.specs.List.{range_with_len}
 use Rattle.sd_elf.specs.declared.core_file.ReadError.{ReadError}
 use Rattle.sd_elf.specs.declared.core_file.ReadError.TheVariants as error
@@ -12,7 +13,8 @@ use Rattle.sd_elf.specs.Segments.{AreSegments, IsFirstBreak, is_memory, no_exten
 
 -- so many program headers that stand one behind the other in bytes
 abbrev pub program_headers_in : ℕ → List ℕ → List ProgramHeader
-program_headers_in count bytes = map (λ k. program_header_in (slice_range bytes (56 * k) (56 * k + 56))) (range_with_len 0 count)
+program_headers_in count bytes =
+    map (λ k. program_header_in (slice_range bytes (56 * k) (56 * k + 56))) (range_with_len 0 count)
 
 -- the program headers of a file with this file header
 abbrev pub headers_of : List ℕ → FileHeader → List ProgramHeader

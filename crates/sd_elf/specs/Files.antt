@@ -29,7 +29,8 @@ Takes None after files = Unit {0}
 Takes (Some before) after files = after ≡ Some (before ++ files)
 
 -- the checkpoint that the contents show, and its memory, whose core files were taken
-pub record TakesCores (contents : List (List ℕ)) (wanted : ℕ → Bool) (before after : Option (List CoreOfSpace)) (checkpoint : ℕ)
+pub record TakesCores (contents : List (List ℕ)) (wanted : ℕ → Bool) (before after : Option (List CoreOfSpace))
+    (checkpoint : ℕ)
     : Type 0 where
   pub memory : PlainMemory
   pub shows : Shows contents (Some (checkpoint, memory))

@@ -33,10 +33,12 @@ file_header_text h = kind_text h ++ places_text h ++ counts_text h
 
 -- Elf64_Phdr: where a segment stands, and how large it is
 abbrev pub place_text : ProgramHeader → List ℕ
-place_text s = number_bytes 4 s.p_type ++ number_bytes 4 s.p_flags ++ number_bytes 8 s.p_offset ++ number_bytes 8 s.p_vaddr
+place_text s =
+    number_bytes 4 s.p_type ++ number_bytes 4 s.p_flags ++ number_bytes 8 s.p_offset ++ number_bytes 8 s.p_vaddr
 
 abbrev pub size_text : ProgramHeader → List ℕ
-size_text s = number_bytes 8 s.p_paddr ++ number_bytes 8 s.p_filesz ++ number_bytes 8 s.p_memsz ++ number_bytes 8 s.p_align
+size_text s =
+    number_bytes 8 s.p_paddr ++ number_bytes 8 s.p_filesz ++ number_bytes 8 s.p_memsz ++ number_bytes 8 s.p_align
 
 unfoldable pub program_header_text : ProgramHeader → List ℕ
 program_header_text s = place_text s ++ size_text s
@@ -121,7 +123,8 @@ padded n bytes = bytes ++ zeros (n - length bytes)
 unfoldable pub front_text : ℕ → ℕ → List Area → List ℕ
 front_text checkpoint space areas = padded (pages_place (length areas)) (
     file_header_text (core_header (length areas)) ++ program_header_text (note_header (length areas))
-    ++ flat_map program_header_text (area_headers (pages_place (length areas)) areas) ++ state_note ++ own_note checkpoint space)
+    ++ flat_map program_header_text
+    (area_headers (pages_place (length areas)) areas) ++ state_note ++ own_note checkpoint space)
 
 -- the core file of a space of a checkpoint: its pages rise behind the front
 abbrev pub core_of : ℕ → ℕ → Space → List ℕ
@@ -135,14 +138,16 @@ placed_bytes contents p = bytes_at contents p.there
 
 -- those of the pages of one space, among others
 abbrev pub space_bytes : List (List ℕ) → ℕ → List PlacedPage → List ℕ
-space_bytes contents space pages = flat_map (placed_bytes contents) (filter (λ (p : PlacedPage). p.space == space) pages)
+space_bytes contents space pages =
+    flat_map (placed_bytes contents) (filter (λ (p : PlacedPage). p.space == space) pages)
 
 abbrev pub placed_core : List (List ℕ) → ℕ → List PlacedPage → Listed → List ℕ
 placed_core contents checkpoint pages s = front_text checkpoint s.space s.areas ++ space_bytes contents s.space pages
 
 -- so many pages of a run from one on
 abbrev pub part_of_run : List (List ℕ) → PlacedRun → ℕ → ℕ → List ℕ
-part_of_run contents r behind count = flat_map (λ k. placed_bytes contents (page_behind r (behind + k))) (range_with_len 0 count)
+part_of_run contents r behind count =
+    flat_map (λ k. placed_bytes contents (page_behind r (behind + k))) (range_with_len 0 count)
 
 -- pages that lie one behind the other in bytes that were read
 abbrev pub pages_bytes : List ℕ → ℕ → List ℕ

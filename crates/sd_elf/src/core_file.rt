@@ -1,5 +1,6 @@
 //! A core file, read: its headers, and then the pages of its segments.
-ghost use Rattle.std.specs.Prelude.{◌≡◌, ◌+◌, ◌^◌, ◌<◌, ◌/◌, ℕ, List, slice_index, filter, length, map, IfErr, IfOk, IfSome, OnOk};
+ghost use Rattle.std.specs.Prelude.{◌≡◌, ◌+◌, ◌^◌, ◌<◌, ◌/◌, ℕ, List, slice_index, filter, length, map, IfErr, IfOk};
+ghost use Rattle.std.specs.Prelude.{IfSome, OnOk};
 ghost use Rattle.sd_elf.specs.Cores.{IsCore, IsErrorOf, IsOutside, IsTable, program_headers_in, segment_byte};
 ghost use Rattle.sd_elf.specs.Segments.{extent_of, is_memory, no_extent};
 ghost use Rattle.sd_elf.specs.declared.program_header.ProgramHeader.{ProgramHeader};
@@ -159,8 +160,8 @@ pub fn read_core<F: CoreFile>(alloc: Global, file: &F) -> Result<Core, ReadError
     Ok(Core { segments, extent })
 }
 
-/// Reads a page of a segment of a core, or any part of it: from so many bytes behind its start on. What isn't in the file is
-/// zeros.
+/// Reads a page of a segment of a core, or any part of it: from so many bytes behind its start on. What isn't in the
+/// file is zeros.
 ///
 /// # Errors
 ///

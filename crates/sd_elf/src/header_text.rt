@@ -1,9 +1,12 @@
-//! What stands before the pages of a core file: its file header, its program headers, its notes, and zeros up to a page.
+//! What stands before the pages of a core file: its file header, its program headers, its notes, and zeros up to a
+//! page.
 ghost use Rattle.std.specs.Prelude.{◌≡◌, ◌+◌, ◌*◌, ◌^◌, ◌≤◌, ◌++◌, length, IfOk, None, OnOk};
 ghost use Rattle.std.specs.List.{flat_map};
 ghost use Rattle.sd_areas.specs.Areas.{AreMaximal};
 ghost use Rattle.sd_image.specs.Words.{zeros};
-ghost use Rattle.sd_elf.specs.Texts.{area_header, area_headers, core_header, counts_text, file_header_text, front_text, kind_text, note_header, notes_place, own_note, padded, pages_place, place_text, places_text, program_header_text, prot_flags, size_text, state_note};
+ghost use Rattle.sd_elf.specs.Texts.{area_header, area_headers, core_header, counts_text, file_header_text, front_text};
+ghost use Rattle.sd_elf.specs.Texts.{kind_text, note_header, notes_place, own_note, padded, pages_place, place_text};
+ghost use Rattle.sd_elf.specs.Texts.{places_text, program_header_text, prot_flags, size_text, state_note};
 
 use crate::fields::{put_u16, put_u32, put_u64};
 use crate::file_header::{EM_X86_64, ET_CORE, EV_CURRENT, FILE_HEADER_SIZE, FileHeader, IDENT};

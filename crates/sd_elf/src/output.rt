@@ -61,8 +61,8 @@ pub trait CoreFiles {
             → taken self.new ≡ Some (files ++ (space, bytes) ∷ []))) };
 }
 
-/// A file that is written from its front to its end, with a hole for each run of zeros that is left out. No contract says
-/// what a real file holds.
+/// A file that is written from its front to its end, with a hole for each run of zeros that is left out. No contract
+/// says what a real file holds.
 #[derive(Debug, Drop)]
 pub struct HoleFile {
     file: File,

@@ -139,8 +139,8 @@ pub fn is_there(areas: &[Area], area: &Area) -> bool {
     }
 }
 
-/// Whether a space with these areas could have over 1,024 of them while it gets others, one after the other: its pages are
-/// then unmapped first.
+/// Whether a space with these areas could have over 1,024 of them while it gets others, one after the other: its pages
+/// are then unmapped first.
 pub fn may_split_too_far(areas: usize, others: usize) -> bool {
     areas.saturating_mul(2).saturating_add(others) > AREA_LIMIT
 }

@@ -1,7 +1,8 @@
 //! The segments of a core, and whether a space can have them.
 ghost use Rattle.std.specs.Prelude.{◌≡◌, ◌+◌, ◌<◌, ◌≤◌, ◌^◌, ℕ, filter, IsOk, IfOk, IfErr, MatchOption};
 ghost use Rattle.sd_elf.specs.declared.segments.Extent.{Extent};
-ghost use Rattle.sd_elf.specs.Segments.{AreSegments, BreaksAt, BreaksSegment, HasBytes, IsSegment, StandsBehind, extent_after, extent_of, is_memory, no_extent, segment_end};
+ghost use Rattle.sd_elf.specs.Segments.{AreSegments, BreaksAt, BreaksSegment, HasBytes, IsSegment, StandsBehind};
+ghost use Rattle.sd_elf.specs.Segments.{extent_after, extent_of, is_memory, no_extent, segment_end};
 
 use crate::fault::{CoreFault, SegmentFault};
 use crate::program_header::{PT_LOAD, ProgramHeader};

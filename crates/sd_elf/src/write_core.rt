@@ -114,8 +114,8 @@ fn write_placed<D: Disk, S: CoreFiles>(
     Ok(())
 }
 
-/// Writes the core files of the memory that a store shows, behind all checks of a restore, and returns the number of its
-/// checkpoint. It holds a few pages at a time.
+/// Writes the core files of the memory that a store shows, behind all checks of a restore, and returns the number of
+/// its checkpoint. It holds a few pages at a time.
 ///
 /// # Errors
 ///

@@ -8,13 +8,15 @@ use Rattle.sd_exit.specs.declared.stop.Stop.{Stop}
 use Rattle.sd_exit.specs.declared.stop.Stop.TheVariants as stop
 use Rattle.sd_exit.specs.Texts.{fault_line}
 
--- the exit status of a program that printed why it stopped: 3 where nothing was saved, 2 for a script that doesn't fit, and else 1
+-- the exit status of a program that printed why it stopped: 3 where nothing was saved, 2 for a script that doesn't fit,
+-- and else 1
 abbrev pub status_of : Stop → ℕ
 status_of (stop.Fault EmptyChain) = 3
 status_of (stop.ScriptLine _) = 2
 status_of _ = 1
 
--- what a program prints last where it is stopped: why; but a refusal is answered before, and behind a failure of the writer nothing is printed
+-- what a program prints last where it is stopped: why; but a refusal is answered before, and behind a failure of the
+-- writer nothing is printed
 abbrev pub stop_text : Stop → List ℕ
 stop_text (stop.Fault fault) = fault_line fault
 stop_text stop.NoFrame = codes "no-frame" ++ 10 ∷ []
@@ -39,10 +41,11 @@ end_text (Err why) = stop_text why
 abbrev pub IsTold : Option (List ℕ) → Option (List ℕ) → Bool → List ℕ → ℕ → ℕ → Type 0
 IsTold before after refused text wanted status = ((status ≡ wanted) × Appends before after text) ⊎ (refused ≡ true)
 
--- how a program exits behind a last text: nothing was ever refused, the writer took that text, and the status is the one that comes with it;
--- or something was refused, and the status is 1
+-- how a program exits behind a last text: nothing was ever refused, the writer took that text, and the status is the
+-- one that comes with it; or something was refused, and the status is 1
 abbrev pub Exits : Option (List ℕ) → Option (List ℕ) → Bool → List ℕ → ℕ → ℕ → Type 0
-Exits before after refused text wanted status = ((refused ≡ false) × Appends before after text × (status ≡ wanted)) ⊎ ((refused ≡ true) × (status ≡ 1))
+Exits before after refused text wanted status =
+    ((refused ≡ false) × Appends before after text × (status ≡ wanted)) ⊎ ((refused ≡ true) × (status ≡ 1))
 
 -- what is so where nothing more can be printed
 abbrev pub OnWriter : Result Unit Stop → Type 0 → Type 0

@@ -13,7 +13,8 @@ slot_text slot = replicate (3 - length (decimal slot)) 48 ++ decimal slot
 -- the line of a fault
 abbrev pub fault_line : Fault → List ℕ
 fault_line EmptyChain = codes "empty chain" ++ 10 ∷ []
-fault_line (Damaged slot reason) = codes "damaged " ++ slot_text slot ++ codes " " ++ decimal (reason_number reason) ++ 10 ∷ []
+fault_line (Damaged slot reason) =
+    codes "damaged " ++ slot_text slot ++ codes " " ++ decimal (reason_number reason) ++ 10 ∷ []
 fault_line Device = codes "device" ++ 10 ∷ []
 fault_line OutOfMemory = codes "out-of-memory" ++ 10 ∷ []
 

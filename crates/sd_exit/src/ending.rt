@@ -21,9 +21,9 @@ const UNFIT: u8 = 2;
 /// The exit status where the store shows that nothing was saved.
 const NOTHING_SAVED: u8 = 3;
 
-/// Prints why a program ended early, if it did, flushes, and returns its exit status: 0 at its end, 3 for a store without a
-/// checkpoint, 2 for a script that doesn't fit the language, and else 1. It is 1 also where anything was ever refused; what
-/// the writer answered then is the output's `error`.
+/// Prints why a program ended early, if it did, flushes, and returns its exit status: 0 at its end, 3 for a store
+/// without a checkpoint, 2 for a script that doesn't fit the language, and else 1. It is 1 also where anything was ever
+/// refused; what the writer answered then is the output's `error`.
 pub fn exit<W: Write>(ended: &Result<(), Stop>, out: &mut Output<W>) -> u8
     // The writer took all, the last line too, and the status is that of the end; or something was refused, and it is 1.
     // What the writer itself keeps back no clause tells: of a flush std says only that no byte is lost by it.
@@ -41,8 +41,8 @@ pub fn exit<W: Write>(ended: &Result<(), Stop>, out: &mut Output<W>) -> u8
     }
 }
 
-/// Flushes behind a document that told a fault, and returns the exit status that the fault's line has, or 1 where anything
-/// was refused.
+/// Flushes behind a document that told a fault, and returns the exit status that the fault's line has, or 1 where
+/// anything was refused.
 pub fn exit_told<W: Write>(fault: Fault, out: &mut Output<W>) -> u8
     ensures exits { Exits (W.contents out.old.writer) (W.contents out.new.writer) out.new.refused
         [] (status_of (Stop.Fault fault)) result }

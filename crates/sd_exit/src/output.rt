@@ -1,5 +1,6 @@
 //! What a program prints to.
-ghost use Rattle.std.specs.Prelude.{◌≡◌, ◌≤◌, ℕ, true, false, [], length, take, if◌then◌else◌, IfOk, IfSome, IsOk, OnOk, OnErr};
+ghost use Rattle.std.specs.Prelude.{◌≡◌, ◌≤◌, ℕ, true, false, [], length, take, if◌then◌else◌, IfOk, IfSome, IsOk};
+ghost use Rattle.std.specs.Prelude.{OnOk, OnErr};
 ghost use Rattle.std.specs.Io.KnownBytes.{Appends, Keeps};
 ghost use Rattle.sd_exit.specs.Texts.{Begins};
 
@@ -127,8 +128,8 @@ impl<W: Write> Output<W> {
         self.note(ended)
     }
 
-    /// Flushes, and returns the exit status where that is to be this one, or 1 where something was refused, by the flush or
-    /// before it.
+    /// Flushes, and returns the exit status where that is to be this one, or 1 where something was refused, by the
+    /// flush or before it.
     pub fn finish(&mut self, wanted: u8) -> u8
         ensures bytes { Keeps (W.contents self.old.writer) (W.contents self.new.writer) }
         ensures refused { self.old.refused ≡ true → self.new.refused ≡ true }

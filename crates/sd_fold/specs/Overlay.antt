@@ -26,7 +26,8 @@ with_page pages page (Some found) = finmap.insert pages page found
 -- the pages of a space with changes over them
 abbrev pub pages_over : Changes → Space → Space
 pages_over [] pages = pages
-pages_over (change ∷ changes) pages = with_page (pages_over changes pages) change.0 (option_map page_of_snapshot change.1)
+pages_over (change ∷ changes) pages =
+    with_page (pages_over changes pages) change.0 (option_map page_of_snapshot change.1)
 
 -- what stands, or else the other
 abbrev pub or_else : {X : Type 0} → Option X → Option X → Option X
@@ -51,4 +52,5 @@ with_space memory space (Some pages) = finmap.insert memory space pages
 abbrev pub memory_over : Layers → PlainMemory → PlainMemory
 memory_over [] memory = memory
 memory_over (layer ∷ layers) memory =
-    with_space (memory_over layers memory) layer.0 (option_map (λ changes. pages_over changes.entries (inside memory layer.0)) layer.1)
+    with_space (memory_over layers memory) layer.0
+    (option_map (λ changes. pages_over changes.entries (inside memory layer.0)) layer.1)

@@ -14,7 +14,8 @@ use Rattle.sd_fold.specs.Overlay.{Changes, Layers}
 
 -- the memory without a page of a space; where the space isn't alive there is none
 abbrev pub without_page : PlainMemory → ℕ → ℕ → PlainMemory
-without_page memory space page = option_map_or (λ pages. finmap.insert memory space (finmap.remove pages page)) (finmap.get memory space) memory
+without_page memory space page =
+    option_map_or (λ pages. finmap.insert memory space (finmap.remove pages page)) (finmap.get memory space) memory
 
 -- the memory without what was added
 abbrev pub without : Added → PlainMemory → PlainMemory
@@ -28,9 +29,11 @@ before (newest ∷ earlier) memory = before earlier (without newest memory)
 
 -- each page that is to be put is there already
 abbrev pub HasPages : Changes → Space → Type 0
-HasPages changes pages = (page : ℕ) → (found : SnapshotPage) → lookup (is_at (nat_cmp page)) changes ≡ Some (Some found) → IsSome (finmap.get pages page)
+HasPages changes pages = (page : ℕ) → (found : SnapshotPage) → lookup (is_at (nat_cmp page)) changes ≡ Some (Some found)
+    → IsSome (finmap.get pages page)
 
 -- each space that is to be changed is there already, with each page that is to be put
 abbrev pub HasRoom : Layers → PlainMemory → Type 0
-HasRoom layers memory = (space : ℕ) → (changes : BTreeMap ℕ (Option SnapshotPage)) → lookup (is_at (nat_cmp space)) layers ≡ Some (Some changes)
+HasRoom layers memory = (space : ℕ) → (changes : BTreeMap ℕ (Option SnapshotPage))
+    → lookup (is_at (nat_cmp space)) layers ≡ Some (Some changes)
     → (is_alive memory space ≡ true) × HasPages changes.entries (inside memory space)

@@ -1,5 +1,6 @@
 //! What entries change of the pages of one space, kept beside the pages that are there.
-ghost use Rattle.std.specs.Prelude.{cond, nat_eq, ◌≡◌, ◌+◌, ◌-◌, ◌<◌, ◌≤◌, ◌^◌, ◌%◌, ℕ, Some, None, Option, length, OnOk, IfOk, IsSome, MatchOption};
+ghost use Rattle.std.specs.Prelude.{cond, nat_eq, ◌≡◌, ◌+◌, ◌-◌, ◌<◌, ◌≤◌, ◌^◌, ◌%◌, ℕ, Some, None, Option, length};
+ghost use Rattle.std.specs.Prelude.{OnOk, IfOk, IsSome, MatchOption};
 ghost use Rattle.std.specs.BTreeMap.{is_at};
 ghost use Rattle.std.specs.FinMap as finmap;
 ghost use Rattle.std.specs.Map.{lookup};

@@ -1,8 +1,10 @@
 //! The effects of commands, made beside the memory that they are carried out on.
-ghost use Rattle.std.specs.Prelude.{◌≡◌, ◌⊎◌, ◌+◌, ◌≤◌, ◌%◌, ◌^◌, ◌<◌, true, false, length, reverse, OnOk, IfOk, IsSome};
+ghost use Rattle.std.specs.Prelude.{◌≡◌, ◌⊎◌, ◌+◌, ◌≤◌, ◌%◌, ◌^◌, ◌<◌, true, false, length, reverse, OnOk, IfOk};
+ghost use Rattle.std.specs.Prelude.{IsSome};
 ghost use Rattle.sd_areas.specs.Memory.{memory_of};
 ghost use Rattle.sd_areas.specs.Pages.{page_of, pages_for};
-ghost use Rattle.sd_pagetable.specs.Effects.{after_exit, after_fork, after_mmap, after_mprotect, after_munmap, after_store};
+ghost use Rattle.sd_pagetable.specs.Effects.{after_exit, after_fork, after_mmap, after_mprotect, after_munmap};
+ghost use Rattle.sd_pagetable.specs.Effects.{after_store};
 ghost use Rattle.sd_pagetable.specs.Nested.{is_alive, value_at};
 ghost use Rattle.sd_command.specs.declared.refusal.Refusal.TheVariants.{Frozen};
 ghost use Rattle.sd_command.specs.declared.reply.Reply.TheVariants as told;
@@ -68,7 +70,8 @@ fn apply_child(
     command: &Command,
     child: SpaceId,
 ) -> Result<(), AllocError>
-    requires { IsLegalReply (memory_over overlay.old.entries (memory_of base.now)) false command.now (told.Child child) }
+    requires { IsLegalReply (memory_over overlay.old.entries (memory_of base.now)) false command.now
+        (told.Child child) }
     ensures { OnOk result (memory_over overlay.new.entries (memory_of base.now)
         ≡ effect command.now (told.Child child) (memory_over overlay.old.entries (memory_of base.now))) }
 {

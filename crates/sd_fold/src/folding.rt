@@ -11,8 +11,8 @@ use sd_areas::Snapshot;
 use sd_journal::Entry;
 use std::alloc::{AllocError, Global};
 
-/// Makes of a memory what the entries of a legal journal make of it. The checkpoint number that stands beside the memory
-/// stays.
+/// Makes of a memory what the entries of a legal journal make of it. The checkpoint number that stands beside the
+/// memory stays.
 ///
 /// What the entries change is made beside the memory, then room is made in it for all that is new, and then the changes
 /// are put in, which needs no memory. So the time is that of the entries and of the pages that they touch.

@@ -13,8 +13,8 @@ use sd_areas::{PageNo, Snapshot, SnapshotPage, SpaceId};
 use std::alloc::{AllocError, Global};
 use std::collections::BTreeMap;
 
-/// Puts into a memory what is new to it: the spaces that changes are in, and the pages that they put where none is mapped.
-/// What is left is to be put in place of what is there.
+/// Puts into a memory what is new to it: the spaces that changes are in, and the pages that they put where none is
+/// mapped. What is left is to be put in place of what is there.
 ///
 /// # Errors
 ///

@@ -10,7 +10,8 @@ pub record Cell : Type 0 where
   pub bytes : List ℕ
 
 abbrev pub cell_code : Coded Cell
-cell_code = code_by (ℕ × List ℕ) (coded× coded_ℕ (coded_list coded_ℕ)) (λ c. (c.count, c.bytes)) (λ t. record { count = t.0; bytes = t.1 }) (λ _. refl)
+cell_code = code_by (ℕ × List ℕ) (coded× coded_ℕ (coded_list coded_ℕ)) (λ c. (c.count, c.bytes))
+    (λ t. record { count = t.0; bytes = t.1 }) (λ _. refl)
 
 -- how many frames there may be, and those that were made so far; one that isn't in use is none
 pub record Pool : Type 0 where
@@ -18,7 +19,8 @@ pub record Pool : Type 0 where
   pub cells : List (Option Cell)
 
 abbrev pub pool_code : Coded Pool
-pool_code = code_by (ℕ × List (Option Cell)) (coded× coded_ℕ (coded_list (coded_option cell_code))) (λ p. (p.size, p.cells)) (λ t. record { size = t.0; cells = t.1 }) (λ _. refl)
+pool_code = code_by (ℕ × List (Option Cell)) (coded× coded_ℕ (coded_list (coded_option cell_code)))
+    (λ p. (p.size, p.cells)) (λ t. record { size = t.0; cells = t.1 }) (λ _. refl)
 
 abbrev pub cell_at : Pool → ℕ → Option Cell
 cell_at pool number = slice_index_or pool.cells number None

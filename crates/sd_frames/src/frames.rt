@@ -1,8 +1,10 @@
 //! Counted frames with copy on write, from a pool.
-ghost use Rattle.std.specs.Prelude.{◌≡◌, ◌+◌, ◌-◌, ◌<◌, ◌≤◌, ◌^◌, ◌==◌, length, [], Some, None, IsTrue, IsFalse, IsSome, OnErr, IfOk, if◌then◌else◌};
+ghost use Rattle.std.specs.Prelude.{◌≡◌, ◌+◌, ◌-◌, ◌<◌, ◌≤◌, ◌^◌, ◌==◌, length, [], Some, None, IsTrue, IsFalse};
+ghost use Rattle.std.specs.Prelude.{IsSome, OnErr, IfOk, if◌then◌else◌};
 ghost use Rattle.std.specs.Option.{ForSome};
 ghost use Rattle.sd_frames.specs.Bytes.{stored_at, zeros};
-ghost use Rattle.sd_frames.specs.Frames.{Cell, cell_at, count_at, bytes_at, SetsCell, IsExhausted, HasFree, HasWholeFrames, frame_bytes};
+ghost use Rattle.sd_frames.specs.Frames.{Cell, cell_at, count_at, bytes_at, SetsCell, IsExhausted, HasFree};
+ghost use Rattle.sd_frames.specs.Frames.{HasWholeFrames, frame_bytes};
 
 use crate::frame::Frame;
 use crate::frame_cell::{FrameCell, next_free};
@@ -13,8 +15,8 @@ use std::marker::Model;
 
 static ZEROS: [u8; PAGE_SIZE] = [0; PAGE_SIZE];
 
-/// The frames of a pool. A frame's bytes are allocated where it is first needed. Once no entry has it, its number is used
-/// again, and its bytes are kept for another frame, up to a limit.
+/// The frames of a pool. A frame's bytes are allocated where it is first needed. Once no entry has it, its number is
+/// used again, and its bytes are kept for another frame, up to a limit.
 #[derive(Drop)]
 pub struct Frames {
     alloc: Global,

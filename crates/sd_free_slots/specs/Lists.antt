@@ -1,5 +1,6 @@
 -- The list of the images that a merge closes, and the room for it.
-use Rattle.std.specs.Prelude.{◌≡◌, ◌⊎◌, ℕ, ◌+◌, ◌<◌, ◌≤◌, Bool, true, false, List, [], ◌∷◌, ◌++◌, length, replicate, Option, Some, None, slice_get}
+use Rattle.std.specs.Prelude.{◌≡◌, ◌⊎◌, ℕ, ◌+◌, ◌<◌, ◌≤◌, Bool, true, false, List, [], ◌∷◌, ◌++◌, length, replicate}
+use Rattle.std.specs.Prelude.{Option, Some, None, slice_get}
 use Rattle.sd_chain.specs.Catalog.{Opened, Places, place_of}
 use Rattle.sd_merge.specs.declared.retired.Retired.{Retired}
 use Rattle.sd_free_slots.specs.Marks.{IsUnmarked}
@@ -14,7 +15,8 @@ listed_at slot false (Some serial) = (record { serial = serial; slot = slot }) �
 abbrev pub listed_from : ℕ → List Bool → List (Option ℕ) → List Retired
 listed_from slot [] serials = []
 listed_from slot (taken ∷ marks) [] = []
-listed_from slot (taken ∷ marks) (serial ∷ serials) = listed_at slot taken serial ++ listed_from (slot + 1) marks serials
+listed_from slot (taken ∷ marks) (serial ∷ serials) =
+    listed_at slot taken serial ++ listed_from (slot + 1) marks serials
 
 -- how many slots have a serial
 abbrev pub noted : List (Option ℕ) → ℕ
@@ -35,11 +37,14 @@ pub record HasNoted (places : Places) (among : ℕ → Type 0) (serials : List (
   pub noted_is : slice_get serials slot ≡ Some (Some serial)
   pub stands : StandsAt places among slot serial
 
--- The slots in which images of these serials stand have one of them each, and the others what they had. At most so many are noted.
+-- The slots in which images of these serials stand have one of them each, and the others what they had. At most so many
+-- are noted.
 pub record Notes (places : Places) (among : ℕ → Type 0) (many : ℕ) (old new : List (Option ℕ)) : Type 0 where
   pub count : length new ≡ length old
-  pub each : (slot serial : ℕ) → slice_get new slot ≡ Some (Some serial) → (slice_get old slot ≡ Some (Some serial)) ⊎ StandsAt places among slot serial
-  pub kept : (slot serial : ℕ) → slice_get old slot ≡ Some (Some serial) → (slice_get new slot ≡ Some (Some serial)) ⊎ HasNoted places among new slot
+  pub each : (slot serial : ℕ) → slice_get new slot ≡ Some (Some serial)
+      → (slice_get old slot ≡ Some (Some serial)) ⊎ StandsAt places among slot serial
+  pub kept : (slot serial : ℕ) → slice_get old slot ≡ Some (Some serial)
+      → (slice_get new slot ≡ Some (Some serial)) ⊎ HasNoted places among new slot
   pub all : (slot serial : ℕ) → slot < length old → StandsAt places among slot serial → HasNoted places among new slot
   pub few : noted new ≤ many + noted old
 

@@ -120,8 +120,8 @@ impl ListRoom {
         })
     }
 
-    /// The list of the images that the running merge closes, once its image is open, rising by slot: those that were in the
-    /// catalog as it began and still are, that nobody needs, in slots that no job has. It takes no memory.
+    /// The list of the images that the running merge closes, once its image is open, rising by slot: those that were in
+    /// the catalog as it began and still are, that nobody needs, in slots that no job has. It takes no memory.
     pub fn into_list(
         self,
         catalog: &Catalog,

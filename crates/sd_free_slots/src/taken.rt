@@ -2,7 +2,8 @@
 ghost use Rattle.std.specs.Prelude.{◌≡◌, ◌↔◌, ℕ, IfOk, Some, length};
 ghost use Rattle.std.specs.Option.{option_map};
 ghost use Rattle.sd_free_slots.specs.Marks.{IsUnmarked, Takes, TakesNeeded};
-ghost use Rattle.sd_free_slots.specs.Taken.{AreFree, AreTaken, FreeSlotsLaw, IsListed, IsNeededAt, IsOutAt, IsParentsSerial, IsReservedBy, IsSourcesSerial, IsTipsSerial, slot_of_id};
+ghost use Rattle.sd_free_slots.specs.Taken.{AreFree, AreTaken, FreeSlotsLaw, IsListed, IsNeededAt, IsOutAt};
+ghost use Rattle.sd_free_slots.specs.Taken.{IsParentsSerial, IsReservedBy, IsSourcesSerial, IsTipsSerial, slot_of_id};
 
 use crate::marks::{free_slots, take, take_all, take_root, take_some};
 use sd_chain::Catalog;
@@ -37,7 +38,8 @@ fn source_serial(merger: &Merger) -> Option<u64>
 
 /// Marks the slots in which images stand that are needed.
 fn take_needed(marks: &mut Vec<bool>, catalog: &Catalog, dumper: &Dumper, merger: &Merger)
-    ensures { TakesNeeded catalog.now (IsNeededAt catalog.now dumper.now.running merger.now) marks.old.items marks.new.items }
+    ensures { TakesNeeded catalog.now
+        (IsNeededAt catalog.now dumper.now.running merger.now) marks.old.items marks.new.items }
 {
     take_root(marks, catalog, tip_serial(catalog));
     take_root(marks, catalog, parent_serial(catalog, dumper));
@@ -95,8 +97,8 @@ pub(crate) fn mark_taken(
     take_jobs(marks, dumper, merger, outs);
 }
 
-/// The slots of a store of so many that are free, rising: no image stands there that is needed, no job reserves them, and
-/// no request is out on them.
+/// The slots of a store of so many that are free, rising: no image stands there that is needed, no job reserves them,
+/// and no request is out on them.
 ///
 /// # Errors
 ///
@@ -116,7 +118,8 @@ pub fn free_in(
     free_slots(alloc, &marks)
 }
 
-/// A law: a free slot is one of the store, in which nothing stands that is needed, and that no job has; free slots rise.
+/// A law: a free slot is one of the store, in which nothing stands that is needed, and that no job has; free slots
+/// rise.
 pub fn free_law()
     ensures { FreeSlotsLaw }
 {}

@@ -1,5 +1,6 @@
 -- What a device call makes of the contents of a disk.
-use Rattle.std.specs.Prelude.{◌≡◌, ℕ, ◌+◌, ◌<◌, ◌≤◌, Bool, true, false, List, [], ◌∷◌, length, take, slice_range, slice_set, Option, Some, None}
+use Rattle.std.specs.Prelude.{◌≡◌, ℕ, ◌+◌, ◌<◌, ◌≤◌, Bool, true, false, List, [], ◌∷◌, length, take, slice_range}
+use Rattle.std.specs.Prelude.{slice_set, Option, Some, None}
 use Rattle.sd_disk.specs.Contents.{file_at, file_after_write, Torn, AtSlot, Cut as CutTo}
 use Rattle.sd_image.specs.Header.{header_text}
 use Rattle.sd_image.specs.Image.{gate}
@@ -8,7 +9,9 @@ use Rattle.sd_gate.specs.declared.answer.Answer.TheVariants.{Done, Len as LenIs,
 use Rattle.sd_gate.specs.declared.call.Call.{Call}
 use Rattle.sd_gate.specs.declared.call.Call.TheVariants.{Len, Read, Write, WriteHeader, Close, Open, Cut, Sync}
 use Rattle.sd_gate.specs.declared.order.Order.{Order}
-use Rattle.sd_gate.specs.declared.order.Order.TheVariants.{Len as LenOrder, Read as ReadOrder, Write as WriteOrder, WriteHeader as HeaderOrder, Close as CloseOrder, Open as OpenOrder, Cut as CutOrder, Sync as SyncOrder}
+use Rattle.sd_gate.specs.declared.order.Order.TheVariants.{Len as LenOrder, Read as ReadOrder, Write as WriteOrder}
+use Rattle.sd_gate.specs.declared.order.Order.TheVariants.{WriteHeader as HeaderOrder, Close as CloseOrder}
+use Rattle.sd_gate.specs.declared.order.Order.TheVariants.{Open as OpenOrder, Cut as CutOrder, Sync as SyncOrder}
 
 -- the call that an order is for
 abbrev pub call_of : Order → Call
@@ -80,10 +83,13 @@ IsInside Sync bytes file = Unit {0}
 abbrev pub contents_after : Call → List ℕ → ℕ → List (List ℕ) → List (List ℕ)
 contents_after Len bytes slot contents = contents
 contents_after (Read at) bytes slot contents = contents
-contents_after (Write at) bytes slot contents = slice_set contents slot (file_after_write (file_at contents slot) at bytes)
-contents_after WriteHeader bytes slot contents = slice_set contents slot (file_after_write (file_at contents slot) 1 bytes)
+contents_after (Write at) bytes slot contents =
+    slice_set contents slot (file_after_write (file_at contents slot) at bytes)
+contents_after WriteHeader bytes slot contents =
+    slice_set contents slot (file_after_write (file_at contents slot) 1 bytes)
 contents_after Close bytes slot contents = slice_set contents slot (file_after_write (file_at contents slot) 0 (0 ∷ []))
-contents_after Open bytes slot contents = slice_set contents slot (file_after_write (file_at contents slot) 0 (gate ∷ []))
+contents_after Open bytes slot contents =
+    slice_set contents slot (file_after_write (file_at contents slot) 0 (gate ∷ []))
 contents_after Cut bytes slot contents = slice_set contents slot (take 1 (file_at contents slot))
 contents_after Sync bytes slot contents = contents
 

@@ -4,7 +4,8 @@ use Rattle.sd_disk.specs.Contents.{file_at}
 use Rattle.sd_disk.specs.Crash.{OnlyAt}
 use Rattle.sd_image.specs.Image.{gate}
 use Rattle.sd_gate.specs.declared.phase.Phase.{Phase}
-use Rattle.sd_gate.specs.declared.phase.Phase.TheVariants.{Raw, RawClosing, Whole, Closing, Shut, ShutSynced, Bare, Writing, Ready, Opening, Doubt, DoubtSynced}
+use Rattle.sd_gate.specs.declared.phase.Phase.TheVariants.{Raw, RawClosing, Whole, Closing, Shut, ShutSynced, Bare}
+use Rattle.sd_gate.specs.declared.phase.Phase.TheVariants.{Writing, Ready, Opening, Doubt, DoubtSynced}
 
 -- a file that begins with a byte other than the gate
 pub record IsClosed (file : List ℕ) : Type 0 where
@@ -72,18 +73,22 @@ is_synced Doubt = false
 is_synced DoubtSynced = true
 
 -- A slot of a disk with these contents and these outcomes of a crash is in a phase, with this body.
-pub record SlotFits (phase : Phase) (body : List ℕ) (slot : ℕ) (contents : List (List ℕ)) (may_leave : List (List ℕ) → Type 0) : Type 0 where
+pub record SlotFits (phase : Phase) (body : List ℕ) (slot : ℕ) (contents : List (List ℕ))
+    (may_leave : List (List ℕ) → Type 0) : Type 0 where
   pub reads : Reads phase body (file_at contents slot)
   pub leaves : (c : List (List ℕ)) → may_leave c → Leaves phase body (file_at c slot)
   pub as_read : is_synced phase ≡ true → OnlyAt slot (file_at contents slot) may_leave
 
 -- each slot of a disk is in its phase, with its body
-pub record DiskFits (phases : List Phase) (bodies : List (List ℕ)) (contents : List (List ℕ)) (may_leave : List (List ℕ) → Type 0) : Type 0 where
+pub record DiskFits (phases : List Phase) (bodies : List (List ℕ)) (contents : List (List ℕ))
+    (may_leave : List (List ℕ) → Type 0) : Type 0 where
   pub count : length bodies ≡ length phases
   pub slots : length contents ≡ length phases
-  pub each : (slot : ℕ) (phase : Phase) → slice_get phases slot ≡ Some phase → SlotFits phase (file_at bodies slot) slot contents may_leave
+  pub each : (slot : ℕ) (phase : Phase) → slice_get phases slot ≡ Some phase
+      → SlotFits phase (file_at bodies slot) slot contents may_leave
 
 -- contents in which each slot is as a crash may leave it in its phase
 pub record DiskLeaves (phases : List Phase) (bodies c : List (List ℕ)) : Type 0 where
   pub count : length c ≡ length phases
-  pub each : (slot : ℕ) (phase : Phase) → slice_get phases slot ≡ Some phase → Leaves phase (file_at bodies slot) (file_at c slot)
+  pub each : (slot : ℕ) (phase : Phase) → slice_get phases slot ≡ Some phase
+      → Leaves phase (file_at bodies slot) (file_at c slot)

@@ -1,5 +1,6 @@
 -- How far the inspection of a slot has come, and what it was told of the slot's file.
-use Rattle.std.specs.Prelude.{◌≡◌, ◌≢◌, ℕ, ◌+◌, ◌<◌, ◌≤◌, true, List, [], ◌∷◌, length, slice_index, slice_range, Option, Some, None, Ok, Err}
+use Rattle.std.specs.Prelude.{◌≡◌, ◌≢◌, ℕ, ◌+◌, ◌<◌, ◌≤◌, true, List, [], ◌∷◌, length, slice_index, slice_range, Option}
+use Rattle.std.specs.Prelude.{Some, None, Ok, Err}
 use Rattle.sd_image.specs.declared.header.Header.{Header}
 use Rattle.sd_image.specs.declared.reason.Reason.{Reason}
 use Rattle.sd_image.specs.Image.{gate}
@@ -94,7 +95,8 @@ back_at file (AtTable h) = record { len = Some (length file); first = Some (firs
 back_at file Short = record { len = Some (length file); first = None; second = None }
 back_at file Shut = record { len = Some (length file); first = Some (first_of file); second = None }
 back_at file (Broken why) = record { len = Some (length file); first = Some (first_of file); second = None }
-back_at file (Whole h) = record { len = Some (length file); first = Some (first_of file); second = Some (table_of h file) }
+back_at file (Whole h) =
+    record { len = Some (length file); first = Some (first_of file); second = Some (table_of h file) }
 
 -- the next call there, and how many bytes it brings back
 abbrev pub IsCallAt : Look → Call → ℕ → Type 0
@@ -109,10 +111,12 @@ IsCallAt (Whole h) call count = ⊥
 
 -- a plan that has come there, and one whose next request is out
 abbrev pub rests : ℕ → List ℕ → Look → Planned
-rests slot file look = record { slot = slot; calls = calls_at look; awaits = awaits_at file look; out = None; found = back_at file look }
+rests slot file look =
+    record { slot = slot; calls = calls_at look; awaits = awaits_at file look; out = None; found = back_at file look }
 
 abbrev pub asks : ℕ → List ℕ → Look → RequestId → Planned
-asks slot file look id = record { slot = slot; calls = calls_behind look; awaits = awaits_at file look; out = Some id; found = back_at file look }
+asks slot file look id = record
+    { slot = slot; calls = calls_behind look; awaits = awaits_at file look; out = Some id; found = back_at file look }
 
 -- a plan looks at this file, with this request out
 abbrev pub LooksAt : ℕ → List ℕ → Option Asked → Planned → Type 0
@@ -134,9 +138,13 @@ pub record IsFound (file : List ℕ) (found : Back) : Type 0 where
 -- Where each outcome told the file as it is, an inspection finds the file.
 pub record InspectionFinds : Type 0 where
   pub begins : (slot : ℕ) (file : List ℕ) → LooksAt slot file None (begun slot first_looks the_length)
-  pub takes : (slot : ℕ) (file : List ℕ) (old new : Planned) (request : Asked) → LooksAt slot file None old → Gives old new request
+  pub takes : (slot : ℕ) (file : List ℕ) (old new : Planned) (request : Asked) → LooksAt slot file None old
+      → Gives old new request
       → LooksAt slot file (Some request) new
-  pub settles : (slot : ℕ) (file : List ℕ) (plan : Planned) (request : Asked) (made : Made) → LooksAt slot file (Some request) plan
-      → made.request.id ≡ request.id → length made.request.bytes ≡ length request.bytes → is_done made.answer ≡ true → IsTold file made
+  pub settles : (slot : ℕ) (file : List ℕ) (plan : Planned) (request : Asked) (made : Made)
+      → LooksAt slot file (Some request) plan
+      → made.request.id ≡ request.id → length made.request.bytes ≡ length request.bytes → is_done made.answer ≡ true
+      → IsTold file made
       → LooksAt slot file None (plan_after plan made)
-  pub ends : (slot : ℕ) (file : List ℕ) (plan : Planned) → LooksAt slot file None plan → plan.calls ≡ [] → IsFound file plan.found
+  pub ends : (slot : ℕ) (file : List ℕ) (plan : Planned) → LooksAt slot file None plan → plan.calls ≡ []
+      → IsFound file plan.found

@@ -57,10 +57,11 @@ Takes image phase body ((call, bytes) ∷ calls) last final =
 
 -- the body of an image once its table and its header are written behind these bytes
 abbrev pub body_closed : List ℕ → Header → List ℕ → List ℕ
-body_closed body header table = body_after (body_after body (Write (table_place header)) table) WriteHeader (header_text header)
+body_closed body header table =
+    body_after (body_after body (Write (table_place header)) table) WriteHeader (header_text header)
 
--- Each plan that writes, in every phase that is ready for it: a crash leaves at most the image that was there, or the one
--- that is written.
+-- Each plan that writes, in every phase that is ready for it: a crash leaves at most the image that was there, or the
+-- one that is written.
 pub record PlansTake : Type 0 where
   pub format : (image : List ℕ) (phase : Phase) (body : List ℕ) → LeavesAtMost image phase body
       → Takes image phase body (format_calls (state_of phase)) Bare []
@@ -68,7 +69,8 @@ pub record PlansTake : Type 0 where
       → Takes image phase body closing_calls Bare []
   pub page : (image : List ℕ) (phase : Phase) (body : List ℕ) (place : ℕ) (page : List ℕ) → may_write phase ≡ true
       → Takes image phase body ((Write place, page) ∷ []) (filled phase) (body_after body (Write place) page)
-  pub close_body : (phase : Phase) (body : List ℕ) (header : Header) (table : List ℕ) → may_write phase ≡ true → filled phase ≡ Writing
+  pub close_body : (phase : Phase) (body : List ℕ) (header : Header) (table : List ℕ) → may_write phase ≡ true
+      → filled phase ≡ Writing
       → Takes (body_closed body header table) phase body (body_calls header table) Whole (body_closed body header table)
 
 -- every other slot is as it was
@@ -79,8 +81,8 @@ ChangesAlone slot = AtSlot slot (λ old new. Unit {0})
 abbrev pub FollowsAt : ℕ → Outcomes → Outcomes → Type 0
 FollowsAt slot = Follows (ChangesAlone slot)
 
--- what a crash leaves while an image is written into a slot: what it left before, but for the slot, which holds no image or
--- that one, whose bytes behind the gate these are
+-- what a crash leaves while an image is written into a slot: what it left before, but for the slot, which holds no
+-- image or that one, whose bytes behind the gate these are
 pub record IsLeft (slot : ℕ) (image : List ℕ) (before : Outcomes) (c : List (List ℕ)) : Type 0 where
   pub was : List (List ℕ)
   pub outcome : before was

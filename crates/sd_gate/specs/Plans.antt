@@ -1,5 +1,6 @@
 -- A plan as it is seen, and what its calls do to it.
-use Rattle.std.specs.Prelude.{◌≡◌, ℕ, ◌+◌, ◌*◌, Bool, true, false, if◌then◌else◌, List, [], ◌∷◌, length, Option, None, Some}
+use Rattle.std.specs.Prelude.{◌≡◌, ℕ, ◌+◌, ◌*◌, Bool, true, false, if◌then◌else◌, List, [], ◌∷◌, length, Option, None}
+use Rattle.std.specs.Prelude.{Some}
 use Rattle.std.specs.Option.{option_map}
 use Rattle.sd_gate.specs.declared.answer.Answer.{Answer}
 use Rattle.sd_gate.specs.declared.answer.Answer.TheVariants.{Done as DoneAnswer, Len as LenIs, Failed as FailedAnswer}
@@ -12,7 +13,8 @@ use Rattle.sd_gate.specs.declared.settled.Settled.TheVariants.{More, Finished, F
 use Rattle.sd_gate.specs.Calls.{is_done, buffer_back}
 use Rattle.sd_gate.specs.Requests.{Asked, Made}
 use Rattle.sd_gate.specs.Sequences.{Calls, calls_of_sequence, AreSound}
-use Rattle.sd_gate.specs.Inspections.{KnowsLength, Awaits, nothing, calls_awaited, calls_of_stage, awaits_of, Following, calls_then}
+use Rattle.sd_gate.specs.Inspections.{KnowsLength, Awaits, nothing, calls_awaited, calls_of_stage, awaits_of, Following}
+use Rattle.sd_gate.specs.Inspections.{calls_then}
 
 abbrev pub calls_of : Job → Calls
 calls_of (SequenceJob sequence) = calls_of_sequence sequence
@@ -38,7 +40,8 @@ pub record Back : Type 0 where
   pub second : Option (List ℕ)
 
 abbrev pub found_of : Found → Back
-found_of found = record { len = found.len; first = option_map (λ b. b.items) found.first; second = option_map (λ b. b.items) found.second }
+found_of found = record
+    { len = found.len; first = option_map (λ b. b.items) found.first; second = option_map (λ b. b.items) found.second }
 
 -- nothing came back yet
 abbrev pub nothing_back : Back
@@ -61,9 +64,14 @@ second_back (Some first) second bytes = Some bytes
 
 -- with one outcome more
 abbrev pub found_after : Back → Answer → Option (List ℕ) → Back
-found_after found answer None = record { len = length_told found.len answer; first = found.first; second = found.second }
+found_after found answer None =
+    record { len = length_told found.len answer; first = found.first; second = found.second }
 found_after found answer (Some bytes) =
-    record { len = length_told found.len answer; first = Some (first_back found.first bytes); second = second_back found.first found.second bytes }
+    record {
+      len = length_told found.len answer;
+      first = Some (first_back found.first bytes);
+      second = second_back found.first found.second bytes;
+    }
 
 -- a plan as it is seen
 pub record Planned : Type 0 where
@@ -101,7 +109,9 @@ pub record Gives (old new : Planned) (request : Asked) : Type 0 where
 -- a plan goes on after its outcome, and makes no further call after one that failed
 abbrev pub calls_after : Planned → Made → Following
 calls_after plan made =
-    if is_done made.answer then calls_then plan.calls plan.awaits made.answer (buffer_back made.request.id.call made.request.bytes) else ([], nothing)
+    if is_done made.answer
+    then calls_then plan.calls plan.awaits made.answer (buffer_back made.request.id.call made.request.bytes)
+    else ([], nothing)
 
 abbrev pub plan_after : Planned → Made → Planned
 plan_after plan made = record {

@@ -8,8 +8,8 @@ use crate::answer::Answer;
 use crate::phase::Phase;
 use sd_image::{GATE, HEADER_SIZE};
 
-/// What came back to a plan with the outcomes: of a page or a body its buffer, the first; of an inspection the length of
-/// the file, its first 4,096 bytes and its table, as far as the inspection came.
+/// What came back to a plan with the outcomes: of a page or a body its buffer, the first; of an inspection the length
+/// of the file, its first 4,096 bytes and its table, as far as the inspection came.
 #[derive(Debug, Drop)]
 pub struct Found {
     pub len: Option<usize>,

@@ -1,8 +1,10 @@
 //! The inspection of a slot, whose calls depend on what is found.
-ghost use Rattle.std.specs.Prelude.{◌≡◌, ◌↔◌, ◌+◌, ◌≤◌, ◌∷◌, [], ℕ, Option, length, IsSome, IsTrue, IfOk, IsErr, MatchOption};
+ghost use Rattle.std.specs.Prelude.{◌≡◌, ◌↔◌, ◌+◌, ◌≤◌, ◌∷◌, [], ℕ, Option, length, IsSome, IsTrue, IfOk, IsErr};
+ghost use Rattle.std.specs.Prelude.{MatchOption};
 ghost use Rattle.sd_image.specs.Words.{zeros};
 ghost use Rattle.sd_gate.specs.Calls.{call_of, bytes_of, IsSound};
-ghost use Rattle.sd_gate.specs.Inspections.{KnowsLength, calls_awaited, calls_of_stage, awaits_of, IsReadNext, after_length, after_first, calls_then};
+ghost use Rattle.sd_gate.specs.Inspections.{KnowsLength, calls_awaited, calls_of_stage, awaits_of, IsReadNext};
+ghost use Rattle.sd_gate.specs.Inspections.{after_length, after_first, calls_then};
 ghost use Rattle.sd_gate.specs.Plans.{length_told};
 ghost use Rattle.std.specs.Option.{option_map};
 

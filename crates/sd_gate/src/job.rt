@@ -1,5 +1,6 @@
 //! What a plan has still to do.
-ghost use Rattle.std.specs.Prelude.{◌≡◌, ◌↔◌, ◌+◌, ◌≤◌, ◌∷◌, [], ℕ, Option, length, IsSome, IsTrue, IfOk, IsErr, MatchOption};
+ghost use Rattle.std.specs.Prelude.{◌≡◌, ◌↔◌, ◌+◌, ◌≤◌, ◌∷◌, [], ℕ, Option, length, IsSome, IsTrue, IfOk, IsErr};
+ghost use Rattle.std.specs.Prelude.{MatchOption};
 ghost use Rattle.std.specs.Option.{option_map};
 ghost use Rattle.sd_gate.specs.Calls.{call_of, bytes_of, IsSound};
 ghost use Rattle.sd_gate.specs.Inspections.{IsReadNext, calls_awaited, calls_then};

@@ -1,5 +1,6 @@
 //! Laws of the phases, each the contract of a function that does nothing.
-ghost use Rattle.sd_gate.specs.Laws.{ImageWholeOrClosed, GivenUpFits, FoundFits, AllFoundFit, InspectionTells, PlansLead, BodiesFill, CutsFit, WritesCommute};
+ghost use Rattle.sd_gate.specs.Laws.{ImageWholeOrClosed, GivenUpFits, FoundFits, AllFoundFit, InspectionTells};
+ghost use Rattle.sd_gate.specs.Laws.{PlansLead, BodiesFill, CutsFit, WritesCommute};
 ghost use Rattle.sd_gate.specs.Looks.{InspectionFinds};
 ghost use Rattle.sd_gate.specs.PlanRuns.{PlansTake};
 
@@ -43,7 +44,8 @@ pub fn plans_take()
     ensures { PlansTake }
 {}
 
-/// An inspection whose outcomes told its slot's file as it is finds the file's length, its first 4,096 bytes and its table.
+/// An inspection whose outcomes told its slot's file as it is finds the file's length, its first 4,096 bytes and its
+/// table.
 pub fn inspection_finds()
     ensures { InspectionFinds }
 {}

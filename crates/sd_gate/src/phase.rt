@@ -1,5 +1,6 @@
 ghost use Rattle.std.specs.Prelude.{◌≡◌};
-ghost use Rattle.sd_gate.specs.Phases.{is_ready, after, given_up, state_of, may_close, may_write, synced, closing, filled};
+ghost use Rattle.sd_gate.specs.Phases.{is_ready, after, given_up, state_of, may_close, may_write, synced, closing};
+ghost use Rattle.sd_gate.specs.Phases.{filled};
 
 use crate::call::Call;
 use crate::slot_state::SlotState;

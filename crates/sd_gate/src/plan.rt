@@ -1,10 +1,13 @@
 //! Plans of device calls.
-ghost use Rattle.std.specs.Prelude.{◌≡◌, ◌≢◌, ◌⊎◌, ◌↔◌, ◌<◌, ◌≤◌, ◌^◌, [], ◌∷◌, true, None, Some, IsTrue, IsSome, IsErr, is_some, IfOk, MatchOption};
+ghost use Rattle.std.specs.Prelude.{◌≡◌, ◌≢◌, ◌⊎◌, ◌↔◌, ◌<◌, ◌≤◌, ◌^◌, [], ◌∷◌, true, None, Some, IsTrue, IsSome};
+ghost use Rattle.std.specs.Prelude.{IsErr, is_some, IfOk, MatchOption};
 ghost use Rattle.sd_gate.specs.declared.call.Call.TheVariants.{Read, Write};
 ghost use Rattle.sd_gate.specs.Calls.{is_done};
-ghost use Rattle.sd_gate.specs.Sequences.{format_calls, closing_calls, body_calls, data_place, first_looks, IsPage, IsBody};
+ghost use Rattle.sd_gate.specs.Sequences.{format_calls, closing_calls, body_calls, data_place, first_looks, IsPage};
+ghost use Rattle.sd_gate.specs.Sequences.{IsBody};
 ghost use Rattle.sd_gate.specs.Inspections.{nothing, the_length, IsReadNext};
-ghost use Rattle.sd_gate.specs.Plans.{calls_of, awaited_by, IsSoundJob, KnowsItsLength, found_of, begun, Gives, calls_after, settled, plan_after, steps_left};
+ghost use Rattle.sd_gate.specs.Plans.{calls_of, awaited_by, IsSoundJob, KnowsItsLength, found_of, begun, Gives};
+ghost use Rattle.sd_gate.specs.Plans.{calls_after, settled, plan_after, steps_left};
 
 use crate::call_sequence::CallSequence;
 use crate::found::Found;

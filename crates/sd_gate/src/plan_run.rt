@@ -29,8 +29,8 @@ fn next_request(plan: &mut Plan, ticket: u64) -> Option<Request>
     }
 }
 
-/// Makes the calls of a plan that writes, one after the other, up to the first that fails. It returns what came back with
-/// them.
+/// Makes the calls of a plan that writes, one after the other, up to the first that fails. It returns what came back
+/// with them.
 pub fn run_plan<D: Disk>(disk: &mut D, mut plan: Plan) -> Result<Found, DeviceError>
     requires begins { plan ≡ begun plan.slot plan.calls nothing }
     requires slot { plan.slot < length (D.contents disk.old) }

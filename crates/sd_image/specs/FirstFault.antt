@@ -1,6 +1,7 @@
--- The first item of a table at which a rule breaks, and the least reason that applies to it. The items are: the table's head; of each
--- space its head, its areas, its runs and its end; and the table's end.
-use Rattle.std.specs.Prelude.{◌≡◌, ℕ, suc, Bool, false, not, ◌&&◌, ◌==◌, nat_lt, nat_le, List, [], ◌∷◌, length, take, Option, Some, None, Result, Ok, Err}
+-- The first item of a table at which a rule breaks, and the least reason that applies to it. The items are: the table's
+-- head; of each space its head, its areas, its runs and its end; and the table's end.
+use Rattle.std.specs.Prelude.{◌≡◌, ℕ, suc, Bool, false, not, ◌&&◌, ◌==◌, nat_lt, nat_le, List, [], ◌∷◌, length, take}
+use Rattle.std.specs.Prelude.{Option, Some, None, Result, Ok, Err}
 use Rattle.std.specs.List.{list_any}
 use Rattle.sd_areas.specs.declared.area.Area.{Area}
 use Rattle.sd_image.specs.declared.header.Header.{Header}
@@ -10,7 +11,8 @@ use Rattle.sd_image.specs.declared.reason.Reason.TheVariants as reason
 use Rattle.sd_image.specs.declared.run.Run.{Run}
 use Rattle.sd_image.specs.declared.space_head.SpaceHead.{SpaceHead}
 use Rattle.sd_image.specs.Table.{Listed}
-use Rattle.sd_image.specs.Reading.{number_at, many, head_at, space_head_of, space_head_at, area_limit, area_holds, area_at, run_holds, run_at, covers, space_at, ends_rightly, table_in}
+use Rattle.sd_image.specs.Reading.{number_at, many, head_at, space_head_of, space_head_at, area_limit, area_holds}
+use Rattle.sd_image.specs.Reading.{area_at, run_holds, run_at, covers, space_at, ends_rightly, table_in}
 use Rattle.sd_image.specs.ReasonLaws.{reason_number, IsLeast}
 
 -- a reason applies where the rule that has it is broken
@@ -29,7 +31,11 @@ head_rules bytes =
 abbrev pub space_head_rules : Kind → ℕ → List ℕ → List (Reason × Bool)
 space_head_rules kind before bytes =
     (reason.PastEnd, nat_lt (length bytes) 16)
-    ∷ (reason.Space, not (nat_lt before (space_head_of (take 16 bytes)).space && nat_le (space_head_of (take 16 bytes)).space 16))
+    ∷ (
+      reason.Space,
+      not (nat_lt before (space_head_of (take 16 bytes)).space && nat_le
+          (space_head_of (take 16 bytes)).space 16),
+    )
     ∷ (reason.Area, not (nat_le (space_head_of (take 16 bytes)).areas (area_limit kind)))
     ∷ []
 
@@ -47,8 +53,10 @@ run_rules parent before bytes =
     ∷ (reason.Zero, not (number_at 4 20 (take 24 bytes) == 0))
     ∷ []
 
--- Of n items one behind the other, the next to be read begins at this place, behind what came before it: all before it are good.
-pub data Reaches {X S : Type 0} (read : S → List ℕ → Result (X × List ℕ) Reason) (after : X → S) (next : S) (place : List ℕ) : ℕ → S → List ℕ → Type 0 where
+-- Of n items one behind the other, the next to be read begins at this place, behind what came before it: all before it
+-- are good.
+pub data Reaches {X S : Type 0} (read : S → List ℕ → Result (X × List ℕ) Reason) (after : X → S) (next : S)
+    (place : List ℕ) : ℕ → S → List ℕ → Type 0 where
   here : (n : ℕ) → Reaches read after next place (suc n) next place
   later : (n : ℕ) (state : S) (bytes : List ℕ) (x : X) (rest : List ℕ) → read state bytes ≡ Ok (x, rest)
       → Reaches read after next place n (after x) rest → Reaches read after next place (suc n) state bytes
@@ -60,12 +68,14 @@ pub data IsSpaceFault (h : Header) (before : ℕ) (bytes : List ℕ) (r : Reason
       → space_head_at h.kind before bytes ≡ Ok (head, rest)
       → Reaches area_at Some previous place head.areas None rest
       → IsLeast (applies (area_rules previous place)) r → IsSpaceFault h before bytes r
-  run_breaks : (head : SpaceHead) (rest : List ℕ) (areas : List Area) (behind : List ℕ) (previous : Option Run) (place : List ℕ)
+  run_breaks : (head : SpaceHead) (rest : List ℕ) (areas : List Area) (behind : List ℕ) (previous : Option Run)
+      (place : List ℕ)
       → space_head_at h.kind before bytes ≡ Ok (head, rest)
       → many area_at Some head.areas None rest ≡ Ok (areas, behind)
       → Reaches (run_at h.parent) Some previous place head.runs None behind
       → IsLeast (applies (run_rules h.parent previous place)) r → IsSpaceFault h before bytes r
-  space_ends_wrongly : (head : SpaceHead) (rest : List ℕ) (areas : List Area) (behind : List ℕ) (runs : List Run) (end : List ℕ)
+  space_ends_wrongly : (head : SpaceHead) (rest : List ℕ) (areas : List Area) (behind : List ℕ) (runs : List Run)
+      (end : List ℕ)
       → space_head_at h.kind before bytes ≡ Ok (head, rest)
       → many area_at Some head.areas None rest ≡ Ok (areas, behind)
       → many (run_at h.parent) Some head.runs None behind ≡ Ok (runs, end)

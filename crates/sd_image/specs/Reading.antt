@@ -1,5 +1,8 @@
--- Reading the bytes of an image: what each rule of the format says, in the order of the reasons, and the first that is broken.
-use Rattle.std.specs.Prelude.{◌≡◌, nat_eq, ℕ, zero, suc, ◌+◌, ◌*◌, ◌%◌, ◌/◌, Bool, true, false, not, ◌&&◌, ◌==◌, nat_lt, nat_le, if◌then◌else◌, List, [], ◌∷◌, ◌++◌, length, take, drop, slice_range, Option, Some, None, Result, Ok, Err}
+-- Reading the bytes of an image: what each rule of the format says, in the order of the reasons, and the first that is
+-- broken.
+use Rattle.std.specs.Prelude.{◌≡◌, nat_eq, ℕ, zero, suc, ◌+◌, ◌*◌, ◌%◌, ◌/◌, Bool, true, false, not, ◌&&◌, ◌==◌, nat_lt}
+use Rattle.std.specs.Prelude.{nat_le, if◌then◌else◌, List, [], ◌∷◌, ◌++◌, length, take, drop, slice_range, Option, Some}
+use Rattle.std.specs.Prelude.{None, Result, Ok, Err}
 use Rattle.std.specs.List.{flat_map, list_all}
 use Rattle.std.specs.Cmp.Lexicographic.{pointwise}
 use Rattle.std.specs.Str.{bytes_eq}
@@ -73,7 +76,9 @@ abbrev pub breaks_bytes : List ℕ → Reason → Bool
 breaks_bytes bytes reason.Magic = not (bytes_eq (slice_range bytes 1 8) magic)
 breaks_bytes bytes reason.Version = not (nat_le 1 (number_at 2 8 bytes) && nat_le (number_at 2 8 bytes) 2)
 breaks_bytes bytes reason.Kind = not (nat_le 1 (number_at 2 10 bytes) && nat_le (number_at 2 10 bytes) 3)
-breaks_bytes bytes reason.Reserved = not (are_zero (slice_range bytes 12 16) && has_no_digest (version_of (number_at 2 8 bytes)) (slice_range bytes 64 96) && are_zero (slice_range bytes 96 4096))
+breaks_bytes bytes reason.Reserved = not
+    (are_zero (slice_range bytes 12 16) && has_no_digest (version_of (number_at 2 8 bytes))
+    (slice_range bytes 64 96) && are_zero (slice_range bytes 96 4096))
 breaks_bytes bytes _ = false
 
 unfoldable pub bytes_kept : List ℕ → Result (Unit {0}) Reason
@@ -121,7 +126,8 @@ breaks_fields h len reason.Length = not (4096 + 4096 * h.pages + h.table_len == 
 breaks_fields h len _ = false
 
 unfoldable pub fields_kept : Header → ℕ → Result (Unit {0}) Reason
-fields_kept h len = rules_kept (breaks_fields h len) (reason.Serial ∷ reason.StandsFor ∷ reason.Parent ∷ reason.Checkpoint ∷ reason.Length ∷ [])
+fields_kept h len = rules_kept (breaks_fields h len)
+    (reason.Serial ∷ reason.StandsFor ∷ reason.Parent ∷ reason.Checkpoint ∷ reason.Length ∷ [])
 
 -- the header that the bytes spell, or the least reason why they spell none
 unfoldable pub header_in : List ℕ → ℕ → Result Header Reason
@@ -141,7 +147,8 @@ abbrev pub item_value : {X : Type 0} → Bool → Reason → ℕ → X → Resul
 item_value holds rule reserved x = if not holds then Err rule else if not (reserved == 0) then Err reason.Zero else Ok x
 
 -- n items one after the other; of each, what the next one is read by
-unfoldable pub many : {X S : Type 0} → (S → List ℕ → Result (X × List ℕ) Reason) → (X → S) → ℕ → S → List ℕ → Result (List X × List ℕ) Reason
+unfoldable pub many : {X S : Type 0} → (S → List ℕ → Result (X × List ℕ) Reason) → (X → S) → ℕ → S → List ℕ
+    → Result (List X × List ℕ) Reason
 many read after zero state bytes = Ok ([], bytes)
 many read after (suc n) state bytes = do
   first ← read state bytes
@@ -179,11 +186,13 @@ abbrev pub run_kind_of : ℕ → RunKind
 run_kind_of n = if n == 1 then Data else if n == 2 then Parent else Zero
 
 unfoldable pub run_of : List ℕ → Run
-run_of item = record { first = number_at 8 0 item; count = number_at 8 8 item; kind = run_kind_of (number_at 4 16 item) }
+run_of item =
+    record { first = number_at 8 0 item; count = number_at 8 8 item; kind = run_kind_of (number_at 4 16 item) }
 
 -- whether an item is a run that may stand behind the one before
 unfoldable pub run_holds : ℕ → Option Run → List ℕ → Bool
-run_holds parent before item = nat_le 1 (number_at 4 16 item) && nat_le (number_at 4 16 item) 3 && is_run_after parent before (run_of item)
+run_holds parent before item =
+    nat_le 1 (number_at 4 16 item) && nat_le (number_at 4 16 item) 3 && is_run_after parent before (run_of item)
 
 unfoldable pub run_from : ℕ → Option Run → List ℕ → Result Run Reason
 run_from parent before item = item_value (run_holds parent before item) reason.Run (number_at 4 20 item) (run_of item)
@@ -206,7 +215,9 @@ space_head_of item = record { space = number_at 4 0 item; areas = number_at 4 4 
 unfoldable pub space_head_at : Kind → ℕ → List ℕ → Result (SpaceHead × List ℕ) Reason
 space_head_at kind before bytes = do
   item ← item_at 16 bytes
-  if not (nat_lt before (space_head_of item.0).space && nat_le (space_head_of item.0).space 16) then Err reason.Space else if not (nat_le (space_head_of item.0).areas (area_limit kind)) then Err reason.Area else Ok (space_head_of item.0, item.1)
+  if not (nat_lt before (space_head_of item.0).space && nat_le (space_head_of item.0).space 16) then Err reason.Space
+      else if not (nat_le (space_head_of item.0).areas (area_limit kind)) then Err reason.Area
+      else Ok (space_head_of item.0, item.1)
 
 -- whether two lists of pages are one
 abbrev pub pages_eq : List ℕ → List ℕ → Bool
@@ -223,7 +234,8 @@ space_at h before bytes = do
   head ← space_head_at h.kind before bytes
   areas ← many area_at Some head.0.areas None head.1
   runs ← many (run_at h.parent) Some head.0.runs None areas.1
-  if covers h.kind areas.0 runs.0 then Ok (record { space = head.0.space; areas = areas.0; runs = runs.0 }, runs.1) else Err reason.Coverage
+  if covers h.kind areas.0 runs.0 then Ok (record { space = head.0.space; areas = areas.0; runs = runs.0 }, runs.1)
+      else Err reason.Coverage
 
 -- what has to hold at the end: nothing is left, and the pages are as many as they have to be
 unfoldable pub ends_rightly : Header → List Listed → List ℕ → Bool
@@ -244,8 +256,8 @@ digest_of_file file = sha256 (drop 4096 file ++ slice_range file 1 64)
 unfoldable pub breaks_digest : Header → List ℕ → Bool
 breaks_digest h file = version_number h.version == 2 && not (bytes_eq h.digest (digest_of_file file))
 
--- The header and the spaces that a whole file spells, whatever its gate; or the reason why it spells none: the header's before the table's,
--- and the digest's last.
+-- The header and the spaces that a whole file spells, whatever its gate; or the reason why it spells none: the header's
+-- before the table's, and the digest's last.
 abbrev pub file_in : List ℕ → Result (Header × List Listed) Reason
 file_in file = do
   header ← header_in (slice_range file 0 4096) (length file)

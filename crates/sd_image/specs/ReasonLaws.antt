@@ -1,5 +1,6 @@
 -- Image text has no reason against it, and all else that is open has one: laws that functions with an empty body carry.
-use Rattle.std.specs.Prelude.{◌≡◌, ◌⊎◌, ℕ, ◌<◌, Bool, true, false, ◌||◌, List, [], length, drop, All, Contains, slice_index_or, Ok, Err}
+use Rattle.std.specs.Prelude.{◌≡◌, ◌⊎◌, ℕ, ◌<◌, Bool, true, false, ◌||◌, List, [], length, drop, All, Contains}
+use Rattle.std.specs.Prelude.{slice_index_or, Ok, Err}
 use Rattle.sd_image.specs.declared.header.Header.{Header}
 use Rattle.sd_image.specs.declared.reason.Reason.{Reason}
 use Rattle.sd_image.specs.declared.reason.Reason.TheVariants as reason
@@ -15,7 +16,8 @@ GoodHeaderHasNoReason = (bytes : List ℕ) (len : ℕ) (h : Header)
 
 -- A table is read as itself: no reason is found in its text.
 abbrev pub GoodTableHasNoReason : Type 0
-GoodTableHasNoReason = (h : Header) (spaces : List Listed) → IsTable h spaces → table_in h (table_text spaces) ≡ Ok spaces
+GoodTableHasNoReason =
+    (h : Header) (spaces : List Listed) → IsTable h spaces → table_in h (table_text spaces) ≡ Ok spaces
 
 -- An image is read as itself: no reason is found in its file.
 abbrev pub GoodFileHasNoReason : Type 0
@@ -77,4 +79,5 @@ breaks_header bytes len r = breaks_bytes bytes r || breaks_fields (fields_of (fo
 -- The reason that is found in a header is the least that applies, and the least that applies is found.
 abbrev pub LeastHeaderReason : Type 0
 LeastHeaderReason = (bytes : List ℕ) (len : ℕ) (r : Reason)
-    → (header_in bytes len ≡ Err r → IsLeast (breaks_header bytes len) r) × (IsLeast (breaks_header bytes len) r → header_in bytes len ≡ Err r)
+    → (header_in bytes len ≡ Err r → IsLeast (breaks_header bytes len) r)
+    × (IsLeast (breaks_header bytes len) r → header_in bytes len ≡ Err r)

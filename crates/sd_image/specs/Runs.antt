@@ -50,4 +50,5 @@ pub record HavePages (pages : List PageWay) (runs : List Run) : Type 0 where
   pub by_kind : (kind : RunKind) → flat_map (pages_by kind) runs ≡ map page_of (filter (has_way kind) pages)
 
 abbrev pub RunsHavePages : Type 0
-RunsHavePages = (parent : ℕ) (pages : List PageWay) (runs : List Run) → AreRunsOf parent pages runs → HavePages pages runs
+RunsHavePages =
+    (parent : ℕ) (pages : List PageWay) (runs : List Run) → AreRunsOf parent pages runs → HavePages pages runs

@@ -1,5 +1,6 @@
 -- The table of an image: its text, and what it has to be.
-use Rattle.std.specs.Prelude.{◌≡◌, ◌≢◌, ℕ, ◌+◌, ◌<◌, ◌≤◌, ◌^◌, Bool, true, not, ◌&&◌, ◌||◌, ◌==◌, nat_lt, nat_le, if◌then◌else◌, IsTrue, List, [], ◌∷◌, length, sum_by, Option, Some, None}
+use Rattle.std.specs.Prelude.{◌≡◌, ◌≢◌, ℕ, ◌+◌, ◌<◌, ◌≤◌, ◌^◌, Bool, true, not, ◌&&◌, ◌||◌, ◌==◌, nat_lt, nat_le}
+use Rattle.std.specs.Prelude.{if◌then◌else◌, IsTrue, List, [], ◌∷◌, length, sum_by, Option, Some, None}
 use Rattle.std.specs.List.{concat, flat_map}
 use Rattle.sd_areas.specs.declared.area.Area.{Area}
 use Rattle.sd_areas.specs.Areas.{AreMaximal, area_pages}
@@ -24,10 +25,12 @@ listing_of t = record { space = t.space; areas = t.areas.items; runs = t.runs.it
 -- Its text.
 
 abbrev pub area_text : Area → List ℕ
-area_text a = concat (number_bytes 8 a.first ∷ number_bytes 8 a.count ∷ number_bytes 4 (prot_bits a.prot) ∷ zeros 4 ∷ [])
+area_text a =
+    concat (number_bytes 8 a.first ∷ number_bytes 8 a.count ∷ number_bytes 4 (prot_bits a.prot) ∷ zeros 4 ∷ [])
 
 abbrev pub run_text : Run → List ℕ
-run_text r = concat (number_bytes 8 r.first ∷ number_bytes 8 r.count ∷ number_bytes 4 (run_kind_number r.kind) ∷ zeros 4 ∷ [])
+run_text r =
+    concat (number_bytes 8 r.first ∷ number_bytes 8 r.count ∷ number_bytes 4 (run_kind_number r.kind) ∷ zeros 4 ∷ [])
 
 abbrev pub space_text : Listed → List ℕ
 space_text s = concat (
@@ -55,7 +58,8 @@ has_source parent run = not (run_kind_number run.kind == 2) || nat_lt 0 parent
 
 -- it has pages, all of them in the space, begins behind the one before, and its bytes are somewhere
 abbrev pub is_run_after : ℕ → Option Run → Run → Bool
-is_run_after parent before run = nat_lt 0 run.count && nat_le (run.first + run.count) (2 ^ 35) && begins_behind before run && has_source parent run
+is_run_after parent before run =
+    nat_lt 0 run.count && nat_le (run.first + run.count) (2 ^ 35) && begins_behind before run && has_source parent run
 
 -- a list of runs, rising and maximal
 abbrev pub AreRuns : ℕ → Option Run → List Run → Type 0
@@ -66,7 +70,8 @@ AreRuns parent before (run ∷ runs) = IsTrue (is_run_after parent before run) �
 abbrev pub run_pages : Run → List ℕ
 run_pages run = pages_from run.first run.count
 
--- the runs' pages: those of a dump and of a merged image are exactly its areas' pages; a pre-dump has no areas, and lists no space without runs
+-- the runs' pages: those of a dump and of a merged image are exactly its areas' pages; a pre-dump has no areas, and
+-- lists no space without runs
 abbrev pub Covers : Kind → List Area → List Run → Type 0
 Covers PreDump areas runs = (areas ≡ []) × (runs ≢ [])
 Covers Dump areas runs = flat_map run_pages runs ≡ flat_map area_pages areas

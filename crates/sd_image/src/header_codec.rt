@@ -1,10 +1,12 @@
 //! The first 4,096 bytes of an image.
 
-ghost use Rattle.std.specs.Prelude.{◌≡◌, ℕ, ◌<◌, ◌≤◌, ◌+◌, ◌*◌, ◌⊎◌, ◌∷◌, ◌++◌, length, take, drop, IfOk, MatchOption, Ok};
+ghost use Rattle.std.specs.Prelude.{◌≡◌, ℕ, ◌<◌, ◌≤◌, ◌+◌, ◌*◌, ◌⊎◌, ◌∷◌, ◌++◌, length, take, drop, IfOk, MatchOption};
+ghost use Rattle.std.specs.Prelude.{Ok};
 ghost use Rattle.sd_image.specs.declared.header.Header.{Header};
 ghost use Rattle.sd_image.specs.Header.{header_text, IsHeader};
 ghost use Rattle.sd_image.specs.Words.{kind_number, version_number};
-ghost use Rattle.sd_image.specs.Reading.{Reads, form_in, has_no_digest, kind_of, version_of, fields_of, fields_kept, stands_rightly, parent_rightly, header_in};
+ghost use Rattle.sd_image.specs.Reading.{Reads, form_in, has_no_digest, kind_of, version_of, fields_of, fields_kept};
+ghost use Rattle.sd_image.specs.Reading.{stands_rightly, parent_rightly, header_in};
 
 use crate::fields::{are_zero, u16_at, u64_at};
 use crate::header::{Header, Kind, Version};

@@ -1,5 +1,8 @@
 //! Laws about images and contents that the layers above use.
-ghost use Rattle.sd_image.specs.Laws.{FewPages, FileIsImage, FirstImageIsShown, HeaderFillsFile, HeldOnce, HeldOnceAmong, NamedOnce, NewestIsShown, OneImage, OneKind, OneListOfRuns, OnePlace, OneSpelling, OneStore, PageInFile, ReadyAbove, ReadyAgain, ReadyStill, ShownOnce, ShownStill, TextIsImage, TipOnce};
+ghost use Rattle.sd_image.specs.Laws.{FewPages, FileIsImage, FirstImageIsShown, HeaderFillsFile, HeldOnce};
+ghost use Rattle.sd_image.specs.Laws.{HeldOnceAmong, NamedOnce, NewestIsShown, OneImage, OneKind, OneListOfRuns};
+ghost use Rattle.sd_image.specs.Laws.{OnePlace, OneSpelling, OneStore, PageInFile, ReadyAbove, ReadyAgain, ReadyStill};
+ghost use Rattle.sd_image.specs.Laws.{ShownOnce, ShownStill, TextIsImage, TipOnce};
 
 /// A whole image, written into a closed slot with numbers above all others, is what contents then show.
 pub fn newest_is_shown()

@@ -1,6 +1,7 @@
 //! Laws about the reasons why bytes aren't an image.
 ghost use Rattle.sd_image.specs.FirstFault.{FirstFaultIsNamed};
-ghost use Rattle.sd_image.specs.ReasonLaws.{GoodFileHasNoReason, GoodHeaderHasNoReason, GoodStoreHasNoReason, GoodTableHasNoReason, LeastHeaderReason, OneReason};
+ghost use Rattle.sd_image.specs.ReasonLaws.{GoodFileHasNoReason, GoodHeaderHasNoReason, GoodStoreHasNoReason};
+ghost use Rattle.sd_image.specs.ReasonLaws.{GoodTableHasNoReason, LeastHeaderReason, OneReason};
 
 /// A header is read as itself: no reason is found in its text.
 pub fn good_header_has_no_reason()

@@ -1,12 +1,17 @@
 //! Reading a table, item by item from front to back.
 
-ghost use Rattle.std.specs.Prelude.{◌≡◌, ◌⊎◌, ℕ, ◌+◌, ◌^◌, ◌<◌, ◌≤◌, ◌&&◌, nat_lt, nat_le, List, None, Some, Ok, Err, true, false, length, map, IsOk, IfOk, MatchOption, option_copied};
+ghost use Rattle.std.specs.Prelude.{◌≡◌, ◌⊎◌, ℕ, ◌+◌, ◌^◌, ◌<◌, ◌≤◌, ◌&&◌, nat_lt, nat_le, List, None, Some, Ok, Err};
+ghost use Rattle.std.specs.Prelude.{true, false, length, map, IsOk, IfOk, MatchOption, option_copied};
 ghost use Rattle.sd_areas.specs.Areas.{begins_after, is_area_after};
 ghost use Rattle.sd_image.specs.declared.header.Header.{Header};
-ghost use Rattle.sd_image.specs.Reading.{Reads, Gives, number_at, prot_of, item_at, many, head_at, area_of, area_holds, area_from, area_at, run_kind_of, run_of, run_holds, run_from, run_at, area_limit, space_head_of, space_head_at, covers, space_at, ends_rightly, table_in};
+ghost use Rattle.sd_image.specs.Reading.{Reads, Gives, number_at, prot_of, item_at, many, head_at, area_of, area_holds};
+ghost use Rattle.sd_image.specs.Reading.{area_from, area_at, run_kind_of, run_of, run_holds, run_from, run_at};
+ghost use Rattle.sd_image.specs.Reading.{area_limit, space_head_of, space_head_at, covers, space_at, ends_rightly};
+ghost use Rattle.sd_image.specs.Reading.{table_in};
 ghost use Rattle.sd_image.specs.Words.{run_kind_number};
 ghost use Rattle.sd_image.specs.declared.table_error.TableError.TheVariants.{OutOfMemory};
-ghost use Rattle.sd_image.specs.Table.{Listed, listing_of, begins_behind, has_source, is_run_after, table_text, IsTable};
+ghost use Rattle.sd_image.specs.Table.{Listed, listing_of, begins_behind, has_source, is_run_after, table_text};
+ghost use Rattle.sd_image.specs.Table.{IsTable};
 
 use crate::coverage::have_same_pages;
 use crate::fields::{u32_at, u64_at};

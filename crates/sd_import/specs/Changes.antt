@@ -24,4 +24,5 @@ KeepsOthers space old new = (other : ℕ) → other ≢ space → finmap.get new
 -- nothing is done, or events are made, and every other space is as before
 pub data ChangesOnly {D : Type 0} (g : Ghosts D) (space : ℕ) (old new : WorldView D) : Type 0 where
   nothing : new ≡ old → ChangesOnly g space old new
-  goes : GoesOn g old new → KeepsOthers space (plain_of old.core.memory) (plain_of new.core.memory) → ChangesOnly g space old new
+  goes : GoesOn g old new → KeepsOthers space (plain_of old.core.memory) (plain_of new.core.memory)
+      → ChangesOnly g space old new

@@ -26,7 +26,8 @@ pub record HasPage (held : List ℕ) (space : Space) (s : ProgramHeader) (k : �
 abbrev pub HasSegment : List ℕ → Space → ProgramHeader → Type 0
 HasSegment held space s = (k : ℕ) → k < page_count s → HasPage held space s k
 
--- A space has the memory that the segments of a core file say: each of their pages, and as many as they have, so no other.
+-- A space has the memory that the segments of a core file say: each of their pages, and as many as they have, so no
+-- other.
 pub record HasCore (held : List ℕ) (segments : List ProgramHeader) (space : Space) : Type 0 where
   pub pages : All (HasSegment held space) segments
   pub only : finmap.len space ≡ sum_by page_count segments

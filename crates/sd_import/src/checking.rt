@@ -1,5 +1,6 @@
 //! Whether a space has the memory of a core file.
-ghost use Rattle.std.specs.Prelude.{◌≡◌, ◌+◌, ◌*◌, ◌/◌, ◌^◌, ◌<◌, ℕ, Ok, Some, true, slice_index, slice_range, sum_by, All, IfSome};
+ghost use Rattle.std.specs.Prelude.{◌≡◌, ◌+◌, ◌*◌, ◌/◌, ◌^◌, ◌<◌, ℕ, Ok, Some, true, slice_index, slice_range, sum_by};
+ghost use Rattle.std.specs.Prelude.{All, IfSome};
 ghost use Rattle.std.specs.FinMap as finmap;
 ghost use Rattle.sd_areas.specs.declared.area.Area.{Area as AreaOf};
 ghost use Rattle.sd_elf.specs.declared.program_header.ProgramHeader.{ProgramHeader as Header};

@@ -93,14 +93,14 @@ fn part_of(alloc: Global, page: &[u8; PAGE_SIZE], piece: &Piece) -> Result<Vec<u
     }
 }
 
-/// Gives a space the memory of a core, whose headers were read by [`read_core`](sd_elf::read_core), by commands on that space
-/// alone. A space that isn't alive, but has the least number that is free, is made. Next comes a
+/// Gives a space the memory of a core, whose headers were read by [`read_core`](sd_elf::read_core), by commands on that
+/// space alone. A space that isn't alive, but has the least number that is free, is made. Next comes a
 /// [`checkpoint`](World::checkpoint), which saves it.
 ///
 /// # Errors
 ///
-/// `Core` where the file can't be read; `Answer` where a command is refused; `Changed` where another program changed the file
-/// meanwhile; `OutOfMemory`. The space may then have a part of the core's memory.
+/// `Core` where the file can't be read; `Answer` where a command is refused; `Changed` where another program changed
+/// the file meanwhile; `OutOfMemory`. The space may then have a part of the core's memory.
 pub fn import_core<D: Disk, F: CoreFile>(
     alloc: Global,
     world: &mut World<D>,
@@ -208,8 +208,8 @@ impl<F: CoreFile> Import<'_, F> {
         self.protect(world, &mut filling, area.prot)
     }
 
-    /// Maps the pages of an area that the space doesn't have, and returns the permissions that all pages of it then have, if
-    /// they have the same.
+    /// Maps the pages of an area that the space doesn't have, and returns the permissions that all pages of it then
+    /// have, if they have the same.
     fn map_missing<D: Disk>(
         &self,
         world: &mut World<D>,

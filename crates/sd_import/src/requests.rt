@@ -81,8 +81,8 @@ fn first_alive(memory: &Memory) -> (Option<SpaceId>, u64) {
     (alive, free)
 }
 
-/// The parent of a space that is to be made: one that is alive, where that space has the least number that is free. Else it
-/// is that space itself, whose fork is refused.
+/// The parent of a space that is to be made: one that is alive, where that space has the least number that is free.
+/// Else it is that space itself, whose fork is refused.
 fn parent_of(memory: &Memory, space: SpaceId) -> SpaceId {
     match first_alive(memory) {
         (Some(parent), free) if free == space.number() => parent,

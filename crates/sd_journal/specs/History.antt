@@ -6,8 +6,8 @@ use Rattle.sd_journal.specs.declared.entry.Entry.{Entry}
 use Rattle.sd_journal.specs.declared.entry.Entry.TheVariants.{Applied, Freeze, Acked, Cancelled, Reopened}
 use Rattle.sd_journal.specs.declared.origin.Origin.{Origin}
 
--- what a run goes on from: a memory, the number of its checkpoint, if it has one, where these come from, and how many entries were ever
--- folded into it
+-- what a run goes on from: a memory, the number of its checkpoint, if it has one, where these come from, and how many
+-- entries were ever folded into it
 pub record Base : Type 0 where
   pub number : Option ℕ
   pub memory : PlainMemory
@@ -55,7 +55,8 @@ abbrev pub unless_it_is : ℕ → Option ℕ → Option ℕ
 unless_it_is n None = None
 unless_it_is n (Some m) = if n == m then None else Some m
 
--- the pending checkpoint: the number of a freeze with no acknowledgement or cancelling of it, and no reopening, after it
+-- the pending checkpoint: the number of a freeze with no acknowledgement or cancelling of it, and no reopening, after
+-- it
 abbrev pub pending : History → Option ℕ
 pending [] = None
 pending (Applied seat command reply ∷ earlier) = pending earlier

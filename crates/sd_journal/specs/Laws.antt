@@ -14,7 +14,8 @@ pub record JournalLaws : Type 0 where
       → IsAllowed base (Applied seat command reply ∷ history) shown ↔ IsAllowed base history shown
   -- a freeze adds the memory as it stands, under its number
   pub freeze : (base : Base) (history : History) (n : ℕ) (shown : Shown) → IsLegal base (Freeze n ∷ history)
-      → IsAllowed base (Freeze n ∷ history) shown ↔ (IsAllowed base history shown ⊎ (shown ≡ Some (n, memory_after base history)))
+      → IsAllowed base (Freeze n ∷ history) shown ↔
+      (IsAllowed base history shown ⊎ (shown ≡ Some (n, memory_after base history)))
   -- an acknowledgement leaves the pending pair alone
   pub acked : (base : Base) (history : History) (n : ℕ) (shown : Shown) → IsLegal base (Acked n ∷ history)
       → IsAllowed base (Acked n ∷ history) shown ↔ IsPendingPair base history shown
@@ -37,5 +38,6 @@ pub record JournalLaws : Type 0 where
   -- where a base comes from matters neither to which journals are legal nor to what they allow
   pub legal_alike : (one other : Base) (history : History) → one.number ≡ other.number → one.memory ≡ other.memory
       → IsLegal one history → IsLegal other history
-  pub allowed_alike : (one other : Base) (history : History) (shown : Shown) → one.number ≡ other.number → one.memory ≡ other.memory
+  pub allowed_alike : (one other : Base) (history : History) (shown : Shown) → one.number ≡ other.number
+      → one.memory ≡ other.memory
       → IsAllowed one history shown → IsAllowed other history shown

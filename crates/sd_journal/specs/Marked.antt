@@ -1,5 +1,6 @@
 -- The marked journal: entries with the dumper's marks between them, the newest first.
-use Rattle.std.specs.Prelude.{◌≡◌, ℕ, Bool, true, false, ◌==◌, ◌&&◌, ◌||◌, if◌then◌else◌, List, [], ◌∷◌, map, Option, Some, None, IfSome, is_some}
+use Rattle.std.specs.Prelude.{◌≡◌, ℕ, Bool, true, false, ◌==◌, ◌&&◌, ◌||◌, if◌then◌else◌, List, [], ◌∷◌, map, Option}
+use Rattle.std.specs.Prelude.{Some, None, IfSome, is_some}
 use Rattle.std.specs.List.{list_any}
 use Rattle.sd_areas.specs.PlainMemory.{PlainMemory}
 use Rattle.sd_pagetable.specs.Contents.{Contents, page_at, plain_of}
@@ -50,7 +51,8 @@ abbrev pub is_opened : Origin → Bool
 is_opened Opened = true
 is_opened (Trimmed acknowledged) = false
 
--- Something since its last visit touched the page, or it was never visited. A base that a trim made counts as one visit of each of its pages.
+-- Something since its last visit touched the page, or it was never visited. A base that a trim made counts as one visit
+-- of each of its pages.
 abbrev pub is_due : Base → Marked → ℕ → ℕ → Bool
 is_due base items space page =
     if is_opened base.origin then is_dirty (events_of items) space page
@@ -58,7 +60,8 @@ is_due base items space page =
 
 -- the soft-dirty and the writable bits of each mapped page are those that commands and visits give
 pub record HasBits (base : Base) (items : Marked) (contents : Contents) : Type 0 where
-  pub soft_dirty : (space number : ℕ) (page : Page) → page_at contents space number ≡ Some page → page.soft_dirty ≡ is_due base items space number
+  pub soft_dirty : (space number : ℕ) (page : Page) → page_at contents space number ≡ Some page
+      → page.soft_dirty ≡ is_due base items space number
   pub writable : (space number : ℕ) (page : Page) → page_at contents space number ≡ Some page
       → page.writable ≡ is_writable (events_of items) space number
 
@@ -114,14 +117,15 @@ stays_mapped base (item ∷ earlier) serial space page = is_mapped (memory_at ba
 
 -- ---- which marked journals may stand
 
--- A mark may come next: a start of an image that has no mark yet; a visit, for the image whose pages are being visited, of a
--- mapped page above its last one; and its table, once it has visited each page that stayed mapped since its start.
+-- A mark may come next: a start of an image that has no mark yet; a visit, for the image whose pages are being visited,
+-- of a mapped page above its last one; and its table, once it has visited each page that stayed mapped since its start.
 abbrev pub MayBeNoted : Base → Marked → Mark → Type 0
 MayBeNoted base earlier (Start serial) = list_any (is_of serial) earlier ≡ false
 MayBeNoted base earlier (Visit serial space page) = (visiting earlier ≡ Some serial)
     × (is_mapped (memory_at base earlier) space page ≡ true) × (is_above (last_visit earlier serial) space page ≡ true)
 MayBeNoted base earlier (Table serial) = (visiting earlier ≡ Some serial)
-    × ((space page : ℕ) → stays_mapped base earlier serial space page ≡ true → is_visited earlier serial space page ≡ true)
+    × ((space page : ℕ) → stays_mapped base earlier serial space page ≡ true
+    → is_visited earlier serial space page ≡ true)
 
 -- the entries are a legal journal, and each mark may come next
 abbrev pub IsMarked : Base → Marked → Type 0
@@ -134,8 +138,8 @@ abbrev pub IsSwept : Base → Marked → ℕ → Type 0
 IsSwept base items serial = (space page : ℕ) → is_above (last_visit items serial) space page ≡ false
     → stays_mapped base items serial space page ≡ true → is_visited items serial space page ≡ true
 
--- A memory with its marked journal, which may stand and makes the memory; its commands and visits give the bits; and the image
--- whose pages are being visited has missed none so far.
+-- A memory with its marked journal, which may stand and makes the memory; its commands and visits give the bits; and
+-- the image whose pages are being visited has missed none so far.
 pub record IsTracked (base : Base) (items : Marked) (contents : Contents) : Type 0 where
   pub marked : IsMarked base items
   pub memory : plain_of contents ≡ memory_at base items

@@ -1,5 +1,6 @@
 -- When a journal accounts for what the seats and the worker were told. Its entries stand here in order of time.
-use Rattle.std.specs.Prelude.{◌≡◌, ◌≢◌, ℕ, ◌+◌, ◌<◌, ◌≤◌, Bool, true, false, List, length, take, count_by, slice_get, Option, Some, None}
+use Rattle.std.specs.Prelude.{◌≡◌, ◌≢◌, ℕ, ◌+◌, ◌<◌, ◌≤◌, Bool, true, false, List, length, take, count_by, slice_get}
+use Rattle.std.specs.Prelude.{Option, Some, None}
 use Rattle.std.specs.List.{filter_map}
 use Rattle.sd_command.specs.declared.command.Command.{Command}
 use Rattle.sd_command.specs.declared.reply.Reply.{Reply}
@@ -54,7 +55,8 @@ acked_number (Reopened m) = None
 abbrev pub acked_numbers : List Entry → List ℕ
 acked_numbers journal = filter_map acked_number journal
 
--- The journal has each receipt's command, each seat's in its order, and no other command; and it acknowledges these numbers.
+-- The journal has each receipt's command, each seat's in its order, and no other command; and it acknowledges these
+-- numbers.
 pub record Accounts (first : ℕ) (journal : List Entry) (receipts : List Receipt) (acks : List ℕ) : Type 0 where
   pub stand : AllStand first journal receipts
   pub rising : AreRising receipts

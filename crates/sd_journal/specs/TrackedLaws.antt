@@ -17,18 +17,21 @@ use Rattle.sd_journal.specs.declared.mark.Mark.TheVariants.{Start, Visit, Table}
 use Rattle.sd_journal.specs.declared.origin.Origin.TheVariants.{Opened}
 use Rattle.sd_journal.specs.History.{Base, pending}
 use Rattle.sd_journal.specs.Legal.{IsLegal, MayFollow}
-use Rattle.sd_journal.specs.Marked.{Item, Told, Noted, Marked, entries_of, is_due, item_event, is_of, last_visit, visiting, IsMarked, IsTracked}
+use Rattle.sd_journal.specs.Marked.{Item, Told, Noted, Marked, entries_of, is_due, item_event, is_of, last_visit}
+use Rattle.sd_journal.specs.Marked.{visiting, IsMarked, IsTracked}
 use Rattle.sd_journal.specs.Receipts.{is_command}
 
 pub record TrackedLaws : Type 0 where
   -- a marked journal without its marks is legal
   pub legal : (base : Base) (items : Marked) → IsMarked base items → IsLegal base (entries_of items)
   -- a memory begins as what was opened
-  pub begins : (base : Base) (contents : Contents) → base.origin ≡ Opened → IsBeginning contents → plain_of contents ≡ base.memory
+  pub begins : (base : Base) (contents : Contents) → base.origin ≡ Opened → IsBeginning contents
+      → plain_of contents ≡ base.memory
       → IsTracked base [] contents
   -- a command while nothing is pending makes its event's step
   pub applied : (base : Base) (items : Marked) (old new : Contents) (seat : ℕ) (command : Command) (reply : Reply)
-      → IsSound old → IsTracked base items old → pending (entries_of items) ≡ None → IsLegalReply (plain_of old) false command reply
+      → IsSound old → IsTracked base items old → pending (entries_of items) ≡ None
+      → IsLegalReply (plain_of old) false command reply
       → Step old (event_of command reply) new → IsTracked base (Told (Applied seat command reply) ∷ items) new
   -- a command while a checkpoint is pending is refused and changes nothing
   pub frozen : (base : Base) (items : Marked) (contents : Contents) (seat n : ℕ) (command : Command)
@@ -74,8 +77,10 @@ visited_since (item ∷ earlier) n space page =
 pub record DueLaws : Type 0 where
   -- the soft-dirty bit that a visit finds is whether the page is due
   pub bit : (base : Base) (items : Marked) (contents : Contents) (space number : ℕ) (page : Page)
-      → IsTracked base items contents → page_at contents space number ≡ Some page → page.soft_dirty ≡ is_due base items space number
+      → IsTracked base items contents → page_at contents space number ≡ Some page
+      → page.soft_dirty ≡ is_due base items space number
   -- what is due at a freeze stays so while that is pending, up to the page's own visit
   pub still : (base : Base) (items frozen : Marked) (n space page : ℕ) → IsMarked base items
-      → pending (entries_of items) ≡ Some n → before_freeze items n ≡ Some frozen → visited_since items n space page ≡ false
+      → pending (entries_of items) ≡ Some n → before_freeze items n ≡ Some frozen
+      → visited_since items n space page ≡ false
       → is_due base items space page ≡ is_due base frozen space page

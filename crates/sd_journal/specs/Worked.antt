@@ -46,11 +46,13 @@ module _ (one other : Command) (done again : Reply) where
     pub second_too : IsAllowed empty_base doubtful (Some (2, second))
     -- a reopening that found the second leaves that alone, and one that found the first, the first
     pub found_second : IsAllowed empty_base (Reopened (Some 2) ∷ doubtful) (Some (2, second))
-    pub found_first : (memory : PlainMemory) → IsAllowed empty_base (Reopened (Some 1) ∷ doubtful) (Some (2, memory)) → ⊥
+    pub found_first : (memory : PlainMemory) → IsAllowed empty_base (Reopened (Some 1) ∷ doubtful) (Some (2, memory))
+        → ⊥
     -- a cancelled one is never shown
     pub taken_back : (memory : PlainMemory) → IsAllowed empty_base (Cancelled 2 ∷ doubtful) (Some (2, memory)) → ⊥
     -- a second run begins with the checkpoint that it found
-    pub second_run : (memory : PlainMemory) → IsAllowed (second_base memory) (Applied 0 one done ∷ []) (Some (7, memory))
+    pub second_run : (memory : PlainMemory)
+        → IsAllowed (second_base memory) (Applied 0 one done ∷ []) (Some (7, memory))
 
 abbrev pub WorkedJournals : Type 0
 WorkedJournals = (one other : Command) (done again : Reply) → WorkedJournal one other done again

@@ -1,5 +1,6 @@
 //! The journal of a run.
-ghost use Rattle.std.specs.Prelude.{◌≡◌, ◌↔◌, ◌+◌, ◌-◌, ◌<◌, ◌≤◌, ◌^◌, ◌∷◌, ◌++◌, [], ℕ, length, drop, map, reverse, take, vec_len, vec_capacity, IfOk, IfSome, IsTrue, MatchOption, OnOk, OnErr};
+ghost use Rattle.std.specs.Prelude.{◌≡◌, ◌↔◌, ◌+◌, ◌-◌, ◌<◌, ◌≤◌, ◌^◌, ◌∷◌, ◌++◌, [], ℕ, length, drop, map, reverse};
+ghost use Rattle.std.specs.Prelude.{take, vec_len, vec_capacity, IfOk, IfSome, IsTrue, MatchOption, OnOk, OnErr};
 ghost use Rattle.std.specs.List.{filter};
 ghost use Rattle.sd_journal.specs.Kept.{HasGrown, HasSameNumbers, Kept, entry_count, is_behind, next_number};
 ghost use Rattle.sd_journal.specs.History.{History, pending, unless_it_is};
@@ -16,9 +17,9 @@ use std::mem;
 /// The most entries that a journal may have.
 pub const ENTRY_LIMIT: usize = 1_048_576;
 
-/// The entries of a run in order of time, numbered from 0, with the dumper's marks between them. Entries can be taken from
-/// the front: the others keep their numbers. Some of the free entries can be held for what has to be written later,
-/// whatever comes before.
+/// The entries of a run in order of time, numbered from 0, with the dumper's marks between them. Entries can be taken
+/// from the front: the others keep their numbers. Some of the free entries can be held for what has to be written
+/// later, whatever comes before.
 #[derive(Drop)]
 pub struct Journal {
     first: u64,
@@ -231,8 +232,8 @@ impl Journal {
     }
 
     /// Takes so many entries from the front, in order of time, with the marks between them. A mark behind the last of
-    /// them is kept. The others keep their numbers, and what is held stays. They move into a list with room for them, so
-    /// that no memory is taken.
+    /// them is kept. The others keep their numbers, and what is held stays. They move into a list with room for them,
+    /// so that no memory is taken.
     pub fn take_front(&mut self, room: Vec<Entry>, count: usize) -> Vec<Entry>
         requires some { 0 < count }
         requires within { count ≤ entry_count self.old }

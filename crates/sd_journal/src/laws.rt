@@ -34,8 +34,8 @@ pub fn trim_laws()
     ensures { TrimLaws }
 {}
 
-/// What a trim leaves of a marked journal: its marks tell of the same visits, and where each page of the folded memory was
-/// visited, the memory stays tracked, with the pages due that were.
+/// What a trim leaves of a marked journal: its marks tell of the same visits, and where each page of the folded memory
+/// was visited, the memory stays tracked, with the pages due that were.
 pub fn marked_trim_laws()
     ensures { MarkedTrimLaws }
 {

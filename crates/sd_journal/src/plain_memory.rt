@@ -1,9 +1,11 @@
 //! The memory that a journal makes, computed on plain memory: without frames, soft-dirty bits or images.
-ghost use Rattle.std.specs.Prelude.{◌≡◌, ◌⊎◌, ◌+◌, ◌≤◌, ◌%◌, ◌^◌, ◌<◌, ℕ, true, false, length, reverse, OnOk, IfOk, IsSome};
+ghost use Rattle.std.specs.Prelude.{◌≡◌, ◌⊎◌, ◌+◌, ◌≤◌, ◌%◌, ◌^◌, ◌<◌, ℕ, true, false, length, reverse, OnOk, IfOk};
+ghost use Rattle.std.specs.Prelude.{IsSome};
 ghost use Rattle.std.specs.FinMap as finmap;
 ghost use Rattle.sd_areas.specs.Memory.{memory_of, space_of};
 ghost use Rattle.sd_areas.specs.Pages.{page_of, pages_for};
-ghost use Rattle.sd_pagetable.specs.Effects.{after_exit, after_fork, after_mmap, after_mprotect, after_munmap, after_store};
+ghost use Rattle.sd_pagetable.specs.Effects.{after_exit, after_fork, after_mmap, after_mprotect, after_munmap};
+ghost use Rattle.sd_pagetable.specs.Effects.{after_store};
 ghost use Rattle.sd_pagetable.specs.Nested.{inside, is_alive, value_at};
 ghost use Rattle.sd_command.specs.declared.refusal.Refusal.TheVariants.{Frozen};
 ghost use Rattle.sd_command.specs.declared.reply.Reply.TheVariants as told;

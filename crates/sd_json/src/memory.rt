@@ -86,8 +86,8 @@ fn spaces_json(alloc: Global, placed: &PlacedMemory<'_>) -> Result<Value, AllocE
 }
 
 /// A document of the memory that a store shows: its checkpoint, its spaces with their areas, and how many pages are
-/// mapped, and how many of them are zeros without bytes in a file. It makes the checks of a restore, and reads no page but
-/// for the digests.
+/// mapped, and how many of them are zeros without bytes in a file. It makes the checks of a restore, and reads no page
+/// but for the digests.
 ///
 /// # Errors
 ///

@@ -1,5 +1,6 @@
 -- A merged image in the making, as it is seen, and what its steps do.
-use Rattle.std.specs.Prelude.{◌≡◌, ◌≢◌, ◌⊎◌, ℕ, ◌+◌, ◌≤◌, ◌==◌, true, false, if◌then◌else◌, List, [], ◌∷◌, ◌++◌, length, replicate, Option, Some, None, IsSome}
+use Rattle.std.specs.Prelude.{◌≡◌, ◌≢◌, ◌⊎◌, ℕ, ◌+◌, ◌≤◌, ◌==◌, true, false, if◌then◌else◌, List, [], ◌∷◌, ◌++◌, length}
+use Rattle.std.specs.Prelude.{replicate, Option, Some, None, IsSome}
 use Rattle.sd_image.specs.declared.header.Header.{Header}
 use Rattle.sd_image.specs.declared.header.Kind.TheVariants.{Merged}
 use Rattle.sd_image.specs.declared.run.RunKind.TheVariants.{Data, Zero}
@@ -138,7 +139,8 @@ pub record WritesPage (old : Copying) (request : Asked) (new : Copying) : Type 0
   pub bytes : List ℕ
   pub read : old.read ≡ Some bytes
   pub next : Planned
-  pub gives : Gives (begun old.order.slot ((Write (data_place (data_pages old.entries)), bytes) ∷ []) nothing) next request
+  pub gives : Gives (begun old.order.slot ((Write (data_place (data_pages old.entries)), bytes) ∷ []) nothing) next
+      request
   pub digester : (fed : List ℕ) → HasFed old.digester fed → HasFed new.digester (fed ++ bytes)
   pub is : new ≡ record old {
     entries = old.entries ++ (record { place = at; kind = Data }) ∷ [];
@@ -171,7 +173,8 @@ pub record WritesTable (places : Places) (old : Copying) (request : Asked) (new 
   pub tables : List Listed
   pub header : Header
   pub numbers : header ≡ header_of old.order (data_pages old.entries) (length (table_text tables)) header.digest
-  pub digest : (fed : List ℕ) → HasFed old.digester fed → header.digest ≡ sha256 (fed ++ table_text tables ++ header_front header)
+  pub digest : (fed : List ℕ) → HasFed old.digester fed
+      → header.digest ≡ sha256 (fed ++ table_text tables ++ header_front header)
   pub words : HasWords header
   pub table : IsTableOf source.spaces old.entries tables
   pub next : Planned
@@ -313,7 +316,8 @@ IsReadyFor entries taking read (Format plan) = (entries ≡ []) × IsFree taking
 IsReadyFor entries taking read PassStage = IsFreeOrRead entries taking read
 IsReadyFor entries taking read (PageRead plan) = IsTaken entries taking × (read ≡ None) × IsReading plan
 IsReadyFor entries taking read (PageWrite plan) = IsFree taking read × IsUnderWay plan
-IsReadyFor entries taking read (Close plan header tables) = IsFree taking read × (header.pages ≡ data_pages entries) × IsUnderWay plan
+IsReadyFor entries taking read (Close plan header tables) =
+    IsFree taking read × (header.pages ≡ data_pages entries) × IsUnderWay plan
 
 -- a page that is being taken counts
 abbrev pub is_taking : Option Place → ℕ
@@ -329,7 +333,8 @@ IsOwnPlan slot (PageWrite plan) = plan.slot ≡ slot
 IsOwnPlan slot (Close plan header tables) = plan.slot ≡ slot
 
 -- it counts its data pages, and they, the page that is being taken and those that are left are few
-pub record IsCopying (slot : ℕ) (entries : List Entry) (stored ahead : ℕ) (taking : Option Place) (read : Option (List ℕ)) (stage : Stage) : Type 0 where
+pub record IsCopying (slot : ℕ) (entries : List Entry) (stored ahead : ℕ) (taking : Option Place)
+    (read : Option (List ℕ)) (stage : Stage) : Type 0 where
   pub counted : stored ≡ data_pages entries
   pub few : stored + is_taking taking + ahead ≤ 65536
   pub ready : IsReadyFor entries taking read stage

@@ -35,9 +35,10 @@ pub record HasItsNumbers (order : CopyOrder) (source : Image) : Type 0 where
   pub stands : order.source.stands_for ≡ source.header.stands_for
   pub checkpoint : order.source.checkpoint ≡ source.header.checkpoint
 
--- The file of a merged image whose table is written: it is the image with these data pages, which has the order's numbers, exactly the pages
--- that were taken, and the areas of its source.
-pub record IsFiled (order : CopyOrder) (source : Image) (entries : List Entry) (pages : Pages) (header : Header) (tables : List Listed) : Type 0 where
+-- The file of a merged image whose table is written: it is the image with these data pages, which has the order's
+-- numbers, exactly the pages that were taken, and the areas of its source.
+pub record IsFiled (order : CopyOrder) (source : Image) (entries : List Entry) (pages : Pages) (header : Header)
+    (tables : List Listed) : Type 0 where
   pub spelled : IsImage (file_of (image_of header pages tables)) (image_of header pages tables)
   pub numbers : header ≡ header_of order (data_pages entries) (length (table_text tables)) header.digest
   pub table : RepeatsTable source.spaces entries header tables
@@ -54,24 +55,35 @@ FilesCopy source pages copy = IsFiledIn copy.stage copy.order source copy.entrie
 
 pub record FileLaws : Type 0 where
   -- the table is written
-  pub files : (ticket : ℕ) (places : Places) (catalog : List Image) (source : Image) (pages : Pages) (old new : Copying) (request : Asked)
-      → Steps ticket places old (step.TableCall request) new → IsSourceAt places catalog old.order.source.serial source → IsRestorable source → AreItsNumbers old.order
+  pub files : (ticket : ℕ) (places : Places) (catalog : List Image) (source : Image) (pages : Pages) (old new : Copying)
+      (request : Asked)
+      → Steps ticket places old (step.TableCall request) new → IsSourceAt places catalog old.order.source.serial source
+      → IsRestorable source → AreItsNumbers old.order
       → KeepsCopy catalog source pages old → FilesCopy source pages new
   -- the calls that wrote the data pages, and those that write the table and the header, spell that file
-  pub fills : (order : CopyOrder) (source : Image) (entries : List Entry) (pages : Pages) (header : Header) (tables : List Listed) → IsFiled order source entries pages header tables
+  pub fills : (order : CopyOrder) (source : Image) (entries : List Entry) (pages : Pages) (header : Header)
+      (tables : List Listed) → IsFiled order source entries pages header tables
       → body_closed (pages_body pages) header (table_text tables) ≡ image_text (image_of header pages tables)
   -- it stays so until the image is open
-  pub asks : (ticket : ℕ) (places : Places) (source : Image) (pages : Pages) (old new : Copying) (request : Asked) → Steps ticket places old (step.Call request) new
+  pub asks : (ticket : ℕ) (places : Places) (source : Image) (pages : Pages) (old new : Copying) (request : Asked)
+      → Steps ticket places old (step.Call request) new
       → FilesCopy source pages old → FilesCopy source pages new
-  pub hands : (source : Image) (pages : Pages) (old new : Copying) (made : Made) → HandsIn old made progress.More new → FilesCopy source pages old → FilesCopy source pages new
-  -- from then on, so also where its gate is opened, it is an image with the source's numbers and areas that holds what the source holds
-  pub closes : (source : Image) (pages : Pages) (copy : Copying) (plan : Planned) (header : Header) (tables : List Listed) → copy.stage ≡ Close plan header tables
+  pub hands : (source : Image) (pages : Pages) (old new : Copying) (made : Made) → HandsIn old made progress.More new
+      → FilesCopy source pages old → FilesCopy source pages new
+  -- from then on, so also where its gate is opened, it is an image with the source's numbers and areas that holds what
+  -- the source holds
+  pub closes : (source : Image) (pages : Pages) (copy : Copying) (plan : Planned) (header : Header)
+      (tables : List Listed) → copy.stage ≡ Close plan header tables
       → FilesCopy source pages copy → IsFiled copy.order source copy.entries pages header tables
-  pub merged : (catalog : List Image) (source : Image) (pages : Pages) (copy : Copying) (plan : Planned) (header : Header) (tables : List Listed) → copy.stage ≡ Close plan header tables
-      → FilesCopy source pages copy → KeepsCopy catalog source pages copy → HasItsNumbers copy.order source → SerialsDiffer catalog → HaveTables catalog → Contains catalog source
+  pub merged : (catalog : List Image) (source : Image) (pages : Pages) (copy : Copying) (plan : Planned)
+      (header : Header) (tables : List Listed) → copy.stage ≡ Close plan header tables
+      → FilesCopy source pages copy → KeepsCopy catalog source pages copy → HasItsNumbers copy.order source
+      → SerialsDiffer catalog → HaveTables catalog → Contains catalog source
       → IsMergedOf catalog source (image_of header pages tables)
   -- with a serial above all others it is the twin of the merge that runs
-  pub twin : (catalog : List Image) (source : Image) (pages : Pages) (copy : Copying) (plan : Planned) (header : Header) (tables : List Listed) → copy.stage ≡ Close plan header tables
-      → FilesCopy source pages copy → KeepsCopy catalog source pages copy → HasItsNumbers copy.order source → SerialsDiffer catalog → HaveTables catalog → Contains catalog source
+  pub twin : (catalog : List Image) (source : Image) (pages : Pages) (copy : Copying) (plan : Planned) (header : Header)
+      (tables : List Listed) → copy.stage ≡ Close plan header tables
+      → FilesCopy source pages copy → KeepsCopy catalog source pages copy → HasItsNumbers copy.order source
+      → SerialsDiffer catalog → HaveTables catalog → Contains catalog source
       → AreItsNumbers copy.order → ((j : Image) → Contains catalog j → j.header.serial < copy.order.serial)
       → IsTwin catalog (Some source) (image_of header pages tables)

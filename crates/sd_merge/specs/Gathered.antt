@@ -66,16 +66,20 @@ behind_space space (t ∷ tables) = if t.space == space then tables else t ∷ t
 abbrev pub tables_of : List Listed → List Listed → List Listed
 tables_of [] taken = []
 tables_of (s ∷ source) taken =
-    (record { space = s.space; areas = s.areas; runs = front_runs s.space taken }) ∷ tables_of source (behind_space s.space taken)
+    (record { space = s.space; areas = s.areas; runs = front_runs s.space taken }) ∷ tables_of source
+    (behind_space s.space taken)
 
 abbrev pub own_areas : Listed → ℕ × List Area
 own_areas s = (s.space, s.areas)
 
 -- Where these are all pages of a source, in its order, they make a table of a merged image, with the source's areas.
-pub record RepeatsTable (source : List Listed) (entries : List Entry) (header : Header) (tables : List Listed) : Type 0 where
+pub record RepeatsTable (source : List Listed) (entries : List Entry) (header : Header)
+    (tables : List Listed) : Type 0 where
   pub table : TablesEntries entries header tables
   pub areas : map own_areas tables ≡ map own_areas source
 
 abbrev pub IsTableOf : List Listed → List Entry → List Listed → Type 0
-IsTableOf source entries tables = (old header : Header) → IsTable old source → old.kind ≢ PreDump → map place_of entries ≡ map place_of (entries_listed source)
-    → header.kind ≡ Merged → header.parent ≡ 0 → header.pages ≡ data_pages entries → RepeatsTable source entries header tables
+IsTableOf source entries tables = (old header : Header) → IsTable old source → old.kind ≢ PreDump
+    → map place_of entries ≡ map place_of (entries_listed source)
+    → header.kind ≡ Merged → header.parent ≡ 0 → header.pages ≡ data_pages entries
+    → RepeatsTable source entries header tables

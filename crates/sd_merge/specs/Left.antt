@@ -11,10 +11,11 @@ use Rattle.sd_merge.specs.declared.stage.Stage.{Stage}
 use Rattle.sd_merge.specs.declared.stage.Stage.TheVariants.{Format, Pass as PassStage, PageRead, PageWrite, Close}
 use Rattle.sd_merge.specs.Copying.{Copying, is_taking}
 use Rattle.sd_merge.specs.Sources.{few_pages}
-use Rattle.sd_merge.specs.Merger.{AreRunning, Doing, Hands, Retires, Retiring, Running, Works, due, copying, opened, retiring, is_strange}
+use Rattle.sd_merge.specs.Merger.{AreRunning, Doing, Hands, Retires, Retiring, Running, Works, due, copying, opened}
+use Rattle.sd_merge.specs.Merger.{retiring, is_strange}
 
--- what the pages that are ahead, the one that is being taken, and the five calls that close the body come to: a page is read by a request with
--- an outcome, and written by another
+-- what the pages that are ahead, the one that is being taken, and the five calls that close the body come to: a page is
+-- read by a request with an outcome, and written by another
 abbrev pub pages_left : ℕ → ℕ → ℕ
 pages_left taking pages = 2 * taking + 4 * pages + 10
 
@@ -46,13 +47,16 @@ abbrev pub left_of : Option Running → ℕ
 left_of None = 0
 left_of (Some running) = running_left running
 
--- It is 0 exactly while the merger is idle; each step lowers it, and so does each outcome of a request that was out. So does a list of no
--- more images than were there as the merge began.
+-- It is 0 exactly while the merger is idle; each step lowers it, and so does each outcome of a request that was out. So
+-- does a list of no more images than were there as the merge began.
 pub record LeftLaws : Type 0 where
   pub idle : (running : Option Running) → AreRunning running → left_of running ≡ 0 ↔ running ≡ None
-  pub works : (serial : ℕ) (state : SlotState) (ticket : ℕ) (places : Places) (old : Option Running) (step : MergeStep) (new : Option Running)
+  pub works : (serial : ℕ) (state : SlotState) (ticket : ℕ) (places : Places) (old : Option Running) (step : MergeStep)
+      (new : Option Running)
       → Works serial state ticket places old step new → left_of new < left_of old
-  pub hands : (old : Option Running) (made : Made) (done : MergeProgress) (new : Option Running) → Hands old made done new → is_strange done ≡ false
+  pub hands : (old : Option Running) (made : Made) (done : MergeProgress) (new : Option Running)
+      → Hands old made done new → is_strange done ≡ false
       → AreRunning old → left_of new < left_of old
-  pub retires : (running : Running) (list : List Retired) (done : MergeProgress) (new : Option Running) → Retires (Some running) list done new → is_strange done ≡ false
+  pub retires : (running : Running) (list : List Retired) (done : MergeProgress) (new : Option Running)
+      → Retires (Some running) list done new → is_strange done ≡ false
       → length list ≤ length running.before → left_of new < left_of (Some running)

@@ -1,5 +1,6 @@
 -- The merger, as it is seen: the merged image, and then the images that are closed.
-use Rattle.std.specs.Prelude.{◌≡◌, ◌≢◌, ◌⊎◌, ℕ, ◌+◌, ◌<◌, Bool, true, false, if◌then◌else◌, List, [], length, slice_get, Option, Some, None, IsSome}
+use Rattle.std.specs.Prelude.{◌≡◌, ◌≢◌, ◌⊎◌, ℕ, ◌+◌, ◌<◌, Bool, true, false, if◌then◌else◌, List, [], length, slice_get}
+use Rattle.std.specs.Prelude.{Option, Some, None, IsSome}
 use Rattle.sd_chain.specs.Catalog.{Places}
 use Rattle.sd_gate.specs.declared.call.Call.TheVariants.{Sync}
 use Rattle.sd_gate.specs.declared.request_id.RequestId.{RequestId}
@@ -52,7 +53,8 @@ doing_of (job.Copying copier) = copying copier
 doing_of (job.Opened serial) = opened serial
 doing_of (job.Closing closing) = retiring (retiring_of closing)
 
--- a merge that runs: what it repeats, the slot of its image, and the serials of the images that were in the catalog as it began
+-- a merge that runs: what it repeats, the slot of its image, and the serials of the images that were in the catalog as
+-- it began
 pub record Running : Type 0 where
   pub source : Source
   pub slot : ℕ
@@ -88,16 +90,19 @@ pub record RetiresOn (ticket : ℕ) (old : Retiring) (made : MergeStep) (new : D
   pub is : new ≡ retiring (record old { plan = next })
 
 abbrev pub WorksAt : ℕ → SlotState → ℕ → Places → Running → Doing → MergeStep → Doing → Type 0
-WorksAt serial state ticket places running due made new = CopiesOn ticket places (begun_copy (order_of running serial state)) made new
+WorksAt serial state ticket places running due made new =
+    CopiesOn ticket places (begun_copy (order_of running serial state)) made new
 WorksAt serial state ticket places running (copying copy) made new = CopiesOn ticket places copy made new
 WorksAt serial state ticket places running (opened number) made new = ⊥
 WorksAt serial state ticket places running (retiring r) made new = RetiresOn ticket r made new
 
-pub record WorksOn (serial : ℕ) (state : SlotState) (ticket : ℕ) (places : Places) (old : Running) (made : MergeStep) (new : Running) : Type 0 where
+pub record WorksOn (serial : ℕ) (state : SlotState) (ticket : ℕ) (places : Places) (old : Running) (made : MergeStep)
+    (new : Running) : Type 0 where
   pub works : WorksAt serial state ticket places old old.doing made new.doing
   pub is : new ≡ record old { doing = new.doing }
 
-pub record Works (serial : ℕ) (state : SlotState) (ticket : ℕ) (places : Places) (old : Option Running) (made : MergeStep) (new : Option Running) : Type 0 where
+pub record Works (serial : ℕ) (state : SlotState) (ticket : ℕ) (places : Places) (old : Option Running)
+    (made : MergeStep) (new : Option Running) : Type 0 where
   pub running : Running
   pub was : old ≡ Some running
   pub next : Running
@@ -212,7 +217,8 @@ pub record IsLastOf (old : Retiring) (made : Made) : Type 0 where
 
 -- a call that was no sync goes on, and the last goes to the next image
 abbrev pub GoesOnClosing : Retiring → Made → Retiring → Type 0
-GoesOnClosing old made new = (GoesOnWith old made new × (made.request.id.call ≢ Sync)) ⊎ (IsLastOf old made × EndsOne old new)
+GoesOnClosing old made new =
+    (GoesOnWith old made new × (made.request.id.call ≢ Sync)) ⊎ (IsLastOf old made × EndsOne old new)
 
 -- a 0 stands at its first byte for sure
 pub record ShutsOne (old : Retiring) (made : Made) (one : Retired) (new : Retiring) : Type 0 where
@@ -323,7 +329,8 @@ pub record BeginsList (old : Option Running) (list : List Retired) (new : Option
   pub first : Retired
   pub there : slice_get list 0 ≡ Some first
   pub is : new ≡ Some (record running {
-    doing = retiring (record { serial = serial; list = list; ended = 0; plan = begun first.slot closing_calls nothing });
+    doing =
+        retiring (record { serial = serial; list = list; ended = 0; plan = begun first.slot closing_calls nothing });
   })
 
 -- the list is empty, and the merge has ended

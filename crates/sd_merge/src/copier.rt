@@ -1,5 +1,6 @@
 //! One merged image in the making: its slot is formatted, the pages of its source are taken, and its gate is opened.
-ghost use Rattle.std.specs.Prelude.{◌≡◌, ◌≢◌, ◌↔◌, ◌<◌, ◌≤◌, ◌^◌, ◌∷◌, ◌++◌, ℕ, List, [], None, Some, Err, IsSome, IsNone, IsTrue, IfSome, IfOk, IfErr, OnOk, OnErr, MatchOption, length, true, false};
+ghost use Rattle.std.specs.Prelude.{◌≡◌, ◌≢◌, ◌↔◌, ◌<◌, ◌≤◌, ◌^◌, ◌∷◌, ◌++◌, ℕ, List, [], None, Some, Err, IsSome};
+ghost use Rattle.std.specs.Prelude.{IsNone, IsTrue, IfSome, IfOk, IfErr, OnOk, OnErr, MatchOption, length, true, false};
 ghost use Rattle.sha2.specs.Sha256.{sha256};
 ghost use Rattle.sd_image.specs.Digests.{HasFed};
 ghost use Rattle.sd_image.specs.Header.{HasWords, header_front};
@@ -12,7 +13,9 @@ ghost use Rattle.sd_chain.specs.Passes.{IsBehind, IsNextPage};
 ghost use Rattle.sd_chain.specs.Ways.{AreImages};
 ghost use Rattle.sd_merge.specs.declared.stage.Stage.TheVariants.{Pass as PassStage};
 ghost use Rattle.sd_merge.specs.declared.work_error.WorkError.TheVariants.{Busy, Idle, Lost, OutOfMemory};
-ghost use Rattle.sd_merge.specs.Copying.{IsAskedBy, IsLost, IsAbsent, IsReading, IsSoundCopying, ReadsPage, Steps, TakesZero, WritesPage, WritesTable, begun_copy, cursor, header_of, out_of, page_of};
+ghost use Rattle.sd_merge.specs.Copying.{IsAskedBy, IsLost, IsAbsent, IsReading, IsSoundCopying, ReadsPage, Steps};
+ghost use Rattle.sd_merge.specs.Copying.{TakesZero, WritesPage, WritesTable, begun_copy, cursor, header_of, out_of};
+ghost use Rattle.sd_merge.specs.Copying.{page_of};
 ghost use Rattle.sd_merge.specs.Left.{copy_left};
 ghost use Rattle.sd_merge.specs.PlanSteps.{IsPageCallOf, IsReadCallOf, IsTableCallOf, IsZeroStep};
 

@@ -14,8 +14,8 @@ pub fn left_law()
     ensures { LeftLaws }
 {}
 
-/// A merged image in the making is a copy of its source so far, through each of its steps, each outcome, and while other
-/// images enter and leave the catalog.
+/// A merged image in the making is a copy of its source so far, through each of its steps, each outcome, and while
+/// other images enter and leave the catalog.
 pub fn merge_law()
     ensures { MergeLaws }
 {

@@ -2,7 +2,8 @@
 ghost use Rattle.std.specs.Prelude.{◌≡◌, ◌≢◌, ◌↔◌, Err, IfOk, IfErr, OnErr};
 ghost use Rattle.sd_merge.specs.declared.work_error.WorkError.TheVariants.{Busy, Idle, Lost, OutOfMemory};
 ghost use Rattle.sd_merge.specs.Left.{running_left};
-ghost use Rattle.sd_merge.specs.Merger.{HandsTo, HasSoundCopyIn, IsBusyWith, IsInPass, IsRunning, LosesPage, WorksOn, order_of, running_of};
+ghost use Rattle.sd_merge.specs.Merger.{HandsTo, HasSoundCopyIn, IsBusyWith, IsInPass, IsRunning, LosesPage, WorksOn};
+ghost use Rattle.sd_merge.specs.Merger.{order_of, running_of};
 
 use crate::closing::Closing;
 use crate::copier::Copier;

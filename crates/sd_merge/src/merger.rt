@@ -3,7 +3,8 @@ ghost use Rattle.std.specs.Prelude.{◌≡◌, ◌↔◌, Err, None, Some, IsSom
 ghost use Rattle.std.specs.Option.{option_map};
 ghost use Rattle.sd_merge.specs.declared.work_error.WorkError.TheVariants.{Busy, Idle, Lost, OutOfMemory};
 ghost use Rattle.sd_merge.specs.Left.{left_of};
-ghost use Rattle.sd_merge.specs.Merger.{AreRunning, Hands, HasSoundCopy, IsBusy, Loses, Passes, Retires, Works, before_of, begun_merge, ends, list_of, slot_before, slot_of, source_of};
+ghost use Rattle.sd_merge.specs.Merger.{AreRunning, Hands, HasSoundCopy, IsBusy, Loses, Passes, Retires, Works};
+ghost use Rattle.sd_merge.specs.Merger.{before_of, begun_merge, ends, list_of, slot_before, slot_of, source_of};
 
 use crate::closing::Closing;
 use crate::job::Job;
@@ -148,8 +149,8 @@ impl Merger {
     /// # Errors
     ///
     /// Idle where no merge runs. Busy where a request is out, or the list of the images to close is awaited. Lost where
-    /// the catalog doesn't have the source's next page. Out of memory where a page, its entry or the table finds no room.
-    /// Nothing changed.
+    /// the catalog doesn't have the source's next page. Out of memory where a page, its entry or the table finds no
+    /// room. Nothing changed.
     pub fn work(
         &mut self,
         catalog: &Catalog,
@@ -209,8 +210,8 @@ impl Merger {
         MergeProgress::More
     }
 
-    /// What holds of every merger: how its merge and the image that is made go together. It does nothing: a caller learns
-    /// it.
+    /// What holds of every merger: how its merge and the image that is made go together. It does nothing: a caller
+    /// learns it.
     pub fn sound(&self)
         ensures running { AreRunning self.now }
         ensures copy { HasSoundCopy self.now }

@@ -22,10 +22,10 @@ use std::thread::Threads;
 /// How many frames the memory has.
 const FRAMES: usize = 65_536;
 
-/// Opens an empty store, and lets so many mutators store 1,000 numbers each into a page of their own, from 0x100000 on in
-/// space 1, and load each back. Meanwhile two checkpoints of two pre-dumps are made, the second beside a merge; and when
-/// all have ended, a third one without pre-dumps. Returns the disk, but where the journal doesn't account for what each was
-/// told, and what was done.
+/// Opens an empty store, and lets so many mutators store 1,000 numbers each into a page of their own, from 0x100000 on
+/// in space 1, and load each back. Meanwhile two checkpoints of two pre-dumps are made, the second beside a merge; and
+/// when all have ended, a third one without pre-dumps. Returns the disk, but where the journal doesn't account for what
+/// each was told, and what was done.
 ///
 /// # Errors
 ///

@@ -67,8 +67,8 @@ fn go_on<R: Threads + Wait + Sync, D: Disk + Drop + Send>(
     }
 }
 
-/// Cancels the checkpoint that stands. Where it is too late for that it is gone on with, a number of times, and then left,
-/// and nobody waits for its thaw any more.
+/// Cancels the checkpoint that stands. Where it is too late for that it is gone on with, a number of times, and then
+/// left, and nobody waits for its thaw any more.
 fn let_go<R: Wait, D: Disk + Drop>(rt: &R, shared: &Shared<D>) -> Ended
     ensures { lets_all_go result ≡ true }
 {
@@ -85,8 +85,8 @@ fn let_go<R: Wait, D: Disk + Drop>(rt: &R, shared: &Shared<D>) -> Ended
     Ended::LeftStanding(shared.end_waits(rt))
 }
 
-/// Makes a checkpoint of so many pre-dumps. Where memory is refused it is gone on with, a number of times, and then cancelled,
-/// so that nobody waits for a thaw that doesn't come.
+/// Makes a checkpoint of so many pre-dumps. Where memory is refused it is gone on with, a number of times, and then
+/// cancelled, so that nobody waits for a thaw that doesn't come.
 fn checkpoint<R: Threads + Wait + Sync, D: Disk + Drop + Send>(
     rt: &R,
     shared: &Shared<D>,
@@ -163,8 +163,8 @@ impl Saved {
         match checkpoint(rt, shared, rounds) {
             Ended::LetGo(Reply::Acked(number)) => self.acks.push_reserved(number),
             Ended::LetGo(Reply::Refused(why)) if why != Refusal::Idle => self.refused = Some(why),
-            // Memory was refused again and again: to a step of the checkpoint, or to its order, behind which there is none
-            // to be cancelled.
+            // Memory was refused again and again: to a step of the checkpoint, or to its order, behind which there is
+            // none to be cancelled.
             Ended::LetGo(_) | Ended::LeftStanding(_) => self.refused = Some(Refusal::OutOfMemory),
         }
     }

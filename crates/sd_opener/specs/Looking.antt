@@ -1,5 +1,6 @@
 -- An opener, as it is seen.
-use Rattle.std.specs.Prelude.{◌≡◌, ◌≢◌, ◌⊎◌, ℕ, ◌+◌, ◌<◌, ◌≤◌, true, List, [], ◌∷◌, length, map, Option, None, Some, IsSome}
+use Rattle.std.specs.Prelude.{◌≡◌, ◌≢◌, ◌⊎◌, ℕ, ◌+◌, ◌<◌, ◌≤◌, true, List, [], ◌∷◌, length, map, Option, None, Some}
+use Rattle.std.specs.Prelude.{IsSome}
 use Rattle.sd_gate.specs.declared.call.Call.{Call as DeviceCall}
 use Rattle.sd_gate.specs.declared.call.Call.TheVariants.{Len, Read as ReadCall, Sync}
 use Rattle.sd_gate.specs.declared.phase.Phase.{Phase}
@@ -43,11 +44,12 @@ pub record HasFirst (first : Option (List ℕ)) : Type 0 where
   pub came : first ≡ Some bytes
   pub whole : length bytes ≡ 4096
 
--- by what it waits for: the slot is synced and the file's length asked for; the header of a file that has one is read; the
--- table is read, behind its header
+-- by what it waits for: the slot is synced and the file's length asked for; the header of a file that has one is read;
+-- the table is read, behind its header
 abbrev pub HasCome : Awaits → List DeviceCall → Back → Type 0
 HasCome the_length ahead found = (ahead ≡ Sync ∷ Len ∷ [] ⊎ ahead ≡ Len ∷ []) × (found.first ≡ None)
-HasCome (the_header len) ahead found = (ahead ≡ ReadCall 0 ∷ []) × (4096 ≤ len) × (found.len ≡ Some len) × (found.first ≡ None)
+HasCome (the_header len) ahead found =
+    (ahead ≡ ReadCall 0 ∷ []) × (4096 ≤ len) × (found.len ≡ Some len) × (found.first ≡ None)
 HasCome nothing ahead found = ((place : ℕ) × (ahead ≡ ReadCall place ∷ [])) × IsSome found.len × HasFirst found.first
 
 abbrev pub IsInspecting : Planned → Type 0

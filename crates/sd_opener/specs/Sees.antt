@@ -1,5 +1,6 @@
 -- What an opener knows of the files that it reads.
-use Rattle.std.specs.Prelude.{◌≡◌, ℕ, ◌≤◌, true, false, List, length, map, slice_index, take, Option, Some, None, IsSome, Ok}
+use Rattle.std.specs.Prelude.{◌≡◌, ℕ, ◌≤◌, true, false, List, length, map, slice_index, take, Option, Some, None}
+use Rattle.std.specs.Prelude.{IsSome, Ok}
 use Rattle.sd_disk.specs.Contents.{file_at}
 use Rattle.sd_image.specs.declared.header.Header.{Header}
 use Rattle.sd_image.specs.declared.reason.Reason.{Reason}
@@ -27,11 +28,12 @@ use Rattle.sd_opener.specs.Looking.{HasFirst, Looking}
 -- what is known of the slot's file, with this request out
 abbrev pub SeesSlot : ℕ → List ℕ → Option Asked → Stage → Type 0
 SeesSlot slot file request (Asking plan) = LooksAt slot file request plan
-SeesSlot slot file request (Read header table) = (request ≡ None) × HasHeader file header × (table.items ≡ table_bytes header file)
+SeesSlot slot file request (Read header table) =
+    (request ≡ None) × HasHeader file header × (table.items ≡ table_bytes header file)
 SeesSlot slot file request (Broken reason) = (request ≡ None) × HasNoHeader file reason
 
--- The phases of the first slots are those of the files, and so are the images, where digests are right, as they are in a store: an opener
--- sees no data page.
+-- The phases of the first slots are those of the files, and so are the images, where digests are right, as they are in
+-- a store: an opener sees no data page.
 pub record Sees (files : List (List ℕ)) (request : Option Asked) (opener : Looking) : Type 0 where
   pub count : length files ≡ opener.slots
   pub told : opener.told ≡ map found_phase (take (length opener.told) files)
@@ -44,13 +46,14 @@ IsOpenStage (Asking plan) = ⊥
 IsOpenStage (Read header table) = Unit {0}
 IsOpenStage (Broken reason) = Unit {0}
 
--- what an inspection that came to its end brought back: the length of a file that is too short for a header, or its first
--- 4,096 bytes, and the table where these are an open image's
+-- what an inspection that came to its end brought back: the length of a file that is too short for a header, or its
+-- first 4,096 bytes, and the table where these are an open image's
 pub record HasEnded (found : Back) : Type 0 where
   pub len : ℕ
   pub told : found.len ≡ Some len
   pub first : 4096 ≤ len → HasFirst found.first
-  pub table : (bytes : List ℕ) (header : Header) → found.first ≡ Some bytes → slice_index bytes 0 ≡ gate → header_in bytes len ≡ Ok header
+  pub table : (bytes : List ℕ) (header : Header) → found.first ≡ Some bytes → slice_index bytes 0 ≡ gate
+      → header_in bytes len ≡ Ok header
       → IsSome found.second
 
 -- what the inspection of a file ends with

@@ -1,5 +1,6 @@
 //! The opener.
-ghost use Rattle.std.specs.Prelude.{◌≤◌, ◌^◌, ◌≡◌, ◌≢◌, ◌↔◌, ◌<◌, ◌+◌, ℕ, List, [], Option, None, Some, false, length, Err, IsErr, IsSome, IfOk, IfErr, MatchOption, OnOk, OnErr};
+ghost use Rattle.std.specs.Prelude.{◌≤◌, ◌^◌, ◌≡◌, ◌≢◌, ◌↔◌, ◌<◌, ◌+◌, ℕ, List, [], Option, None, Some, false, length};
+ghost use Rattle.std.specs.Prelude.{Err, IsErr, IsSome, IfOk, IfErr, MatchOption, OnOk, OnErr};
 ghost use Rattle.sd_disk.specs.Contents.{file_at};
 ghost use Rattle.sd_gate.specs.Calls.{is_done};
 ghost use Rattle.sd_gate.specs.Inspections.{the_length};
@@ -9,7 +10,9 @@ ghost use Rattle.sd_gate.specs.Sequences.{first_looks};
 ghost use Rattle.sd_restore.specs.Faulty.{IsDamage, IsFirstFaulty, Names};
 ghost use Rattle.sd_restore.specs.Reading.{AreRightlyDigested};
 ghost use Rattle.sd_opener.specs.declared.open_error.OpenError.TheVariants.{Busy};
-ghost use Rattle.sd_opener.specs.declared.opener_progress.OpenerProgress.TheVariants.{Strange as IsStrange, Failed as HasFailed, More as GoesOn};
+ghost use Rattle.sd_opener.specs.declared.opener_progress.OpenerProgress.TheVariants.{Strange as IsStrange};
+ghost use Rattle.sd_opener.specs.declared.opener_progress.OpenerProgress.TheVariants.{Failed as HasFailed};
+ghost use Rattle.sd_opener.specs.declared.opener_progress.OpenerProgress.TheVariants.{More as GoesOn};
 ghost use Rattle.sd_opener.specs.Left.{Lowers, LowersByStep, looking_left, stage_left};
 ghost use Rattle.sd_opener.specs.Looking.{IsDoneAsAsked, Looking, MovesOn, StepMoves, out_of};
 ghost use Rattle.sd_opener.specs.Sees.{IsNoStore, IsOpened, IsToldOf, Sees, SeesAfter, StepNames};
@@ -27,8 +30,8 @@ use std::alloc::{AllocError, Global};
 use std::marker::Model;
 use std::mem;
 
-/// Reads the slots of a store, rising: it syncs each slot, asks for the length of its file, and reads the header and the
-/// table of an open image.
+/// Reads the slots of a store, rising: it syncs each slot, asks for the length of its file, and reads the header and
+/// the table of an open image.
 #[derive(Drop)]
 pub struct Opener {
     alloc: Global,

@@ -1,5 +1,6 @@
 -- All that a memory holds: the spaces and their pages, over a pool of frames.
-use Rattle.std.specs.Prelude.{◌≡◌, ℕ, ◌+◌, ◌≤◌, ◌<◌, ◌^◌, Bool, true, false, ◌==◌, nat_lt, if◌then◌else◌, List, length, filter, Option, Some, refl}
+use Rattle.std.specs.Prelude.{◌≡◌, ℕ, ◌+◌, ◌≤◌, ◌<◌, ◌^◌, Bool, true, false, ◌==◌, nat_lt, if◌then◌else◌, List, length}
+use Rattle.std.specs.Prelude.{filter, Option, Some, refl}
 use Rattle.std.specs.Option.{option_map_or}
 use Rattle.std.specs.List.{range_with_len}
 use Rattle.std.specs.Coded.{Coded, code_by, coded×, coded_ℕ}
@@ -14,7 +15,8 @@ pub record Contents : Type 0 where
   pub spaces : Nested Page
 
 abbrev pub contents_code : Coded Contents
-contents_code = code_by (ℕ × Nested Page) (coded× coded_ℕ (finmap.code coded_ℕ (finmap.code coded_ℕ page_code))) (λ c. (c.pool, c.spaces)) (λ t. record { pool = t.0; spaces = t.1 }) (λ _. refl)
+contents_code = code_by (ℕ × Nested Page) (coded× coded_ℕ (finmap.code coded_ℕ (finmap.code coded_ℕ page_code)))
+    (λ c. (c.pool, c.spaces)) (λ t. record { pool = t.0; spaces = t.1 }) (λ _. refl)
 
 -- a mapped page
 abbrev pub page_at : Contents → ℕ → ℕ → Option Page
@@ -56,10 +58,11 @@ is_alone contents page = option_map_or (λ class. members contents class == 1) p
 abbrev pub page_count : {X : Type 0} → Nested X → ℕ
 page_count spaces = total_within (λ _. 1) spaces
 
--- The word of a page, after the kernel document `pagemap`: bit 63 where it is in a class, bit 56 where it is alone in it,
--- bit 55 where it is soft-dirty, and no other bit.
+-- The word of a page, after the kernel document `pagemap`: bit 63 where it is in a class, bit 56 where it is alone in
+-- it, bit 55 where it is soft-dirty, and no other bit.
 abbrev pub word_of_page : Contents → Page → ℕ
-word_of_page contents page = option_map_or (λ _. 2 ^ 63) page.class 0 + (if is_alone contents page then 2 ^ 56 else 0) + (if page.soft_dirty then 2 ^ 55 else 0)
+word_of_page contents page = option_map_or (λ _. 2 ^ 63) page.class 0 + (if is_alone contents page then 2 ^ 56 else 0) +
+    (if page.soft_dirty then 2 ^ 55 else 0)
 
 -- the word at a page; 0 where it isn't mapped
 abbrev pub word_at : Contents → ℕ → ℕ → ℕ
@@ -73,12 +76,15 @@ pub record IsWritable (contents : Contents) (page : Page) : Type 0 where
 
 -- each page has 4,096 bytes
 abbrev pub AreWhole : Contents → Type 0
-AreWhole contents = (space number : ℕ) (page : Page) → page_at contents space number ≡ Some page → length page.bytes ≡ 4096
+AreWhole contents =
+    (space number : ℕ) (page : Page) → page_at contents space number ≡ Some page → length page.bytes ≡ 4096
 
 -- what holds of every memory
 pub record IsSound (contents : Contents) : Type 0 where
-  pub writable : (space number : ℕ) (page : Page) → page_at contents space number ≡ Some page → page.writable ≡ true → IsWritable contents page
-  pub classes : (space number : ℕ) (page : Page) (class : ℕ) → page_at contents space number ≡ Some page → page.class ≡ Some class → class < contents.pool
+  pub writable : (space number : ℕ) (page : Page) → page_at contents space number ≡ Some page → page.writable ≡ true
+      → IsWritable contents page
+  pub classes : (space number : ℕ) (page : Page) (class : ℕ) → page_at contents space number ≡ Some page
+      → page.class ≡ Some class → class < contents.pool
   pub spaces : (space : ℕ) → is_alive contents.spaces space ≡ true → (1 ≤ space) × (space ≤ 16)
   pub numbers : (space number : ℕ) (page : Page) → page_at contents space number ≡ Some page → number < 2 ^ 35
   pub few : page_count contents.spaces ≤ 65536

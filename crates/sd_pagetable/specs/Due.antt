@@ -1,5 +1,6 @@
 -- Which refusal is due, in the order of the cases: none where the call is accepted. Legal replies of calls on memory.
-use Rattle.std.specs.Prelude.{◌≡◌, ℕ, ◌+◌, Bool, true, false, not, ◌&&◌, ◌==◌, nat_lt, nat_le, if◌then◌else◌, Option, Some, None, Result, Ok, Err}
+use Rattle.std.specs.Prelude.{◌≡◌, ℕ, ◌+◌, Bool, true, false, not, ◌&&◌, ◌==◌, nat_lt, nat_le, if◌then◌else◌, Option}
+use Rattle.std.specs.Prelude.{Some, None, Result, Ok, Err}
 use Rattle.std.specs.Option.{option_map_or}
 use Rattle.std.specs.FinMap as finmap
 use Rattle.sd_areas.specs.declared.prot.Prot.{Prot}
@@ -11,7 +12,8 @@ use Rattle.sd_areas.specs.Areas.{PageMap}
 use Rattle.sd_areas.specs.Calls.{map_result, unmap_result, protect_result}
 use Rattle.sd_pagetable.specs.declared.access.Access.{Access}
 use Rattle.sd_pagetable.specs.declared.access.Access.TheVariants.{Write}
-use Rattle.sd_pagetable.specs.declared.memory_refusal.MemoryRefusal.TheVariants.{Einval, Enomem, NoSuchSpace, TooManySpaces, NoFrame, LastSpace}
+use Rattle.sd_pagetable.specs.declared.memory_refusal.MemoryRefusal.TheVariants.{Einval, Enomem, NoSuchSpace}
+use Rattle.sd_pagetable.specs.declared.memory_refusal.MemoryRefusal.TheVariants.{TooManySpaces, NoFrame, LastSpace}
 use Rattle.sd_pagetable.specs.declared.segv.Segv.TheVariants.{Maperr, Accerr}
 use Rattle.sd_pagetable.specs.declared.access_error.AccessError.{AccessError}
 use Rattle.sd_pagetable.specs.declared.access_error.AccessError.TheVariants.{Refused, Segv as Stopped}
@@ -52,7 +54,9 @@ page_due need (Some page) = if allows need page.prot then None else Some (Stoppe
 
 -- a load or a store of so many bytes
 abbrev pub access_due : PlainMemory → ℕ → ℕ → ℕ → Access → Option AccessError
-access_due memory space address bytes need = in_space memory space (if is_bad_access address bytes then Some (Refused Einval) else page_due need (value_at memory space (page_of address)))
+access_due memory space address bytes need = in_space memory space
+    (if is_bad_access address bytes then Some (Refused Einval)
+    else page_due need (value_at memory space (page_of address)))
 
 -- a page that isn't alone in a class needs a frame
 abbrev pub needs_frame : Contents → Option full.Page → Bool
@@ -62,15 +66,19 @@ needs_frame contents (Some page) = not (is_alone contents page)
 -- and then a frame has to be left
 abbrev pub frame_due : Contents → Option full.Page → Option AccessError
 frame_due contents None = None
-frame_due contents (Some page) = if not (is_alone contents page) && is_full contents then Some (Refused NoFrame) else None
+frame_due contents (Some page) =
+    if not (is_alone contents page) && is_full contents then Some (Refused NoFrame) else None
 
 -- a fault
 abbrev pub fault_due : Contents → ℕ → ℕ → Option AccessError
-fault_due contents space address = or_else (in_space (plain_of contents) space (page_due Write (value_at (plain_of contents) space (page_of address)))) (frame_due contents (page_at contents space (page_of address)))
+fault_due contents space address = or_else
+    (in_space (plain_of contents) space (page_due Write (value_at (plain_of contents) space (page_of address))))
+    (frame_due contents (page_at contents space (page_of address)))
 
 -- a fault and store in one
 abbrev pub store_due : Contents → ℕ → ℕ → ℕ → Option AccessError
-store_due contents space address bytes = or_else (access_due (plain_of contents) space address bytes Write) (frame_due contents (page_at contents space (page_of address)))
+store_due contents space address bytes = or_else (access_due (plain_of contents) space address bytes Write)
+    (frame_due contents (page_at contents space (page_of address)))
 
 -- a try of a store: a page that isn't writable needs a fault
 abbrev pub try_answer : Bool → StoreOutcome
@@ -78,7 +86,8 @@ try_answer true = Done
 try_answer false = NeedsFault
 
 abbrev pub try_outcome : Contents → ℕ → ℕ → ℕ → Result StoreOutcome AccessError
-try_outcome contents space address bytes = answer (access_due (plain_of contents) space address bytes Write) (try_answer (option_map_or (λ (page : full.Page). page.writable) (page_at contents space (page_of address)) false))
+try_outcome contents space address bytes = answer (access_due (plain_of contents) space address bytes Write)
+    (try_answer (option_map_or (λ (page : full.Page). page.writable) (page_at contents space (page_of address)) false))
 
 -- the permissions of a space's pages
 abbrev pub prots_in : Space → PageMap
@@ -100,10 +109,12 @@ mmap_due memory space address bytes prot = in_space memory space
     (if nat_lt 65536 (page_count (after_mmap memory space address bytes prot)) then Some (Refused Enomem) else None))
 
 abbrev pub munmap_due : PlainMemory → ℕ → ℕ → ℕ → Option AccessError
-munmap_due memory space address bytes = in_space memory space (area_due (unmap_result (prots_in (inside memory space)) address bytes))
+munmap_due memory space address bytes =
+    in_space memory space (area_due (unmap_result (prots_in (inside memory space)) address bytes))
 
 abbrev pub mprotect_due : PlainMemory → ℕ → ℕ → ℕ → Prot → Option AccessError
-mprotect_due memory space address bytes prot = in_space memory space (area_due (protect_result (prots_in (inside memory space)) address bytes prot))
+mprotect_due memory space address bytes prot =
+    in_space memory space (area_due (protect_result (prots_in (inside memory space)) address bytes prot))
 
 -- `fork`: with 16 spaces alive there is no number left, and at most 65,536 pages afterwards
 abbrev pub fork_due : PlainMemory → ℕ → Option AccessError

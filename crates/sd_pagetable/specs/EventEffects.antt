@@ -7,12 +7,14 @@ use Rattle.sd_pagetable.specs.Nested.{inside, value_at, put_at, set_within, remo
 use Rattle.sd_pagetable.specs.Page.{zeros}
 use Rattle.sd_pagetable.specs.Access.{stored_at}
 use Rattle.sd_pagetable.specs.Contents.{Contents, plain_of}
-use Rattle.sd_pagetable.specs.Tracking.{Event, Mapped, Unmapped, Protected, Forked, Exited, Faulted, Tried, Stored, Cleared, Passed, Step}
+use Rattle.sd_pagetable.specs.Tracking.{Event, Mapped, Unmapped, Protected, Forked, Exited, Faulted, Tried, Stored}
+use Rattle.sd_pagetable.specs.Tracking.{Cleared, Passed, Step}
 
 -- bytes stand at an offset of a page, if it is mapped
 abbrev pub after_write : PlainMemory → ℕ → ℕ → ℕ → List ℕ → PlainMemory
 after_write memory space page offset bytes =
-    option_map_or (λ (found : Page). put_at memory space page (record found { bytes = stored_at found.bytes offset bytes }))
+    option_map_or (λ (found : Page). put_at memory space page
+    (record found { bytes = stored_at found.bytes offset bytes }))
     (value_at memory space page) memory
 
 -- faults and clears leave it
@@ -22,7 +24,8 @@ after_event (Mapped space first count prot) memory =
 after_event (Unmapped space first count) memory =
     finmap.insert memory space (remove_within (inside memory space) first count)
 after_event (Protected space first count prot) memory =
-    finmap.insert memory space (change_within (λ (page : Page). record page { prot = prot }) (inside memory space) first count)
+    finmap.insert memory space
+    (change_within (λ (page : Page). record page { prot = prot }) (inside memory space) first count)
 after_event (Forked parent child) memory = finmap.insert memory child (inside memory parent)
 after_event (Exited space) memory = finmap.remove memory space
 after_event (Faulted space page) memory = memory

@@ -17,17 +17,21 @@ pub record IsClearedAt (space number : ℕ) (old new : Contents) : Type 0 where
   pub pool : new.pool ≡ old.pool
   pub alive : (other : ℕ) → is_alive new.spaces other ≡ is_alive old.spaces other
   pub here : page_at new space number ≡ option_map cleared_page (page_at old space number)
-  pub others : (other page : ℕ) → is_page space number other page ≡ false → page_at new other page ≡ page_at old other page
+  pub others : (other page : ℕ) → is_page space number other page ≡ false
+      → page_at new other page ≡ page_at old other page
 
 -- a clear changes one page
 abbrev pub ClearLaw : Type 0
-ClearLaw = (old new : Contents) (space number : ℕ) → Step old (Cleared space number) new → IsClearedAt space number old new
+ClearLaw =
+    (old new : Contents) (space number : ℕ) → Step old (Cleared space number) new → IsClearedAt space number old new
 
 -- the plain memory has the same spaces and pages, and the areas have the same permissions
 pub record PlainLaw : Type 0 where
   pub alive : (contents : Contents) (space : ℕ) → is_alive (plain_of contents) space ≡ is_alive contents.spaces space
-  pub pages : (contents : Contents) (space page : ℕ) → value_at (plain_of contents) space page ≡ option_map plain_page (page_at contents space page)
-  pub prots : (table : Table Page) (page : ℕ) → finmap.get (prots_of table) page ≡ option_map (λ (found : Page). found.prot) (finmap.get table page)
+  pub pages : (contents : Contents) (space page : ℕ)
+      → value_at (plain_of contents) space page ≡ option_map plain_page (page_at contents space page)
+  pub prots : (table : Table Page) (page : ℕ)
+      → finmap.get (prots_of table) page ≡ option_map (λ (found : Page). found.prot) (finmap.get table page)
   pub count : (table : Table Page) → finmap.len (prots_of table) ≡ finmap.len table
 
 -- how many pages the spaces below a number have

@@ -1,5 +1,6 @@
 -- Memories that a snapshot begins.
-use Rattle.std.specs.Prelude.{◌≡◌, ℕ, ◌<◌, Bool, true, false, ◌||◌, ◌==◌, nat_lt, if◌then◌else◌, List, length, Option, Some, None}
+use Rattle.std.specs.Prelude.{◌≡◌, ℕ, ◌<◌, Bool, true, false, ◌||◌, ◌==◌, nat_lt, if◌then◌else◌, List, length, Option}
+use Rattle.std.specs.Prelude.{Some, None}
 use Rattle.std.specs.List.{list_all, list_any}
 use Rattle.std.specs.FinMap as finmap
 use Rattle.sd_areas.specs.PlainMemory as plain
@@ -44,23 +45,28 @@ pub record IsLoaded (frames : ℕ) (saved : PlainMemory) (contents : Contents) :
   pub pool : contents.pool ≡ frames
   pub memory : plain_of contents ≡ saved
   pub begins : IsBeginning contents
-  pub zeros : (space number : ℕ) (page : Page) → page_at contents space number ≡ Some page → is_zero_page page.bytes ≡ true → page.class ≡ None
-  pub alone : (space number : ℕ) (page : Page) → page_at contents space number ≡ Some page → is_zero_page page.bytes ≡ false → is_alone contents page ≡ true
+  pub zeros : (space number : ℕ) (page : Page) → page_at contents space number ≡ Some page
+      → is_zero_page page.bytes ≡ true → page.class ≡ None
+  pub alone : (space number : ℕ) (page : Page) → page_at contents space number ≡ Some page
+      → is_zero_page page.bytes ≡ false → is_alone contents page ≡ true
 
 -- ---- one page more
 
 -- a page of a snapshot, in a class or in none
 abbrev pub loaded_page : plain.Page → Option ℕ → Page
-loaded_page page class = record { prot = page.prot; bytes = page.bytes; class = class; writable = false; soft_dirty = true }
+loaded_page page class =
+    record { prot = page.prot; bytes = page.bytes; class = class; writable = false; soft_dirty = true }
 
 -- the class of such a page: none for zeros, else one of the pool that has no page
 abbrev pub IsClassFor : Contents → plain.Page → Option ℕ → Type 0
 IsClassFor contents page None = is_zero_page page.bytes ≡ true
-IsClassFor contents page (Some class) = (is_zero_page page.bytes ≡ false) × (members contents class ≡ 0) × (class < contents.pool)
+IsClassFor contents page (Some class) =
+    (is_zero_page page.bytes ≡ false) × (members contents class ≡ 0) × (class < contents.pool)
 
 -- a space has one more page of a snapshot
 abbrev pub Loads : Contents → ℕ → ℕ → plain.Page → Contents → Type 0
-Loads old space number page new = (class : Option ℕ) × IsClassFor old page class × (new ≡ put_page old space number (loaded_page page class))
+Loads old space number page new =
+    (class : Option ℕ) × IsClassFor old page class × (new ≡ put_page old space number (loaded_page page class))
 
 -- a page without a class gets one that has no page, and these bytes
 abbrev pub GivesFrame : Contents → ℕ → ℕ → Page → List ℕ → Contents → Type 0
@@ -70,6 +76,8 @@ GivesFrame old space number before bytes new = (class : ℕ) × (members old cla
 -- so far each page is as it begins, and as many classes have a page as pages aren't all zeros
 pub record IsBegun (contents : Contents) : Type 0 where
   pub begins : IsBeginning contents
-  pub zeros : (space number : ℕ) (page : Page) → page_at contents space number ≡ Some page → is_zero_page page.bytes ≡ true → page.class ≡ None
-  pub alone : (space number : ℕ) (page : Page) → page_at contents space number ≡ Some page → is_zero_page page.bytes ≡ false → is_alone contents page ≡ true
+  pub zeros : (space number : ℕ) (page : Page) → page_at contents space number ≡ Some page
+      → is_zero_page page.bytes ≡ true → page.class ≡ None
+  pub alone : (space number : ℕ) (page : Page) → page_at contents space number ≡ Some page
+      → is_zero_page page.bytes ≡ false → is_alone contents page ≡ true
   pub used : length (classes contents) ≡ nonzero_pages (plain_of contents)

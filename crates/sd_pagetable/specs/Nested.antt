@@ -15,7 +15,8 @@ map_values f table = map_entries (λ _ x. f x) table
 
 -- every page of a run has this, and every other page is as before
 unfoldable pub set_within : {X : Type 0} → Table X → ℕ → ℕ → X → Table X
-set_within table first count x = finmap.from_entries (map (λ page. (page, x)) (pages_from first count) ++ finmap.entries table)
+set_within table first count x =
+    finmap.from_entries (map (λ page. (page, x)) (pages_from first count) ++ finmap.entries table)
 
 -- no page of a run is there, and every other page is as before
 unfoldable pub remove_within : {X : Type 0} → Table X → ℕ → ℕ → Table X
@@ -23,7 +24,8 @@ remove_within table first count = finmap.retain_keys table (λ page. not (is_wit
 
 -- every page of a run that is there is changed, and every other page is as before
 unfoldable pub change_within : {X : Type 0} → (X → X) → Table X → ℕ → ℕ → Table X
-change_within change table first count = map_entries (λ page x. if is_within first count page then change x else x) table
+change_within change table first count =
+    map_entries (λ page x. if is_within first count page then change x else x) table
 
 -- what the values weigh together
 unfoldable pub total : {X : Type 0} → (X → ℕ) → Table X → ℕ
@@ -35,4 +37,5 @@ total_within weight nested = total (total weight) nested
 
 -- every page of a run that isn't there gets this, and every other page is as before
 unfoldable pub fill_within : {X : Type 0} → Table X → ℕ → ℕ → X → Table X
-fill_within table first count x = finmap.from_entries (finmap.entries table ++ map (λ page. (page, x)) (pages_from first count))
+fill_within table first count x =
+    finmap.from_entries (finmap.entries table ++ map (λ page. (page, x)) (pages_from first count))

@@ -23,17 +23,20 @@ pub record TakesFrame (old new : Pool) (frame : Option ℕ) (own : ℕ) : Type 0
 
 -- the entry keeps its frame, or takes a free one
 abbrev pub OwnsFrame : Pool → Pool → Option ℕ → ℕ → Type 0
-OwnsFrame old new frame own = ((is_own old frame ≡ true) × (frame ≡ Some own) × (new ≡ old)) ⊎ ((is_own old frame ≡ false) × TakesFrame old new frame own)
+OwnsFrame old new frame own = ((is_own old frame ≡ true) × (frame ≡ Some own) × (new ≡ old))
+    ⊎ ((is_own old frame ≡ false) × TakesFrame old new frame own)
 
 -- why no new frame was made: there is no memory for a free one, or none is free
 abbrev pub FailsToTake : Pool → MemoryError → Type 0
-FailsToTake pool error = ((error ≡ OutOfMemory) × HasFree pool) ⊎ ((error ≡ DeniedError (Refused NoFrame)) × IsExhausted pool)
+FailsToTake pool error =
+    ((error ≡ OutOfMemory) × HasFree pool) ⊎ ((error ≡ DeniedError (Refused NoFrame)) × IsExhausted pool)
 
 -- one entry less has a frame, if there is one
 pub record ReleasesFrame (old new : Pool) (frame : Option ℕ) : Type 0 where
   pub size : new.size ≡ old.size
   pub count : (number : ℕ) → frame ≡ Some number → count_at new number + 1 ≡ count_at old number
-  pub bytes : (number : ℕ) → frame ≡ Some number → (count_at old number ≡ 1 → ⊥) → bytes_at new number ≡ bytes_at old number
+  pub bytes : (number : ℕ) → frame ≡ Some number → (count_at old number ≡ 1 → ⊥)
+      → bytes_at new number ≡ bytes_at old number
   pub used : (number : ℕ) (cell : Cell) → frame ≡ Some number → cell_at new number ≡ Some cell → 0 < cell.count
   pub others : (number : ℕ) → (frame ≡ Some number → ⊥) → cell_at new number ≡ cell_at old number
 

@@ -8,7 +8,8 @@ use Rattle.sd_tables.specs.declared.run_change.RunChange.{RunChange}
 use Rattle.sd_tables.specs.declared.run_change.RunChange.TheVariants.{Renew, Protect}
 unfoldable pub use Rattle.sd_frames.specs.Bytes.{zeros}
 
--- its permissions, its bytes, the number of its frame class (none where no frame was needed yet), and the two bits of its entry
+-- its permissions, its bytes, the number of its frame class (none where no frame was needed yet), and the two bits of
+-- its entry
 pub record Page : Type 0 where
   pub prot : Prot
   pub bytes : List ℕ
@@ -47,7 +48,8 @@ inherited_page page = record page { writable = false; soft_dirty = true }
 
 -- a page after an accepted fault or store: writable, soft-dirty, in a class with these bytes
 abbrev pub writable_page : Page → ℕ → List ℕ → Page
-writable_page page class bytes = record { prot = page.prot; bytes = bytes; class = Some class; writable = true; soft_dirty = true }
+writable_page page class bytes =
+    record { prot = page.prot; bytes = bytes; class = Some class; writable = true; soft_dirty = true }
 
 -- after a store to a writable page
 abbrev pub stored_page : Page → List ℕ → Page
@@ -55,5 +57,8 @@ stored_page page bytes = record page { bytes = bytes }
 
 -- how pages are stored as values
 abbrev pub page_code : Coded Page
-page_code = code_by (Prot × (List ℕ × (Option ℕ × (Bool × Bool)))) (coded× prot_code (coded× (coded_list coded_ℕ) (coded× (coded_option coded_ℕ) (coded× coded_bool coded_bool))))
-    (λ p. (p.prot, (p.bytes, (p.class, (p.writable, p.soft_dirty))))) (λ t. record { prot = t.0; bytes = t.1.0; class = t.1.1.0; writable = t.1.1.1.0; soft_dirty = t.1.1.1.1 }) (λ _. refl)
+page_code = code_by (Prot × (List ℕ × (Option ℕ × (Bool × Bool))))
+    (coded× prot_code (coded× (coded_list coded_ℕ) (coded× (coded_option coded_ℕ) (coded× coded_bool coded_bool))))
+    (λ p. (p.prot, (p.bytes, (p.class, (p.writable, p.soft_dirty)))))
+    (λ t. record { prot = t.0; bytes = t.1.0; class = t.1.1.0; writable = t.1.1.1.0; soft_dirty = t.1.1.1.1 })
+    (λ _. refl)

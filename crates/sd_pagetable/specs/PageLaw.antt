@@ -4,8 +4,8 @@ use Rattle.sd_pagetable.specs.Page.{Page}
 use Rattle.sd_pagetable.specs.Contents.{Contents, page_at, IsSound}
 use Rattle.sd_pagetable.specs.Tracking.{Event, Step, touches, clears, makes_writable, write_protects}
 
--- The page was there. It is dirty if the event touches it or it was, unless the event clears it; it is writable if the event
--- makes it so or it was, unless the event write-protects it; and its bytes changed only if the event touches it.
+-- The page was there. It is dirty if the event touches it or it was, unless the event clears it; it is writable if the
+-- event makes it so or it was, unless the event write-protects it; and its bytes changed only if the event touches it.
 pub record IsChangedBy (event : Event) (space number : ℕ) (before after : Page) : Type 0 where
   pub soft_dirty : after.soft_dirty
       ≡ (if clears space number event then false else touches space number event || before.soft_dirty)
@@ -42,4 +42,5 @@ clean_at contents space number = clean_bytes (page_at contents space number)
 -- a page that is clean after an event other than its own clear was clean before, with the same bytes
 abbrev pub CleanLaw : Type 0
 CleanLaw = (old new : Contents) (event : Event) (space number : ℕ) (bytes : List ℕ) → IsSound old → Step old event new
-    → clears space number event ≡ false → clean_at new space number ≡ Some bytes → clean_at old space number ≡ Some bytes
+    → clears space number event ≡ false → clean_at new space number ≡ Some bytes
+    → clean_at old space number ≡ Some bytes

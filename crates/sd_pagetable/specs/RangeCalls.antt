@@ -26,7 +26,8 @@ pages_due contents = if nat_lt 65536 (page_count contents.spaces) then Some (Ref
 
 -- a space has these areas, and the others theirs
 abbrev pub HasPut : BTreeMap ℕ PageMap → BTreeMap ℕ PageMap → ℕ → PageMap → Type 0
-HasPut old new space own = (other : ℕ) → get nat_cmp new other ≡ (if other == space then Some own else get nat_cmp old other)
+HasPut old new space own =
+    (other : ℕ) → get nat_cmp new other ≡ (if other == space then Some own else get nat_cmp old other)
 
 -- each space has its areas
 abbrev pub HasSame : BTreeMap ℕ PageMap → BTreeMap ℕ PageMap → Type 0

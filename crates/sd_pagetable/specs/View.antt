@@ -9,7 +9,13 @@ use Rattle.sd_pagetable.specs.Contents.{Contents, page_at, members, IsSound, pag
 
 -- an entry with its frame, as a page; the class is the frame's number
 abbrev pub page_of_entry : Pool → Entry → Page
-page_of_entry pool entry = record { prot = entry.prot; bytes = frame_bytes pool entry.frame; class = entry.frame; writable = entry.writable; soft_dirty = entry.soft_dirty }
+page_of_entry pool entry = record {
+  prot = entry.prot;
+  bytes = frame_bytes pool entry.frame;
+  class = entry.frame;
+  writable = entry.writable;
+  soft_dirty = entry.soft_dirty;
+}
 
 -- the entry of a page
 abbrev pub entry_of : Page → Entry

@@ -6,14 +6,14 @@ ghost use Rattle.sd_pagetable.specs.EventEffects.{EffectLaw};
 
 /// After every list of calls and clears a mapped page is soft-dirty exactly where something since its last clear
 /// touched it, or it was never cleared; it is writable exactly where a fault or store was accepted at it and nothing
-/// since write-protected it; and a try of a store that is permitted needs a fault exactly where the page isn't writable.
-/// After the kernel document `soft-dirty`.
+/// since write-protected it; and a try of a store that is permitted needs a fault exactly where the page isn't
+/// writable. After the kernel document `soft-dirty`.
 pub fn tracking_law()
     ensures { TrackingLaw }
 {}
 
-/// The law by one event: a memory that begins has the bits of the empty history, and one event more keeps the bits those
-/// that the history says. A caller that makes one call after the other needs no memory of the start.
+/// The law by one event: a memory that begins has the bits of the empty history, and one event more keeps the bits
+/// those that the history says. A caller that makes one call after the other needs no memory of the start.
 pub fn tracks_law()
     ensures { TracksLaw }
 {}

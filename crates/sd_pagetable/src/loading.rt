@@ -1,5 +1,6 @@
 //! A memory that begins with a snapshot's pages.
-ghost use Rattle.std.specs.Prelude.{◌≡◌, ◌⊎◌, ◌+◌, ◌≤◌, ℕ, ◌==◌, true, false, nat_lt, IsTrue, Some, None, Ok, Err, IfOk, IfErr, OnOk};
+ghost use Rattle.std.specs.Prelude.{◌≡◌, ◌⊎◌, ◌+◌, ◌≤◌, ℕ, ◌==◌, true, false, nat_lt, IsTrue, Some, None, Ok, Err};
+ghost use Rattle.std.specs.Prelude.{IfOk, IfErr, OnOk};
 ghost use Rattle.std.specs.Ordering.{nat_cmp};
 ghost use Rattle.std.specs.BTreeMap.{get};
 ghost use Rattle.std.specs.List.{list_any};
@@ -15,7 +16,8 @@ ghost use Rattle.sd_pagetable.specs.Nested.{inside, is_alive, total};
 ghost use Rattle.sd_pagetable.specs.Contents.{page_count, plain_of};
 ghost use Rattle.sd_pagetable.specs.Page.{zeros};
 ghost use Rattle.sd_pagetable.specs.Due.{Answers, prots_in};
-ghost use Rattle.sd_pagetable.specs.Loaded.{is_zero_page, frames_for, nonzero_pages, is_over_in_space, snapshot_due, IsBegun, IsLoaded};
+ghost use Rattle.sd_pagetable.specs.Loaded.{is_zero_page, frames_for, nonzero_pages, is_over_in_space, snapshot_due};
+ghost use Rattle.sd_pagetable.specs.Loaded.{IsBegun, IsLoaded};
 
 use crate::fork_calls::add_areas;
 use crate::memory_error::MemoryError;

@@ -52,8 +52,10 @@ impl Memory {
     ghost use Rattle.sd_areas.specs.Memory.{memory_of};
     ghost use Rattle.sd_pagetable.specs.Nested.{inside, is_alive};
     ghost use Rattle.sd_pagetable.specs.Contents.{page_count, plain_of, AreWhole, IsSound};
-    ghost use Rattle.sd_pagetable.specs.Effects.{after_mmap, after_munmap, after_mprotect, after_fork, after_exit, IsLeastFree};
-    ghost use Rattle.sd_pagetable.specs.Due.{answer, Answers, prots_in, mmap_due, munmap_due, mprotect_due, fork_due, exit_due};
+    ghost use Rattle.sd_pagetable.specs.Effects.{after_mmap, after_munmap, after_mprotect, after_fork, after_exit};
+    ghost use Rattle.sd_pagetable.specs.Effects.{IsLeastFree};
+    ghost use Rattle.sd_pagetable.specs.Due.{answer, Answers, prots_in, mmap_due, munmap_due, mprotect_due, fork_due};
+    ghost use Rattle.sd_pagetable.specs.Due.{exit_due};
     ghost use Rattle.sd_pagetable.specs.Tracking.{Step, IsBeginning, Mapped, Unmapped, Protected, Forked, Exited};
     ghost use Rattle.sd_pagetable.specs.RangeCalls.{IsRangeIn};
     ghost use Rattle.sd_pagetable.specs.Kept.{prots_of};

@@ -3,7 +3,8 @@
 //! What can fail comes first. `munmap` and `mprotect` change the areas and then the pages. `mmap`
 //! maps the pages that are missing, changes the areas, and makes each page a fresh one; where the
 //! areas can't change, it unmaps those pages again.
-ghost use Rattle.std.specs.Prelude.{◌≡◌, ◌≢◌, ◌⊎◌, ◌+◌, ◌-◌, ◌<◌, ◌≤◌, ◌^◌, ℕ, ◌==◌, if◌then◌else◌, true, false, not, is_some, count_by, None, Some, Ok, Err, IsSome, IfOk, IfErr, OnOk, OnErr, IfSome};
+ghost use Rattle.std.specs.Prelude.{◌≡◌, ◌≢◌, ◌⊎◌, ◌+◌, ◌-◌, ◌<◌, ◌≤◌, ◌^◌, ℕ, ◌==◌, if◌then◌else◌, true, false, not};
+ghost use Rattle.std.specs.Prelude.{is_some, count_by, None, Some, Ok, Err, IsSome, IfOk, IfErr, OnOk, OnErr, IfSome};
 ghost use Rattle.std.specs.Ordering.{nat_cmp};
 ghost use Rattle.std.specs.BTreeMap.{get};
 ghost use Rattle.std.specs.FinMap as finmap;
@@ -16,7 +17,8 @@ ghost use Rattle.sd_pagetable.specs.declared.memory_refusal.MemoryRefusal.TheVar
 ghost use Rattle.sd_pagetable.specs.Nested.{inside, is_alive, set_within, change_within, fill_within};
 ghost use Rattle.sd_pagetable.specs.Page.{Page, fresh_page, protected_page};
 ghost use Rattle.sd_pagetable.specs.Contents.{Contents, page_at, page_count, plain_of};
-ghost use Rattle.sd_pagetable.specs.Due.{Answers, answer, or_else, area_due, in_space, prots_in, mmap_due, munmap_due, mprotect_due};
+ghost use Rattle.sd_pagetable.specs.Due.{Answers, answer, or_else, area_due, in_space, prots_in, mmap_due, munmap_due};
+ghost use Rattle.sd_pagetable.specs.Due.{mprotect_due};
 ghost use Rattle.sd_pagetable.specs.Effects.{after_mmap, after_munmap, after_mprotect};
 ghost use Rattle.sd_pagetable.specs.Kept.{HasAreas, prots_of};
 ghost use Rattle.sd_pagetable.specs.RangeCalls.{IsRangeIn, Refuses, HasPut, HasSame, pages_due};

@@ -1,8 +1,10 @@
 //! Runs of pages, mapped, unmapped and protected, and the pages of a child.
-ghost use Rattle.std.specs.Prelude.{◌≡◌, ◌+◌, ◌-◌, ◌<◌, ◌≤◌, ◌^◌, ◌&&◌, ℕ, ◌==◌, true, false, not, cond, None, Some, is_some, IsSome, IfSome, IfOk, OnOk, OnErr, count_by};
+ghost use Rattle.std.specs.Prelude.{◌≡◌, ◌+◌, ◌-◌, ◌<◌, ◌≤◌, ◌^◌, ◌&&◌, ℕ, ◌==◌, true, false, not, cond, None, Some};
+ghost use Rattle.std.specs.Prelude.{is_some, IsSome, IfSome, IfOk, OnOk, OnErr, count_by};
 ghost use Rattle.std.specs.FinMap as finmap;
 ghost use Rattle.sd_areas.specs.Pages.{pages_from, is_within};
-ghost use Rattle.sd_pagetable.specs.Nested.{inside, is_alive, set_within, remove_within, change_within, fill_within, map_values};
+ghost use Rattle.sd_pagetable.specs.Nested.{inside, is_alive, set_within, remove_within, change_within, fill_within};
+ghost use Rattle.sd_pagetable.specs.Nested.{map_values};
 ghost use Rattle.sd_pagetable.specs.Page.{Page, fresh_page, protected_page, shared_page, inherited_page};
 ghost use Rattle.sd_pagetable.specs.Contents.{page_at, put_page, page_count};
 ghost use Rattle.sd_pagetable.specs.Ranges.{bare_page, IsCleared};

@@ -1,5 +1,6 @@
 -- What a write to `clear_refs` does.
-use Rattle.std.specs.Prelude.{◌≡◌, ◌≢◌, ◌<◌, ◌≤◌, ◌==◌, ℕ, Bool, not, ◌||◌, ◌∷◌, ◌++◌, [], List, map, codes, bytes_eq, if◌then◌else◌, Option, Some, None, IsSome, is_some, Result, Ok, Err}
+use Rattle.std.specs.Prelude.{◌≡◌, ◌≢◌, ◌<◌, ◌≤◌, ◌==◌, ℕ, Bool, not, ◌||◌, ◌∷◌, ◌++◌, [], List, map, codes, bytes_eq}
+use Rattle.std.specs.Prelude.{if◌then◌else◌, Option, Some, None, IsSome, is_some, Result, Ok, Err}
 use Rattle.std.specs.List.{AllByRecursion, list_any}
 use Rattle.std.specs.Option.{option_map}
 use Rattle.sd_pagetable.specs.Nested.{is_alive}
@@ -35,8 +36,8 @@ AreFalling (page ∷ pages) = AllByRecursion (λ other. other < page) pages × A
 abbrev pub is_among : List ℕ → ℕ → Bool
 is_among pages page = list_any (λ other. other == page) pages
 
--- One clear for each mapped page of the space, and nothing else, leads from one memory to the other. The clears rise by page:
--- a history has the newest first, so the pages fall in it.
+-- One clear for each mapped page of the space, and nothing else, leads from one memory to the other. The clears rise by
+-- page: a history has the newest first, so the pages fall in it.
 pub record IsHistory (space : ℕ) (old new : Contents) (pages : List ℕ) : Type 0 where
   pub falls : AreFalling pages
   pub each : (page : ℕ) → is_among pages page ≡ is_some (page_at old space page)

@@ -12,7 +12,8 @@ address_text address = codes "0x" ++ digits 16 false address
 
 -- `area FIRST END PERMISSIONS`: its first address, the first behind it, and `rwx` with a `-` for each that is missing
 abbrev pub area_line : Area → List ℕ
-area_line area = codes "area " ++ address_text (4096 * area.first) ++ codes " " ++ address_text (4096 * (area.first + area.count))
+area_line area =
+    codes "area " ++ address_text (4096 * area.first) ++ codes " " ++ address_text (4096 * (area.first + area.count))
     ++ codes " " ++ prot_text area.prot ++ 10 ∷ []
 
 -- a line for each area, rising

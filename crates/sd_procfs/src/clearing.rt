@@ -8,9 +8,9 @@ use crate::clear_error::ClearError;
 use sd_areas::{PageNo, SpaceId};
 use sd_pagetable::{Memory, clear_law};
 
-/// Takes a text that was written to the `clear_refs` of a space: `4`, also with a newline, clears the soft-dirty and the
-/// writable bit of each mapped page, one page after the other, as the kernel document `soft-dirty` says. It takes no
-/// memory.
+/// Takes a text that was written to the `clear_refs` of a space: `4`, also with a newline, clears the soft-dirty and
+/// the writable bit of each mapped page, one page after the other, as the kernel document `soft-dirty` says. It takes
+/// no memory.
 ///
 /// # Errors
 ///

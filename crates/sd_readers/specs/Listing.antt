@@ -14,7 +14,8 @@ kind_text Merged = codes "merged"
 
 -- the line of an image: its slot, its kind and its numbers
 abbrev pub image_line : Opened → List ℕ
-image_line i = codes "slot " ++ slot_text i.slot ++ codes " " ++ kind_text i.header.kind ++ codes " serial " ++ decimal i.header.serial
+image_line i = codes "slot " ++ slot_text i.slot ++ codes " " ++ kind_text i.header.kind ++ codes " serial " ++ decimal
+    i.header.serial
     ++ codes " stands " ++ decimal i.header.stands_for ++ codes " parent " ++ decimal i.header.parent
     ++ codes " checkpoint " ++ decimal i.header.checkpoint ++ codes " pages " ++ decimal i.header.pages ++ 10 ∷ []
 

@@ -42,4 +42,5 @@ Prints reader.Verify = PrintsVerdict
 
 -- nothing yet, or a beginning of the text of the contents: the text that a program prints of them where none was before
 abbrev pub BeginsToPrint : Reader → List (List ℕ) → Option (List ℕ) → Option (List ℕ) → Type 0
-BeginsToPrint reader contents before after = Keeps before after ⊎ ((text : List ℕ) × Prints reader contents (Some []) (Some text) × Begins before after text)
+BeginsToPrint reader contents before after =
+    Keeps before after ⊎ ((text : List ℕ) × Prints reader contents (Some []) (Some text) × Begins before after text)

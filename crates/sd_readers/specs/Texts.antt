@@ -1,5 +1,6 @@
 -- The lines that a store is printed as.
-use Rattle.std.specs.Prelude.{ℕ, ◌+◌, ◌*◌, ◌==◌, if◌then◌else◌, List, [], ◌∷◌, ◌++◌, codes, Option, Some, None, slice_range, filter}
+use Rattle.std.specs.Prelude.{ℕ, ◌+◌, ◌*◌, ◌==◌, if◌then◌else◌, List, [], ◌∷◌, ◌++◌, codes, Option, Some, None}
+use Rattle.std.specs.Prelude.{slice_range, filter}
 use Rattle.std.specs.List.{flat_map, list_all, range_with_len}
 use Rattle.std.specs.Fmt.{decimal}
 use Rattle.std.specs.FinMap as finmap
@@ -48,23 +49,29 @@ placed_text contents p = page_text (4096 * p.page) (bytes_at contents p.there)
 
 -- those of the pages of one space, among others
 abbrev pub placed_lines : List (List ℕ) → ℕ → List PlacedPage → List ℕ
-placed_lines contents space pages = flat_map (placed_text contents) (filter (λ (p : PlacedPage). p.space == space) pages)
+placed_lines contents space pages =
+    flat_map (placed_text contents) (filter (λ (p : PlacedPage). p.space == space) pages)
 
 abbrev pub placed_space_text : List (List ℕ) → List PlacedPage → Listed → List ℕ
-placed_space_text contents pages s = codes "space " ++ decimal s.space ++ 10 ∷ [] ++ flat_map area_line s.areas ++ placed_lines contents s.space pages
+placed_space_text contents pages s =
+    codes "space " ++ decimal s.space ++ 10 ∷ [] ++ flat_map area_line s.areas ++ placed_lines contents s.space pages
 
 abbrev pub placed_memory_text : List (List ℕ) → ℕ → List Listed → List PlacedPage → List ℕ
-placed_memory_text contents checkpoint spaces pages = codes "checkpoint " ++ decimal checkpoint ++ 10 ∷ [] ++ flat_map (placed_space_text contents pages) spaces
+placed_memory_text contents checkpoint spaces pages =
+    codes "checkpoint " ++ decimal checkpoint ++ 10 ∷ [] ++ flat_map (placed_space_text contents pages) spaces
 
 -- so many pages of a run from one on
 abbrev pub part_of_run : List (List ℕ) → PlacedRun → ℕ → ℕ → List ℕ
-part_of_run contents r behind count = flat_map (λ k. placed_text contents (page_behind r (behind + k))) (range_with_len 0 count)
+part_of_run contents r behind count =
+    flat_map (λ k. placed_text contents (page_behind r (behind + k))) (range_with_len 0 count)
 
 -- pages that lie one behind the other in bytes that were read
 abbrev pub pages_text : ℕ → List ℕ → ℕ → List ℕ
-pages_text first bytes count = flat_map (λ k. page_text (4096 * (first + k)) (slice_range bytes (4096 * k) (4096 * k + 4096))) (range_with_len 0 count)
+pages_text first bytes count = flat_map
+    (λ k. page_text (4096 * (first + k)) (slice_range bytes (4096 * k) (4096 * k + 4096))) (range_with_len 0 count)
 
 -- What `verify` prints: what is shown, and how many slots are open.
 abbrev pub verdict_text : Option (ℕ × PlainMemory) → ℕ → List ℕ
-verdict_text (Some moment) images = codes "ok checkpoint " ++ decimal moment.0 ++ codes " images " ++ decimal images ++ 10 ∷ []
+verdict_text (Some moment) images =
+    codes "ok checkpoint " ++ decimal moment.0 ++ codes " images " ++ decimal images ++ 10 ∷ []
 verdict_text None images = codes "ok empty" ++ 10 ∷ []

@@ -7,8 +7,8 @@ use sd_disk::Disk;
 use sd_exit::Output;
 use std::io::Write;
 
-/// Prints what `restore_to`, `list_to` or `verify_to` printed of a disk into a vector, and flushes; returns the exit status
-/// that it answered, or 1 where anything was refused.
+/// Prints what `restore_to`, `list_to` or `verify_to` printed of a disk into a vector, and flushes; returns the exit
+/// status that it answered, or 1 where anything was refused.
 pub fn print_held<D: Disk, W: Write>(_disk: &D, text: &[u8], status: u8, out: &mut Output<W>) -> u8
     ensures answers { (reader : Reader)
         → Answers reader (D.is_honest _disk.now) (D.contents _disk.now) (Some []) (Some text.now) false status

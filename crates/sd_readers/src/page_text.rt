@@ -1,6 +1,7 @@
 //! The lines that `restore` prints of a page.
 
-ghost use Rattle.std.specs.Prelude.{◌≡◌, ◌+◌, ◌≤◌, ◌<◌, ◌^◌, ◌==◌, ◌++◌, [], ◌∷◌, codes, length, take, drop, true, OnOk, OnErr};
+ghost use Rattle.std.specs.Prelude.{◌≡◌, ◌+◌, ◌≤◌, ◌<◌, ◌^◌, ◌==◌, ◌++◌, [], ◌∷◌, codes, length, take, drop, true};
+ghost use Rattle.std.specs.Prelude.{OnOk, OnErr};
 ghost use Rattle.std.specs.List.{list_all};
 ghost use Rattle.std.specs.Io.KnownBytes.{Appends};
 ghost use Rattle.sd_readers.specs.Texts.{bytes_line, line_text, page_text};
@@ -86,8 +87,8 @@ fn are_zeros(bytes: &[u8]) -> bool
     ones == 0
 }
 
-/// Puts a line at a place of a text, and returns where it ends. Its address is put behind the place of the zeros before it,
-/// and those are left out.
+/// Puts a line at a place of a text, and returns where it ends. Its address is put behind the place of the zeros before
+/// it, and those are left out.
 fn put_line(text: &mut [u8; PAGE_LEN], place: usize, address: u64, bytes: &[u8]) -> usize
     requires bytes { length bytes.now ≡ 32 }
     requires room { place + 90 ≤ 11520 }

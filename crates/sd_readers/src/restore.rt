@@ -1,5 +1,6 @@
 //! `ckpt restore`: printing the memory that a store shows.
-ghost use Rattle.std.specs.Prelude.{◌≡◌, ◌≢◌, ◌<◌, ◌≤◌, ◌^◌, ◌+◌, ◌*◌, ◌/◌, ℕ, true, false, None, Some, Err, All, length, map, flat_map, IfErr, IfOk, OnErr, OnOk};
+ghost use Rattle.std.specs.Prelude.{◌≡◌, ◌≢◌, ◌<◌, ◌≤◌, ◌^◌, ◌+◌, ◌*◌, ◌/◌, ℕ, true, false, None, Some, Err, All};
+ghost use Rattle.std.specs.Prelude.{length, map, flat_map, IfErr, IfOk, OnErr, OnOk};
 ghost use Rattle.std.specs.Io.KnownBytes.{Appends};
 ghost use Rattle.sd_areas.specs.Areas.{AreMaximal};
 ghost use Rattle.sd_disk.specs.Reads.{OnlyReads};
@@ -16,7 +17,8 @@ ghost use Rattle.sd_readers.specs.Ending.{IsOutside, ShowsMemory, StandsAlone};
 ghost use Rattle.sd_readers.specs.Printed.{BeginsToPrint, PrintsMemory};
 ghost use Rattle.sd_readers.specs.Reading.{Answers};
 ghost use Rattle.sd_areas.specs.PlainMemory.{PlainMemory};
-ghost use Rattle.sd_readers.specs.Texts.{memory_text, pages_text, part_of_run, placed_lines, placed_memory_text, placed_space_text, placed_text};
+ghost use Rattle.sd_readers.specs.Texts.{memory_text, pages_text, part_of_run, placed_lines, placed_memory_text};
+ghost use Rattle.sd_readers.specs.Texts.{placed_space_text, placed_text};
 
 use crate::page_text::print_page;
 use crate::steady::{Reader, print_steady};
@@ -34,8 +36,8 @@ use std::io::Write;
 /// How many pages are read at once.
 const BUFFER_PAGES: usize = 16;
 
-/// Prints the memory that a store shows, or why it shows none, flushes, and returns the exit status: 0, 3 where nothing was
-/// saved, and else 1. What is printed is of one moment of the store, also where a run writes it meanwhile.
+/// Prints the memory that a store shows, or why it shows none, flushes, and returns the exit status: 0, 3 where nothing
+/// was saved, and else 1. What is printed is of one moment of the store, also where a run writes it meanwhile.
 pub fn restore_to<D: Disk, W: Write>(alloc: Global, disk: &mut D, out: &mut Output<W>) -> u8
     // Status 0 only where the store shows a memory, and 3 only where it shows that nothing was saved.
     ensures shown { D.is_honest disk.new → result ≡ 0 → ShowsMemory (D.contents disk.old) }

@@ -17,6 +17,7 @@ pub record AreNoted (receipts : List Receipt) (last : List (Option ℕ)) : Type 
   pub room : length last ≡ 1000
   -- a seat with a number has a receipt with it, and none with a greater one
   pub has : (seat number : ℕ) → slice_get last seat ≡ Some (Some number)
-      → (k : ℕ) × (receipt : Receipt) × (slice_get receipts k ≡ Some receipt) × (receipt.seat ≡ seat) × (receipt.number ≡ number)
+      → (k : ℕ) × (receipt : Receipt) × (slice_get receipts k ≡ Some receipt) × (receipt.seat ≡ seat)
+      × (receipt.number ≡ number)
   pub most : (k : ℕ) (receipt : Receipt) → slice_get receipts k ≡ Some receipt → receipt.seat < 1000
       → (number : ℕ) × (slice_get last receipt.seat ≡ Some (Some number)) × (receipt.number ≤ number)

@@ -1,6 +1,7 @@
 //! Checking a journal against what the seats and the worker were told.
 ghost use Rattle.std.specs.Prelude.{◌≡◌, ◌↔◌, ◌+◌, ◌<◌, ℕ, false, length, IsOk, IsTrue, IfErr, OnOk, MatchOption};
-ghost use Rattle.sd_journal.specs.Receipts.{Accounts, AllStand, AreRising, IsAt, IsFault, IsFaultAfter, IsFaultAt, Stands, acked_numbers, command_count, is_command};
+ghost use Rattle.sd_journal.specs.Receipts.{Accounts, AllStand, AreRising, IsAt, IsFault, IsFaultAfter, IsFaultAt};
+ghost use Rattle.sd_journal.specs.Receipts.{Stands, acked_numbers, command_count, is_command};
 ghost use Rattle.sd_journal.specs.declared.entry.Entry.{Entry as Told};
 ghost use Rattle.sd_receipts.specs.Noted.{AreNoted, Rises};
 ghost use Rattle.sd_receipts.specs.InTime.{in_time};

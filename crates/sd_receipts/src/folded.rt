@@ -21,8 +21,8 @@ impl Folded {
     ///
     /// # Errors
     ///
-    /// The first fault: through the receipts in the order given, for each `NotThere`, then `Differs`, then `OutOfOrder`;
-    /// then `Count`; last `Acks`.
+    /// The first fault: through the receipts in the order given, for each `NotThere`, then `Differs`, then
+    /// `OutOfOrder`; then `Count`; last `Acks`.
     pub fn check(&self, receipts: &[Receipt], acks: &[u64]) -> Result<(), CloseFault>
         ensures exact { IsOk result
             ↔ Accounts self.now.first self.now.entries.items receipts.now acks.now }

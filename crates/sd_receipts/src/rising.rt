@@ -15,8 +15,8 @@ pub(crate) fn no_numbers() -> [Option<u64>; SEAT_LIMIT]
     [None; SEAT_LIMIT]
 }
 
-/// Whether a receipt's number is above those of its seat before it. A seat from `SEAT_LIMIT` on, which nobody hands out,
-/// has no place in `last`: its receipts are looked for one by one.
+/// Whether a receipt's number is above those of its seat before it. A seat from `SEAT_LIMIT` on, which nobody hands
+/// out, has no place in `last`: its receipts are looked for one by one.
 pub(crate) fn rises(before: &[Receipt], last: &[Option<u64>], receipt: &Receipt) -> bool
     requires { AreNoted before.now last.now }
     ensures above { IsTrue result → Rises before.now receipt.now }

@@ -14,7 +14,8 @@ total f (v ∷ views) = f v + total f views
 
 -- only the pass with the number `front` puts, and it put these tickets; a pass with no part took nothing
 abbrev pub Fits : ℕ → List ℕ → ℕ → Hand → Type 0
-Fits front put pass v = (v.puts ≡ true → (pass ≡ front) × (v.put ≡ put)) × (v.puts ≡ false → v.put ≡ []) × (v.parts ≡ 0 → v.taken ≡ [])
+Fits front put pass v =
+    (v.puts ≡ true → (pass ≡ front) × (v.put ≡ put)) × (v.puts ≡ false → v.put ≡ []) × (v.parts ≡ 0 → v.taken ≡ [])
 
 -- what holds of the messages in the queue, oldest first, and of what the passes have done
 pub record Relays (messages : List Message) (views : List Hand) : Type 0 where

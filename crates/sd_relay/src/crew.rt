@@ -89,7 +89,8 @@ fn start<'s, E, R: Threads + Wait + Sync, W: Writer + Sync>(
     }
 }
 
-/// Starts so many writers, numbered on from those that were made, lets the feeder feed, and takes in what each writer took.
+/// Starts so many writers, numbered on from those that were made, lets the feeder feed, and takes in what each writer
+/// took.
 pub(crate) fn crew<'s, E, R: Threads + Wait + Sync, F: Feeder, W: Writer + Sync>(
     room: &'s Room<R, W>,
     scope: &Scope<'s, E>,

@@ -58,8 +58,10 @@ pub fn relay<R: Threads + Wait + Sync, F: Feeder, W: Writer + Sync>(
         thread::scope_env(),
         rt,
         move |scope| -> (Front, &mut F)
-            requires { (receives_on receiver ≡ sends_on front.sender) × (hand_of front ≡ hand all_parts true [] []) × (count < all_parts) }
-            ensures { ((hand_of result.0).parts ≡ all_parts) × F.fed feeder.entry.now result.1.now × F.has_put result.1.now (put_into result.0) × (result.1.ghost_name ≡ feeder.entry.ghost_name) }
+            requires { (receives_on receiver ≡ sends_on front.sender) × (hand_of front ≡ hand all_parts true [] [])
+                × (count < all_parts) }
+            ensures { ((hand_of result.0).parts ≡ all_parts) × F.fed feeder.entry.now result.1.now
+                × F.has_put result.1.now (put_into result.0) × (result.1.ghost_name ≡ feeder.entry.ghost_name) }
         {
             let mut front = front;
             crew(shared, scope, &mut front, receiver, 0, count, feeder);

@@ -18,11 +18,12 @@ abbrev pub digest_calls : Result Header Reason → ℕ
 digest_calls (Ok h) = pages_digested h.version h.pages
 digest_calls (Err reason) = 0
 
--- a slot: its length; its first bytes, where the file is as long as a header; where the slot is open, its table, and in version 2 its data
--- pages
+-- a slot: its length; its first bytes, where the file is as long as a header; where the slot is open, its table, and in
+-- version 2 its data pages
 abbrev pub calls_for : List ℕ → ℕ
 calls_for file =
-    if nat_lt (length file) 4096 then 1 else (if is_open file then 3 + digest_calls (header_in (slice_range file 0 4096) (length file)) else 2)
+    if nat_lt (length file) 4096 then 1
+    else (if is_open file then 3 + digest_calls (header_in (slice_range file 0 4096) (length file)) else 2)
 
 -- all slots
 abbrev pub scan_calls : List (List ℕ) → ℕ
@@ -30,4 +31,5 @@ scan_calls contents = sum_by calls_for contents
 
 -- the newest image, where the contents are a store that has one, has at most so many mapped pages
 abbrev pub HasPagesWithin : List (List ℕ) → ℕ → Type 0
-HasPagesWithin contents count = (images : List Image) (tip : Image) → IsStore contents images → IsTip images tip → length (mapped_pages tip.spaces) ≤ count
+HasPagesWithin contents count = (images : List Image) (tip : Image) → IsStore contents images → IsTip images tip
+    → length (mapped_pages tip.spaces) ≤ count

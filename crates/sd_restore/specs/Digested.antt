@@ -13,4 +13,5 @@ ClosedIsRightlyDigested = (file : List ℕ) → is_open file ≡ false → IsRig
 
 -- So are files of which each that is open is an image.
 abbrev pub StoreIsRightlyDigested : Type 0
-StoreIsRightlyDigested = (files : List (List ℕ)) (images : List Image) → OpenImages files images → AreRightlyDigested files
+StoreIsRightlyDigested =
+    (files : List (List ℕ)) (images : List Image) → OpenImages files images → AreRightlyDigested files

@@ -51,7 +51,8 @@ pub record IsFirstDouble (contents : List (List ℕ)) (slot : ℕ) : Type 0 wher
   pub image : Image
   pub opens : is_open (file_at contents slot) ≡ true
   pub is : IsImage (file_at contents slot) image
-  pub double : IsTrue (list_any (λ serial. image.header.serial == serial) (map (λ (i : Image). i.header.serial) earlier))
+  pub double : IsTrue (list_any (λ serial. image.header.serial == serial)
+      (map (λ (i : Image). i.header.serial) earlier))
 
 -- all open slots are images, and this is the first whose serial an earlier one has
 pub record IsDoubleSerial (contents : List (List ℕ)) (slot : ℕ) (reason : Reason) : Type 0 where
@@ -73,7 +74,8 @@ pub record IsFirstBreak (places : Places) (serial : ℕ) (pages : List Mapped) (
   pub held : All (λ (m : Mapped). (there : Found) × LiesBySerial places serial (m.space, m.page) there) before
   pub breaks : BreaksBySerial places serial (page.space, page.page) slot
 
--- the slots are a store, and of the pages of its newest image the first whose chain breaks does so at the image of this slot
+-- the slots are a store, and of the pages of its newest image the first whose chain breaks does so at the image of this
+-- slot
 pub record IsBrokenChain (contents : List (List ℕ)) (slot : ℕ) (reason : Reason) : Type 0 where
   pub images : List Image
   pub store : IsStore contents images

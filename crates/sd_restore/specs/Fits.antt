@@ -17,9 +17,11 @@ pub record IsSpaceWithin (number : ℕ) (space : Space) : Type 0 where
 
 -- so is each space of a memory, which has at most 65,536 pages in all
 pub record IsWithinLimits (memory : PlainMemory) : Type 0 where
-  pub spaces : (number : ℕ) (space : Space) → Contains (finmap.entries memory) (number, space) → IsSpaceWithin number space
+  pub spaces : (number : ℕ) (space : Space) → Contains (finmap.entries memory) (number, space)
+      → IsSpaceWithin number space
   pub pages : sum_by (λ (entry : ℕ × Space). finmap.len entry.1) (finmap.entries memory) ≤ 65536
 
 -- Contents show no other.
 abbrev pub ShownIsWithinLimits : Type 0
-ShownIsWithinLimits = (contents : List (List ℕ)) (checkpoint : ℕ) (memory : PlainMemory) → Shows contents (Some (checkpoint, memory)) → IsWithinLimits memory
+ShownIsWithinLimits = (contents : List (List ℕ)) (checkpoint : ℕ) (memory : PlainMemory)
+    → Shows contents (Some (checkpoint, memory)) → IsWithinLimits memory

@@ -65,7 +65,8 @@ pub record ArePlaced (places : Places) (serial : ℕ) (mapped : List Mapped) (pa
 
 -- the image of a serial holds nothing at a page, whatever files the catalog is of
 abbrev pub IsUnheld : Places → ℕ → ℕ × ℕ → Type 0
-IsUnheld places serial page = (contents : List (List ℕ)) (images : List Image) → IsCatalogOf contents places → OpenImages contents images
+IsUnheld places serial page =
+    (contents : List (List ℕ)) (images : List Image) → IsCatalogOf contents places → OpenImages contents images
     → FindsHeld contents images serial page None
 
 -- of these mapped pages the first whose chain breaks was met, and it isn't held
@@ -100,7 +101,8 @@ memory_at contents spaces = with_pages contents (with_spaces finmap.empty spaces
 
 -- the pages of one space, among others
 abbrev pub placed_entries : List (List ℕ) → ℕ → List PlacedPage → List (ℕ × Page)
-placed_entries contents space pages = map (λ (p : PlacedPage). (p.page, page_at contents p)) (filter (λ (p : PlacedPage). p.space == space) pages)
+placed_entries contents space pages =
+    map (λ (p : PlacedPage). (p.page, page_at contents p)) (filter (λ (p : PlacedPage). p.space == space) pages)
 
 -- a space's number, its areas and its pages
 abbrev pub Entry : Type 0
@@ -108,5 +110,6 @@ Entry = ℕ × (List Area × List (ℕ × Page))
 
 -- a memory has these spaces with their areas, rising, and in each space these pages, rising
 abbrev pub IsLaidOut : List (List ℕ) → List Listed → List PlacedPage → PlainMemory → Type 0
-IsLaidOut contents spaces pages memory = map {B = Entry} (λ (e : ℕ × Space). (e.0, (areas_of (prots_in e.1), finmap.entries e.1))) (finmap.entries memory)
+IsLaidOut contents spaces pages memory =
+    map {B = Entry} (λ (e : ℕ × Space). (e.0, (areas_of (prots_in e.1), finmap.entries e.1))) (finmap.entries memory)
     ≡ map {B = Entry} (λ (s : Listed). (s.space, (s.areas, placed_entries contents s.space pages))) spaces

@@ -1,5 +1,6 @@
 -- What was found in the first slots.
-use Rattle.std.specs.Prelude.{◌≡◌, ◌==◌, ℕ, ◌<◌, Bool, true, false, List, map, filter, take, length, All, Option, None, Some, MatchOption}
+use Rattle.std.specs.Prelude.{◌≡◌, ◌==◌, ℕ, ◌<◌, Bool, true, false, List, map, filter, take, length, All, Option, None}
+use Rattle.std.specs.Prelude.{Some, MatchOption}
 use Rattle.std.specs.List.{list_any}
 use Rattle.sd_image.specs.Image.{Image, is_open}
 use Rattle.sd_image.specs.Shows.{IsStore}
@@ -20,10 +21,12 @@ pub record IsScan (files : List (List ℕ)) (places : Places) : Type 0 where
   pub catalog : IsCatalogOf files places
   pub images : List Image
   pub store : IsStore files images
-  pub serials : (serial : ℕ) → has_image (place_of places serial) ≡ list_any (λ other. serial == other) (map (λ (i : Image). i.header.serial) images)
+  pub serials : (serial : ℕ)
+      → has_image (place_of places serial)
+      ≡ list_any (λ other. serial == other) (map (λ (i : Image). i.header.serial) images)
 
--- what was read, also of a device that lied: the images are in so many slots, their tables are tables, and their parents fall; no
--- place is held
+-- what was read, also of a device that lied: the images are in so many slots, their tables are tables, and their
+-- parents fall; no place is held
 pub record AreRead (count : ℕ) (places : Places) : Type 0 where
   pub none_held : (serial : ℕ) → IsHeld places serial → ⊥
   pub slots : All (λ i. i.slot < count) (images places)

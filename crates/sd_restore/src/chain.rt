@@ -1,5 +1,6 @@
 //! Where the pages of an image lie in its chain.
-ghost use Rattle.std.specs.Prelude.{◌≡◌, ◌≢◌, ◌+◌, ◌<◌, ◌≤◌, ◌^◌, ◌++◌, ℕ, List, length, Some, IfOk, IfErr, OnOk, All, Contains, flat_map};
+ghost use Rattle.std.specs.Prelude.{◌≡◌, ◌≢◌, ◌+◌, ◌<◌, ◌≤◌, ◌^◌, ◌++◌, ℕ, List, length, Some, IfOk, IfErr, OnOk, All};
+ghost use Rattle.std.specs.Prelude.{Contains, flat_map};
 ghost use Rattle.sd_areas.specs.Areas.{AreMaximal, area_pages};
 ghost use Rattle.sd_image.specs.Table.{listing_of};
 ghost use Rattle.sd_chain.specs.Catalog.{place_of, IsTip};
@@ -143,8 +144,8 @@ fn place_space(
     Ok(())
 }
 
-/// Where the mapped pages of a dump or merged image lie, rising by space and page. Its time grows with the runs of pages
-/// that lie one behind the other, each times the images that it is followed through, and not with the pages.
+/// Where the mapped pages of a dump or merged image lie, rising by space and page. Its time grows with the runs of
+/// pages that lie one behind the other, each times the images that it is followed through, and not with the pages.
 ///
 /// # Errors
 ///

@@ -1,5 +1,6 @@
 //! Checking the digest of an image that was read.
-ghost use Rattle.std.specs.Prelude.{◌≡◌, ◌≢◌, ◌+◌, ◌*◌, ◌/◌, ◌<◌, ◌≤◌, ◌^◌, ◌++◌, ℕ, List, Ok, length, IfOk, IfErr, OnOk, IsErrOf, slice_range};
+ghost use Rattle.std.specs.Prelude.{◌≡◌, ◌≢◌, ◌+◌, ◌*◌, ◌/◌, ◌<◌, ◌≤◌, ◌^◌, ◌++◌, ℕ, List, Ok, length, IfOk, IfErr};
+ghost use Rattle.std.specs.Prelude.{OnOk, IsErrOf, slice_range};
 ghost use Rattle.sd_disk.specs.Contents.{file_at};
 ghost use Rattle.sd_disk.specs.Failures.{HasCause};
 ghost use Rattle.sd_disk.specs.Reads.{OnlyReads};
@@ -31,8 +32,8 @@ fn feed(digester: &mut Digester, bytes: &[u8])
     }
 }
 
-/// Reads the data pages of a slot's file from the page `first` on, as many as the buffer has room for, and gives them to a
-/// digester.
+/// Reads the data pages of a slot's file from the page `first` on, as many as the buffer has room for, and gives them
+/// to a digester.
 fn digest_next<D: Disk>(
     disk: &mut D,
     slot: usize,
@@ -111,8 +112,8 @@ fn digest_of<D: Disk>(
     Ok(digester.finish(header))
 }
 
-/// Checks that an image of version 2 has its digest in its header, from the bytes of its table, which were read already,
-/// and its data pages. It reads each of these once, and none of version 1.
+/// Checks that an image of version 2 has its digest in its header, from the bytes of its table, which were read
+/// already, and its data pages. It reads each of these once, and none of version 1.
 ///
 /// # Errors
 ///

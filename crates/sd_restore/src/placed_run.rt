@@ -14,8 +14,8 @@ pub struct PlacedRun {
     /// How many pages.
     pub count: u64,
     pub prot: Prot,
-    /// Where the bytes of the first page are. Where they are in a file, those of the other pages stand behind them; else
-    /// all are zeros.
+    /// Where the bytes of the first page are. Where they are in a file, those of the other pages stand behind them;
+    /// else all are zeros.
     pub there: Found,
 }
 

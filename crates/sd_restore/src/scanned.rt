@@ -1,5 +1,6 @@
 //! What was found in the slots so far.
-ghost use Rattle.std.specs.Prelude.{◌≡◌, ◌≢◌, ◌<◌, ◌≤◌, ◌+◌, ◌-◌, ◌^◌, ℕ, List, true, false, map, filter, length, IfErr, IfOk, IfSome, IsSome, OnErr, OnOk};
+ghost use Rattle.std.specs.Prelude.{◌≡◌, ◌≢◌, ◌<◌, ◌≤◌, ◌+◌, ◌-◌, ◌^◌, ℕ, List, true, false, map, filter, length};
+ghost use Rattle.std.specs.Prelude.{IfErr, IfOk, IfSome, IsSome, OnErr, OnOk};
 ghost use Rattle.sd_disk.specs.Contents.{file_at};
 ghost use Rattle.sd_image.specs.Image.{Image, IsImage, is_open};
 ghost use Rattle.sd_image.specs.Table.{listing_of};
@@ -118,7 +119,8 @@ impl Scanned {
     ///
     /// `Damaged` names the least slot whose serial stands in an earlier open one.
     pub fn check(&self) -> Result<(), Fault>
-        // Once all slots were scanned, these are the images of the contents, which are a store; or a serial stands twice.
+        // Once all slots were scanned, these are the images of the contents, which are a store; or a serial stands
+        // twice.
         ensures catalog { (contents : List (List ℕ)) → IsScanned contents (length contents) self.now
             → OnOk result (IsCatalogOf contents self.now.catalog) }
         ensures store { (contents : List (List ℕ)) → IsScanned contents (length contents) self.now

@@ -1,5 +1,6 @@
 //! Reading one slot: its gate, its header, its table and its digest.
-ghost use Rattle.std.specs.Prelude.{◌≡◌, ◌≢◌, ◌+◌, ◌*◌, ◌<◌, ◌≤◌, ◌^◌, List, ℕ, length, map, drop, Some, IfOk, IfSome, IfErr, IsErrOf, IsSome, slice_range};
+ghost use Rattle.std.specs.Prelude.{◌≡◌, ◌≢◌, ◌+◌, ◌*◌, ◌<◌, ◌≤◌, ◌^◌, List, ℕ, length, map, drop, Some, IfOk, IfSome};
+ghost use Rattle.std.specs.Prelude.{IfErr, IsErrOf, IsSome, slice_range};
 ghost use Rattle.sd_disk.specs.Contents.{file_at};
 ghost use Rattle.sd_disk.specs.Reads.{OnlyReads};
 ghost use Rattle.sd_disk.specs.Failures.{HasCause};

@@ -1,5 +1,6 @@
 //! The open images of a store.
-ghost use Rattle.std.specs.Prelude.{◌≡◌, ◌≢◌, ◌+◌, ◌-◌, ◌^◌, ◌<◌, ◌≤◌, ℕ, List, length, filter, All, IfOk, IfErr, OnOk, IsErrOf};
+ghost use Rattle.std.specs.Prelude.{◌≡◌, ◌≢◌, ◌+◌, ◌-◌, ◌^◌, ◌<◌, ◌≤◌, ℕ, List, length, filter, All, IfOk, IfErr, OnOk};
+ghost use Rattle.std.specs.Prelude.{IsErrOf};
 ghost use Rattle.sd_disk.specs.Contents.{file_at};
 ghost use Rattle.sd_disk.specs.Reads.{OnlyReads};
 ghost use Rattle.sd_image.specs.Image.{Image, is_open};
@@ -110,8 +111,8 @@ pub fn scan_store<D: Disk>(alloc: Global, disk: &mut D) -> Result<Scanned, Fault
 ///
 /// # Errors
 ///
-/// `Damaged` names the first slot whose header, table or digest is faulty, with its reason, or else the least slot whose
-/// serial stands in an earlier open one. `Device` and `OutOfMemory` end the scan at once.
+/// `Damaged` names the first slot whose header, table or digest is faulty, with its reason, or else the least slot
+/// whose serial stands in an earlier open one. `Device` and `OutOfMemory` end the scan at once.
 pub fn scan<D: Disk>(alloc: Global, disk: &mut D) -> Result<Catalog, Fault>
     ensures catalog { D.is_honest disk.new → IfOk result (IsCatalogOf (D.contents disk.old)) }
     ensures damaged { D.is_honest disk.new → IfErr result (Names (IsDamage (D.contents disk.old))) }

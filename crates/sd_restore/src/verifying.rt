@@ -1,5 +1,6 @@
 //! Telling whether a store is in order.
-ghost use Rattle.std.specs.Prelude.{◌≡◌, ◌≢◌, ◌⊎◌, ◌+◌, ◌<◌, ◌≤◌, ℕ, true, List, Option, length, filter, IfOk, IfErr, IsErrOf};
+ghost use Rattle.std.specs.Prelude.{◌≡◌, ◌≢◌, ◌⊎◌, ◌+◌, ◌<◌, ◌≤◌, ℕ, true, List, Option, length, filter, IfOk, IfErr};
+ghost use Rattle.std.specs.Prelude.{IsErrOf};
 ghost use Rattle.std.specs.Option.{option_map};
 ghost use Rattle.sd_areas.specs.PlainMemory.{PlainMemory};
 ghost use Rattle.sd_disk.specs.Contents.{file_at};
@@ -69,7 +70,8 @@ pub fn newest_checkpoint(catalog: &Catalog) -> Option<u64>
 ///
 /// # Errors
 ///
-/// `Damaged`, `Device` and `OutOfMemory` where [`crate::restore`] reports them. A store without a checkpoint is in order.
+/// `Damaged`, `Device` and `OutOfMemory` where [`crate::restore`] reports them. A store without a checkpoint is in
+/// order.
 pub fn verify<D: Disk>(alloc: Global, disk: &mut D) -> Result<Report, Fault>
     // Such a store shows something, and the report has its checkpoint.
     ensures shown { D.is_honest disk.new

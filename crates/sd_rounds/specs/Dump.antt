@@ -7,7 +7,8 @@ use Rattle.sd_pagetable.specs.Page.{Page, zeros}
 use Rattle.sd_pagetable.specs.Contents.{Contents, page_at, plain_of}
 use Rattle.sd_pagetable.specs.Order.{IsNextPage}
 use Rattle.sd_pagetable.specs.Tracking.{Step, Cleared}
-use Rattle.sd_rounds.specs.Pass.{Place, Taking, Pass, IsTaken, has_passed, opened, visited, copied_more, with_entry, taken_as_zero}
+use Rattle.sd_rounds.specs.Pass.{Place, Taking, Pass, IsTaken, has_passed, opened, visited, copied_more, with_entry}
+use Rattle.sd_rounds.specs.Pass.{taken_as_zero}
 use Rattle.sd_rounds.specs.Keeps.{Stored, Chain, Gives, Keeps}
 use Rattle.sd_rounds.specs.Rises.{IsRising, kind_at}
 
@@ -15,8 +16,8 @@ use Rattle.sd_rounds.specs.Rises.{IsRising, kind_at}
 abbrev pub kind_of_bytes : List ℕ → RunKind
 kind_of_bytes bytes = if list_all (λ byte. byte == 0) bytes then Zero else Data
 
--- How the image is to have a page of the memory at the freeze: as zeros or data where the whole memory is taken or the page was
--- soft-dirty, and else in its parent.
+-- How the image is to have a page of the memory at the freeze: as zeros or data where the whole memory is taken or the
+-- page was soft-dirty, and else in its parent.
 abbrev pub due : Bool → Option Page → Option RunKind
 due takes_all None = None
 due takes_all (Some page) = Some (if takes_all || page.soft_dirty then kind_of_bytes page.bytes else Parent)
@@ -27,33 +28,45 @@ pub record WasDue (cut : Contents) (pass : Pass) (taking : Taking) : Type 0 wher
   pub there : page_at cut taking.place.0 taking.place.1 ≡ Some page
   pub is : (pass.takes_all || page.soft_dirty) ≡ true
 
--- The dump of a memory that was frozen as `cut`: it has the pages of the freeze, those ahead as they were and those behind clean,
--- and each page that was passed has its entry in the way that is due.
+-- The dump of a memory that was frozen as `cut`: it has the pages of the freeze, those ahead as they were and those
+-- behind clean, and each page that was passed has its entry in the way that is due.
 pub record IsDumping (cut : Contents) (pass : Pass) (memory : Contents) : Type 0 where
   pub plain : plain_of memory ≡ plain_of cut
   pub ahead : (at : Place) → has_passed pass.after at ≡ false → page_at memory at.0 at.1 ≡ page_at cut at.0 at.1
-  pub behind : (at : Place) (page : Page) → has_passed pass.after at ≡ true → page_at memory at.0 at.1 ≡ Some page → page.soft_dirty ≡ false
-  pub kinds : (at : Place) → has_passed pass.after at ≡ true → ((taking : Taking) → IsTaken pass at taking → ⊥) → kind_at pass.entries at ≡ due pass.takes_all (page_at cut at.0 at.1)
+  pub behind : (at : Place) (page : Page) → has_passed pass.after at ≡ true → page_at memory at.0 at.1 ≡ Some page
+      → page.soft_dirty ≡ false
+  pub kinds : (at : Place) → has_passed pass.after at ≡ true → ((taking : Taking) → IsTaken pass at taking → ⊥)
+      → kind_at pass.entries at ≡ due pass.takes_all (page_at cut at.0 at.1)
   pub taken : (taking : Taking) → pass.taking ≡ Some taking → WasDue cut pass taking
 
 -- The entries are exactly the pages of the memory at the freeze, each in the way that is due, and they give its bytes.
 pub record IsDumped (stored : Stored) (chain : Chain) (cut : Contents) (pass : Pass) : Type 0 where
   pub kinds : (at : Place) → kind_at pass.entries at ≡ due pass.takes_all (page_at cut at.0 at.1)
-  pub bytes : (at : Place) (page : Page) → page_at cut at.0 at.1 ≡ Some page → Gives stored chain pass.entries at page.bytes
+  pub bytes : (at : Place) (page : Page) → page_at cut at.0 at.1 ≡ Some page
+      → Gives stored chain pass.entries at page.bytes
 
 pub record DumpLaws : Type 0 where
   pub freezes : (takes_all : Bool) (memory : Contents) → IsDumping memory (opened takes_all) memory
-  pub visits : (cut : Contents) (pass : Pass) (old new : Contents) (at : Place) (page : Page) → pass.taking ≡ None → IsRising pass
-      → IsNextPage old.spaces pass.after (Some at) → page_at old at.0 at.1 ≡ Some page → Step old (Cleared at.0 at.1) new → plain_of new ≡ plain_of old
+  pub visits : (cut : Contents) (pass : Pass) (old new : Contents) (at : Place) (page : Page) → pass.taking ≡ None
+      → IsRising pass
+      → IsNextPage old.spaces pass.after (Some at) → page_at old at.0 at.1 ≡ Some page
+      → Step old (Cleared at.0 at.1) new → plain_of new ≡ plain_of old
       → IsDumping cut pass old → IsDumping cut (visited pass at page.soft_dirty) new
-  pub copies : (cut : Contents) (pass : Pass) (memory : Contents) (taking : Taking) (more : List ℕ) → pass.taking ≡ Some taking
+  pub copies : (cut : Contents) (pass : Pass) (memory : Contents) (taking : Taking) (more : List ℕ)
+      → pass.taking ≡ Some taking
       → IsDumping cut pass memory → IsDumping cut (copied_more pass taking more) memory
-  pub never_drops : (cut : Contents) (pass : Pass) (memory : Contents) (taking : Taking) → pass.taking ≡ Some taking → IsDumping cut pass memory
+  pub never_drops : (cut : Contents) (pass : Pass) (memory : Contents) (taking : Taking) → pass.taking ≡ Some taking
+      → IsDumping cut pass memory
       → page_at memory taking.place.0 taking.place.1 ≡ None → ⊥
-  pub enters : (stored : Stored) (chain : Chain) (cut : Contents) (pass : Pass) (memory : Contents) (taking : Taking) → pass.taking ≡ Some taking → IsRising pass
+  pub enters : (stored : Stored) (chain : Chain) (cut : Contents) (pass : Pass) (memory : Contents) (taking : Taking)
+      → pass.taking ≡ Some taking → IsRising pass
       → length taking.copied ≡ 4096 → Keeps stored chain pass memory
       → IsDumping cut pass memory → IsDumping cut (with_entry pass taking.place (kind_of_bytes taking.copied)) memory
-  pub enters_zero : (stored : Stored) (chain : Chain) (cut : Contents) (pass : Pass) (memory : Contents) (taking : Taking) → pass.taking ≡ Some taking → IsRising pass
-      → taking.copied ≡ zeros → Keeps stored chain pass memory → IsDumping cut pass memory → IsDumping cut (taken_as_zero pass taking) memory
-  pub ends : (stored : Stored) (chain : Chain) (cut : Contents) (pass : Pass) (memory : Contents) → pass.taking ≡ None → IsRising pass
-      → IsNextPage memory.spaces pass.after None → Keeps stored chain pass memory → IsDumping cut pass memory → IsDumped stored chain cut pass
+  pub enters_zero : (stored : Stored) (chain : Chain) (cut : Contents) (pass : Pass) (memory : Contents)
+      (taking : Taking) → pass.taking ≡ Some taking → IsRising pass
+      → taking.copied ≡ zeros → Keeps stored chain pass memory → IsDumping cut pass memory
+      → IsDumping cut (taken_as_zero pass taking) memory
+  pub ends : (stored : Stored) (chain : Chain) (cut : Contents) (pass : Pass) (memory : Contents) → pass.taking ≡ None
+      → IsRising pass
+      → IsNextPage memory.spaces pass.after None → Keeps stored chain pass memory → IsDumping cut pass memory
+      → IsDumped stored chain cut pass

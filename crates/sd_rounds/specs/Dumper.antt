@@ -1,5 +1,6 @@
 -- The dumper, as it is seen: the images of a checkpoint, one after the other.
-use Rattle.std.specs.Prelude.{◌≡◌, ◌⊎◌, ℕ, ◌+◌, ◌≤◌, ◌^◌, Bool, true, false, if◌then◌else◌, nat_le, List, [], length, get_or, Contains, Option, Some, None}
+use Rattle.std.specs.Prelude.{◌≡◌, ◌⊎◌, ℕ, ◌+◌, ◌≤◌, ◌^◌, Bool, true, false, if◌then◌else◌, nat_le, List, [], length}
+use Rattle.std.specs.Prelude.{get_or, Contains, Option, Some, None}
 use Rattle.sd_image.specs.declared.header.Kind.{Kind}
 use Rattle.sd_image.specs.declared.header.Kind.TheVariants.{PreDump, Dump}
 use Rattle.sd_gate.specs.declared.request_id.RequestId.{RequestId}
@@ -11,16 +12,19 @@ use Rattle.sd_rounds.specs.declared.image_order.ImageOrder.{ImageOrder}
 use Rattle.sd_rounds.specs.declared.image_progress.ImageProgress.{ImageProgress}
 use Rattle.sd_rounds.specs.declared.image_progress.ImageProgress.TheVariants.{Failed, More, Opened}
 use Rattle.sd_rounds.specs.declared.image_step.ImageStep.{ImageStep}
-use Rattle.sd_rounds.specs.declared.image_step.ImageStep.TheVariants.{Call, PageCall, TableCall, Frozen, Visited, Copied}
+use Rattle.sd_rounds.specs.declared.image_step.ImageStep.TheVariants.{Call, PageCall, TableCall, Frozen, Visited}
+use Rattle.sd_rounds.specs.declared.image_step.ImageStep.TheVariants.{Copied}
 use Rattle.sd_rounds.specs.declared.new_image.NewImage.{NewImage}
 use Rattle.sd_rounds.specs.declared.progress.Progress.{Progress}
-use Rattle.sd_rounds.specs.declared.progress.Progress.TheVariants.{Strange, Failed as HasFailed, More as GoesOn, PreDump as PreDumpOpen, Dump as DumpOpen}
-use Rattle.sd_rounds.specs.Making.{HandsIn, IsOutOf, Making, Steps, begun_image, closing, is_frozen, out_of, outcomes_left}
+use Rattle.sd_rounds.specs.declared.progress.Progress.TheVariants.{Strange, Failed as HasFailed, More as GoesOn}
+use Rattle.sd_rounds.specs.declared.progress.Progress.TheVariants.{PreDump as PreDumpOpen, Dump as DumpOpen}
+use Rattle.sd_rounds.specs.Making.{HandsIn, IsOutOf, Making, Steps, begun_image, closing, is_frozen, out_of}
+use Rattle.sd_rounds.specs.Making.{outcomes_left}
 use Rattle.sd_rounds.specs.Pass.{data_pages}
 use Rattle.sd_rounds.specs.Writes.{no_writes, writes_out}
 
--- a checkpoint that runs: the slots of its pre-dumps and of its dump, the parent of its first image, how many images are open, the parent
--- of the next, and the image that is being made
+-- a checkpoint that runs: the slots of its pre-dumps and of its dump, the parent of its first image, how many images
+-- are open, the parent of the next, and the image that is being made
 pub record Running : Type 0 where
   pub number : ℕ
   pub pre_dumps : List ℕ
@@ -98,12 +102,14 @@ freezes (Visited visit) = false
 freezes (Copied copied) = false
 
 -- a step of the image that is being made, or of the next
-pub record WorksOn (serial : ℕ) (state : SlotState) (ticket : ℕ) (old : Running) (before : Contents) (step : ImageStep) (new : Running) (after : Contents) : Type 0 where
+pub record WorksOn (serial : ℕ) (state : SlotState) (ticket : ℕ) (old : Running) (before : Contents) (step : ImageStep)
+    (new : Running) (after : Contents) : Type 0 where
   pub image : Making
   pub steps : Steps ticket (image_from old serial state old.image) before step image after
   pub is : new ≡ record old { image = Some image }
 
-pub record Works (serial : ℕ) (state : SlotState) (ticket : ℕ) (old : Dumping) (before : Contents) (step : ImageStep) (new : Dumping) (after : Contents) : Type 0 where
+pub record Works (serial : ℕ) (state : SlotState) (ticket : ℕ) (old : Dumping) (before : Contents) (step : ImageStep)
+    (new : Dumping) (after : Contents) : Type 0 where
   pub running : Running
   pub was : old.running ≡ Some running
   pub next : Running
@@ -251,7 +257,8 @@ pub record IsHanded (old : Dumping) (made : Made) (progress : Progress) (new : D
   pub was : old.running ≡ Some running
   pub next : Running
   pub hands : HandsTo running made progress next
-  pub is : new ≡ record { running = if ends progress then None else Some next; since_freeze = counted running old.since_freeze }
+  pub is : new ≡ record
+      { running = if ends progress then None else Some next; since_freeze = counted running old.since_freeze }
 
 pub record IsStrange (old : Dumping) (made : Made) (new : Dumping) : Type 0 where
   pub other : IsOutOfRunning old.running made.request.id → ⊥
@@ -293,9 +300,11 @@ abbrev pub pages_of : Option Running → ℕ
 pages_of None = 0
 pages_of (Some running) = pages_of_image running.image
 
--- the dump of a frozen memory counts the outcomes since the freeze: one for each data page that is written, and five that close it
+-- the dump of a frozen memory counts the outcomes since the freeze: one for each data page that is written, and five
+-- that close it
 pub record IsCounted (since : ℕ) (image : Making) : Type 0 where
-  pub count : since + outcomes_left image.stage + writes_out image.writes ≡ data_pages image.pass.entries + closing image.stage
+  pub count : since + outcomes_left image.stage + writes_out image.writes
+      ≡ data_pages image.pass.entries + closing image.stage
 
 abbrev pub AreCounted : ℕ → Option Making → Type 0
 AreCounted since None = Unit {0}

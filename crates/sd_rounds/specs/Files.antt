@@ -28,9 +28,10 @@ use Rattle.sd_rounds.specs.Rises.{IsRising}
 abbrev pub file_of : Image → List ℕ
 file_of i = gate ∷ image_text i
 
--- The file of an image whose table is written: it is the image with these data pages, which has the order's numbers and the
--- pass's entries.
-pub record IsFiled (order : ImageOrder) (pass : Pass) (pages : Pages) (header : Header) (tables : List Listed) : Type 0 where
+-- The file of an image whose table is written: it is the image with these data pages, which has the order's numbers and
+-- the pass's entries.
+pub record IsFiled (order : ImageOrder) (pass : Pass) (pages : Pages) (header : Header)
+    (tables : List Listed) : Type 0 where
   pub spelled : IsImage (file_of (image_of header pages tables)) (image_of header pages tables)
   pub numbers : header ≡ header_of order (data_pages pass.entries) (length (table_text tables)) header.digest
   pub lists : Lists pass.entries tables
@@ -56,34 +57,47 @@ HasAreas cut image = HasAreasIn image.stage cut
 
 pub record FileLaws : Type 0 where
   -- the entries of a dump are exactly the mapped pages
-  pub entries : (stored : Stored) (chain : Chain) (cut memory : Contents) (pass : Pass) → IsDumped stored chain cut pass → plain_of memory ≡ plain_of cut
+  pub entries : (stored : Stored) (chain : Chain) (cut memory : Contents) (pass : Pass) → IsDumped stored chain cut pass
+      → plain_of memory ≡ plain_of cut
       → AreThePages pass.entries memory
   -- the table of a pre-dump is written, and that of a dump
-  pub pre_dump : (ticket : ℕ) (pages : Pages) (chain : Chain) (old new : Making) (before after : Contents) (request : Asked) → Steps ticket old before (TableCall request) new after
+  pub pre_dump : (ticket : ℕ) (pages : Pages) (chain : Chain) (old new : Making) (before after : Contents)
+      (request : Asked) → Steps ticket old before (TableCall request) new after
       → old.order.kind ≡ PreDump → AreItsNumbers old.order → KeepsImage pages chain old before → FilesImage pages new
-  pub dump : (ticket : ℕ) (cut : Contents) (pages : Pages) (chain : Chain) (old new : Making) (before after : Contents) (request : Asked) → Steps ticket old before (TableCall request) new after
-      → old.order.kind ≡ Dump → AreItsNumbers old.order → IsRising old.pass → KeepsImage pages chain old before → DumpsImage cut pages chain old before
+  pub dump : (ticket : ℕ) (cut : Contents) (pages : Pages) (chain : Chain) (old new : Making) (before after : Contents)
+      (request : Asked) → Steps ticket old before (TableCall request) new after
+      → old.order.kind ≡ Dump → AreItsNumbers old.order → IsRising old.pass → KeepsImage pages chain old before
+      → DumpsImage cut pages chain old before
       → FilesImage pages new × HasAreas cut new
   -- the calls that wrote the data pages, and those that write the table and the header, spell that file
-  pub fills : (order : ImageOrder) (pass : Pass) (pages : Pages) (header : Header) (tables : List Listed) → IsFiled order pass pages header tables
+  pub fills : (order : ImageOrder) (pass : Pass) (pages : Pages) (header : Header) (tables : List Listed)
+      → IsFiled order pass pages header tables
       → body_closed (pages_body pages) header (table_text tables) ≡ image_text (image_of header pages tables)
   -- it stays so until the image is open
-  pub asks : (ticket : ℕ) (cut : Contents) (pages : Pages) (old new : Making) (before after : Contents) (request : Asked) → Steps ticket old before (Call request) new after
+  pub asks : (ticket : ℕ) (cut : Contents) (pages : Pages) (old new : Making) (before after : Contents)
+      (request : Asked) → Steps ticket old before (Call request) new after
       → FilesImage pages old × HasAreas cut old → FilesImage pages new × HasAreas cut new
   pub hands : (cut : Contents) (pages : Pages) (old new : Making) (made : Made) → HandsIn old made More new
       → FilesImage pages old × HasAreas cut old → FilesImage pages new × HasAreas cut new
   -- the image is open: its file has its entries, and that of a dump shows the memory at the freeze
-  pub opens : (pages : Pages) (chain : Chain) (old : Making) (made : Made) (opened : NewImage) → Opens old made opened → chain.number ≡ old.order.parent
+  pub opens : (pages : Pages) (chain : Chain) (old : Making) (made : Made) (opened : NewImage) → Opens old made opened
+      → chain.number ≡ old.order.parent
       → FilesImage pages old
-      → IsFiled old.order old.pass pages opened.header opened.table × IsImageOf (listed_pages pages) chain old.pass.entries (image_of opened.header pages opened.table)
-  pub shows : (cut : Contents) (pages : Pages) (chain : Chain) (old : Making) (made : Made) (opened : NewImage) (memory : Contents) → Opens old made opened → chain.number ≡ old.order.parent
+      → IsFiled old.order old.pass pages opened.header opened.table
+      × IsImageOf (listed_pages pages) chain old.pass.entries (image_of opened.header pages opened.table)
+  pub shows : (cut : Contents) (pages : Pages) (chain : Chain) (old : Making) (made : Made) (opened : NewImage)
+      (memory : Contents) → Opens old made opened → chain.number ≡ old.order.parent
       → FilesImage pages old → HasAreas cut old → DumpsImage cut pages chain old memory
       → IsMemory chain.images (image_of opened.header pages opened.table) (plain_of cut)
   -- the table of a dump has exactly the pages of the memory at the freeze, each in the way that is due
-  pub ways : (cut : Contents) (pages : Pages) (chain : Chain) (old : Making) (made : Made) (opened : NewImage) (memory : Contents) → Opens old made opened
+  pub ways : (cut : Contents) (pages : Pages) (chain : Chain) (old : Making) (made : Made) (opened : NewImage)
+      (memory : Contents) → Opens old made opened
       → FilesImage pages old → IsRising old.pass → DumpsImage cut pages chain old memory
-      → (kind : RunKind) (at : Place) → Contains (pages_of kind opened.table) at ↔ due old.pass.takes_all (page_at cut at.0 at.1) ≡ Some kind
+      → (kind : RunKind) (at : Place)
+      → Contains (pages_of kind opened.table) at ↔ due old.pass.takes_all (page_at cut at.0 at.1) ≡ Some kind
   -- once it is among the images its number gives each clean page, and the next image may name it
-  pub commits : (pages : Pages) (before after : Chain) (old : Making) (made : Made) (opened : NewImage) (memory : Contents) → Opens old made opened → after.number ≡ old.order.parent
-      → FilesImage pages old → IsNamed after.images old.order.serial (image_of opened.header pages opened.table) → Within before after → KeepsImage pages before old memory
+  pub commits : (pages : Pages) (before after : Chain) (old : Making) (made : Made) (opened : NewImage)
+      (memory : Contents) → Opens old made opened → after.number ≡ old.order.parent
+      → FilesImage pages old → IsNamed after.images old.order.serial (image_of opened.header pages opened.table)
+      → Within before after → KeepsImage pages before old memory
       → Rests (record { images = after.images; number = old.order.serial }) memory

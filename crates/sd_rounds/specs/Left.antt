@@ -42,8 +42,8 @@ pass_left pass memory = 11 * pages_ahead pass.after memory + taking_left pass.ta
 abbrev pub plan_left : Planned → ℕ
 plan_left plan = 2 * length plan.calls + is_one plan.out
 
--- an image whose pass, with the writes that are out, has so much before it: behind the format comes the freeze, and behind the pass
--- five calls close the body
+-- an image whose pass, with the writes that are out, has so much before it: behind the format comes the freeze, and
+-- behind the pass five calls close the body
 abbrev pub stage_left : Stage → ℕ → ℕ
 stage_left (Format plan) pass = plan_left plan + 1 + pass + 10
 stage_left Freeze pass = 1 + pass + 10
@@ -73,7 +73,10 @@ left_of (Some running) memory = running_left running memory
 -- It is 0 exactly while the dumper is idle; each step lowers it, and so does each outcome of a request that was out.
 pub record LeftLaws : Type 0 where
   pub idle : (running : Option Running) (memory : PlainMemory) → left_of running memory ≡ 0 ↔ running ≡ None
-  pub works : (serial : ℕ) (state : SlotState) (ticket : ℕ) (old : Dumping) (before : Contents) (step : ImageStep) (new : Dumping) (after : Contents)
-      → Works serial state ticket old before step new after → left_of new.running (plain_of after) < left_of old.running (plain_of before)
-  pub hands : (old : Dumping) (made : Made) (progress : Progress) (new : Dumping) (memory : PlainMemory) → Hands old made progress new → is_strange progress ≡ false
+  pub works : (serial : ℕ) (state : SlotState) (ticket : ℕ) (old : Dumping) (before : Contents) (step : ImageStep)
+      (new : Dumping) (after : Contents)
+      → Works serial state ticket old before step new after
+      → left_of new.running (plain_of after) < left_of old.running (plain_of before)
+  pub hands : (old : Dumping) (made : Made) (progress : Progress) (new : Dumping) (memory : PlainMemory)
+      → Hands old made progress new → is_strange progress ≡ false
       → left_of new.running memory < left_of old.running memory

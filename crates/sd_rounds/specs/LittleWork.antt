@@ -30,10 +30,12 @@ pub record IsFrontOf (page : Page) (copied : List ℕ) : Type 0 where
   pub front : copied ≡ take (length copied) page.bytes
   pub full : length copied ≡ 4096 → copied ≡ page.bytes
 
--- Each page that was passed has its entry in the way that is due, and of the one that is being taken the front was copied.
+-- Each page that was passed has its entry in the way that is due, and of the one that is being taken the front was
+-- copied.
 pub record IsTaking (cut : Contents) (pass : Pass) (memory : Contents) : Type 0 where
   pub dumping : IsDumping cut pass memory
-  pub copied : (taking : Taking) (page : Page) → pass.taking ≡ Some taking → page_at cut taking.place.0 taking.place.1 ≡ Some page
+  pub copied : (taking : Taking) (page : Page) → pass.taking ≡ Some taking
+      → page_at cut taking.place.0 taking.place.1 ≡ Some page
       → IsFrontOf page taking.copied
 
 -- the entries are exactly the pages of the memory at the freeze, each in the way that is due
@@ -63,7 +65,8 @@ pub record TakesVisited (visits : List Visit) (image : Making) : Type 0 where
   pub pass : IsPassOf visits image.pass
   pub lists : ListsIn image.stage image.pass.entries
 
--- A table has the visited pages that were clean as the parent's, in their order, and its data and zero pages are among the others.
+-- A table has the visited pages that were clean as the parent's, in their order, and its data and zero pages are among
+-- the others.
 pub record TookVisited (takes_all : Bool) (visits : List Visit) (table : List Listed) : Type 0 where
   pub parents : pages_of Parent table ≡ left_pages takes_all visits
   pub stored : (at : Place) → Contains (pages_of Data table) at → Contains (taken_pages takes_all visits) at
@@ -72,17 +75,24 @@ pub record TookVisited (takes_all : Bool) (visits : List Visit) (table : List Li
 -- ---- what steps and outcomes leave of both
 
 pub record LittleLaws : Type 0 where
-  pub freezes : (ticket : ℕ) (old new : Making) (before after : Contents) → Steps ticket old before Frozen new after → TakesDue before new after
-  pub steps : (ticket : ℕ) (cut : Contents) (old new : Making) (before after : Contents) (step : ImageStep) → Steps ticket old before step new after
+  pub freezes : (ticket : ℕ) (old new : Making) (before after : Contents) → Steps ticket old before Frozen new after
+      → TakesDue before new after
+  pub steps : (ticket : ℕ) (cut : Contents) (old new : Making) (before after : Contents) (step : ImageStep)
+      → Steps ticket old before step new after
       → is_past_freeze old.stage ≡ true → IsRising old.pass → TakesDue cut old before → TakesDue cut new after
   pub hands : (cut : Contents) (old new : Making) (memory : Contents) (made : Made) → HandsIn old made More new
       → is_past_freeze old.stage ≡ true → TakesDue cut old memory → TakesDue cut new memory
   -- the table of a dump that is open has exactly the pages of the memory at the freeze, each in the way that is due
-  pub opens : (cut : Contents) (old : Making) (made : Made) (opened : NewImage) (memory : Contents) → Opens old made opened → IsRising old.pass
-      → TakesDue cut old memory → (kind : RunKind) (at : Place) → Contains (pages_of kind opened.table) at ↔ due old.pass.takes_all (page_at cut at.0 at.1) ≡ Some kind
+  pub opens : (cut : Contents) (old : Making) (made : Made) (opened : NewImage) (memory : Contents)
+      → Opens old made opened → IsRising old.pass
+      → TakesDue cut old memory → (kind : RunKind) (at : Place)
+      → Contains (pages_of kind opened.table) at ↔ due old.pass.takes_all (page_at cut at.0 at.1) ≡ Some kind
   pub begins : (order : ImageOrder) → TakesVisited [] (begun_image order)
-  pub visits : (ticket : ℕ) (visits : List Visit) (old new : Making) (before after : Contents) (step : ImageStep) → Steps ticket old before step new after
+  pub visits : (ticket : ℕ) (visits : List Visit) (old new : Making) (before after : Contents) (step : ImageStep)
+      → Steps ticket old before step new after
       → old.order.kind ≡ PreDump → TakesVisited visits old → TakesVisited (visits_after step visits) new
-  pub goes_on : (visits : List Visit) (old new : Making) (made : Made) → HandsIn old made More new → TakesVisited visits old → TakesVisited visits new
-  pub took : (visits : List Visit) (old : Making) (made : Made) (opened : NewImage) → Opens old made opened → TakesVisited visits old
+  pub goes_on : (visits : List Visit) (old new : Making) (made : Made) → HandsIn old made More new
+      → TakesVisited visits old → TakesVisited visits new
+  pub took : (visits : List Visit) (old : Making) (made : Made) (opened : NewImage) → Opens old made opened
+      → TakesVisited visits old
       → TookVisited old.pass.takes_all visits opened.table

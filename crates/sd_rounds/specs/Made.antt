@@ -41,20 +41,26 @@ listed_pages pages place = slice_get pages place
 -- the spaces and areas of a table are those of a memory
 pub record HasTheAreas (memory : PlainMemory) (spaces : List Listed) : Type 0 where
   pub alive : (space : ℕ) → finmap.contains_key memory space ≡ list_any (λ (s : Listed). s.space == space) spaces
-  pub areas : (s : Listed) → Contains spaces s → (page : ℕ) → prot_in s.areas page ≡ option_map (λ (found : plain.Page). found.prot) (page_in memory s.space page)
+  pub areas : (s : Listed) → Contains spaces s → (page : ℕ)
+      → prot_in s.areas page ≡ option_map (λ (found : plain.Page). found.prot) (page_in memory s.space page)
 
 pub record MadeLaws : Type 0 where
   pub lists : (spaces : List Listed) → Lists (entries_listed spaces) spaces
-  pub holds : (stored : Stored) (chain : Chain) (entries : List Entry) (i : Image) (at : Place) (bytes : List ℕ) → IsImageOf stored chain entries i
+  pub holds : (stored : Stored) (chain : Chain) (entries : List Entry) (i : Image) (at : Place) (bytes : List ℕ)
+      → IsImageOf stored chain entries i
       → Gives stored chain entries at bytes → Holds chain.images at.0 at.1 bytes i
   -- the dump has the memory at the freeze
-  pub dumps : (stored : Stored) (chain : Chain) (cut : Contents) (pass : Pass) (i : Image) → IsImageOf stored chain pass.entries i → HasTheAreas (plain_of cut) i.spaces
+  pub dumps : (stored : Stored) (chain : Chain) (cut : Contents) (pass : Pass) (i : Image)
+      → IsImageOf stored chain pass.entries i → HasTheAreas (plain_of cut) i.spaces
       → IsDumped stored chain cut pass → IsMemory chain.images i (plain_of cut)
   -- a page write is taken up: its bytes stand behind the pages before it, once it is done
-  pub takes_up : (pages : List (List ℕ)) (chain : Chain) (pass : Pass) (memory : Contents) (taking : Taking) → pass.taking ≡ Some taking → length taking.copied ≡ 4096
+  pub takes_up : (pages : List (List ℕ)) (chain : Chain) (pass : Pass) (memory : Contents) (taking : Taking)
+      → pass.taking ≡ Some taking → length taking.copied ≡ 4096
       → length pages ≡ data_pages pass.entries → Keeps (listed_pages pages) chain pass memory
       → Keeps (listed_pages (pages ++ taking.copied ∷ [])) chain (taken_as_data pass taking) memory
   -- the image enters the catalog: from then on the chain ends at it
-  pub commits : (stored : Stored) (before after : Chain) (entries : List Entry) (memory : Contents) (i : Image) → IsImageOf stored after entries i
+  pub commits : (stored : Stored) (before after : Chain) (entries : List Entry) (memory : Contents) (i : Image)
+      → IsImageOf stored after entries i
       → IsNamed after.images i.header.stands_for i → Within before after
-      → Gave stored before entries memory → Rests (record { images = after.images; number = i.header.stands_for }) memory
+      → Gave stored before entries memory
+      → Rests (record { images = after.images; number = i.header.stands_for }) memory

@@ -1,5 +1,6 @@
 -- An image in the making, as it is seen, and what its steps do.
-use Rattle.std.specs.Prelude.{◌≡◌, ◌≢◌, ◌⊎◌, ℕ, ◌≤◌, ◌^◌, Bool, true, false, ◌==◌, ◌&&◌, ◌+◌, List, [], ◌∷◌, ◌++◌, length, Option, Some, None, is_some, slice_get, slice_set}
+use Rattle.std.specs.Prelude.{◌≡◌, ◌≢◌, ◌⊎◌, ℕ, ◌≤◌, ◌^◌, Bool, true, false, ◌==◌, ◌&&◌, ◌+◌, List, [], ◌∷◌, ◌++◌}
+use Rattle.std.specs.Prelude.{length, Option, Some, None, is_some, slice_get, slice_set}
 use Rattle.sd_image.specs.declared.header.Header.{Header}
 use Rattle.sd_image.specs.declared.header.Kind.{Kind}
 use Rattle.sd_image.specs.declared.header.Kind.TheVariants.{PreDump, Dump, Merged}
@@ -27,7 +28,8 @@ use Rattle.sd_rounds.specs.declared.image_order.ImageOrder.{ImageOrder}
 use Rattle.sd_rounds.specs.declared.image_progress.ImageProgress.{ImageProgress}
 use Rattle.sd_rounds.specs.declared.image_progress.ImageProgress.TheVariants.{Strange, Failed, More, Opened}
 use Rattle.sd_rounds.specs.declared.image_step.ImageStep.{ImageStep}
-use Rattle.sd_rounds.specs.declared.image_step.ImageStep.TheVariants.{Call, PageCall, TableCall, Frozen, Visited, Copied}
+use Rattle.sd_rounds.specs.declared.image_step.ImageStep.TheVariants.{Call, PageCall, TableCall, Frozen, Visited}
+use Rattle.sd_rounds.specs.declared.image_step.ImageStep.TheVariants.{Copied}
 use Rattle.sd_rounds.specs.declared.new_image.NewImage.{NewImage}
 use Rattle.sd_rounds.specs.declared.stage.Stage.{Stage}
 use Rattle.sd_rounds.specs.declared.stage.Stage.TheVariants.{Format, Freeze, Pass as PassStage, Close}
@@ -37,8 +39,8 @@ use Rattle.sd_rounds.specs.Rises.{kind_at}
 use Rattle.sd_rounds.specs.Rounds.{Copies, TakesPage, Tests}
 use Rattle.sd_rounds.specs.Writes.{AreWrites, IsInLane, no_writes}
 
--- an image in the making: what is fixed of it, its pass, how far it is, the writes of its data pages that are out, and what was
--- fed those that were taken
+-- an image in the making: what is fixed of it, its pass, how far it is, the writes of its data pages that are out, and
+-- what was fed those that were taken
 pub record Making : Type 0 where
   pub order : ImageOrder
   pub pass : Pass
@@ -112,7 +114,8 @@ is_passing PassStage = true
 is_passing (Close plan header tables) = false
 
 -- what holds of every image in the making, which counts its data pages, and writes them during its pass alone
-pub record IsMaking (order : ImageOrder) (pass : Pass) (stored : ℕ) (stage : Stage) (writes : List (Option RequestId)) : Type 0 where
+pub record IsMaking (order : ImageOrder) (pass : Pass) (stored : ℕ) (stage : Stage)
+    (writes : List (Option RequestId)) : Type 0 where
   pub takes : pass.takes_all ≡ (order.parent == 0)
   pub counted : stored ≡ data_pages pass.entries
   pub few : stored ≤ 2 ^ 39
@@ -189,7 +192,8 @@ header_of order pages table_len digest = record {
 
 -- entries are exactly the mapped pages of a memory
 abbrev pub AreThePages : List Entry → Contents → Type 0
-AreThePages entries memory = (space page : ℕ) → is_some (kind_at entries (space, page)) ≡ is_some (page_at memory space page)
+AreThePages entries memory =
+    (space page : ℕ) → is_some (kind_at entries (space, page)) ≡ is_some (page_at memory space page)
 
 -- a table with these entries
 pub record TablesEntries (entries : List Entry) (header : Header) (tables : List Listed) : Type 0 where
@@ -197,7 +201,8 @@ pub record TablesEntries (entries : List Entry) (header : Header) (tables : List
   pub is : IsTable header tables
 
 -- a table with these entries, and the areas of a memory
-pub record TablesMemory (memory : Contents) (entries : List Entry) (header : Header) (tables : List Listed) : Type 0 where
+pub record TablesMemory (memory : Contents) (entries : List Entry) (header : Header)
+    (tables : List Listed) : Type 0 where
   pub table : TablesEntries entries header tables
   pub areas : HasTheAreas (plain_of memory) tables
 
@@ -216,7 +221,8 @@ pub record WritesTable (old : Making) (memory : Contents) (request : Asked) (new
   pub tables : List Listed
   pub header : Header
   pub numbers : header ≡ header_of old.order (data_pages old.pass.entries) (length (table_text tables)) header.digest
-  pub digest : (fed : List ℕ) → HasFed old.digester fed → header.digest ≡ sha256 (fed ++ table_text tables ++ header_front header)
+  pub digest : (fed : List ℕ) → HasFed old.digester fed
+      → header.digest ≡ sha256 (fed ++ table_text tables ++ header_front header)
   pub words : HasWords header
   pub table : HasTable old.order.kind memory old.pass.entries header tables
   pub next : Planned
@@ -227,7 +233,8 @@ pub record WritesTable (old : Making) (memory : Contents) (request : Asked) (new
 abbrev pub Passes : Making → Pass → Making → Type 0
 Passes old pass new = (old.stage ≡ PassStage) × (new ≡ record old { pass = pass })
 
-pub record Visits (old : Making) (before : Contents) (visit : visit.Visit) (new : Making) (after : Contents) : Type 0 where
+pub record Visits (old : Making) (before : Contents) (visit : visit.Visit) (new : Making)
+    (after : Contents) : Type 0 where
   pub free : old.pass.taking ≡ None
   pub tests : Tests old.pass before visit new.pass after
   pub passes : Passes old new.pass new
@@ -245,8 +252,10 @@ pub record Freezes (old new : Making) : Type 0 where
 -- what a step does, with this ticket; only a visit changes the memory
 abbrev pub Steps : ℕ → Making → Contents → ImageStep → Making → Contents → Type 0
 Steps ticket old before (Call request) new after = Asks old request new × IsAskedBy ticket request × (after ≡ before)
-Steps ticket old before (PageCall lane request) new after = WritesPage old lane request new × IsAskedBy ticket request × (after ≡ before)
-Steps ticket old before (TableCall request) new after = WritesTable old before request new × IsAskedBy ticket request × (after ≡ before)
+Steps ticket old before (PageCall lane request) new after =
+    WritesPage old lane request new × IsAskedBy ticket request × (after ≡ before)
+Steps ticket old before (TableCall request) new after =
+    WritesTable old before request new × IsAskedBy ticket request × (after ≡ before)
 Steps ticket old before Frozen new after = Freezes old new × (after ≡ before)
 Steps ticket old before (Visited visit) new after = Visits old before visit new after
 Steps ticket old before (Copied copied) new after = CopiesSector old before copied new × (after ≡ before)
@@ -271,7 +280,8 @@ pub record GoesOn (old : Making) (made : Made) (new : Making) : Type 0 where
   pub one : outcomes_of (plan_after plan made) + 1 ≡ outcomes_of plan
   -- a body that is being closed has a call left
   pub closes : closing old.stage ≢ 0 → (plan_after plan made).calls ≢ []
-  pub is : new ≡ record old { stage = stage_after old.order.kind old.stage (plan_after plan made) (plan_after plan made).calls }
+  pub is : new ≡ record old
+      { stage = stage_after old.order.kind old.stage (plan_after plan made) (plan_after plan made).calls }
 
 -- the write of a data page was done
 pub record IsWritten (old : Making) (made : Made) (new : Making) : Type 0 where

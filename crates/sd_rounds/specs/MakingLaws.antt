@@ -11,7 +11,8 @@ use Rattle.sd_pagetable.specs.Tracking.{Event, Step}
 use Rattle.sd_rounds.specs.declared.image_order.ImageOrder.{ImageOrder}
 use Rattle.sd_rounds.specs.declared.image_progress.ImageProgress.TheVariants.{More}
 use Rattle.sd_rounds.specs.declared.image_step.ImageStep.{ImageStep}
-use Rattle.sd_rounds.specs.declared.image_step.ImageStep.TheVariants.{Call, PageCall, TableCall, Frozen, Visited, Copied}
+use Rattle.sd_rounds.specs.declared.image_step.ImageStep.TheVariants.{Call, PageCall, TableCall, Frozen, Visited}
+use Rattle.sd_rounds.specs.declared.image_step.ImageStep.TheVariants.{Copied}
 use Rattle.sd_rounds.specs.declared.stage.Stage.{Stage}
 use Rattle.sd_rounds.specs.declared.stage.Stage.TheVariants.{Format, Freeze, Pass as PassStage, Close}
 use Rattle.sd_rounds.specs.Dump.{IsDumped, IsDumping}
@@ -25,7 +26,8 @@ use Rattle.sd_rounds.specs.Rises.{IsRising}
 abbrev pub Pages : Type 0
 Pages = List (List ℕ)
 
--- Of each clean page, what the image so far and the images below give are its bytes; once its table is written, what it gives.
+-- Of each clean page, what the image so far and the images below give are its bytes; once its table is written, what it
+-- gives.
 abbrev pub IsKeptIn : Stage → Pages → Chain → Pass → Contents → Type 0
 IsKeptIn (Format plan) pages chain pass memory = Keeps (listed_pages pages) chain pass memory
 IsKeptIn Freeze pages chain pass memory = Keeps (listed_pages pages) chain pass memory
@@ -67,22 +69,31 @@ pub record AreItsNumbers (order : ImageOrder) : Type 0 where
   pub checkpoint : 0 < order.checkpoint
 
 pub record MakingLaws : Type 0 where
-  pub begins : (order : ImageOrder) (chain : Chain) (memory : Contents) → (order.parent ≢ 0 → Rests chain memory) → KeepsImage [] chain (begun_image order) memory
-  pub steps : (ticket : ℕ) (pages : Pages) (chain : Chain) (old new : Making) (before after : Contents) (step : ImageStep) → Steps ticket old before step new after
+  pub begins : (order : ImageOrder) (chain : Chain) (memory : Contents) → (order.parent ≢ 0 → Rests chain memory)
+      → KeepsImage [] chain (begun_image order) memory
+  pub steps : (ticket : ℕ) (pages : Pages) (chain : Chain) (old new : Making) (before after : Contents)
+      (step : ImageStep) → Steps ticket old before step new after
       → KeepsImage pages chain old before → KeepsImage (pages_after step pages) chain new after
-  pub hands : (pages : Pages) (chain : Chain) (old new : Making) (memory : Contents) (made : Made) → HandsIn old made More new
+  pub hands : (pages : Pages) (chain : Chain) (old new : Making) (memory : Contents) (made : Made)
+      → HandsIn old made More new
       → KeepsImage pages chain old memory → KeepsImage pages chain new memory
   -- whatever is called on the memory, and while images below are merged or closed
-  pub calls : (pages : Pages) (one other : Chain) (making : Making) (old new : Contents) (event : Event) → IsSound old → Step old event new → IsCall event → Within one other
+  pub calls : (pages : Pages) (one other : Chain) (making : Making) (old new : Contents) (event : Event) → IsSound old
+      → Step old event new → IsCall event → Within one other
       → KeepsImage pages one making old → KeepsImage pages other making new
   -- images below are merged or closed while the memory stays
   pub agrees : (pages : Pages) (one other : Chain) (making : Making) (memory : Contents) → Within one other
       → KeepsImage pages one making memory → KeepsImage pages other making memory
-  pub agrees_dump : (cut : Contents) (pages : Pages) (one other : Chain) (making : Making) (memory : Contents) → Within one other
+  pub agrees_dump : (cut : Contents) (pages : Pages) (one other : Chain) (making : Making) (memory : Contents)
+      → Within one other
       → DumpsImage cut pages one making memory → DumpsImage cut pages other making memory
-  pub freezes : (ticket : ℕ) (pages : Pages) (chain : Chain) (old new : Making) (before after : Contents) → Steps ticket old before Frozen new after
+  pub freezes : (ticket : ℕ) (pages : Pages) (chain : Chain) (old new : Making) (before after : Contents)
+      → Steps ticket old before Frozen new after
       → DumpsImage before pages chain new after
-  pub dumps : (ticket : ℕ) (cut : Contents) (pages : Pages) (chain : Chain) (old new : Making) (before after : Contents) (step : ImageStep) → Steps ticket old before step new after
-      → is_past_freeze old.stage ≡ true → IsRising old.pass → KeepsImage pages chain old before → DumpsImage cut pages chain old before → DumpsImage cut (pages_after step pages) chain new after
-  pub hands_dump : (cut : Contents) (pages : Pages) (chain : Chain) (old new : Making) (memory : Contents) (made : Made) → HandsIn old made More new
+  pub dumps : (ticket : ℕ) (cut : Contents) (pages : Pages) (chain : Chain) (old new : Making) (before after : Contents)
+      (step : ImageStep) → Steps ticket old before step new after
+      → is_past_freeze old.stage ≡ true → IsRising old.pass → KeepsImage pages chain old before
+      → DumpsImage cut pages chain old before → DumpsImage cut (pages_after step pages) chain new after
+  pub hands_dump : (cut : Contents) (pages : Pages) (chain : Chain) (old new : Making) (memory : Contents) (made : Made)
+      → HandsIn old made More new
       → is_past_freeze old.stage ≡ true → DumpsImage cut pages chain old memory → DumpsImage cut pages chain new memory

@@ -11,7 +11,8 @@ abbrev pub NoPageIsNext : Option Running → Contents → Type 0
 NoPageIsNext None before = Unit {0}
 NoPageIsNext (Some running) before = HaveNoPage running.image before
 
--- a page is visited or a sector copied, whatever the serial, the slot and the ticket; or that isn't next, and nothing changes
+-- a page is visited or a sector copied, whatever the serial, the slot and the ticket; or that isn't next, and nothing
+-- changes
 abbrev pub Passes : Dumping → Contents → Option PassStep → Dumping → Contents → Type 0
 Passes old before None new after = NoPageIsNext old.running before × (new ≡ old) × (after ≡ before)
 Passes old before (Some step) new after =

@@ -3,19 +3,22 @@ use Rattle.std.specs.Prelude.{◌≡◌, ℕ, Bool, true, false, if◌then◌els
 use Rattle.sd_image.specs.declared.run.RunKind.{RunKind}
 use Rattle.sd_pagetable.specs.Order.{is_above}
 use Rattle.sd_pagetable.specs.Tracking.{is_page}
-use Rattle.sd_rounds.specs.Pass.{Place, Entry, Taking, Pass, has_passed, opened, visited, copied_more, dropped, with_entry}
+use Rattle.sd_rounds.specs.Pass.{Place, Entry, Taking, Pass, has_passed, opened, visited, copied_more, dropped}
+use Rattle.sd_rounds.specs.Pass.{with_entry}
 
 -- each above the one before
 abbrev pub AreRising : Option Place → List Entry → Type 0
 AreRising before [] = Unit {0}
-AreRising before (entry ∷ entries) = (is_above before entry.place.0 entry.place.1 ≡ true) × AreRising (Some entry.place) entries
+AreRising before (entry ∷ entries) =
+    (is_above before entry.place.0 entry.place.1 ≡ true) × AreRising (Some entry.place) entries
 
 -- the last page that has an entry
 abbrev pub last_of : Option Place → List Entry → Option Place
 last_of before [] = before
 last_of before (entry ∷ entries) = last_of (Some entry.place) entries
 
--- the entries rise, the cursor is at the last of them or above it, and a page that is being taken is the one at the cursor
+-- the entries rise, the cursor is at the last of them or above it, and a page that is being taken is the one at the
+-- cursor
 pub record IsRising (pass : Pass) : Type 0 where
   pub rises : AreRising None pass.entries
   pub ahead : (at : Place) → has_passed pass.after at ≡ false → is_above (last_of None pass.entries) at.0 at.1 ≡ true
@@ -25,13 +28,18 @@ pub record IsRising (pass : Pass) : Type 0 where
 -- in which way entries have a page
 abbrev pub kind_at : List Entry → Place → Option RunKind
 kind_at [] at = None
-kind_at (entry ∷ entries) at = if is_page entry.place.0 entry.place.1 at.0 at.1 then Some entry.kind else kind_at entries at
+kind_at (entry ∷ entries) at =
+    if is_page entry.place.0 entry.place.1 at.0 at.1 then Some entry.kind else kind_at entries at
 
 pub record RisesLaws : Type 0 where
   pub opens : (takes_all : Bool) → IsRising (opened takes_all)
-  pub visits : (pass : Pass) (at : Place) (soft_dirty : Bool) → pass.taking ≡ None → is_above pass.after at.0 at.1 ≡ true → IsRising pass → IsRising (visited pass at soft_dirty)
-  pub copies : (pass : Pass) (taking : Taking) (more : List ℕ) → pass.taking ≡ Some taking → IsRising pass → IsRising (copied_more pass taking more)
+  pub visits : (pass : Pass) (at : Place) (soft_dirty : Bool) → pass.taking ≡ None
+      → is_above pass.after at.0 at.1 ≡ true → IsRising pass → IsRising (visited pass at soft_dirty)
+  pub copies : (pass : Pass) (taking : Taking) (more : List ℕ) → pass.taking ≡ Some taking → IsRising pass
+      → IsRising (copied_more pass taking more)
   pub drops : (pass : Pass) → IsRising pass → IsRising (dropped pass)
-  pub enters : (pass : Pass) (taking : Taking) (kind : RunKind) → pass.taking ≡ Some taking → IsRising pass → IsRising (with_entry pass taking.place kind)
+  pub enters : (pass : Pass) (taking : Taking) (kind : RunKind) → pass.taking ≡ Some taking → IsRising pass
+      → IsRising (with_entry pass taking.place kind)
   -- a page above the entries has none
-  pub missing : (entries : List Entry) (at : Place) → AreRising None entries → is_above (last_of None entries) at.0 at.1 ≡ true → kind_at entries at ≡ None
+  pub missing : (entries : List Entry) (at : Place) → AreRising None entries
+      → is_above (last_of None entries) at.0 at.1 ≡ true → kind_at entries at ≡ None

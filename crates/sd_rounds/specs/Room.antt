@@ -16,11 +16,12 @@ pub record LeavesNext (pass : Pass) (memory : Contents) : Type 0 where
   pub there : page_at memory at.0 at.1 ≡ Some page
   pub clean : (pass.takes_all || page.soft_dirty) ≡ false
 
--- A pass wants memory for a table, where there is no further page, and for the entry of a page that is left to the parent;
--- for a sector or the entry of a page that is being taken, while it is mapped or once all of it is copied.
+-- A pass wants memory for a table, where there is no further page, and for the entry of a page that is left to the
+-- parent; for a sector or the entry of a page that is being taken, while it is mapped or once all of it is copied.
 abbrev pub WantsFor : Pass → Contents → Option Taking → Type 0
 WantsFor pass memory None = IsNextPage memory.spaces pass.after None ⊎ LeavesNext pass memory
-WantsFor pass memory (Some taking) = IsSome (page_at memory taking.place.0 taking.place.1) ⊎ (length taking.copied ≡ 4096)
+WantsFor pass memory (Some taking) =
+    IsSome (page_at memory taking.place.0 taking.place.1) ⊎ (length taking.copied ≡ 4096)
 
 abbrev pub PassWants : Pass → Contents → Type 0
 PassWants pass memory = WantsFor pass memory pass.taking

@@ -1,5 +1,6 @@
 -- A pass in code, as it is seen, and what its steps do.
-use Rattle.std.specs.Prelude.{◌≡◌, ℕ, ◌+◌, ◌*◌, ◌<◌, ◌≤◌, Bool, false, ◌&&◌, ◌==◌, if◌then◌else◌, List, length, ◌++◌, Option, Some, None}
+use Rattle.std.specs.Prelude.{◌≡◌, ℕ, ◌+◌, ◌*◌, ◌<◌, ◌≤◌, Bool, false, ◌&&◌, ◌==◌, if◌then◌else◌, List, length, ◌++◌}
+use Rattle.std.specs.Prelude.{Option, Some, None}
 use Rattle.std.specs.List.{list_all}
 use Rattle.std.specs.Option.{option_map}
 use Rattle.sd_image.specs.declared.table.SpaceTable.{SpaceTable}
@@ -12,7 +13,8 @@ use Rattle.sd_rounds.specs.declared.copied.Copied.TheVariants.{More, Zero as Zer
 use Rattle.sd_rounds.specs.declared.standing.Standing.{Standing}
 use Rattle.sd_rounds.specs.declared.standing.Standing.TheVariants.{Free, Copying, Copied}
 use Rattle.sd_rounds.specs.declared.visit.Visit.{Visit}
-use Rattle.sd_rounds.specs.Pass.{Place, Taking, Pass, visited, sector_of, copied_more, dropped, taken_as_zero, taken_as_data}
+use Rattle.sd_rounds.specs.Pass.{Place, Taking, Pass, visited, sector_of, copied_more, dropped, taken_as_zero}
+use Rattle.sd_rounds.specs.Pass.{taken_as_data}
 use Rattle.sd_rounds.specs.Rises.{IsRising}
 use Rattle.sd_rounds.specs.Tables.{AreTables, EndBefore, entries_in, listed}
 
@@ -22,7 +24,12 @@ taking_of buffer place = record { place = place; copied = buffer }
 
 abbrev pub pass_of : Bool → List SpaceTable → Option Place → Option Place → List ℕ → Pass
 pass_of takes_all tables after taking buffer =
-    record { takes_all = takes_all; entries = entries_in tables; after = after; taking = option_map (taking_of buffer) taking }
+    record {
+      takes_all = takes_all;
+      entries = entries_in tables;
+      after = after;
+      taking = option_map (taking_of buffer) taking;
+    }
 
 -- a parent number that the entries may name: none where every page is taken
 abbrev pub source : Bool → ℕ
@@ -45,7 +52,8 @@ abbrev pub is_page_of_zeros : List ℕ → Bool
 is_page_of_zeros bytes = length bytes == 4096 && list_all (λ byte. byte == 0) bytes
 
 -- what holds of every pass
-pub record IsRound (takes_all : Bool) (tables : List SpaceTable) (after taking : Option Place) (buffer : List ℕ) : Type 0 where
+pub record IsRound (takes_all : Bool) (tables : List SpaceTable) (after taking : Option Place)
+    (buffer : List ℕ) : Type 0 where
   pub are : AreTables (source takes_all) 0 (listed tables)
   pub ends : EndBefore (limit after taking) (listed tables)
   pub rising : IsRising (pass_of takes_all tables after taking buffer)

@@ -6,8 +6,8 @@ use Rattle.sd_rounds.specs.Pass.{data_pages}
 use Rattle.sd_rounds.specs.Rises.{IsRising}
 use Rattle.sd_rounds.specs.Writes.{AreWrites, no_writes}
 
--- an image in the making: its entries rise, it takes every page where it has no parent, its pass is that of its stage, and the writes
--- that are out are those of its data pages, during its pass
+-- an image in the making: its entries rise, it takes every page where it has no parent, its pass is that of its stage,
+-- and the writes that are out are those of its data pages, during its pass
 pub record IsSoundImage (image : Making) : Type 0 where
   pub rising : IsRising image.pass
   pub takes : image.pass.takes_all ≡ (image.order.parent == 0)

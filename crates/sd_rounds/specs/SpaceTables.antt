@@ -36,7 +36,8 @@ pub record AreSpacesBelow (number : ℕ) (memory : PlainMemory) (source tables :
   pub rise : Rise 0 tables
   pub below : AllByRecursion (λ (t : Listed). t.space < number) tables
   pub each : AllByRecursion (IsSpaceOf memory source) tables
-  pub alive : (space : ℕ) → space < number → finmap.contains_key memory space ≡ list_any (λ (t : Listed). t.space == space) tables
+  pub alive : (space : ℕ) → space < number
+      → finmap.contains_key memory space ≡ list_any (λ (t : Listed). t.space == space) tables
 
 -- all living spaces, with at most 65,536 pages
 pub record AreAllSpaces (memory : PlainMemory) (source tables : List Listed) : Type 0 where

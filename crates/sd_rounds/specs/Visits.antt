@@ -1,9 +1,11 @@
 -- Which pages a pass takes, by its visits.
-use Rattle.std.specs.Prelude.{◌≡◌, ℕ, Bool, true, not, ◌||◌, List, [], ◌∷◌, ◌++◌, map, filter, Contains, Some, None, IsSome}
+use Rattle.std.specs.Prelude.{◌≡◌, ℕ, Bool, true, not, ◌||◌, List, [], ◌∷◌, ◌++◌, map, filter, Contains, Some, None}
+use Rattle.std.specs.Prelude.{IsSome}
 use Rattle.sd_image.specs.declared.run.RunKind.TheVariants.{Data, Parent, Zero}
 use Rattle.sd_pagetable.specs.Contents.{Contents, page_at}
 use Rattle.sd_pagetable.specs.Order.{IsNextPage}
-use Rattle.sd_rounds.specs.Pass.{Place, Taking, Pass, pages_by, has_passed, opened, visited, copied_more, dropped, with_entry}
+use Rattle.sd_rounds.specs.Pass.{Place, Taking, Pass, pages_by, has_passed, opened, visited, copied_more, dropped}
+use Rattle.sd_rounds.specs.Pass.{with_entry}
 
 -- a test and clear, and whether the page was soft-dirty
 pub record Visit : Type 0 where
@@ -22,17 +24,19 @@ taken_pages takes_all visits = map visited_page (filter (is_taken takes_all) vis
 abbrev pub left_pages : Bool → List Visit → List Place
 left_pages takes_all visits = map visited_page (filter (λ visit. not (is_taken takes_all visit)) visits)
 
--- Exactly the clean pages are left to the parent, and all others are among those that were soft-dirty (or where all are taken).
+-- Exactly the clean pages are left to the parent, and all others are among those that were soft-dirty (or where all are
+-- taken).
 pub record IsPassOf (visits : List Visit) (pass : Pass) : Type 0 where
   pub parents : pages_by Parent pass.entries ≡ left_pages pass.takes_all visits
   pub stored : (at : Place) → Contains (pages_by Data pass.entries) at → Contains (taken_pages pass.takes_all visits) at
   pub zero : (at : Place) → Contains (pages_by Zero pass.entries) at → Contains (taken_pages pass.takes_all visits) at
   pub taking : (taking : Taking) → pass.taking ≡ Some taking → Contains (taken_pages pass.takes_all visits) taking.place
 
--- Every page that was mapped all the time since the pass began is visited, as soon as the cursor passed it. `still` tells which
--- these are.
+-- Every page that was mapped all the time since the pass began is visited, as soon as the cursor passed it. `still`
+-- tells which these are.
 abbrev pub IsSwept : (Place → Bool) → List Visit → Pass → Type 0
-IsSwept still visits pass = (at : Place) → still at ≡ true → has_passed pass.after at ≡ true → Contains (map visited_page visits) at
+IsSwept still visits pass =
+    (at : Place) → still at ≡ true → has_passed pass.after at ≡ true → Contains (map visited_page visits) at
 
 -- they are mapped
 abbrev pub AreMapped : (Place → Bool) → Contents → Type 0
@@ -40,13 +44,20 @@ AreMapped still memory = (at : Place) → still at ≡ true → IsSome (page_at 
 
 pub record VisitLaws : Type 0 where
   pub opens : (takes_all : Bool) → IsPassOf [] (opened takes_all)
-  pub visits : (visits : List Visit) (pass : Pass) (at : Place) (soft_dirty : Bool) → pass.taking ≡ None → IsPassOf visits pass
+  pub visits : (visits : List Visit) (pass : Pass) (at : Place) (soft_dirty : Bool) → pass.taking ≡ None
+      → IsPassOf visits pass
       → IsPassOf (visits ++ (record { place = at; soft_dirty = soft_dirty }) ∷ []) (visited pass at soft_dirty)
-  pub copies : (visits : List Visit) (pass : Pass) (taking : Taking) (more : List ℕ) → pass.taking ≡ Some taking → IsPassOf visits pass → IsPassOf visits (copied_more pass taking more)
+  pub copies : (visits : List Visit) (pass : Pass) (taking : Taking) (more : List ℕ) → pass.taking ≡ Some taking
+      → IsPassOf visits pass → IsPassOf visits (copied_more pass taking more)
   pub drops : (visits : List Visit) (pass : Pass) → IsPassOf visits pass → IsPassOf visits (dropped pass)
-  pub enters_data : (visits : List Visit) (pass : Pass) (taking : Taking) → pass.taking ≡ Some taking → IsPassOf visits pass → IsPassOf visits (with_entry pass taking.place Data)
-  pub enters_zero : (visits : List Visit) (pass : Pass) (taking : Taking) → pass.taking ≡ Some taking → IsPassOf visits pass → IsPassOf visits (with_entry pass taking.place Zero)
-  pub sweeps : (still : Place → Bool) (visits : List Visit) (pass : Pass) (memory : Contents) (at : Place) (soft_dirty : Bool) → AreMapped still memory
-      → IsNextPage memory.spaces pass.after (Some at) → IsSwept still visits pass → IsSwept still (visits ++ (record { place = at; soft_dirty = soft_dirty }) ∷ []) (visited pass at soft_dirty)
-  pub swept : (still : Place → Bool) (visits : List Visit) (pass : Pass) (memory : Contents) → AreMapped still memory → IsNextPage memory.spaces pass.after None
+  pub enters_data : (visits : List Visit) (pass : Pass) (taking : Taking) → pass.taking ≡ Some taking
+      → IsPassOf visits pass → IsPassOf visits (with_entry pass taking.place Data)
+  pub enters_zero : (visits : List Visit) (pass : Pass) (taking : Taking) → pass.taking ≡ Some taking
+      → IsPassOf visits pass → IsPassOf visits (with_entry pass taking.place Zero)
+  pub sweeps : (still : Place → Bool) (visits : List Visit) (pass : Pass) (memory : Contents) (at : Place)
+      (soft_dirty : Bool) → AreMapped still memory
+      → IsNextPage memory.spaces pass.after (Some at) → IsSwept still visits pass
+      → IsSwept still (visits ++ (record { place = at; soft_dirty = soft_dirty }) ∷ []) (visited pass at soft_dirty)
+  pub swept : (still : Place → Bool) (visits : List Visit) (pass : Pass) (memory : Contents) → AreMapped still memory
+      → IsNextPage memory.spaces pass.after None
       → IsSwept still visits pass → (at : Place) → still at ≡ true → Contains (map visited_page visits) at

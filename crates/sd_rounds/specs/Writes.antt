@@ -39,5 +39,6 @@ pub record IsPageWrite (slot pages : ℕ) (id : RequestId) : Type 0 where
 pub record AreWrites (slot pages : ℕ) (writes : List (Option RequestId)) : Type 0 where
   pub count : length writes ≡ 8
   pub each : (lane : ℕ) (id : RequestId) → slice_get writes lane ≡ Some (Some id) → IsPageWrite slot pages id
-  pub apart : (one other : ℕ) (a b : RequestId) → slice_get writes one ≡ Some (Some a) → slice_get writes other ≡ Some (Some b)
+  pub apart : (one other : ℕ) (a b : RequestId) → slice_get writes one ≡ Some (Some a)
+      → slice_get writes other ≡ Some (Some b)
       → a.call ≡ b.call → one ≡ other

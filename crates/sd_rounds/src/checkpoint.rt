@@ -8,7 +8,8 @@ ghost use Rattle.sd_rounds.specs.PlanSteps.{HaveNoPage, image_step, is_to_freeze
 ghost use Rattle.sd_rounds.specs.Room.{MakingWants};
 ghost use Rattle.sd_rounds.specs.Sound.{IsSoundMaking};
 ghost use Rattle.sd_rounds.specs.Waits.{image_must_wait};
-ghost use Rattle.sd_rounds.specs.Dumper.{HandsTo, HasFewPages, IsReserved, WorksOn, after_pre_dump, is_frozen_image, is_last, kind_of, order_of, pages_of_image, running_of, serial_of, slot_of};
+ghost use Rattle.sd_rounds.specs.Dumper.{HandsTo, HasFewPages, IsReserved, WorksOn, after_pre_dump, is_frozen_image};
+ghost use Rattle.sd_rounds.specs.Dumper.{is_last, kind_of, order_of, pages_of_image, running_of, serial_of, slot_of};
 
 use crate::image_maker::ImageMaker;
 use crate::image_order::ImageOrder;
@@ -131,8 +132,8 @@ impl Checkpoint {
         }
     }
 
-    /// Makes the next step of the image that is being made, which visits no page and copies no sector, or begins the next
-    /// image.
+    /// Makes the next step of the image that is being made, which visits no page and copies no sector, or begins the
+    /// next image.
     ///
     /// # Errors
     ///

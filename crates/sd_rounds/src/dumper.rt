@@ -1,5 +1,6 @@
 //! The dumper: the images of a checkpoint, step by step.
-ghost use Rattle.std.specs.Prelude.{◌≡◌, ◌↔◌, Err, None, Some, true, IsSome, IsTrue, IfOk, IfErr, OnOk, OnErr, is_none, if◌then◌else◌};
+ghost use Rattle.std.specs.Prelude.{◌≡◌, ◌↔◌, Err, None, Some, true, IsSome, IsTrue, IfOk, IfErr, OnOk, OnErr, is_none};
+ghost use Rattle.std.specs.Prelude.{if◌then◌else◌};
 ghost use Rattle.std.specs.Option.{option_map};
 ghost use Rattle.sd_rounds.specs.declared.work_error.WorkError.TheVariants.{Busy, Idle, OutOfMemory};
 ghost use Rattle.sd_pagetable.specs.Contents.{plain_of};
@@ -8,7 +9,9 @@ ghost use Rattle.sd_rounds.specs.Room.{StepWants};
 ghost use Rattle.sd_rounds.specs.Sound.{HasSoundImage};
 ghost use Rattle.sd_rounds.specs.Waits.{dumper_must_wait};
 ghost use Rattle.sd_rounds.specs.PassSteps.{Passes};
-ghost use Rattle.sd_rounds.specs.Dumper.{AreRunning, Dumping, Fills, Hands, HasCounted, Works, begun_checkpoint, dump_slot, ends, idle, is_dumping, is_strange, next_slot, pages_of, parent_of, pre_dump_slots, serial_of};
+ghost use Rattle.sd_rounds.specs.Dumper.{AreRunning, Dumping, Fills, Hands, HasCounted, Works, begun_checkpoint};
+ghost use Rattle.sd_rounds.specs.Dumper.{dump_slot, ends, idle, is_dumping, is_strange, next_slot, pages_of, parent_of};
+ghost use Rattle.sd_rounds.specs.Dumper.{pre_dump_slots, serial_of};
 
 use crate::checkpoint::Checkpoint;
 use crate::image_step::ImageStep;
@@ -197,14 +200,14 @@ impl Dumper {
         }
     }
 
-    /// Makes the next step: of the image that is being made, or of the next, which gets this serial, and whose slot is in
-    /// this state.
+    /// Makes the next step: of the image that is being made, or of the next, which gets this serial, and whose slot is
+    /// in this state.
     ///
     /// # Errors
     ///
-    /// Idle where no checkpoint runs, Busy where an outcome is awaited: while a request is out that writes no data page, while
-    /// eight are out that do, or some where no page is left. Out of memory where an entry, a sector or the table finds no
-    /// room, and only where one is wanted. Nothing changed.
+    /// Idle where no checkpoint runs, Busy where an outcome is awaited: while a request is out that writes no data
+    /// page, while eight are out that do, or some where no page is left. Out of memory where an entry, a sector or the
+    /// table finds no room, and only where one is wanted. Nothing changed.
     pub fn work(
         &mut self,
         memory: &mut Memory,
@@ -235,13 +238,13 @@ impl Dumper {
         }
     }
 
-    /// Makes the next step where it visits a page or copies a sector, as `work` does, and needs no serial, slot or ticket
-    /// for it. None where the next step is another: nothing changed, and `work` makes it.
+    /// Makes the next step where it visits a page or copies a sector, as `work` does, and needs no serial, slot or
+    /// ticket for it. None where the next step is another: nothing changed, and `work` makes it.
     ///
     /// # Errors
     ///
-    /// Idle where no checkpoint runs, Busy where an outcome is awaited, as `work`. Out of memory where an entry or a sector
-    /// finds no room, and only where one is wanted. Nothing changed.
+    /// Idle where no checkpoint runs, Busy where an outcome is awaited, as `work`. Out of memory where an entry or a
+    /// sector finds no room, and only where one is wanted. Nothing changed.
     #[inline]
     pub fn pass(&mut self, memory: &mut Memory) -> Result<Option<PassStep>, WorkError>
         ensures passes { IfOk result (λ found. Passes self.old memory.old found self.new memory.new) }
@@ -283,8 +286,8 @@ impl Dumper {
         progress
     }
 
-    /// Whether an outcome is awaited before the next step: while a request is out that writes no data page, while eight are
-    /// out that do, or some where no page is left to be visited or copied.
+    /// Whether an outcome is awaited before the next step: while a request is out that writes no data page, while eight
+    /// are out that do, or some where no page is left to be visited or copied.
     pub fn must_wait(&self, memory: &Memory) -> bool
         ensures { result ≡ dumper_must_wait self.now.running (plain_of memory.now) }
     {
@@ -312,8 +315,9 @@ impl Dumper {
         end(&mut self.checkpoint);
     }
 
-    /// How many steps and outcomes the checkpoint has before it, at most: 0 exactly while none runs. Each step lowers it,
-    /// and so does each outcome of the request that is out. It goes over the mapped pages one by one, and isn't for a step.
+    /// How many steps and outcomes the checkpoint has before it, at most: 0 exactly while none runs. Each step lowers
+    /// it, and so does each outcome of the request that is out. It goes over the mapped pages one by one, and isn't for
+    /// a step.
     pub fn left(&self, memory: &Memory) -> u128
         ensures left { result ≡ left_of self.now.running (plain_of memory.now) }
         ensures idle { result ≡ 0 ↔ self.now.running ≡ None }

@@ -40,7 +40,8 @@ pub(crate) fn push_entry(
 /// Whether the last of some tables is of a space.
 #[inline]
 fn end_in(tables: &[SpaceTable], space: SpaceId) -> bool
-    ensures { result ≡ option_map_or (λ (last : SpaceTable). last.space == space) (slice_get tables.now (length tables.now - 1)) false }
+    ensures { result ≡ option_map_or (λ (last : SpaceTable). last.space == space)
+        (slice_get tables.now (length tables.now - 1)) false }
 {
     match tables.last() {
         Some(last) => last.space.number() == space.number(),

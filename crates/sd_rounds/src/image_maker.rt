@@ -1,5 +1,6 @@
 //! One image in the making: its slot is formatted, the pages of a memory are passed, and its gate is opened.
-ghost use Rattle.std.specs.Prelude.{◌≡◌, ◌≢◌, ℕ, ◌<◌, ◌≤◌, ◌^◌, None, Some, IsSome, IsErr, false, IfOk, OnErr, MatchOption, length, replicate, slice_get};
+ghost use Rattle.std.specs.Prelude.{◌≡◌, ◌≢◌, ℕ, ◌<◌, ◌≤◌, ◌^◌, None, Some, IsSome, IsErr, false, IfOk, OnErr};
+ghost use Rattle.std.specs.Prelude.{MatchOption, length, replicate, slice_get};
 ghost use Rattle.sd_image.specs.Header.{HasWords};
 ghost use Rattle.sd_gate.specs.Plans.{Gives, Planned};
 ghost use Rattle.sd_gate.specs.Sequences.{data_place};
@@ -7,7 +8,8 @@ ghost use Rattle.sd_gate.specs.declared.call.Call.TheVariants.{Write};
 ghost use Rattle.sd_rounds.specs.declared.stage.Stage.TheVariants.{Format, Pass as PassStage};
 ghost use Rattle.sd_pagetable.specs.Contents.{Contents, plain_of};
 ghost use Rattle.sd_rounds.specs.Left.{image_left, plan_left};
-ghost use Rattle.sd_rounds.specs.Making.{IsAskedBy, IsUnderWay, Steps, WritesPage, begun_image, header_of, is_frozen, out_of, stage_behind};
+ghost use Rattle.sd_rounds.specs.Making.{IsAskedBy, IsUnderWay, Steps, WritesPage, begun_image, header_of, is_frozen};
+ghost use Rattle.sd_rounds.specs.Making.{out_of, stage_behind};
 ghost use Rattle.sd_rounds.specs.PlanSteps.{HasNoPage, IsPageCallOf, Settles, image_step, is_freeze};
 ghost use Rattle.sd_rounds.specs.Pass.{data_pages};
 ghost use Rattle.sd_rounds.specs.Room.{ImageWants};
@@ -53,7 +55,8 @@ impl Model for ImageMaker {
 
     ghost Value = { Making };
 
-    ghost view = { λ m. record { order = m.order; pass = m.round; stage = m.stage; writes = m.writes; digester = m.digester } };
+    ghost view = { λ m. record
+        { order = m.order; pass = m.round; stage = m.stage; writes = m.writes; digester = m.digester } };
 
     ghost invariant = { λ m. IsMaking m.order m.round m.stored m.stage m.writes };
 }

@@ -86,8 +86,8 @@ pub fn image_visits_law()
     visits_law();
 }
 
-/// Which pages an image takes: of a dump those that are due at the freeze, of a pre-dump none but those that were soft-dirty
-/// at their visit.
+/// Which pages an image takes: of a dump those that are due at the freeze, of a pre-dump none but those that were
+/// soft-dirty at their visit.
 pub fn little_law()
     ensures { LittleLaws }
 {
@@ -98,8 +98,8 @@ pub fn little_law()
     visits_law();
 }
 
-/// How many steps and outcomes a checkpoint has before it: none exactly where none runs, and fewer with each step and with
-/// each outcome of a request that was out.
+/// How many steps and outcomes a checkpoint has before it: none exactly where none runs, and fewer with each step and
+/// with each outcome of a request that was out.
 pub fn left_law()
     ensures { LeftLaws }
 {

@@ -1,5 +1,6 @@
 //! A pass over the pages of a memory, which makes the entries of an image.
-ghost use Rattle.std.specs.Prelude.{◌≡◌, ◌≢◌, length, ◌||◌, ◌<◌, ◌≤◌, ◌^◌, true, false, None, Some, IsSome, IsErr, IfOk, OnOk, OnErr, MatchOption, ◌++◌};
+ghost use Rattle.std.specs.Prelude.{◌≡◌, ◌≢◌, length, ◌||◌, ◌<◌, ◌≤◌, ◌^◌, true, false, None, Some, IsSome, IsErr};
+ghost use Rattle.std.specs.Prelude.{IfOk, OnOk, OnErr, MatchOption, ◌++◌};
 ghost use Rattle.sd_image.specs.declared.run.RunKind.TheVariants.{Parent};
 ghost use Rattle.sd_pagetable.specs.Contents.{page_at, plain_of};
 ghost use Rattle.sd_pagetable.specs.Order.{is_above};
@@ -7,10 +8,12 @@ ghost use Rattle.sd_pagetable.specs.Page.{Page};
 ghost use Rattle.sd_pagetable.specs.Sectors.{sector_bytes};
 ghost use Rattle.sd_pagetable.specs.Tracking.{Cleared, Step};
 ghost use Rattle.sd_rounds.specs.Left.{pass_left};
-ghost use Rattle.sd_rounds.specs.Pass.{Taking, begun_to_take, copied_more, data_pages, dropped, left_to_parent, opened, place_taken, visited, with_entry};
+ghost use Rattle.sd_rounds.specs.Pass.{Taking, begun_to_take, copied_more, data_pages, dropped, left_to_parent, opened};
+ghost use Rattle.sd_rounds.specs.Pass.{place_taken, visited, with_entry};
 ghost use Rattle.sd_rounds.specs.Rises.{IsRising};
 ghost use Rattle.sd_rounds.specs.Room.{LeavesNext};
-ghost use Rattle.sd_rounds.specs.Rounds.{Copies, IsCopied, IsCopying, IsOver, Stands, TakesPage, Tests, is_page_of_zeros, source};
+ghost use Rattle.sd_rounds.specs.Rounds.{Copies, IsCopied, IsCopying, IsOver, Stands, TakesPage, Tests};
+ghost use Rattle.sd_rounds.specs.Rounds.{is_page_of_zeros, source};
 ghost use Rattle.sd_rounds.specs.Tables.{AreTables, entries_in, listed};
 ghost use Rattle.sd_rounds.specs.Waits.{is_over};
 

@@ -50,13 +50,17 @@ is_reopened (reply.Trimmed count) = false
 is_reopened (reply.Reopened m) = true
 is_reopened (reply.Refused why) = false
 
--- A store is opened again, and then its newest chain is merged. The answer is the last reply: that of the merge, or that of a reopening that failed.
-pub data MergesTip {D : Type 0} (g : Ghosts D) (first : WorldView D) (answer : Reply) (last : WorldView D) : Type 0 where
+-- A store is opened again, and then its newest chain is merged. The answer is the last reply: that of the merge, or
+-- that of a reopening that failed.
+pub data MergesTip {D : Type 0} (g : Ghosts D) (first : WorldView D) (answer : Reply)
+    (last : WorldView D) : Type 0 where
   closed : is_reopened answer ≡ false → IsJob g Reopen Opener first answer last → MergesTip g first answer last
-  merged : (reopened : Reply) (mid : WorldView D) → is_reopened reopened ≡ true → IsJob g Reopen Opener first reopened mid
+  merged : (reopened : Reply) (mid : WorldView D) → is_reopened reopened ≡ true
+      → IsJob g Reopen Opener first reopened mid
       → IsJob g Merge Merger mid answer last → MergesTip g first answer last
 
--- A merge from the disk that was opened to the one that is left. Whatever moment of it a crash comes, it leaves what the journal of that moment allows.
+-- A merge from the disk that was opened to the one that is left. Whatever moment of it a crash comes, it leaves what
+-- the journal of that moment allows.
 pub record IsMergeRun {D : Type 0} (g : Ghosts D) (old : D) (answer : Reply) (new : D) : Type 0 where
   pub opened : WorldView D
   pub last : WorldView D
@@ -64,7 +68,8 @@ pub record IsMergeRun {D : Type 0} (g : Ghosts D) (old : D) (answer : Reply) (ne
   pub merges : MergesTip g opened answer last
 
 -- a merge ended with this reply, and its line was printed behind what was
-pub record PrintsMerge {D : Type 0} (g : Ghosts D) (old : D) (answer : Reply) (new : D) (before now : Option (List ℕ)) : Type 0 where
+pub record PrintsMerge {D : Type 0} (g : Ghosts D) (old : D) (answer : Reply) (new : D)
+    (before now : Option (List ℕ)) : Type 0 where
   pub run : IsMergeRun g old answer new
   pub printed : Appends before now (reply_line answer)
 
@@ -74,20 +79,24 @@ IsWholeMerge g old new before now = (serial : ℕ) × PrintsMerge g old (reply.M
 
 -- a merge didn't come to its end, and its last reply was printed
 abbrev pub IsRefusedMerge : {D : Type 0} → Ghosts D → D → D → Option (List ℕ) → Option (List ℕ) → Type 0
-IsRefusedMerge g old new before now = (answer : Reply) × (is_merged answer ≡ false) × PrintsMerge g old answer new before now
+IsRefusedMerge g old new before now =
+    (answer : Reply) × (is_merged answer ≡ false) × PrintsMerge g old answer new before now
 
 -- what becomes of a disk: it was only read, or its store was opened again and merged, up to the last reply
 pub data IsLeftByMerge {D : Type 0} (g : Ghosts D) (old new : D) : Type 0 where
   only_read : OnlyReads g old new → IsLeftByMerge g old new
   run : (answer : Reply) → IsMergeRun g old answer new → IsLeftByMerge g old new
 
--- A merge up to the exit: behind the reply, or in its place, stands why it was stopped, if it was, and the status comes with that.
-pub record MergesToExit {D : Type 0} (g : Ghosts D) (old new : D) (before after : Option (List ℕ)) (refused : Bool) (status : ℕ) : Type 0 where
+-- A merge up to the exit: behind the reply, or in its place, stands why it was stopped, if it was, and the status comes
+-- with that.
+pub record MergesToExit {D : Type 0} (g : Ghosts D) (old new : D) (before after : Option (List ℕ)) (refused : Bool)
+    (status : ℕ) : Type 0 where
   pub ended : Result Unit Stop
   pub printed : Option (List ℕ)
   pub merged : OnOk ended (IsWholeMerge g old new before printed)
   pub told : ended ≡ Err stop.Refused → IsRefusedMerge g old new before printed
   -- where the store isn't opened, its fault is told
-  pub fault : (fault : OpenFault) → ended ≡ Err (unopened fault) → g.is_honest new → IsFaultOf (g.contents old) (g.failed old) (g.failed new) fault
+  pub fault : (fault : OpenFault) → ended ≡ Err (unopened fault) → g.is_honest new
+      → IsFaultOf (g.contents old) (g.failed old) (g.failed new) fault
   pub writer : OnWriter ended (refused ≡ true)
   pub exits : Exits printed after refused (end_text ended) (end_status ended) status

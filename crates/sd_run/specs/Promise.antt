@@ -18,7 +18,8 @@ use Rattle.sd_script.specs.declared.line.Line.{Line}
 use Rattle.sd_script.specs.declared.line.Line.TheVariants as line
 use Rattle.sd_script.specs.Texts.{answer_line}
 use Rattle.sd_world.specs.declared.event.Event.{Event}
-use Rattle.sd_world.specs.declared.event.Event.TheVariants.{Command, Begin, Work, Perform, PerformAt, Merge, Cancel, Reopen, Trim}
+use Rattle.sd_world.specs.declared.event.Event.TheVariants.{Command, Begin, Work, Perform, PerformAt, Merge, Cancel}
+use Rattle.sd_world.specs.declared.event.Event.TheVariants.{Reopen, Trim}
 use Rattle.sd_world.specs.Points.{StandsAt}
 use Rattle.sd_world.specs.Promise.{Goes, Point}
 use Rattle.sd_world.specs.View.{WorldView}
@@ -74,7 +75,8 @@ EndsJob _ given = Unit {0}
 -- ---- from one point of a run to a later one
 
 -- by a line and its answer
-pub record GoesByLine {D : Type 0} (g : Ghosts D) (asked : Line) (first : Point D) (given : Answer) (last : Point D) : Type 0 where
+pub record GoesByLine {D : Type 0} (g : Ghosts D) (asked : Line) (first : Point D) (given : Answer)
+    (last : Point D) : Type 0 where
   pub others : List Event
   pub replies : List Reply
   pub goes : Goes g first (begins_with asked ++ others) replies last
@@ -94,7 +96,8 @@ GoesByLines g first (asked ∷ lines) [] last = ⊥
 abbrev pub Tells : Answer → Option (List ℕ) → Option (List ℕ) → Answer → Type 0
 Tells given before now told = (told ≡ given) × Appends before now (answer_line given)
 
--- One line was answered, which was told where the writer took it, and the world stands at the point that the run came to.
+-- One line was answered, which was told where the writer took it, and the world stands at the point that the run came
+-- to.
 pub record RunsLine {D E : Type 0} (g : Ghosts D) (asked : Line) (first : Point D) (world : WorldView D)
     (ended : Result Answer E) (before now : Option (List ℕ)) : Type 0 where
   pub last : Point D
@@ -105,8 +108,8 @@ pub record RunsLine {D E : Type 0} (g : Ghosts D) (asked : Line) (first : Point 
 
 -- ---- from the disk that was opened to the one that is left
 
--- The run starts: the disk was only read, the journal is empty, and no checkpoint was begun. What was read shows what the
--- run starts from, or nothing saved, and so does whatever a crash may leave.
+-- The run starts: the disk was only read, the journal is empty, and no checkpoint was begun. What was read shows what
+-- the run starts from, or nothing saved, and so does whatever a crash may leave.
 pub record Starts {D : Type 0} (g : Ghosts D) (old : D) (first : Point D) : Type 0 where
   pub reads : OnlyReads g old first.disk
   pub entries : first.entries ≡ []
@@ -115,7 +118,8 @@ pub record Starts {D : Type 0} (g : Ghosts D) (old : D) (first : Point D) : Type
   pub everywhere : Within (g.may_leave first.disk) (λ c. Shows c (shown_base first.base.number first.base.memory))
 
 -- All lines were answered, and their answers printed behind what was.
-pub record Promise {D : Type 0} (g : Ghosts D) (lines : List Line) (old new : D) (before now : Option (List ℕ)) : Type 0 where
+pub record Promise {D : Type 0} (g : Ghosts D) (lines : List Line) (old new : D)
+    (before now : Option (List ℕ)) : Type 0 where
   pub first : Point D
   pub last : Point D
   pub starts : Starts g old first
@@ -124,8 +128,10 @@ pub record Promise {D : Type 0} (g : Ghosts D) (lines : List Line) (old new : D)
   pub ends : new ≡ last.disk
   pub printed : Appends before now (flat_map answer_line answers)
 
--- The first of the lines were answered, up to any place, and their answers printed behind what was; or the last one was broken off.
-pub record PromiseSoFar {D : Type 0} (g : Ghosts D) (lines : List Line) (old new : D) (before now : Option (List ℕ)) : Type 0 where
+-- The first of the lines were answered, up to any place, and their answers printed behind what was; or the last one was
+-- broken off.
+pub record PromiseSoFar {D : Type 0} (g : Ghosts D) (lines : List Line) (old new : D)
+    (before now : Option (List ℕ)) : Type 0 where
   pub first : Point D
   pub last : Point D
   pub starts : Starts g old first
@@ -137,12 +143,16 @@ pub record PromiseSoFar {D : Type 0} (g : Ghosts D) (lines : List Line) (old new
   pub ends : new ≡ last.disk
   pub told : AreTold answers before now
 
--- What is promised however a run ends: the disk was only read, and no answer was printed; or the first of the lines were answered.
+-- What is promised however a run ends: the disk was only read, and no answer was printed; or the first of the lines
+-- were answered.
 abbrev pub PromiseAnyway : {D : Type 0} → Ghosts D → List Line → D → D → Option (List ℕ) → Option (List ℕ) → Type 0
-PromiseAnyway g lines old new before now = (OnlyReads g old new × (now ≡ before)) ⊎ PromiseSoFar g lines old new before now
+PromiseAnyway g lines old new before now =
+    (OnlyReads g old new × (now ≡ before)) ⊎ PromiseSoFar g lines old new before now
 
--- The same up to the exit: behind what was printed stands why the run was stopped, if it was, and the status is the one that comes with that.
-pub record PromiseToExit {D : Type 0} (g : Ghosts D) (lines : List Line) (old new : D) (before after : Option (List ℕ)) (refused : Bool) (status : ℕ) : Type 0 where
+-- The same up to the exit: behind what was printed stands why the run was stopped, if it was, and the status is the one
+-- that comes with that.
+pub record PromiseToExit {D : Type 0} (g : Ghosts D) (lines : List Line) (old new : D) (before after : Option (List ℕ))
+    (refused : Bool) (status : ℕ) : Type 0 where
   pub ended : Result Unit Stop
   pub printed : Option (List ℕ)
   pub so_far : PromiseAnyway g lines old new before printed

@@ -30,13 +30,15 @@ pub record BreaksOff (answers : List Answer) (before now : Option (List ℕ)) : 
 -- ---- from one state of a world to another
 
 -- these lines were answered, and their answers printed behind what was
-pub record PrintsLines {D : Type 0} (g : Ghosts D) (first : WorldView D) (lines : List Line) (last : WorldView D) (before now : Option (List ℕ)) : Type 0 where
+pub record PrintsLines {D : Type 0} (g : Ghosts D) (first : WorldView D) (lines : List Line) (last : WorldView D)
+    (before now : Option (List ℕ)) : Type 0 where
   pub answers : List Answer
   pub answered : AnswersLines g first lines answers last
   pub printed : Appends before now (flat_map answer_line answers)
 
 -- the first of these lines were answered, up to any place
-pub record AnswersSome {D : Type 0} (g : Ghosts D) (first : WorldView D) (lines : List Line) (last : WorldView D) : Type 0 where
+pub record AnswersSome {D : Type 0} (g : Ghosts D) (first : WorldView D) (lines : List Line)
+    (last : WorldView D) : Type 0 where
   pub done : List Line
   pub rest : List Line
   pub parts : lines ≡ done ++ rest
@@ -48,36 +50,41 @@ abbrev pub AreTold : List Answer → Option (List ℕ) → Option (List ℕ) →
 AreTold answers before now = Appends before now (flat_map answer_line answers) ⊎ BreaksOff answers before now
 
 -- the first of these lines were answered, and their answers printed, up to any place
-pub record TellsSome {D : Type 0} (g : Ghosts D) (first : WorldView D) (lines : List Line) (last : WorldView D) (before now : Option (List ℕ)) : Type 0 where
+pub record TellsSome {D : Type 0} (g : Ghosts D) (first : WorldView D) (lines : List Line) (last : WorldView D)
+    (before now : Option (List ℕ)) : Type 0 where
   pub some : AnswersSome g first lines last
   pub told : AreTold some.answers before now
 
 -- ---- from one disk to another
 
--- A run's first state: the disk was only read, no entry stands in the journal, no checkpoint runs, and the contents, as every outcome of a crash
--- then, show what the run starts from, or nothing saved.
+-- A run's first state: the disk was only read, no entry stands in the journal, no checkpoint runs, and the contents, as
+-- every outcome of a crash then, show what the run starts from, or nothing saved.
 pub record IsOpened {D : Type 0} (g : Ghosts D) (old : D) (opened : WorldView D) : Type 0 where
   pub reads : OnlyReads g old opened.disk
   pub journal : opened.core.items ≡ []
   pub idle : opened.core.dumper.running ≡ None
-  pub shows : g.is_honest opened.disk → Shows (g.contents old) (shown_base opened.core.base.number opened.core.base.memory)
+  pub shows : g.is_honest opened.disk
+      → Shows (g.contents old) (shown_base opened.core.base.number opened.core.base.memory)
   pub everywhere : g.is_honest opened.disk
       → Within (g.may_leave opened.disk) (λ c. Shows c (shown_base opened.core.base.number opened.core.base.memory))
   -- as many frames as pages can be mapped
   pub frames : opened.core.memory.pool ≡ 65536
 
--- A run from the disk that was opened to the one that is left. Whatever moment of it a crash comes, it leaves what the journal of that moment
--- allows; at its end so does every outcome of a crash, and so do the contents. The memory at its end is the one that the journal makes.
+-- A run from the disk that was opened to the one that is left. Whatever moment of it a crash comes, it leaves what the
+-- journal of that moment allows; at its end so does every outcome of a crash, and so do the contents. The memory at its
+-- end is the one that the journal makes.
 pub record IsRun {D : Type 0} (g : Ghosts D) (old : D) (opened last : WorldView D) (new : D) : Type 0 where
   pub opening : IsOpened g old opened
   pub goes_on : GoesOn g opened last
   pub disk : new ≡ last.disk
-  pub at_end : g.is_honest last.disk → Within (g.may_leave last.disk) (ShowsAllowed last.core.base (history_of last.core))
+  pub at_end : g.is_honest last.disk
+      → Within (g.may_leave last.disk) (ShowsAllowed last.core.base (history_of last.core))
   pub contents : g.is_honest last.disk → ShowsAllowed last.core.base (history_of last.core) (g.contents last.disk)
   pub tracked : IsTracked last.core.base last.core.items last.core.memory
 
 -- all of these lines were answered, and their answers printed
-pub record IsWholeRun {D : Type 0} (g : Ghosts D) (lines : List Line) (old new : D) (before now : Option (List ℕ)) : Type 0 where
+pub record IsWholeRun {D : Type 0} (g : Ghosts D) (lines : List Line) (old new : D)
+    (before now : Option (List ℕ)) : Type 0 where
   pub opened : WorldView D
   pub last : WorldView D
   pub run : IsRun g old opened last new

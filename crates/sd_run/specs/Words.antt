@@ -17,7 +17,8 @@ use Rattle.sd_script.specs.declared.answer.Answer.TheVariants as answer
 -- words of a space that is alive, at most 512, of pages that can be mapped
 abbrev pub words_due : PlainMemory → ℕ → ℕ → ℕ → Option AccessError
 words_due memory space address count =
-    in_space memory space (if nat_lt 512 count || nat_lt (2 ^ 35) (page_of address + count) then Some (Refused due.Einval) else None)
+    in_space memory space
+    (if nat_lt 512 count || nat_lt (2 ^ 35) (page_of address + count) then Some (Refused due.Einval) else None)
 
 -- the words of so many pages
 abbrev pub IsWords : Contents → ℕ → ℕ → ℕ → Answer → Type 0
@@ -28,6 +29,7 @@ IsWords memory space address count (answer.Reply given) = ⊥
 -- words are denied as it is due, or out of memory is reported, or they are given
 abbrev pub AreGiven : Contents → ℕ → ℕ → ℕ → Answer → Type 0
 AreGiven memory space address count given =
-    ((denied : AccessError) × (words_due (plain_of memory) space address count ≡ Some denied) × (given ≡ answer.Reply (reply_of denied)))
+    ((denied : AccessError) × (words_due (plain_of memory) space address count ≡ Some denied)
+    × (given ≡ answer.Reply (reply_of denied)))
     ⊎ ((given ≡ answer.Reply (reply.Refused refusal.OutOfMemory))
     ⊎ ((words_due (plain_of memory) space address count ≡ None) × IsWords memory space address count given))

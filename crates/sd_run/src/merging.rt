@@ -21,17 +21,17 @@ use sd_world::{Event, OpenError, OpenFault, Watch, World};
 use std::alloc::Global;
 use std::io::Write;
 
-/// Opens a store, and opens it again, and then merges its newest chain into one image. Prints the last reply, or why the
-/// store isn't opened, flushes, and returns the disk and the exit status: 0 where the chain was merged, and else 1. The jobs
-/// that last are watched.
+/// Opens a store, and opens it again, and then merges its newest chain into one image. Prints the last reply, or why
+/// the store isn't opened, flushes, and returns the disk and the exit status: 0 where the chain was merged, and else 1.
+/// The jobs that last are watched.
 pub fn merge_to<D: Disk, W: Write, S: Watch>(
     alloc: Global,
     disk: D,
     out: &mut Output<W>,
     watch: &mut S,
 ) -> (D, u8)
-    // Status 0: the store was opened again, the merge came to its end, and what was printed is its reply. Whatever moment
-    // of it a crash comes, the journal of that moment allows what it leaves.
+    // Status 0: the store was opened again, the merge came to its end, and what was printed is its reply. Whatever
+    // moment of it a crash comes, the journal of that moment allows what it leaves.
     ensures merged { result.1 ≡ 0 → IsWholeMerge D.Disk disk result.0
         (W.contents out.old.writer) (W.contents out.new.writer) }
     ensures status { result.1 ≤ 1 }
@@ -50,8 +50,8 @@ pub fn merge_to<D: Disk, W: Write, S: Watch>(
 /// # Errors
 ///
 /// `Fault` and `NoFrame` where the store isn't opened: nothing was printed. `Refused` where the merge, or the reopening
-/// before it, was refused, which was printed. `Fault` also where there is no room for the reply's line, and `Writer` where it
-/// is refused.
+/// before it, was refused, which was printed. `Fault` also where there is no room for the reply's line, and `Writer`
+/// where it is refused.
 fn merge_store<D: Disk, W: Write, S: Watch>(
     alloc: Global,
     disk: D,

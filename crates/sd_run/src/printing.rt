@@ -18,8 +18,8 @@ pub(crate) const LINE_BYTES: usize = 16_384;
 ///
 /// # Errors
 ///
-/// `Fault` where there is no room for the line: nothing is printed. `Writer` where a part of it was refused: what the writer
-/// took before that is a beginning of the line.
+/// `Fault` where there is no room for the line: nothing is printed. `Writer` where a part of it was refused: what the
+/// writer took before that is a beginning of the line.
 pub(crate) fn print_line<W: Write>(
     given: &Answer,
     buffer: &mut Vec<u8>,

@@ -23,9 +23,10 @@ use std::io::Write;
 /// How many frames a run's memory has.
 pub const FRAMES: usize = 65_536;
 
-/// Parses a whole script and then runs it over a disk: the store is opened, and opened again, whose reply is printed, and
-/// then each line is answered, and its answer printed as one line. Returns the disk and the exit status: 0 at the end of the
-/// script, 2 for a script that doesn't fit the language, and 1 where the store isn't opened or the writer fails.
+/// Parses a whole script and then runs it over a disk: the store is opened, and opened again, whose reply is printed,
+/// and then each line is answered, and its answer printed as one line. Returns the disk and the exit status: 0 at the
+/// end of the script, 2 for a script that doesn't fit the language, and 1 where the store isn't opened or the writer
+/// fails.
 pub fn run_script<D: Disk, W: Write>(
     alloc: Global,
     disk: D,

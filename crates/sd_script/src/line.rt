@@ -1,7 +1,10 @@
 //! One line of a script.
 ghost use Rattle.std.specs.Prelude.{◌≡◌, ◌==◌, map, OnOk};
 ghost use Rattle.std.specs.List.{slice_split};
-ghost use Rattle.sd_script.specs.Line.{Gives, asked_by, asked_by_word, at_least_one, begin_of, begin_merge_of, cancel_of, checkpoint_of, exit_of, fault_of, finish_of, fork_of, load_of, merge_of, mmap_of, mprotect_of, munmap_of, perform_at_of, perform_of, reopen_of, step_of, store_of, trim_of, try_of, words_of, work_of};
+ghost use Rattle.sd_script.specs.Line.{Gives, asked_by, asked_by_word, at_least_one, begin_of, begin_merge_of};
+ghost use Rattle.sd_script.specs.Line.{cancel_of, checkpoint_of, exit_of, fault_of, finish_of, fork_of, load_of};
+ghost use Rattle.sd_script.specs.Line.{merge_of, mmap_of, mprotect_of, munmap_of, perform_at_of, perform_of, reopen_of};
+ghost use Rattle.sd_script.specs.Line.{step_of, store_of, trim_of, try_of, words_of, work_of};
 
 use crate::field_values::{hex_bytes, number, permissions, worker_named};
 use crate::line_error::LineError;

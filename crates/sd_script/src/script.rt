@@ -2,7 +2,8 @@
 
 ghost use Rattle.std.specs.Prelude.{◌≡◌, ◌<◌, ◌++◌, [], ◌∷◌, length, true, false, OnOk, IfOk, IfSome, IfNone};
 ghost use Rattle.std.specs.List.{filter_map};
-ghost use Rattle.sd_script.specs.Script.{GivesMeaning, IfUnfit, first_unfit_line, is_unfit, lines_of, meaning_of, request_in, requests_of};
+ghost use Rattle.sd_script.specs.Script.{GivesMeaning, IfUnfit, first_unfit_line, is_unfit, lines_of, meaning_of};
+ghost use Rattle.sd_script.specs.Script.{request_in, requests_of};
 
 use crate::line::{self, Line};
 use crate::line_error::LineError;

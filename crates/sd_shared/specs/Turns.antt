@@ -1,5 +1,6 @@
 -- What one turn does: one hold of the lock on the core.
-use Rattle.std.specs.Prelude.{◌≡◌, ◌≢◌, ◌⊎◌, ℕ, ◌+◌, ◌≤◌, ◌%◌, ◌^◌, Bool, false, not, List, ◌&&◌, length, is_none, is_some, if◌then◌else◌, Option, Some, None, Result, Err, ⊤}
+use Rattle.std.specs.Prelude.{◌≡◌, ◌≢◌, ◌⊎◌, ℕ, ◌+◌, ◌≤◌, ◌%◌, ◌^◌, Bool, false, not, List, ◌&&◌, length, is_none}
+use Rattle.std.specs.Prelude.{is_some, if◌then◌else◌, Option, Some, None, Result, Err, ⊤}
 use Rattle.sd_command.specs.declared.command.Command.{Command}
 use Rattle.sd_command.specs.declared.refusal.Refusal.{Refusal}
 use Rattle.sd_command.specs.declared.refusal.Refusal.TheVariants as refusal
@@ -46,7 +47,8 @@ ends_waits old new = holds_waits old && not (holds_waits new)
 
 -- how a wait for the thaw ends, of a core that holds no waits
 abbrev pub thaw_of : CoreView → Thaw
-thaw_of core = if is_none (pending (history_of core)) then thaw.Thawed else (if is_down core.standing then thaw.Down else thaw.Ended)
+thaw_of core = if is_none (pending (history_of core)) then thaw.Thawed
+    else (if is_down core.standing then thaw.Down else thaw.Ended)
 
 -- ---- orders
 
@@ -72,7 +74,8 @@ IsSorted (next.Call request) core = IsPageOut core.outs request.id → ⊥
 
 -- the journal was trimmed
 pub record IsTrimmed (result : Result Folded Refusal) (old new : CoreView) : Type 0 where
-  pub idle : unfolded (last old.base (history_of old)) old.base.number ≡ None → (result ≡ Err refusal.Idle) × (new ≡ old)
+  pub idle : unfolded (last old.base (history_of old)) old.base.number ≡ None
+      → (result ≡ Err refusal.Idle) × (new ≡ old)
   pub trims : (n : ℕ) → unfolded (last old.base (history_of old)) old.base.number ≡ Some n → Trims n old result new
   pub flags : KeepsFlags old new
   pub goes_on : (asked : List (Option Asked)) → GoesOn old asked new asked
@@ -132,7 +135,8 @@ Resumes worker number made =
 
 -- the outcome of a request was handed in
 abbrev pub HandsIn : RequestId → Reply → Type 0
-HandsIn id answer = (made : Made) × (made.request.id ≡ id) × (old : CoreView) × (new : CoreView) × IsHandedIn made answer old new
+HandsIn id answer =
+    (made : Made) × (made.request.id ≡ id) × (old : CoreView) × (new : CoreView) × IsHandedIn made answer old new
 
 -- a disk hasn't the slot
 abbrev pub LacksSlot : {D : Type 0} → (D → List (List ℕ)) → ℕ → Type 0
@@ -151,15 +155,19 @@ IsToldBy contents (taken.Call request) answer = IsCalled contents request.id ans
 abbrev pub IsTold : {D : Type 0} → (D → List (List ℕ)) → Worker → ℕ → Reply → Type 0
 IsTold contents worker number answer = (made : Taken) × Takes worker number made × IsToldBy contents made answer
 
--- A job was ordered, of so many rounds. This is what was answered then, or to a later step of that job, or of its calls.
+-- A job was ordered, of so many rounds. This is what was answered then, or to a later step of that job, or of its
+-- calls.
 abbrev pub MakesJob : {D : Type 0} → (D → List (List ℕ)) → Worker → ℕ → Reply → Type 0
 MakesJob contents worker rounds answer =
-    (first : Reply) × (number : ℕ) × Orders worker rounds first number × ((answer ≡ first) ⊎ IsTold contents worker number answer)
+    (first : Reply) × (number : ℕ) × Orders worker rounds first number
+    × ((answer ≡ first) ⊎ IsTold contents worker number answer)
 
--- A step of the job that stood was taken up, and this is what it told, or what a later step of that job did, or one of its calls.
+-- A step of the job that stood was taken up, and this is what it told, or what a later step of that job did, or one of
+-- its calls.
 abbrev pub ResumesJob : {D : Type 0} → (D → List (List ℕ)) → Worker → Reply → Type 0
 ResumesJob contents worker answer =
-    (number : ℕ) × (first : Taken) × Resumes worker number first × (IsToldBy contents first answer ⊎ IsTold contents worker number answer)
+    (number : ℕ) × (first : Taken) × Resumes worker number first
+    × (IsToldBy contents first answer ⊎ IsTold contents worker number answer)
 
 -- an outcome was refused so that a writer handed in
 abbrev pub WasRefused : Refusal → Type 0
@@ -169,7 +177,8 @@ WasRefused why = ∥ (why ≡ refusal.Device) ⊎ ((id : RequestId) × HandsIn i
 abbrev pub IsLastOf : Reply → Reply → Type 0
 IsLastOf last answer = (answer ≡ last) ⊎ ((why : Refusal) × (answer ≡ reply.Refused why) × WasRefused why)
 
--- A checkpoint of so many rounds was ordered, with writers, and this was its last reply; or it wasn't, for want of writers or of memory.
+-- A checkpoint of so many rounds was ordered, with writers, and this was its last reply; or it wasn't, for want of
+-- writers or of memory.
 abbrev pub RelaysJob : {D : Type 0} → (D → List (List ℕ)) → ℕ → Reply → Type 0
 RelaysJob contents rounds answer =
     (answer ≡ reply.Refused refusal.Einval) ⊎ ((answer ≡ reply.Refused refusal.OutOfMemory)

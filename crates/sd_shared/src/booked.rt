@@ -1,5 +1,5 @@
-//! What lies behind the lock of the core, and what one turn does: one hold of that lock. Nothing else in this crate reaches
-//! the core.
+//! What lies behind the lock of the core, and what one turn does: one hold of that lock. Nothing else in this crate
+//! reaches the core.
 ghost use Rattle.std.specs.Prelude.{◌≡◌, ◌≢◌, ◌↔◌, ◌⊎◌, ◌&&◌, false, true, not, IfOk, IfErr};
 ghost use Rattle.sd_command.specs.declared.refusal.Refusal.TheVariants.{Idle};
 ghost use Rattle.sd_command.specs.declared.reply.Reply.TheVariants as reply;
@@ -10,7 +10,8 @@ ghost use Rattle.sd_shared.specs.declared.next.Next.TheVariants as next;
 ghost use Rattle.sd_core.specs.Called.{IsApplied, IsCancelOrder, IsHandedIn, IsTakenUp};
 ghost use Rattle.sd_settling.specs.Told.{told};
 ghost use Rattle.sd_shared.specs.Told.{ends_job};
-ghost use Rattle.sd_shared.specs.Turns.{IsOrder, IsSorted, IsTrimmed, counted, ends_waits, holds_waits, job_of, ordered, taken_of, thaw_of, turned};
+ghost use Rattle.sd_shared.specs.Turns.{IsOrder, IsSorted, IsTrimmed, counted, ends_waits, holds_waits, job_of};
+ghost use Rattle.sd_shared.specs.Turns.{ordered, taken_of, thaw_of, turned};
 
 use crate::driving::ends_job;
 use crate::jobs::Jobs;

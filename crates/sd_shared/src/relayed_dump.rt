@@ -29,8 +29,8 @@ pub(crate) fn last_of(last: Reply, refused: Option<Refusal>) -> Reply
     }
 }
 
-/// A checkpoint that one thread takes up. It puts the writes of data pages for the writers, and makes every other device
-/// call itself, and each write that is handed back.
+/// A checkpoint that one thread takes up. It puts the writes of data pages for the writers, and makes every other
+/// device call itself, and each write that is handed back.
 pub(crate) struct RelayedDump<'a, R, D: Drop, H> {
     crew: &'a Crew<'a, R, D, H>,
     rounds: u64,

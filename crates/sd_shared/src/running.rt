@@ -25,15 +25,15 @@ use std::thread::Threads;
 const MOST_WRITERS: usize = 8;
 
 impl<D: Disk + Drop> Shared<D> {
-    /// Begins a checkpoint with 0 to 8 rounds before its freeze and makes it, beside the seats, whose commands are answered
-    /// but between its freeze and its end. Returns the last reply: `Acked` with its number where it came to its end. Note
-    /// that number for `close`.
+    /// Begins a checkpoint with 0 to 8 rounds before its freeze and makes it, beside the seats, whose commands are
+    /// answered but between its freeze and its end. Returns the last reply: `Acked` with its number where it came to
+    /// its end. Note that number for `close`.
     ///
     /// # Errors
     ///
     /// The refusal of its beginning, as `Core::begin`: nothing changed. `OutOfMemory` of a step: it stands, and
-    /// [`Shared::go_on_dumper`] goes on with it, or [`Shared::cancel`] gives it up. `Device` or `StoreDown` where a device
-    /// call failed: next comes [`Shared::run_opener`]. `Idle` where another thread cancelled it meanwhile.
+    /// [`Shared::go_on_dumper`] goes on with it, or [`Shared::cancel`] gives it up. `Device` or `StoreDown` where a
+    /// device call failed: next comes [`Shared::run_opener`]. `Idle` where another thread cancelled it meanwhile.
     pub fn run_dumper<R: Wait>(&self, rt: &R, rounds: u64, hold: &impl Hold) -> Reply
         ensures over { ends_job result ≡ true }
         ensures job { MakesJob D.contents its.Dumper rounds result }
@@ -41,17 +41,17 @@ impl<D: Disk + Drop> Shared<D> {
         self.run(rt, Worker::Dumper, rounds, hold)
     }
 
-    /// Begins a checkpoint of so many rounds and makes it, beside the seats, as `run_dumper` does. Its writes of data pages
-    /// are made by so many writers, 1 to 8, each in a thread of its own, up to eight at once; this thread makes every other
-    /// device call, and all of them where no thread can be made. The hold is called before each device call with its number,
-    /// counted from 1 in the order in which they were taken up.
+    /// Begins a checkpoint of so many rounds and makes it, beside the seats, as `run_dumper` does. Its writes of data
+    /// pages are made by so many writers, 1 to 8, each in a thread of its own, up to eight at once; this thread makes
+    /// every other device call, and all of them where no thread can be made. The hold is called before each device call
+    /// with its number, counted from 1 in the order in which they were taken up.
     ///
     /// Returns the last reply; or the refusal of an outcome that a writer handed in, where the checkpoint ended by it.
     ///
     /// # Errors
     ///
-    /// `Einval` where there are no writers or over 8 of them, and `OutOfMemory` where the writers' channel finds no memory:
-    /// nothing was begun. Else as `run_dumper`.
+    /// `Einval` where there are no writers or over 8 of them, and `OutOfMemory` where the writers' channel finds no
+    /// memory: nothing was begun. Else as `run_dumper`.
     pub fn run_relay<R: Threads + Wait + Sync, H: Hold + Sync>(
         &self,
         rt: &R,
@@ -93,13 +93,14 @@ impl<D: Disk + Drop> Shared<D> {
         self.run(rt, Worker::Merger, 0, hold)
     }
 
-    /// Opens the store, at first or behind a device call that failed. Returns the last reply: `Reopened` with the number of
-    /// the checkpoint that the store shows, if it shows one. Seats are answered meanwhile, but of a memory that is frozen.
+    /// Opens the store, at first or behind a device call that failed. Returns the last reply: `Reopened` with the
+    /// number of the checkpoint that the store shows, if it shows one. Seats are answered meanwhile, but of a memory
+    /// that is frozen.
     ///
     /// # Errors
     ///
-    /// `Busy` where the store is open or a device call is out. `Damaged` where the disk holds another store than this one.
-    /// Else as [`Shared::run_dumper`]; [`Shared::go_on_opener`] goes on with it.
+    /// `Busy` where the store is open or a device call is out. `Damaged` where the disk holds another store than this
+    /// one. Else as [`Shared::run_dumper`]; [`Shared::go_on_opener`] goes on with it.
     pub fn run_opener<R: Wait>(&self, rt: &R, hold: &impl Hold) -> Reply
         ensures over { ends_job result ≡ true }
         ensures job { MakesJob D.contents its.Opener 0 result }
@@ -119,8 +120,8 @@ impl<D: Disk + Drop> Shared<D> {
         job.into_last()
     }
 
-    /// Goes on with a checkpoint that stands, as it does where `run_dumper` returned `OutOfMemory`. Returns the last reply:
-    /// `Idle` where none runs.
+    /// Goes on with a checkpoint that stands, as it does where `run_dumper` returned `OutOfMemory`. Returns the last
+    /// reply: `Idle` where none runs.
     pub fn go_on_dumper<R: Wait>(&self, rt: &R, hold: &impl Hold) -> Reply
         ensures over { ends_job result ≡ true }
         ensures told { ResumesJob D.contents its.Dumper result }

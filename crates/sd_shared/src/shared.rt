@@ -43,9 +43,10 @@ fn is_only_read<D: Disk>(disk: &D)
 {}
 
 impl<D: Disk + Drop> Shared<D> {
-    /// Opens a store, as `World::open`, over so many frames, 1 to 65,536, and for so many seats, at most 1,000 for `close` to
-    /// be quick; they are numbered from 0 in the order of the list, and each is moved to its thread. The core's store isn't
-    /// open yet: call [`Shared::run_opener`] before a checkpoint or a merge, or [`Shared::start`] in the place of both.
+    /// Opens a store, as `World::open`, over so many frames, 1 to 65,536, and for so many seats, at most 1,000 for
+    /// `close` to be quick; they are numbered from 0 in the order of the list, and each is moved to its thread. The
+    /// core's store isn't open yet: call [`Shared::run_opener`] before a checkpoint or a merge, or [`Shared::start`] in
+    /// the place of both.
     ///
     /// # Errors
     ///
@@ -81,8 +82,8 @@ impl<D: Disk + Drop> Shared<D> {
     ///
     /// # Errors
     ///
-    /// As `World::start`, each with the disk: `Unopened` where it was only read, with `OutOfMemory` also where there is no
-    /// room for the seats; `Refused` where its opening again was refused.
+    /// As `World::start`, each with the disk: `Unopened` where it was only read, with `OutOfMemory` also where there is
+    /// no room for the seats; `Refused` where its opening again was refused.
     pub fn start(
         alloc: Global,
         disk: D,

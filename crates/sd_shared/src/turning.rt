@@ -4,7 +4,8 @@ ghost use Rattle.sd_command.specs.declared.refusal.Refusal.TheVariants.{LockBusy
 ghost use Rattle.sd_crash_safety.specs.Calls.{IsUnjournaled};
 ghost use Rattle.sd_gate.specs.declared.worker.Worker.TheVariants as its;
 ghost use Rattle.sd_shared.specs.Told.{IsRefusedAtOnce};
-ghost use Rattle.sd_shared.specs.Turns.{Awaits, Cancels, HandsIn, IsCalled, LacksSlot, Makes, MakesThawed, Orders, Resumes, Takes, TrimsOnce, ordered, taken_of, turned};
+ghost use Rattle.sd_shared.specs.Turns.{Awaits, Cancels, HandsIn, IsCalled, LacksSlot, Makes, MakesThawed, Orders};
+ghost use Rattle.sd_shared.specs.Turns.{Resumes, Takes, TrimsOnce, ordered, taken_of, turned};
 
 use crate::booked::Booked;
 use crate::hold::Hold;
@@ -26,8 +27,8 @@ use std::sync::{MutexGuard, Wait};
 /// How often a seat looks whether the core's lock is free before it sleeps: a turn is shorter than a sleep and a wake.
 const LOOKS: u32 = 64;
 
-/// How many pauses of the processor lie between two looks. The thread that has the core at hand makes some turns meanwhile,
-/// which is faster than to hand it over for each.
+/// How many pauses of the processor lie between two looks. The thread that has the core at hand makes some turns
+/// meanwhile, which is faster than to hand it over for each.
 const PAUSES: u32 = 256;
 
 /// Lets the processor pause between two looks.
@@ -38,8 +39,8 @@ fn pause() {
 }
 
 impl<D: Disk + Drop> Shared<D> {
-    /// Takes the core's lock for a seat. Workers and orders sleep for it at once: it is then left to them in turn, so that a
-    /// cancel comes between two turns of a worker.
+    /// Takes the core's lock for a seat. Workers and orders sleep for it at once: it is then left to them in turn, so
+    /// that a cancel comes between two turns of a worker.
     fn lock(&self, rt: &impl Wait) -> MutexGuard<'_, Booked> {
         for _ in 0..LOOKS {
             if let Some(core) = self.core.try_lock() {
@@ -71,8 +72,8 @@ impl<D: Disk + Drop> Shared<D> {
         self.lock(rt).command(seat, command)
     }
 
-    /// Makes a command of a seat once nothing is frozen, or the store is down, or waits are ended. It may wait for that, and
-    /// for the lock: in one turn, so a command that met a freeze isn't made twice.
+    /// Makes a command of a seat once nothing is frozen, or the store is down, or waits are ended. It may wait for
+    /// that, and for the lock: in one turn, so a command that met a freeze isn't made twice.
     ///
     /// # Errors
     ///
@@ -100,7 +101,8 @@ impl<D: Disk + Drop> Shared<D> {
     ///
     /// # Errors
     ///
-    /// `LockBusy` where another thread may have the lock, and those of `call`: nothing changed, and nothing is journaled.
+    /// `LockBusy` where another thread may have the lock, and those of `call`: nothing changed, and nothing is
+    /// journaled.
     pub fn try_call(&self, seat: &mut Seat, command: Command) -> Result<Receipt, Refusal>
         ensures seat { IfOk result (λ receipt. receipt.seat ≡ seat.old.number) }
         ensures command { IfOk result (λ receipt. receipt.command ≡ command) }
@@ -125,20 +127,21 @@ impl<D: Disk + Drop> Shared<D> {
         core.thaw()
     }
 
-    /// Ends all waits for a thaw, now and from now on: for who leaves a checkpoint that can't be gone on with or cancelled.
+    /// Ends all waits for a thaw, now and from now on: for who leaves a checkpoint that can't be gone on with or
+    /// cancelled.
     pub fn end_waits(&self, rt: &impl Wait) -> WaitsEnded {
         let waking = self.core.lock(rt).end_waits();
         waking.wake(&self.thawed);
         WaitsEnded::new()
     }
 
-    /// Cancels the checkpoint that runs or is pending: the seats go on, and the next checkpoint is whole. Returns `Cancelled`
-    /// with its number.
+    /// Cancels the checkpoint that runs or is pending: the seats go on, and the next checkpoint is whole. Returns
+    /// `Cancelled` with its number.
     ///
     /// # Errors
     ///
-    /// `Idle` where none runs or is pending; `Busy` while a device call of it is out or the gate of its dump may be open, or
-    /// an opener runs. Nothing changed: whoever runs it goes on with it.
+    /// `Idle` where none runs or is pending; `Busy` while a device call of it is out or the gate of its dump may be
+    /// open, or an opener runs. Nothing changed: whoever runs it goes on with it.
     pub fn cancel(&self, rt: &impl Wait) -> Reply
         ensures turn { Cancels result }
     {
@@ -223,8 +226,8 @@ impl<D: Disk + Drop> Shared<D> {
         }
     }
 
-    /// Makes a device call, where its slot is one of the disk's. The core asks for no other, which no clause can say of a
-    /// core behind a lock.
+    /// Makes a device call, where its slot is one of the disk's. The core asks for no other, which no clause can say of
+    /// a core behind a lock.
     fn perform(&self, rt: &impl Wait, request: Request) -> Option<Outcome>
         ensures id { IfSome result (λ made. made.request.id ≡ request.id) }
         ensures none { IfNone result (LacksSlot D.contents request.id.slot) }

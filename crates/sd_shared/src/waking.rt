@@ -1,7 +1,7 @@
 use std::sync::Condvar;
 
-/// Whether those that wait for a thaw are to go on. It can't be dropped: who made a turn that may end a freeze has to wake
-/// them.
+/// Whether those that wait for a thaw are to go on. It can't be dropped: who made a turn that may end a freeze has to
+/// wake them.
 pub(crate) struct Waking {
     go_on: bool,
 }

@@ -15,7 +15,8 @@ runs_pages kind (run ∷ runs) = run_pages kind run + runs_pages kind runs
 -- and of those of so many spaces, as far as the bytes go
 unfoldable pub spaces_pages : ℕ → ℕ → List ℕ → ℕ
 spaces_pages kind zero bytes = 0
-spaces_pages kind (suc n) bytes = if nat_lt (length bytes) 16 then 0 else runs_pages kind (runs_in bytes) + spaces_pages kind n (behind_space bytes)
+spaces_pages kind (suc n) bytes =
+    if nat_lt (length bytes) 16 then 0 else runs_pages kind (runs_in bytes) + spaces_pages kind n (behind_space bytes)
 
 -- and of those of a table
 abbrev pub table_pages : ℕ → List ℕ → ℕ

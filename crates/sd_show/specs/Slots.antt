@@ -1,5 +1,7 @@
 -- The state of a slot, what is wrong with it, and what is read of it.
-use Rattle.std.specs.Prelude.{◌≡◌, ◌⊎◌, ◌<◌, All, ℕ, ◌+◌, ◌*◌, ◌==◌, ◌&&◌, nat_le, Bool, true, false, if◌then◌else◌, List, [], codes, length, drop, slice_index, slice_range, Option, None, Some, MatchOption, Result, Ok, Err, is_some}
+use Rattle.std.specs.Prelude.{◌≡◌, ◌⊎◌, ◌<◌, All, ℕ, ◌+◌, ◌*◌, ◌==◌, ◌&&◌, nat_le, Bool, true, false, if◌then◌else◌}
+use Rattle.std.specs.Prelude.{List, [], codes, length, drop, slice_index, slice_range, Option, None, Some, MatchOption}
+use Rattle.std.specs.Prelude.{Result, Ok, Err, is_some}
 use Rattle.sd_image.specs.declared.reason.Reason.{Reason}
 use Rattle.sd_image.specs.declared.reason.Reason.TheVariants.{Digest}
 use Rattle.sd_image.specs.Image.{Image, IsImage, is_open, gate}
@@ -43,11 +45,13 @@ is_damaged file = is_some (fault_in file)
 -- An open slot is damaged, and its file no image, or it is not damaged, and its file is one.
 abbrev pub DamagedOrImage : Type 0
 DamagedOrImage = (file : List ℕ) → All (λ byte. byte < 256) file → is_open file ≡ true
-    → ((is_damaged file ≡ true) × ((i : Image) → IsImage file i → ⊥)) ⊎ ((is_damaged file ≡ false) × ((i : Image) × IsImage file i))
+    → ((is_damaged file ≡ true) × ((i : Image) → IsImage file i → ⊥))
+    ⊎ ((is_damaged file ≡ false) × ((i : Image) × IsImage file i))
 
 -- where the table begins, if header, pages and table are as long as the file
 abbrev pub table_at : List ℕ → ℕ → Option ℕ
-table_at front len = if 4096 + 4096 * number_at 8 48 front + number_at 8 56 front == len then Some (4096 + 4096 * number_at 8 48 front) else None
+table_at front len = if 4096 + 4096 * number_at 8 48 front + number_at 8 56 front == len
+    then Some (4096 + 4096 * number_at 8 48 front) else None
 
 -- the bytes of the table; none where header, pages and table are not as long as the file
 abbrev pub bytes_from : Option ℕ → List ℕ → List ℕ

@@ -1,5 +1,6 @@
 -- The text of a slot.
-use Rattle.std.specs.Prelude.{ℕ, zero, suc, ◌+◌, ◌*◌, ◌-◌, ◌^◌, ◌==◌, ◌&&◌, not, nat_lt, nat_le, false, if◌then◌else◌, List, [], ◌∷◌, ◌++◌, codes, length, drop, replicate, slice_range, Option, None, Some}
+use Rattle.std.specs.Prelude.{ℕ, zero, suc, ◌+◌, ◌*◌, ◌-◌, ◌^◌, ◌==◌, ◌&&◌, not, nat_lt, nat_le, false, if◌then◌else◌}
+use Rattle.std.specs.Prelude.{List, [], ◌∷◌, ◌++◌, codes, length, drop, replicate, slice_range, Option, None, Some}
 use Rattle.std.specs.List.{flat_map}
 use Rattle.std.specs.Fmt.{decimal, digits}
 use Rattle.std.specs.Str.{bytes_eq}
@@ -29,26 +30,31 @@ kind_word number = if number == 1 then codes "pre-dump" else if number == 2 then
 
 -- its word, or its number where it has none
 unfoldable pub kind_line : ℕ → List ℕ
-kind_line number = if nat_lt 0 number && nat_le number 3 then codes "kind " ++ (kind_word number ++ newline) else field_line (codes "kind") number
+kind_line number = if nat_lt 0 number && nat_le number 3 then codes "kind " ++ (kind_word number ++ newline)
+    else field_line (codes "kind") number
 
 -- whether the digest in a header is the file's; version 2 alone has one
 unfoldable pub digest_word : List ℕ → List ℕ → List ℕ
 digest_word front digest =
-    if not (number_at 2 8 front == 2) then codes "none" else if bytes_eq (slice_range front 64 96) digest then codes "right" else codes "wrong"
+    if not (number_at 2 8 front == 2) then codes "none"
+    else if bytes_eq (slice_range front 64 96) digest then codes "right" else codes "wrong"
 
 unfoldable pub digest_line : List ℕ → List ℕ → List ℕ
-digest_line front digest = codes "digest " ++ (digest_word front digest ++ codes " ") ++ encode_lower (slice_range front 64 96) ++ newline
+digest_line front digest =
+    codes "digest " ++ (digest_word front digest ++ codes " ") ++ encode_lower (slice_range front 64 96) ++ newline
 
 -- the fields, in the order in which they stand
 unfoldable pub form_text : List ℕ → List ℕ
 form_text front = field_line (codes "version") (number_at 2 8 front) ++ kind_line (number_at 2 10 front)
 
 unfoldable pub place_text : List ℕ → List ℕ
-place_text front = field_line (codes "serial") (number_at 8 16 front) ++ field_line (codes "stands_for") (number_at 8 24 front)
+place_text front =
+    field_line (codes "serial") (number_at 8 16 front) ++ field_line (codes "stands_for") (number_at 8 24 front)
     ++ field_line (codes "parent") (number_at 8 32 front)
 
 unfoldable pub sizes_text : List ℕ → List ℕ
-sizes_text front = field_line (codes "checkpoint") (number_at 8 40 front) ++ field_line (codes "pages") (number_at 8 48 front)
+sizes_text front =
+    field_line (codes "checkpoint") (number_at 8 40 front) ++ field_line (codes "pages") (number_at 8 48 front)
     ++ field_line (codes "table_len") (number_at 8 56 front)
 
 unfoldable pub header_text : List ℕ → List ℕ → List ℕ
@@ -67,7 +73,8 @@ permissions_text number = (if nat_le number 7 then prot_text (prot_of number) el
 -- the first address of pages and the first behind them, or their numbers where they go past page 2^35
 unfoldable pub range_text : ℕ → ℕ → List ℕ
 range_text first count = if nat_le (first + count) (2 ^ 35)
-    then codes "area " ++ (address_text (4096 * first) ++ (codes " " ++ (address_text (4096 * (first + count)) ++ codes " ")))
+    then codes "area " ++
+    (address_text (4096 * first) ++ (codes " " ++ (address_text (4096 * (first + count)) ++ codes " ")))
     else codes "area page " ++ (decimal first ++ (codes " pages " ++ (decimal count ++ codes " ")))
 
 -- its pages, and its permissions
@@ -79,7 +86,8 @@ run_kind_word number = if number == 1 then codes "data" else if number == 2 then
 
 -- its word, or its number where it has none
 unfoldable pub run_kind_text : ℕ → List ℕ
-run_kind_text number = codes "run " ++ (if nat_lt 0 number && nat_le number 3 then run_kind_word number else decimal number)
+run_kind_text number =
+    codes "run " ++ (if nat_lt 0 number && nat_le number 3 then run_kind_word number else decimal number)
 
 -- where the bytes of data begin in the file
 unfoldable pub offset_text : ℕ → Option ℕ → List ℕ
@@ -88,7 +96,8 @@ offset_text kind (Some at) = if kind == 1 then codes " offset " ++ (decimal at +
 
 -- its kind, its first page, its number of pages, and where its bytes begin in the file if it is of data
 unfoldable pub run_line : Option ℕ → List ℕ → List ℕ
-run_line at run = run_kind_text (number_at 4 16 run) ++ (codes " first " ++ (decimal (number_at 8 0 run) ++ (codes " pages " ++ decimal (number_at 8 8 run))))
+run_line at run = run_kind_text (number_at 4 16 run) ++
+    (codes " first " ++ (decimal (number_at 8 0 run) ++ (codes " pages " ++ decimal (number_at 8 8 run))))
     ++ offset_text (number_at 4 16 run) at
 
 abbrev pub runs_text : Option ℕ → List (List ℕ) → List ℕ
@@ -97,12 +106,14 @@ runs_text at (run ∷ runs) = run_line at run ++ runs_text (behind_run at run) r
 
 -- the space that bytes begin with: its number, its areas and its runs
 unfoldable pub space_text : Option ℕ → List ℕ → List ℕ
-space_text at bytes = field_line (codes "space") (number_at 4 0 bytes) ++ flat_map area_line (areas_in bytes) ++ runs_text at (runs_in bytes)
+space_text at bytes = field_line (codes "space") (number_at 4 0 bytes) ++ flat_map area_line
+    (areas_in bytes) ++ runs_text at (runs_in bytes)
 
 -- so many spaces, as far as the bytes go
 unfoldable pub spaces_text : ℕ → Option ℕ → List ℕ → List ℕ
 spaces_text zero at bytes = []
-spaces_text (suc n) at bytes = if nat_lt (length bytes) 16 then [] else space_text at bytes ++ spaces_text n (behind_runs at (runs_in bytes)) (behind_space bytes)
+spaces_text (suc n) at bytes = if nat_lt (length bytes) 16 then []
+    else space_text at bytes ++ spaces_text n (behind_runs at (runs_in bytes)) (behind_space bytes)
 
 unfoldable pub table_text : List ℕ → List ℕ
 table_text table = if nat_lt (length table) 8 then [] else spaces_text (number_at 4 0 table) (Some 4096) (drop 8 table)
@@ -111,12 +122,14 @@ table_text table = if nat_lt (length table) 8 then [] else spaces_text (number_a
 
 -- its number, with zeros before it up to three digits, and its state
 unfoldable pub slot_line : ℕ → State → List ℕ
-slot_line slot state = codes "slot " ++ ((replicate (3 - length (decimal slot)) 48 ++ decimal slot) ++ (codes " " ++ (state_word state ++ newline)))
+slot_line slot state = codes "slot " ++
+    ((replicate (3 - length (decimal slot)) 48 ++ decimal slot) ++ (codes " " ++ (state_word state ++ newline)))
 
 -- why it is damaged, if it is: the reason's number, and what it says
 unfoldable pub fault_text : Option Reason → List ℕ
 fault_text None = []
-fault_text (Some reason) = codes "damaged " ++ (decimal (reason_number reason) ++ (codes " " ++ (reason_phrase reason ++ newline)))
+fault_text (Some reason) =
+    codes "damaged " ++ (decimal (reason_number reason) ++ (codes " " ++ (reason_phrase reason ++ newline)))
 
 -- an open slot: why it is damaged, if it is, its header and its table
 unfoldable pub opened_text : Option Reason → List ℕ → List ℕ → List ℕ → List ℕ
@@ -125,7 +138,8 @@ opened_text fault front digest table = fault_text fault ++ header_text front dig
 -- a slot's file, whatever is in it
 unfoldable pub slot_text : ℕ → List ℕ → List ℕ
 slot_text slot file = slot_line slot (state_in file)
-    ++ (if is_open file then opened_text (fault_in file) (slice_range file 0 4096) (digest_of_file file) (table_bytes file) else [])
+    ++ (if is_open file then opened_text (fault_in file) (slice_range file 0 4096) (digest_of_file file)
+    (table_bytes file) else [])
 
 -- slots, rising from one on
 abbrev pub slots_text : ℕ → List (List ℕ) → List ℕ

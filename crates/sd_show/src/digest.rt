@@ -1,5 +1,6 @@
 //! The digest of a slot's file.
-ghost use Rattle.std.specs.Prelude.{◌≡◌, ◌+◌, ◌-◌, ◌<◌, ◌≤◌, ◌++◌, ℕ, List, length, drop, IfOk, OnOk, slice_range, IsErrOf};
+ghost use Rattle.std.specs.Prelude.{◌≡◌, ◌+◌, ◌-◌, ◌<◌, ◌≤◌, ◌++◌, ℕ, List, length, drop, IfOk, OnOk, slice_range};
+ghost use Rattle.std.specs.Prelude.{IsErrOf};
 ghost use Rattle.sd_disk.specs.Contents.{file_at};
 ghost use Rattle.sd_disk.specs.Failures.{HasCause};
 ghost use Rattle.sd_disk.specs.Reads.{OnlyReads};

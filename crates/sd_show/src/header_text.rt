@@ -1,7 +1,8 @@
 //! The lines of a header.
 ghost use Rattle.std.specs.Prelude.{◌≡◌, ◌⊎◌, ◌<◌, ◌≤◌, length, MatchOption, OnOk};
 ghost use Rattle.std.specs.Io.KnownBytes.{Appends};
-ghost use Rattle.sd_show.specs.Texts.{digest_line, digest_word, field_line, form_text, header_text, kind_line, kind_word, place_text, sizes_text};
+ghost use Rattle.sd_show.specs.Texts.{digest_line, digest_word, field_line, form_text, header_text, kind_line};
+ghost use Rattle.sd_show.specs.Texts.{kind_word, place_text, sizes_text};
 
 use crate::fields::{u16_at, u64_at};
 use sd_image::HEADER_SIZE;

@@ -1,5 +1,5 @@
-//! What stands in the image files of a store, slot by slot: as text, and as JSON. A slot that is damaged is shown as far
-//! as it can be read, and the others follow.
+//! What stands in the image files of a store, slot by slot: as text, and as JSON. A slot that is damaged is shown as
+//! far as it can be read, and the others follow.
 #![tactic(auto)]
 
 mod counts;

@@ -4,7 +4,8 @@ ghost use Rattle.std.specs.List.{flat_map};
 ghost use Rattle.std.specs.Io.KnownBytes.{Appends};
 ghost use Rattle.sd_image.specs.Reading.{prot_of};
 ghost use Rattle.sd_show.specs.Items.{behind_runs, runs_in};
-ghost use Rattle.sd_show.specs.Texts.{area_line, offset_text, permissions_text, range_text, run_kind_text, run_kind_word, run_line, runs_text, space_text, spaces_text, table_text};
+ghost use Rattle.sd_show.specs.Texts.{area_line, offset_text, permissions_text, range_text, run_kind_text};
+ghost use Rattle.sd_show.specs.Texts.{run_kind_word, run_line, runs_text, space_text, spaces_text, table_text};
 
 use crate::fields::{u32_at, u64_at};
 use crate::items::{

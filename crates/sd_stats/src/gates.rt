@@ -4,7 +4,8 @@ use sd_disk::{DeviceError, Disk, FOLDER_SLOTS};
 use sd_image::GATE;
 use std::cell::RefCell;
 
-/// The gates of a folder's slots, as the calls that were seen left them. A slot of which no call was seen counts as free.
+/// The gates of a folder's slots, as the calls that were seen left them. A slot of which no call was seen counts as
+/// free.
 #[derive(Debug, Drop)]
 pub struct Gates {
     open: RefCell<[bool; FOLDER_SLOTS]>,

@@ -18,20 +18,25 @@ BelowStays = (catalog adding images : List Image) (jobs : List ℕ) (number : �
     → SerialsDiffer catalog → IsCut catalog adding jobs images
     → ((added : Image) → Contains adding added → KeepsItsNumber catalog jobs added)
     → IsCalled catalog jobs number
-    → (space page : ℕ) (bytes : List ℕ) → GivesByNumber catalog number space page bytes ↔ GivesByNumber images number space page bytes
+    → (space page : ℕ) (bytes : List ℕ)
+    → GivesByNumber catalog number space page bytes ↔ GivesByNumber images number space page bytes
 
 -- each number that is called for in a store gives among these images what it gives in the store
 abbrev pub GivesStill : Store → List Image → Type 0
 GivesStill s images = (number space page : ℕ) (bytes : List ℕ) → IsCalled s.catalog (jobs s) number
     → GivesByNumber s.catalog number space page bytes ↔ GivesByNumber images number space page bytes
 
--- So it stays through the steps that change the catalog: an image of the running checkpoint enters, the merged image enters, images are closed.
+-- So it stays through the steps that change the catalog: an image of the running checkpoint enters, the merged image
+-- enters, images are closed.
 pub record StepsGive : Type 0 where
-  pub adds : (s : Store) (one : Image) (new : List Image) → IsSound s → IsNext s one → Adds s.catalog one new → GivesStill s new
-  pub replaces : (s : Store) (one : Image) (new : List Image) → IsSound s → IsTwin s.catalog s.source one → Adds s.catalog one new → GivesStill s new
+  pub adds : (s : Store) (one : Image) (new : List Image) → IsSound s → IsNext s one → Adds s.catalog one new
+      → GivesStill s new
+  pub replaces : (s : Store) (one : Image) (new : List Image) → IsSound s → IsTwin s.catalog s.source one
+      → Adds s.catalog one new → GivesStill s new
   pub retires : (s : Store) (new : List Image) → IsSound s → Retires s new → GivesStill s new
 
 -- Where the tip's number names the tip, nothing more is needed if a job asks for that number.
 abbrev pub OwnIsNeeded : Type 0
-OwnIsNeeded = (catalog : List Image) (work : List ℕ) (tip i : Image) → SerialsDiffer catalog → IsTip catalog tip → IsNamed catalog tip.header.stands_for tip
+OwnIsNeeded = (catalog : List Image) (work : List ℕ) (tip i : Image) → SerialsDiffer catalog → IsTip catalog tip
+    → IsNamed catalog tip.header.stands_for tip
     → IsNeeded catalog (tip.header.stands_for ∷ work) i → IsNeeded catalog work i

@@ -15,7 +15,8 @@ pub record IsCut (catalog adding : List Image) (jobs : List ℕ) (images : List 
 
 -- an image holds at each page, whatever other images there are, what the other holds among these
 abbrev pub HoldsAlike : List Image → Image → Image → Type 0
-HoldsAlike images i twin = (others : List Image) (space page : ℕ) (bytes : List ℕ) → Holds others space page bytes twin ↔ Holds images space page bytes i
+HoldsAlike images i twin = (others : List Image) (space page : ℕ) (bytes : List ℕ)
+    → Holds others space page bytes twin ↔ Holds images space page bytes i
 
 -- the areas of each space
 abbrev pub areas_of : Image → List (ℕ × List Area)
@@ -36,14 +37,16 @@ KeepsItsNumber catalog jobs added = IsCalled catalog jobs added.header.stands_fo
 -- where it is restored its checkpoint is below the tip's, or it repeats the tip
 abbrev pub KeepsTheTip : List Image → Image → Type 0
 KeepsTheTip catalog added = IsRestorable added
-    → (tip : Image) × IsTip catalog tip × ((added.header.checkpoint < tip.header.checkpoint) ⊎ Repeats catalog tip added)
+    → (tip : Image) × IsTip catalog tip
+    × ((added.header.checkpoint < tip.header.checkpoint) ⊎ Repeats catalog tip added)
 
 -- an image may be there or not
 pub record IsHarmless (catalog : List Image) (jobs : List ℕ) (added : Image) : Type 0 where
   pub number : KeepsItsNumber catalog jobs added
   pub tip : KeepsTheTip catalog added
 
--- a dump whose gate is being opened: nobody calls for it, it names what is called for, and its checkpoint is above those of the catalog
+-- a dump whose gate is being opened: nobody calls for it, it names what is called for, and its checkpoint is above
+-- those of the catalog
 pub record IsPending (catalog : List Image) (jobs : List ℕ) (pending : Image) : Type 0 where
   pub restorable : IsRestorable pending
   pub uncalled : IsCalled catalog jobs pending.header.stands_for → ⊥
@@ -59,7 +62,8 @@ CutShowsTheSame = (catalog adding images : List Image) (jobs : List ℕ) (shown 
 
 -- With a pending dump among those being added, it shows that, or the pending checkpoint and its memory.
 abbrev pub CutShowsLastOrPending : Type 0
-CutShowsLastOrPending = (catalog adding images : List Image) (jobs : List ℕ) (pending : Image) (last next : Option (ℕ × PlainMemory))
+CutShowsLastOrPending =
+    (catalog adding images : List Image) (jobs : List ℕ) (pending : Image) (last next : Option (ℕ × PlainMemory))
     → SerialsDiffer catalog → IsCut catalog (pending ∷ adding) jobs images
     → ((added : Image) → Contains adding added → IsHarmless catalog jobs added)
     → IsPending catalog jobs pending

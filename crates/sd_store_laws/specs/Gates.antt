@@ -4,7 +4,9 @@ use Rattle.std.specs.List.{AllZip}
 use Rattle.sd_disk.specs.Contents.{file_at}
 use Rattle.sd_image.specs.Image.{Image, IsImage, gate}
 use Rattle.sd_gate.specs.declared.phase.Phase.{Phase}
-use Rattle.sd_gate.specs.declared.phase.Phase.TheVariants.{Raw, RawClosing, Whole, Closing as ClosingPhase, Shut, ShutSynced, Bare, Writing, Ready, Opening as OpeningPhase, Doubt, DoubtSynced}
+use Rattle.sd_gate.specs.declared.phase.Phase.TheVariants.{Raw, RawClosing, Whole, Closing as ClosingPhase, Shut}
+use Rattle.sd_gate.specs.declared.phase.Phase.TheVariants.{ShutSynced, Bare, Writing, Ready, Opening as OpeningPhase}
+use Rattle.sd_gate.specs.declared.phase.Phase.TheVariants.{Doubt, DoubtSynced}
 use Rattle.sd_gate.specs.Fits.{DiskLeaves}
 use Rattle.sd_gate.specs.Phases.{given_up}
 use Rattle.sd_store_laws.specs.Beliefs.{Belief, Closed, Kept, Closing, Opening, FitsBelief}
@@ -41,7 +43,8 @@ pub record MayBelieve (phase : Phase) (body : List ℕ) (belief : Belief) : Type
 -- each slot's belief is one that its phase allows
 pub record AreBelieved (phases : List Phase) (bodies : List (List ℕ)) (beliefs : List Belief) : Type 0 where
   pub count : length beliefs ≡ length phases
-  pub each : (slot : ℕ) (phase : Phase) (belief : Belief) → slice_get phases slot ≡ Some phase → slice_get beliefs slot ≡ Some belief
+  pub each : (slot : ℕ) (phase : Phase) (belief : Belief) → slice_get phases slot ≡ Some phase
+      → slice_get beliefs slot ≡ Some belief
       → MayBelieve phase (file_at bodies slot) belief
 
 -- What a crash leaves of slots in these phases is as believed.
@@ -51,8 +54,10 @@ LeftAsBelieved = (phases : List Phase) (bodies c : List (List ℕ)) (beliefs : L
 
 -- A slot may be believed as it is, and less: what is kept or closed may be believed to be closing or opening.
 pub record BeliefsWeaken : Type 0 where
-  pub itself : (phase : Phase) (body : List ℕ) (belief : Belief) → IsBelievedAs phase body belief → MayBelieve phase body belief
-  pub less : (phase : Phase) (body : List ℕ) (belief weak : Belief) → MayBelieve phase body belief → IsWeaker belief weak → MayBelieve phase body weak
+  pub itself : (phase : Phase) (body : List ℕ) (belief : Belief) → IsBelievedAs phase body belief
+      → MayBelieve phase body belief
+  pub less : (phase : Phase) (body : List ℕ) (belief weak : Belief) → MayBelieve phase body belief
+      → IsWeaker belief weak → MayBelieve phase body weak
   pub kept : (i : Image) → IsWeaker (Kept i) (Closing i) × IsWeaker (Kept i) (Opening i)
   pub closed : (i : Image) → IsWeaker Closed (Closing i) × IsWeaker Closed (Opening i)
   pub alike : (i : Image) → IsWeaker (Closing i) (Opening i) × IsWeaker (Opening i) (Closing i)

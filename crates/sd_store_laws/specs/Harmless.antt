@@ -18,11 +18,13 @@ pub record IsSource (catalog : List Image) (jobs : List ℕ) (source : Image) : 
   pub named : IsCalled catalog jobs source.header.stands_for → IsNamed catalog source.header.stands_for source
   pub tip : Image
   pub is_tip : IsTip catalog tip
-  pub or_below : (source ≡ tip) ⊎ ((source.header.checkpoint < tip.header.checkpoint) × (source.header.stands_for ≢ tip.header.stands_for))
+  pub or_below : (source ≡ tip)
+      ⊎ ((source.header.checkpoint < tip.header.checkpoint) × (source.header.stands_for ≢ tip.header.stands_for))
 
 -- An unused number isn't called for.
 abbrev pub UnusedIsUncalled : Type 0
-UnusedIsUncalled = (catalog : List Image) (jobs : List ℕ) (number : ℕ) → IsUnused catalog jobs number → IsCalled catalog jobs number → ⊥
+UnusedIsUncalled = (catalog : List Image) (jobs : List ℕ) (number : ℕ) → IsUnused catalog jobs number
+    → IsCalled catalog jobs number → ⊥
 
 -- A pre-dump that stands for an unused number is harmless.
 abbrev pub PreDumpIsHarmless : Type 0
@@ -34,7 +36,8 @@ abbrev pub TwinIsHarmless : Type 0
 TwinIsHarmless = (catalog : List Image) (jobs : List ℕ) (source twin : Image)
     → IsSource catalog jobs source → Repeats catalog source twin → IsHarmless catalog jobs twin
 
--- A dump is pending that stands for an unused number, names a job's number, and has a checkpoint above those of the catalog.
+-- A dump is pending that stands for an unused number, names a job's number, and has a checkpoint above those of the
+-- catalog.
 abbrev pub DumpIsPending : Type 0
 DumpIsPending = (catalog : List Image) (jobs : List ℕ) (added : Image) → IsRestorable added
     → IsUnused catalog jobs added.header.stands_for → Contains jobs added.header.parent

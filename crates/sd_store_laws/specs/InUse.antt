@@ -15,10 +15,13 @@ use Rattle.sd_store_laws.specs.SlotSteps.{IsFoundAs, with_belief}
 abbrev pub HasImage : List Belief → ℕ → Image → Type 0
 HasImage beliefs slot i = (slice_get beliefs slot ≡ Some (Kept i)) ⊎ (slice_get beliefs slot ≡ Some (Closing i))
 
--- each image of the catalog is the one that its slot has, and each image that a slot has stands in the catalog at its serial
+-- each image of the catalog is the one that its slot has, and each image that a slot has stands in the catalog at its
+-- serial
 pub record IsCatalogInUse (places : Places) (beliefs : List Belief) : Type 0 where
-  pub image : (serial : ℕ) (o : Opened) → place_of places serial ≡ Some (Some o) → (i : Image) × IsToldAs o i × HasImage beliefs o.slot i
-  pub opened : (slot : ℕ) (i : Image) → HasImage beliefs slot i → (o : Opened) × (place_of places i.header.serial ≡ Some (Some o)) × IsToldAs o i × (o.slot ≡ slot)
+  pub image : (serial : ℕ) (o : Opened) → place_of places serial ≡ Some (Some o)
+      → (i : Image) × IsToldAs o i × HasImage beliefs o.slot i
+  pub opened : (slot : ℕ) (i : Image) → HasImage beliefs slot i
+      → (o : Opened) × (place_of places i.header.serial ≡ Some (Some o)) × IsToldAs o i × (o.slot ≡ slot)
 
 -- Such a catalog tells the store: so the tip, what numbers name and where pages lie are the store's.
 abbrev pub CatalogInUseTells : Places → Type 0
@@ -27,22 +30,27 @@ CatalogInUseTells places = (s : Store) (pending : Option Image) (beliefs : List 
 
 -- What an image of a catalog reaches, by serial, is what the image reaches that it tells.
 abbrev pub ToldReachesSo : Places → Type 0
-ToldReachesSo places = (all : List Image) → Tells places all → (serial reached : ℕ) → ReachesSerial places serial reached ↔ ReachesBySerial all serial reached
+ToldReachesSo places = (all : List Image) → Tells places all → (serial reached : ℕ)
+    → ReachesSerial places serial reached ↔ ReachesBySerial all serial reached
 
 -- The catalog of contents is that of the slots as they are found.
 abbrev pub CatalogIsFound : Type 0
 CatalogIsFound = (places : Places) (contents : List (List ℕ)) (beliefs : List Belief)
-    → AreInOrder places → IsCatalogOf contents places → AllZip IsFoundAs beliefs contents → IsCatalogInUse places beliefs
+    → AreInOrder places → IsCatalogOf contents places → AllZip IsFoundAs beliefs contents
+    → IsCatalogInUse places beliefs
 
--- A catalog follows the slots: it stays where none of its images changes but from kept to closing; the image of a slot that was being opened
--- is added; that of a slot that was closed is removed.
+-- A catalog follows the slots: it stays where none of its images changes but from kept to closing; the image of a slot
+-- that was being opened is added; that of a slot that was closed is removed.
 pub record CatalogFollows : Type 0 where
-  pub stays : (places : Places) (beliefs new : List Belief) → ((slot : ℕ) (i : Image) → HasImage beliefs slot i ↔ HasImage new slot i)
+  pub stays : (places : Places) (beliefs new : List Belief)
+      → ((slot : ℕ) (i : Image) → HasImage beliefs slot i ↔ HasImage new slot i)
       → IsCatalogInUse places beliefs → IsCatalogInUse places new
   pub adds : (old new : Places) (beliefs : List Belief) (o : Opened) (i : Image) → IsCatalogInUse old beliefs
       → slice_get beliefs o.slot ≡ Some (Opening i) → IsToldAs o i
-      → ((other : Opened) → place_of old o.header.serial ≡ Some (Some other) → ⊥) → Changes old new o.header.serial (Some (Some o))
+      → ((other : Opened) → place_of old o.header.serial ≡ Some (Some other) → ⊥)
+      → Changes old new o.header.serial (Some (Some o))
       → IsCatalogInUse new (with_belief beliefs o.slot (Kept i))
   pub removes : (old new : Places) (beliefs : List Belief) (slot : ℕ) (i : Image) → IsCatalogInUse old beliefs
-      → slice_get beliefs slot ≡ Some (Closing i) → ((serial : ℕ) → place_of new serial ≡ without_slot slot (place_of old serial))
+      → slice_get beliefs slot ≡ Some (Closing i)
+      → ((serial : ℕ) → place_of new serial ≡ without_slot slot (place_of old serial))
       → IsCatalogInUse new (with_belief beliefs slot Closed)

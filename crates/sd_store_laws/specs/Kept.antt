@@ -8,7 +8,8 @@ use Rattle.sd_store_laws.specs.Store.{IsSound, Store}
 use Rattle.sd_store_laws.specs.Steps.{added, begun, cancelled, committed, merging, opened, replaced, retired}
 use Rattle.sd_store_laws.specs.Beliefs.{Belief, image_at}
 
--- the image that the running checkpoint's next parent number names: the last one that it made, or the tip that it began from
+-- the image that the running checkpoint's next parent number names: the last one that it made, or the tip that it began
+-- from
 abbrev pub IsLastOfRunning : Store → Image → Type 0
 IsLastOfRunning s i = (number : ℕ) × Contains s.chain number × IsNamed s.catalog number i
 
@@ -25,7 +26,8 @@ HasItsWork s = MatchOption s.source (s.work ≡ []) (λ source. s.work ≡ sourc
 
 -- That is what is needed, and the source.
 abbrev pub InUseIsNeeded : Type 0
-InUseIsNeeded = (s : Store) (i : Image) → IsSound s → HasItsWork s → IsInUse s i ↔ (IsNeededIn s i ⊎ (s.source ≡ Some i))
+InUseIsNeeded =
+    (s : Store) (i : Image) → IsSound s → HasItsWork s → IsInUse s i ↔ (IsNeededIn s i ⊎ (s.source ≡ Some i))
 
 -- A slot is free where no image that is in use stands in it, no job reserves it, and no merge is to close it.
 pub record IsFreeSlot (s : Store) (beliefs : List Belief) (reserved listed : List ℕ) (slot : ℕ) : Type 0 where
@@ -34,9 +36,10 @@ pub record IsFreeSlot (s : Store) (beliefs : List Belief) (reserved listed : Lis
   pub unreserved : Contains reserved slot → ⊥
   pub unlisted : Contains listed slot → ⊥
 
--- The images that a merge closes: of those that were in the catalog as it began and still are, the ones that aren't in use and whose slots
--- aren't reserved.
-pub record IsToRetire (before : List Image) (s : Store) (beliefs : List Belief) (reserved : List ℕ) (i : Image) : Type 0 where
+-- The images that a merge closes: of those that were in the catalog as it began and still are, the ones that aren't in
+-- use and whose slots aren't reserved.
+pub record IsToRetire (before : List Image) (s : Store) (beliefs : List Belief) (reserved : List ℕ)
+    (i : Image) : Type 0 where
   pub was : Contains before i
   pub member : Contains s.catalog i
   pub unused : IsInUse s i → ⊥
@@ -44,9 +47,11 @@ pub record IsToRetire (before : List Image) (s : Store) (beliefs : List Belief) 
 
 -- They are images of the catalog that may be closed; and no image that is needed stands in a free slot.
 pub record RetiresUnneeded : Type 0 where
-  pub unneeded : (before : List Image) (s : Store) (beliefs : List Belief) (reserved : List ℕ) (i : Image) → IsSound s → HasItsWork s
+  pub unneeded : (before : List Image) (s : Store) (beliefs : List Belief) (reserved : List ℕ) (i : Image) → IsSound s
+      → HasItsWork s
       → IsToRetire before s beliefs reserved i → IsUnneeded s i
-  pub free : (s : Store) (beliefs : List Belief) (reserved listed : List ℕ) (slot : ℕ) (i : Image) → IsSound s → HasItsWork s
+  pub free : (s : Store) (beliefs : List Belief) (reserved listed : List ℕ) (slot : ℕ) (i : Image) → IsSound s
+      → HasItsWork s
       → IsFreeSlot s beliefs reserved listed slot → image_at beliefs slot ≡ Some i → IsNeededIn s i → ⊥
 
 -- Each step keeps the work that of the running merge.

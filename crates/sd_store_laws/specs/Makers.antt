@@ -1,5 +1,6 @@
 -- What whoever makes an image has to show of it.
-use Rattle.std.specs.Prelude.{◌≡◌, ◌↔◌, ◌⊎◌, ℕ, ◌<◌, ◌==◌, List, [], ◌∷◌, Some, None, IfSome, MatchOption, Contains, replicate, slice_get}
+use Rattle.std.specs.Prelude.{◌≡◌, ◌↔◌, ◌⊎◌, ℕ, ◌<◌, ◌==◌, List, [], ◌∷◌, Some, None, IfSome, MatchOption, Contains}
+use Rattle.std.specs.Prelude.{replicate, slice_get}
 use Rattle.std.specs.List.{list_any}
 use Rattle.std.specs.FinMap as finmap
 use Rattle.sd_areas.specs.Areas.{prot_in}
@@ -15,10 +16,12 @@ use Rattle.sd_store_laws.specs.Store.{IsFresh, IsNextDump, IsSound, Store, jobs}
 -- an image has these bytes at a page: among its data pages, or as zeros
 abbrev pub HasItself : Image → ℕ → ℕ → List ℕ → Type 0
 HasItself i space page bytes =
-    ((place : ℕ) × (slice_get (pages_of Data i.spaces) place ≡ Some (space, page)) × (slice_get i.pages place ≡ Some bytes))
+    ((place : ℕ) × (slice_get (pages_of Data i.spaces) place ≡ Some (space, page))
+    × (slice_get i.pages place ≡ Some bytes))
     ⊎ (Contains (pages_of Zero i.spaces) (space, page) × (bytes ≡ replicate 4096 0))
 
--- An image without a page in its parent, with the source's checkpoint, number and areas, that has at each page what the source holds, repeats it.
+-- An image without a page in its parent, with the source's checkpoint, number and areas, that has at each page what the
+-- source holds, repeats it.
 pub record IsMergedOf (images : List Image) (source one : Image) : Type 0 where
   pub checkpoint : one.header.checkpoint ≡ source.header.checkpoint
   pub stands : one.header.stands_for ≡ source.header.stands_for
@@ -32,7 +35,8 @@ MergedRepeats = (images : List Image) (source one : Image) → IsMergedOf images
 -- an image has these bytes at a page itself, or its parent number gives them
 abbrev pub HasOver : List Image → Image → ℕ → ℕ → List ℕ → Type 0
 HasOver images i space page bytes =
-    HasItself i space page bytes ⊎ (Contains (pages_of Parent i.spaces) (space, page) × GivesByNumber images i.header.parent space page bytes)
+    HasItself i space page bytes
+    ⊎ (Contains (pages_of Parent i.spaces) (space, page) × GivesByNumber images i.header.parent space page bytes)
 
 -- a dump has a memory: its spaces are alive, and it has the bytes of each page of its areas
 pub record HasMemory (images : List Image) (i : Image) (memory : PlainMemory) : Type 0 where
@@ -41,9 +45,11 @@ pub record HasMemory (images : List Image) (i : Image) (memory : PlainMemory) : 
       (prot_in s.areas page ≡ None)
       (λ found. (prot_in s.areas page ≡ Some found.prot) × HasOver images i s.space page found.bytes)
 
--- With the running checkpoint's dump, that has a memory over the images of the store, the images show its checkpoint and that memory.
+-- With the running checkpoint's dump, that has a memory over the images of the store, the images show its checkpoint
+-- and that memory.
 abbrev pub DumpShows : Type 0
-DumpShows = (s : Store) (dump : Image) (memory : PlainMemory) → IsSound s → IsNextDump s dump → HasMemory s.catalog dump memory
+DumpShows =
+    (s : Store) (dump : Image) (memory : PlainMemory) → IsSound s → IsNextDump s dump → HasMemory s.catalog dump memory
     → ImagesShow (dump ∷ s.catalog) (Some (dump.header.checkpoint, memory))
 
 -- a number above all serials, numbers and parents of a store's images, its jobs' numbers and its source's number
@@ -56,4 +62,5 @@ pub record IsAbove (s : Store) (number : ℕ) : Type 0 where
 
 -- An image with such a number is fresh.
 abbrev pub AboveIsFresh : Type 0
-AboveIsFresh = (s : Store) (i : Image) → i.header.stands_for ≡ i.header.serial → i.header.parent < i.header.stands_for → IsAbove s i.header.serial → IsFresh s i
+AboveIsFresh = (s : Store) (i : Image) → i.header.stands_for ≡ i.header.serial → i.header.parent < i.header.stands_for
+    → IsAbove s i.header.serial → IsFresh s i

@@ -8,7 +8,8 @@ use Rattle.sd_store_laws.specs.Reached.{Reaches}
 pub data IsCalled (images : List Image) (jobs : List ℕ) : ℕ → Type 0 where
   by_tip : (number : ℕ) (tip : Image) → IsTip images tip → tip.header.parent ≡ number → IsCalled images jobs number
   by_job : (number : ℕ) → Contains jobs number → IsCalled images jobs number
-  by_parent : (number before : ℕ) (i : Image) → IsCalled images jobs before → IsNamed images before i → i.header.parent ≡ number → IsCalled images jobs number
+  by_parent : (number before : ℕ) (i : Image) → IsCalled images jobs before → IsNamed images before i
+      → i.header.parent ≡ number → IsCalled images jobs number
 
 -- an image that a called number names
 abbrev pub IsCalledFor : List Image → List ℕ → Image → Type 0

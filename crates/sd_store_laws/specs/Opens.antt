@@ -12,7 +12,8 @@ OpenedIsSound = (contents : List (List ℕ)) (images : List Image) → IsStore c
 
 -- What is shown depends on which images there are, and not on their order.
 abbrev pub OrderIsFree : Type 0
-OrderIsFree = (one other : List Image) (shown : Option (ℕ × PlainMemory)) → ((i : Image) → Contains one i ↔ Contains other i)
+OrderIsFree =
+    (one other : List Image) (shown : Option (ℕ × PlainMemory)) → ((i : Image) → Contains one i ↔ Contains other i)
     → ImagesShow one shown → ImagesShow other shown
 
 -- Only a commit changes what a store shows: to the dump's checkpoint and its memory.
@@ -22,6 +23,7 @@ pub record StepsShow : Type 0 where
   pub commits : (s : Store) (i : Image) (new : List Image) (shown : Option (ℕ × PlainMemory))
       → Adds s.catalog i new → ImagesShow (i ∷ s.catalog) shown → ImagesShow new shown
   pub replaces : (s : Store) (i : Image) (new : List Image) (shown : Option (ℕ × PlainMemory))
-      → IsSound s → IsTwin s.catalog s.source i → Adds s.catalog i new → ImagesShow s.catalog shown → ImagesShow new shown
+      → IsSound s → IsTwin s.catalog s.source i → Adds s.catalog i new → ImagesShow s.catalog shown
+      → ImagesShow new shown
   pub retires : (s : Store) (new : List Image) (shown : Option (ℕ × PlainMemory))
       → IsSound s → Retires s new → ImagesShow s.catalog shown → ImagesShow new shown

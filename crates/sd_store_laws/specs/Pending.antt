@@ -8,8 +8,10 @@ use Rattle.sd_store_laws.specs.Steps.{Adds, Retires}
 
 -- What the store would show with its dump it would show after the step too.
 pub record PendingShows : Type 0 where
-  pub replaces : (s : Store) (dump one : Image) (new : List Image) (shown : Option (ℕ × PlainMemory)) → IsSound s → IsNextDump s dump
+  pub replaces : (s : Store) (dump one : Image) (new : List Image) (shown : Option (ℕ × PlainMemory)) → IsSound s
+      → IsNextDump s dump
       → IsTwin s.catalog s.source one → dump.header.serial ≢ one.header.serial → Adds s.catalog one new
       → ImagesShow (dump ∷ s.catalog) shown → ImagesShow (dump ∷ new) shown
-  pub retires : (s : Store) (dump : Image) (new : List Image) (shown : Option (ℕ × PlainMemory)) → IsSound s → IsNextDump s dump → Retires s new
+  pub retires : (s : Store) (dump : Image) (new : List Image) (shown : Option (ℕ × PlainMemory)) → IsSound s
+      → IsNextDump s dump → Retires s new
       → ImagesShow (dump ∷ s.catalog) shown → ImagesShow (dump ∷ new) shown

@@ -1,11 +1,13 @@
 -- How the beliefs about slots follow the steps of a store and the calls that are made on slots.
 use Rattle.std.specs.List.{AllZip}
-use Rattle.std.specs.Prelude.{◌≡◌, ◌≢◌, ◌↔◌, ℕ, true, List, Option, Some, None, Contains, IfSome, slice_get, slice_set, false}
+use Rattle.std.specs.Prelude.{◌≡◌, ◌≢◌, ◌↔◌, ℕ, true, List, Option, Some, None, Contains, IfSome, slice_get, slice_set}
+use Rattle.std.specs.Prelude.{false}
 use Rattle.sd_image.specs.Image.{Image, IsImage, is_open}
 use Rattle.sd_image.specs.Shows.{IsTip, IsStore}
 use Rattle.sd_store_laws.specs.Needed.{IsNeeded}
 use Rattle.sd_store_laws.specs.Store.{IsNextDump, IsNextPreDump, IsSound, IsTwin, Store, jobs}
-use Rattle.sd_store_laws.specs.Steps.{Adds, Retires, added, begun, cancelled, committed, merging, replaced, retired, opened}
+use Rattle.sd_store_laws.specs.Steps.{Adds, Retires, added, begun, cancelled, committed, merging, replaced, retired}
+use Rattle.sd_store_laws.specs.Steps.{opened}
 use Rattle.sd_store_laws.specs.Beliefs.{AreSlotsOf, Belief, Closed, Kept, Closing, Opening, IsAdded, image_at}
 
 -- a list lacks one image
@@ -16,51 +18,65 @@ Lacks old i new = (j : Image) → Contains new j ↔ (Contains old j × (j ≢ i
 abbrev pub with_belief : List Belief → ℕ → Belief → List Belief
 with_belief beliefs slot belief = slice_set beliefs slot belief
 
--- One slot's call: its gate begins to be opened; the image that is being opened is the pending dump; its gate begins to be closed, where nobody needs
--- the image; it is closed, and its image leaves the catalog.
+-- One slot's call: its gate begins to be opened; the image that is being opened is the pending dump; its gate begins to
+-- be closed, where nobody needs the image; it is closed, and its image leaves the catalog.
 pub record SlotsFollowCalls : Type 0 where
-  pub opens : (s : Store) (pending : Option Image) (beliefs : List Belief) (slot : ℕ) (i : Image) → AreSlotsOf s pending beliefs
+  pub opens : (s : Store) (pending : Option Image) (beliefs : List Belief) (slot : ℕ) (i : Image)
+      → AreSlotsOf s pending beliefs
       → slice_get beliefs slot ≡ Some Closed → IsAdded s pending i
       → ((other : ℕ) (j : Image) → image_at beliefs other ≡ Some j → j.header.serial ≢ i.header.serial)
       → AreSlotsOf s pending (with_belief beliefs slot (Opening i))
-  pub pends : (s : Store) (beliefs : List Belief) (dump : Image) → AreSlotsOf s None beliefs → IsNextDump s dump → AreSlotsOf s (Some dump) beliefs
-  pub closes : (s : Store) (pending : Option Image) (beliefs : List Belief) (slot : ℕ) (i : Image) → AreSlotsOf s pending beliefs
+  pub pends : (s : Store) (beliefs : List Belief) (dump : Image) → AreSlotsOf s None beliefs → IsNextDump s dump
+      → AreSlotsOf s (Some dump) beliefs
+  pub closes : (s : Store) (pending : Option Image) (beliefs : List Belief) (slot : ℕ) (i : Image)
+      → AreSlotsOf s pending beliefs
       → slice_get beliefs slot ≡ Some (Kept i) → (IsNeeded s.catalog (jobs s) i → ⊥)
       → AreSlotsOf s pending (with_belief beliefs slot (Closing i))
-  pub closed : (s : Store) (pending : Option Image) (beliefs : List Belief) (slot : ℕ) (i : Image) (new : List Image) → IsSound s → AreSlotsOf s pending beliefs
+  pub closed : (s : Store) (pending : Option Image) (beliefs : List Belief) (slot : ℕ) (i : Image) (new : List Image)
+      → IsSound s → AreSlotsOf s pending beliefs
       → slice_get beliefs slot ≡ Some (Closing i) → Lacks s.catalog i new
       → AreSlotsOf (retired s new) pending (with_belief beliefs slot Closed)
 
 -- A slot that is being opened is formatted: its image, that was given up, is in no catalog.
 abbrev pub SlotsDrop : Type 0
-SlotsDrop = (s : Store) (pending : Option Image) (beliefs : List Belief) (slot : ℕ) (i : Image) → AreSlotsOf s pending beliefs
+SlotsDrop =
+    (s : Store) (pending : Option Image) (beliefs : List Belief) (slot : ℕ) (i : Image) → AreSlotsOf s pending beliefs
     → slice_get beliefs slot ≡ Some (Opening i)
     → AreSlotsOf s pending (with_belief beliefs slot Closed) × (Contains s.catalog i → ⊥)
 
--- Closing retires: a catalog without an image is a list, and where the image is one that is being closed, all that is needed is in it.
+-- Closing retires: a catalog without an image is a list, and where the image is one that is being closed, all that is
+-- needed is in it.
 pub record ClosingRetires : Type 0 where
   pub lacks : (s : Store) (i : Image) → IsSound s → Contains s.catalog i → (new : List Image) × Lacks s.catalog i new
-  pub retires : (s : Store) (pending : Option Image) (beliefs : List Belief) (slot : ℕ) (i : Image) (new : List Image) → AreSlotsOf s pending beliefs
+  pub retires : (s : Store) (pending : Option Image) (beliefs : List Belief) (slot : ℕ) (i : Image) (new : List Image)
+      → AreSlotsOf s pending beliefs
       → slice_get beliefs slot ≡ Some (Closing i) → Lacks s.catalog i new → Retires s new
 
 -- Steps that leave the catalog leave the beliefs.
 pub record SlotsFollowJobs : Type 0 where
   pub begins : (s : Store) (tip : Image) (beliefs : List Belief) → IsSound s → s.grows ≡ true → IsTip s.catalog tip
       → AreSlotsOf s None beliefs → AreSlotsOf (begun s tip.header.stands_for) None beliefs
-  pub begins_whole : (s : Store) (beliefs : List Belief) → IsSound s → AreSlotsOf s None beliefs → AreSlotsOf (begun s 0) None beliefs
-  pub cancels : (s : Store) (beliefs : List Belief) → IsSound s → AreSlotsOf s None beliefs → AreSlotsOf (cancelled s) None beliefs
-  pub merges : (s : Store) (tip : Image) (pending : Option Image) (beliefs : List Belief) → IsSound s → IsTip s.catalog tip → s.source ≡ None
+  pub begins_whole : (s : Store) (beliefs : List Belief) → IsSound s → AreSlotsOf s None beliefs
+      → AreSlotsOf (begun s 0) None beliefs
+  pub cancels : (s : Store) (beliefs : List Belief) → IsSound s → AreSlotsOf s None beliefs
+      → AreSlotsOf (cancelled s) None beliefs
+  pub merges : (s : Store) (tip : Image) (pending : Option Image) (beliefs : List Belief) → IsSound s
+      → IsTip s.catalog tip → s.source ≡ None
       → AreSlotsOf s pending beliefs → AreSlotsOf (merging s tip) pending beliefs
 
--- The image of a slot that is being opened enters the catalog: a pre-dump, the pending dump, or the image of the running merge.
+-- The image of a slot that is being opened enters the catalog: a pre-dump, the pending dump, or the image of the
+-- running merge.
 pub record SlotsFollowImages : Type 0 where
-  pub adds : (s : Store) (beliefs : List Belief) (slot : ℕ) (i : Image) (new : List Image) → IsSound s → AreSlotsOf s None beliefs
+  pub adds : (s : Store) (beliefs : List Belief) (slot : ℕ) (i : Image) (new : List Image) → IsSound s
+      → AreSlotsOf s None beliefs
       → slice_get beliefs slot ≡ Some (Opening i) → IsNextPreDump s i → Adds s.catalog i new
       → AreSlotsOf (added s new i.header.stands_for) None (with_belief beliefs slot (Kept i))
-  pub commits : (s : Store) (beliefs : List Belief) (slot : ℕ) (i : Image) (new : List Image) → IsSound s → AreSlotsOf s (Some i) beliefs
+  pub commits : (s : Store) (beliefs : List Belief) (slot : ℕ) (i : Image) (new : List Image) → IsSound s
+      → AreSlotsOf s (Some i) beliefs
       → slice_get beliefs slot ≡ Some (Opening i) → Adds s.catalog i new
       → AreSlotsOf (committed s new) None (with_belief beliefs slot (Kept i))
-  pub replaces : (s : Store) (pending : Option Image) (beliefs : List Belief) (slot : ℕ) (i : Image) (new : List Image) → IsSound s → AreSlotsOf s pending beliefs
+  pub replaces : (s : Store) (pending : Option Image) (beliefs : List Belief) (slot : ℕ) (i : Image) (new : List Image)
+      → IsSound s → AreSlotsOf s pending beliefs
       → slice_get beliefs slot ≡ Some (Opening i) → IsTwin s.catalog s.source i → Adds s.catalog i new
       → ((j : Image) → Contains beliefs (Opening j) → IsTwin s.catalog s.source j → j ≡ i)
       → IfSome pending (λ dump. i.header.serial ≢ dump.header.serial)

@@ -32,7 +32,8 @@ cancelled s = record { catalog = s.catalog; chain = []; work = s.work; source = 
 
 -- a merge of this image begins
 abbrev pub merging : Store → Image → Store
-merging s source = record { catalog = s.catalog; chain = s.chain; work = source.header.parent ∷ []; source = Some source; grows = s.grows }
+merging s source = record
+    { catalog = s.catalog; chain = s.chain; work = source.header.parent ∷ []; source = Some source; grows = s.grows }
 
 -- the merged image is in the catalog
 abbrev pub replaced : Store → List Image → Store
@@ -48,12 +49,17 @@ opened images = record { catalog = images; chain = []; work = []; source = None;
 
 -- Each step keeps a store sound.
 pub record StepsKeep : Type 0 where
-  pub begins : (s : Store) (tip : Image) → IsSound s → s.grows ≡ true → IsTip s.catalog tip → IsSound (begun s tip.header.stands_for)
+  pub begins : (s : Store) (tip : Image) → IsSound s → s.grows ≡ true → IsTip s.catalog tip
+      → IsSound (begun s tip.header.stands_for)
   pub begins_whole : (s : Store) → IsSound s → IsSound (begun s 0)
-  pub adds : (s : Store) (i : Image) (new : List Image) → IsSound s → IsNextPreDump s i → Adds s.catalog i new → IsSound (added s new i.header.stands_for)
-  pub commits : (s : Store) (i : Image) (new : List Image) → IsSound s → IsNextDump s i → Adds s.catalog i new → IsSound (committed s new)
+  pub adds : (s : Store) (i : Image) (new : List Image) → IsSound s → IsNextPreDump s i → Adds s.catalog i new
+      → IsSound (added s new i.header.stands_for)
+  pub commits : (s : Store) (i : Image) (new : List Image) → IsSound s → IsNextDump s i → Adds s.catalog i new
+      → IsSound (committed s new)
   pub cancels : (s : Store) → IsSound s → IsSound (cancelled s)
   pub merges : (s : Store) (tip : Image) → IsSound s → IsTip s.catalog tip → IsSound (merging s tip)
-  pub replaces : (s : Store) (i : Image) (new : List Image) → IsSound s → IsTwin s.catalog s.source i → Adds s.catalog i new → IsSound (replaced s new)
+  pub replaces : (s : Store) (i : Image) (new : List Image) → IsSound s → IsTwin s.catalog s.source i
+      → Adds s.catalog i new → IsSound (replaced s new)
   pub retires : (s : Store) (new : List Image) → IsSound s → Retires s new → IsSound (retired s new)
-  pub opens : (images : List Image) → SerialsDiffer images → ((i : Image) → Contains images i → i.header.parent < i.header.stands_for) → IsSound (opened images)
+  pub opens : (images : List Image) → SerialsDiffer images
+      → ((i : Image) → Contains images i → i.header.parent < i.header.stands_for) → IsSound (opened images)

@@ -65,4 +65,5 @@ pub record IsTwin (catalog : List Image) (merge : Option Image) (twin : Image) :
   pub alone : twin.header.parent ≡ 0
   pub falls : 0 < twin.header.stands_for
   pub serial : (j : Image) → Contains catalog j → j.header.serial ≢ twin.header.serial
-  pub above : (j : Image) → Contains catalog j → j.header.stands_for ≡ twin.header.stands_for → j.header.serial < twin.header.serial
+  pub above : (j : Image) → Contains catalog j → j.header.stands_for ≡ twin.header.stands_for
+      → j.header.serial < twin.header.serial

@@ -25,9 +25,23 @@ memory_of bytes = first_memory 1 16 prot bytes
 
 abbrev pub one_page : Kind → ℕ → ℕ → ℕ → ℕ → RunKind → List (List ℕ) → Image
 one_page kind serial stands_for parent checkpoint way pages = record {
-  header = record { version = One; kind = kind; serial = serial; stands_for = stands_for; parent = parent; checkpoint = checkpoint; pages = length pages; table_len = 72; digest = zeros 32 };
+  header = record {
+    version = One;
+    kind = kind;
+    serial = serial;
+    stands_for = stands_for;
+    parent = parent;
+    checkpoint = checkpoint;
+    pages = length pages;
+    table_len = 72;
+    digest = zeros 32;
+  };
   pages = pages;
-  spaces = record { space = 1; areas = record { first = 16; count = 1; prot = prot } ∷ []; runs = record { first = 16; count = 1; kind = way } ∷ [] } ∷ [];
+  spaces = record {
+    space = 1;
+    areas = record { first = 16; count = 1; prot = prot } ∷ [];
+    runs = record { first = 16; count = 1; kind = way } ∷ [];
+  } ∷ [];
 }
 
 -- a dump with the page, and one that leaves it to its parent
@@ -44,19 +58,29 @@ merged serial stands_for checkpoint bytes = one_page Merged serial stands_for 0 
 abbrev pub file_of : Image → List ℕ
 file_of i = gate ∷ image_text i
 
--- A dump; a second one that names it; and a merged image that takes the first one's place, with other bytes so that it is seen.
+-- A dump; a second one that names it; and a merged image that takes the first one's place, with other bytes so that it
+-- is seen.
 pub record ChainRows (bytes other : List ℕ) : Type 0 where
   pub first : ImagesShow (whole 1 1 bytes ∷ []) (Some (1, memory_of bytes))
   pub second : ImagesShow (whole 1 1 bytes ∷ unchanged 2 1 2 ∷ []) (Some (2, memory_of bytes))
   pub third : ImagesShow (whole 1 1 bytes ∷ unchanged 2 1 2 ∷ merged 3 1 1 other ∷ []) (Some (2, memory_of other))
-  pub reaches : Reaches (whole 1 1 bytes ∷ unchanged 2 1 2 ∷ merged 3 1 1 other ∷ []) (merged 3 1 1 other) (unchanged 2 1 2)
-  pub no_more : Reaches (whole 1 1 bytes ∷ unchanged 2 1 2 ∷ merged 3 1 1 other ∷ []) (whole 1 1 bytes) (unchanged 2 1 2) → ⊥
+  pub reaches : Reaches (whole 1 1 bytes ∷ unchanged 2 1 2 ∷ merged 3 1 1 other ∷ []) (merged 3 1 1 other)
+      (unchanged 2 1 2)
+  pub no_more : Reaches (whole 1 1 bytes ∷ unchanged 2 1 2 ∷ merged 3 1 1 other ∷ []) (whole 1 1 bytes)
+      (unchanged 2 1 2) → ⊥
   pub files : length bytes ≡ 4096 → length other ≡ 4096
-      → Shows (file_of (whole 1 1 bytes) ∷ file_of (unchanged 2 1 2) ∷ file_of (merged 3 1 1 other) ∷ []) (Some (2, memory_of other))
+      → Shows (file_of (whole 1 1 bytes) ∷ file_of (unchanged 2 1 2) ∷ file_of (merged 3 1 1 other) ∷ [])
+      (Some (2, memory_of other))
 
 -- a checkpoint beside a merge, the gates of both images being opened
 abbrev pub busy : List ℕ → Store
-busy bytes = record { catalog = whole 1 1 bytes ∷ []; chain = 1 ∷ []; work = 0 ∷ []; source = Some (whole 1 1 bytes); grows = true }
+busy bytes = record {
+  catalog = whole 1 1 bytes ∷ [];
+  chain = 1 ∷ [];
+  work = 0 ∷ [];
+  source = Some (whole 1 1 bytes);
+  grows = true;
+}
 
 abbrev pub busy_slots : List ℕ → List Belief
 busy_slots bytes = Kept (whole 1 1 bytes) ∷ Opening (merged 2 1 1 bytes) ∷ Opening (unchanged 3 1 2) ∷ []
@@ -72,8 +96,9 @@ pub record MergeBesideRound (bytes : List ℕ) : Type 0 where
 abbrev pub found : List ℕ → List ℕ → List Image
 found bytes other = whole 5 2 bytes ∷ merged 6 5 1 other ∷ []
 
--- There an incremental checkpoint of a memory that didn't change would show other bytes, and the tip's again once a merged
--- image of the tip is there: so it may begin only where a checkpoint was acknowledged since the store was opened.
+-- There an incremental checkpoint of a memory that didn't change would show other bytes, and the tip's again once a
+-- merged image of the tip is there: so it may begin only where a checkpoint was acknowledged since the store was
+-- opened.
 pub record WhyItGrows (bytes other : List ℕ) : Type 0 where
   pub sound : IsSound (opened (found bytes other))
   pub tip : IsTip (found bytes other) (whole 5 2 bytes)

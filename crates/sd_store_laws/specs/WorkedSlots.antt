@@ -19,40 +19,64 @@ in_round bytes = record { catalog = whole 1 1 bytes ∷ []; chain = 1 ∷ []; wo
 -- a pre-dump of the page
 abbrev pub pre_dump : ℕ → ℕ → ℕ → List ℕ → Image
 pre_dump serial parent checkpoint bytes = record {
-  header = record { version = One; kind = PreDump; serial = serial; stands_for = serial; parent = parent; checkpoint = checkpoint; pages = 1; table_len = 48; digest = zeros 32 };
+  header = record {
+    version = One;
+    kind = PreDump;
+    serial = serial;
+    stands_for = serial;
+    parent = parent;
+    checkpoint = checkpoint;
+    pages = 1;
+    table_len = 48;
+    digest = zeros 32;
+  };
   pages = bytes ∷ [];
   spaces = record { space = 1; areas = []; runs = record { first = 16; count = 1; kind = Data } ∷ [] } ∷ [];
 }
 
--- A pre-dump whose gate is being opened is there or not, and the store shows the dump; also once its checkpoint is cancelled, until its slot
--- is formatted.
+-- A pre-dump whose gate is being opened is there or not, and the store shows the dump; also once its checkpoint is
+-- cancelled, until its slot is formatted.
 pub record PreDumpGivenUp (bytes other : List ℕ) : Type 0 where
   pub slots : AreSlotsOf (in_round bytes) None (Kept (whole 1 1 bytes) ∷ Opening (pre_dump 2 1 2 other) ∷ [])
-  pub given_up : AreSlotsOf (cancelled (in_round bytes)) None (Kept (whole 1 1 bytes) ∷ Opening (pre_dump 2 1 2 other) ∷ [])
-  pub shows : (images : List Image) → IsLeft (Kept (whole 1 1 bytes) ∷ Opening (pre_dump 2 1 2 other) ∷ []) images → ImagesShow images (Some (1, memory_of bytes))
+  pub given_up : AreSlotsOf (cancelled (in_round bytes)) None
+      (Kept (whole 1 1 bytes) ∷ Opening (pre_dump 2 1 2 other) ∷ [])
+  pub shows : (images : List Image) → IsLeft (Kept (whole 1 1 bytes) ∷ Opening (pre_dump 2 1 2 other) ∷ []) images
+      → ImagesShow images (Some (1, memory_of bytes))
   pub formatted : AreSlotsOf (cancelled (in_round bytes)) None (Kept (whole 1 1 bytes) ∷ Closed ∷ [])
 
--- A store that goes down while its second dump's gate is being opened shows the first dump or the second; it is opened without the second,
--- or with it.
+-- A store that goes down while its second dump's gate is being opened shows the first dump or the second; it is opened
+-- without the second, or with it.
 pub record DumpInDoubt (bytes : List ℕ) : Type 0 where
   pub sound : IsSound (in_round bytes)
-  pub slots : AreSlotsOf (in_round bytes) (Some (unchanged 3 1 2)) (Kept (whole 1 1 bytes) ∷ Opening (unchanged 3 1 2) ∷ [])
+  pub slots : AreSlotsOf (in_round bytes) (Some (unchanged 3 1 2))
+      (Kept (whole 1 1 bytes) ∷ Opening (unchanged 3 1 2) ∷ [])
   pub shows : (images : List Image) → IsLeft (Kept (whole 1 1 bytes) ∷ Opening (unchanged 3 1 2) ∷ []) images
       → ImagesShow images (Some (1, memory_of bytes)) ⊎ ImagesShow images (Some (2, memory_of bytes))
-  pub without_it : IsSound (opened (whole 1 1 bytes ∷ [])) × ImagesShow (whole 1 1 bytes ∷ []) (Some (1, memory_of bytes))
-  pub with_it : IsSound (opened (unchanged 3 1 2 ∷ whole 1 1 bytes ∷ [])) × ImagesShow (unchanged 3 1 2 ∷ whole 1 1 bytes ∷ []) (Some (2, memory_of bytes))
+  pub without_it : IsSound (opened (whole 1 1 bytes ∷ []))
+      × ImagesShow (whole 1 1 bytes ∷ []) (Some (1, memory_of bytes))
+  pub with_it : IsSound (opened (unchanged 3 1 2 ∷ whole 1 1 bytes ∷ []))
+      × ImagesShow (unchanged 3 1 2 ∷ whole 1 1 bytes ∷ []) (Some (2, memory_of bytes))
 
 -- a merge of the first dump runs, and the second is the tip
 abbrev pub outrun : List ℕ → Store
-outrun bytes = record { catalog = unchanged 3 1 2 ∷ whole 1 1 bytes ∷ []; chain = []; work = 0 ∷ []; source = Some (whole 1 1 bytes); grows = true }
+outrun bytes = record {
+  catalog = unchanged 3 1 2 ∷ whole 1 1 bytes ∷ [];
+  chain = [];
+  work = 0 ∷ [];
+  source = Some (whole 1 1 bytes);
+  grows = true;
+}
 
 -- The merged image still repeats its source and may enter; then nobody needs the source.
 pub record MergeBehindTip (bytes : List ℕ) : Type 0 where
   pub sound : IsSound (outrun bytes)
   pub tip : IsTip (outrun bytes).catalog (unchanged 3 1 2)
   pub twin : IsTwin (outrun bytes).catalog (outrun bytes).source (merged 2 1 1 bytes)
-  pub slots : AreSlotsOf (outrun bytes) None (Kept (whole 1 1 bytes) ∷ Opening (merged 2 1 1 bytes) ∷ Kept (unchanged 3 1 2) ∷ [])
-  pub shows : (images : List Image) → IsLeft (Kept (whole 1 1 bytes) ∷ Opening (merged 2 1 1 bytes) ∷ Kept (unchanged 3 1 2) ∷ []) images
+  pub slots : AreSlotsOf (outrun bytes) None
+      (Kept (whole 1 1 bytes) ∷ Opening (merged 2 1 1 bytes) ∷ Kept (unchanged 3 1 2) ∷ [])
+  pub shows : (images : List Image)
+      → IsLeft (Kept (whole 1 1 bytes) ∷ Opening (merged 2 1 1 bytes) ∷ Kept (unchanged 3 1 2) ∷ []) images
       → ImagesShow images (Some (2, memory_of bytes))
   pub entered : IsSound (replaced (outrun bytes) (merged 2 1 1 bytes ∷ unchanged 3 1 2 ∷ whole 1 1 bytes ∷ []))
-  pub unneeded : IsUnneeded (replaced (outrun bytes) (merged 2 1 1 bytes ∷ unchanged 3 1 2 ∷ whole 1 1 bytes ∷ [])) (whole 1 1 bytes)
+  pub unneeded : IsUnneeded (replaced (outrun bytes) (merged 2 1 1 bytes ∷ unchanged 3 1 2 ∷ whole 1 1 bytes ∷ []))
+      (whole 1 1 bytes)

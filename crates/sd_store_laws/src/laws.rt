@@ -60,7 +60,8 @@ pub fn twin_is_harmless()
     ensures { TwinIsHarmless }
 {}
 
-/// A dump that stands for an unused number and names a job's number is pending, where its checkpoint is above all others.
+/// A dump that stands for an unused number and names a job's number is pending, where its checkpoint is above all
+/// others.
 pub fn dump_is_pending()
     ensures { DumpIsPending }
 {}
@@ -106,14 +107,14 @@ pub fn twin_stays()
     ensures { TwinStays }
 {}
 
-/// The slots of a store that is read without a fault are those of the store as it is opened: each is closed, or keeps its
-/// image.
+/// The slots of a store that is read without a fault are those of the store as it is opened: each is closed, or keeps
+/// its image.
 pub fn slots_are_found()
     ensures { SlotsAreFound }
 {}
 
-/// How the beliefs about slots follow the calls on one slot: its gate begins to be opened or closed, or it is closed and
-/// its image leaves the catalog.
+/// How the beliefs about slots follow the calls on one slot: its gate begins to be opened or closed, or it is closed
+/// and its image leaves the catalog.
 pub fn slots_follow_calls()
     ensures { SlotsFollowCalls }
 {}
@@ -128,7 +129,8 @@ pub fn slots_follow_jobs()
     ensures { SlotsFollowJobs }
 {}
 
-/// Whatever a crash leaves of a sound store's slots shows what the store shows, or the pending checkpoint and its memory.
+/// Whatever a crash leaves of a sound store's slots shows what the store shows, or the pending checkpoint and its
+/// memory.
 pub fn left_images_show()
     ensures { LeftImagesShow }
 {}
@@ -139,8 +141,8 @@ pub fn contents_show()
     ensures { ContentsShow }
 {}
 
-/// What a crash leaves of slots in their phases is as believed: no image before the gate is opened, none or the whole one
-/// while it is opened or closed, and the image once the open gate is synced.
+/// What a crash leaves of slots in their phases is as believed: no image before the gate is opened, none or the whole
+/// one while it is opened or closed, and the image once the open gate is synced.
 pub fn left_as_believed()
     ensures { LeftAsBelieved }
 {
@@ -148,8 +150,8 @@ pub fn left_as_believed()
 }
 
 /// Worked stores of one page: a dump, a second one that names it, and a merged image in the first one's place; a merge
-/// beside a round, with the gates of both images being opened; and a store whose tip isn't named by its own number, where
-/// an incremental checkpoint would show other bytes.
+/// beside a round, with the gates of both images being opened; and a store whose tip isn't named by its own number,
+/// where an incremental checkpoint would show other bytes.
 pub fn worked_stores()
     ensures chain { (bytes other : List ℕ) → ChainRows bytes other }
     ensures busy { (bytes : List ℕ) → MergeBesideRound bytes }

@@ -1,6 +1,7 @@
 //! How the beliefs about slots follow the phases of the slots, and the catalog the beliefs.
 ghost use Rattle.sd_store_laws.specs.Gates.{BeliefsWeaken, GivenUpIsBelieved};
-ghost use Rattle.sd_store_laws.specs.GateSteps.{BeliefsFollowCalls, FoundIsBelieved, FoundIsExact, GivenUpSyncs, OneBeliefChanges, SyncedIsFound};
+ghost use Rattle.sd_store_laws.specs.GateSteps.{BeliefsFollowCalls, FoundIsBelieved, FoundIsExact, GivenUpSyncs};
+ghost use Rattle.sd_store_laws.specs.GateSteps.{OneBeliefChanges, SyncedIsFound};
 ghost use Rattle.sd_store_laws.specs.InUse.{CatalogFollows, CatalogInUseTells, CatalogIsFound, ToldReachesSo};
 ghost use Rattle.sd_store_laws.specs.SlotSteps.{ClosingRetires, SlotsDrop};
 
@@ -46,8 +47,8 @@ pub fn found_is_believed()
     ensures { FoundIsBelieved }
 {}
 
-/// A slot that was synced, or is shorter than a header for sure, is in the phase that its file tells, whatever was known
-/// of it before.
+/// A slot that was synced, or is shorter than a header for sure, is in the phase that its file tells, whatever was
+/// known of it before.
 pub fn synced_is_found<D: Disk>(disk: &D)
     ensures { SyncedIsFound (D.contents disk.now) (D.may_leave disk.now) }
 {

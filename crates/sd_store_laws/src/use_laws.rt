@@ -35,8 +35,8 @@ pub fn pending_shows()
     ensures { PendingShows }
 {}
 
-/// The images in use, those that the tip, the running checkpoint and the source of a running merge reach, are the needed
-/// ones and the source.
+/// The images in use, those that the tip, the running checkpoint and the source of a running merge reach, are the
+/// needed ones and the source.
 pub fn in_use_is_needed()
     ensures { InUseIsNeeded }
 {}

@@ -1,5 +1,6 @@
 -- A page table as a tree of tables of 512 places.
-use Rattle.std.specs.Prelude.{◌≡◌, ℕ, ◌+◌, ◌*◌, ◌/◌, ◌%◌, ◌<◌, ◌≤◌, ◌==◌, Bool, true, false, List, length, slice_index, Option, Some, None, is_some, IsSome, if◌then◌else◌}
+use Rattle.std.specs.Prelude.{◌≡◌, ℕ, ◌+◌, ◌*◌, ◌/◌, ◌%◌, ◌<◌, ◌≤◌, ◌==◌, Bool, true, false, List, length, slice_index}
+use Rattle.std.specs.Prelude.{Option, Some, None, is_some, IsSome, if◌then◌else◌}
 use Rattle.std.specs.List.{slice_get, filter_map}
 use Rattle.std.specs.Option.{option_map, option_and_then, ForSome}
 use Rattle.std.specs.Int.{bit_at}
@@ -27,7 +28,8 @@ IsNextInWord words word from (Some next) = (from ≤ next) × (next / 64 ≡ wor
 
 -- the first bit of a word whose place isn't before another
 abbrev pub IsFirstBitOf : ℕ → ℕ → ℕ → Type 0
-IsFirstBitOf word from bit = (from ≤ word * 64 + bit) × ((place : ℕ) → from ≤ place → place / 64 ≡ word → bit ≤ place % 64)
+IsFirstBitOf word from bit =
+    (from ≤ word * 64 + bit) × ((place : ℕ) → from ≤ place → place / 64 ≡ word → bit ≤ place % 64)
 
 -- the first set bit of a word from one on, below 64
 abbrev pub IsNextBit : ℕ → ℕ → Option ℕ → Type 0
@@ -37,7 +39,13 @@ IsNextBit word from (Some next) = (from ≤ next) × (next < 64) × (bit_at word
 
 -- an entry of a leaf
 abbrev pub entry_in : LeafEntry → Entry
-entry_in e = record { prot = e.prot; frame = if e.framed then Some e.frame else None; writable = e.writable; soft_dirty = e.soft_dirty }
+entry_in e = record {
+  prot = e.prot;
+  frame = if e.framed then Some e.frame
+      else None;
+  writable = e.writable;
+  soft_dirty = e.soft_dirty;
+}
 
 -- what a leaf has at a page
 abbrev pub leaf_at : List ℕ → List LeafEntry → ℕ → Option Entry
@@ -76,11 +84,13 @@ abbrev pub IsSlot : {X : Type 0} → (X → ℕ → Option Entry) → (X → Typ
 IsSlot at IsKept span slot = ForSome slot (λ table. IsKept table × HasPage span (at table))
 
 -- a table above the lowest level has 512 places; its bits say which have a table
-pub record IsLevel {X : Type 0} (at : X → ℕ → Option Entry) (IsKept : X → Type 0) (span : ℕ) (words : List ℕ) (tables : List (Option X)) : Type 0 where
+pub record IsLevel {X : Type 0} (at : X → ℕ → Option Entry) (IsKept : X → Type 0) (span : ℕ) (words : List ℕ)
+    (tables : List (Option X)) : Type 0 where
   pub places : length tables ≡ 512
   pub used : (place : ℕ) → is_used words place ≡ is_some (table_in tables place)
   pub slots : (place : ℕ) → IsSlot at IsKept span (table_in tables place)
 
 -- the table that has at each page below a limit what a function says
 unfoldable pub table_of : ℕ → (ℕ → Option Entry) → Table Entry
-table_of limit at = finmap.from_entries (filter_map (λ page. option_map (λ entry. (page, entry)) (at page)) (pages_from 0 limit))
+table_of limit at =
+    finmap.from_entries (filter_map (λ page. option_map (λ entry. (page, entry)) (at page)) (pages_from 0 limit))

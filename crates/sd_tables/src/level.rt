@@ -33,7 +33,8 @@ impl<T: Node> Level<T> {
         requires fits { 512 * T.span ≤ 2 ^ 36 }
         requires place { place < 512 }
         requires page { page < T.span }
-        requires kept { IsLevel (λ table. T.at table.value) (λ table. T.IsKept table.value) T.span self.now.used.words self.now.tables }
+        requires kept { IsLevel (λ table. T.at table.value)
+            (λ table. T.IsKept table.value) T.span self.now.used.words self.now.tables }
         ensures { IsFirstIn T.span (level_at (λ table. T.at table.value) T.span self.now.tables) place page result }
     {
         let found = first_in(&self.tables[place], page)?;
@@ -46,7 +47,8 @@ impl<T: Node> Node for Level<T> {
 
     ghost at = { λ level page. level_at (λ table. T.at table.value) T.span level.tables page };
 
-    ghost IsKept = { λ level. IsLevel (λ table. T.at table.value) (λ table. T.IsKept table.value) T.span level.used.words level.tables };
+    ghost IsKept = { λ level. IsLevel (λ table. T.at table.value)
+        (λ table. T.IsKept table.value) T.span level.used.words level.tables };
 
     fn span() -> u64 {
         PLACES as u64 * T::span()

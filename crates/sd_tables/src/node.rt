@@ -1,4 +1,5 @@
-ghost use Rattle.std.specs.Prelude.{◌≡◌, ℕ, Option, None, ◌<◌, ◌≤◌, ◌^◌, ◌==◌, if◌then◌else◌, Some, IfOk, OnErr, IfSome, IfNone, true, false};
+ghost use Rattle.std.specs.Prelude.{◌≡◌, ℕ, Option, None, ◌<◌, ◌≤◌, ◌^◌, ◌==◌, if◌then◌else◌, Some, IfOk, OnErr};
+ghost use Rattle.std.specs.Prelude.{IfSome, IfNone, true, false};
 ghost use Rattle.sd_tables.specs.declared.entry.Entry.{Entry as EntryValue};
 ghost use Rattle.sd_tables.specs.Radix.{HasPage, IsFirstAt};
 ghost use Rattle.sd_tables.specs.Runs.{AreMapped, ChangesRun, FillsRun};

@@ -46,7 +46,8 @@ impl Model for PageTable {
 
     ghost view = { λ t. table_of (2 ^ 35) (slot_at (λ top. ⟦<Top as Node>⟧.at top.value) t.top) };
 
-    ghost invariant = { λ t. IsSlot (λ top. ⟦<Top as Node>⟧.at top.value) (λ top. ⟦<Top as Node>⟧.IsKept top.value) (2 ^ 36) t.top
+    ghost invariant = { λ t. IsSlot (λ top. ⟦<Top as Node>⟧.at top.value) (λ top. ⟦<Top as Node>⟧.IsKept top.value)
+        (2 ^ 36) t.top
         × (t.mapped ≡ finmap.len (table_of (2 ^ 35) (slot_at (λ top. ⟦<Top as Node>⟧.at top.value) t.top))) };
 }
 

@@ -1,5 +1,6 @@
 //! A place for a table: it has none, or one with a page.
-ghost use Rattle.std.specs.Prelude.{◌≡◌, ℕ, ◌<◌, ◌≤◌, ◌^◌, ◌==◌, if◌then◌else◌, is_some, true, false, None, Some, IfOk, OnOk, OnErr};
+ghost use Rattle.std.specs.Prelude.{◌≡◌, ℕ, ◌<◌, ◌≤◌, ◌^◌, ◌==◌, if◌then◌else◌, is_some, true, false, None, Some, IfOk};
+ghost use Rattle.std.specs.Prelude.{OnOk, OnErr};
 ghost use Rattle.std.specs.Option.{ForSome};
 ghost use Rattle.sd_tables.specs.Radix.{slot_at, IsSlot, IsFirstAt};
 ghost use Rattle.sd_tables.specs.Runs.{AreMapped, ChangesRun, FillsRun};

@@ -10,7 +10,8 @@ use Rattle.sd_image.specs.Image.{Image, IsImage}
 use Rattle.sd_rounds.specs.Dumper.{Running, is_last}
 use Rattle.sd_core.specs.Images.{HasImage, IsPreDump, begun_as}
 use Rattle.sd_world.specs.declared.event.Event.{Event}
-use Rattle.sd_world.specs.declared.event.Event.TheVariants.{Command, Begin, Work, TakeUp, HandInAt, Perform, PerformAt, Merge, Cancel, Reopen, Trim}
+use Rattle.sd_world.specs.declared.event.Event.TheVariants.{Command, Begin, Work, TakeUp, HandInAt, Perform, PerformAt}
+use Rattle.sd_world.specs.declared.event.Event.TheVariants.{Merge, Cancel, Reopen, Trim}
 use Rattle.sd_world.specs.Consistent.{IsWorld}
 use Rattle.sd_world.specs.View.{WorldView}
 
@@ -20,12 +21,13 @@ pub record IsThere (contents : List (List ℕ)) (opened : Opened) : Type 0 where
   pub told : IsToldAs opened image
   pub stands : IsImage (file_at contents opened.slot) image
 
--- So many pre-dumps of a checkpoint are in the catalog and stand in their slots, the last of them under this serial: each names the one before
--- as its parent, and the first what the checkpoint began with.
+-- So many pre-dumps of a checkpoint are in the catalog and stand in their slots, the last of them under this serial:
+-- each names the one before as its parent, and the first what the checkpoint began with.
 abbrev pub ArePreDumpsThere : List (List ℕ) → Running → Places → ℕ → ℕ → Type 0
 ArePreDumpsThere contents job places zero serial = serial ≡ job.first
 ArePreDumpsThere contents job places (suc place) serial =
-    (image : Opened) × IsPreDump job places place serial image × IsThere contents image × ArePreDumpsThere contents job places place image.header.parent
+    (image : Opened) × IsPreDump job places place serial image × IsThere contents image
+    × ArePreDumpsThere contents job places place image.header.parent
 
 -- those so far of the checkpoint that runs
 abbrev pub HasPreDumpsThere : {D : Type 0} → Ghosts D → WorldView D → Type 0
@@ -37,7 +39,8 @@ pub record IsWorldThere {D : Type 0} (g : Ghosts D) (world : WorldView D) : Type
   pub is : IsWorld g world
   pub pre_dumps : g.is_honest world.disk → HasPreDumpsThere g world
 
--- Behind the acknowledgement of n its dump and all its pre-dumps stand in their slots: the dump names the last pre-dump as its parent.
+-- Behind the acknowledgement of n its dump and all its pre-dumps stand in their slots: the dump names the last pre-dump
+-- as its parent.
 pub record IsAckedThere {D : Type 0} (g : Ghosts D) (n : ℕ) (old new : WorldView D) : Type 0 where
   pub running : Running
   pub was : old.core.dumper.running ≡ Some running
@@ -46,7 +49,8 @@ pub record IsAckedThere {D : Type 0} (g : Ghosts D) (n : ℕ) (old new : WorldVi
   pub dump : Opened
   pub has : HasImage running new.core.catalog dump
   pub there : IsThere (g.contents new.disk) dump
-  pub pre_dumps : ArePreDumpsThere (g.contents new.disk) (begun_as running) new.core.catalog (length running.pre_dumps) dump.header.parent
+  pub pre_dumps : ArePreDumpsThere (g.contents new.disk) (begun_as running) new.core.catalog
+      (length running.pre_dumps) dump.header.parent
 
 abbrev pub AcksThere : {D : Type 0} → Ghosts D → WorldView D → Reply → WorldView D → Type 0
 AcksThere g old answer new = (n : ℕ) → answer ≡ reply.Acked n → IsAckedThere g n old new

@@ -11,8 +11,10 @@ use Rattle.sd_world.specs.declared.event.Event.TheVariants.{Begin}
 use Rattle.sd_world.specs.Runs.{IsStep, Runs}
 use Rattle.sd_world.specs.View.{WorldView}
 
--- The checkpoint began at one of a run's events, which answered its number: it has as many pre-dumps as that order asked for.
-pub record BegunWithin {D : Type 0} (g : Ghosts D) (first : WorldView D) (events : List Event) (answers : List Reply) (checkpoint : Running) : Type 0 where
+-- The checkpoint began at one of a run's events, which answered its number: it has as many pre-dumps as that order
+-- asked for.
+pub record BegunWithin {D : Type 0} (g : Ghosts D) (first : WorldView D) (events : List Event) (answers : List Reply)
+    (checkpoint : Running) : Type 0 where
   pub before : List Event
   pub told : List Reply
   pub mid : WorldView D
@@ -28,7 +30,9 @@ pub record BegunWithin {D : Type 0} (g : Ghosts D) (first : WorldView D) (events
   pub running : next.core.dumper.running ≡ Some checkpoint
   pub asked : length checkpoint.pre_dumps ≡ rounds
 
--- So began the checkpoint that runs behind a run, where none ran as that began. An acknowledgement is of the checkpoint that ran before it.
+-- So began the checkpoint that runs behind a run, where none ran as that began. An acknowledgement is of the checkpoint
+-- that ran before it.
 abbrev pub RunsAsBegun : {D : Type 0} → Ghosts D → Type 0
-RunsAsBegun {D} g = (first last : WorldView D) (events : List Event) (answers : List Reply) → first.core.dumper.running ≡ None → Runs g first events answers last
+RunsAsBegun {D} g = (first last : WorldView D) (events : List Event) (answers : List Reply)
+    → first.core.dumper.running ≡ None → Runs g first events answers last
     → IfSome last.core.dumper.running (λ running. BegunWithin g first events answers (begun_as running))

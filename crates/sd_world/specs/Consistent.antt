@@ -1,5 +1,6 @@
 -- How the disk stands to what the core believes of it.
-use Rattle.std.specs.Prelude.{◌≡◌, ◌≢◌, ◌⊎◌, ℕ, ◌<◌, ◌==◌, if◌then◌else◌, true, List, [], ◌∷◌, length, map, Some, slice_get}
+use Rattle.std.specs.Prelude.{◌≡◌, ◌≢◌, ◌⊎◌, ℕ, ◌<◌, ◌==◌, if◌then◌else◌, true, List, [], ◌∷◌, length, map, Some}
+use Rattle.std.specs.Prelude.{slice_get}
 use Rattle.sd_disk.specs.Contents.{file_at}
 use Rattle.sd_disk.specs.declared.disk.Disk.{Ghosts}
 use Rattle.sd_gate.specs.declared.phase.Phase.{Phase}
@@ -41,8 +42,8 @@ slot_now (kept ∷ others) slot now = slot_now others slot (slot_with kept slot 
 abbrev pub FitsNow : {D : Type 0} → Ghosts D → D → ℕ → SlotNow → Type 0
 FitsNow g disk slot now = SlotFits now.phase now.body slot (g.contents disk) (g.may_leave disk)
 
--- The core believes what it does of the requests that are kept and of the files of the disk, with these bodies behind the gates; each slot
--- fits its phase, with the calls that were made; and each outcome tells its slot's file as it is.
+-- The core believes what it does of the requests that are kept and of the files of the disk, with these bodies behind
+-- the gates; each slot fits its phase, with the calls that were made; and each outcome tells its slot's file as it is.
 pub record IsConsistent {D : Type 0} (g : Ghosts D) (world : WorldView D) : Type 0 where
   pub bodies : List (List ℕ)
   pub believes : Believes world.core (map asked_of world.kept) bodies (g.contents world.disk)
@@ -57,12 +58,14 @@ pub record AreInPages (one other : ℕ) (a b : Asked) : Type 0 where
   pub second : 2 < other
   pub apart : a.id.call ≢ b.id.call
 
--- There are eleven lanes. Each request that is out is on a slot of the disk; in the lanes of pages are writes of whole data pages, and no
--- others are on one slot.
+-- There are eleven lanes. Each request that is out is on a slot of the disk; in the lanes of pages are writes of whole
+-- data pages, and no others are on one slot.
 pub record AreInPlace (kept : List Kept) (slots : ℕ) : Type 0 where
   pub count : length kept ≡ 11
-  pub range : (lane : ℕ) (k : Kept) (request : Asked) → slice_get kept lane ≡ Some k → asked_of k ≡ Some request → request.id.slot < slots
-  pub pages : (lane : ℕ) (k : Kept) (request : Asked) → slice_get kept lane ≡ Some k → asked_of k ≡ Some request → 2 < lane
+  pub range : (lane : ℕ) (k : Kept) (request : Asked) → slice_get kept lane ≡ Some k → asked_of k ≡ Some request
+      → request.id.slot < slots
+  pub pages : (lane : ℕ) (k : Kept) (request : Asked) → slice_get kept lane ≡ Some k → asked_of k ≡ Some request
+      → 2 < lane
       → IsPageOf request.id.slot request
   pub apart : (one other : ℕ) (j k : Kept) (a b : Asked) → slice_get kept one ≡ Some j → slice_get kept other ≡ Some k
       → asked_of j ≡ Some a → asked_of k ≡ Some b → a.id.slot ≡ b.id.slot → (one ≡ other) ⊎ AreInPages one other a b

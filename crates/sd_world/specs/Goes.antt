@@ -7,7 +7,8 @@ use Rattle.sd_world.specs.declared.event.Event.{Event}
 use Rattle.sd_world.specs.Runs.{Runs, ShowsAllowedWithin}
 use Rattle.sd_world.specs.View.{WorldView}
 
--- It makes events, one after the other. Whatever moment between the two states a crash comes, it leaves what the journal of that moment allows.
+-- It makes events, one after the other. Whatever moment between the two states a crash comes, it leaves what the
+-- journal of that moment allows.
 pub record GoesOn {D : Type 0} (g : Ghosts D) (old new : WorldView D) : Type 0 where
   pub events : List Event
   pub replies : List Reply

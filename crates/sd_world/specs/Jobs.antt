@@ -1,9 +1,11 @@
 -- A worker's events, one after the other, and its jobs.
-use Rattle.std.specs.Prelude.{◌≡◌, ◌⊎◌, ◌≤◌, ◌+◌, ℕ, Bool, true, false, if◌then◌else◌, List, [], ◌∷◌, ◌++◌, length, Result, Ok, Err}
+use Rattle.std.specs.Prelude.{◌≡◌, ◌⊎◌, ◌≤◌, ◌+◌, ℕ, Bool, true, false, if◌then◌else◌, List, [], ◌∷◌, ◌++◌, length}
+use Rattle.std.specs.Prelude.{Result, Ok, Err}
 use Rattle.std.specs.List.{AllByRecursion}
 use Rattle.sd_command.specs.declared.refusal.Refusal.{Refusal}
 use Rattle.sd_command.specs.declared.reply.Reply.{Reply}
-use Rattle.sd_command.specs.declared.reply.Reply.TheVariants.{Done, Bytes, Child, NeedsFault, Segv, Begun, Worked, Acked, Cancelled, Merged, Trimmed, Reopened, Refused}
+use Rattle.sd_command.specs.declared.reply.Reply.TheVariants.{Done, Bytes, Child, NeedsFault, Segv, Begun, Worked}
+use Rattle.sd_command.specs.declared.reply.Reply.TheVariants.{Acked, Cancelled, Merged, Trimmed, Reopened, Refused}
 use Rattle.sd_disk.specs.declared.disk.Disk.{Ghosts}
 use Rattle.sd_gate.specs.declared.worker.Worker.{Worker}
 use Rattle.sd_world.specs.declared.event.Event.{Event}
@@ -40,13 +42,16 @@ Drives {D} g worker first (answer ∷ answers) last =
     (next : WorldView D) × IsStep g (next_event first.kept worker) first answer next × Drives g worker next answers last
 
 -- A worker's next events, of which only the last may end its job or be refused. The answer is that of the last.
-pub record AreDriven {D : Type 0} (g : Ghosts D) (worker : Worker) (first : WorldView D) (answer : Reply) (last : WorldView D) : Type 0 where
+pub record AreDriven {D : Type 0} (g : Ghosts D) (worker : Worker) (first : WorldView D) (answer : Reply)
+    (last : WorldView D) : Type 0 where
   pub before : List Reply
   pub drives : Drives g worker first (before ++ answer ∷ []) last
   pub goes_on : AllByRecursion (λ reply. is_end reply ≡ false) before
 
--- So many next events of a worker, or fewer where one of them ends its job or is refused: that is then the last. The answer is that of the last.
-pub record IsDriven {D : Type 0} (g : Ghosts D) (worker : Worker) (count : ℕ) (first : WorldView D) (answer : Reply) (last : WorldView D) : Type 0 where
+-- So many next events of a worker, or fewer where one of them ends its job or is refused: that is then the last. The
+-- answer is that of the last.
+pub record IsDriven {D : Type 0} (g : Ghosts D) (worker : Worker) (count : ℕ) (first : WorldView D) (answer : Reply)
+    (last : WorldView D) : Type 0 where
   pub before : List Reply
   pub drives : Drives g worker first (before ++ answer ∷ []) last
   pub goes_on : AllByRecursion (λ reply. is_end reply ≡ false) before
@@ -54,14 +59,17 @@ pub record IsDriven {D : Type 0} (g : Ghosts D) (worker : Worker) (count : ℕ) 
   pub within : length before + 1 ≤ count
 
 -- a worker's next events, up to the one that ends its job or is refused
-pub record IsFinished {D : Type 0} (g : Ghosts D) (worker : Worker) (first : WorldView D) (answer : Reply) (last : WorldView D) : Type 0 where
+pub record IsFinished {D : Type 0} (g : Ghosts D) (worker : Worker) (first : WorldView D) (answer : Reply)
+    (last : WorldView D) : Type 0 where
   pub driven : AreDriven g worker first answer last
   pub ends : is_end answer ≡ true
 
 -- a job that is begun and finished by its worker; a refused beginning is the answer
-pub data IsJob {D : Type 0} (g : Ghosts D) (order : Event) (worker : Worker) (first : WorldView D) (answer : Reply) (last : WorldView D) : Type 0 where
+pub data IsJob {D : Type 0} (g : Ghosts D) (order : Event) (worker : Worker) (first : WorldView D) (answer : Reply)
+    (last : WorldView D) : Type 0 where
   refused : is_end answer ≡ true → IsStep g order first answer last → IsJob g order worker first answer last
-  finished : (begun : Reply) (mid : WorldView D) → is_end begun ≡ false → IsStep g order first begun mid → IsFinished g worker mid answer last
+  finished : (begun : Reply) (mid : WorldView D) → is_end begun ≡ false → IsStep g order first begun mid
+      → IsFinished g worker mid answer last
       → IsJob g order worker first answer last
 
 -- the last reply of a job, by what the job returns: what it made, or why it was refused
@@ -73,8 +81,10 @@ last_reply told (Err why) = Refused why
 abbrev pub EndsAs : {T : Type 0} → (T → Reply) → Reply → Type 0
 EndsAs {T} told answer = (returned : Result T Refusal) × (answer ≡ last_reply told returned)
 
--- From one point of a run to a later one by a job: these orders, and then steps and device calls of its worker. This is the last reply.
-pub record GoesByJob {D : Type 0} (g : Ghosts D) (orders : List Event) (worker : Worker) (first : Point D) (answer : Reply) (last : Point D) : Type 0 where
+-- From one point of a run to a later one by a job: these orders, and then steps and device calls of its worker. This is
+-- the last reply.
+pub record GoesByJob {D : Type 0} (g : Ghosts D) (orders : List Event) (worker : Worker) (first : Point D)
+    (answer : Reply) (last : Point D) : Type 0 where
   pub others : List Event
   pub of_worker : AllByRecursion (λ event. (event ≡ Work worker) ⊎ (event ≡ Perform worker)) others
   pub before : List Reply

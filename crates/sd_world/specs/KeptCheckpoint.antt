@@ -16,4 +16,5 @@ RanBefore old new = IfSome new (λ next. (running : Running) × (old ≡ Some ru
 -- so it is behind an event, unless that is the order that began it
 pub data KeepsCheckpoint (event : Event) (answer : Reply) (old new : CoreView) : Type 0 where
   ran : RanBefore old.dumper.running new.dumper.running → KeepsCheckpoint event answer old new
-  begun : (rounds n : ℕ) → event ≡ Begin rounds → answer ≡ reply.Begun n → Begins old rounds n new → KeepsCheckpoint event answer old new
+  begun : (rounds n : ℕ) → event ≡ Begin rounds → answer ≡ reply.Begun n → Begins old rounds n new
+      → KeepsCheckpoint event answer old new

@@ -8,17 +8,20 @@ use Rattle.sd_rounds.specs.Dumper.{Running}
 use Rattle.sd_core.specs.Images.{IsAcked}
 use Rattle.sd_core.specs.LittleWork.{IsLittleDump, IsLittlePreDump, OpensPreDump}
 use Rattle.sd_world.specs.declared.event.Event.{Event}
-use Rattle.sd_world.specs.declared.event.Event.TheVariants.{Command, Begin, Work, TakeUp, HandInAt, Perform, PerformAt, Merge, Cancel, Reopen, Trim}
+use Rattle.sd_world.specs.declared.event.Event.TheVariants.{Command, Begin, Work, TakeUp, HandInAt, Perform, PerformAt}
+use Rattle.sd_world.specs.declared.event.Event.TheVariants.{Merge, Cancel, Reopen, Trim}
 use Rattle.sd_world.specs.declared.call_state.CallState.TheVariants as its
 use Rattle.sd_world.specs.View.{IsAt, WorldView}
 
 -- What a worker's event makes of a checkpoint, where it hands in the outcome at this place.
-pub record WorksLittle {D : Type 0} (worker : Worker) (place : ℕ) (old : WorldView D) (answer : Reply) (new : WorldView D) : Type 0 where
+pub record WorksLittle {D : Type 0} (worker : Worker) (place : ℕ) (old : WorldView D) (answer : Reply)
+    (new : WorldView D) : Type 0 where
   -- what is acknowledged is the checkpoint that ran: its pre-dumps and its dump are in the catalog
   pub acked : (n : ℕ) → answer ≡ reply.Acked n → IsAcked n old.core new.core
   -- and the dump has exactly the pages of the memory at its freeze, each in the way that was due then
   pub little : (n : ℕ) → answer ≡ reply.Acked n → IsLittleDump n old.core new.core
-  -- behind the dumper's outcome with which one pre-dump more is open, that has none but the pages that its visits found touched
+  -- behind the dumper's outcome with which one pre-dump more is open, that has none but the pages that its visits found
+  -- touched
   pub round : (lane : ℕ) (running : Running) → worker ≡ Dumper → IsAt old.kept its.Made worker place lane
       → OpensPreDump running old.core new.core → IsLittlePreDump running old.core new.core
 

@@ -13,8 +13,10 @@ use Rattle.sd_world.specs.Merges.{AreCutThere, IsMergedThere}
 use Rattle.sd_world.specs.Runs.{IsStep, Runs}
 use Rattle.sd_world.specs.View.{WorldView}
 
--- At one of a run's events the image of this serial entered the catalog, in this slot; it stands there at the end of the run.
-pub record EnteredWithin {D : Type 0} (g : Ghosts D) (first : WorldView D) (events : List Event) (answers : List Reply) (last : WorldView D) (slot serial : ℕ) : Type 0 where
+-- At one of a run's events the image of this serial entered the catalog, in this slot; it stands there at the end of
+-- the run.
+pub record EnteredWithin {D : Type 0} (g : Ghosts D) (first : WorldView D) (events : List Event) (answers : List Reply)
+    (last : WorldView D) (slot serial : ℕ) : Type 0 where
   pub before : List Event
   pub told : List Reply
   pub mid : WorldView D
@@ -38,13 +40,16 @@ abbrev pub ClosesNone : CoreView → Type 0
 ClosesNone core = (slot serial : ℕ) → IsClosing core slot serial → ⊥
 
 -- where a merge has ended, its image stands, and the images of its list are closed and cut
-pub record HasMerged {D : Type 0} (g : Ghosts D) (first : WorldView D) (events : List Event) (answers : List Reply) (last end : WorldView D) (serial : ℕ) : Type 0 where
+pub record HasMerged {D : Type 0} (g : Ghosts D) (first : WorldView D) (events : List Event) (answers : List Reply)
+    (last end : WorldView D) (serial : ℕ) : Type 0 where
   pub slot : ℕ
   pub entered : EnteredWithin g first events answers end slot serial
   pub cut : AreCutThere (g.contents end.disk) (list_of last.core.merger)
 
--- So it is behind each event of a run that is answered `merged`, where the disk is honest and none closed images as the run began.
+-- So it is behind each event of a run that is answered `merged`, where the disk is honest and none closed images as the
+-- run began.
 abbrev pub MergesStand : {D : Type 0} → Ghosts D → Type 0
-MergesStand {D} g = (first last end : WorldView D) (events : List Event) (answers : List Reply) (event : Event) (serial : ℕ) → ClosesNone first.core
+MergesStand {D} g = (first last end : WorldView D) (events : List Event) (answers : List Reply) (event : Event)
+    (serial : ℕ) → ClosesNone first.core
     → Runs g first events answers last → IsStep g event last (reply.Merged serial) end → g.is_honest end.disk
     → HasMerged g first (events ++ event ∷ []) (answers ++ reply.Merged serial ∷ []) last end serial

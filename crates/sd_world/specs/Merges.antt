@@ -17,12 +17,14 @@ use Rattle.sd_crash_safety.specs.Copies.{AreImagesOf}
 use Rattle.sd_core.specs.Merging.{OpensMerged}
 use Rattle.sd_world.specs.declared.call_state.CallState.TheVariants as its
 use Rattle.sd_world.specs.declared.event.Event.{Event}
-use Rattle.sd_world.specs.declared.event.Event.TheVariants.{Command, Begin, Work, TakeUp, HandInAt, Perform, PerformAt, Merge, Cancel, Reopen, Trim}
+use Rattle.sd_world.specs.declared.event.Event.TheVariants.{Command, Begin, Work, TakeUp, HandInAt, Perform, PerformAt}
+use Rattle.sd_world.specs.declared.event.Event.TheVariants.{Merge, Cancel, Reopen, Trim}
 use Rattle.sd_world.specs.View.{IsAt, WorldView}
 
--- The merged image is open in the merge's slot of these contents: it has the checkpoint, the number and the areas of its source, no page in a
--- parent, and at each page what the source held among the images of the catalog as it was.
-pub record IsMergedThere (contents : List (List ℕ)) (places : Places) (merge : merger.Running) (serial : ℕ) : Type 0 where
+-- The merged image is open in the merge's slot of these contents: it has the checkpoint, the number and the areas of
+-- its source, no page in a parent, and at each page what the source held among the images of the catalog as it was.
+pub record IsMergedThere (contents : List (List ℕ)) (places : Places) (merge : merger.Running)
+    (serial : ℕ) : Type 0 where
   pub images : List Image
   pub are : AreImagesOf places images
   pub source : Image
@@ -34,12 +36,15 @@ pub record IsMergedThere (contents : List (List ℕ)) (places : Places) (merge :
 
 -- each of these slots has a file of one byte, with a closed gate
 abbrev pub AreCutThere : List (List ℕ) → List Retired → Type 0
-AreCutThere contents list = (one : Retired) → Contains list one → IsClosed (file_at contents one.slot) × (length (file_at contents one.slot) ≡ 1)
+AreCutThere contents list = (one : Retired) → Contains list one
+    → IsClosed (file_at contents one.slot) × (length (file_at contents one.slot) ≡ 1)
 
 -- What a worker's event makes of a merge, where it hands in the outcome at this place.
-pub record MergesThere {D : Type 0} (g : Ghosts D) (worker : Worker) (place : ℕ) (old : WorldView D) (answer : Reply) (new : WorldView D) : Type 0 where
+pub record MergesThere {D : Type 0} (g : Ghosts D) (worker : Worker) (place : ℕ) (old : WorldView D) (answer : Reply)
+    (new : WorldView D) : Type 0 where
   -- behind the merger's outcome with which the merged image enters the catalog
-  pub enters : (lane : ℕ) → worker ≡ Merger → IsAt old.kept its.Made worker place lane → (merge : merger.Running) (serial : ℕ)
+  pub enters : (lane : ℕ) → worker ≡ Merger → IsAt old.kept its.Made worker place lane
+      → (merge : merger.Running) (serial : ℕ)
       → OpensMerged merge serial old.core new.core → IsMergedThere (g.contents new.disk) old.core.catalog merge serial
   -- at the end the images of its list are closed
   pub cuts : (serial : ℕ) → answer ≡ reply.Merged serial → AreCutThere (g.contents new.disk) (list_of old.core.merger)
@@ -60,5 +65,6 @@ DoesMerge g Trim old answer new = Unit {0}
 
 -- while a merge closes images, the file of its own slot stays as it is
 abbrev pub KeepsMerged : {D : Type 0} → Ghosts D → WorldView D → WorldView D → Type 0
-KeepsMerged g old new = (merge : merger.Running) (r : Retiring) → old.core.merger ≡ Some merge → merge.doing ≡ retiring r
+KeepsMerged g old new =
+    (merge : merger.Running) (r : Retiring) → old.core.merger ≡ Some merge → merge.doing ≡ retiring r
     → file_at (g.contents new.disk) merge.slot ≡ file_at (g.contents old.disk) merge.slot

@@ -8,8 +8,8 @@ use Rattle.sd_crash_safety.specs.Shown.{ShowsAllowed}
 use Rattle.sd_world.specs.declared.event.Event.{Event}
 use Rattle.sd_world.specs.Promise.{Goes, Point}
 
--- Contents show what the journal allowed at one of the points of a run: it goes by the first events to that point, and by
--- the others on.
+-- Contents show what the journal allowed at one of the points of a run: it goes by the first events to that point, and
+-- by the others on.
 pub record ShowsOnTheWay {D : Type 0} (g : Ghosts D) (first : Point D) (events : List Event) (answers : List Reply)
     (last : Point D) (contents : List (List ℕ)) : Type 0 where
   pub before : List Event

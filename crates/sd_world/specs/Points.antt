@@ -15,11 +15,12 @@ use Rattle.sd_world.specs.View.{WorldView}
 -- trims folded these entries into a base, which is this one now
 pub data Folds (first : Base) : History → Base → Type 0 where
   none : (gone : History) (now : Base) → gone ≡ [] → now ≡ first → Folds first gone now
-  more : (gone : History) (now mid : Base) (earlier front : History) (n : ℕ) → Folds first earlier mid → IsLegal mid front → IsEnded n front
+  more : (gone : History) (now mid : Base) (earlier front : History) (n : ℕ) → Folds first earlier mid
+      → IsLegal mid front → IsEnded n front
       → gone ≡ front ++ earlier → now ≡ base_after mid n front → Folds first gone now
 
--- A world stands at a point: the entries that its journal has no more were folded into its base, and the checkpoint that runs is the one that was
--- begun last.
+-- A world stands at a point: the entries that its journal has no more were folded into its base, and the checkpoint
+-- that runs is the one that was begun last.
 pub record StandsAt {D : Type 0} (world : WorldView D) (point : Point D) : Type 0 where
   pub disk : point.disk ≡ world.disk
   pub gone : History
@@ -30,5 +31,6 @@ pub record StandsAt {D : Type 0} (world : WorldView D) (point : Point D) : Type 
 
 -- From each point at which a world stands a step goes to one at which it stands then, where the disk is honest.
 abbrev pub PointsFollow : {D : Type 0} → Ghosts D → Type 0
-PointsFollow {D} g = (event : Event) (old : WorldView D) (answer : Reply) (new : WorldView D) → IsStep g event old answer new → g.is_honest new.disk
+PointsFollow {D} g = (event : Event) (old : WorldView D) (answer : Reply) (new : WorldView D)
+    → IsStep g event old answer new → g.is_honest new.disk
     → (first : Point D) → StandsAt old first → (last : Point D) × StandsAt new last × Moves g event answer first last

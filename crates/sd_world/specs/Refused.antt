@@ -17,7 +17,8 @@ use Rattle.sd_world.specs.declared.kept.Kept.{Kept}
 use Rattle.sd_world.specs.declared.kept.Kept.TheVariants.{Outcome}
 use Rattle.sd_world.specs.View.{IsAt, WorldView, is_asked}
 
--- The worker's first outcome that is kept is that of a call that failed; of the opener, of one that isn't done as it was asked for.
+-- The worker's first outcome that is kept is that of a call that failed; of the opener, of one that isn't done as it
+-- was asked for.
 pub record HasFailed (kept : List Kept) (worker : Worker) : Type 0 where
   pub lane : ℕ
   pub at : IsAt kept its.Made worker 0 lane
@@ -34,5 +35,6 @@ MayBeRefused kept worker _ = ⊥
 
 -- While a worker's job runs, and no device call of it waits, its next step is refused for nothing else.
 abbrev pub GoesOnUnless : {D : Type 0} → Event → WorldView D → Reply → Type 0
-GoesOnUnless event old answer = (worker : Worker) (why : Refusal) → event ≡ Work worker → is_asked old.kept worker ≡ false → is_idle old.core worker ≡ false
+GoesOnUnless event old answer = (worker : Worker) (why : Refusal) → event ≡ Work worker
+    → is_asked old.kept worker ≡ false → is_idle old.core worker ≡ false
     → answer ≡ reply.Refused why → MayBeRefused old.kept worker why

@@ -20,14 +20,17 @@ use Rattle.sd_world.specs.Refused.{GoesOnUnless}
 use Rattle.sd_world.specs.Steps.{Does}
 use Rattle.sd_world.specs.View.{WorldView}
 
--- what an event does to a world, what it adds to the journal or takes from it, what it makes of a checkpoint, and what a crash leaves
-pub record IsStep {D : Type 0} (g : Ghosts D) (event : Event) (old : WorldView D) (answer : Reply) (new : WorldView D) : Type 0 where
+-- what an event does to a world, what it adds to the journal or takes from it, what it makes of a checkpoint, and what
+-- a crash leaves
+pub record IsStep {D : Type 0} (g : Ghosts D) (event : Event) (old : WorldView D) (answer : Reply)
+    (new : WorldView D) : Type 0 where
   pub does : Does g event old answer new
   pub adds : Adds event answer old.core new.core
   pub little : DoesLittle event old answer new
   -- the checkpoint that runs behind it is the one that ran before, or the one that it began
   pub checkpoint : KeepsCheckpoint event answer old.core new.core
-  -- what a merge's event makes of the disk, where that is honest, and that the merged image's file stays while images are closed
+  -- what a merge's event makes of the disk, where that is honest, and that the merged image's file stays while images
+  -- are closed
   pub merges : g.is_honest new.disk → DoesMerge g event old answer new
   pub keeps : KeepsMerged g old new
   pub closes : g.is_honest new.disk → ClosesBehind g old new
@@ -41,22 +44,26 @@ pub record IsStep {D : Type 0} (g : Ghosts D) (event : Event) (old : WorldView D
   -- what the run goes on from stays, but by a trim; the journal is legal, and the memory is the one that it makes
   pub base : event ≢ Trim → new.core.base ≡ old.core.base
   pub tracked : IsTracked new.core.base new.core.items new.core.memory
-  -- a crash within it leaves what the journal allowed before it; a crash behind it what the journal allows then, and after an acknowledgement or a
-  -- reopening that checkpoint
-  pub any_moment : g.is_honest new.disk → LeavesOnly g old.disk new.disk (ShowsAllowed old.core.base (history_of old.core))
+  -- a crash within it leaves what the journal allowed before it; a crash behind it what the journal allows then, and
+  -- after an acknowledgement or a reopening that checkpoint
+  pub any_moment : g.is_honest new.disk
+      → LeavesOnly g old.disk new.disk (ShowsAllowed old.core.base (history_of old.core))
   pub at_end : g.is_honest new.disk → Within (g.may_leave new.disk) (ShowsAllowed new.core.base (history_of new.core))
-  pub shows : g.is_honest new.disk → Within (g.may_leave new.disk) (ShowsReply answer new.core.base (history_of new.core))
+  pub shows : g.is_honest new.disk
+      → Within (g.may_leave new.disk) (ShowsReply answer new.core.base (history_of new.core))
 
 -- the world goes from the first state to the last, event by event, each answered by its reply
 abbrev pub Runs : {D : Type 0} → Ghosts D → WorldView D → List Event → List Reply → WorldView D → Type 0
 Runs g first [] [] last = last ≡ first
-Runs {D} g first (event ∷ events) (answer ∷ answers) last = (next : WorldView D) × IsStep g event first answer next × Runs g next events answers last
+Runs {D} g first (event ∷ events) (answer ∷ answers) last =
+    (next : WorldView D) × IsStep g event first answer next × Runs g next events answers last
 Runs g first [] (answer ∷ answers) last = ⊥
 Runs g first (event ∷ events) [] last = ⊥
 
--- Contents show what the journal allowed with which a run began, or with which one of its steps ended: that run makes these events, which are
--- answered so.
-pub record ShowsAllowedWithin {D : Type 0} (g : Ghosts D) (first : WorldView D) (events : List Event) (answers : List Reply) (last : WorldView D) (contents : List (List ℕ)) : Type 0 where
+-- Contents show what the journal allowed with which a run began, or with which one of its steps ended: that run makes
+-- these events, which are answered so.
+pub record ShowsAllowedWithin {D : Type 0} (g : Ghosts D) (first : WorldView D) (events : List Event)
+    (answers : List Reply) (last : WorldView D) (contents : List (List ℕ)) : Type 0 where
   pub before : List Event
   pub told : List Reply
   pub mid : WorldView D

@@ -20,22 +20,25 @@ use Rattle.sd_world.specs.Jobs.{IsJob}
 use Rattle.sd_world.specs.Opens.{HasNoFrame, IsFaultOf, bare_memory}
 use Rattle.sd_world.specs.View.{WorldView, nothing_kept}
 
--- A world behind its opening over a disk, as the call tells: no entry stands in the journal, the store isn't open yet, nothing is out, and no
--- checkpoint runs. The disk was only read. Its contents show what the run starts from, or nothing saved, and so does every outcome of a crash.
+-- A world behind its opening over a disk, as the call tells: no entry stands in the journal, the store isn't open yet,
+-- nothing is out, and no checkpoint runs. The disk was only read. Its contents show what the run starts from, or
+-- nothing saved, and so does every outcome of a crash.
 pub record IsOpened {D : Type 0} (g : Ghosts D) (disk : D) (frames : ℕ) (opened : WorldView D) : Type 0 where
   pub journal : opened.core.items ≡ []
   pub standing : opened.core.standing ≡ NotOpen
   pub kept : opened.kept ≡ nothing_kept
   pub idle : opened.core.dumper.running ≡ None
   pub reads : OnlyReads g disk opened.disk
-  pub shows : g.is_honest opened.disk → Shows (g.contents disk) (shown_base opened.core.base.number opened.core.base.memory)
+  pub shows : g.is_honest opened.disk
+      → Shows (g.contents disk) (shown_base opened.core.base.number opened.core.base.memory)
   pub everywhere : g.is_honest opened.disk
       → Within (g.may_leave opened.disk) (λ c. Shows c (shown_base opened.core.base.number opened.core.base.memory))
   pub bare : opened.core.base.number ≡ None → opened.core.base.memory ≡ bare_memory
   pub pool : opened.core.memory.pool ≡ frames
 
 -- A world was opened over a disk, and its store opened again with this last reply.
-pub record IsReopened {D : Type 0} (g : Ghosts D) (disk : D) (frames : ℕ) (answer : Reply) (world : WorldView D) : Type 0 where
+pub record IsReopened {D : Type 0} (g : Ghosts D) (disk : D) (frames : ℕ) (answer : Reply)
+    (world : WorldView D) : Type 0 where
   pub opened : WorldView D
   pub opening : IsOpened g disk frames opened
   pub job : IsJob g Reopen Opener opened answer world

@@ -1,5 +1,6 @@
 -- What an event does to a core, a disk and what is kept.
-use Rattle.std.specs.Prelude.{◌≡◌, ◌≢◌, ◌⊎◌, ℕ, ◌<◌, true, List, Option, Some, Result, Ok, Err, slice_get, slice_set, length}
+use Rattle.std.specs.Prelude.{◌≡◌, ◌≢◌, ◌⊎◌, ℕ, ◌<◌, true, List, Option, Some, Result, Ok, Err, slice_get, slice_set}
+use Rattle.std.specs.Prelude.{length}
 use Rattle.sd_command.specs.declared.command.Command.{Command as CommandOf}
 use Rattle.sd_command.specs.declared.refusal.Refusal.{Refusal}
 use Rattle.sd_command.specs.declared.refusal.Refusal.TheVariants.{Idle, Device}
@@ -23,7 +24,8 @@ use Rattle.sd_crash_safety.specs.View.{CoreView}
 use Rattle.sd_core.specs.declared.taken.Taken.TheVariants.{Step as StepTaken, Call as CallTaken}
 use Rattle.sd_core.specs.Called.{IsApplied, IsBegun, IsCancelOrder, IsHandedIn, IsMergeOrder, IsReopenOrder, IsTakenUp}
 use Rattle.sd_world.specs.declared.event.Event.{Event}
-use Rattle.sd_world.specs.declared.event.Event.TheVariants.{Command, Begin, Work, TakeUp, HandInAt, Perform, PerformAt, Merge, Cancel, Reopen, Trim}
+use Rattle.sd_world.specs.declared.event.Event.TheVariants.{Command, Begin, Work, TakeUp, HandInAt, Perform, PerformAt}
+use Rattle.sd_world.specs.declared.event.Event.TheVariants.{Merge, Cancel, Reopen, Trim}
 use Rattle.sd_world.specs.declared.kept.Kept.{Kept}
 use Rattle.sd_world.specs.declared.kept.Kept.TheVariants.{Nothing, Request, Outcome}
 use Rattle.sd_world.specs.declared.call_state.CallState.TheVariants as its
@@ -42,24 +44,29 @@ LeavesLess (reply.Refused why) before now = Unit {0}
 LeavesLess _ before now = ⊥
 
 -- a request is kept in the lane in which it is out
-pub record KeepsRequest (outs : List (Option RequestId)) (kept : List Kept) (request : Asked) (later : List Kept) : Type 0 where
+pub record KeepsRequest (outs : List (Option RequestId)) (kept : List Kept) (request : Asked)
+    (later : List Kept) : Type 0 where
   pub lane : ℕ
   pub out : slice_get outs lane ≡ Some (Some request.id)
   pub left : later ≡ slice_set kept lane (Request request)
 
 -- its next step is made, or its next request is kept
-pub data TakesUp (worker : Worker) (old : CoreView) (kept : List Kept) (answer : Reply) (new : CoreView) (later : List Kept) : Type 0 where
+pub data TakesUp (worker : Worker) (old : CoreView) (kept : List Kept) (answer : Reply) (new : CoreView)
+    (later : List Kept) : Type 0 where
   step : IsTakenUp worker old (StepTaken answer) new → later ≡ kept → TakesUp worker old kept answer new later
-  call : (request : Asked) → IsTakenUp worker old (CallTaken request) new → KeepsRequest new.outs kept request later → answer ≡ reply.Worked
+  call : (request : Asked) → IsTakenUp worker old (CallTaken request) new → KeepsRequest new.outs kept request later
+      → answer ≡ reply.Worked
       → TakesUp worker old kept answer new later
 
 -- the outcome in this lane is handed in, and not kept any more
-pub record HandsIn (lane : ℕ) (old : CoreView) (kept : List Kept) (made : Made) (answer : Reply) (new : CoreView) (later : List Kept) : Type 0 where
+pub record HandsIn (lane : ℕ) (old : CoreView) (kept : List Kept) (made : Made) (answer : Reply) (new : CoreView)
+    (later : List Kept) : Type 0 where
   pub does : IsHandedIn made answer old new
   pub left : later ≡ slice_set kept lane Nothing
 
 -- the outcome of the worker at this place is handed in
-pub record HandsInAt (worker : Worker) (place : ℕ) (old : CoreView) (kept : List Kept) (answer : Reply) (new : CoreView) (later : List Kept) : Type 0 where
+pub record HandsInAt (worker : Worker) (place : ℕ) (old : CoreView) (kept : List Kept) (answer : Reply) (new : CoreView)
+    (later : List Kept) : Type 0 where
   pub lane : ℕ
   pub at : IsAt kept its.Made worker place lane
   pub made : Made
@@ -67,20 +74,25 @@ pub record HandsInAt (worker : Worker) (place : ℕ) (old : CoreView) (kept : Li
   pub hands : HandsIn lane old kept made answer new later
 
 -- refused as idle, and nothing changes
-pub record IsUnasked (old : CoreView) (kept : List Kept) (answer : Reply) (new : CoreView) (later : List Kept) : Type 0 where
+pub record IsUnasked (old : CoreView) (kept : List Kept) (answer : Reply) (new : CoreView)
+    (later : List Kept) : Type 0 where
   pub refused : answer ≡ reply.Refused Idle
   pub core : new ≡ old
   pub left : later ≡ kept
 
 -- the first outcome of the worker is handed in, or else it takes up what is next
-pub data Works (worker : Worker) (old : CoreView) (kept : List Kept) (answer : Reply) (new : CoreView) (later : List Kept) : Type 0 where
+pub data Works (worker : Worker) (old : CoreView) (kept : List Kept) (answer : Reply) (new : CoreView)
+    (later : List Kept) : Type 0 where
   hands_in : HandsInAt worker 0 old kept answer new later → Works worker old kept answer new later
-  takes_up : IsNowhere kept its.Made worker 0 → TakesUp worker old kept answer new later → Works worker old kept answer new later
+  takes_up : IsNowhere kept its.Made worker 0 → TakesUp worker old kept answer new later
+      → Works worker old kept answer new later
 
 -- the outcome of the worker at this place is handed in, where there is one
-pub data HandsInIfAny (worker : Worker) (place : ℕ) (old : CoreView) (kept : List Kept) (answer : Reply) (new : CoreView) (later : List Kept) : Type 0 where
+pub data HandsInIfAny (worker : Worker) (place : ℕ) (old : CoreView) (kept : List Kept) (answer : Reply)
+    (new : CoreView) (later : List Kept) : Type 0 where
   hands_in : HandsInAt worker place old kept answer new later → HandsInIfAny worker place old kept answer new later
-  none : IsNowhere kept its.Made worker place → IsUnasked old kept answer new later → HandsInIfAny worker place old kept answer new later
+  none : IsNowhere kept its.Made worker place → IsUnasked old kept answer new later
+      → HandsInIfAny worker place old kept answer new later
 
 -- ---- a device call
 
@@ -91,7 +103,8 @@ reply_of Failed = reply.Refused Device
 
 -- worked where the device did it, and refused where it failed
 abbrev pub IsAnswered : ℕ → ℕ → Reply → Type 0
-IsAnswered before now answer = ((answer ≡ reply.Worked) × (now ≡ before)) ⊎ ((answer ≡ reply.Refused Device) × (before < now))
+IsAnswered before now answer =
+    ((answer ≡ reply.Worked) × (now ≡ before)) ⊎ ((answer ≡ reply.Refused Device) × (before < now))
 
 -- the call of a request is made, and no other
 pub record IsPerformed {D : Type 0} (g : Ghosts D) (request : Asked) (old : D) (made : Made) (new : D) : Type 0 where
@@ -103,22 +116,26 @@ pub record IsPerformed {D : Type 0} (g : Ghosts D) (request : Asked) (old : D) (
   pub others : (other : ℕ) → other ≢ request.id.slot → file_at (g.contents new) other ≡ file_at (g.contents old) other
   pub fits : (phase : Phase) (body : List ℕ) → is_ready phase request.id.call ≡ true
       → SlotFits phase body request.id.slot (g.contents old) (g.may_leave old)
-      → SlotFits (after phase request.id.call (is_done made.answer)) (body_after body request.id.call request.bytes) request.id.slot
+      → SlotFits (after phase request.id.call (is_done made.answer))
+      (body_after body request.id.call request.bytes) request.id.slot
       (g.contents new) (g.may_leave new)
   pub elsewhere : (other : ℕ) (phase : Phase) (body : List ℕ) → other ≢ request.id.slot
-      → SlotFits phase body other (g.contents old) (g.may_leave old) → SlotFits phase body other (g.contents new) (g.may_leave new)
+      → SlotFits phase body other (g.contents old) (g.may_leave old)
+      → SlotFits phase body other (g.contents new) (g.may_leave new)
   pub one_call : IsOneCall g old new
   pub cause : HasCause (g.failed old) (g.failed new) made.answer
 
 -- the request that is kept in this lane is performed, and its outcome kept
-pub record KeepsOutcome {D : Type 0} (g : Ghosts D) (lane : ℕ) (request : Asked) (old : D) (kept : List Kept) (answer : Reply) (new : D) (later : List Kept) : Type 0 where
+pub record KeepsOutcome {D : Type 0} (g : Ghosts D) (lane : ℕ) (request : Asked) (old : D) (kept : List Kept)
+    (answer : Reply) (new : D) (later : List Kept) : Type 0 where
   pub made : Made
   pub performed : IsPerformed g request old made new
   pub left : later ≡ slice_set kept lane (Outcome made)
   pub replied : answer ≡ reply_of made.answer
 
 -- the request of the worker at this place is performed
-pub record PerformsAt {D : Type 0} (g : Ghosts D) (worker : Worker) (place : ℕ) (old : D) (kept : List Kept) (answer : Reply) (new : D) (later : List Kept) : Type 0 where
+pub record PerformsAt {D : Type 0} (g : Ghosts D) (worker : Worker) (place : ℕ) (old : D) (kept : List Kept)
+    (answer : Reply) (new : D) (later : List Kept) : Type 0 where
   pub lane : ℕ
   pub at : IsAt kept its.Asked worker place lane
   pub request : Asked
@@ -126,15 +143,18 @@ pub record PerformsAt {D : Type 0} (g : Ghosts D) (worker : Worker) (place : ℕ
   pub keeps : KeepsOutcome g lane request old kept answer new later
 
 -- refused as idle, and nothing changes
-pub record IsIdle {D : Type 0} (old : D) (kept : List Kept) (answer : Reply) (new : D) (later : List Kept) : Type 0 where
+pub record IsIdle {D : Type 0} (old : D) (kept : List Kept) (answer : Reply) (new : D)
+    (later : List Kept) : Type 0 where
   pub refused : answer ≡ reply.Refused Idle
   pub disk : new ≡ old
   pub left : later ≡ kept
 
 -- the request of the worker at this place is performed, where there is one
-pub data Performs {D : Type 0} (g : Ghosts D) (worker : Worker) (place : ℕ) (old : D) (kept : List Kept) (answer : Reply) (new : D) (later : List Kept) : Type 0 where
+pub data Performs {D : Type 0} (g : Ghosts D) (worker : Worker) (place : ℕ) (old : D) (kept : List Kept)
+    (answer : Reply) (new : D) (later : List Kept) : Type 0 where
   performs : PerformsAt g worker place old kept answer new later → Performs g worker place old kept answer new later
-  none : IsNowhere kept its.Asked worker place → IsIdle old kept answer new later → Performs g worker place old kept answer new later
+  none : IsNowhere kept its.Asked worker place → IsIdle old kept answer new later
+      → Performs g worker place old kept answer new later
 
 -- ---- all events
 
@@ -149,7 +169,8 @@ answer_of (Ok told) = told.1
 answer_of (Err why) = reply.Refused why
 
 -- a command is applied, and answered by what the core told
-pub record IsCommand {D : Type 0} (seat : ℕ) (command : CommandOf) (old : WorldView D) (answer : Reply) (new : WorldView D) : Type 0 where
+pub record IsCommand {D : Type 0} (seat : ℕ) (command : CommandOf) (old : WorldView D) (answer : Reply)
+    (new : WorldView D) : Type 0 where
   pub told : Result (ℕ × Reply) Refusal
   pub applied : IsApplied seat command told old.core new.core
   pub answered : answer ≡ answer_of told
@@ -166,15 +187,18 @@ pub record IsWork {D : Type 0} (worker : Worker) (old : WorldView D) (answer : R
   pub works : Works worker old.core old.kept answer new.core new.kept
   pub disk : new.disk ≡ old.disk
 
-pub record IsTakeUp {D : Type 0} (worker : Worker) (old : WorldView D) (answer : Reply) (new : WorldView D) : Type 0 where
+pub record IsTakeUp {D : Type 0} (worker : Worker) (old : WorldView D) (answer : Reply)
+    (new : WorldView D) : Type 0 where
   pub takes : TakesUp worker old.core old.kept answer new.core new.kept
   pub disk : new.disk ≡ old.disk
 
-pub record IsHandIn {D : Type 0} (worker : Worker) (place : ℕ) (old : WorldView D) (answer : Reply) (new : WorldView D) : Type 0 where
+pub record IsHandIn {D : Type 0} (worker : Worker) (place : ℕ) (old : WorldView D) (answer : Reply)
+    (new : WorldView D) : Type 0 where
   pub hands : HandsInIfAny worker place old.core old.kept answer new.core new.kept
   pub disk : new.disk ≡ old.disk
 
-pub record IsPerform {D : Type 0} (g : Ghosts D) (worker : Worker) (place : ℕ) (old : WorldView D) (answer : Reply) (new : WorldView D) : Type 0 where
+pub record IsPerform {D : Type 0} (g : Ghosts D) (worker : Worker) (place : ℕ) (old : WorldView D) (answer : Reply)
+    (new : WorldView D) : Type 0 where
   pub performs : Performs g worker place old.disk old.kept answer new.disk new.kept
   pub core : new.core ≡ old.core
 

@@ -11,10 +11,12 @@ use Rattle.sd_world.specs.View.{WorldView}
 -- each request that is out has a ticket of its own, which was given before the next one
 pub record HasOwnTickets (core : CoreView) : Type 0 where
   pub given : (lane : ℕ) (id : RequestId) → slice_get core.outs lane ≡ Some (Some id) → id.ticket < core.numbers.ticket
-  pub own : (one other : ℕ) (first second : RequestId) → slice_get core.outs one ≡ Some (Some first) → slice_get core.outs other ≡ Some (Some second)
+  pub own : (one other : ℕ) (first second : RequestId) → slice_get core.outs one ≡ Some (Some first)
+      → slice_get core.outs other ≡ Some (Some second)
       → first.ticket ≡ second.ticket → one ≡ other
 
 -- It stays so over a run, as long as a ticket's 64 bits last: each event gives one at most.
 abbrev pub TicketsLast : {D : Type 0} → Ghosts D → Type 0
-TicketsLast {D} g = (first last : WorldView D) (events : List Event) (answers : List Reply) → Runs g first events answers last → HasOwnTickets first.core
+TicketsLast {D} g = (first last : WorldView D) (events : List Event) (answers : List Reply)
+    → Runs g first events answers last → HasOwnTickets first.core
     → first.core.numbers.ticket + length events < 2 ^ 64 → HasOwnTickets last.core

@@ -12,7 +12,8 @@ use Rattle.sd_core.specs.Trims.{MayRefuse, folded_with, unfolded}
 
 -- The front is folded into the base, and nothing else changes; the answer is how many entries it had.
 abbrev pub TrimsFrontTo : ℕ → CoreView → Marked → Marked → Reply → CoreView → Type 0
-TrimsFrontTo n old kept front (reply.Trimmed count) new = (count ≡ length (entries_of front)) × (folded_with old front ≤ 2 ^ 62) × (new ≡ trimmed old n kept front)
+TrimsFrontTo n old kept front (reply.Trimmed count) new =
+    (count ≡ length (entries_of front)) × (folded_with old front ≤ 2 ^ 62) × (new ≡ trimmed old n kept front)
 TrimsFrontTo n old kept front (reply.Refused why) new = MayRefuse old front why × (new ≡ old)
 TrimsFrontTo n old kept front _ new = ⊥
 
@@ -26,5 +27,6 @@ pub record TrimsTo (n : ℕ) (old : CoreView) (answer : Reply) (new : CoreView) 
 
 -- refused as idle where there is no last checkpoint but the base's, and else the journal is trimmed to the last one
 pub record TrimsJournal (old : CoreView) (answer : Reply) (new : CoreView) : Type 0 where
-  pub idle : unfolded (last old.base (history_of old)) old.base.number ≡ None → (answer ≡ reply.Refused Idle) × (new ≡ old)
+  pub idle : unfolded (last old.base (history_of old)) old.base.number ≡ None
+      → (answer ≡ reply.Refused Idle) × (new ≡ old)
   pub trims : (n : ℕ) → unfolded (last old.base (history_of old)) old.base.number ≡ Some n → TrimsTo n old answer new

@@ -14,9 +14,9 @@ use sd_journal::{journal_laws, tracked_laws};
 use sd_restore::Fault;
 use std::alloc::Global;
 
-/// Whether the contents of a disk show a pair that the journal of a core allows: the last checkpoint with the memory at its
-/// freeze, or the pending one; or nothing saved, where nothing was. It replays the journal on plain memory, restores the
-/// disk, and compares. It only reads.
+/// Whether the contents of a disk show a pair that the journal of a core allows: the last checkpoint with the memory at
+/// its freeze, or the pending one; or nothing saved, where nothing was. It replays the journal on plain memory,
+/// restores the disk, and compares. It only reads.
 ///
 /// # Errors
 ///

@@ -8,8 +8,8 @@ pub enum Event {
     Command { seat: usize, command: Command },
     /// The order to begin a checkpoint of so many pre-dumps and a dump.
     Begin(u64),
-    /// A worker hands in the kept outcome with the least ticket, or else makes its next step or asks for its next device
-    /// call.
+    /// A worker hands in the kept outcome with the least ticket, or else makes its next step or asks for its next
+    /// device call.
     Work(Worker),
     /// A worker makes its next step or asks for its next device call, whatever outcomes are kept.
     TakeUp(Worker),
@@ -25,7 +25,7 @@ pub enum Event {
     Cancel,
     /// The order to open the store again.
     Reopen,
-    /// The order to trim the journal: up to and with the entry that ended the pending of the last checkpoint it is folded
-    /// into the memory that the run goes on from.
+    /// The order to trim the journal: up to and with the entry that ended the pending of the last checkpoint it is
+    /// folded into the memory that the run goes on from.
     Trim,
 }

@@ -11,7 +11,8 @@ ghost use Rattle.sd_journal.specs.History.{pending};
 ghost use Rattle.sd_pagetable.specs.Contents.{plain_of};
 ghost use Rattle.sd_world.specs.declared.event.Event.TheVariants.{Begin, Merge, Perform, Reopen, Work};
 ghost use Rattle.sd_world.specs.Goes.{GoesOn};
-ghost use Rattle.sd_world.specs.Jobs.{AreDriven, EndsAs, GoesByJob, IsDriven, IsFinished, IsJob, is_end, last_reply, next_event};
+ghost use Rattle.sd_world.specs.Jobs.{AreDriven, EndsAs, GoesByJob, IsDriven, IsFinished, IsJob, is_end, last_reply};
+ghost use Rattle.sd_world.specs.Jobs.{next_event};
 ghost use Rattle.sd_world.specs.Points.{StandsAt};
 ghost use Rattle.sd_world.specs.Promise.{Point};
 ghost use Rattle.sd_world.specs.Runs.{IsStep, ShowsReply};
@@ -73,8 +74,8 @@ fn reopened(last: Reply) -> Result<Option<u64>, Refusal>
 
 /// Jobs: a worker's events, one after the other, up to an end.
 impl<D: Disk> World<D> {
-    /// A worker's next event: its device call where one is out, and else its next step. It is for a caller that keeps each
-    /// event and its reply; [`advance`](World::advance) and [`finish`](World::finish) make them.
+    /// A worker's next event: its device call where one is out, and else its next step. It is for a caller that keeps
+    /// each event and its reply; [`advance`](World::advance) and [`finish`](World::finish) make them.
     pub fn next_event(&self, worker: Worker) -> Event
         ensures { result ≡ next_event self.now.kept worker }
     {
@@ -85,8 +86,8 @@ impl<D: Disk> World<D> {
         }
     }
 
-    /// Makes one event, and answers it, as [`step`](World::step) does. What `step` says in many clauses is one word here,
-    /// for a proof that goes on from it.
+    /// Makes one event, and answers it, as [`step`](World::step) does. What `step` says in many clauses is one word
+    /// here, for a proof that goes on from it.
     pub fn make(&mut self, event: Event) -> Reply
         ensures step { IsStep D.Disk event self.old result self.new }
         ensures goes_on { GoesOn D.Disk self.old self.new }
@@ -100,8 +101,8 @@ impl<D: Disk> World<D> {
     }
 
     /// Makes so many next events of a worker, at least 1, each its device call where one is out and else its next step.
-    /// They end early where one of them ends the job or is refused. Returns the last reply; where that is `Worked`, call
-    /// `advance` again, or [`finish`](World::finish).
+    /// They end early where one of them ends the job or is refused. Returns the last reply; where that is `Worked`,
+    /// call `advance` again, or [`finish`](World::finish).
     pub fn advance(&mut self, worker: Worker, count: u64) -> Reply
         requires { 1 ≤ count }
         ensures driven { IsDriven D.Disk worker count self.old result self.new }
@@ -156,11 +157,11 @@ impl<D: Disk> World<D> {
         answer
     }
 
-    /// Makes a worker's events up to the end of its job, or up to a refusal, and returns the last reply: `Acked`, `Merged`
-    /// or `Reopened` where the job came to its end, and else `Refused`. It comes to such an end always: each turn leaves
-    /// less of the job. Begin the job first, by an event `Begin`, `Merge` or `Reopen`; a worker without a job is refused as
-    /// idle. [`checkpoint`](World::checkpoint), [`merge_now`](World::merge_now) and [`reopen_now`](World::reopen_now) do
-    /// both.
+    /// Makes a worker's events up to the end of its job, or up to a refusal, and returns the last reply: `Acked`,
+    /// `Merged` or `Reopened` where the job came to its end, and else `Refused`. It comes to such an end always: each
+    /// turn leaves less of the job. Begin the job first, by an event `Begin`, `Merge` or `Reopen`; a worker without a
+    /// job is refused as idle. [`checkpoint`](World::checkpoint), [`merge_now`](World::merge_now) and
+    /// [`reopen_now`](World::reopen_now) do both.
     pub fn finish(&mut self, worker: Worker) -> Reply
         ensures finished { IsFinished D.Disk worker self.old result self.new }
         ensures goes_on { GoesOn D.Disk self.old self.new }
@@ -189,8 +190,8 @@ impl<D: Disk> World<D> {
         answer
     }
 
-    /// Begins a job by an order, `Begin`, `Merge` or `Reopen`, and has its worker finish it while it is watched. Returns
-    /// the last reply. A refused beginning is the answer.
+    /// Begins a job by an order, `Begin`, `Merge` or `Reopen`, and has its worker finish it while it is watched.
+    /// Returns the last reply. A refused beginning is the answer.
     pub fn do_job<S: Watch>(&mut self, order: Event, worker: Worker, watch: &mut S) -> Reply
         ensures job { IsJob D.Disk order worker self.old result self.new }
         ensures goes_on { GoesOn D.Disk self.old self.new }
@@ -208,18 +209,19 @@ impl<D: Disk> World<D> {
         self.finish_watched(worker, watch)
     }
 
-    /// Makes a checkpoint with 0 to 8 rounds before its freeze, to its end, and returns its number. Behind `Ok(n)` whatever
-    /// a crash leaves shows checkpoint n, with the memory at its freeze (`acked` and `shows` of [`step`](World::step)). The
-    /// store has to be open: [`start`](World::start) opens it. Next comes an event `Trim`, so that the journal doesn't fill.
+    /// Makes a checkpoint with 0 to 8 rounds before its freeze, to its end, and returns its number. Behind `Ok(n)`
+    /// whatever a crash leaves shows checkpoint n, with the memory at its freeze (`acked` and `shows` of
+    /// [`step`](World::step)). The store has to be open: [`start`](World::start) opens it. Next comes an event `Trim`,
+    /// so that the journal doesn't fill.
     ///
     /// # Errors
     ///
     /// The refusal of its beginning, which leaves all as it was: `NotOpen` and `StoreDown` where the store isn't open,
-    /// `Busy` where a checkpoint runs, `Einval` with more than 8 rounds, `JournalFull` where fewer than two entries are free,
-    /// `NumbersUsed`, `NoSlot` where too few slots are free, or `OutOfMemory`. Or the refusal of a step: `OutOfMemory`, with
-    /// which the checkpoint still runs and can be finished or cancelled; or `Device` or `StoreDown` where a device call
-    /// failed. Then [`finish`](World::finish) is called until it is refused as `Idle`, so that no device call is out, and
-    /// [`reopen_now`](World::reopen_now) tells whether the checkpoint is on the disk.
+    /// `Busy` where a checkpoint runs, `Einval` with more than 8 rounds, `JournalFull` where fewer than two entries are
+    /// free, `NumbersUsed`, `NoSlot` where too few slots are free, or `OutOfMemory`. Or the refusal of a step:
+    /// `OutOfMemory`, with which the checkpoint still runs and can be finished or cancelled; or `Device` or `StoreDown`
+    /// where a device call failed. Then [`finish`](World::finish) is called until it is refused as `Idle`, so that no
+    /// device call is out, and [`reopen_now`](World::reopen_now) tells whether the checkpoint is on the disk.
     pub fn checkpoint(&mut self, rounds: u64) -> Result<u64, Refusal>
         // Its last reply is `acked`, with that number, or the refusal.
         ensures job { IsJob D.Disk (Begin rounds) Dumper self.old (last_reply reply.Acked result) self.new }
@@ -239,17 +241,17 @@ impl<D: Disk> World<D> {
         acked(self.do_job(Event::Begin(rounds), Worker::Dumper, &mut Unwatched))
     }
 
-    /// Merges the chain of the newest checkpoint into one image, to its end, and closes the images that nobody needs any
-    /// more. Returns the serial of the merged image. The store has to be open, as for a
+    /// Merges the chain of the newest checkpoint into one image, to its end, and closes the images that nobody needs
+    /// any more. Returns the serial of the merged image. The store has to be open, as for a
     /// [`checkpoint`](World::checkpoint); what it shows stays.
     ///
     /// # Errors
     ///
     /// The refusal of its beginning, which leaves all as it was: `NotOpen` and `StoreDown` where the store isn't open,
-    /// `Busy` where a merge runs, `Idle` where the store shows no checkpoint, `NumbersUsed`, `NoSlot` where no slot is free,
-    /// or `OutOfMemory`. Or the refusal of a step: `OutOfMemory`, with which the merge may still run and be finished;
-    /// `Damaged` where its source isn't there to be read; or `Device` or `StoreDown` where a device call failed, and then as
-    /// behind a checkpoint.
+    /// `Busy` where a merge runs, `Idle` where the store shows no checkpoint, `NumbersUsed`, `NoSlot` where no slot is
+    /// free, or `OutOfMemory`. Or the refusal of a step: `OutOfMemory`, with which the merge may still run and be
+    /// finished; `Damaged` where its source isn't there to be read; or `Device` or `StoreDown` where a device call
+    /// failed, and then as behind a checkpoint.
     pub fn merge_now(&mut self) -> Result<u64, Refusal>
         // Its last reply is `merged`, with that serial, or the refusal.
         ensures job { IsJob D.Disk Merge Merger self.old (last_reply reply.Merged result) self.new }
@@ -264,21 +266,22 @@ impl<D: Disk> World<D> {
         merged(self.do_job(Event::Merge, Worker::Merger, &mut Unwatched))
     }
 
-    /// Opens the store again, to its end, and returns the number of the checkpoint that it shows, if it shows one. It is
-    /// done once behind [`open`](World::open), as [`start`](World::start) does, and once behind each device call that
-    /// failed; then checkpoints and merges are made again.
+    /// Opens the store again, to its end, and returns the number of the checkpoint that it shows, if it shows one. It
+    /// is done once behind [`open`](World::open), as [`start`](World::start) does, and once behind each device call
+    /// that failed; then checkpoints and merges are made again.
     ///
     /// # Errors
     ///
-    /// The refusal of its beginning, which leaves all as it was: `Busy` where the store is open, an opener runs or a device
-    /// call is out, `JournalFull` where no entry is free for it, or `OutOfMemory`. Or the refusal of a step: `OutOfMemory`,
-    /// `Damaged` where the store can't be read or isn't the one that this run wrote, or `Device` or `StoreDown` where a
-    /// device call failed; then the store isn't open.
+    /// The refusal of its beginning, which leaves all as it was: `Busy` where the store is open, an opener runs or a
+    /// device call is out, `JournalFull` where no entry is free for it, or `OutOfMemory`. Or the refusal of a step:
+    /// `OutOfMemory`, `Damaged` where the store can't be read or isn't the one that this run wrote, or `Device` or
+    /// `StoreDown` where a device call failed; then the store isn't open.
     pub fn reopen_now(&mut self) -> Result<Option<u64>, Refusal>
         // Its last reply is `reopened`, with what it found, or the refusal.
         ensures job { IsJob D.Disk Reopen Opener self.old (last_reply reply.Reopened result) self.new }
         ensures goes_on { GoesOn D.Disk self.old self.new }
-        // Whatever a crash leaves then shows what it found behind `Ok`, with the memory at its freeze, or nothing saved.
+        // Whatever a crash leaves then shows what it found behind `Ok`, with the memory at its freeze, or nothing
+        // saved.
         ensures shows { D.is_honest self.new.disk → Within (D.may_leave self.new.disk)
             (ShowsReply (last_reply reply.Reopened result) self.new.core.base (history_of self.new.core)) }
         ensures promise { D.is_honest self.new.disk → (first : Point D) → StandsAt self.old first

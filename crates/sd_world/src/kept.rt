@@ -2,7 +2,8 @@
 ghost use Rattle.std.specs.Prelude.{◌≡◌, ◌↔◌, ◌<◌, Some, IfSome, IsTrue, MatchOption, slice_get, slice_set};
 ghost use Rattle.sd_crash_safety.specs.View.{index};
 ghost use Rattle.sd_world.specs.declared.kept.Kept.TheVariants.{Nothing};
-ghost use Rattle.sd_world.specs.View.{IsAt, IsNowhere, asked_id, busy_of, earlier, id_in, is_asked, is_before, is_of, made_id, nothing_kept};
+ghost use Rattle.sd_world.specs.View.{IsAt, IsNowhere, asked_id, busy_of, earlier, id_in, is_asked, is_before, is_of};
+ghost use Rattle.sd_world.specs.View.{made_id, nothing_kept};
 
 use crate::call_state::CallState;
 use sd_core::LANES;

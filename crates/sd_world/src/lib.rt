@@ -1,5 +1,5 @@
-//! A core over a disk: whatever events are run, and wherever a crash comes, the disk holds what one freeze of the journal
-//! says.
+//! A core over a disk: whatever events are run, and wherever a crash comes, the disk holds what one freeze of the
+//! journal says.
 #![tactic(auto)]
 
 mod auditing;

@@ -65,7 +65,8 @@ fn base_of<D: Disk>(alloc: Global, disk: &mut D) -> Result<(Option<u64>, Snapsho
         (shown_base base.0 (memory_of base.1))) }
     ensures bare { IfOk result (λ base. base.0 ≡ None → memory_of base.1 ≡ bare_memory) }
     ensures reads { OnlyReads D.Disk disk.old disk.new }
-    ensures fault { D.is_honest disk.new → IfErr result (IsFaultOf (D.contents disk.old) (D.failed disk.old) (D.failed disk.new)) }
+    ensures fault { D.is_honest disk.new
+        → IfErr result (IsFaultOf (D.contents disk.old) (D.failed disk.old) (D.failed disk.new)) }
     ensures frames { result ≢ Err OpenFault.NoFrame }
 {
     match restore(alloc, disk) {

@@ -15,16 +15,16 @@ use sd_disk::Disk;
 use std::alloc::Global;
 
 impl<D: Disk> World<D> {
-    /// Opens a store and opens it again, to its end, over so many frames, 1 to 65,536: a frame is 4,096 bytes, and each page
-    /// that was stored into takes one. The run goes on from the memory that the store shows, or from space 1 alone, without
-    /// areas, where nothing was saved. Events, [`checkpoint`](World::checkpoint) and [`merge_now`](World::merge_now) are
-    /// next, and [`close`](World::close) at the end.
+    /// Opens a store and opens it again, to its end, over so many frames, 1 to 65,536: a frame is 4,096 bytes, and each
+    /// page that was stored into takes one. The run goes on from the memory that the store shows, or from space 1
+    /// alone, without areas, where nothing was saved. Events, [`checkpoint`](World::checkpoint) and
+    /// [`merge_now`](World::merge_now) are next, and [`close`](World::close) at the end.
     ///
     /// # Errors
     ///
-    /// Each hands the disk back, and the store shows what it did. `Unopened`: what [`open`](World::open) tells, and the disk
-    /// was only read. `Refused`: `Damaged` where the store can't be read, `Device` or `StoreDown` where a device call failed,
-    /// or `OutOfMemory`.
+    /// Each hands the disk back, and the store shows what it did. `Unopened`: what [`open`](World::open) tells, and the
+    /// disk was only read. `Refused`: `Damaged` where the store can't be read, `Device` or `StoreDown` where a device
+    /// call failed, or `OutOfMemory`.
     pub fn start(alloc: Global, disk: D, frames: usize) -> Result<World<D>, StartError<D>>
         requires least { 1 ≤ frames }
         requires greatest { frames ≤ 65536 }

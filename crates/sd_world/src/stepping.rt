@@ -3,7 +3,8 @@ ghost use Rattle.std.specs.Prelude.{◌≡◌, ◌<◌, ℕ, List, Option, Some,
 ghost use Rattle.sd_gate.specs.Requests.{Asked, Made};
 ghost use Rattle.sd_rounds.specs.Writes.{IsInLane};
 ghost use Rattle.sd_crash_safety.specs.Calls.{GoesOn};
-ghost use Rattle.sd_world.specs.Steps.{Does, HandsIn, HandsInIfAny, KeepsOutcome, KeepsRequest, Performs, TakesUp, Works, answer_of, reply_of};
+ghost use Rattle.sd_world.specs.Steps.{Does, HandsIn, HandsInIfAny, KeepsOutcome, KeepsRequest, Performs, TakesUp};
+ghost use Rattle.sd_world.specs.Steps.{Works, answer_of, reply_of};
 ghost use Rattle.sd_world.specs.Trims.{TrimsJournal};
 ghost use Rattle.sd_world.specs.declared.kept.Kept.TheVariants.{Outcome as OutcomeKept, Request as RequestKept};
 
@@ -71,8 +72,8 @@ fn hand_in(core: &mut Core, kept: &mut Lanes, lane: usize) -> Reply
     }
 }
 
-/// A worker's event: its outcome with the least ticket is handed in; else it makes its next step, or its next request is
-/// kept.
+/// A worker's event: its outcome with the least ticket is handed in; else it makes its next step, or its next request
+/// is kept.
 fn work(core: &mut Core, kept: &mut Lanes, worker: Worker) -> Reply
     ensures { Works worker core.old kept.old result core.new kept.new }
 {

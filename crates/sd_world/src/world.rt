@@ -81,8 +81,8 @@ impl<D: Disk> Model for World<D> {
 
 impl<D: Disk> World<D> {
     /// Opens a store: syncs each slot, reads what it shows, and starts a run from it, over so many frames, 1 to 65,536.
-    /// The core's store isn't open yet, so checkpoints and merges are refused as not open: [`World::reopen_now`] opens it, and
-    /// [`World::start`] does both. Where nothing was saved the run starts from space 1 alone, without areas.
+    /// The core's store isn't open yet, so checkpoints and merges are refused as not open: [`World::reopen_now`] opens
+    /// it, and [`World::start`] does both. Where nothing was saved the run starts from space 1 alone, without areas.
     ///
     /// # Errors
     ///
@@ -145,15 +145,16 @@ impl<D: Disk> World<D> {
         &self.core
     }
 
-    /// Whether a device call of a worker is out that wasn't made yet. Its next event is then `Perform`, and else `Work`.
+    /// Whether a device call of a worker is out that wasn't made yet. Its next event is then `Perform`, and else
+    /// `Work`.
     pub fn is_out(&self, worker: Worker) -> bool
         ensures { result ≡ is_asked self.now.kept worker }
     {
         self.kept.is_asked(worker)
     }
 
-    /// The disk, as it stands. What was acknowledged is on it; a checkpoint that runs is given up, as by a crash, and what
-    /// was stored since the last one is gone. `restore` reads what it shows, and [`World::start`] goes on from it.
+    /// The disk, as it stands. What was acknowledged is on it; a checkpoint that runs is given up, as by a crash, and
+    /// what was stored since the last one is gone. `restore` reads what it shows, and [`World::start`] goes on from it.
     pub fn close(self) -> D
         ensures { result ≡ self.disk }
     {
@@ -170,8 +171,8 @@ impl<D: Disk> World<D> {
     }
 
     /// A law: whatever a crash leaves now shows a pair that the journal allows, and so do the contents as read. The
-    /// journal is legal, the memory is the one that it makes, and its bits are those that the commands and visits give. The
-    /// pre-dumps so far of the checkpoint that runs are open in their slots.
+    /// journal is legal, the memory is the one that it makes, and its bits are those that the commands and visits give.
+    /// The pre-dumps so far of the checkpoint that runs are open in their slots.
     pub fn sound(&self)
         ensures allowed { D.is_honest self.now.disk → Within (D.may_leave self.now.disk)
             (ShowsAllowed self.now.core.base (history_of self.now.core)) }
@@ -197,16 +198,17 @@ impl<D: Disk> World<D> {
         let _core = &self.core;
     }
 
-    /// A law: the checkpoint that runs behind a run that began with none was begun by one of the run's events, and has as many
-    /// pre-dumps as that order asked for. An acknowledgement is of the checkpoint that ran before it (`step`: `acked`).
+    /// A law: the checkpoint that runs behind a run that began with none was begun by one of the run's events, and has
+    /// as many pre-dumps as that order asked for. An acknowledgement is of the checkpoint that ran before it (`step`:
+    /// `acked`).
     pub fn runs_as_begun(&self)
         ensures { RunsAsBegun D.Disk }
     {
         let _core = &self.core;
     }
 
-    /// A law: from each point of a run at which a world stands an event goes to one at which it stands then, where the disk
-    /// is honest.
+    /// A law: from each point of a run at which a world stands an event goes to one at which it stands then, where the
+    /// disk is honest.
     pub fn points_follow(&self)
         ensures { PointsFollow D.Disk }
     {
@@ -214,24 +216,24 @@ impl<D: Disk> World<D> {
         let _core = &self.core;
     }
 
-    /// A law: whatever moment of a run a crash comes, also within a device call, it leaves what the journal allowed at one
-    /// of the points of the run.
+    /// A law: whatever moment of a run a crash comes, also within a device call, it leaves what the journal allowed at
+    /// one of the points of the run.
     pub fn goes_leave(&self)
         ensures { GoesLeave D.Disk }
     {
         let _core = &self.core;
     }
 
-    /// A law: the requests that are out have tickets of their own behind each event of a run, as long as 64 bits last. So
-    /// the least ticket of a worker is that of its oldest request.
+    /// A law: the requests that are out have tickets of their own behind each event of a run, as long as 64 bits last.
+    /// So the least ticket of a worker is that of its oldest request.
     pub fn tickets_last(&self)
         ensures { TicketsLast D.Disk }
     {
         let _core = &self.core;
     }
 
-    /// Restores a disk that holds what a crash of this world's disk may leave now: exactly a pair that the journal allows,
-    /// or the empty chain where nothing was saved.
+    /// Restores a disk that holds what a crash of this world's disk may leave now: exactly a pair that the journal
+    /// allows, or the empty chain where nothing was saved.
     ///
     /// # Errors
     ///
@@ -247,12 +249,12 @@ impl<D: Disk> World<D> {
 
     /// Makes one event, and answers it: one command, one order, one step of a worker, or one device call.
     ///
-    /// A command is answered by what POSIX.1-2017 and the limits say (`Done`, `Bytes`, `Child`, `NeedsFault`, `Segv`, or
-    /// `Refused`), and journaled with its reply; refused as `JournalFull` or `OutOfMemory` it isn't, and nothing changes.
-    /// Between a freeze and its end every command is refused as `Frozen`. Orders begin a job or end it: `Begun`, `Worked`,
-    /// `Cancelled`, `Trimmed`. A worker's next event is `Perform` where [`World::is_out`], and else `Work`, up to `Acked`,
-    /// `Merged` or `Reopened`: [`World::finish`] makes them. Behind a device call that failed (`Device`) the next step is
-    /// refused as `StoreDown`, and so are all jobs until the store is opened again.
+    /// A command is answered by what POSIX.1-2017 and the limits say (`Done`, `Bytes`, `Child`, `NeedsFault`, `Segv`,
+    /// or `Refused`), and journaled with its reply; refused as `JournalFull` or `OutOfMemory` it isn't, and nothing
+    /// changes. Between a freeze and its end every command is refused as `Frozen`. Orders begin a job or end it:
+    /// `Begun`, `Worked`, `Cancelled`, `Trimmed`. A worker's next event is `Perform` where [`World::is_out`], and else
+    /// `Work`, up to `Acked`, `Merged` or `Reopened`: [`World::finish`] makes them. Behind a device call that failed
+    /// (`Device`) the next step is refused as `StoreDown`, and so are all jobs until the store is opened again.
     pub fn step(&mut self, event: &Event) -> Reply
         // What it does to the core, the disk and what is kept.
         ensures does { Does D.Disk event.now self.old result self.new }
@@ -273,8 +275,8 @@ impl<D: Disk> World<D> {
             → ((worker : WorkerKind) (place : ℕ) → event.now ≢ PerformAt worker place)
             → self.new.disk ≡ self.old.disk }
 
-        // A worker's step, or an outcome of it that is handed in, lowers what is left of its job, unless that ends the job
-        // or is refused.
+        // A worker's step, or an outcome of it that is handed in, lowers what is left of its job, unless that ends the
+        // job or is refused.
         ensures lowers { (worker : WorkerKind) → event.now ≡ Work worker
             → LeavesLess result (left_by self.old.core worker) (left_by self.new.core worker) }
         ensures lowers_up { (worker : WorkerKind) → event.now ≡ TakeUp worker
@@ -282,26 +284,27 @@ impl<D: Disk> World<D> {
         ensures lowers_at { (worker : WorkerKind) (place : ℕ) → event.now ≡ HandInAt worker place
             → LeavesLess result (left_by self.old.core worker) (left_by self.new.core worker) }
 
-        // Where a worker's event acknowledges a checkpoint, its dump has exactly the pages that were mapped at the freeze, as
-        // data or zeros those that something touched since their last visit; and a pre-dump has such pages alone.
+        // Where a worker's event acknowledges a checkpoint, its dump has exactly the pages that were mapped at the
+        // freeze, as data or zeros those that something touched since their last visit; and a pre-dump has such pages
+        // alone.
         ensures little { DoesLittle event.now self.old result self.new }
-        // A checkpoint that runs behind it ran before, with the number, the slots and the first parent with which it began;
-        // or this event began it.
+        // A checkpoint that runs behind it ran before, with the number, the slots and the first parent with which it
+        // began; or this event began it.
         ensures checkpoint { KeepsCheckpoint event.now result self.old.core self.new.core }
 
-        // Where a merge's image enters the catalog it is open in its slot, a copy of its source, and stays so while the merge
-        // closes images; and behind the merge those that it was to close are closed, and cut to one byte.
+        // Where a merge's image enters the catalog it is open in its slot, a copy of its source, and stays so while the
+        // merge closes images; and behind the merge those that it was to close are closed, and cut to one byte.
         ensures merges { D.is_honest self.new.disk
             → DoesMerge D.Disk event.now self.old result self.new }
         ensures keeps { KeepsMerged D.Disk self.old self.new }
         // A merge that closes images behind it, or ends with it, did so before, or its image enters by it.
         ensures closes { D.is_honest self.new.disk → ClosesBehind D.Disk self.old self.new }
         ensures ends { D.is_honest self.new.disk → EndsBehind D.Disk self.old result self.new }
-        // As it enters, its source stands on the disk with all that this reaches, so it has what these hold there; and the list
-        // of the images to close is fixed.
+        // As it enters, its source stands on the disk with all that this reaches, so it has what these hold there; and
+        // the list of the images to close is fixed.
         ensures copies { D.is_honest self.new.disk → DoesCopy D.Disk event.now self.old self.new }
-        // Behind an acknowledgement the checkpoint's dump and each of its pre-dumps are open in their slots of the contents,
-        // and each names the one before as its parent.
+        // Behind an acknowledgement the checkpoint's dump and each of its pre-dumps are open in their slots of the
+        // contents, and each names the one before as its parent.
         ensures acked { D.is_honest self.new.disk → DoesAck D.Disk event.now self.old result self.new }
         // While a worker's job runs, its next step is refused only for want of memory, or where a device call failed.
         ensures jobs { D.is_honest self.new.disk → GoesOnUnless event.now self.old result }
@@ -309,7 +312,8 @@ impl<D: Disk> World<D> {
         // What it adds to the journal, or takes from it. What the run goes on from stays, but by a trim.
         ensures adds { Adds event.now result self.old.core self.new.core }
         ensures base { event.now ≢ Trim → self.new.core.base ≡ self.old.core.base }
-        // The journal is legal, the memory is the one that it makes, and its bits are those that commands and visits give.
+        // The journal is legal, the memory is the one that it makes, and its bits are those that commands and visits
+        // give.
         ensures tracked { IsTracked self.new.core.base self.new.core.items self.new.core.memory }
         ensures honest { D.is_honest self.new.disk → D.is_honest self.old.disk }
 
@@ -358,9 +362,9 @@ impl<D: Disk> World<D> {
         ensures refused { IfErr result (λ why. (why ≡ OutOfMemory) × (self.new ≡ self.old)) }
         ensures honest { D.is_honest self.new.disk → D.is_honest self.old.disk }
 
-        // From each point at which the world stands the events go, one by one, to a point at which it stands then. Within an
-        // event a crash leaves what the journal allowed before it, and behind it what the journal allows then; behind `acked`
-        // and `reopened` that checkpoint, with the memory at its freeze.
+        // From each point at which the world stands the events go, one by one, to a point at which it stands then.
+        // Within an event a crash leaves what the journal allowed before it, and behind it what the journal allows
+        // then; behind `acked` and `reopened` that checkpoint, with the memory at its freeze.
         ensures promise { IfOk result (λ replies. D.is_honest self.new.disk → (first : Point D)
             → StandsAt self.old first → (last : Point D) × StandsAt self.new last
             × Goes D.Disk first events.now replies.items last) }

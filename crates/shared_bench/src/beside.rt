@@ -62,7 +62,8 @@ impl fmt::Display for Beside {
         let longest = self.longest.as_micros();
         write!(
             f,
-            "checkpoint of {PAGES} pages and {ROUNDS} rounds in {micros} us; {a_second} stores a second beside it; {} refused as frozen; the longest freeze {longest} us",
+            "checkpoint of {PAGES} pages and {ROUNDS} rounds in {micros} us; {a_second} stores a second beside it; \
+             {} refused as frozen; the longest freeze {longest} us",
             self.frozen
         )
     }

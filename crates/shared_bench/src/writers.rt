@@ -1,5 +1,5 @@
-//! A dump over a disk whose writes take time, by one writer or more. What they share isn't dropped: the process ends with
-//! it.
+//! A dump over a disk whose writes take time, by one writer or more. What they share isn't dropped: the process ends
+//! with it.
 use crate::beside::{Free, prepare};
 use crate::fault::BenchFault;
 use crate::slow::Slow;

@@ -1,5 +1,5 @@
-//! Cores over stores, and what is done with them. Only this file owns them. Cores aren't dropped: the process of a test ends
-//! with them, and a drop of one takes the prover minutes.
+//! Cores over stores, and what is done with them. Only this file owns them. Cores aren't dropped: the process of a test
+//! ends with them, and a drop of one takes the prover minutes.
 use crate::driving::{Row, answers};
 use crate::other_disk::knows_its_own;
 use crate::outcomes::drops_the_outcome_of_another;

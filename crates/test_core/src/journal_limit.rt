@@ -8,8 +8,8 @@ use std::test::Fail;
 
 const FULL: Refusal = Refusal::JournalFull;
 
-/// A checkpoint holds two entries: commands find none, and it freezes and is acknowledged in them. Then none is free: no
-/// checkpoint begins, and nothing is journaled.
+/// A checkpoint holds two entries: commands find none, and it freezes and is acknowledged in them. Then none is free:
+/// no checkpoint begins, and nothing is journaled.
 const SAVED_IN_HELD_ENTRIES: [Row; 9] = [
     (Order::Open, Answer::Reopened(None)),
     (Order::Map, Answer::Journaled),

@@ -80,7 +80,8 @@ const CANCELS: [(u64, Answer); 6] = [
     (13, BUSY),
 ];
 
-/// A checkpoint that failed is pending from its freeze on, and may be cancelled until the opening of its gate was taken up.
+/// A checkpoint that failed is pending from its freeze on, and may be cancelled until the opening of its gate was taken
+/// up.
 #[test]
 fn a_failed_checkpoint_is_cancelled(rt: HostRuntime) -> Result<(), Fail> {
     for (calls, answer) in CANCELS {
@@ -106,9 +107,10 @@ fn a_store_that_fell_is_opened_again(rt: HostRuntime) -> Result<(), Fail> {
     Ok(run(&rt, rt.alloc(), store, case)?)
 }
 
-/// A checkpoint is acknowledged and the next one cancelled, so that the third takes every page; the sync behind the gate of its
-/// dump fails. Whether it stands is in doubt, and it can't be cancelled. The store is opened again and names it. What was in
-/// doubt is over then: the next checkpoint has the next number and may be cancelled, and so may the one behind it.
+/// A checkpoint is acknowledged and the next one cancelled, so that the third takes every page; the sync behind the
+/// gate of its dump fails. Whether it stands is in doubt, and it can't be cancelled. The store is opened again and
+/// names it. What was in doubt is over then: the next checkpoint has the next number and may be cancelled, and so may
+/// the one behind it.
 const DOUBTFUL: [Row; 19] = [
     (Order::Open, Answer::Reopened(None)),
     (Order::Map, Answer::Journaled),
@@ -131,8 +133,8 @@ const DOUBTFUL: [Row; 19] = [
     (Order::Cancel, IDLE),
 ];
 
-/// The calls before that sync: the opening makes six, and the first checkpoint of a page of zeros eight; of the third one three
-/// form its slot, and four are its table, its header, their sync and its gate.
+/// The calls before that sync: the opening makes six, and the first checkpoint of a page of zeros eight; of the third
+/// one three form its slot, and four are its table, its header, their sync and its gate.
 const DOUBTFUL_CALLS: u64 = 21;
 
 #[test]

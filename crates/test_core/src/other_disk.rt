@@ -16,8 +16,8 @@ enum Which {
     Empty,
 }
 
-/// A checkpoint is acknowledged on one disk, and the next one fails on a broken one. What is opened then is a third, empty
-/// one: the store stays down until its own is opened.
+/// A checkpoint is acknowledged on one disk, and the next one fails on a broken one. What is opened then is a third,
+/// empty one: the store stays down until its own is opened.
 const ROWS: [(Which, Order, Answer); 7] = [
     (Which::Own, Order::Open, Answer::Reopened(None)),
     (Which::Own, Order::Save, Answer::Acked(1)),

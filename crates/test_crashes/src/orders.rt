@@ -40,8 +40,8 @@ fn place_in(order: u64, left: u64) -> u64 {
     order / orders(left.saturating_sub(1)) % left.max(1)
 }
 
-/// A checkpoint of pages that aren't all zeros: all their writes are out at once, are made in one order and handed in in
-/// another.
+/// A checkpoint of pages that aren't all zeros: all their writes are out at once, are made in one order and handed in
+/// in another.
 fn in_orders(alloc: Global, count: u64, made: u64, handed: u64) -> Result<Vec<Line>, AllocError> {
     let mut lines = Vec::new(alloc);
     lines.push(Line::Map(count))?;

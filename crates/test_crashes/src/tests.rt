@@ -90,8 +90,8 @@ fn is_right(
     Ok(())
 }
 
-/// A call of a run fails: a crash behind it, and one at the end, leaves what it may, and a checkpoint is acknowledged at
-/// least. Returns whether a call failed.
+/// A call of a run fails: a crash behind it, and one at the end, leaves what it may, and a checkpoint is acknowledged
+/// at least. Returns whether a call failed.
 fn fails(
     rt: &impl Abort,
     alloc: Global,

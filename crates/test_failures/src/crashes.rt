@@ -14,8 +14,8 @@ fn begins_with(snapshot: &Snapshot, bytes: &[u8]) -> bool {
     }
 }
 
-/// The number of the checkpoint that a store shows, 0 where it shows none. Its page begins with the bytes that belong to the
-/// number.
+/// The number of the checkpoint that a store shows, 0 where it shows none. Its page begins with the bytes that belong
+/// to the number.
 fn shown(
     rt: &(impl Abort + AllocGlobal),
     disk: &mut MemDisk,
@@ -32,8 +32,8 @@ fn shown(
     }
 }
 
-/// The least and the greatest number that a store shows which a stop leaves. Its page begins with the bytes that belong to
-/// the number.
+/// The least and the greatest number that a store shows which a stop leaves. Its page begins with the bytes that belong
+/// to the number.
 pub(crate) fn shown_by_stops(
     rt: &(impl Abort + AllocGlobal),
     disk: &MemDisk,

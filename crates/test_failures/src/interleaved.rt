@@ -64,8 +64,8 @@ fn calls_of(
     Err("lines that end".into())
 }
 
-/// Stops a run behind this call. What is shown is the checkpoint that was acknowledged last, or the one behind it. Returns
-/// whether the run ended before the call.
+/// Stops a run behind this call. What is shown is the checkpoint that was acknowledged last, or the one behind it.
+/// Returns whether the run ended before the call.
 fn stops(
     rt: &(impl Abort + Eprint + AllocGlobal),
     lines: &[Line],
@@ -103,8 +103,8 @@ fn stops_everywhere(
 }
 
 /// A merge is cut in at each place of the checkpoint. A run that stops before its merge is the one that stops there
-/// before a later merge, so calls that were made before the merge of the last run are behind it. Returns how many places
-/// there are.
+/// before a later merge, so calls that were made before the merge of the last run are behind it. Returns how many
+/// places there are.
 fn cuts_in(rt: &(impl Abort + Eprint + AllocGlobal), first: &'static [u8]) -> Result<u64, Fail> {
     let mut behind = calls_of(rt, &[Line::Open], 0)?;
     for events in (0..MOST).step_by(EACH as usize) {

@@ -66,16 +66,17 @@ fn trims_under_refused_memory(rt: HostRuntime) -> Result<(), Fail> {
     is_answered(&rt, &[TRIMMED], 133, Reply::Trimmed(4))
 }
 
-/// The second run's opener reads the pre-dump, the merged image and the dump that the first one left: six events for each of
-/// eight slots, seven more for each image, and the one that ends it. Its checkpoint takes the page in 37 events.
+/// The second run's opener reads the pre-dump, the merged image and the dump that the first one left: six events for
+/// each of eight slots, seven more for each image, and the one that ends it. Its checkpoint takes the page in 37
+/// events.
 #[test]
 fn an_opening_of_images_under_refused_memory(rt: HostRuntime) -> Result<(), Fail> {
     let count = 194 + (1 + 8 * 6 + 3 * 7 + 1) + (1 + 37);
     is_answered(&rt, &[MERGE_BESIDE_ROUND, REOPENED], count, Reply::Acked(3))
 }
 
-/// The call that failed was answered as one of the device, and the worker's next event as down. The store was opened again
-/// then, and the next checkpoint acknowledged.
+/// The call that failed was answered as one of the device, and the worker's next event as down. The store was opened
+/// again then, and the next checkpoint acknowledged.
 fn goes_on(rt: &impl Abort, replies: &[Reply]) {
     let mut behind = replies.iter();
     let failed = Reply::Refused(Refusal::Device);

@@ -37,7 +37,8 @@ pub(crate) fn fused(alloc: Global, calls: u64, drops: bool) -> Result<Fused<MemD
     }
 }
 
-/// Makes the lines of a run; where the device has failed, first the next event of that worker, and then the other lines.
+/// Makes the lines of a run; where the device has failed, first the next event of that worker, and then the other
+/// lines.
 fn drive(
     rt: &impl Eprint,
     alloc: Global,

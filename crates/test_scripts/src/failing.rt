@@ -74,8 +74,8 @@ fn a_writer_that_fails_ends_the_restore(rt: HostRuntime) -> Result<(), Fail> {
 /// table, and of the first its data page for its digest.
 const SILENT_CALLS: u64 = 10 + 13;
 
-/// How many they make in all: of a restored memory also its page is read, behind the lines of its area; and at last again
-/// each length and front.
+/// How many they make in all: of a restored memory also its page is read, behind the lines of its area; and at last
+/// again each length and front.
 const CALLS: [(&str, u64); 3] = [
     ("restore", SILENT_CALLS + 1 + 10),
     ("list", SILENT_CALLS + 10),

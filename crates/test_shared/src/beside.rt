@@ -179,8 +179,8 @@ fn run_beside<R: Threads + Wait + Clock + Sync>(
     )
 }
 
-/// Two mutators store a thousand numbers each, and load each back, beside a checkpoint whose first page write is held until
-/// one of their stores is answered. Returns the receipts of both.
+/// Two mutators store a thousand numbers each, and load each back, beside a checkpoint whose first page write is held
+/// until one of their stores is answered. Returns the receipts of both.
 pub(crate) fn save_beside<R: Threads + Wait + Clock + Abort + Sync>(
     rt: &R,
     alloc: Global,

@@ -28,8 +28,8 @@ fn make_room<R: Wait>(rt: &R, shared: &Shared<Store>) -> bool {
     matches!(shared.run_merger(rt, &Free), Reply::Merged(_))
 }
 
-/// Makes checkpoints of so many pre-dumps until one is refused, not for want of a slot alone. Returns the refusal, and keeps
-/// the numbers that were acknowledged.
+/// Makes checkpoints of so many pre-dumps until one is refused, not for want of a slot alone. Returns the refusal, and
+/// keeps the numbers that were acknowledged.
 pub(crate) fn save_until_refused<R: Wait>(
     rt: &R,
     shared: &Shared<Store>,
@@ -65,8 +65,8 @@ fn save_with_room<R: Wait>(rt: &R, shared: &Shared<Store>) -> Reply {
     reply
 }
 
-/// Tries to cancel until a checkpoint was cancelled, and then makes one without pre-dumps at once. Returns its last reply, and
-/// tells that it is over.
+/// Tries to cancel until a checkpoint was cancelled, and then makes one without pre-dumps at once. Returns its last
+/// reply, and tells that it is over.
 fn cancel_and_save<R: Wait>(rt: &R, shared: &Shared<Store>, over: &AtomicU64) -> Option<Reply> {
     for _ in 0..TRIES {
         if let Reply::Cancelled(_) = shared.cancel(rt) {
@@ -100,8 +100,8 @@ fn wait_for_thaws<R: Wait + Clock>(
     Err(Refusal::Busy)
 }
 
-/// Cancels a checkpoint while it is made, and makes one of its own. Returns what the first dumper was answered, and whether
-/// the other one was acknowledged, whose number is kept behind the others.
+/// Cancels a checkpoint while it is made, and makes one of its own. Returns what the first dumper was answered, and
+/// whether the other one was acknowledged, whose number is kept behind the others.
 fn cancel_beside<R: Threads + Wait + Clock + Sync>(
     rt: &R,
     shared: &Shared<Store>,
@@ -128,8 +128,8 @@ fn cancel_beside<R: Threads + Wait + Clock + Sync>(
     (ended, is_acked, waited)
 }
 
-/// In each round a checkpoint is cancelled by another thread, which makes one of its own at once: the first dumper is answered
-/// that none of its own runs, and the other one is acknowledged.
+/// In each round a checkpoint is cancelled by another thread, which makes one of its own at once: the first dumper is
+/// answered that none of its own runs, and the other one is acknowledged.
 pub(crate) fn cancels_beside<R: Threads + Wait + Clock + Abort + Sync>(
     rt: &R,
     shared: &Shared<Store>,

@@ -1,5 +1,5 @@
-//! A shared core over a store of eight slots, what is done with it, and its closing. Only this file owns one. Cores aren't
-//! dropped: the process of a test ends with them, and a drop of one takes the prover minutes.
+//! A shared core over a store of eight slots, what is done with it, and its closing. Only this file owns one. Cores
+//! aren't dropped: the process of a test ends with them, and a drop of one takes the prover minutes.
 use crate::beside::{Way, save_beside};
 use crate::cancelling::cancels_beside;
 use crate::case::Case;
@@ -217,8 +217,8 @@ fn audit_again<D: Disk>(alloc: Global, core: &Core, disk: &mut D) -> Result<bool
     }
 }
 
-/// The run's own disk shows what its journal allows, unless it dropped what it was given; and an empty one only where nothing
-/// was acknowledged.
+/// The run's own disk shows what its journal allows, unless it dropped what it was given; and an empty one only where
+/// nothing was acknowledged.
 fn audits(
     rt: &impl Abort,
     alloc: Global,
@@ -295,7 +295,8 @@ fn threads_that_try(rt: HostRuntime) -> Result<(), Fail> {
     run(&rt, rt.alloc(), Case::Beside(Way::Tries))
 }
 
-/// Another thread cancels the checkpoint, and makes one: the first dumper is answered as idle, and nothing stays frozen.
+/// Another thread cancels the checkpoint, and makes one: the first dumper is answered as idle, and nothing stays
+/// frozen.
 #[test]
 fn a_cancelled_dumper_is_idle(rt: HostRuntime) -> Result<(), Fail> {
     run(&rt, rt.alloc(), Case::Cancelled)

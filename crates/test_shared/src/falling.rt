@@ -15,7 +15,8 @@ use std::time::{Clock, Duration};
 /// How many turns of a millisecond a thread waits for another.
 const TURNS: u64 = 10_000;
 
-/// A hold that tells of the first page's write, which is made while all is frozen, and gives the other thread time to wait.
+/// A hold that tells of the first page's write, which is made while all is frozen, and gives the other thread time to
+/// wait.
 #[derive(Drop)]
 struct Telling<'a, R> {
     rt: &'a R,
@@ -46,8 +47,8 @@ fn wait_frozen<R: Wait + Clock>(
     None
 }
 
-/// The device fails at the first page's write, in a checkpoint without pre-dumps: whoever waits for the thaw is told that the
-/// store is down, and commands are refused as frozen until it was opened again.
+/// The device fails at the first page's write, in a checkpoint without pre-dumps: whoever waits for the thaw is told
+/// that the store is down, and commands are refused as frozen until it was opened again.
 pub(crate) fn falls<R: Threads + Wait + Clock + Abort + Sync>(
     rt: &R,
     shared: &Shared<Store>,

@@ -28,7 +28,8 @@ impl Hold for Counting<'_> {
     }
 }
 
-/// A checkpoint of one round behind another one, of which no page was touched since: eight calls for each of its images.
+/// A checkpoint of one round behind another one, of which no page was touched since: eight calls for each of its
+/// images.
 pub(crate) fn saves_in_16_calls(rt: &(impl Abort + Wait), shared: &Shared<Store>) {
     let calls = AtomicU64::new(0);
     let hold = Counting { calls: &calls };
@@ -36,7 +37,8 @@ pub(crate) fn saves_in_16_calls(rt: &(impl Abort + Wait), shared: &Shared<Store>
     assert_eq!(rt; calls.load(Ordering::SeqCst), 16);
 }
 
-/// On a fresh store, after a checkpoint without rounds of which one page isn't all zeros, a merge makes 13 device calls.
+/// On a fresh store, after a checkpoint without rounds of which one page isn't all zeros, a merge makes 13 device
+/// calls.
 pub(crate) fn merges_in_13_calls(rt: &(impl Abort + Wait), shared: &Shared<Store>) {
     let calls = AtomicU64::new(0);
     let hold = Counting { calls: &calls };

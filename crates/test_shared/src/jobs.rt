@@ -35,8 +35,8 @@ impl Job {
         }
     }
 
-    /// Goes on with the job that was answered so, where memory was refused; where none stands it is begun again. Returns the
-    /// last reply.
+    /// Goes on with the job that was answered so, where memory was refused; where none stands it is begun again.
+    /// Returns the last reply.
     pub(crate) fn end<R: Wait>(
         self,
         rt: &R,

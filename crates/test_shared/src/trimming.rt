@@ -138,8 +138,8 @@ fn is_checked(
     Ok(part.folded.check(&receipts, &[part.acked]))
 }
 
-/// Two mutators store numbers, and load them back, beside checkpoints of one round, each of which is trimmed: what is folded
-/// accounts for the receipts of its entries. The other receipts are left.
+/// Two mutators store numbers, and load them back, beside checkpoints of one round, each of which is trimmed: what is
+/// folded accounts for the receipts of its entries. The other receipts are left.
 pub(crate) fn trims_beside<R: Threads + Wait + Abort + Sync>(
     rt: &R,
     alloc: Global,

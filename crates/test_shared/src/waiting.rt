@@ -1,4 +1,5 @@
-//! A thread that waits for thaws: until when it waits, how much of a processor it uses meanwhile, and that a cancel wakes it.
+//! A thread that waits for thaws: until when it waits, how much of a processor it uses meanwhile, and that a cancel
+//! wakes it.
 use crate::beside::await_flag;
 use crate::cancelling::save_until_refused;
 use crate::cases::Store;

@@ -78,8 +78,8 @@ impl<R: Clock> Hold for Keeping<'_, R> {
     }
 }
 
-/// Two pages are written beside each other by two writers: the first page's write is held until the second's begins. The hold
-/// is called once for each call. No writers, and nine of them, are refused before anything begins.
+/// Two pages are written beside each other by two writers: the first page's write is held until the second's begins.
+/// The hold is called once for each call. No writers, and nine of them, are refused before anything begins.
 pub(crate) fn writes_beside<R: Threads + Wait + Clock + Abort + Sync>(
     rt: &R,
     shared: &Shared<Store>,
@@ -95,8 +95,8 @@ pub(crate) fn writes_beside<R: Threads + Wait + Clock + Abort + Sync>(
     assert_eq!(rt; seen.sum.load(Ordering::SeqCst), SUM);
 }
 
-/// The device fails at the first page's write, which a writer makes: the checkpoint ends with the store down. It is opened
-/// again, and a checkpoint with eight writers is made.
+/// The device fails at the first page's write, which a writer makes: the checkpoint ends with the store down. It is
+/// opened again, and a checkpoint with eight writers is made.
 pub(crate) fn falls_beside<R: Threads + Wait + Abort + Sync>(rt: &R, shared: &Shared<Store>) {
     let down = Reply::Refused(Refusal::StoreDown);
     assert_eq!(rt; shared.run_relay(rt, 0, 2, &Free), down);

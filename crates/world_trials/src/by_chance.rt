@@ -232,8 +232,8 @@ fn store(alloc: Global, chance: &mut Chance) -> Result<MemDisk, Trouble> {
     Ok(MemDisk::new(alloc, slots, bytes, CALLS)?)
 }
 
-/// A list of events by chance over a store by chance, then another one over what a crash of it left by chance, and so on.
-/// Behind each device call the disk is crashed, and what is restored is compared with what the replies allow.
+/// A list of events by chance over a store by chance, then another one over what a crash of it left by chance, and so
+/// on. Behind each device call the disk is crashed, and what is restored is compared with what the replies allow.
 ///
 /// # Errors
 ///

@@ -99,8 +99,8 @@ impl Catalog {
         self.trace(serial, space, page).found()
     }
 
-    /// The chain of the image of a serial: the image, the one that its parent number names, and so on. It has no images where
-    /// no image has the serial. It makes one pass over the images of the catalog for each image of the chain.
+    /// The chain of the image of a serial: the image, the one that its parent number names, and so on. It has no images
+    /// where no image has the serial. It makes one pass over the images of the catalog for each image of the chain.
     ///
     /// # Errors
     ///
@@ -118,8 +118,8 @@ impl Catalog {
         Chain::new(self.alloc, images)
     }
 
-    /// A law: where it is the catalog of files, and it is known what following a page comes to, the page's bytes are those
-    /// that the image holds, within their file.
+    /// A law: where it is the catalog of files, and it is known what following a page comes to, the page's bytes are
+    /// those that the image holds, within their file.
     pub fn traced_is_held(&self)
         ensures held { (contents : List (List ℕ)) (images : List Image) (serial : ℕ) (page : ℕ × ℕ)
             (answer : Trace) → IsCatalogOf contents self.now → OpenImages contents images
@@ -134,9 +134,9 @@ impl Catalog {
         let _places = &self.places;
     }
 
-    /// The first page that the image of a serial lists behind a place, rising by space and page, or its first page where
-    /// no place is given. None where the image lists no more, or no image has the serial. It takes no memory, and no
-    /// walk over all runs.
+    /// The first page that the image of a serial lists behind a place, rising by space and page, or its first page
+    /// where no place is given. None where the image lists no more, or no image has the serial. It takes no memory, and
+    /// no walk over all runs.
     pub fn next_page(
         &self,
         serial: u64,

@@ -10,12 +10,13 @@ use sd_journal::{Entry, tracked_laws};
 
 impl Core {
     /// Applies a command of a seat, and journals it with its reply. Returns the entry's number, and the reply. While a
-    /// checkpoint is pending a command is refused as frozen, which is a reply too. [`Core::apply_owned`] journals the command
-    /// itself, and not a copy.
+    /// checkpoint is pending a command is refused as frozen, which is a reply too. [`Core::apply_owned`] journals the
+    /// command itself, and not a copy.
     ///
     /// # Errors
     ///
-    /// `JournalFull` where no entry is free beside those held. `OutOfMemory` where a growth was refused. Nothing changes.
+    /// `JournalFull` where no entry is free beside those held. `OutOfMemory` where a growth was refused. Nothing
+    /// changes.
     pub fn apply(&mut self, seat: usize, command: &Command) -> Result<(u64, Reply), Refusal>
         ensures { IsApplied seat command.now result self.old self.new }
     {

@@ -52,7 +52,8 @@ impl Core {
         }
     }
 
-    /// Begins the next image of the checkpoint, which gets the next serial, and hands out the first device call on its slot.
+    /// Begins the next image of the checkpoint, which gets the next serial, and hands out the first device call on its
+    /// slot.
     ///
     /// # Errors
     ///

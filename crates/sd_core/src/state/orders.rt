@@ -41,9 +41,9 @@ impl Core {
     /// # Errors
     ///
     /// The first of these whose condition holds: `NotOpen`; `StoreDown`; `Busy` where a checkpoint runs; `Einval` where
-    /// there are over 8 pre-dumps; `JournalFull` where fewer than two entries are free; `NumbersUsed` where a checkpoint
-    /// number or a serial of 2^63 or more was used; `NoSlot` where fewer slots are free than pre-dumps and two;
-    /// `OutOfMemory` where a growth was refused. Nothing changed.
+    /// there are over 8 pre-dumps; `JournalFull` where fewer than two entries are free; `NumbersUsed` where a
+    /// checkpoint number or a serial of 2^63 or more was used; `NoSlot` where fewer slots are free than pre-dumps and
+    /// two; `OutOfMemory` where a growth was refused. Nothing changed.
     pub fn begin(&mut self, rounds: u64) -> Reply
         ensures { IsBegun rounds result self.old self.new }
     {
@@ -107,14 +107,14 @@ impl Core {
         )
     }
 
-    /// Begins a merge of the newest dump or merged image: the chain that it reaches becomes one image, in the lowest free
-    /// slot, and then the images close that nobody needs any more.
+    /// Begins a merge of the newest dump or merged image: the chain that it reaches becomes one image, in the lowest
+    /// free slot, and then the images close that nobody needs any more.
     ///
     /// # Errors
     ///
-    /// The first of these whose condition holds: `NotOpen`; `StoreDown`; `Busy` where a merge runs; `Idle` where the store
-    /// shows no checkpoint; `NumbersUsed` where a serial of 2^63 or more was used; `NoSlot` where no slot is free;
-    /// `OutOfMemory` where a growth was refused. Nothing changed.
+    /// The first of these whose condition holds: `NotOpen`; `StoreDown`; `Busy` where a merge runs; `Idle` where the
+    /// store shows no checkpoint; `NumbersUsed` where a serial of 2^63 or more was used; `NoSlot` where no slot is
+    /// free; `OutOfMemory` where a growth was refused. Nothing changed.
     pub fn merge(&mut self) -> Reply
         ensures { IsMergeOrder result self.old self.new }
     {
@@ -125,13 +125,13 @@ impl Core {
         }
     }
 
-    /// Cancels the checkpoint that runs or is pending, also while the store is down. The next one takes every page. It takes
-    /// no memory.
+    /// Cancels the checkpoint that runs or is pending, also while the store is down. The next one takes every page. It
+    /// takes no memory.
     ///
     /// # Errors
     ///
-    /// The first of these whose condition holds: `Idle` where none runs or is pending; `Busy` where an opener runs, a request
-    /// of the dumper is out, or the opening of the dump's gate was ever taken up. Nothing changed.
+    /// The first of these whose condition holds: `Idle` where none runs or is pending; `Busy` where an opener runs, a
+    /// request of the dumper is out, or the opening of the dump's gate was ever taken up. Nothing changed.
     pub fn cancel(&mut self) -> Reply
         ensures { IsCancelOrder result self.old self.new }
     {
@@ -171,8 +171,8 @@ impl Core {
     /// # Errors
     ///
     /// The first of these whose condition holds: `Busy` where the store is open, an opener runs or a request is out;
-    /// `JournalFull` where no checkpoint is pending and no entry is free; `OutOfMemory` where a growth was refused. Nothing
-    /// changed.
+    /// `JournalFull` where no checkpoint is pending and no entry is free; `OutOfMemory` where a growth was refused.
+    /// Nothing changed.
     pub fn reopen(&mut self) -> Reply
         ensures { IsReopenOrder result self.old self.new }
     {

@@ -1,6 +1,7 @@
 //! Why calls of a core are refused.
 ghost use Rattle.std.specs.Prelude.{◌≡◌};
-ghost use Rattle.sd_core.specs.Refusals.{cancel_refusal, cant_cancel, has_checkpoint, is_in_use, must_wait, must_wait_for_pages, reopen_refusal, wants_entry, work_refusal};
+ghost use Rattle.sd_core.specs.Refusals.{cancel_refusal, cant_cancel, has_checkpoint, is_in_use, must_wait};
+ghost use Rattle.sd_core.specs.Refusals.{must_wait_for_pages, reopen_refusal, wants_entry, work_refusal};
 
 use super::Core;
 use crate::beginning::first_of;

@@ -1,5 +1,6 @@
 //! What a core tells of its run, and what is so of every core.
-ghost use Rattle.std.specs.Prelude.{◌≡◌, ◌≢◌, ◌↔◌, ◌<◌, ◌≤◌, ℕ, true, None, Some, IfSome, IsSome, IsTrue, MatchOption, is_some, slice_get};
+ghost use Rattle.std.specs.Prelude.{◌≡◌, ◌≢◌, ◌↔◌, ◌<◌, ◌≤◌, ℕ, true, None, Some, IfSome, IsSome, IsTrue, MatchOption};
+ghost use Rattle.std.specs.Prelude.{is_some, slice_get};
 ghost use Rattle.sd_areas.specs.Memory.{memory_of};
 ghost use Rattle.sd_chain.specs.Catalog.{Opened, place_of};
 ghost use Rattle.sd_journal.specs.History.{pending};
@@ -101,9 +102,9 @@ impl Core {
         let _memory = &self.memory;
     }
 
-    /// A law: the next checkpoint goes on from the tip exactly where the journal has an acknowledgement since its latest
-    /// reopening and its latest cancelling; a gate's opening was taken up only while a checkpoint is pending; and the
-    /// numbers that the journal and the catalog speak of are those that were used.
+    /// A law: the next checkpoint goes on from the tip exactly where the journal has an acknowledgement since its
+    /// latest reopening and its latest cancelling; a gate's opening was taken up only while a checkpoint is pending;
+    /// and the numbers that the journal and the catalog speak of are those that were used.
     pub fn flags(&self)
         ensures grows { self.now.grows ≡ has_grown self.now.base (history_of self.now) }
         ensures committing { self.now.committing ≡ true → IsSome (pending (history_of self.now)) }
@@ -117,8 +118,8 @@ impl Core {
         let _memory = &self.memory;
     }
 
-    /// A law: the pre-dumps so far of the checkpoint that runs are in the catalog, each under the number that the next one
-    /// names as its parent.
+    /// A law: the pre-dumps so far of the checkpoint that runs are in the catalog, each under the number that the next
+    /// one names as its parent.
     pub fn pre_dumps(&self)
         ensures { HasItsPreDumps self.now }
     {
@@ -126,7 +127,8 @@ impl Core {
     }
 
     /// A law: where the store is as it is believed to be, a device call that is out on the slot of a pre-dump of the
-    /// checkpoint that runs only looks. No more of its images are open than it has pre-dumps, and no opener runs beside it.
+    /// checkpoint that runs only looks. No more of its images are open than it has pre-dumps, and no opener runs beside
+    /// it.
     pub fn pre_dumps_rest(&self)
         ensures looks { LeavesPreDumps self.now }
         ensures few { HasFewOpen self.now.dumper.running }
@@ -142,8 +144,8 @@ impl Core {
         let _merger = &self.merger;
     }
 
-    /// A law: a request that is out in a lane is of the worker whose lane that is, while an opener runs it alone has one out,
-    /// and a worker that has a job, and of which no request is out, can go on.
+    /// A law: a request that is out in a lane is of the worker whose lane that is, while an opener runs it alone has
+    /// one out, and a worker that has a job, and of which no request is out, can go on.
     pub fn goes_on(&self)
         ensures lanes { AreOwnLanes self.now.outs }
         ensures alone { OpenerAsksAlone self.now }

@@ -17,8 +17,8 @@ use sd_receipts::Folded;
 
 impl Core {
     /// Takes the entries from the front of the journal up to and with the one that ended the pending of the last
-    /// checkpoint, and goes on from that checkpoint. Returns them with the number of the first. What is pending, the jobs,
-    /// the store and the pages' bits stay as they are, and so does what a store may show.
+    /// checkpoint, and goes on from that checkpoint. Returns them with the number of the first. What is pending, the
+    /// jobs, the store and the pages' bits stay as they are, and so does what a store may show.
     ///
     /// # Errors
     ///

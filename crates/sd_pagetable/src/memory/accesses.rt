@@ -1,5 +1,6 @@
 //! Loads, stores and faults.
-ghost use Rattle.std.specs.Prelude.{◌≡◌, ◌%◌, ◌+◌, ◌≤◌, true, None, Some, Ok, Err, length, slice_range, OnOk, OnErr, IfOk, IfSome, IfErr};
+ghost use Rattle.std.specs.Prelude.{◌≡◌, ◌%◌, ◌+◌, ◌≤◌, true, None, Some, Ok, Err, length, slice_range, OnOk, OnErr};
+ghost use Rattle.std.specs.Prelude.{IfOk, IfSome, IfErr};
 
 use super::{Memory, Place, allows, is_bad_access};
 use crate::access::Access;
@@ -17,7 +18,8 @@ impl Memory {
     ghost use Rattle.sd_pagetable.specs.Page.{Page};
     ghost use Rattle.sd_pagetable.specs.Contents.{page_at, plain_of};
     ghost use Rattle.sd_pagetable.specs.Effects.{after_store};
-    ghost use Rattle.sd_pagetable.specs.Due.{answer, Answers, needs_frame, page_due, access_due, fault_due, store_due, try_outcome};
+    ghost use Rattle.sd_pagetable.specs.Due.{answer, Answers, needs_frame, page_due, access_due, fault_due, store_due};
+    ghost use Rattle.sd_pagetable.specs.Due.{try_outcome};
     ghost use Rattle.sd_pagetable.specs.Tracking.{Step, Faulted, Tried as TriedEvent, Stored};
     ghost use Rattle.sd_pagetable.specs.View.{HasEntry};
     ghost use Rattle.sd_pagetable.specs.declared.memory_error.MemoryError.TheVariants.{OutOfMemory};

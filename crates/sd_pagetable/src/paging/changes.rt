@@ -1,5 +1,6 @@
 //! Changes of pages: runs and spaces, single pages, copies on write.
-ghost use Rattle.std.specs.Prelude.{◌≡◌, ◌+◌, ◌<◌, ◌≤◌, ◌^◌, ℕ, true, false, None, length, IsSome, OnOk, OnErr, IfOk, IfSome};
+ghost use Rattle.std.specs.Prelude.{◌≡◌, ◌+◌, ◌<◌, ◌≤◌, ◌^◌, ℕ, true, false, None, length, IsSome, OnOk, OnErr, IfOk};
+ghost use Rattle.std.specs.Prelude.{IfSome};
 ghost use Rattle.std.specs.FinMap as finmap;
 ghost use Rattle.sd_pagetable.specs.Nested.{inside, is_alive};
 ghost use Rattle.sd_pagetable.specs.Page.{Page, fresh_page, shared_page, inherited_page, stored_page, changed_page};

@@ -10,8 +10,8 @@ use sd_gate::{given_up_fits, writes_commute};
 use sd_store_laws::{contents_show, left_as_believed};
 
 impl<D: Disk> World<D> {
-    /// Makes the event of a command, as [`World::step`] does, and answers it. The command goes into the journal itself, so the
-    /// bytes of a store aren't copied.
+    /// Makes the event of a command, as [`World::step`] does, and answers it. The command goes into the journal itself,
+    /// so the bytes of a store aren't copied.
     pub fn apply(&mut self, seat: usize, command: Command) -> Reply
         ensures { IsStep D.Disk (CommandEvent seat command) self.old result self.new }
     {
