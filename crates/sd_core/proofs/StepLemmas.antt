@@ -9,7 +9,8 @@ use Rattle.sd_journal.specs.Marked.{entries_of}
 use Rattle.sd_rounds.specs.declared.image_step.ImageStep.{ImageStep}
 use Rattle.sd_rounds.specs.declared.image_step.ImageStep.TheVariants.{Call}
 use Rattle.sd_rounds.specs.Dumper.{Running}
-use Rattle.sd_rounds.specs.Making.{IsAskedBy, Making}
+use Rattle.sd_gate.specs.PlanUse.{IsAskedBy}
+use Rattle.sd_rounds.specs.Making.{Making}
 use Rattle.sd_rounds.specs.Pass.{data_pages}
 use Rattle.sd_crash_safety.specs.Believes.{Believes}
 use Rattle.sd_crash_safety.specs.Calls.{AreGivenUp, HandsOut, IsFree, MakesStep, running_number}
@@ -19,7 +20,7 @@ use Rattle.sd_core.proofs.ApplyLemmas.{same_phases}
 
 -- a device call is asked for
 pub hands_asked : (old new : CoreView) (running : Running) (image next : Making) (number : ℕ) (step : ImageStep) (request : Asked)
-    → AsksFor old running image number step request next new → IsAskedBy number request → request.id.slot < length old.phases
+    → AsksFor old running image number step request next new → IsAskedBy Dumper number request → request.id.slot < length old.phases
     → ((asked : List (Option Asked)) (bodies files : List (List ℕ)) → AsksFor old running image number step request next new → Believes old asked bodies files
     → Believes new (slice_set asked 0 (Some request)) bodies files)
     → HandsOut old Dumper request new
@@ -40,7 +41,7 @@ hands_asked old new running image next number step request a whose slot goes = r
 
 -- the write of a page
 pub hands_page : DumperSteps → (old new : CoreView) (running : Running) (image next : Making) (number lane : ℕ) (request : Asked)
-    → AsksToWrite old running image number lane request next new → IsAskedBy number request → request.id.slot < length old.phases
+    → AsksToWrite old running image number lane request next new → IsAskedBy Dumper number request → request.id.slot < length old.phases
     → ((other_lane : ℕ) (other : RequestId) → slice_get old.outs other_lane ≡ Some (Some other) → other.slot ≡ request.id.slot → 2 < other_lane)
     → HandsOut old Dumper request new
 hands_page steps old new running image next number lane request a whose slot beside = record {
@@ -87,7 +88,7 @@ freezes_it steps old new running image next number f = record {
 -- the next image begins, and asks for its first call
 pub begins_asking : DumperSteps → (old mid new : CoreView) (running : Running) (phase : Phase) (image next : Making) (number : ℕ) (request : Asked)
     → BeginsImage old running phase mid → AsksFor mid (record running { image = Some image }) image number (Call request) request next new
-    → IsAskedBy number request → request.id.slot < length old.phases → HandsOut old Dumper request new
+    → IsAskedBy Dumper number request → request.id.slot < length old.phases → HandsOut old Dumper request new
 begins_asking steps old mid new running phase image next number request b a whose slot = record {
   lane = 0;
   free = ap (λ outs. slice_get outs 0) (sym b.outs) ∙ a.free;

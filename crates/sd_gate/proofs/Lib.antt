@@ -9,3 +9,4 @@ mod PlanLemmas
 mod TakeLemmas
 mod LookLemmas
 mod CommuteLemmas
+pub mod UseLemmas

@@ -6,5 +6,6 @@ pub mod Phases
 pub mod Looks
 pub mod PlanRuns
 pub mod Plans
+pub mod PlanUse
 pub mod Sequences
 pub mod Requests

@@ -5,12 +5,12 @@ use Rattle.std.proofs.lemmas.Bool.{both_ways}
 use Rattle.sd_chain.specs.Catalog.{Places}
 use Rattle.sd_gate.specs.declared.slot_state.SlotState.{SlotState}
 use Rattle.sd_gate.specs.declared.slot_state.SlotState.TheVariants.{Raw, Closed, Open as OpenSlot, Writing}
-use Rattle.sd_gate.specs.Plans.{Gives, Planned, is_one, plan_after}
-use Rattle.sd_gate.specs.Requests.{Asked, Made}
+use Rattle.sd_gate.specs.Plans.{Planned, is_one, plan_after}
+use Rattle.sd_gate.specs.Requests.{Made}
 use Rattle.sd_gate.specs.Sequences.{Calls, format_calls}
-use Rattle.sd_rounds.specs.Left.{plan_left}
-use Rattle.sd_rounds.specs.Making.{IsUnderWay}
+use Rattle.sd_gate.specs.PlanUse.{plan_left, IsUnderWay}
 use Rattle.sd_rounds.specs.declared.new_image.NewImage.{NewImage}
+use Rattle.sd_gate.proofs.UseLemmas.{gives_fewer, one_plan, settled_fewer}
 use Rattle.sd_merge.specs.declared.merge_progress.MergeProgress.{MergeProgress}
 use Rattle.sd_merge.specs.declared.merge_progress.MergeProgress.TheVariants as progress
 use Rattle.sd_merge.specs.declared.merge_step.MergeStep.{MergeStep}
@@ -24,25 +24,6 @@ use Rattle.sd_merge.specs.Left.{LeftLaws, copy_left, doing_left, left_of, pages_
 use Rattle.sd_merge.specs.Merger.{AreRunning, CopiesOn, Doing, EndsOne, GoesOnWith, Hands, HandsAt, HandsClosing, HandsCopying, HandsTo, IsLastOf, IsHanded, IsRunning, IsRunningAt, Retires, Retiring, Running, StaysStrange, Works, WorksAt, awaited_in, copying, due, ends, is_strange, opened, order_of, retiring}
 
 -- ---- a plan
-
-one_plan : (a b : Planned) → Some a ≡ Some b → a ≡ b
-one_plan a b e = cc
-
--- a plan that gives out a call has one event less before it
-gives_fewer : (old new : Planned) (request : Asked) → Gives old new request → plan_left new + 1 ≡ plan_left old
-gives_fewer old new request g =
-    let calls : length old.calls ≡ length new.calls + 1 = ap (λ (c : Calls). length c) g.next ∙ omega arith in
-    let before : is_one old.out ≡ 0 = ap is_one g.free in
-    let after : is_one new.out ≡ 1 = ap is_one g.out in
-    omega arith
-
-out_one : (plan : Planned) (made : Made) → plan.out ≡ Some made.request.id → is_one plan.out ≡ 1
-out_one plan made e = ap is_one e
-
--- and so does one whose outcome is in
-settled_fewer : (plan : Planned) (made : Made) → plan.out ≡ Some made.request.id
-    → length (plan_after plan made).calls + 0 + 1 ≡ length plan.calls + is_one plan.out → plan_left (plan_after plan made) + 1 ≡ plan_left plan
-settled_fewer plan made out one = (let o : is_one plan.out ≡ 1 = out_one plan made out in omega arith)
 
 asked_fewer : (stage : Stage) (old new : Planned) (taking pages : ℕ) → plan_of stage ≡ Some old → plan_left new + 1 ≡ plan_left old
     → stage_left (with_plan stage new) taking pages < stage_left stage taking pages
@@ -165,7 +146,7 @@ goes_on_fewer old new made g =
 opens_some : (old : Copying) (made : Made) (one : NewImage) → Opens old made one → 0 < copy_left old
 opens_some old made one o =
     let is : copy_left old ≡ plan_left o.plan = ap (λ (s : Stage). stage_left s (is_taking old.taking) old.ahead) o.was in
-    let out : is_one o.plan.out ≡ 1 = out_one o.plan made o.out in
+    let out : is_one o.plan.out ≡ 1 = ap is_one o.out in
     omega arith
 
 -- an image of the list has something before it
@@ -225,7 +206,7 @@ goes_with_fewer old new made g =
 ends_fewer : (old new : Retiring) (made : Made) → IsLastOf old made → EndsOne old new → retiring_left new < retiring_left old
 ends_fewer old new made last e =
     next_fewer (plan_left old.plan) (6 * (length old.list - (old.ended + 1))) (length old.list) old.ended (retiring_left new)
-    (let o : is_one old.plan.out ≡ 1 = out_one old.plan made last.done.out in
+    (let o : is_one old.plan.out ≡ 1 = ap is_one last.done.out in
     let n : length (plan_after old.plan made).calls ≡ 0 = ap (λ (c : Calls). length c) last.last in
     let s : length (plan_after old.plan made).calls + 0 + 1 ≡ length old.plan.calls + is_one old.plan.out = last.done.one in
     omega arith)

@@ -18,7 +18,9 @@ use Rattle.sd_rounds.specs.Rises.{last_of}
 use Rattle.sd_merge.specs.declared.merge_step.MergeStep.{MergeStep}
 use Rattle.sd_merge.specs.declared.merge_step.MergeStep.TheVariants.{Call, ReadCall, PageCall, TableCall, Zero}
 use Rattle.sd_merge.specs.declared.stage.Stage.TheVariants.{Pass as PassStage}
-use Rattle.sd_merge.specs.Copying.{Copying, IsAskedBy, IsLost, IsNextAt, ReadsPage, Steps, TakesZero, WritesTable, cursor}
+use Rattle.sd_gate.specs.declared.worker.Worker.TheVariants.{Merger}
+use Rattle.sd_gate.specs.PlanUse.{IsAskedBy}
+use Rattle.sd_merge.specs.Copying.{Copying, IsLost, IsNextAt, ReadsPage, Steps, TakesZero, WritesTable, cursor}
 use Rattle.sd_merge.specs.PlanSteps.{IsReadCallOf, IsTableCallOf, IsZeroStep}
 
 -- ---- where a page lies
@@ -85,7 +87,7 @@ zero_step ticket places old new (TableCall request) at next is = absurd is.0
 zero_step ticket places old new Zero at next is = record { at = at; takes = is.1; next = next }
 
 pub read_step : (ticket : ℕ) (places : Places) (old new : Copying) (step : MergeStep) (at : Place) (slot place : ℕ) → (AreImages places → IsNextAt places old at (found.Data slot (data_place place)))
-    → IsReadCallOf (λ request. ReadsPage at slot place old request new × IsAskedBy ticket request) step → Steps ticket places old step new
+    → IsReadCallOf (λ request. ReadsPage at slot place old request new × IsAskedBy Merger ticket request) step → Steps ticket places old step new
 read_step ticket places old new (Call request) at slot place next is = absurd is
 read_step ticket places old new (ReadCall request) at slot place next is = (record { at = at; slot = slot; place = place; reads = is.0; next = next }, is.1)
 read_step ticket places old new (PageCall request) at slot place next is = absurd is
@@ -93,7 +95,7 @@ read_step ticket places old new (TableCall request) at slot place next is = absu
 read_step ticket places old new Zero at slot place next is = absurd is
 
 pub table_step : (ticket : ℕ) (places : Places) (old new : Copying) (step : MergeStep) → (AreImages places → IsNextPage places old.order.source.serial (cursor old) None)
-    → IsTableCallOf (λ request. WritesTable places old request new × IsAskedBy ticket request) step → Steps ticket places old step new
+    → IsTableCallOf (λ request. WritesTable places old request new × IsAskedBy Merger ticket request) step → Steps ticket places old step new
 table_step ticket places old new (Call request) over is = absurd is
 table_step ticket places old new (ReadCall request) over is = absurd is
 table_step ticket places old new (PageCall request) over is = absurd is

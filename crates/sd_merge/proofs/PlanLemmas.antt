@@ -1,14 +1,13 @@
 -- A plan that a merged image begins, and what holds of the image then.
-use Rattle.std.proofs.Common.{◌≡◌, ℕ, ◌+◌, ◌<◌, ◌≤◌, ◌^◌, List, length, Option, Some, None, refl, sym, ◌∙◌, ap, subst, arith}
+use Rattle.std.proofs.Common.{◌≡◌, ℕ, ◌+◌, ◌<◌, ◌≤◌, ◌^◌, List, length, Option, None, sym, ap, subst, arith}
 use Rattle.sd_gate.specs.Inspections.{nothing}
-use Rattle.sd_gate.specs.PlanRuns.{AreChanges}
-use Rattle.sd_gate.specs.Plans.{Gives, Planned, begun}
-use Rattle.sd_gate.specs.Requests.{Asked}
-use Rattle.sd_gate.specs.Sequences.{Calls, IsBody, body_calls}
+use Rattle.sd_gate.specs.Plans.{Planned, begun}
+use Rattle.sd_gate.specs.Sequences.{IsBody, body_calls}
 use Rattle.sd_image.specs.declared.header.Header.{Header}
 use Rattle.sd_image.specs.Table.{Listed, table_text}
 use Rattle.sd_image.specs.Words.{number_bytes}
-use Rattle.sd_rounds.specs.Making.{IsUnderWay}
+use Rattle.sd_gate.specs.PlanUse.{IsUnderWay}
+use Rattle.sd_gate.proofs.UseLemmas.{body_under_way}
 use Rattle.sd_rounds.specs.Pass.{Entry, Place}
 use Rattle.sd_merge.specs.declared.copy_order.CopyOrder.{CopyOrder}
 use Rattle.sd_merge.specs.declared.stage.Stage.{Stage}
@@ -19,20 +18,6 @@ use Rattle.sd_merge.specs.Copying.{IsFree, IsFreeOrRead, IsReadyFor, header_of}
 table_is_long : (spaces : List Listed) → 0 < length (table_text spaces)
 unfolding table_text number_bytes
 table_is_long spaces = omega arith
-
-pub gives_under_way : (old new : Planned) (request : Asked) → IsUnderWay old → Gives old new request → IsUnderWay new
-gives_under_way old new request under g = record {
-  known = g.same_awaits ∙ under.known;
-  changes = (subst AreChanges g.next under.changes).1;
-  some = λ free none. absurd (let e : None ≡ Some request.id = sym free ∙ g.out in cc);
-}
-
-body_under_way : (slot : ℕ) (header : Header) (table : List ℕ) → IsUnderWay (begun slot (body_calls header table) nothing)
-body_under_way slot header table = record {
-  known = refl;
-  changes = (tt, (tt, (tt, (tt, (tt, tt)))));
-  some = λ free none. absurd (let f : 5 ≡ 0 = ap (λ (c : Calls). length c) none in omega (arith, f));
-}
 
 -- few data pages, and a table
 pub is_body : (order : CopyOrder) (header : Header) (text : List ℕ) (tables : List Listed) (stored taking ahead len : ℕ) (digest : List ℕ) → header ≡ header_of order stored len digest

@@ -21,10 +21,10 @@ use Rattle.sd_gate.specs.declared.worker.Worker.TheVariants.{Merger}
 use Rattle.sd_gate.specs.Calls.{is_done}
 use Rattle.sd_gate.specs.Inspections.{nothing}
 use Rattle.sd_gate.specs.Plans.{Gives, Planned, begun, nothing_back, plan_after}
+use Rattle.sd_gate.specs.PlanUse.{IsAskedBy, IsUnderWay, outcomes_of}
 use Rattle.sd_gate.specs.Requests.{Asked, Made}
 use Rattle.sd_gate.specs.Sequences.{Calls, body_calls, data_place, format_calls}
 use Rattle.sd_rounds.specs.declared.new_image.NewImage.{NewImage}
-use Rattle.sd_rounds.specs.Making.{IsUnderWay, outcomes_of}
 use Rattle.sd_rounds.specs.Pass.{Entry, Place, data_pages}
 use Rattle.sd_rounds.specs.Rises.{last_of}
 use Rattle.sd_merge.specs.declared.copy_order.CopyOrder.{CopyOrder}
@@ -95,11 +95,6 @@ out_of (PageWrite plan) = plan.out
 out_of (Close plan header tables) = plan.out
 
 -- ---- Steps
-
--- the merger's, with its ticket
-pub record IsAskedBy (number : ℕ) (request : Asked) : Type 0 where
-  pub worker : request.id.worker ≡ Merger
-  pub ticket : request.id.ticket ≡ number
 
 -- the next call of the plan is asked for
 pub record Asks (old : Copying) (request : Asked) (new : Copying) : Type 0 where
@@ -200,10 +195,12 @@ pub record StepsTable (places : Places) (old : Copying) (request : Asked) (new :
 
 -- what a step does, with this ticket
 abbrev pub Steps : ℕ → Places → Copying → MergeStep → Copying → Type 0
-Steps ticket places old (step.Call request) new = Asks old request new × IsAskedBy ticket request
-Steps ticket places old (step.ReadCall request) new = StepsRead places old request new × IsAskedBy ticket request
-Steps ticket places old (step.PageCall request) new = WritesPage old request new × IsAskedBy ticket request
-Steps ticket places old (step.TableCall request) new = StepsTable places old request new × IsAskedBy ticket request
+Steps ticket places old (step.Call request) new = Asks old request new × IsAskedBy Merger ticket request
+Steps ticket places old (step.ReadCall request) new =
+    StepsRead places old request new × IsAskedBy Merger ticket request
+Steps ticket places old (step.PageCall request) new = WritesPage old request new × IsAskedBy Merger ticket request
+Steps ticket places old (step.TableCall request) new =
+    StepsTable places old request new × IsAskedBy Merger ticket request
 Steps ticket places old step.Zero new = StepsZero places old new
 
 -- no image of the catalog has the serial

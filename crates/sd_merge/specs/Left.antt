@@ -3,7 +3,7 @@ use Rattle.std.specs.Prelude.{◌≡◌, ◌↔◌, ℕ, ◌+◌, ◌*◌, ◌-�
 use Rattle.sd_chain.specs.Catalog.{Places}
 use Rattle.sd_gate.specs.declared.slot_state.SlotState.{SlotState}
 use Rattle.sd_gate.specs.Requests.{Made}
-use Rattle.sd_rounds.specs.Left.{plan_left}
+use Rattle.sd_gate.specs.PlanUse.{plan_left}
 use Rattle.sd_merge.specs.declared.merge_progress.MergeProgress.{MergeProgress}
 use Rattle.sd_merge.specs.declared.merge_step.MergeStep.{MergeStep}
 use Rattle.sd_merge.specs.declared.retired.Retired.{Retired}

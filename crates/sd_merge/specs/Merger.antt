@@ -11,7 +11,8 @@ use Rattle.sd_gate.specs.Plans.{Gives, Planned, begun, plan_after}
 use Rattle.sd_gate.specs.Requests.{Asked, Made}
 use Rattle.sd_gate.specs.Sequences.{closing_calls}
 use Rattle.sd_rounds.specs.declared.new_image.NewImage.{NewImage}
-use Rattle.sd_rounds.specs.Making.{IsUnderWay, outcomes_of}
+use Rattle.sd_gate.specs.declared.worker.Worker.TheVariants.{Merger}
+use Rattle.sd_gate.specs.PlanUse.{IsAskedBy, IsUnderWay, outcomes_of}
 use Rattle.sd_merge.specs.declared.closing.Closing.{Closing}
 use Rattle.sd_merge.specs.declared.copy_order.CopyOrder.{CopyOrder}
 use Rattle.sd_merge.specs.declared.copy_progress.CopyProgress.{CopyProgress}
@@ -26,7 +27,7 @@ use Rattle.sd_merge.specs.declared.merge_step.MergeStep.TheVariants as step
 use Rattle.sd_merge.specs.declared.retired.Retired.{Retired}
 use Rattle.sd_merge.specs.declared.source.Source.{Source}
 use Rattle.sd_merge.specs.declared.stage.Stage.TheVariants.{Pass as PassStage}
-use Rattle.sd_merge.specs.Copying.{Copying, HandsIn, IsAskedBy, IsLost, IsSoundCopying, Steps, begun_copy, out_of}
+use Rattle.sd_merge.specs.Copying.{Copying, HandsIn, IsLost, IsSoundCopying, Steps, begun_copy, out_of}
 
 -- the images of a merge's list: how many are behind, and the calls on the one that is being closed
 pub record Retiring : Type 0 where
@@ -86,7 +87,7 @@ pub record RetiresOn (ticket : ℕ) (old : Retiring) (made : MergeStep) (new : D
   pub call : made ≡ step.Call request
   pub next : Planned
   pub gives : Gives old.plan next request
-  pub asked : IsAskedBy ticket request
+  pub asked : IsAskedBy Merger ticket request
   pub is : new ≡ retiring (record old { plan = next })
 
 abbrev pub WorksAt : ℕ → SlotState → ℕ → Places → Running → Doing → MergeStep → Doing → Type 0

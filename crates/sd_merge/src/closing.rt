@@ -1,14 +1,12 @@
 //! The images of a merge's list are closed, one after the other.
 ghost use Rattle.std.specs.Prelude.{◌≡◌, ◌<◌, length};
-ghost use Rattle.sd_rounds.specs.Left.{plan_left};
-ghost use Rattle.sd_rounds.specs.Making.{IsUnderWay};
+ghost use Rattle.sd_gate.specs.PlanUse.{plan_left, IsUnderWay};
 ghost use Rattle.sd_merge.specs.Merger.{Ends, HandsClosing, retiring_of};
 ghost use Rattle.sd_merge.specs.Left.{retiring_left};
 
 use crate::merge_progress::MergeProgress;
-use crate::plans::{plan_left, settle};
 use crate::retired::Retired;
-use sd_gate::{Call, Outcome, Plan, Settled};
+use sd_gate::{Call, Outcome, Plan, Settled, plan_left, settle};
 
 /// The images that a merge closes once its own is open.
 #[derive(Debug, Drop)]

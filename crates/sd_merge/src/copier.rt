@@ -5,6 +5,7 @@ ghost use Rattle.sha2.specs.Sha256.{sha256};
 ghost use Rattle.sd_image.specs.Digests.{HasFed};
 ghost use Rattle.sd_image.specs.Header.{HasWords, header_front};
 ghost use Rattle.sd_gate.specs.declared.call.Call.TheVariants.{Read};
+ghost use Rattle.sd_gate.specs.declared.worker.Worker.TheVariants.{Merger};
 ghost use Rattle.sd_gate.specs.Calls.{is_done};
 ghost use Rattle.sd_gate.specs.Inspections.{nothing};
 ghost use Rattle.sd_gate.specs.Plans.{Gives, begun};
@@ -13,7 +14,8 @@ ghost use Rattle.sd_chain.specs.Passes.{IsBehind, IsNextPage};
 ghost use Rattle.sd_chain.specs.Ways.{AreImages};
 ghost use Rattle.sd_merge.specs.declared.stage.Stage.TheVariants.{Pass as PassStage};
 ghost use Rattle.sd_merge.specs.declared.work_error.WorkError.TheVariants.{Busy, Idle, Lost, OutOfMemory};
-ghost use Rattle.sd_merge.specs.Copying.{IsAskedBy, IsLost, IsAbsent, IsReading, IsSoundCopying, ReadsPage, Steps};
+ghost use Rattle.sd_gate.specs.PlanUse.{IsAskedBy};
+ghost use Rattle.sd_merge.specs.Copying.{IsLost, IsAbsent, IsReading, IsSoundCopying, ReadsPage, Steps};
 ghost use Rattle.sd_merge.specs.Copying.{TakesZero, WritesPage, WritesTable, begun_copy, cursor, header_of, out_of};
 ghost use Rattle.sd_merge.specs.Copying.{page_of};
 ghost use Rattle.sd_merge.specs.Left.{copy_left};
@@ -22,13 +24,13 @@ ghost use Rattle.sd_merge.specs.PlanSteps.{IsPageCallOf, IsReadCallOf, IsTableCa
 use crate::copies::Copies;
 use crate::copy_order::CopyOrder;
 use crate::merge_step::MergeStep;
-use crate::plans::{ask, first_request, plan_left, settle};
+use crate::plans::next_call;
 use crate::source::PAGE_LIMIT;
 use crate::stage::Stage;
 use crate::work_error::WorkError;
 use sd_areas::{PAGE_SIZE, PageNo, SpaceId};
 use sd_chain::{Catalog, Found, PlacedTable};
-use sd_gate::{Outcome, Plan, Request, Settled, Worker};
+use sd_gate::{Outcome, Plan, Request, Settled, Worker, ask, plan_left};
 use sd_image::{Digester, Header, Kind, RunKind, Version, encode_table, few_pages};
 use sd_rounds::{digest_page, with_digest};
 use std::alloc::{AllocError, Global};
@@ -123,7 +125,7 @@ fn read_request(slot: usize, place: usize, buffer: Vec<u8>, ticket: u64) -> Opti
     requires whole { length buffer.items ≡ 4096 }
     ensures gives { IfSome result (λ read. Gives
         (begun slot ((Read (data_place place), buffer.items) ∷ []) nothing) read.0 read.1
-        × IsReading read.0 × IsAskedBy ticket read.1) }
+        × IsReading read.0 × IsAskedBy Merger ticket read.1) }
     ensures none { IsNone result → 2 ^ 39 ≤ place }
 {
     let mut plan = Plan::read_page(slot, place, buffer);
@@ -168,10 +170,10 @@ impl Copier {
     {
         match &mut self.stage {
             Stage::Pass => self.pass(catalog, ticket),
-            Stage::Format(plan) => ask(plan, ticket),
+            Stage::Format(plan) => next_call(plan, ticket),
             Stage::PageRead(_) => Err(WorkError::Busy),
-            Stage::PageWrite(plan) => ask(plan, ticket),
-            Stage::Close { plan, .. } => ask(plan, ticket),
+            Stage::PageWrite(plan) => next_call(plan, ticket),
+            Stage::Close { plan, .. } => next_call(plan, ticket),
         }
     }
 
@@ -256,7 +258,7 @@ impl Copier {
         requires behind { IsBehind (cursor self.old) (space, page) }
         ensures read { IfOk result (IsReadCallOf
             (λ request. ReadsPage (space, page) slot place self.old request self.new
-            × IsAskedBy ticket request)) }
+            × IsAskedBy Merger ticket request)) }
         ensures beyond { result ≡ Err Lost → 2 ^ 39 ≤ place }
         ensures errors { IfErr result (λ e. (e ≢ Idle) × (e ≢ Busy)) }
         ensures err { OnErr result (self.new ≡ self.old) }
@@ -283,7 +285,7 @@ impl Copier {
         requires stage { self.old.stage ≡ PassStage }
         requires taking { self.old.taking ≡ Some (space, page) }
         ensures page { IfOk result (IsPageCallOf (λ request. WritesPage self.old request self.new
-            × IsAskedBy ticket request)) }
+            × IsAskedBy Merger ticket request)) }
         ensures errors { IfErr result (λ e. e ≡ OutOfMemory) }
         ensures err { OnErr result (self.new ≡ self.old) }
     {
@@ -297,7 +299,7 @@ impl Copier {
         };
         digest_page(&mut self.digester, &buffer);
         let mut plan = Plan::write_page(self.order.slot, self.stored, buffer);
-        let request = first_request(&mut plan, ticket);
+        let request = ask(&mut plan, Worker::Merger, ticket);
         self.stored += 1;
         self.taking = None;
         self.stage = Stage::PageWrite(plan);
@@ -309,7 +311,7 @@ impl Copier {
         requires stage { self.old.stage ≡ PassStage }
         requires free { self.old.taking ≡ None }
         ensures table { IfOk result (IsTableCallOf (λ request. WritesTable catalog.now self.old request self.new
-            × IsAskedBy ticket request)) }
+            × IsAskedBy Merger ticket request)) }
         ensures lost { result ≡ Err Lost → IsAbsent catalog.now self.old.order.source.serial }
         ensures errors { IfErr result (λ e. (e ≢ Idle) × (e ≢ Busy)) }
         ensures err { OnErr result (self.new ≡ self.old) }
@@ -323,7 +325,7 @@ impl Copier {
         let header = merged_header(self.order, self.stored as u64, digester, &text);
         let table = PlacedTable::new(self.alloc, table)?;
         let mut plan = Plan::close_body(self.order.slot, header, text);
-        let request = first_request(&mut plan, ticket);
+        let request = ask(&mut plan, Worker::Merger, ticket);
         self.stage = Stage::Close {
             plan,
             header,

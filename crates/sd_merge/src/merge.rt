@@ -13,7 +13,7 @@ use crate::job::Job;
 use crate::merge_progress::MergeProgress;
 use crate::merge_step::MergeStep;
 use crate::next_image::NextImage;
-use crate::plans::ask;
+use crate::plans::next_call;
 use crate::source::{PAGE_LIMIT, Source};
 use crate::work_error::WorkError;
 use sd_chain::Catalog;
@@ -72,7 +72,7 @@ impl Merge {
             }
             Job::Copying(copier) => copier.work(catalog, ticket),
             Job::Opened(_) => Err(WorkError::Busy),
-            Job::Closing(closing) => ask(&mut closing.plan, ticket),
+            Job::Closing(closing) => next_call(&mut closing.plan, ticket),
         }
     }
 

@@ -22,10 +22,13 @@ use Rattle.sd_rounds.specs.declared.stage.Stage.{Stage}
 use Rattle.std.specs.declared.alloc.AllocError.{AllocError}
 use Rattle.sd_rounds.specs.declared.stage.Stage.TheVariants.{Format, Freeze, Pass as PassStage, Close}
 use Rattle.sd_rounds.specs.Dumper.{AreRunning, AreCounted, Dumping, Hands, HandsTo, IsHanded, HasCounted, IsCounted, IsItsImage, IsRunning, Running, WorksOn, counted, ends, freezes, image_from, is_frozen_image, is_strange, order_of, running_of}
-use Rattle.sd_rounds.specs.Making.{GoesOn, IsWritten, Making, Steps, closing, is_frozen, is_past_freeze, outcomes_left, outcomes_of, plan_of, stage_after, stage_behind, with_plan}
+use Rattle.sd_gate.specs.PlanUse.{outcomes_of}
+use Rattle.sd_rounds.specs.Making.{GoesOn, IsWritten, Making, Steps, closing, is_frozen, is_past_freeze, outcomes_left}
+use Rattle.sd_rounds.specs.Making.{plan_of, stage_after, stage_behind, with_plan}
 use Rattle.sd_rounds.specs.Pass.{data_pages}
 use Rattle.sd_rounds.specs.PlanSteps.{is_freeze, is_to_freeze}
 use Rattle.sd_rounds.specs.Writes.{writes_out}
+use Rattle.sd_gate.proofs.UseLemmas.{one_plan}
 use Rattle.sd_rounds.proofs.MakingLemmas.{copy_counts, take_counts, visit_counts}
 use Rattle.sd_rounds.proofs.WriteLemmas.{none_count, put_count, take_count}
 
@@ -71,9 +74,6 @@ closing_with (Format old) plan = refl
 closing_with Freeze plan = refl
 closing_with PassStage plan = refl
 closing_with (Close old header tables) plan = refl
-
-one_plan : (a b : Planned) → Some a ≡ Some b → a ≡ b
-one_plan a b e = cc
 
 left_of : (stage : Stage) (plan : Planned) → plan_of stage ≡ Some plan → outcomes_left stage ≡ outcomes_of plan
 left_of (Format old) plan e = ap outcomes_of (one_plan old plan e)

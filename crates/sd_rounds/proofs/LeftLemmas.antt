@@ -8,8 +8,8 @@ use Rattle.sd_image.specs.declared.header.Kind.{Kind}
 use Rattle.sd_image.specs.declared.header.Kind.TheVariants.{Dump, Merged, PreDump}
 use Rattle.sd_gate.specs.declared.slot_state.SlotState.{SlotState}
 use Rattle.sd_gate.specs.declared.slot_state.SlotState.TheVariants.{Raw, Closed, Open as OpenSlot, Writing}
-use Rattle.sd_gate.specs.Plans.{Gives, Planned, is_one, plan_after}
-use Rattle.sd_gate.specs.Requests.{Asked, Made}
+use Rattle.sd_gate.specs.Plans.{Planned, is_one, plan_after}
+use Rattle.sd_gate.specs.Requests.{Made}
 use Rattle.sd_gate.specs.Sequences.{Calls, format_calls}
 use Rattle.sd_pagetable.specs.Contents.{Contents, plain_of}
 use Rattle.sd_pagetable.specs.Law.{PlainLaw}
@@ -24,26 +24,18 @@ use Rattle.sd_rounds.specs.declared.stage.Stage.{Stage}
 use Rattle.sd_rounds.specs.declared.stage.Stage.TheVariants.{Format, Freeze, Pass as PassStage, Close}
 use Rattle.sd_rounds.specs.declared.visit.Visit.{Visit}
 use Rattle.sd_rounds.specs.Dumper.{Dumping, Hands, HandsTo, IsHanded, Running, Works, WorksOn, ends, image_from, is_strange}
-use Rattle.sd_rounds.specs.Left.{LeftLaws, image_left, left_of, making_left, next_left, pages_ahead, pass_left, plan_left, running_left, stage_left, taking_left}
+use Rattle.sd_gate.specs.PlanUse.{plan_left}
+use Rattle.sd_rounds.specs.Left.{LeftLaws, image_left, left_of, making_left, next_left, pages_ahead, pass_left}
+use Rattle.sd_rounds.specs.Left.{running_left, stage_left, taking_left}
 use Rattle.sd_rounds.specs.Making.{GoesOn, IsWritten, Making, Opens, Steps, closing, is_passing, plan_of, stage_after, stage_behind, with_plan}
 use Rattle.sd_rounds.specs.Pass.{Pass, begun_to_take, left_to_parent, opened, sector_of, visited}
 use Rattle.sd_rounds.specs.Rounds.{Copies, Tests}
 use Rattle.sd_rounds.specs.Writes.{writes_out}
+use Rattle.sd_gate.proofs.UseLemmas.{gives_fewer, one_plan, settled_fewer}
 use Rattle.sd_rounds.proofs.AheadLemmas.{next_ahead}
 use Rattle.sd_rounds.proofs.WriteLemmas.{put_count, take_count}
 
 -- ---- a step of an image
-
--- a plan that gives out a call has one event less before it
-gives_fewer : (old new : Planned) (request : Asked) → Gives old new request → plan_left new + 1 ≡ plan_left old
-gives_fewer old new request g =
-    let calls : length old.calls ≡ length new.calls + 1 = ap (λ (c : Calls). length c) g.next ∙ omega arith in
-    let before : is_one old.out ≡ 0 = ap is_one g.free in
-    let after : is_one new.out ≡ 1 = ap is_one g.out in
-    omega arith
-
-one_plan : (a b : Planned) → Some a ≡ Some b → a ≡ b
-one_plan a b e = cc
 
 asked_fewer : (stage : Stage) (old new : Planned) (pass : ℕ) → plan_of stage ≡ Some old → plan_left new + 1 ≡ plan_left old → stage_left (with_plan stage new) pass < stage_left stage pass
 asked_fewer (Format plan) old new pass is fewer = (let same : plan_left plan ≡ plan_left old = ap plan_left (one_plan plan old is) in omega arith)
@@ -181,14 +173,6 @@ works_fewer law serial state ticket old new before after step w =
 
 -- ---- an outcome
 
-out_one : (plan : Planned) (made : Made) → plan.out ≡ Some made.request.id → is_one plan.out ≡ 1
-out_one plan made e = ap is_one e
-
--- an outcome of the request that is out leaves one event less
-settled_fewer : (plan : Planned) (made : Made) → plan.out ≡ Some made.request.id
-    → length (plan_after plan made).calls + 0 + 1 ≡ length plan.calls + is_one plan.out → plan_left (plan_after plan made) + 1 ≡ plan_left plan
-settled_fewer plan made out one = (let o : is_one plan.out ≡ 1 = out_one plan made out in omega arith)
-
 goes_on_fewer : (old new : Making) (made : Made) (memory : PlainMemory) → GoesOn old made new → image_left new memory < image_left old memory
 goes_on_fewer old new made memory g =
     subst (λ (m : Making). image_left m memory < image_left old memory) (sym g.is)
@@ -228,7 +212,7 @@ more_fewer old new made memory (inr w) = written_fewer old new made memory w.pas
 opens_some : (old : Making) (made : Made) (memory : PlainMemory) (image : NewImage) → Opens old made image → 0 < image_left old memory
 opens_some old made memory image o =
     let is : image_left old memory ≡ plan_left o.plan = ap (λ (s : Stage). stage_left s (pass_left old.pass memory + writes_out old.writes)) o.was in
-    let one : is_one o.plan.out ≡ 1 = out_one o.plan made o.out in
+    let one : is_one o.plan.out ≡ 1 = ap is_one o.out in
     omega arith
 
 some_left : (running : Running) (memory : PlainMemory) → 0 < running_left running memory

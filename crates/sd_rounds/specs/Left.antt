@@ -4,7 +4,7 @@ use Rattle.std.specs.List.{count_by, flat_map}
 use Rattle.std.specs.FinMap as finmap
 use Rattle.sd_areas.specs.PlainMemory.{PlainMemory, Space}
 use Rattle.sd_gate.specs.declared.slot_state.SlotState.{SlotState}
-use Rattle.sd_gate.specs.Plans.{Planned, is_one}
+use Rattle.sd_gate.specs.PlanUse.{plan_left}
 use Rattle.sd_gate.specs.Requests.{Made}
 use Rattle.sd_pagetable.specs.Contents.{Contents, plain_of}
 use Rattle.sd_pagetable.specs.Order.{is_above}
@@ -37,10 +37,6 @@ taking_left (Some taking) = (8 - length taking.copied / 512) + 2
 -- each page ahead is visited, copied in eight sectors, and written by a request with an outcome
 abbrev pub pass_left : Pass → PlainMemory → ℕ
 pass_left pass memory = 11 * pages_ahead pass.after memory + taking_left pass.taking
-
--- a request and an outcome for each call that is left, and the outcome of the request that is out
-abbrev pub plan_left : Planned → ℕ
-plan_left plan = 2 * length plan.calls + is_one plan.out
 
 -- an image whose pass, with the writes that are out, has so much before it: behind the format comes the freeze, and
 -- behind the pass five calls close the body

@@ -16,8 +16,8 @@ use Rattle.sd_gate.specs.declared.request_id.RequestId.{RequestId}
 use Rattle.sd_gate.specs.declared.worker.Worker.TheVariants.{Dumper}
 use Rattle.sd_gate.specs.Calls.{is_done}
 use Rattle.sd_gate.specs.Inspections.{nothing}
-use Rattle.sd_gate.specs.PlanRuns.{AreChanges}
-use Rattle.sd_gate.specs.Plans.{Gives, Planned, begun, is_one, plan_after}
+use Rattle.sd_gate.specs.Plans.{Gives, Planned, begun, plan_after}
+use Rattle.sd_gate.specs.PlanUse.{IsAskedBy, IsUnderWay, outcomes_of}
 use Rattle.sd_gate.specs.Requests.{Asked, Made}
 use Rattle.sd_gate.specs.Sequences.{Calls, body_calls, data_place, format_calls}
 use Rattle.sd_pagetable.specs.Contents.{Contents, page_at, plain_of}
@@ -76,10 +76,7 @@ is_past_freeze (Close plan header tables) = true
 abbrev pub is_frozen : Making → Bool
 is_frozen making = (kind_number making.order.kind == 2) && is_past_freeze making.stage
 
--- how many outcomes of a plan are still to be handed in
-abbrev pub outcomes_of : Planned → ℕ
-outcomes_of plan = length plan.calls + is_one plan.out
-
+-- how many outcomes of its plan are still to be handed in
 abbrev pub outcomes_left : Stage → ℕ
 outcomes_left (Format plan) = outcomes_of plan
 outcomes_left Freeze = 0
@@ -92,12 +89,6 @@ closing (Format plan) = 0
 closing Freeze = 0
 closing PassStage = 0
 closing (Close plan header tables) = 5
-
--- calls of the plan are left or out, and they only change the slot
-pub record IsUnderWay (plan : Planned) : Type 0 where
-  pub known : plan.awaits ≡ nothing
-  pub changes : AreChanges plan.calls
-  pub some : plan.out ≡ None → plan.calls ≢ []
 
 -- what holds of an image's pass in each stage: none was made before it is due
 abbrev pub IsReadyFor : ImageOrder → Pass → Stage → Type 0
@@ -150,11 +141,6 @@ stage_behind kind PassStage = PassStage
 stage_behind kind (Close plan header tables) = PassStage
 
 -- ---- Steps
-
--- the dumper's, with its ticket
-pub record IsAskedBy (number : ℕ) (request : Asked) : Type 0 where
-  pub worker : request.id.worker ≡ Dumper
-  pub ticket : request.id.ticket ≡ number
 
 -- the next call of the plan is asked for
 pub record Asks (old : Making) (request : Asked) (new : Making) : Type 0 where
@@ -251,11 +237,12 @@ pub record Freezes (old new : Making) : Type 0 where
 
 -- what a step does, with this ticket; only a visit changes the memory
 abbrev pub Steps : ℕ → Making → Contents → ImageStep → Making → Contents → Type 0
-Steps ticket old before (Call request) new after = Asks old request new × IsAskedBy ticket request × (after ≡ before)
+Steps ticket old before (Call request) new after =
+    Asks old request new × IsAskedBy Dumper ticket request × (after ≡ before)
 Steps ticket old before (PageCall lane request) new after =
-    WritesPage old lane request new × IsAskedBy ticket request × (after ≡ before)
+    WritesPage old lane request new × IsAskedBy Dumper ticket request × (after ≡ before)
 Steps ticket old before (TableCall request) new after =
-    WritesTable old before request new × IsAskedBy ticket request × (after ≡ before)
+    WritesTable old before request new × IsAskedBy Dumper ticket request × (after ≡ before)
 Steps ticket old before Frozen new after = Freezes old new × (after ≡ before)
 Steps ticket old before (Visited visit) new after = Visits old before visit new after
 Steps ticket old before (Copied copied) new after = CopiesSector old before copied new × (after ≡ before)

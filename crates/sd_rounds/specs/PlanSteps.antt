@@ -1,11 +1,6 @@
--- What the functions of an image in the making promise of its plans to one another.
-use Rattle.std.specs.Prelude.{◌≡◌, ◌≢◌, ℕ, ◌+◌, Bool, true, false, [], Option, Some, None}
-use Rattle.sd_gate.specs.declared.settled.Settled.{Settled}
-use Rattle.sd_gate.specs.declared.settled.Settled.TheVariants.{More as PlanMore, Finished as PlanFinished}
-use Rattle.sd_gate.specs.declared.settled.Settled.TheVariants.{Failed as PlanFailed, Strange as PlanStrange}
-use Rattle.sd_gate.specs.Calls.{is_done}
-use Rattle.sd_gate.specs.Plans.{Planned, plan_after}
-use Rattle.sd_gate.specs.Requests.{Asked, Made}
+-- What the functions of an image in the making promise one another.
+use Rattle.std.specs.Prelude.{◌≡◌, ℕ, Bool, true, false, Option, Some, None}
+use Rattle.sd_gate.specs.Requests.{Asked}
 use Rattle.sd_rounds.specs.declared.image_step.ImageStep.{ImageStep}
 use Rattle.sd_rounds.specs.declared.image_step.ImageStep.TheVariants.{Call, PageCall, TableCall, Frozen, Visited}
 use Rattle.sd_rounds.specs.declared.image_step.ImageStep.TheVariants.{Copied}
@@ -15,17 +10,8 @@ use Rattle.sd_pagetable.specs.Contents.{Contents}
 use Rattle.sd_pagetable.specs.Order.{IsNextPage}
 use Rattle.sd_rounds.specs.declared.pass_step.PassStep.{PassStep}
 use Rattle.sd_rounds.specs.declared.pass_step.PassStep.TheVariants.{Visited as PageVisited, Copied as SectorCopied}
-use Rattle.sd_rounds.specs.Making.{IsUnderWay, Making, outcomes_of}
+use Rattle.sd_rounds.specs.Making.{Making}
 use Rattle.sd_rounds.specs.Rounds.{IsCopying}
-
--- what the outcome of the request that is out is to a plan
-abbrev pub Settles : Planned → Made → Settled → Planned → Type 0
-Settles old made PlanMore new = (is_done made.answer ≡ true) × (new ≡ plan_after old made) × (new.calls ≢ [])
-    × IsUnderWay new × (outcomes_of new + 1 ≡ outcomes_of old)
-Settles old made PlanFinished new = (is_done made.answer ≡ true) × (new ≡ plan_after old made) × (new.calls ≡ [])
-    × (outcomes_of new + 1 ≡ outcomes_of old)
-Settles old made PlanFailed new = is_done made.answer ≡ false
-Settles old made PlanStrange new = ⊥
 
 abbrev pub at_stage : Making → Stage → Making
 at_stage making stage = record making { stage = stage }

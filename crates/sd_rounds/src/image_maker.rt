@@ -1,16 +1,18 @@
 //! One image in the making: its slot is formatted, the pages of a memory are passed, and its gate is opened.
-ghost use Rattle.std.specs.Prelude.{◌≡◌, ◌≢◌, ℕ, ◌<◌, ◌≤◌, ◌^◌, None, Some, IsSome, IsErr, false, IfOk, OnErr};
+ghost use Rattle.std.specs.Prelude.{◌≡◌, ◌≢◌, ℕ, ◌<◌, ◌≤◌, ◌^◌, None, Some, IsErr, false, IfOk, OnErr};
 ghost use Rattle.std.specs.Prelude.{MatchOption, length, replicate, slice_get};
 ghost use Rattle.sd_image.specs.Header.{HasWords};
-ghost use Rattle.sd_gate.specs.Plans.{Gives, Planned};
+ghost use Rattle.sd_gate.specs.Plans.{Planned};
 ghost use Rattle.sd_gate.specs.Sequences.{data_place};
 ghost use Rattle.sd_gate.specs.declared.call.Call.TheVariants.{Write};
+ghost use Rattle.sd_gate.specs.declared.worker.Worker.TheVariants.{Dumper};
 ghost use Rattle.sd_rounds.specs.declared.stage.Stage.TheVariants.{Format, Pass as PassStage};
 ghost use Rattle.sd_pagetable.specs.Contents.{Contents, plain_of};
-ghost use Rattle.sd_rounds.specs.Left.{image_left, plan_left};
-ghost use Rattle.sd_rounds.specs.Making.{IsAskedBy, IsUnderWay, Steps, WritesPage, begun_image, header_of, is_frozen};
+ghost use Rattle.sd_gate.specs.PlanUse.{IsAskedBy};
+ghost use Rattle.sd_rounds.specs.Left.{image_left};
+ghost use Rattle.sd_rounds.specs.Making.{Steps, WritesPage, begun_image, header_of, is_frozen};
 ghost use Rattle.sd_rounds.specs.Making.{out_of, stage_behind};
-ghost use Rattle.sd_rounds.specs.PlanSteps.{HasNoPage, IsPageCallOf, Settles, image_step, is_freeze};
+ghost use Rattle.sd_rounds.specs.PlanSteps.{HasNoPage, IsPageCallOf, image_step, is_freeze};
 ghost use Rattle.sd_rounds.specs.Pass.{data_pages};
 ghost use Rattle.sd_rounds.specs.Room.{ImageWants};
 ghost use Rattle.sd_rounds.specs.Rounds.{IsCopied};
@@ -27,7 +29,7 @@ use crate::pass_step::PassStep;
 use crate::round::Round;
 use crate::stage::Stage;
 use crate::standing::Standing;
-use sd_gate::{Outcome, Plan, Request, RequestId, Settled, Worker};
+use sd_gate::{Plan, Request, RequestId, Worker, ask, plan_left};
 use sd_image::{Digester, Header, Kind, Version};
 use sd_pagetable::{Memory, plain_law};
 use std::alloc::{AllocError, Global};
@@ -61,31 +63,6 @@ impl Model for ImageMaker {
     ghost invariant = { λ m. IsMaking m.order m.round m.stored m.stage m.writes };
 }
 
-/// The next request of a plan that reads nothing, and so takes no memory. None where one is out.
-fn next_request(plan: &mut Plan, ticket: u64) -> Option<Request>
-    requires { IsUnderWay plan.old }
-    ensures next { MatchOption result ((plan.new ≡ plan.old) × IsSome plan.old.out)
-        (λ request. Gives plan.old plan.new request × IsAskedBy ticket request) }
-{
-    match plan.take(Worker::Dumper, ticket) {
-        Ok(request) => request,
-        Err(_) => unreachable!(),
-    }
-}
-
-/// The next request of a plan of which none is out.
-fn ask(plan: &mut Plan, ticket: u64) -> Request
-    requires under_way { IsUnderWay plan.old }
-    requires begins { plan.old.out ≡ None }
-    ensures gives { Gives plan.old plan.new result }
-    ensures asked { IsAskedBy ticket result }
-{
-    match next_request(plan, ticket) {
-        Some(request) => request,
-        None => unreachable!(),
-    }
-}
-
 /// The request that writes a data page.
 fn page_request(slot: usize, place: usize, page: Vec<u8>, ticket: u64) -> Request
     requires few { place < 2 ^ 39 }
@@ -93,10 +70,10 @@ fn page_request(slot: usize, place: usize, page: Vec<u8>, ticket: u64) -> Reques
     ensures slot { result.id.slot ≡ slot }
     ensures call { result.id.call ≡ Write (data_place place) }
     ensures bytes { result.bytes ≡ page.items }
-    ensures asked { IsAskedBy ticket result }
+    ensures asked { IsAskedBy Dumper ticket result }
 {
     let mut plan = Plan::write_page(slot, place, page);
-    ask(&mut plan, ticket)
+    ask(&mut plan, Worker::Dumper, ticket)
 }
 
 /// The header of an image that stands for itself, without its digest.
@@ -125,24 +102,6 @@ fn behind_format(kind: Kind) -> Stage
         Kind::Dump => Stage::Freeze,
         Kind::PreDump | Kind::Merged => Stage::Pass,
     }
-}
-
-/// How many requests and outcomes a plan has before it.
-fn plan_left(plan: &Plan) -> u128
-    requires { IsUnderWay plan.now }
-    ensures left { result ≡ plan_left plan.now }
-    ensures few { result < 2 ^ 64 }
-{
-    plan.left() as u128
-}
-
-/// Takes the outcome of the request of a plan that is out.
-fn settle(plan: &mut Plan, outcome: Outcome) -> Settled
-    requires under_way { IsUnderWay plan.old }
-    requires out { plan.old.out ≡ Some outcome.request.id }
-    ensures { Settles plan.old outcome result plan.new }
-{
-    plan.settle(outcome)
 }
 
 impl ImageMaker {
@@ -261,8 +220,8 @@ impl ImageMaker {
                 ImageStep::Frozen
             }
             Stage::Pass => unreachable!(),
-            Stage::Format(plan) => ImageStep::Call(ask(plan, ticket)),
-            Stage::Close { plan, .. } => ImageStep::Call(ask(plan, ticket)),
+            Stage::Format(plan) => ImageStep::Call(ask(plan, Worker::Dumper, ticket)),
+            Stage::Close { plan, .. } => ImageStep::Call(ask(plan, Worker::Dumper, ticket)),
         }
     }
 
@@ -287,7 +246,7 @@ impl ImageMaker {
         requires free { slice_get self.old.writes lane ≡ Some None }
         requires within { lane < 8 }
         ensures page { IfOk result (IsPageCallOf (λ used request. WritesPage self.old used request self.new
-            × IsAskedBy ticket request)) }
+            × IsAskedBy Dumper ticket request)) }
         ensures err { OnErr result (self.new ≡ self.old) }
     {
         self.round.has_room();

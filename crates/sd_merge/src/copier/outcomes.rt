@@ -1,6 +1,6 @@
 //! Outcomes that are handed to a merged image in the making.
 ghost use Rattle.std.specs.Prelude.{◌≡◌, ◌↔◌, [], None, Some, IsTrue};
-ghost use Rattle.sd_rounds.specs.Making.{IsUnderWay};
+ghost use Rattle.sd_gate.specs.PlanUse.{IsUnderWay};
 ghost use Rattle.sd_rounds.specs.Pass.{data_pages};
 ghost use Rattle.sd_merge.specs.declared.stage.Stage.TheVariants.{Close, Format, PageWrite, Pass as PassStage};
 ghost use Rattle.sd_merge.specs.Copying.{HandsIn, out_of};
@@ -8,10 +8,9 @@ ghost use Rattle.sd_merge.specs.PlanSteps.{at_stage};
 
 use super::{Copier, read_of};
 use crate::copy_progress::CopyProgress;
-use crate::plans::settle;
 use crate::stage::Stage;
 use sd_chain::PlacedTable;
-use sd_gate::{Outcome, Plan, RequestId, Settled};
+use sd_gate::{Outcome, Plan, RequestId, Settled, settle};
 use sd_image::Header;
 use sd_rounds::NewImage;
 use std::mem;

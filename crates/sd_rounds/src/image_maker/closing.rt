@@ -7,19 +7,21 @@ ghost use Rattle.sd_image.specs.Table.{listing_of};
 ghost use Rattle.sd_rounds.specs.declared.stage.Stage.TheVariants.{Pass as PassStage};
 ghost use Rattle.sd_image.specs.declared.header.Header.{Header};
 ghost use Rattle.sd_pagetable.specs.Order.{IsNextPage};
-ghost use Rattle.sd_rounds.specs.Making.{HasTable, IsAskedBy, WritesTable, header_of};
+ghost use Rattle.sd_gate.specs.declared.worker.Worker.TheVariants.{Dumper};
+ghost use Rattle.sd_gate.specs.PlanUse.{IsAskedBy};
+ghost use Rattle.sd_rounds.specs.Making.{HasTable, WritesTable, header_of};
 ghost use Rattle.sd_rounds.specs.PlanSteps.{IsTableCallOf};
 ghost use Rattle.sd_rounds.specs.Pass.{data_pages};
 ghost use Rattle.sd_rounds.specs.Writes.{no_writes};
 
-use super::{ImageMaker, ask, own_header};
+use super::{ImageMaker, own_header};
 use crate::digests::with_digest;
 use crate::image_step::ImageStep;
 use crate::laws::made_law;
 use crate::stage::Stage;
 use crate::tables::{dump_table, pre_dump_table};
 use sd_chain::PlacedTable;
-use sd_gate::Plan;
+use sd_gate::{Plan, Worker, ask};
 use sd_image::{Digester, Header, Kind, Table, encode_table};
 use sd_pagetable::{Memory, plain_law};
 use std::alloc::AllocError;
@@ -33,7 +35,7 @@ impl ImageMaker {
         requires over { IsNextPage memory.now.spaces self.old.pass.after None }
         requires rests { self.old.writes ≡ no_writes }
         ensures table { IfOk result (IsTableCallOf (λ request. WritesTable self.old memory.now request self.new
-            × IsAskedBy ticket request)) }
+            × IsAskedBy Dumper ticket request)) }
         ensures err { OnErr result (self.new ≡ self.old) }
     {
         let table = self.table(memory)?;
@@ -41,7 +43,7 @@ impl ImageMaker {
         let header = self.header(self.digester.clone()?, &text);
         let table = PlacedTable::new(self.alloc, table)?;
         let mut plan = Plan::close_body(self.order.slot, header, text);
-        let request = ask(&mut plan, ticket);
+        let request = ask(&mut plan, Worker::Dumper, ticket);
         self.stage = Stage::Close {
             plan,
             header,

@@ -1,19 +1,20 @@
 //! Outcomes that are handed to an image in the making.
 ghost use Rattle.std.specs.Prelude.{◌≡◌, ◌↔◌, ◌<◌, ◌==◌, Some, IsTrue, slice_get};
 ghost use Rattle.sd_rounds.specs.declared.stage.Stage.TheVariants.{Close, Format, Pass as PassStage};
-ghost use Rattle.sd_rounds.specs.Making.{HandsIn, IsUnderWay, out_of};
+ghost use Rattle.sd_gate.specs.PlanUse.{IsUnderWay};
+ghost use Rattle.sd_rounds.specs.Making.{HandsIn, out_of};
 ghost use Rattle.sd_rounds.specs.PlanSteps.{at_stage};
 ghost use Rattle.sd_rounds.specs.Pass.{data_pages, opened};
 ghost use Rattle.sd_rounds.specs.Writes.{no_writes};
 
-use super::{ImageMaker, behind_format, settle};
+use super::{ImageMaker, behind_format};
 use crate::image_progress::ImageProgress;
 use crate::lanes::lane_of;
 use crate::new_image::NewImage;
 use crate::page_buffers::PageBuffers;
 use crate::stage::Stage;
 use sd_chain::PlacedTable;
-use sd_gate::{Outcome, Plan, RequestId, Settled};
+use sd_gate::{Outcome, Plan, RequestId, Settled, settle};
 use sd_image::Header;
 use std::mem;
 

@@ -13,11 +13,12 @@ use Rattle.sd_rounds.specs.Pass.{data_pages}
 use Rattle.sd_merge.specs.declared.stage.Stage.TheVariants.{Close}
 use Rattle.sd_merge.specs.Copying.{Copying, header_of}
 use Rattle.sd_merge.specs.Gathered.{IsTableOf}
-use Rattle.sd_merge.proofs.PlanLemmas.{closes_under_way, free_in_pass, gives_under_way, is_body}
+use Rattle.sd_gate.proofs.UseLemmas.{gives_under_way}
+use Rattle.sd_merge.proofs.PlanLemmas.{closes_under_way, free_in_pass, is_body}
 use Rattle.sd_merge.proofs.copier.Copier.close.Goals as goal
 
-pub first_request-request-requires-clause-under_way : goal.first_request-request-requires-clause-under_way
-first_request-request-requires-clause-under_way c =
+pub ask-request-requires-clause-under_way : goal.ask-request-requires-clause-under_way
+ask-request-requires-clause-under_way c =
     closes_under_way _ _ _ _ (c.close_body-plan.ensures.body
     (is_body c.self.inside.order c.merged_header-header.result c.in_ok-text.text.items _ c.self.inside.stored _ c.self.inside.ahead _ _ c.merged_header-header.ensures.numbers c.self.invariant.few c.in_ok-text.ensures.text))
 
@@ -31,10 +32,10 @@ invariant_of-self c =
       ready = (
         free_in_pass _ _ _ _ (ap (λ (m : Copying). m.stage) c.self.view_is ∙ c.requires.stage) (ap (λ (m : Copying). m.taking) c.self.view_is ∙ c.requires.free) c.self.invariant.ready,
         ap (λ (h : Header). h.pages) c.merged_header-header.ensures.numbers ∙ c.self.invariant.counted,
-        gives_under_way c.close_body-plan.result c.first_request-request.new.plan c.first_request-request.result
-            (closes_under_way _ _ _ _ (c.close_body-plan.ensures.body body)) c.first_request-request.ensures.gives,
+        gives_under_way c.close_body-plan.result c.ask-request.new.plan c.ask-request.result
+            (closes_under_way _ _ _ _ (c.close_body-plan.ensures.body body)) c.ask-request.ensures.gives,
       );
-      own = c.first_request-request.ensures.gives.same_slot ∙ ap (λ (p : Planned). p.slot) (c.close_body-plan.ensures.body body);
+      own = c.ask-request.ensures.gives.same_slot ∙ ap (λ (p : Planned). p.slot) (c.close_body-plan.ensures.body body);
     }
 
 pub returns-clause-table : goal.returns-clause-table
@@ -61,12 +62,12 @@ returns-clause-table c =
         table = subst (λ (l : List Listed). IsTableOf c.in-Some.source.now.spaces c.args.self.now.entries l) (sym c.in_ok-table-2.ensures)
             (subst (λ (m : Copying). IsTableOf c.in-Some.source.now.spaces m.entries (map listing_of c.in_ok-table.table.spaces.items)) c.self.view_is
             (subst (λ (l : List Listed). IsTableOf l c.self.inside.copies (map listing_of c.in_ok-table.table.spaces.items)) c.table.ensures c.in_ok-table.ensures));
-        next = c.first_request-request.new.plan;
-        gives = subst (λ (p : Planned). Gives p c.first_request-request.new.plan c.first_request-request.result)
+        next = c.ask-request.new.plan;
+        gives = subst (λ (p : Planned). Gives p c.ask-request.new.plan c.ask-request.result)
             (c.close_body-plan.ensures.body body ∙ ap (λ (t : List ℕ). begun c.self.inside.order.slot (body_calls c.merged_header-header.result t) nothing) text
             ∙ ap (λ (m : Copying). begun m.order.slot (body_calls c.merged_header-header.result (table_text c.in_ok-table-2.table)) nothing) c.self.view_is)
-            c.first_request-request.ensures.gives;
-        is = ap (λ (m : Copying). record m { stage = Close c.first_request-request.new.plan c.merged_header-header.result c.in_ok-table-2.table }) c.self.view_is;
+            c.ask-request.ensures.gives;
+        is = ap (λ (m : Copying). record m { stage = Close c.ask-request.new.plan c.merged_header-header.result c.in_ok-table-2.table }) c.self.view_is;
       },
-      c.first_request-request.ensures.asked,
+      c.ask-request.ensures.asked,
     )

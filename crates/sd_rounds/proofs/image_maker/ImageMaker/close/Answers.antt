@@ -9,10 +9,12 @@ use Rattle.sd_gate.specs.Inspections.{nothing}
 use Rattle.sd_gate.specs.Plans.{Gives, Planned, begun}
 use Rattle.sd_gate.specs.Sequences.{IsBody, body_calls}
 use Rattle.sd_rounds.specs.declared.stage.Stage.TheVariants.{Close}
-use Rattle.sd_rounds.specs.Making.{HasTable, IsUnderWay, Making, header_of}
+use Rattle.sd_gate.specs.PlanUse.{IsUnderWay}
+use Rattle.sd_rounds.specs.Making.{HasTable, Making, header_of}
 use Rattle.sd_rounds.specs.Pass.{data_pages}
 use Rattle.sd_rounds.proofs.ImageTableLemmas.{table_is_long}
-use Rattle.sd_rounds.proofs.PlanLemmas.{body_under_way, gives_under_way, is_body}
+use Rattle.sd_gate.proofs.UseLemmas.{body_under_way, gives_under_way}
+use Rattle.sd_rounds.proofs.PlanLemmas.{is_body}
 use Rattle.sd_rounds.proofs.image_maker.ImageMaker.close.Goals as goal
 
 pub ask-request-requires-clause-under_way : goal.ask-request-requires-clause-under_way

@@ -1,5 +1,5 @@
-use Rattle.sd_rounds.proofs.PlanLemmas.{settles}
-use Rattle.sd_rounds.proofs.image_maker.settle.Goals as goal
+use Rattle.sd_gate.proofs.UseLemmas.{settles}
+use Rattle.sd_gate.proofs.plan_use.settle.Goals as goal
 
 pub returns : goal.returns
 returns c =
