@@ -8,6 +8,7 @@ use Rattle.sd_image.specs.declared.run.RunKind.TheVariants.{Data, Parent, Zero}
 use Rattle.sd_image.specs.Image.{Image}
 use Rattle.sd_image.specs.Shows.{Holds, IsNamed, IsNotAfter, IsTip, pages_of}
 use Rattle.sd_image.specs.Table.{Listed}
+use Rattle.sd_image.proofs.Members.{contains_cases, contains_front, contains_later}
 use Rattle.sd_chain.specs.declared.found.Found.{Found}
 use Rattle.sd_chain.specs.declared.found.Found.TheVariants as found
 use Rattle.sd_chain.specs.declared.way.Way.TheVariants as way
@@ -17,7 +18,6 @@ use Rattle.sd_chain.specs.Ways.{HasPage, LiesAt}
 use Rattle.sd_chain.specs.Ways as ways
 use Rattle.sd_chain.specs.Tells.{AddedImageIsTold, Agrees, HavePages, HeldPlacesTellNothing, IsStoredAt, IsToldAs, RemovedSlotIsUntold, RemovedSlotWasTold, Tells}
 use Rattle.sd_chain.proofs.Members.{open_place}
-use Rattle.sd_chain.proofs.TablePages.{contains_cons_cases, contains_front, contains_later}
 use Rattle.sd_chain.proofs.Walks.{member_of}
 
 -- the numbers of an image and of its entry are the same
@@ -212,7 +212,7 @@ added_image_is_told old new i image all before after none changes told = (
       | inl same ↦ (image, contains_front image all, subst (λ (k : Opened). IsToldAs k image) (sym same) told)
       | inr was ↦ let found = tells.image j (member_of old j.header.serial j was) in (found.0, contains_later image found.0 all found.1, found.2)
     ];
-    opened = λ other c. elim (contains_cons_cases image other all c) [
+    opened = λ other c. elim (contains_cases image other all c) [
       | inl same ↦ (i, member_of new i.header.serial i (own_place old new i changes), subst (IsToldAs i) (sym same) told)
       | inr later ↦
           let j = tells.opened other later in
@@ -223,7 +223,7 @@ added_image_is_told old new i image all before after none changes told = (
     image = λ j c.
         let was = open_place old j before c in
         let found = tells.image j (member_of new j.header.serial j (old_place old new i j none changes was)) in
-        elim (contains_cons_cases image found.0 all found.1) [
+        elim (contains_cases image found.0 all found.1) [
           | inl same ↦ absurd (none j (ap (place_of old) (sym (serials i image told) ∙ ap (λ (k : Image). k.header.serial) (sym same) ∙ serials j found.0 found.2) ∙ was))
           | inr later ↦ (found.0, later, found.2)
         ];

@@ -1,5 +1,5 @@
 -- The images of a catalog are those of its places, and rise by serial.
-use Rattle.std.proofs.Common.{◌≡◌, ◌⊎◌, ◌<◌, ◌≤◌, ℕ, zero, suc, false, nat_eq, List, [], ◌∷◌, length, slice_index_or, Option, Some, None, Bool, true, Bor, cond, Contains, refl, sym, ◌∙◌, ap, subst, arith, inl, inr}
+use Rattle.std.proofs.Common.{◌≡◌, ◌⊎◌, ◌<◌, ◌≤◌, ℕ, zero, suc, false, nat_eq, [], ◌∷◌, length, slice_index_or, Option, Some, None, Bool, true, Bor, cond, Contains, refl, sym, ◌∙◌, ap, subst, arith, inl, inr}
 use Rattle.std.specs.List.{AllByRecursion, IsDistinct}
 use Rattle.std.specs.List.Sorted.{IsNonDecreasingBy}
 use Rattle.std.specs.Map.{keys_of}
@@ -9,28 +9,16 @@ use Rattle.std.proofs.lemmas.Cmp.{nat_eq_equiv}
 use Rattle.std.proofs.lemmas.List.Elements.{Contains-get_or, recursion_from_All}
 use Rattle.std.proofs.lemmas.List.Sorted.{IsNonDecreasingBy-from_sort}
 use Rattle.std.proofs.lemmas.Map.Views.{Contains-from_lookup, lookup-from_Contains}
+use Rattle.sd_image.proofs.Members.{contains_cases, contains_front, contains_later}
 use Rattle.sd_chain.specs.Catalog.{Opened, Places, AreInOrder, Changes, IsNewestChoice, IsSound, IsTip, place_of, images, IsRising, Names}
 use Rattle.sd_chain.proofs.Places.{by_keys}
-
-contains_front : {X : Type 0} (x : X) (xs : List X) → Contains (x ∷ xs) x
-contains_front x xs = (0, omega arith, refl)
-
-contains_later : {X : Type 0} (x y : X) (xs : List X) → Contains xs y → Contains (x ∷ xs) y
-contains_later x y xs c = (suc c.0, omega arith, c.2)
-
-contains_cons_cases : {X : Type 0} (x y : X) (xs : List X) → Contains (x ∷ xs) y → (y ≡ x) ⊎ Contains xs y
-contains_cons_cases x y xs c = at_place c.0 c.1 c.2
-  where
-    at_place : (k : ℕ) → k < length (x ∷ xs) → slice_index_or (x ∷ xs) k y ≡ y → (y ≡ x) ⊎ Contains xs y
-    at_place zero within is = inl (sym is)
-    at_place (suc k) within is = inr (k, omega arith, is)
 
 -- ---- an image stands at a place
 
 entry_step : (k : ℕ) (o : Option Opened) (es : Places) (i : Opened) → (Contains (images es) i → (n : ℕ) × Contains es (n, Some i))
     → Contains (images ((k, o) ∷ es)) i → (n : ℕ) × Contains ((k, o) ∷ es) (n, Some i)
 entry_step k None es i rest c = let r = rest c in (r.0, contains_later (k, None) (r.0, Some i) es r.1)
-entry_step k (Some j) es i rest c = elim (contains_cons_cases j i (images es) c) [
+entry_step k (Some j) es i rest c = elim (contains_cases j i (images es) c) [
   | inl e ↦ (k, subst (λ (x : Opened). Contains ((k, Some j) ∷ es) (k, Some x)) (sym e) (contains_front (k, Some j) es))
   | inr d ↦ let r = rest d in (r.0, contains_later (k, Some j) (r.0, Some i) es r.1)
 ]
@@ -47,11 +35,11 @@ open_place es i order c =
 
 open_step : (k : ℕ) (o : Option Opened) (es : Places) (n : ℕ) (i : Opened) → (Contains es (n, Some i) → Contains (images es) i)
     → Contains ((k, o) ∷ es) (n, Some i) → Contains (images ((k, o) ∷ es)) i
-open_step k None es n i rest c = elim (contains_cons_cases (k, None) (n, Some i) es c) [
+open_step k None es n i rest c = elim (contains_cases (k, None) (n, Some i) es c) [
   | inl e ↦ absurd (let no : Some i ≡ None = ap (λ p. p.1) e in cc)
   | inr d ↦ rest d
 ]
-open_step k (Some j) es n i rest c = elim (contains_cons_cases (k, Some j) (n, Some i) es c) [
+open_step k (Some j) es n i rest c = elim (contains_cases (k, Some j) (n, Some i) es c) [
   | inl e ↦ let some : Some i ≡ Some j = ap (λ p. p.1) e in let is : i ≡ j = cc in subst (λ (x : Opened). Contains (j ∷ images es) x) (sym is) (contains_front j (images es))
   | inr d ↦ contains_later j i (images es) (rest d)
 ]

@@ -14,10 +14,11 @@ use Rattle.sd_image.specs.declared.run.RunKind.TheVariants.{Data, Parent, Zero}
 use Rattle.sd_image.specs.declared.table.SpaceTable.{SpaceTable}
 use Rattle.sd_image.specs.Shows.{pages_of}
 use Rattle.sd_image.specs.Table.{AreRuns, AreSpaces, IsTable, Listed, begins_behind, has_source, listing_of}
+use Rattle.sd_image.proofs.Members.{contains_cases, contains_front, contains_later}
 use Rattle.sd_chain.specs.declared.way.Way.TheVariants as way
 use Rattle.sd_chain.specs.Passes.{HasRun, HasSpace, IsBefore, IsBehind, IsFirstFrom, IsFrom, IsLeastFrom, IsListed, IsNextOrNone, from_within, start_of}
 use Rattle.sd_chain.proofs.Runs.{apart, within_from, within_high, within_low}
-use Rattle.sd_chain.proofs.TablePages.{contains_cons_cases, contains_front, contains_later, had, has_in_run}
+use Rattle.sd_chain.proofs.TablePages.{had, has_in_run}
 use Rattle.sd_chain.proofs.Ways.{among_kind, kind_of, later_space, runs_of}
 
 -- ---- runs
@@ -164,14 +165,14 @@ small_page parent runs page good has =
 
 listed_in : (items : List SpaceTable) (s : SpaceTable) → Contains items s → Contains (map listing_of items) (listing_of s)
 listed_in [] s c = absurd (omega (arith, c.1))
-listed_in (t ∷ items) s c = elim (contains_cons_cases t s items c) [
+listed_in (t ∷ items) s c = elim (contains_cases t s items c) [
   | inl e ↦ subst (λ (x : SpaceTable). Contains (map listing_of (t ∷ items)) (listing_of x)) (sym e) (contains_front (listing_of t) (map listing_of items))
   | inr later ↦ contains_later (listing_of t) (listing_of s) (map listing_of items) (listed_in items s later)
 ]
 
 item_of : (items : List SpaceTable) (s : Listed) → Contains (map listing_of items) s → (t : SpaceTable) × Contains items t × (listing_of t ≡ s)
 item_of [] s c = absurd (omega (arith, c.1))
-item_of (t ∷ items) s c = elim (contains_cons_cases (listing_of t) s (map listing_of items) c) [
+item_of (t ∷ items) s c = elim (contains_cases (listing_of t) s (map listing_of items) c) [
   | inl e ↦ (t, contains_front t items, sym e)
   | inr later ↦ let rest = item_of items s later in (rest.0, contains_later t rest.0 items rest.1, rest.2)
 ]
@@ -205,14 +206,14 @@ contains_take (x ∷ items) (suc at) (suc k) t less within is = contains_later x
 -- the spaces that were passed, and one more, or all
 pub take_cases : (items : List SpaceTable) (at : ℕ) (s t : SpaceTable) → at < length items → s ≡ get_or items at s → Contains (take (suc at) items) t → Contains (take at items) t ⊎ (t ≡ s)
 take_cases [] at s t within got c = absurd (omega (arith, within))
-take_cases (x ∷ items) zero s t within got c = elim (contains_cons_cases x t (take 0 items) c) [
+take_cases (x ∷ items) zero s t within got c = elim (contains_cases x t (take 0 items) c) [
   | inl e ↦ inr (e ∙ sym got)
   | inr none ↦ absurd (nothing t none)
 ]
   where
     nothing : (t : SpaceTable) → Contains [] t → ⊥
     nothing t c = omega (arith, c.1)
-take_cases (x ∷ items) (suc at) s t within got c = elim (contains_cons_cases x t (take (suc at) items) c) [
+take_cases (x ∷ items) (suc at) s t within got c = elim (contains_cases x t (take (suc at) items) c) [
   | inl e ↦ inl (subst (Contains (x ∷ take at items)) (sym e) (contains_front x (take at items)))
   | inr later ↦ elim (take_cases items at s t (omega (arith, within)) got later) [
     | inl was ↦ inl (contains_later x t (take at items) was)

@@ -14,6 +14,7 @@ use Rattle.sd_image.specs.Image.{Image, IsImage, OpenImages, is_open}
 use Rattle.sd_image.specs.Laws.{OneImage, PageInFile}
 use Rattle.sd_image.specs.Shows.{Holds, IsNamed, IsNotAfter, IsRestorable, IsStore, IsTip, pages_of}
 use Rattle.sd_image.specs.Table.{Listed, IsTable}
+use Rattle.sd_image.proofs.Members.{contains_cases, contains_front, contains_later}
 use Rattle.sd_chain.specs.declared.found.Found.{Found}
 use Rattle.sd_chain.specs.declared.found.Found.TheVariants as found
 use Rattle.sd_chain.specs.declared.way.Way.TheVariants as way
@@ -24,7 +25,6 @@ use Rattle.sd_chain.specs.Ways as ways
 use Rattle.sd_chain.specs.Store.{IsOpenedAs, IsCatalogOf, HasTheImages, FindsNamed, FindsTip, FindsHeld, IsInFile, bytes_at, file_at}
 use Rattle.sd_chain.proofs.Members.{open_place, same_serial}
 use Rattle.sd_chain.proofs.Lies.{IsResolved}
-use Rattle.sd_chain.proofs.TablePages.{contains_cons_cases, contains_front, contains_later}
 use Rattle.sd_chain.proofs.Walks.{member_of}
 
 -- ---- the images of contents
@@ -51,7 +51,7 @@ stands_later file files image s = record { slot = suc s.slot; file = s.file; the
 standing : (contents : List (List ℕ)) (all : List Image) (image : Image) → OpenImages contents all → Contains all image → Stands contents image
 standing [] all image none c = absurd (let d : Contains [] image = subst (λ (xs : List Image). Contains xs image) none c in omega (arith, d.1))
 standing (file ∷ files) all image (inl a) c = stands_later file files image (standing files all image a.1 c)
-standing (file ∷ files) all image (inr a) c = elim (contains_cons_cases a.0 image a.1 (subst (λ (xs : List Image). Contains xs image) a.2 c)) [
+standing (file ∷ files) all image (inr a) c = elim (contains_cases a.0 image a.1 (subst (λ (xs : List Image). Contains xs image) a.2 c)) [
   | inl e ↦ record { slot = 0; file = file; there = refl; opens = a.3; is = subst (IsImage file) (sym e) a.4 }
   | inr later ↦ stands_later file files image (standing files a.1 image a.5 later)
 ]

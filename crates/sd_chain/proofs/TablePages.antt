@@ -1,11 +1,10 @@
 -- How a table has a page: by the space and the run that have it, with the place that is counted for the run.
-use Rattle.std.proofs.Common.{◌≡◌, ◌⊎◌, ◌<◌, ◌≤◌, ◌+◌, ◌-◌, ◌^◌, ℕ, zero, suc, Bool, true, false, eqb, not, cond, min, List, [], ◌∷◌, ◌++◌, map, length, slice_index_or, Contains, Some, None, refl, sym, ◌∙◌, ap, subst, inl, inr, arith}
+use Rattle.std.proofs.Common.{◌≡◌, ◌<◌, ◌≤◌, ◌+◌, ◌-◌, ◌^◌, ℕ, zero, suc, Bool, true, false, eqb, not, cond, min, List, [], ◌∷◌, ◌++◌, map, length, Contains, Some, None, refl, sym, ◌∙◌, ap, subst, inl, inr, arith}
 use Rattle.std.specs.Prelude.{IsTrue}
 use Rattle.std.specs.List.{flat_map, slice_get, position, position_or_len}
 use Rattle.std.specs.Option.{option_map}
 use Rattle.std.proofs.lemmas.Bool.{eq-eqb, false≢true, lt-ltb}
 use Rattle.std.proofs.lemmas.List.{length-append, length-map}
-use Rattle.std.proofs.lemmas.List.Elements.{Contains-append_cases, Contains-append_left, Contains-append_right}
 use Rattle.std.proofs.lemmas.Option.{slice_get-map, none-some, same_Some}
 use Rattle.sd_areas.specs.Pages.{is_within, pages_from}
 use Rattle.sd_image.specs.declared.run.Run.{Run}
@@ -15,28 +14,11 @@ use Rattle.sd_image.specs.declared.table.SpaceTable.{SpaceTable}
 use Rattle.sd_image.specs.Words.{run_kind_number}
 use Rattle.sd_image.specs.Table.{Listed, listing_of, is_data, run_pages}
 use Rattle.sd_image.specs.Shows.{pages_of}
+use Rattle.sd_image.proofs.Members.{contains_at, contains_cases, from_parts, into_parts}
 use Rattle.sd_chain.specs.Placed.{after_run, after_runs, places_of, all_places_of}
 use Rattle.sd_chain.proofs.Runs.{within_from, within_low, within_high}
 
 -- ---- lists
-
-pub contains_front : {X : Type 0} (x : X) (xs : List X) → Contains (x ∷ xs) x
-contains_front x xs = (0, omega arith, refl)
-
-pub contains_later : {X : Type 0} (x y : X) (xs : List X) → Contains xs y → Contains (x ∷ xs) y
-contains_later x y xs c = (suc c.0, omega arith, c.2)
-
-pub contains_cons_cases : {X : Type 0} (x y : X) (xs : List X) → Contains (x ∷ xs) y → (y ≡ x) ⊎ Contains xs y
-contains_cons_cases x y xs c = at_place c.0 c.1 c.2
-  where
-    at_place : (k : ℕ) → k < length (x ∷ xs) → slice_index_or (x ∷ xs) k y ≡ y → (y ≡ x) ⊎ Contains xs y
-    at_place zero within is = inl (sym is)
-    at_place (suc k) within is = inr (k, omega arith, is)
-
-pub contains_at : {X : Type 0} (xs : List X) (place : ℕ) (x : X) → slice_get xs place ≡ Some x → Contains xs x
-contains_at [] place x e = absurd (none-some x e)
-contains_at (y ∷ xs) zero x e = (0, omega arith, same_Some y x e)
-contains_at (y ∷ xs) (suc place) x e = let rest = contains_at xs place x e in (suc rest.0, omega (arith, rest.1), rest.2)
 
 pub get_left : {X : Type 0} (xs ys : List X) (i : ℕ) (x : X) → slice_get xs i ≡ Some x → slice_get (xs ++ ys) i ≡ Some x
 get_left [] ys i x e = absurd (none-some x e)
@@ -48,24 +30,10 @@ get_right [] ys n i e = let is : n ≡ i = omega (arith, e) in ap (slice_get ys)
 get_right (x ∷ xs) ys zero i e = absurd (omega (arith, e))
 get_right (x ∷ xs) ys (suc n) i e = get_right xs ys n i (omega (arith, e))
 
-flat_has : {X Y : Type 0} (f : X → List Y) (xs : List X) (x : X) (y : Y) → Contains xs x → Contains (f x) y → Contains (flat_map f xs) y
-flat_has f [] x y c d = absurd (omega (arith, c.1))
-flat_has {X} {Y} f (z ∷ xs) x y c d = elim (contains_cons_cases z x xs c) [
-  | inl e ↦ Contains-append_left (f z) (flat_map f xs) y (subst (λ (w : X). Contains (f w) y) e d)
-  | inr later ↦ Contains-append_right (f z) (flat_map f xs) y (flat_has f xs x y later d)
-]
-
-flat_from : {X Y : Type 0} (f : X → List Y) (xs : List X) (y : Y) → Contains (flat_map f xs) y → (x : X) × Contains xs x × Contains (f x) y
-flat_from f [] y c = absurd (omega (arith, c.1))
-flat_from f (x ∷ xs) y c = elim (Contains-append_cases (f x) (flat_map f xs) y c) [
-  | inl here ↦ (x, contains_front x xs, here)
-  | inr later ↦ let rest = flat_from f xs y later in (rest.0, contains_later x rest.0 xs rest.1, rest.2)
-]
-
 end_step : {X : Type 0} (test : X → Bool) (y : X) (xs : List X) (x : X) (b : Bool) → test y ≡ b → (Contains xs x → position_or_len test xs < length xs) → Contains (y ∷ xs) x → test x ≡ true
     → cond (not b) (1 + position_or_len test xs) 0 < length (y ∷ xs)
 end_step test y xs x true e rest c is = omega arith
-end_step {X} test y xs x false e rest c is = elim (contains_cons_cases y x xs c) [
+end_step {X} test y xs x false e rest c is = elim (contains_cases y x xs c) [
   | inl same ↦ absurd (false≢true (sym e ∙ subst (λ (z : X). test z ≡ true) same is))
   | inr later ↦ let under = rest later in omega (arith, under)
 ]
@@ -108,7 +76,7 @@ page_among space first count page low high =
 from_among : (space first count : ℕ) (x : ℕ × ℕ) → Contains (map (in_space space) (pages_from first count)) x → (x.0 ≡ space) × (first ≤ x.1) × (x.1 < first + count)
 unfolding pages_from
 from_among space first zero x c = absurd (omega (arith, c.1))
-from_among space first (suc count) x c = elim (contains_cons_cases (space, first) x (map (in_space space) (pages_from (suc first) count)) c) [
+from_among space first (suc count) x c = elim (contains_cases (space, first) x (map (in_space space) (pages_from (suc first) count)) c) [
   | inl e ↦ let there : x.1 ≡ first = ap (λ (p : ℕ × ℕ). p.1) e in (ap (λ (p : ℕ × ℕ). p.0) e, omega (arith, there), omega (arith, there))
   | inr later ↦ let rest = from_among space (suc first) count x later in (rest.0, omega (arith, rest.1), omega (arith, rest.2))
 ]
@@ -128,7 +96,7 @@ pub has_in_run : (kind : RunKind) (spaces : List Listed) (s : Listed) (r : Run) 
 has_in_run kind spaces s r page c d is within =
     let here = contains_at _ (page - r.first) (s.space, page) (page_among s.space r.first r.count page (within_low r page within) (within_high r page within)) in
     let among = subst (λ (xs : List (ℕ × ℕ)). Contains xs (s.space, page)) (sym (all_of_kind kind s.space r is)) here in
-    flat_has (λ (s : Listed). flat_map (of_kind kind s.space) s.runs) spaces s (s.space, page) c (flat_has (of_kind kind s.space) s.runs r (s.space, page) d among)
+    into_parts (λ (s : Listed). flat_map (of_kind kind s.space) s.runs) spaces s (s.space, page) c (into_parts (of_kind kind s.space) s.runs r (s.space, page) d among)
 
 -- the space and the run that have a page
 pub record IsHad (spaces : List Listed) (page : ℕ × ℕ) : Type 0 where
@@ -141,8 +109,8 @@ pub record IsHad (spaces : List Listed) (page : ℕ × ℕ) : Type 0 where
 
 pub had : (kind : RunKind) (spaces : List Listed) (page : ℕ × ℕ) → Contains (pages_of kind spaces) page → IsHad spaces page
 had kind spaces page c =
-    let s = flat_from (λ (s : Listed). flat_map (of_kind kind s.space) s.runs) spaces page c in
-    let r = flat_from (of_kind kind s.0.space) s.0.runs page s.2 in
+    let s = from_parts (λ (s : Listed). flat_map (of_kind kind s.space) s.runs) spaces page c in
+    let r = from_parts (of_kind kind s.0.space) s.0.runs page s.2 in
     let is = if_of_kind (eqb (run_kind_number r.0.kind) (run_kind_number kind)) s.0.space r.0 page r.2 in
     record { listed = s.0; run = r.0; among = s.1; space = is.0; member = r.1; within = within_from r.0 page.1 is.1 is.2 }
 

@@ -18,12 +18,13 @@ use Rattle.sd_image.specs.Laws.{FewPages, OneKind, OnePlace}
 use Rattle.sd_image.specs.Table.{Listed, listing_of, AreRuns, AreSpaces, IsTable}
 use Rattle.sd_chain.proofs.Runs.{within_from, within_high, within_low}
 use Rattle.sd_image.specs.Shows.{pages_of}
+use Rattle.sd_image.proofs.Members.{contains_at, contains_cases, contains_front, contains_later}
 use Rattle.sd_chain.specs.declared.way.Way.{Way}
 use Rattle.sd_chain.specs.declared.way.Way.TheVariants as way
 use Rattle.sd_chain.specs.Placed.{after_run, after_runs, places_of, all_places_of}
 use Rattle.sd_chain.specs.Chains.{AreAlike, way_on}
 use Rattle.sd_chain.specs.Ways.{HasPage}
-use Rattle.sd_chain.proofs.TablePages.{IsHad, contains_at, contains_front, contains_later, contains_cons_cases, had, has_in_run, none_passes, place_of_page}
+use Rattle.sd_chain.proofs.TablePages.{IsHad, had, has_in_run, none_passes, place_of_page}
 
 -- ---- a table has a page in one way
 
@@ -69,22 +70,22 @@ exact_none spaces page answer is never w =
 
 pub later_space : (h : Header) (before : ℕ) (spaces : List Listed) (s : Listed) → AreSpaces h before spaces → Contains spaces s → before < s.space
 later_space h before [] s good c = absurd (omega (arith, c.1))
-later_space h before (x ∷ spaces) s good c = elim (contains_cons_cases x s spaces c) [
+later_space h before (x ∷ spaces) s good c = elim (contains_cases x s spaces c) [
   | inl e ↦ subst (λ (y : Listed). before < y.space) (sym e) good.0.above
   | inr later ↦ let above = good.0.above in let rest = later_space h x.space spaces s good.1 later in omega (arith, above, rest)
 ]
 
 space_once : (h : Header) (before : ℕ) (spaces : List Listed) (a b : Listed) → AreSpaces h before spaces → Contains spaces a → Contains spaces b → a.space ≡ b.space → a ≡ b
 space_once h before [] a b good c d e = absurd (omega (arith, c.1))
-space_once h before (x ∷ spaces) a b good c d e = elim (contains_cons_cases x a spaces c) [
-  | inl p ↦ elim (contains_cons_cases x b spaces d) [
+space_once h before (x ∷ spaces) a b good c d e = elim (contains_cases x a spaces c) [
+  | inl p ↦ elim (contains_cases x b spaces d) [
     | inl q ↦ p ∙ sym q
     | inr q ↦
         let above = later_space h x.space spaces b good.1 q in
         let same : a.space ≡ x.space = ap (λ (s : Listed). s.space) p in
         absurd (omega (arith, above, same, e))
   ]
-  | inr p ↦ elim (contains_cons_cases x b spaces d) [
+  | inr p ↦ elim (contains_cases x b spaces d) [
     | inl q ↦
         let above = later_space h x.space spaces a good.1 p in
         let same : b.space ≡ x.space = ap (λ (s : Listed). s.space) q in
@@ -95,7 +96,7 @@ space_once h before (x ∷ spaces) a b good c d e = elim (contains_cons_cases x 
 
 pub runs_of : (h : Header) (before : ℕ) (spaces : List Listed) (s : Listed) → AreSpaces h before spaces → Contains spaces s → AreRuns h.parent None s.runs
 runs_of h before [] s good c = absurd (omega (arith, c.1))
-runs_of h before (x ∷ spaces) s good c = elim (contains_cons_cases x s spaces c) [
+runs_of h before (x ∷ spaces) s good c = elim (contains_cases x s spaces c) [
   | inl e ↦ subst (λ (y : Listed). AreRuns h.parent None y.runs) (sym e) good.0.runs
   | inr later ↦ runs_of h x.space spaces s good.1 later
 ]
@@ -115,7 +116,7 @@ no_space items space page answer is none = exact_none (map listing_of items) (sp
       where
         back : (items : List SpaceTable) (s : Listed) → Contains (map listing_of items) s → (t : SpaceTable) × Contains items t × (listing_of t ≡ s)
         back [] s c = absurd (omega (arith, c.1))
-        back (t ∷ items) s c = elim (contains_cons_cases (listing_of t) s (map listing_of items) c) [
+        back (t ∷ items) s c = elim (contains_cases (listing_of t) s (map listing_of items) c) [
           | inl e ↦ (t, contains_front t items, sym e)
           | inr later ↦ let rest = back items s later in (rest.0, contains_later t rest.0 items rest.1, rest.2)
         ]

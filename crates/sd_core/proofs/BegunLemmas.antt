@@ -1,6 +1,7 @@
 -- A checkpoint begins beside a merge.
 use Rattle.std.proofs.Common.{◌≡◌, ℕ, ◌≤◌, List, ◌∷◌, Contains, Option, Some, None, IfSome, slice_get, refl, sym, ◌∙◌, ap, subst, inl, inr, arith}
 use Rattle.std.specs.Option.{option_map}
+use Rattle.sd_image.proofs.Members.{contains_at}
 use Rattle.sd_gate.specs.declared.request_id.RequestId.{RequestId}
 use Rattle.sd_merge.specs.declared.retired.Retired.{Retired}
 use Rattle.sd_merge.specs.Merger as merger
@@ -12,7 +13,7 @@ use Rattle.sd_free_slots.specs.Taken.{FreeSlotsLaw, IsReservedBy}
 use Rattle.sd_core.specs.declared.numbers.Numbers.{Numbers}
 use Rattle.sd_core.specs.Beginning.{AreReserved}
 use Rattle.sd_core.specs.Sound.{IsDoing, IsMerging, due_serials}
-use Rattle.sd_core.proofs.SlotLemmas.{contains_at, filled_free, free_unreserved, own_free}
+use Rattle.sd_core.proofs.SlotLemmas.{filled_free, free_unreserved, own_free}
 
 pub few_due : (merge : Option merger.Running) → due_serials merge ≤ 1
 few_due None = omega arith

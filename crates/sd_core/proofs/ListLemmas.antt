@@ -1,6 +1,7 @@
 -- The list of the images that a merge closes, where its image enters the catalog, and what is so at its end.
-use Rattle.std.proofs.Common.{◌≡◌, ℕ, zero, suc, true, false, is_none, List, [], ◌∷◌, length, Contains, Option, Some, None, slice_get, slice_set, refl, sym, ◌∙◌, ap, subst, inl, inr, arith}
+use Rattle.std.proofs.Common.{◌≡◌, ℕ, zero, suc, true, false, is_none, List, length, Contains, Option, Some, None, slice_get, slice_set, refl, sym, ◌∙◌, ap, subst, inl, inr, arith}
 use Rattle.std.proofs.lemmas.Option.{same_Some}
+use Rattle.sd_image.proofs.Members.{place_in}
 use Rattle.sd_chain.specs.Catalog.{Changes, IsHeld, IsSound, Places, place_of}
 use Rattle.sd_gate.specs.declared.phase.Phase.{Phase}
 use Rattle.sd_gate.specs.declared.phase.Phase.TheVariants.{Bare}
@@ -196,11 +197,6 @@ module _ (places : Places) (laws : MergerOutcomes places) (core : Parts) (old ne
   opened_enters other serial bodies opens b = (opened_copies other serial bodies opens b, opened_image other serial opens, opened_free other serial opens)
 
 -- ---- the end
-
-place_in : (list : List Retired) (one : Retired) → Contains list one → (place : ℕ) × (slice_get list place ≡ Some one)
-place_in [] one c = absurd (let within = c.1 in omega (arith, within))
-place_in (x ∷ list) one (zero, within, is) = (0, ap Some is)
-place_in (x ∷ list) one (suc k, within, is) = let rest = place_in list one (k, omega (arith, within), is) in (suc rest.0, rest.1)
 
 -- no request is out on the slots of its list
 closes_free : (core : Parts) (merge : merger.Running) (r : Retiring) → IsCore core → core.merger ≡ Some merge → merge.doing ≡ retiring r

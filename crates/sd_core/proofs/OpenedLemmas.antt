@@ -2,6 +2,7 @@
 use Rattle.std.proofs.Common.{◌≡◌, ◌≢◌, ℕ, ◌<◌, if◌then◌else◌, List, length, Contains, Option, Some, None, slice_get, slice_set, refl, sym, ◌∙◌, ap, subst, inl, inr, arith}
 use Rattle.std.proofs.lemmas.Bool.{eq-eqb}
 use Rattle.std.proofs.lemmas.Option.{same_Some}
+use Rattle.sd_image.proofs.Members.{contains_at}
 use Rattle.sd_chain.specs.Catalog.{Changes, IsHeld, IsSound, Opened, Places, place_of}
 use Rattle.sd_chain.specs.Reaches.{ParentsFall}
 use Rattle.sd_gate.specs.declared.phase.Phase.{Phase}
@@ -31,7 +32,7 @@ use Rattle.sd_core.proofs.EnteredLemmas.{entered_held, entered_image}
 use Rattle.sd_core.proofs.MergerHands.{outs_without}
 use Rattle.sd_core.proofs.OutcomeLemmas.{counted_opened}
 use Rattle.sd_core.proofs.OwnLemmas.{spared_of}
-use Rattle.sd_core.proofs.SlotLemmas.{contains_at, reached_at}
+use Rattle.sd_core.proofs.SlotLemmas.{reached_at}
 use Rattle.sd_core.proofs.WorkLemmas.{at_work}
 
 abbrev pub image_of : NewImage → Opened

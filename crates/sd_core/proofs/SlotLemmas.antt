@@ -1,9 +1,10 @@
 -- The slots of a checkpoint that begins: they are the store's, apart, and nobody needs or has what stands in them.
-use Rattle.std.proofs.Common.{◌≡◌, ◌≢◌, ◌⊎◌, ℕ, ◌+◌, ◌<◌, ◌≤◌, Bool, true, false, List, length, take, Contains, get_or, slice_get, slice_index_or, Option, Some, None, refl, sym, ◌∙◌, ap, subst, inl, inr, arith}
+use Rattle.std.proofs.Common.{◌≡◌, ◌≢◌, ◌⊎◌, ℕ, ◌+◌, ◌<◌, ◌≤◌, Bool, true, false, List, length, take, Contains, get_or, slice_get, Option, Some, None, refl, sym, ◌∙◌, ap, subst, inl, inr, arith}
 use Rattle.std.proofs.lemmas.Bool.{cases_lt}
 use Rattle.std.proofs.lemmas.List.{get_or-take, get_or_past, length-take-le}
-use Rattle.std.proofs.lemmas.Option.{same_Some, slice_get-get_or, slice_get_within}
+use Rattle.std.proofs.lemmas.Option.{same_Some, slice_get-get_or}
 use Rattle.std.specs.Option.{option_map}
+use Rattle.sd_image.proofs.Members.{contains_at}
 use Rattle.sd_chain.specs.Catalog.{IsSound, Opened, Places, images, place_of}
 use Rattle.sd_chain.specs.Reaches.{ParentsFall, Reaches, ReachesSerial}
 use Rattle.sd_merge.specs.declared.retired.Retired.{Retired}
@@ -124,11 +125,6 @@ slots_apart law core rounds pre_dumps dump one other r below within same =
     omega (arith, rises, same)
 
 -- ---- the merge that runs
-
-pub contains_at : {X : Type 0} (list : List X) (place : ℕ) (one : X) → slice_get list place ≡ Some one → Contains list one
-contains_at list place one at =
-    let within = slice_get_within list place one at in
-    (place, within, same_Some (slice_index_or list place one) one (sym (slice_get-get_or list place one within) ∙ at))
 
 leaves_at : FreeSlotsLaw → (core : CoreView) (slots : List ℕ) (slot : ℕ) (merge : merger.Running) → FreeSlots core slots → IsFreeAt slots slot → IsSound core.catalog
     → ParentsFall core.catalog → core.merger ≡ Some merge → LeavesMergeAt core.catalog merge slot

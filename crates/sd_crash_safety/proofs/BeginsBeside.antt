@@ -2,6 +2,7 @@
 use Rattle.std.proofs.Common.{◌≡◌, ◌≢◌, ℕ, zero, suc, ◌<◌, List, [], ◌∷◌, length, Option, Some, None, Contains, slice_get, refl, sym, subst, inl, arith}
 use Rattle.sd_image.specs.Image.{Image}
 use Rattle.sd_image.specs.Shows.{IsNamed}
+use Rattle.sd_image.proofs.Members.{contains_at}
 use Rattle.sd_chain.specs.Catalog.{Places}
 use Rattle.sd_chain.specs.Tells.{Tells}
 use Rattle.sd_gate.specs.declared.phase.Phase.{Phase}
@@ -21,7 +22,6 @@ use Rattle.sd_store_laws.specs.Reached.{Reaches, beyond, itself}
 use Rattle.sd_store_laws.specs.Store.{Store}
 use Rattle.sd_crash_safety.specs.CheckpointSteps.{IsUnread, LeavesMerge}
 use Rattle.sd_crash_safety.specs.Merges.{IsAskedIn, IsCopying, IsMergeAt, IsMergeOn, IsOtherImage, IsRepeating, IsRetiringOn, MakesOther}
-use Rattle.sd_crash_safety.proofs.Places.{get_contains}
 
 module _ (places : Places) (store : Store) (beliefs : List Belief) (in_use : IsCatalogInUse places beliefs) (told : Tells places store.catalog) (reaches : ToldReachesSo places)
     (members : (i : Image) → Contains beliefs (Kept i) → Contains store.catalog i) (phases : List Phase) (asked : List (Option Asked)) (bodies : List (List ℕ)) (last : ℕ) (running : Running) where
@@ -70,7 +70,7 @@ module _ (places : Places) (store : Store) (beliefs : List Belief) (in_use : IsC
             some = s.some;
             slot = s.slot;
             kept = s.kept;
-            spared = unreserved origin r.image s.serial (members r.image (get_contains beliefs s.slot (Kept r.image) s.kept)) unread s.slot r.image (inl s.kept) itself;
+            spared = unreserved origin r.image s.serial (members r.image (contains_at beliefs s.slot (Kept r.image) s.kept)) unread s.slot r.image (inl s.kept) itself;
             apart = s.apart;
             held = s.held;
           };
@@ -131,7 +131,7 @@ module _ (places : Places) (store : Store) (beliefs : List Belief) (in_use : IsC
             belief_is = c.belief_is;
             request = c.request;
             own = c.own;
-            asked_in = asked_beside origin m.repeats.image s.serial (members m.repeats.image (get_contains beliefs s.slot (Kept m.repeats.image) s.kept)) unread
+            asked_in = asked_beside origin m.repeats.image s.serial (members m.repeats.image (contains_at beliefs s.slot (Kept m.repeats.image) s.kept)) unread
                 at made.stage made.taking c.request c.asked_in;
             slot_is = c.slot_is;
           };
@@ -192,7 +192,7 @@ module _ (places : Places) (store : Store) (beliefs : List Belief) (in_use : IsC
         let s = m.source in
         let is = only number (subst (λ work. Contains work number) s.work member) in
         let o = in_use.opened k i has in
-        let there = members m.image (get_contains beliefs s.slot (Kept m.image) s.kept) in
+        let there = members m.image (contains_at beliefs s.slot (Kept m.image) s.kept) in
         unread i.header.serial o.0 o.1 o.3 ((reaches store.catalog told origin.serial i.header.serial).1
         (m.image, i, there, sym s.serial, beyond m.image start (subst (λ n. IsNamed store.catalog n start) is names) way, refl))
       where

@@ -3,6 +3,7 @@ use Rattle.std.proofs.Common.{◌≡◌, ◌≢◌, ℕ, zero, suc, ◌<◌, ◌
 use Rattle.std.proofs.lemmas.List.Elements.{Contains-append_cases, Contains-append_right}
 use Rattle.sd_image.specs.Image.{Image}
 use Rattle.sd_image.specs.Shows.{IsTip}
+use Rattle.sd_image.proofs.Members.{place_in}
 use Rattle.sd_chain.specs.Catalog.{Opened, Places}
 use Rattle.sd_chain.specs.Catalog as catalog
 use Rattle.sd_chain.specs.Reaches.{ReachesSerial}
@@ -12,7 +13,7 @@ use Rattle.sd_journal.specs.History.{History}
 use Rattle.sd_rounds.specs.Dumper.{IsReserved, Running, writes_of_image}
 use Rattle.sd_rounds.specs.Keeps.{Rests}
 use Rattle.sd_rounds.specs.Making.{Making}
-use Rattle.sd_store_laws.specs.Beliefs.{Belief, Kept, image_at, image_in}
+use Rattle.sd_store_laws.specs.Beliefs.{Kept, image_at, image_in}
 use Rattle.sd_store_laws.specs.InUse.{CatalogInUseTells, ToldReachesSo}
 use Rattle.sd_store_laws.specs.Makers.{IsAbove}
 use Rattle.sd_store_laws.specs.Needed.{IsNeeded, NeededIsReached}
@@ -29,11 +30,6 @@ use Rattle.sd_crash_safety.specs.Merges.{IsMergeOn}
 use Rattle.sd_crash_safety.proofs.BeginsBeside.{merge_on_beside, uncalled_by_work}
 use Rattle.sd_crash_safety.proofs.MergeStays.{LeavesMerge, holds_same, merge_then, merging_of, slots_at}
 use Rattle.sd_crash_safety.proofs.OpenCore.{believes_parts}
-
-kept_at : (beliefs : List Belief) (belief : Belief) → Contains beliefs belief → (slot : ℕ) × (slice_get beliefs slot ≡ Some belief)
-kept_at [] belief c = absurd (let within = c.1 in omega (arith, within))
-kept_at (b ∷ beliefs) belief (zero, within, is) = (0, ap Some is)
-kept_at (b ∷ beliefs) belief (suc k, within, is) = let rest = kept_at beliefs belief (k, omega (arith, within), is) in (suc rest.0, rest.1)
 
 module _ (gates : GateSteps) (needs : NeedsNoMore) (reached : NeededIsReached) (places : Places) (tells : CatalogInUseTells places) (reaches : ToldReachesSo places)
     (agrees : (all : List Image) → Tells places all → Agrees places all) (old new : CoreView) (running : Running)
@@ -77,7 +73,7 @@ module _ (gates : GateSteps) (needs : NeedsNoMore) (reached : NeededIsReached) (
   ]
     where
       kept : (k : ℕ) × (slice_get b.beliefs k ≡ Some (Kept i))
-      kept = kept_at b.beliefs (Kept i) (b.has.slots.needed i needed)
+      kept = place_in b.beliefs (Kept i) (b.has.slots.needed i needed)
 
       its : kept.0 ≡ slot
       its = b.has.slots.serials kept.0 slot i i (ap (λ o. option_and_then image_in o) kept.1) has refl

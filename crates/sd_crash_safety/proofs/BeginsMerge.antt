@@ -5,6 +5,7 @@ use Rattle.sd_disk.specs.Contents.{file_at}
 use Rattle.sd_image.specs.Image.{Image}
 use Rattle.sd_image.specs.Shows.{IsNamed, IsTip}
 use Rattle.sd_image.specs.Table.{Listed}
+use Rattle.sd_image.proofs.Members.{contains_at, place_in}
 use Rattle.sd_chain.specs.Catalog.{Opened, Places, place_of}
 use Rattle.sd_chain.specs.Reaches.{ReachesSerial}
 use Rattle.sd_chain.specs.Tells.{Agrees, IsToldAs, Tells}
@@ -37,11 +38,10 @@ use Rattle.sd_crash_safety.specs.MergerSteps.{BeginsMerge, BeginsMerged, IsUncal
 use Rattle.sd_crash_safety.specs.Merges.{IsCopying, IsMergeAt, IsMergeOn, IsOtherImage, IsRepeating, IsSilent, IsUnmerged, MakesOther}
 use Rattle.sd_crash_safety.specs.View.{CoreView, history_of}
 use Rattle.sd_crash_safety.proofs.BeginsImage.{held_in_use, image_of_has, none_at, used_more}
-use Rattle.sd_crash_safety.proofs.FoundInUse.{contains_at}
 use Rattle.sd_crash_safety.proofs.MergeStays.{slots_at}
 use Rattle.sd_crash_safety.proofs.MergerPass.{needed_spared}
 use Rattle.sd_crash_safety.proofs.OpenCore.{believes_parts}
-use Rattle.sd_crash_safety.proofs.Places.{get_contains, has_too}
+use Rattle.sd_crash_safety.proofs.Places.{has_too}
 use Rattle.sd_crash_safety.proofs.TipHeld.{tip_held}
 use Rattle.sd_crash_safety.proofs.WorkStays.{LeavesWork, work_beside}
 
@@ -67,7 +67,7 @@ begins_merged_lem merge_laws making plans old new merge phase asked bodies files
     (subst (λ x. IsMergeOn old.phases asked bodies last b.store b.beliefs old.dumper.running x) s.was (b.knows.merging s.rest.stands).is) in
     let r = m.0 in
     let order : CopyOrder = merger.order_of merge (last + 1) (state_of phase) in
-    let there = (b.has.slots.catalog r.image).1 (inl (get_contains b.beliefs r.source.slot (Kept r.image) r.source.kept)) in
+    let there = (b.has.slots.catalog r.image).1 (inl (contains_at b.beliefs r.source.slot (Kept r.image) r.source.kept)) in
     let table = ((b.knows.merging s.rest.stands).spelled r.image there).1.table in
     let found = has_too old.phases b.beliefs merge.slot phase b.has.believed.count s.phase_is in
     let leaves : LeavesWork b.store old.dumper.running old.memory (slots_at old.phases bodies b.beliefs) last (last + 1) b.store (slots_at old.phases bodies b.beliefs) = record {
@@ -182,7 +182,7 @@ module _ (gates : GateSteps) (needs : NeedsNoMore) (making : MakingLaws) (reache
   -- where a needed image stands
   module _ (i : Image) (has : image_at b.beliefs slot ≡ Some i) (needed : IsNeededIn b.store i) where
     kept : (k : ℕ) × (slice_get b.beliefs k ≡ Some (Kept i))
-    kept = contains_at b.beliefs (Kept i) (b.has.slots.needed i needed)
+    kept = place_in b.beliefs (Kept i) (b.has.slots.needed i needed)
 
     its : kept.0 ≡ slot
     its = b.has.slots.serials kept.0 slot i i (ap (λ o. option_and_then image_in o) kept.1) has refl
@@ -228,7 +228,7 @@ module _ (gates : GateSteps) (needs : NeedsNoMore) (making : MakingLaws) (reache
   -- ---- its source
 
   source_at : (k : ℕ) × (slice_get b.beliefs k ≡ Some (Kept tip))
-  source_at = contains_at b.beliefs (Kept tip) (b.has.slots.needed tip (inl tip_is))
+  source_at = place_in b.beliefs (Kept tip) (b.has.slots.needed tip (inl tip_is))
 
   source_there : image_at b.beliefs source_at.0 ≡ Some tip
   source_there = ap (λ o. option_and_then image_in o) source_at.1
@@ -262,7 +262,7 @@ module _ (gates : GateSteps) (needs : NeedsNoMore) (making : MakingLaws) (reache
       spared = s.spared;
       unneeded = λ i has needed. not_needed i has (needs.merges b.store tip i b.has.sound tip_is needed);
     };
-    opening = λ k j opens apart. other_number j (b.has.slots.opening j (get_contains b.beliefs k (Opening j) opens));
+    opening = λ k j opens apart. other_number j (b.has.slots.opening j (contains_at b.beliefs k (Opening j) opens));
   }
 
   -- ---- all of it

@@ -6,6 +6,7 @@ use Rattle.sd_image.specs.declared.header.Kind.{Kind}
 use Rattle.sd_image.specs.declared.header.Kind.TheVariants.{PreDump, Dump, Merged}
 use Rattle.sd_image.specs.Header.{AreNumbers}
 use Rattle.sd_image.specs.Image.{Image}
+use Rattle.sd_image.proofs.Members.{place_in}
 use Rattle.sd_gate.specs.Laws.{found_phase}
 use Rattle.sd_gate.specs.Requests.{Asked}
 use Rattle.sd_store_laws.specs.Beliefs.{AreSlotsOf, Belief, Closed, Kept, Closing, Opening, image_in}
@@ -28,11 +29,6 @@ file_of [] files all slot belief is = absurd cc
 file_of (b ∷ beliefs) [] all slot belief is = absurd all
 file_of (b ∷ beliefs) (file ∷ files) all zero belief is = (file, subst (λ x. IsFoundAs x file) (same_Some b belief is) all.0)
 file_of (b ∷ beliefs) (file ∷ files) all (suc slot) belief is = file_of beliefs files all.1 slot belief is
-
-pub contains_at : (beliefs : List Belief) (belief : Belief) → Contains beliefs belief → (slot : ℕ) × (slice_get beliefs slot ≡ Some belief)
-contains_at [] belief c = absurd (let within = c.1 in omega (arith, within))
-contains_at (b ∷ beliefs) belief (zero, within, is) = (0, ap Some is)
-contains_at (b ∷ beliefs) belief (suc k, within, is) = let rest = contains_at beliefs belief (k, omega (arith, within), is) in (suc rest.0, rest.1)
 
 -- the number that an image stands for, and its parent, are at most its serial
 pub numbers_fall : (kind : Kind) (serial stands parent : ℕ) → AreNumbers kind serial stands parent → (stands ≤ serial) × (parent ≤ serial)
@@ -72,8 +68,8 @@ module _ (core : CoreView) (files : List (List ℕ)) (is : IsOpenAs core files) 
   kept_in : (store_images : List Image) → AreSlotsOf (opened store_images) None beliefs → (i : Image) → Contains store_images i
       → (slot : ℕ) × (slice_get beliefs slot ≡ Some (Kept i))
   kept_in store_images slots i member = elim ((slots.catalog i).0 member) [
-    | inl kept ↦ contains_at beliefs (Kept i) kept
-    | inr closing ↦ let at = contains_at beliefs (Closing i) closing in absurd (file_of beliefs files found at.0 (Closing i) at.1).1
+    | inl kept ↦ place_in beliefs (Kept i) kept
+    | inr closing ↦ let at = place_in beliefs (Closing i) closing in absurd (file_of beliefs files found at.0 (Closing i) at.1).1
   ]
 
 pub found_in_use : FoundIsExact → CatalogIsFound → (core : CoreView) (asked : List (Option Asked)) (files : List (List ℕ)) (images : List Image) (beliefs : List Belief)
@@ -116,8 +112,8 @@ pub found_merging : (core : CoreView) (asked : List (Option Asked)) (files : Lis
     → IsMergeInUse core.phases asked (map (drop 1) files) core.numbers.serial (opened images) beliefs core.dumper.running core.merger
 found_merging core asked files images beliefs out is found slots = record {
   spelled = λ i member. elim ((slots.catalog i).0 member) [
-    | inl kept ↦ (let at = contains_at beliefs (Kept i) kept in file_of beliefs files found at.0 (Kept i) at.1)
-    | inr closing ↦ (let at = contains_at beliefs (Closing i) closing in absurd (file_of beliefs files found at.0 (Closing i) at.1).1)
+    | inl kept ↦ (let at = place_in beliefs (Kept i) kept in file_of beliefs files found at.0 (Kept i) at.1)
+    | inr closing ↦ (let at = place_in beliefs (Closing i) closing in absurd (file_of beliefs files found at.0 (Closing i) at.1).1)
   ];
   is = subst (λ merge. IsMergeOn core.phases asked (map (drop 1) files) core.numbers.serial (opened images) beliefs core.dumper.running merge) (sym is.unmerged)
       (record { source = refl; work = refl }, free_there asked 1 (ap (λ ids. slice_get ids 1) (out ∙ is.outs)));

@@ -9,6 +9,7 @@ use Rattle.sd_gate.specs.Phases.{after, body_after, is_ready}
 use Rattle.sd_gate.specs.Requests.{Asked}
 use Rattle.sd_image.specs.Image.{Image, IsImage, gate, is_open}
 use Rattle.sd_image.specs.Shows.{ImagesShow}
+use Rattle.sd_image.proofs.Members.{contains_at}
 use Rattle.sd_journal.specs.declared.entry.Entry.TheVariants.{Acked}
 use Rattle.sd_journal.specs.Allowed.{Shown, IsLastPair, IsPendingPair}
 use Rattle.sd_journal.specs.History.{Base, History}
@@ -25,7 +26,7 @@ use Rattle.sd_crash_safety.specs.Believes.{HasStore, IsCovered, ShowsLast, Shows
 use Rattle.sd_crash_safety.specs.GateSteps.{GateSteps, GateStepsAt, IsOnlyTwin, MayClose}
 use Rattle.sd_crash_safety.specs.InUse.{NoneAt}
 use Rattle.sd_crash_safety.specs.StoreSteps.{IsOpened, IsShut, MayOpen}
-use Rattle.sd_crash_safety.proofs.Places.{body_again, get_contains, in_front, set_again, set_other, set_same}
+use Rattle.sd_crash_safety.proofs.Places.{body_again, in_front, set_again, set_other, set_same}
 use Rattle.sd_crash_safety.proofs.QuietSteps.{asked_cases}
 
 -- ---- one belief changes
@@ -287,7 +288,7 @@ module _ (laws : StoreLaws) (base : Base) (history : History) (phases : List Pha
     retires : (store : Store) (dump : Option Image) (i : Image) → slice_get beliefs slot ≡ Some (Closing i) → Has asked store dump beliefs
         → (new : List Image) × Lacks store.catalog i new × Has asked (retired store new) dump (with_belief beliefs slot Closed)
     retires store dump i there has =
-        let member : Contains store.catalog i = (has.slots.catalog i).1 (inr (get_contains beliefs slot (Closing i) there)) in
+        let member : Contains store.catalog i = (has.slots.catalog i).1 (inr (contains_at beliefs slot (Closing i) there)) in
         let lacks = laws.closing.lacks store i has.sound member in
         let gone = laws.closing.retires store dump beliefs slot i lacks.0 has.slots there lacks.1 in (
           lacks.0,

@@ -6,6 +6,7 @@ use Rattle.std.proofs.lemmas.Option.{same_Some}
 use Rattle.sd_disk.specs.Contents.{file_at}
 use Rattle.sd_image.specs.Image.{Image, IsImage, gate}
 use Rattle.sd_image.specs.Shows.{Holds, IsNamed, IsRestorable}
+use Rattle.sd_image.proofs.Members.{contains_at}
 use Rattle.sd_gate.specs.declared.phase.Phase.{Phase}
 use Rattle.sd_gate.specs.declared.slot_state.SlotState.TheVariants.{Open as OpenSlot}
 use Rattle.sd_gate.specs.Requests.{Asked}
@@ -35,7 +36,7 @@ use Rattle.sd_crash_safety.specs.declared.standing.Standing.TheVariants.{Open}
 use Rattle.sd_crash_safety.specs.InUse.{IsNewNumber, IsSlotFor, body_written}
 use Rattle.sd_crash_safety.specs.Merges.{AreSpelled, IsAskedIn, IsCopyOn, IsCutOn, IsListedOn, IsMergeAt, IsMergeInUse, IsMergeOn, IsRepeating, IsRetiredOn, IsSpared, IsUnmerged, IsOtherImage, MakesOther, lanes_in_slot, order_of_slot, request_in_slot, stage_in_slot}
 use Rattle.sd_crash_safety.specs.View.{CoreView}
-use Rattle.sd_crash_safety.proofs.Places.{get_contains, set_other}
+use Rattle.sd_crash_safety.proofs.Places.{set_other}
 
 -- the slots as they are believed to be
 pub record Slots : Type 0 where
@@ -390,7 +391,7 @@ source_there phases asked bodies last store dump beliefs running merge slots m s
     repeated target origin r =
         let same : r.image ≡ source = same_Some r.image source (sym r.source.is ∙ is) in
         subst (λ i. Contains store.catalog i × IsRestorable i) same
-        ((slots.catalog r.image).1 (inl (get_contains beliefs r.source.slot (Kept r.image) r.source.kept)), r.source.restorable)
+        ((slots.catalog r.image).1 (inl (contains_at beliefs r.source.slot (Kept r.image) r.source.kept)), r.source.restorable)
 
     none : IsUnmerged store → ⊥
     none u = let no : None ≡ Some source = sym u.source ∙ is in cc

@@ -8,6 +8,7 @@ use Rattle.sd_image.specs.declared.header.Kind.TheVariants.{PreDump, Merged}
 use Rattle.sd_image.specs.Image.{Image, IsImage, gate, image_text}
 use Rattle.sd_image.specs.Laws.{HaveTables}
 use Rattle.sd_image.specs.Table.{Listed}
+use Rattle.sd_image.proofs.Members.{contains_at, place_in}
 use Rattle.sd_gate.specs.declared.phase.Phase.{Phase}
 use Rattle.sd_gate.specs.Phases.{is_ready}
 use Rattle.sd_gate.specs.Plans.{Gives, Planned}
@@ -45,11 +46,10 @@ use Rattle.sd_crash_safety.proofs.Asks.{HasIt, IsChangedAt, changed_by, unchange
 use Rattle.sd_crash_safety.proofs.AsksImage.{plan_on}
 use Rattle.sd_crash_safety.proofs.AsksSlot.{AsksOn, AsksQuietly, AsksToClose, AsksToOpen, asks_on, image_in_stage}
 use Rattle.sd_crash_safety.proofs.BeginsImage.{none_at}
-use Rattle.sd_crash_safety.proofs.FoundInUse.{contains_at}
 use Rattle.sd_crash_safety.proofs.MergeStays.{needed_there}
 use Rattle.sd_crash_safety.proofs.MergerUse.{use_then}
 use Rattle.sd_crash_safety.proofs.OpenCore.{believes_parts}
-use Rattle.sd_crash_safety.proofs.Places.{free_there, get_contains, ids_set, set_same}
+use Rattle.sd_crash_safety.proofs.Places.{free_there, ids_set, set_same}
 
 -- ---- what is done in the slot of a merged image
 
@@ -338,7 +338,7 @@ module _ (quiet : QuietSteps) (gates : GateSteps) (files_of : FileLaws) (repeats
     stands_is = ap (λ (x : Image). x.header.stands_for) staged.4 ∙ ap (λ h. h.stands_for) filed.numbers ∙ ap (λ x. x.stands_for) k.order.0 ∙ k.repeats.source.stands
 
     there : Contains b.store.catalog source
-    there = (b.has.slots.catalog source).1 (inl (get_contains b.beliefs k.repeats.source.slot (Kept source) k.repeats.source.kept))
+    there = (b.has.slots.catalog source).1 (inl (contains_at b.beliefs k.repeats.source.slot (Kept source) k.repeats.source.kept))
 
     tables_are : HaveTables b.store.catalog
     tables_are j member = ((b.knows.merging s.merges.rest.stands).spelled j member).1.table
@@ -357,8 +357,8 @@ module _ (quiet : QuietSteps) (gates : GateSteps) (files_of : FileLaws) (repeats
       where
         stands_at : (j : Image) → Contains b.store.catalog j → (slot : ℕ) × (image_at b.beliefs slot ≡ Some j)
         stands_at j member = elim ((b.has.slots.catalog j).0 member) [
-          | inl kept ↦ (let at = contains_at b.beliefs (Kept j) kept in (at.0, ap (λ o. option_and_then image_in o) at.1))
-          | inr closing ↦ (let at = contains_at b.beliefs (Closing j) closing in (at.0, ap (λ o. option_and_then image_in o) at.1))
+          | inl kept ↦ (let at = place_in b.beliefs (Kept j) kept in (at.0, ap (λ o. option_and_then image_in o) at.1))
+          | inr closing ↦ (let at = place_in b.beliefs (Closing j) closing in (at.0, ap (λ o. option_and_then image_in o) at.1))
         ]
 
     twin : IsTwin b.store.catalog b.store.source i

@@ -1,6 +1,7 @@
 -- The source of a merge is always there to be read.
 use Rattle.std.proofs.Common.{◌≡◌, ℕ, List, Option, Some, Contains, sym, ◌∙◌, ap, subst, inl}
 use Rattle.sd_image.specs.Image.{Image}
+use Rattle.sd_image.proofs.Members.{contains_at}
 use Rattle.sd_chain.specs.Catalog.{Places}
 use Rattle.sd_chain.specs.Tells.{Tells}
 use Rattle.sd_gate.specs.Requests.{Asked}
@@ -15,7 +16,6 @@ use Rattle.sd_crash_safety.specs.Believes.{Believes}
 use Rattle.sd_crash_safety.specs.Merges.{IsCopying, IsMergeAt, IsMergeOn}
 use Rattle.sd_crash_safety.specs.View.{CoreView}
 use Rattle.sd_crash_safety.proofs.MergerSource.{KnowsCatalog, source_in}
-use Rattle.sd_crash_safety.proofs.Places.{get_contains}
 
 -- so no page of it is lost
 pub finds_lem : MergeLaws → (places : Places) → KnowsCatalog places → (core : CoreView) (merge : merger.Running) (made : Copying) (asked : List (Option Asked)) (bodies files : List (List ℕ))
@@ -26,7 +26,7 @@ finds_lem merge_laws places knows core merge made asked bodies files its_catalog
     (subst (λ m. IsMergeOn core.phases asked bodies core.numbers.serial b.store b.beliefs core.dumper.running m) was (b.knows.merging stands).is) in
     let x = k.repeats.source in
     let source : Image = k.repeats.image in
-    let there : Contains b.store.catalog source = (b.has.slots.catalog source).1 (inl (get_contains b.beliefs x.slot (Kept source) x.kept)) in
+    let there : Contains b.store.catalog source = (b.has.slots.catalog source).1 (inl (contains_at b.beliefs x.slot (Kept source) x.kept)) in
     let told : Tells places b.store.catalog = knows.tells b.store b.dump b.beliefs b.has.slots (subst (λ p. IsCatalogInUse p b.beliefs) its_catalog (b.knows.in_use stands).catalog) in
     let at : IsSourceAt places b.store.catalog made.order.source.serial source = subst (λ n. IsSourceAt places b.store.catalog n source) (sym x.serial ∙ ap (λ o. o.serial) (sym k.order.0))
     (source_in places knows b.store.catalog (b.knows.merging stands).spelled b.has.sound.fall told source there) in

@@ -25,6 +25,7 @@ use Rattle.sd_merge.specs.Files.{FileLaws, IsFiled, IsFiledIn}
 use Rattle.sd_merge.specs.Merger.{Retires, opened, retiring}
 use Rattle.sd_merge.specs.Merger as merger
 use Rattle.sd_pagetable.specs.Contents.{Contents}
+use Rattle.sd_image.proofs.Members.{contains_at, place_in}
 use Rattle.sd_rounds.specs.declared.image_order.ImageOrder.{ImageOrder}
 use Rattle.sd_rounds.specs.declared.new_image.NewImage.{NewImage}
 use Rattle.sd_rounds.specs.declared.stage.Stage.{Stage}
@@ -56,7 +57,6 @@ use Rattle.sd_crash_safety.specs.Merges.{IsAskedIn, IsCopyOn, IsCopying, IsListe
 use Rattle.sd_crash_safety.specs.StoreSteps.{IsOpened, QuietSteps}
 use Rattle.sd_crash_safety.specs.View.{CoreView, history_of}
 use Rattle.sd_crash_safety.proofs.BeginsImage.{image_of_has}
-use Rattle.sd_crash_safety.proofs.FoundInUse.{contains_at}
 use Rattle.sd_crash_safety.proofs.HandsImage.{calls_of_done}
 use Rattle.sd_crash_safety.proofs.HandsLaw.{file_set}
 use Rattle.sd_crash_safety.proofs.MergeStays.{slots_at}
@@ -66,7 +66,7 @@ use Rattle.sd_crash_safety.proofs.MergerReplaced.{IsRepeated, own_jobs, store_re
 use Rattle.sd_crash_safety.proofs.MergerRetires.{begun_at, retired_begins}
 use Rattle.sd_crash_safety.proofs.OpenCore.{believes_parts}
 use Rattle.sd_crash_safety.proofs.OpensLaw.{IsOpenThen, open_then}
-use Rattle.sd_crash_safety.proofs.Places.{get_contains, has_too, set_count, set_other, set_same}
+use Rattle.sd_crash_safety.proofs.Places.{has_too, set_count, set_other, set_same}
 use Rattle.sd_crash_safety.proofs.WorkStays.{IsMakingNumber}
 
 -- ---- the dump whose gate is being opened
@@ -230,10 +230,10 @@ module _ (quiet : QuietSteps) (gates : GateSteps) (making : MakingLaws) (keeps :
   -- ---- the store then
 
   there : Contains b.store.catalog source
-  there = (b.has.slots.catalog source).1 (inl (get_contains b.beliefs k.repeats.source.slot (Kept source) k.repeats.source.kept))
+  there = (b.has.slots.catalog source).1 (inl (contains_at b.beliefs k.repeats.source.slot (Kept source) k.repeats.source.kept))
 
   twin : IsTwin b.store.catalog b.store.source i
-  twin = elim (b.has.slots.opening i (get_contains b.beliefs target (Opening i) belief_at)) [
+  twin = elim (b.has.slots.opening i (contains_at b.beliefs target (Opening i) belief_at)) [
     | inl pre_dump ↦ absurd (let no : Merged ≡ PreDump = sym kind_is ∙ pre_dump.0 in cc)
     | inr others ↦ elim others [
       | inl its ↦ its
@@ -245,7 +245,7 @@ module _ (quiet : QuietSteps) (gates : GateSteps) (making : MakingLaws) (keeps :
 
   only : (j : Image) → Contains b.beliefs (Opening j) → IsTwin b.store.catalog b.store.source j → j ≡ i
   only j contains t =
-      let here = contains_at b.beliefs (Opening j) contains in
+      let here = place_in b.beliefs (Opening j) contains in
       elim (cases_eq here.0 target) [
         | inl its ↦ own (same_Some (Opening j) (Opening i) (sym here.1 ∙ ap (slice_get b.beliefs) its ∙ belief_at))
         | inr differs ↦ absurd (k.repeats.opening here.0 j here.1 differs
@@ -319,14 +319,14 @@ module _ (quiet : QuietSteps) (gates : GateSteps) (making : MakingLaws) (keeps :
 
   has_in : (n : ℕ) (j : Image) → HasImage b.beliefs n j → Contains b.beliefs (Kept j) ⊎ Contains b.beliefs (Closing j)
   has_in n j has = elim has [
-    | inl kept ↦ inl (get_contains b.beliefs n (Kept j) kept)
-    | inr closing_it ↦ inr (get_contains b.beliefs n (Closing j) closing_it)
+    | inl kept ↦ inl (contains_at b.beliefs n (Kept j) kept)
+    | inr closing_it ↦ inr (contains_at b.beliefs n (Closing j) closing_it)
   ]
 
   at_slot : (j : Image) → Contains b.store.catalog j → (n : ℕ) × HasImage b.beliefs n j
   at_slot j member = elim ((b.has.slots.catalog j).0 member) [
-    | inl kept ↦ (let it = contains_at b.beliefs (Kept j) kept in (it.0, inl it.1))
-    | inr closing_it ↦ (let it = contains_at b.beliefs (Closing j) closing_it in (it.0, inr it.1))
+    | inl kept ↦ (let it = place_in b.beliefs (Kept j) kept in (it.0, inl it.1))
+    | inr closing_it ↦ (let it = place_in b.beliefs (Closing j) closing_it in (it.0, inr it.1))
   ]
 
   images_before : AreImagesOf old.catalog b.store.catalog
@@ -355,7 +355,7 @@ module _ (quiet : QuietSteps) (gates : GateSteps) (making : MakingLaws) (keeps :
       where
         needed_at : IsNeededIn b.store j → (n : ℕ) × (slice_get b.beliefs n ≡ Some (Kept j)) × IsSpared running n × (n ≢ target)
         needed_at needed =
-            let it = contains_at b.beliefs (Kept j) (b.has.slots.needed j needed) in
+            let it = place_in b.beliefs (Kept j) (b.has.slots.needed j needed) in
             let has : image_at b.beliefs it.0 ≡ Some j = ap (λ o. option_and_then image_in o) it.1 in
             (it.0, it.1, needed_spared old asked bodies files b it.0 j has needed running u.job, λ its. k.repeats.slot.unneeded j (ap (image_at b.beliefs) (sym its) ∙ has) needed)
 

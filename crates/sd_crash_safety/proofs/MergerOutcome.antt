@@ -18,6 +18,7 @@ use Rattle.sd_gate.specs.Requests.{Asked, Made}
 use Rattle.sd_journal.specs.History.{Base, History}
 use Rattle.sd_merge.specs.Merger as merger
 use Rattle.sd_pagetable.specs.Contents.{Contents}
+use Rattle.sd_image.proofs.Members.{contains_at}
 use Rattle.sd_rounds.specs.declared.image_order.ImageOrder.{ImageOrder}
 use Rattle.sd_rounds.specs.declared.stage.Stage.{Stage}
 use Rattle.sd_rounds.specs.declared.stage.Stage.TheVariants.{Close}
@@ -52,7 +53,7 @@ use Rattle.sd_crash_safety.proofs.HandsSlot.{belief_after, closed_exact, closing
 use Rattle.sd_crash_safety.proofs.MergeStays.{HoldsStill, IsSameSlot, Slots, holds_same, retires_still, slots_at}
 use Rattle.sd_crash_safety.proofs.MergerUse.{other_slot}
 use Rattle.sd_crash_safety.proofs.OpenCore.{believes_parts}
-use Rattle.sd_crash_safety.proofs.Places.{body_other, get_contains, id_there, ids_set, set_count, set_other, set_same}
+use Rattle.sd_crash_safety.proofs.Places.{body_other, id_there, ids_set, set_count, set_other, set_same}
 use Rattle.sd_crash_safety.proofs.WorkStays.{IsMakingNumber, LeavesWork, work_beside}
 use Rattle.sd_crash_safety.proofs.Lanes.{lanes_beside}
 
@@ -452,7 +453,7 @@ module _ (quiet : QuietSteps) (gates : GateSteps) (making : MakingLaws) (closing
         let there : slice_get b.beliefs slot ≡ Some (Closing i) = belief_is ∙ ap Some closing_it in
         let gone = (gates old.base history phases_now (asked_then asked) bodies_now).retires b.store b.dump b.beliefs slot i shut there has_one in
         let retired_ok = closing_retires.retires b.store b.dump b.beliefs slot i gone.0 has_one.slots there gone.1 in
-        let member : Contains b.store.catalog i = (b.has.slots.catalog i).1 (inr (get_contains b.beliefs slot (Closing i) there)) in
+        let member : Contains b.store.catalog i = (b.has.slots.catalog i).1 (inr (contains_at b.beliefs slot (Closing i) there)) in
         record {
           store = retired b.store gone.0;
           later = later;

@@ -6,6 +6,7 @@ use Rattle.sd_disk.specs.Contents.{file_at}
 use Rattle.sd_image.specs.Image.{Image, IsImage, gate, image_text}
 use Rattle.sd_image.specs.Table.{table_text}
 use Rattle.sd_image.specs.declared.header.Header.{Header}
+use Rattle.sd_image.proofs.Members.{contains_at, place_in}
 use Rattle.sd_chain.specs.Catalog.{Opened, Places, place_of}
 use Rattle.sd_chain.specs.Tells.{Tells}
 use Rattle.sd_gate.specs.declared.call.Call.TheVariants.{Read, Write, Close as CloseCall, Open}
@@ -42,11 +43,11 @@ use Rattle.sd_crash_safety.specs.StoreSteps.{IsQuiet, QuietSteps}
 use Rattle.sd_crash_safety.specs.View.{CoreView, history_of}
 use Rattle.sd_crash_safety.proofs.Asks.{unchanged_at}
 use Rattle.sd_crash_safety.proofs.BeginsImage.{none_at}
-use Rattle.sd_crash_safety.proofs.FoundInUse.{contains_at, numbers_fall}
+use Rattle.sd_crash_safety.proofs.FoundInUse.{numbers_fall}
 use Rattle.sd_crash_safety.proofs.MergerSource.{KnowsCatalog, source_in}
 use Rattle.sd_crash_safety.proofs.MergerUse.{use_then}
 use Rattle.sd_crash_safety.proofs.OpenCore.{believes_parts}
-use Rattle.sd_crash_safety.proofs.Places.{get_contains, has_too, ids_set, set_same}
+use Rattle.sd_crash_safety.proofs.Places.{has_too, ids_set, set_same}
 use Rattle.sd_crash_safety.proofs.WritesLaw.{first_is}
 
 -- an image that a slot keeps stands in a whole file
@@ -123,7 +124,7 @@ module _ (quiet : QuietSteps) (merge_laws : MergeLaws) (files_of : FileLaws) (ne
   source = k.repeats.image
 
   there : Contains b.store.catalog source
-  there = (b.has.slots.catalog source).1 (inl (get_contains b.beliefs k.repeats.source.slot (Kept source) k.repeats.source.kept))
+  there = (b.has.slots.catalog source).1 (inl (contains_at b.beliefs k.repeats.source.slot (Kept source) k.repeats.source.kept))
 
   told : Tells places b.store.catalog
   told = knows.tells b.store b.dump b.beliefs b.has.slots (subst (λ p. IsCatalogInUse p b.beliefs) its_catalog u.catalog)
@@ -275,10 +276,10 @@ module _ (quiet : QuietSteps) (merge_laws : MergeLaws) (files_of : FileLaws) (ne
       let origin = k0.repeats.source in
       let either : (r.image ≡ source0) ⊎ IsNeededIn b.store r.image = needed_of b.store source0 r.image b.has.sound origin.is r.reached in
       let kept_in : Contains b.beliefs (Kept r.image) = elim either [
-        | inl same ↦ subst (λ i. Contains b.beliefs (Kept i)) (sym same) (get_contains b.beliefs origin.slot (Kept source0) origin.kept)
+        | inl same ↦ subst (λ i. Contains b.beliefs (Kept i)) (sym same) (contains_at b.beliefs origin.slot (Kept source0) origin.kept)
         | inr needed ↦ b.has.slots.needed r.image needed
       ] in
-      let at = contains_at b.beliefs (Kept r.image) kept_in in
+      let at = place_in b.beliefs (Kept r.image) kept_in in
       let o = u0.catalog.opened at.0 r.image (inl at.1) in
       let own_place = knows.sound.own r.opened r.among in
       let same_place = ap (place_of places) (ap (λ (h : Header). h.serial) r.told.header) ∙ own_place in

@@ -73,14 +73,6 @@ in_front images i j = (λ c. front j c.0 c.1 c.2, λ e. back j e)
       | inr among ↦ (suc among.0, omega arith, among.2)
     ]
 
-pub get_contains : {X : Type 0} (xs : List X) (at : ℕ) (x : X) → slice_get xs at ≡ Some x → Contains xs x
-get_contains [] at x is = absurd cc
-get_contains (y ∷ xs) zero x is = (0, omega arith, some_here is)
-  where
-    some_here : Some y ≡ Some x → y ≡ x
-    some_here e = cc
-get_contains (y ∷ xs) (suc at) x is = let rest = get_contains xs at x is in (suc rest.0, omega arith, rest.2)
-
 -- ---- the ids of requests that are out
 
 -- a request that takes the place of one with its id

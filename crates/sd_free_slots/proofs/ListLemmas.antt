@@ -3,6 +3,7 @@ use Rattle.std.proofs.Common.{◌≡◌, ◌⊎◌, ℕ, zero, suc, ◌+◌, ◌
 use Rattle.std.proofs.lemmas.List.{length-replicate}
 use Rattle.std.proofs.lemmas.Option.{same_Some, slice_get-get_or, slice_get_within}
 use Rattle.std.proofs.Math.Nat.{eq-or-lt_of_le}
+use Rattle.sd_image.proofs.Members.{at_contains, contains_at}
 use Rattle.sd_chain.specs.Catalog.{Opened, Places, place_of}
 use Rattle.sd_chain.specs.Reaches.{ParentsFall}
 use Rattle.sd_gate.specs.declared.request_id.RequestId.{RequestId}
@@ -12,7 +13,7 @@ use Rattle.sd_rounds.specs.Dumper.{Running}
 use Rattle.sd_free_slots.specs.Lists.{HasNoted, Notes, StandsAt, listed_at, listed_from, noted}
 use Rattle.sd_free_slots.specs.Marks.{IsTaken}
 use Rattle.sd_free_slots.specs.Taken.{AreTaken, IsLeftOver, IsListOf, IsNeededAt}
-use Rattle.sd_free_slots.proofs.MarkLemmas.{at_contains, contains_at, set_cases, set_here, set_keeps, set_length}
+use Rattle.sd_free_slots.proofs.MarkLemmas.{set_cases, set_here, set_keeps, set_length}
 
 -- ---- serials by slot
 

@@ -1,6 +1,6 @@
 -- What marking adds to marks.
-use Rattle.std.proofs.Common.{◌≡◌, ◌⊎◌, ℕ, zero, suc, ◌<◌, ◌≤◌, Bool, true, List, [], ◌∷◌, length, Contains, slice_get, slice_index_or, slice_set, Option, Some, refl, sym, ◌∙◌, ap, subst, inl, inr, arith}
-use Rattle.std.proofs.lemmas.Option.{same_Some, slice_get-get_or, slice_get_within}
+use Rattle.std.proofs.Common.{◌≡◌, ◌⊎◌, ℕ, zero, suc, ◌<◌, ◌≤◌, Bool, true, List, [], ◌∷◌, length, slice_get, slice_set, Option, Some, refl, sym, ◌∙◌, ap, subst, inl, inr, arith}
+use Rattle.std.proofs.lemmas.Option.{same_Some, slice_get_within}
 use Rattle.std.proofs.Math.Nat.{eq-or-lt_of_le}
 use Rattle.sd_chain.specs.Catalog.{Places}
 use Rattle.sd_free_slots.specs.Marks.{IsTaken, Takes, TakesNeeded}
@@ -183,10 +183,3 @@ among_all slot_in P list count old new all to from =
     takes_as (IsAmong slot_in list count) P old new (λ slot a. to slot (record { place = a.place; one = a.one; there = a.there; has = a.has }))
     (λ slot p. let h = from slot p in let within = slice_get_within list h.place h.one h.there in
     record { place = h.place; one = h.one; early = omega (arith, within, all); there = h.there; has = h.has })
-
-pub contains_at : {X : Type 0} (list : List X) (place : ℕ) (one : X) → slice_get list place ≡ Some one → Contains list one
-contains_at list place one there = let within = slice_get_within list place one there in
-    (place, within, same_Some (slice_index_or list place one) one (sym (slice_get-get_or list place one within) ∙ there))
-
-pub at_contains : {X : Type 0} (list : List X) (one : X) (c : Contains list one) → slice_get list c.0 ≡ Some one
-at_contains list one c = slice_get-get_or list c.0 one c.1 ∙ ap Some c.2

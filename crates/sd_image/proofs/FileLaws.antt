@@ -25,7 +25,7 @@ use Rattle.sd_image.proofs.Steps.{IsBytes, IsBytes-take, IsBytes-drop, bind_ok, 
 use Rattle.sd_image.proofs.HeaderBytes.{front_of_file}
 use Rattle.sd_image.proofs.HeaderRules.{header_again, header_length, header_takes}
 use Rattle.sd_image.proofs.TableLaws.{table_again, table_takes}
-use Rattle.sd_image.proofs.ShowsLemmas.{contains_front, contains_later}
+use Rattle.sd_image.proofs.Members.{contains_front, contains_later}
 
 pub good_header : GoodHeaderHasNoReason
 good_header bytes len h long e good = header_again bytes len h long e good

@@ -20,7 +20,8 @@ use Rattle.sd_image.specs.Table.{Listed, table_text, IsSpace, IsTable}
 use Rattle.sd_image.specs.Image.{Image, IsImage, gate, image_text, is_open}
 use Rattle.sd_image.specs.Shows.{Holds, by_data, page_in, IsRestorable, Shows}
 use Rattle.sd_image.specs.Laws.{AreBelow, FirstImageIsShown, IsWholeMemory, first_image, first_memory}
-use Rattle.sd_image.proofs.ShowsLemmas.{contains_cons_cases, newest_is_shown_lem}
+use Rattle.sd_image.proofs.ShowsLemmas.{newest_is_shown_lem}
+use Rattle.sd_image.proofs.Members.{contains_cases}
 
 -- a number that finds a key is it
 tied : (q k : ℕ) → q ≡ k → eq_by_cmp nat_cmp q k ≡ true
@@ -147,7 +148,7 @@ module _ (n space page : ℕ) (prot : Prot) (bytes : List ℕ) where
   memory_so images = record {
     alive = alive_so;
     pages = λ s among q.
-        elim (contains_cons_cases (record { space = space; areas = record { first = page; count = 1; prot = prot } ∷ []; runs = record { first = page; count = 1; kind = Data } ∷ [] }) s [] among) [
+        elim (contains_cases (record { space = space; areas = record { first = page; count = 1; prot = prot } ∷ []; runs = record { first = page; count = 1; kind = Data } ∷ [] }) s [] among) [
           | inl e ↦ subst (λ (t : Listed). MatchOption (page_in (first_memory space page prot bytes) t.space q)
               (prot_in t.areas q ≡ None)
               (λ found. (prot_in t.areas q ≡ Some found.prot) × Holds images t.space q found.bytes image)) (sym e) (page_so images q)

@@ -1,3 +1,4 @@
+pub mod Members
 pub mod Steps
 pub mod Numbers
 pub mod HeaderBytes

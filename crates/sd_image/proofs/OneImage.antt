@@ -9,7 +9,8 @@ use Rattle.sd_image.specs.Image.{Image, IsImage, OpenImages, gate, image_text, i
 use Rattle.sd_image.specs.Laws.{NamedOnce, OneImage, OneSpelling, OneStore, TipOnce}
 use Rattle.sd_image.proofs.HeaderRules.{header_length, header_once}
 use Rattle.sd_image.proofs.TableLaws.{table_once}
-use Rattle.sd_image.proofs.ShowsLemmas.{contains_cons_cases, true_not_false}
+use Rattle.sd_image.proofs.ShowsLemmas.{true_not_false}
+use Rattle.sd_image.proofs.Members.{contains_cases}
 
 -- two texts with fronts of one length
 fronts_once : (a b : List ℕ) (s t : List ℕ) → length a ≡ length b → a ++ s ≡ b ++ t → (a ≡ b) × (s ≡ t)
@@ -74,7 +75,7 @@ pub image_of_file : (contents : List (List ℕ)) (images : List Image) (i : Imag
 image_of_file [] images i none among = absurd (let c : Contains [] i = subst (λ (xs : List Image). Contains xs i) none among in omega (arith, c.1))
 image_of_file (file ∷ files) images i (inl a) among = image_of_file files images i a.1 among
 image_of_file (file ∷ files) images i (inr a) among =
-    elim (contains_cons_cases a.0 i a.1 (subst (λ (xs : List Image). Contains xs i) a.2 among)) [
+    elim (contains_cases a.0 i a.1 (subst (λ (xs : List Image). Contains xs i) a.2 among)) [
       | inl e ↦ (file, subst (IsImage file) (sym e) a.4)
       | inr c ↦ image_of_file files a.1 i a.5 c
     ]
@@ -84,7 +85,7 @@ not_behind : (n : ℕ) (images : List Image) (i : Image) → AllByRecursion (λ 
     → n ≡ i.header.serial → ⊥
 not_behind n [] i differ among e = omega (arith, among.1)
 not_behind n (j ∷ images) i differ among e =
-    elim (contains_cons_cases j i images among) [
+    elim (contains_cases j i images among) [
       | inl is ↦ true_not_false (nat_eq n j.header.serial) (eq-eqb n j.header.serial (e ∙ ap (λ (k : Image). k.header.serial) is)) differ.0
       | inr c ↦ not_behind n images i differ.1 c e
     ]
@@ -95,12 +96,12 @@ pub serial_once : (images : List Image) (i j : Image) → IsDistinct nat_eq (map
 unfolding IsDistinct
 serial_once [] i j distinct a b e = absurd (omega (arith, a.1))
 serial_once (k ∷ images) i j distinct a b e =
-    elim (contains_cons_cases k i images a) [
-      | inl p ↦ elim (contains_cons_cases k j images b) [
+    elim (contains_cases k i images a) [
+      | inl p ↦ elim (contains_cases k j images b) [
         | inl q ↦ p ∙ sym q
         | inr d ↦ absurd (not_behind k.header.serial images j distinct.0 d (ap (λ (x : Image). x.header.serial) (sym p) ∙ e))
       ]
-      | inr c ↦ elim (contains_cons_cases k j images b) [
+      | inr c ↦ elim (contains_cases k j images b) [
         | inl q ↦ absurd (not_behind k.header.serial images i distinct.0 c (ap (λ (x : Image). x.header.serial) (sym q) ∙ sym e))
         | inr d ↦ serial_once images i j distinct.1 c d e
       ]

@@ -15,7 +15,7 @@ use Rattle.sd_image.specs.Shows.{Holds, by_data, by_zero, by_parent, page_in, Is
 use Rattle.sd_image.specs.Laws.{HaveTables, HeldOnce, HeldOnceAmong, SerialsDiffer, ShownOnce}
 use Rattle.sd_image.proofs.OneImage.{image_of_file, one_store_lem, serial_once, tip_once_lem}
 use Rattle.sd_image.proofs.PagePlaces.{among_data, kind_once, place_once}
-use Rattle.sd_image.proofs.ShowsLemmas.{contains_front, contains_later}
+use Rattle.sd_image.proofs.Members.{contains_front, contains_later}
 
 -- ---- at a page an image holds one page's bytes
 

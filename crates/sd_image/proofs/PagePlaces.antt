@@ -13,7 +13,7 @@ use Rattle.sd_image.specs.Table.{Listed, run_pages, AreRuns, AreSpaces}
 use Rattle.sd_image.specs.Shows.{pages_of}
 use Rattle.sd_image.proofs.Items.{run_range}
 use Rattle.sd_image.proofs.SpaceLaws.{run_begins}
-use Rattle.sd_image.proofs.ShowsLemmas.{contains_cons_cases}
+use Rattle.sd_image.proofs.Members.{contains_at, contains_cases}
 
 -- a space and a page as one number, in the order of spaces and of the pages in them
 abbrev key : ℕ × ℕ → ℕ
@@ -44,7 +44,7 @@ rises_length low high (x ∷ xs) h = let rest = rises_length (suc (key x)) high 
 element_low : (low high : ℕ) (xs : List (ℕ × ℕ)) (x : ℕ × ℕ) → Rises low xs high → Contains xs x → low ≤ key x
 element_low low high [] x h c = absurd (omega (arith, c.1))
 element_low low high (y ∷ xs) x h c =
-    elim (contains_cons_cases y x xs c) [
+    elim (contains_cases y x xs c) [
       | inl e ↦ subst (λ (z : ℕ × ℕ). low ≤ key z) (sym e) h.0
       | inr d ↦ let rest = element_low (suc (key y)) high xs x h.1 d in omega (arith, h.0, rest)
     ]
@@ -52,27 +52,22 @@ element_low low high (y ∷ xs) x h c =
 element_high : (low high : ℕ) (xs : List (ℕ × ℕ)) (x : ℕ × ℕ) → Rises low xs high → Contains xs x → key x < high
 element_high low high [] x h c = absurd (omega (arith, c.1))
 element_high low high (y ∷ xs) x h c =
-    elim (contains_cons_cases y x xs c) [
+    elim (contains_cases y x xs c) [
       | inl e ↦ subst (λ (z : ℕ × ℕ). key z < high) (sym e) (let rest = rises_within (suc (key y)) high xs h.1 in omega (arith, rest))
       | inr d ↦ element_high (suc (key y)) high xs x h.1 d
     ]
-
-at_place : (xs : List (ℕ × ℕ)) (place : ℕ) (x : ℕ × ℕ) → slice_get xs place ≡ Some x → Contains xs x
-at_place [] place x e = absurd cc
-at_place (y ∷ xs) zero x e = let is : y ≡ x = cc in (0, omega arith, is)
-at_place (y ∷ xs) (suc place) x e = let rest = at_place xs place x e in (suc rest.0, omega (arith, rest.1), rest.2)
 
 place_in : (low high : ℕ) (xs : List (ℕ × ℕ)) (p q : ℕ) (x : ℕ × ℕ) → Rises low xs high → slice_get xs p ≡ Some x → slice_get xs q ≡ Some x → p ≡ q
 place_in low high [] p q x h a b = absurd cc
 place_in low high (y ∷ xs) zero zero x h a b = refl
 place_in low high (y ∷ xs) zero (suc q) x h a b =
     let is : y ≡ x = cc in
-    let above = element_low (suc (key y)) high xs x h.1 (at_place xs q x b) in
+    let above = element_low (suc (key y)) high xs x h.1 (contains_at xs q x b) in
     let same : key y ≡ key x = ap key is in
     absurd (omega (arith, above, same))
 place_in low high (y ∷ xs) (suc p) zero x h a b =
     let is : y ≡ x = cc in
-    let above = element_low (suc (key y)) high xs x h.1 (at_place xs p x a) in
+    let above = element_low (suc (key y)) high xs x h.1 (contains_at xs p x a) in
     let same : key y ≡ key x = ap key is in
     absurd (omega (arith, above, same))
 place_in low high (y ∷ xs) (suc p) (suc q) x h a b = ap suc (place_in (suc (key y)) high xs p q x h.1 a b)
@@ -135,7 +130,7 @@ pub place_once : (kind : RunKind) (h : Header) (spaces : List Listed) (p q : ℕ
 place_once kind h spaces p q x good a b = place_in (key (1, 0)) (key (17, 0)) (pages_of kind spaces) p q x (spaces_rise kind h 0 spaces (omega arith) good) a b
 
 pub among_data : (spaces : List Listed) (place : ℕ) (x : ℕ × ℕ) → slice_get (pages_of Data spaces) place ≡ Some x → Contains (pages_of Data spaces) x
-among_data spaces place x e = at_place (pages_of Data spaces) place x e
+among_data spaces place x e = contains_at (pages_of Data spaces) place x e
 
 -- there are no more of a kind than there are pages
 pub few_of_kind : (kind : RunKind) (h : Header) (spaces : List Listed) → AreSpaces h 0 spaces → length (pages_of kind spaces) ≤ 2 ^ 39

@@ -7,6 +7,7 @@ use Rattle.std.proofs.lemmas.List.Elements.{Contains-append_cases, Contains-appe
 use Rattle.sd_image.specs.Image.{Image, IsImage, OpenImages, is_open}
 use Rattle.sd_image.specs.Shows.{IsRestorable, IsTip}
 use Rattle.sd_image.specs.Laws.{AreBelow, NewestIsShown}
+use Rattle.sd_image.proofs.Members.{contains_cases, contains_front}
 
 -- the new list is the old one with an image among the others
 pub record Adds (old new : List Image) (i : Image) : Type 0 where
@@ -50,26 +51,12 @@ images_of_opened (old ∷ contents) images (suc slot) file i (inr was) within cl
     subst (λ images. Opened (old ∷ slice_set contents slot file) images i) (sym was.2)
     (with_first _ _ _ was.0 old was.3 was.4 (images_of_opened contents was.1 slot file i was.5 (omega arith) closed opens image))
 
--- an element at the front, or one among the others
-pub contains_front : {X : Type 0} (x : X) (xs : List X) → Contains (x ∷ xs) x
-contains_front x xs = (0, omega arith, refl)
-
-pub contains_later : {X : Type 0} (x y : X) (xs : List X) → Contains xs y → Contains (x ∷ xs) y
-contains_later x y xs c = (suc c.0, omega arith, c.2)
-
-pub contains_cons_cases : {X : Type 0} (x y : X) (xs : List X) → Contains (x ∷ xs) y → (y ≡ x) ⊎ Contains xs y
-contains_cons_cases x y xs c = at_place c.0 c.1 c.2
-  where
-    at_place : (k : ℕ) → k < length (x ∷ xs) → slice_index_or (x ∷ xs) k y ≡ y → (y ≡ x) ⊎ Contains xs y
-    at_place zero within is = inl (sym is)
-    at_place (suc k) within is = inr (k, omega arith, is)
-
 -- who is among the images afterwards
 pub among_added : (old new : List Image) (i j : Image) → Adds old new i → Contains new j → Contains old j ⊎ (j ≡ i)
 among_added old new i j adds among =
     elim (Contains-append_cases adds.before (i ∷ adds.after) j (subst (λ xs. Contains xs j) adds.is among)) [
       | inl c ↦ inl (subst (λ xs. Contains xs j) (sym adds.was) (Contains-append_left adds.before adds.after j c))
-      | inr c ↦ elim (contains_cons_cases i j adds.after c) [
+      | inr c ↦ elim (contains_cases i j adds.after c) [
         | inl e ↦ inr e
         | inr d ↦ inl (subst (λ xs. Contains xs j) (sym adds.was) (Contains-append_right adds.before adds.after j d))
       ]

@@ -1,6 +1,6 @@
 -- What a merged image in the making has of its source, through each of its steps.
-use Rattle.std.proofs.Common.{◌≡◌, ◌≢◌, ◌⊎◌, ℕ, zero, suc, ◌+◌, ◌<◌, ◌≤◌, List, [], ◌∷◌, ◌++◌, length, map, filter, min, sum_by, Contains, Option, Some, None, refl, sym, ◌∙◌, ap, subst, inl, inr, arith}
-use Rattle.std.specs.Prelude.{slice_get, slice_index_or, replicate}
+use Rattle.std.proofs.Common.{◌≡◌, ◌≢◌, ◌⊎◌, ℕ, zero, suc, ◌+◌, ◌≤◌, List, [], ◌∷◌, ◌++◌, length, map, filter, min, sum_by, Contains, Option, Some, None, refl, sym, ◌∙◌, ap, subst, inl, inr, arith}
+use Rattle.std.specs.Prelude.{slice_get, replicate}
 use Rattle.std.specs.List.{AllByRecursion, concat, flat_map}
 use Rattle.std.proofs.lemmas.List.Folds.{concat-append}
 use Rattle.std.proofs.lemmas.List.{map-append, append_assoc, append-nil, length-append, length-map}
@@ -18,6 +18,7 @@ use Rattle.sd_image.specs.Image.{Image}
 use Rattle.sd_image.specs.Laws.{SerialsDiffer}
 use Rattle.sd_image.specs.Shows.{Holds, IsNamed, IsRestorable, pages_of}
 use Rattle.sd_image.specs.Table.{AreSpaces, IsTable, Listed, mapped_count, run_pages}
+use Rattle.sd_image.proofs.Members.{contains_at, place_in}
 use Rattle.sd_chain.specs.declared.found.Found.{Found}
 use Rattle.sd_chain.specs.declared.found.Found.TheVariants as found
 use Rattle.sd_chain.specs.Catalog.{IsSound, Opened, Places, images}
@@ -81,19 +82,6 @@ slice_more [] y (suc k) x e = absurd (no_some x e)
 slice_more (z ∷ xs) y zero x e = inl e
 slice_more (z ∷ xs) y (suc k) x e = elim (slice_more xs y k x e) [ inl f ↦ inl f | inr f ↦ inr (ap (λ n. suc n) f.0, f.1) ]
 
-contains_slice : {X : Type 0} (xs : List X) (x : X) → Contains xs x → (k : ℕ) × (slice_get xs k ≡ Some x)
-contains_slice {X = X} xs x c = by xs c.0 c.1 c.2
-  where
-    by : (xs : List X) (k : ℕ) → k < length xs → slice_index_or xs k x ≡ x → (k : ℕ) × (slice_get xs k ≡ Some x)
-    by [] k within is = absurd (omega arith)
-    by (y ∷ xs) zero within is = (0, ap (λ z. Some z) is)
-    by (y ∷ xs) (suc k) within is = let at = by xs k (omega arith) is in (suc at.0, at.1)
-
-slice_contains : {X : Type 0} (xs : List X) (k : ℕ) (x : X) → slice_get xs k ≡ Some x → Contains xs x
-slice_contains [] k x e = absurd (no_some x e)
-slice_contains (y ∷ xs) zero x e = (0, omega arith, one_some y x e)
-slice_contains (y ∷ xs) (suc k) x e = let at = slice_contains xs k x e in (suc at.0, (let l : at.0 < length xs = at.1 in omega arith), at.2)
-
 all_put : {X : Type 0} (P : X → Type 0) (xs : List X) (x : X) → AllByRecursion P xs → P x → AllByRecursion P (xs ++ x ∷ [])
 all_put P [] x all is = (is, tt)
 all_put P (y ∷ xs) x all is = (all.0, all_put P xs x all.1 is)
@@ -110,9 +98,9 @@ places_put entries at kind rest later all e is =
 copy_zero : (catalog : List Image) (source : Image) (stored : Stored) (entries : List Entry) (at : Place) → IsCopy catalog source stored entries
     → Holds catalog at.0 at.1 (replicate 4096 0) source → IsCopy catalog source stored (put entries at Zero)
 copy_zero catalog source stored entries at is holds = record {
-  zero = λ p there. (let k = contains_slice (pages_by Zero (put entries at Zero)) p there in
+  zero = λ p there. (let k = place_in (pages_by Zero (put entries at Zero)) p there in
       elim (slice_more (pages_by Zero entries) at k.0 p (subst (λ (l : List Place). slice_get l k.0 ≡ Some p) (pages_append Zero entries _) k.1)) [
-        | inl f ↦ is.zero p (slice_contains (pages_by Zero entries) k.0 p f)
+        | inl f ↦ is.zero p (contains_at (pages_by Zero entries) k.0 p f)
         | inr f ↦ subst (λ (q : Place). Holds catalog q.0 q.1 (replicate 4096 0) source) f.1 holds
       ]);
   pages = λ place p there. is.pages place p (subst (λ (l : List Place). slice_get l place ≡ Some p) (pages_append Data entries _ ∙ append-nil (pages_by Data entries)) there);
@@ -464,7 +452,7 @@ begins catalog source order table restorable pages = record {
   merging = record {
     all = refl;
     copy = record {
-      zero = λ at there. absurd (let k = contains_slice [] at there in no_some at k.1);
+      zero = λ at there. absurd (let k = place_in [] at there in no_some at k.1);
       pages = λ place at there. absurd (no_some at there);
       none = refl;
     };

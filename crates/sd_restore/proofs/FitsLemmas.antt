@@ -22,8 +22,9 @@ use Rattle.sd_image.specs.declared.header.Header.{Header}
 use Rattle.sd_image.specs.Image.{Image, OpenImages}
 use Rattle.sd_image.specs.Shows.{Holds, IsMemory, page_in}
 use Rattle.sd_image.specs.Table.{AreSpaces, IsSpace, IsTable, Listed}
+use Rattle.sd_image.proofs.Members.{contains_cases, contains_later}
 use Rattle.sd_restore.specs.Fits.{IsWithinLimits, ShownIsWithinLimits, prots_in}
-use Rattle.sd_restore.proofs.MappedLemmas.{front_cases, space_of}
+use Rattle.sd_restore.proofs.MappedLemmas.{space_of}
 
 -- ---- the permissions of a space
 
@@ -81,7 +82,7 @@ below_in : (k : ℕ) (es : List (ℕ × Space)) (e : ℕ × Space) → T (below_
 below_in k [] e below c = absurd (omega (arith, c.1))
 below_in k (f ∷ es) e below c =
     let parts = t_parts (is_lt (nat_cmp k f.0)) (below_all nat_cmp k es) below in
-    elim (front_cases f e es c) [
+    elim (contains_cases f e es c) [
       | inl same ↦ let less = is_less k f.0 parts.0 in let key = ap (λ (x : ℕ × Space). x.0) same in omega (arith, less, key)
       | inr later ↦ below_in k es e parts.1 later
     ]
@@ -107,7 +108,7 @@ find_in : (es : List (ℕ × Space)) (e : ℕ × Space) → T (is_sorted nat_cmp
 find_in [] e sorted c = absurd (omega (arith, c.1))
 find_in (f ∷ es) e sorted c =
     let parts = sorted_parts f.0 es sorted in
-    elim (front_cases f e es c) [
+    elim (contains_cases f e es c) [
       | inl same ↦
           subst (λ (x : ℕ × Space). find nat_cmp x.0 (f ∷ es) ≡ Some x.1) (sym same) (ap (λ b. cond b (Some f.1) (find nat_cmp f.0 es)) (same_key f.0))
       | inr later ↦
@@ -120,12 +121,9 @@ find_in (f ∷ es) e sorted c =
 abbrev HasIts : List Listed → ℕ × Space → Type 0
 HasIts spaces e = (s : Listed) × Contains spaces s × (s.space ≡ e.0) × (finmap.len e.1 ≤ sum_by (λ (a : Area). a.count) s.areas)
 
-later_in : {X : Type 0} (x y : X) (xs : List X) → Contains xs y → Contains (x ∷ xs) y
-later_in x y xs c = (suc c.0, omega (arith, c.1), c.2)
-
 -- a space with a greater number is one of those behind
 skips : (s : Listed) (spaces : List Listed) (f : ℕ × Space) → s.space < f.0 → HasIts (s ∷ spaces) f → HasIts spaces f
-skips s spaces f less its = elim (front_cases s its.0 spaces its.1) [
+skips s spaces f less its = elim (contains_cases s its.0 spaces its.1) [
   | inl same ↦ let key = ap (λ (x : Listed). x.space) same in let number = its.2 in absurd (omega (arith, less, key, number))
   | inr later ↦ (its.0, later, its.2, its.3)
 ]
@@ -139,13 +137,13 @@ sum_within h before (s ∷ spaces) (e ∷ es) good sorted its =
     let parts = sorted_parts e.0 es sorted in
     let first = its e (0, omega arith, refl) in
     let total = sum_by-cons (λ (s : Listed). sum_by (λ (a : Area). a.count) s.areas) s spaces in
-    elim (front_cases s first.0 spaces first.1) [
+    elim (contains_cases s first.0 spaces first.1) [
       | inl same ↦
           let key : first.0.space ≡ s.space = ap (λ (x : Listed). x.space) same in
           let number = first.2 in
           let one : finmap.len e.1 ≤ sum_by (λ (a : Area). a.count) s.areas = subst (λ (x : Listed). finmap.len e.1 ≤ sum_by (λ (a : Area). a.count) x.areas) same first.3 in
           let rest = sum_within h s.space spaces es good.1 parts.1 (λ f c.
-          skips s spaces f (let less = below_in e.0 es f parts.0 c in omega (arith, less, key, number)) (its f (later_in e f es c))) in
+          skips s spaces f (let less = below_in e.0 es f parts.0 c in omega (arith, less, key, number)) (its f (contains_later e f es c))) in
           let sum = sum_by-cons (λ (e : ℕ × Space). finmap.len e.1) e es in
           omega (arith, total, one, rest, sum)
       | inr later ↦
@@ -156,7 +154,7 @@ sum_within h before (s ∷ spaces) (e ∷ es) good sorted its =
     ]
   where
     at_least : (f : ℕ × Space) → Contains (e ∷ es) f → {n m : ℕ} → n < m → m ≡ e.0 → n < f.0
-    at_least f c above number = elim (front_cases e f es c) [
+    at_least f c above number = elim (contains_cases e f es c) [
       | inl same ↦ let key = ap (λ (x : ℕ × Space). x.0) same in omega (arith, above, number, key)
       | inr later ↦ let less = below_in e.0 es f (sorted_parts e.0 es sorted).0 later in omega (arith, above, number, less)
     ]
@@ -169,7 +167,7 @@ image_table [] images i is c = absurd (nothing i (subst (λ xs. Contains xs i) i
     nothing : (i : Image) → Contains [] i → ⊥
     nothing i c = omega (arith, c.1)
 image_table (file ∷ contents) images i (inl closed) c = image_table contents images i closed.1 c
-image_table (file ∷ contents) images i (inr it) c = elim (front_cases it.0 i it.1 (subst (λ xs. Contains xs i) it.2 c)) [
+image_table (file ∷ contents) images i (inr it) c = elim (contains_cases it.0 i it.1 (subst (λ xs. Contains xs i) it.2 c)) [
   | inl same ↦ subst (λ (k : Image). IsTable k.header k.spaces) (sym same) it.4.table
   | inr later ↦ image_table contents it.1 i it.5 later
 ]

@@ -27,8 +27,9 @@ use Rattle.sd_restore.specs.Fits.{prots_in}
 use Rattle.sd_restore.specs.Mapped.{Mapped, mapped_with, area_mapped, space_mapped, mapped_pages}
 use Rattle.sd_restore.specs.Placed.{IsLaidOut, PlacedPage, mapped_of, memory_at, page_at, placed_entries, with_spaces, with_pages}
 use Rattle.sd_restore.proofs.FitsLemmas.{get_prots, in_space, same_prot}
-use Rattle.sd_restore.proofs.MappedLemmas.{front_cases, space_of}
+use Rattle.sd_restore.proofs.MappedLemmas.{space_of}
 use Rattle.std.specs.Borrow.{Bor}
+use Rattle.sd_image.proofs.Members.{contains_cases}
 use Rattle.sd_chain.specs.Catalog.{Opened, Places}
 use Rattle.sd_chain.specs.Store.{IsCatalogOf, FindsTip}
 use Rattle.sd_restore.specs.Placed.{ArePlaced}
@@ -113,7 +114,7 @@ below_in : {X : Type 0} (k : ℕ) (es : List (ℕ × X)) (e : ℕ × X) → T (b
 below_in k [] e below c = absurd (omega (arith, c.1))
 below_in k (f ∷ es) e below c =
     let two = parts (is_lt (nat_cmp k f.0)) (below_all nat_cmp k es) below in
-    elim (front_cases f e es c) [
+    elim (contains_cases f e es c) [
       | inl same ↦ let less = is_less k f.0 two.0 in let key = ap (λ x. x.0) same in omega (arith, less, key)
       | inr later ↦ below_in k es e two.1 later
     ]
@@ -122,7 +123,7 @@ find_in : {X : Type 0} (es : List (ℕ × X)) (e : ℕ × X) → T (is_sorted na
 find_in [] e sorted c = absurd (omega (arith, c.1))
 find_in (f ∷ es) e sorted c =
     let two = parts (below_all nat_cmp f.0 es) (is_sorted nat_cmp es) sorted in
-    elim (front_cases f e es c) [
+    elim (contains_cases f e es c) [
       | inl same ↦ subst (λ x. find nat_cmp x.0 (f ∷ es) ≡ Some x.1) (sym same) (ap (λ b. cond b (Some f.1) (find nat_cmp f.0 es)) (tied f.0 f.0 refl))
       | inr later ↦ (let less = below_in f.0 es e two.0 later in
           ap (λ b. cond b (Some f.1) (find nat_cmp e.0 es)) (untied e.0 f.0 (λ same. omega (arith, less, same))) ∙ find_in es e two.1 later)
@@ -260,7 +261,7 @@ module _ (contents : List (List ℕ)) (q : ℕ) where
 
   among_placed : (pages : List PlacedPage) (p : PlacedPage) → Contains pages p → p.space ≡ q → Contains (placed_entries contents q pages) (entry_of p)
   among_placed [] p c at = absurd (omega (arith, c.1))
-  among_placed (o ∷ pages) p c at = elim (front_cases o p pages c) [
+  among_placed (o ∷ pages) p c at = elim (contains_cases o p pages c) [
     | inl same ↦ (let e = same_number o.space q (ap (λ (x : PlacedPage). x.space) (sym same) ∙ at) in
         subst (λ (ps : List PlacedPage). Contains (map entry_of ps) (entry_of p)) (sym (cond-true _ _ _ e)) (0, omega arith, ap entry_of (sym same)))
     | inr later ↦ by (nat_eq o.space q) refl (among_placed pages p later at)
@@ -322,7 +323,7 @@ module _ (areas_law : AreasLaw) (one_list : OneListLaw) (contents : List (List �
     where
       any_at : (spaces : List Listed) (s : Listed) → Contains spaces s → s.space ≡ q → list_any (λ (t : Listed). nat_eq t.space q) spaces ≡ true
       any_at [] s c e = absurd (omega (arith, c.1))
-      any_at (t ∷ spaces) s c e = elim (front_cases t s spaces c) [
+      any_at (t ∷ spaces) s c e = elim (contains_cases t s spaces c) [
         | inl first ↦ ap (λ b. b || list_any (λ (t : Listed). nat_eq t.space q) spaces) (same_number t.space q (ap (λ (x : Listed). x.space) (sym first) ∙ e))
         | inr later ↦ ap (λ b. nat_eq t.space q || b) (any_at spaces s later e) ∙ or_true (nat_eq t.space q)
       ]

@@ -1,10 +1,10 @@
 -- The mapped pages of an image: each is listed by its table, and has the permissions of its area.
-use Rattle.std.proofs.Common.{◌≡◌, ◌⊎◌, ◌<◌, ◌≤◌, ◌+◌, ◌-◌, ◌^◌, ℕ, zero, suc, true, false, cond, nat_eq, IsTrue, List, [], ◌∷◌, ◌++◌, map, length, Option, Some, None, Contains, refl, sym, ◌∙◌, ap, subst, arith, inl, inr, slice_index_or}
+use Rattle.std.proofs.Common.{◌≡◌, ◌<◌, ◌≤◌, ◌+◌, ◌-◌, ◌^◌, ℕ, zero, suc, true, false, cond, nat_eq, IsTrue, List, [], ◌∷◌, ◌++◌, map, Option, Some, None, Contains, refl, sym, ◌∙◌, ap, subst, arith, inl, inr}
 use Rattle.std.specs.List.{flat_map}
 use Rattle.std.proofs.lemmas.Bool.{cond-true, cond-false, cases_Bool}
 use Rattle.std.proofs.lemmas.Bool.Decides.{nat_tests}
-use Rattle.std.proofs.lemmas.List.{length-map, map-append}
-use Rattle.std.proofs.lemmas.List.Elements.{Contains-append_left, Contains-append_right, Contains-append_cases}
+use Rattle.std.proofs.lemmas.List.{map-append}
+use Rattle.std.proofs.lemmas.List.Elements.{Contains-append_right}
 use Rattle.std.proofs.lemmas.Option.{slice_get-get_or}
 use Rattle.sd_areas.specs.declared.area.Area.{Area}
 use Rattle.sd_areas.specs.declared.prot.Prot.{Prot}
@@ -19,51 +19,11 @@ use Rattle.sd_image.specs.declared.run.RunKind.TheVariants.{Data, Parent, Zero}
 use Rattle.sd_image.specs.Words.{run_kind_number}
 use Rattle.sd_image.specs.Table.{Listed, run_pages, AreSpaces, IsSpace, Covers}
 use Rattle.sd_image.specs.Shows.{pages_of}
+use Rattle.sd_image.proofs.Members.{contains_cases, contains_map, contains_none, from_map, from_parts, into_parts}
 use Rattle.sd_chain.specs.declared.way.Way.{Way}
 use Rattle.sd_chain.specs.declared.way.Way.TheVariants as way
 use Rattle.sd_chain.specs.Ways.{HasPage}
 use Rattle.sd_restore.specs.Mapped.{Mapped, mapped_with, area_mapped, space_mapped, mapped_pages}
-
--- ---- elements
-
-pub front_cases : {X : Type 0} (x y : X) (xs : List X) → Contains (x ∷ xs) y → (y ≡ x) ⊎ Contains xs y
-front_cases x y xs c = at_place c.0 c.1 c.2
-  where
-    at_place : (k : ℕ) → k < length (x ∷ xs) → slice_index_or (x ∷ xs) k y ≡ y → (y ≡ x) ⊎ Contains xs y
-    at_place zero within is = inl (sym is)
-    at_place (suc k) within is = inr (k, omega arith, is)
-
-pub nowhere : {X : Type 0} (x : X) → Contains [] x → ⊥
-nowhere x c = let less = c.1 in absurd (omega arith)
-
-index_of_map : {X Y : Type 0} (f : X → Y) (xs : List X) (k : ℕ) (x : X) → slice_index_or (map f xs) k (f x) ≡ f (slice_index_or xs k x)
-index_of_map f [] k x = refl
-index_of_map f (y ∷ xs) zero x = refl
-index_of_map f (y ∷ xs) (suc k) x = index_of_map f xs k x
-
-pub contains_map : {X Y : Type 0} (f : X → Y) (xs : List X) (x : X) → Contains xs x → Contains (map f xs) (f x)
-contains_map f xs x c = (c.0, omega (arith, c.1, length-map xs f), index_of_map f xs c.0 x ∙ ap f c.2)
-
-pub from_map : {X Y : Type 0} (f : X → Y) (xs : List X) (y : Y) → Contains (map f xs) y → (x : X) × Contains xs x × (y ≡ f x)
-from_map f [] y c = absurd (nowhere y c)
-from_map f (x ∷ xs) y c = elim (front_cases (f x) y (map f xs) c) [
-  | inl e ↦ (x, (0, omega arith, refl), e)
-  | inr later ↦ (let rest = from_map f xs y later in (rest.0, (suc rest.1.0, omega (arith, rest.1.1), rest.1.2), rest.2))
-]
-
-pub from_parts : {X Y : Type 0} (f : X → List Y) (xs : List X) (y : Y) → Contains (flat_map f xs) y → (x : X) × Contains xs x × Contains (f x) y
-from_parts f [] y c = absurd (nowhere y c)
-from_parts f (x ∷ xs) y c = elim (Contains-append_cases (f x) (flat_map f xs) y c) [
-  | inl here ↦ (x, (0, omega arith, refl), here)
-  | inr later ↦ (let rest = from_parts f xs y later in (rest.0, (suc rest.1.0, omega (arith, rest.1.1), rest.1.2), rest.2))
-]
-
-pub into_parts : {X Y : Type 0} (f : X → List Y) (xs : List X) (x : X) (y : Y) → Contains xs x → Contains (f x) y → Contains (flat_map f xs) y
-into_parts f [] x y c d = absurd (nowhere x c)
-into_parts f (z ∷ xs) x y c d = elim (front_cases z x xs c) [
-  | inl e ↦ Contains-append_left (f z) (flat_map f xs) y (subst (λ w. Contains (f w) y) e d)
-  | inr later ↦ Contains-append_right (f z) (flat_map f xs) y (into_parts f xs x y later d)
-]
 
 -- ---- pages from a first on
 
@@ -95,8 +55,8 @@ contains-pages_from first count k less =
 
 among_from : (first count page : ℕ) → Contains (pages_from first count) page → (first ≤ page) × (page < first + count)
 unfolding pages_from
-among_from first zero page c = absurd (nowhere page c)
-among_from first (suc count) page c = elim (front_cases first page (pages_from (suc first) count) c) [
+among_from first zero page c = absurd (contains_none page c)
+among_from first (suc count) page c = elim (contains_cases first page (pages_from (suc first) count) c) [
   | inl e ↦ (omega (arith, e), omega (arith, e))
   | inr later ↦ (let rest = among_from (suc first) count page later in (omega (arith, rest.0), omega (arith, rest.1)))
 ]
@@ -115,8 +75,8 @@ mapped_split space area k less =
 -- ---- areas
 
 pub area_within : (before : Option Area) (areas : List Area) (area : Area) → AreMaximal before areas → Contains areas area → area.first + area.count ≤ 2 ^ 35
-area_within before [] area are c = absurd (nowhere area c)
-area_within before (a ∷ areas) area are c = elim (front_cases a area areas c) [
+area_within before [] area are c = absurd (contains_none area c)
+area_within before (a ∷ areas) area are c = elim (contains_cases a area areas c) [
   | inl e ↦ subst (λ (k : Area). k.first + k.count ≤ 2 ^ 35) (sym e) (ends before a are.0)
   | inr later ↦ area_within (Some a) areas area are.1 later
 ]
@@ -126,10 +86,10 @@ area_within before (a ∷ areas) area are c = elim (front_cases a area areas c) 
 
 -- each later area begins behind this one
 behind : (a : Area) (areas : List Area) (area : Area) → AreMaximal (Some a) areas → Contains areas area → a.first + a.count ≤ area.first
-behind a [] area are c = absurd (nowhere area c)
+behind a [] area are c = absurd (contains_none area c)
 behind a (b ∷ areas) area are c =
     let next : a.first + a.count ≤ b.first = begins a b are.0 in
-    elim (front_cases b area areas c) [
+    elim (contains_cases b area areas c) [
       | inl e ↦ subst (λ (k : Area). a.first + a.count ≤ k.first) (sym e) next
       | inr later ↦ (let rest = behind b areas area are.1 later in omega (arith, next, rest))
     ]
@@ -146,10 +106,10 @@ not_within first count page past = grind (arith, nat_tests)
 -- a page of an area has its permissions
 pub prot_of : (before : Option Area) (areas : List Area) (area : Area) (page : ℕ) → AreMaximal before areas → Contains areas area → Contains (area_pages area) page
     → prot_in areas page ≡ Some area.prot
-prot_of before [] area page are c among = absurd (nowhere area c)
+prot_of before [] area page are c among = absurd (contains_none area c)
 prot_of before (a ∷ areas) area page are c among =
     let range = among_from area.first area.count page among in
-    elim (front_cases a area areas c) [
+    elim (contains_cases a area areas c) [
       | inl e ↦ cond-true _ _ _ (subst (λ (k : Area). is_within k.first k.count page ≡ true) e (within_by area.first area.count page range.0 range.1)) ∙ ap (λ (k : Area). Some k.prot) (sym e)
       | inr later ↦
           (let next = behind a areas area are.1 later in
@@ -178,24 +138,24 @@ area_of (a ∷ areas) page prot is = elim (cases_Bool (is_within a.first a.count
 -- ---- spaces
 
 pub space_of : (h : Header) (before : ℕ) (spaces : List Listed) (s : Listed) → AreSpaces h before spaces → Contains spaces s → (b : ℕ) × IsSpace h b s × (before < s.space)
-space_of h before [] s are c = absurd (nowhere s c)
-space_of h before (t ∷ spaces) s are c = elim (front_cases t s spaces c) [
+space_of h before [] s are c = absurd (contains_none s c)
+space_of h before (t ∷ spaces) s are c = elim (contains_cases t s spaces c) [
   | inl e ↦ (before, subst (IsSpace h before) (sym e) are.0, subst (λ (k : Listed). before < k.space) (sym e) are.0.above)
   | inr later ↦ (let rest = space_of h t.space spaces s are.1 later in (rest.0, rest.1, (let above = are.0.above in let more = rest.2 in omega (arith, above, more))))
 ]
 
 -- a space is there once
 pub space_once : (h : Header) (before : ℕ) (spaces : List Listed) (a b : Listed) → AreSpaces h before spaces → Contains spaces a → Contains spaces b → a.space ≡ b.space → a ≡ b
-space_once h before [] a b are c d e = absurd (nowhere a c)
-space_once h before (x ∷ spaces) a b are c d e = elim (front_cases x a spaces c) [
-  | inl p ↦ elim (front_cases x b spaces d) [
+space_once h before [] a b are c d e = absurd (contains_none a c)
+space_once h before (x ∷ spaces) a b are c d e = elim (contains_cases x a spaces c) [
+  | inl p ↦ elim (contains_cases x b spaces d) [
     | inl q ↦ p ∙ sym q
     | inr q ↦
         let above = (space_of h x.space spaces b are.1 q).2 in
         let same : a.space ≡ x.space = ap (λ (s : Listed). s.space) p in
         absurd (omega (arith, above, same, e))
   ]
-  | inr p ↦ elim (front_cases x b spaces d) [
+  | inr p ↦ elim (contains_cases x b spaces d) [
     | inl q ↦
         let above = (space_of h x.space spaces a are.1 p).2 in
         let same : b.space ≡ x.space = ap (λ (s : Listed). s.space) q in

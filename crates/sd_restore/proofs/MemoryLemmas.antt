@@ -13,8 +13,8 @@ use Rattle.sd_areas.specs.Memory.{put_page}
 use Rattle.sd_areas.specs.PlainMemory.{Page, Space, PlainMemory}
 use Rattle.sd_image.specs.Table.{Listed}
 use Rattle.sd_image.specs.Shows.{page_in}
+use Rattle.sd_image.proofs.Members.{contains_cases, contains_none}
 use Rattle.sd_restore.specs.Placed.{PlacedPage, page_at, with_spaces, with_pages}
-use Rattle.sd_restore.proofs.MappedLemmas.{front_cases, nowhere}
 
 tied : (q k : ℕ) → q ≡ k → eq_by_cmp nat_cmp q k ≡ true
 tied q k e = grind (arith, nat_tests)
@@ -171,7 +171,7 @@ pub pages_are : (contents : List (List ℕ)) (memory : PlainMemory) (pages : Lis
 pages_are contents memory [] space page = at (page_in memory space page)
   where
     at : (o : Option Page) → MatchOption o ((o ≡ None) × ((p : PlacedPage) → Contains [] p → (p.space ≡ space) × (p.page ≡ page) → ⊥)) (λ found. (o ≡ Some found) ⊎ IsPut contents [] space page found)
-    at None = (refl, λ p c both. nowhere p c)
+    at None = (refl, λ p c both. contains_none p c)
     at (Some found) = inl refl
 pages_are contents memory (p ∷ pages) space page =
     by (page_in (with_pages contents memory (p ∷ pages)) space page) (pages_are contents (put_page memory p.space p.page (page_at contents p)) pages space page)
@@ -193,7 +193,7 @@ pages_are contents memory (p ∷ pages) space page =
         | inl both ↦ absurd (clash (sym none.0 ∙ here both))
         | inr apart ↦ sym (put_elsewhere memory p.space p.page space page (page_at contents p) apart) ∙ none.0
       ],
-      λ q c both. elim (front_cases p q pages c) [
+      λ q c both. elim (contains_cases p q pages c) [
         | inl e ↦ clash (sym none.0 ∙ here (subst (λ (q : PlacedPage). (q.space ≡ space) × (q.page ≡ page)) e both))
         | inr later ↦ none.1 q later both
       ],

@@ -7,6 +7,7 @@ use Rattle.sd_areas.specs.declared.area.Area.{Area}
 use Rattle.sd_areas.specs.Pages.{pages_from}
 use Rattle.sd_image.specs.declared.reason.Reason.{Reason}
 use Rattle.sd_image.specs.declared.reason.Reason.TheVariants.{Chain}
+use Rattle.sd_image.proofs.Members.{from_map}
 use Rattle.sd_chain.specs.declared.found.Found.{Found}
 use Rattle.sd_chain.specs.Catalog.{Opened, Places, images, place_of}
 use Rattle.sd_chain.specs.Ways.{LiesAt, by_data, by_zero, by_parent, LiesBySerial, BreaksBySerial}
@@ -14,7 +15,7 @@ use Rattle.sd_restore.specs.declared.fault.Fault.{Fault}
 use Rattle.sd_restore.specs.Faulty.{Names}
 use Rattle.sd_restore.specs.Mapped.{Mapped, mapped_with, area_mapped}
 use Rattle.sd_restore.specs.Placed.{PlacedPage, mapped_of, IsPlaced, ArePlaced, IsInSlots, IsUnheld, MeetsBreak}
-use Rattle.sd_restore.proofs.MappedLemmas.{from_map, no_pages, mapped_more, mapped_split}
+use Rattle.sd_restore.proofs.MappedLemmas.{no_pages, mapped_more, mapped_split}
 use Rattle.sd_restore.proofs.ScanLemmas.{names_more}
 
 pub none_placed : (places : Places) (serial : ℕ) → ArePlaced places serial [] []

@@ -9,6 +9,7 @@ use Rattle.sd_areas.specs.declared.area.Area.{Area}
 use Rattle.sd_areas.specs.Pages.{pages_from}
 use Rattle.sd_areas.specs.PlainMemory.{PlainMemory}
 use Rattle.sd_areas.specs.Memory.{put_page}
+use Rattle.sd_image.proofs.Members.{contains_map, into_parts}
 use Rattle.sd_chain.specs.declared.found.Found.{Found}
 use Rattle.sd_chain.specs.declared.found.Found.TheVariants as found
 use Rattle.sd_chain.specs.Catalog.{Places}
@@ -16,7 +17,7 @@ use Rattle.sd_chain.specs.Chains.{found_on}
 use Rattle.sd_restore.specs.declared.placed_run.PlacedRun.{PlacedRun}
 use Rattle.sd_restore.specs.Mapped.{Mapped, mapped_with}
 use Rattle.sd_restore.specs.Placed.{PlacedPage, ArePlaced, IsFoundAt, IsInSlots, IsWithin, page_at, page_behind, pages_in, placed_pages, with_pages}
-use Rattle.sd_restore.proofs.MappedLemmas.{contains_map, contains-pages_from, grown, into_parts, no_pages}
+use Rattle.sd_restore.proofs.MappedLemmas.{contains-pages_from, grown, no_pages}
 use Rattle.sd_restore.proofs.MemoryLemmas.{AreAlive, pages_more}
 use Rattle.sd_restore.proofs.PlacedLemmas.{area_more}
 

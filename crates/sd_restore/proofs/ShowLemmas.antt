@@ -16,12 +16,13 @@ use Rattle.sd_image.specs.Laws.{OneStore, TipOnce}
 use Rattle.sd_image.specs.Shows.{Holds, IsMemory, IsRestorable, IsStore, Shows, page_in}
 use Rattle.sd_image.specs.Shows as image_shows
 use Rattle.sd_image.specs.Table.{Listed, IsTable, AreSpaces}
+use Rattle.sd_image.proofs.Members.{contains_map, from_map}
 use Rattle.sd_chain.specs.Catalog.{Opened, Places, AreInOrder, place_of, images, IsTip}
 use Rattle.sd_chain.specs.Store.{IsCatalogOf, IsInFile, FindsTip, bytes_at}
 use Rattle.sd_restore.specs.Faulty.{IsBrokenChain}
 use Rattle.sd_restore.specs.Mapped.{Mapped, mapped_pages}
 use Rattle.sd_restore.specs.Placed.{PlacedPage, mapped_of, IsPlaced, ArePlaced, IsInSlots, MeetsBreak, with_spaces, memory_at}
-use Rattle.sd_restore.proofs.MappedLemmas.{contains_map, from_map, into_mapped, from_mapped, space_once}
+use Rattle.sd_restore.proofs.MappedLemmas.{into_mapped, from_mapped, space_once}
 use Rattle.sd_restore.proofs.MemoryLemmas.{AreAlive, After, spaces_alive, spaces_bare, empty_bare, empty_dead, pages_alive, pages_are}
 use Rattle.sd_restore.proofs.PlacedLemmas.{placed_in_slots}
 

@@ -44,8 +44,8 @@ module _ {X Y : Type 0} (f : X → List Y) (xs : List X) (i : ℕ) (x : X) (less
       within (z ∷ xs) (suc i) less is = Contains-append_right (f z) (flat_map f xs) y (within xs i (omega arith) is)
 
 -- the next one is an element
-pub contains_at : {X : Type 0} (xs : List X) (i : ℕ) (x : X) → i < length xs → x ≡ slice_index_or xs i x → Contains xs x
-contains_at xs i x less is = (i, less, sym is)
+pub contains_index : {X : Type 0} (xs : List X) (i : ℕ) (x : X) → i < length xs → x ≡ slice_index_or xs i x → Contains xs x
+contains_index xs i x less is = (i, less, sym is)
 
 -- ---- pages of what was read at once
 

@@ -6,6 +6,7 @@ use Rattle.std.proofs.lemmas.List.Elements.{filter-append, Contains-append_left,
 use Rattle.sd_image.specs.declared.run.RunKind.TheVariants.{Data, Parent, Zero}
 use Rattle.sd_pagetable.specs.Contents.{Contents}
 use Rattle.sd_pagetable.specs.Order.{IsNextPage}
+use Rattle.sd_image.proofs.Members.{contains_none}
 use Rattle.sd_rounds.specs.Pass.{Place, Entry, Taking, Pass, pages_by, has_passed, opened, visited, begun_to_take, left_to_parent, copied_more, dropped, with_entry}
 use Rattle.sd_rounds.specs.Visits.{Visit, visited_page, is_taken, taken_pages, left_pages, IsPassOf, IsSwept, AreMapped, VisitLaws}
 use Rattle.sd_rounds.proofs.Clean.{no_some, one_some}
@@ -14,9 +15,6 @@ use Rattle.sd_rounds.proofs.Orders.{passed_next, passed_all}
 
 abbrev with_visit : List Visit → Place → Bool → List Visit
 with_visit visits at soft_dirty = visits ++ (record { place = at; soft_dirty = soft_dirty }) ∷ []
-
-none_in : {X : Type 0} (x : X) → Contains [] x → ⊥
-none_in x c = absurd (omega (arith, c.1))
 
 taken_more : (takes_all : Bool) (visits : List Visit) (at : Place) (soft_dirty : Bool)
     → taken_pages takes_all (with_visit visits at soft_dirty) ≡ taken_pages takes_all visits ++ cond (takes_all || soft_dirty) (at ∷ []) []
@@ -50,8 +48,8 @@ still_zero entries at = pages_append Zero entries _ ∙ append-nil (pages_by Zer
 opens : (takes_all : Bool) → IsPassOf [] (opened takes_all)
 opens takes_all = record {
   parents = refl;
-  stored = λ at c. absurd (none_in at c);
-  zero = λ at c. absurd (none_in at c);
+  stored = λ at c. absurd (contains_none at c);
+  zero = λ at c. absurd (contains_none at c);
   taking = λ taking is. absurd (no_some taking refl is);
 }
 

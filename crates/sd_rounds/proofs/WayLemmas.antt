@@ -8,6 +8,7 @@ use Rattle.sd_image.specs.declared.run.RunKind.TheVariants.{Data, Parent, Zero}
 use Rattle.sd_image.specs.Words.{run_kind_number}
 use Rattle.sd_pagetable.specs.Order.{is_above}
 use Rattle.sd_pagetable.specs.Tracking.{is_page}
+use Rattle.sd_image.proofs.Members.{contains_later, contains_none}
 use Rattle.sd_rounds.specs.Pass.{Entry, Place, has_kind, pages_by, place_of}
 use Rattle.sd_rounds.specs.Rises.{AreRising, kind_at}
 use Rattle.sd_rounds.proofs.Clean.{no_some, one_some}
@@ -25,12 +26,6 @@ cons_cases {X} y x xs c = by c.0 c.1 c.2
 
 cons_head : {X : Type 0} (y x : X) (xs : List X) → y ≡ x → Contains (y ∷ xs) x
 cons_head y x xs e = (0, omega arith, e)
-
-cons_tail : {X : Type 0} (y x : X) (xs : List X) → Contains xs x → Contains (y ∷ xs) x
-cons_tail y x xs c = (suc c.0, omega (arith, c.1), c.2)
-
-none_in : {X : Type 0} (x : X) → Contains [] x → ⊥
-none_in x c = absurd (omega (arith, c.1))
 
 -- ---- the pages of a kind
 
@@ -62,7 +57,7 @@ found kind [] at e = absurd (no_some kind refl e)
 found kind (entry ∷ entries) at e = by (is_page entry.place.0 entry.place.1 at.0 at.1) refl e (found kind entries at)
   where
     later : Contains (pages_by kind entries) at → (b : Bool) → has_kind kind entry ≡ b → Contains (pages_by kind (entry ∷ entries)) at
-    later c true is = subst (λ (l : List Place). Contains l at) (sym (pages_one kind entry entries true is)) (cons_tail entry.place at (pages_by kind entries) c)
+    later c true is = subst (λ (l : List Place). Contains l at) (sym (pages_one kind entry entries true is)) (contains_later entry.place at (pages_by kind entries) c)
     later c false is = subst (λ (l : List Place). Contains l at) (sym (pages_one kind entry entries false is)) c
 
     by : (b : Bool) → is_page entry.place.0 entry.place.1 at.0 at.1 ≡ b → cond b (Some entry.kind) (kind_at entries at) ≡ Some kind
@@ -81,7 +76,7 @@ not_again before at (entry ∷ entries) rising apart =
     ∙ not_again entry.place at entries rising.1 (λ q above. apart q (above_more (Some before) entry.place q rising.0 above))
 
 one_way : (kind : RunKind) (before : Option Place) (entries : List Entry) (at : Place) → AreRising before entries → Contains (pages_by kind entries) at → kind_at entries at ≡ Some kind
-one_way kind before [] at rising c = absurd (none_in at c)
+one_way kind before [] at rising c = absurd (contains_none at c)
 one_way kind before (entry ∷ entries) at rising c = by (has_kind kind entry) refl (one_way kind (Some entry.place) entries at rising.1)
   where
     later : kind_at entries at ≡ Some kind → (b : Bool) → is_page entry.place.0 entry.place.1 at.0 at.1 ≡ b → cond b (Some entry.kind) (kind_at entries at) ≡ Some kind

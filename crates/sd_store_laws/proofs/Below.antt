@@ -3,6 +3,7 @@ use Rattle.std.proofs.Common.{◌≡◌, ◌⊎◌, ℕ, List, [], ◌∷◌, Co
 use Rattle.sd_image.specs.Image.{Image}
 use Rattle.sd_image.specs.Laws.{SerialsDiffer}
 use Rattle.sd_image.specs.Shows.{Holds, IsNamed, IsTip}
+use Rattle.sd_image.proofs.Members.{contains_cases, contains_front, contains_none}
 use Rattle.sd_store_laws.specs.Needed.{IsCalled, by_tip, by_job, by_parent}
 use Rattle.sd_store_laws.specs.Cut.{KeepsItsNumber}
 use Rattle.sd_store_laws.specs.Store.{IsSound, Store, jobs}
@@ -12,7 +13,6 @@ use Rattle.sd_store_laws.proofs.Choose.{one_named}
 use Rattle.sd_store_laws.proofs.Cuts.{IsFollowed, holds_back, holds_on, named_back, named_on, needed_in}
 use Rattle.sd_store_laws.proofs.Growth.{called_all}
 use Rattle.sd_store_laws.proofs.Harmless.{unused_is_uncalled_lem}
-use Rattle.sd_store_laws.proofs.Members.{contains_cases, contains_front, contains_none}
 use Rattle.sd_store_laws.proofs.Opens.{twin_harmless}
 
 below_on : (catalog images : List Image) (jobs : List ℕ) (number space page : ℕ) (bytes : List ℕ) → IsFollowed catalog jobs images → IsCalled catalog jobs number

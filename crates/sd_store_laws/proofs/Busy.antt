@@ -6,12 +6,12 @@ use Rattle.sd_image.specs.declared.header.Kind.TheVariants.{PreDump, Dump, Merge
 use Rattle.sd_image.specs.declared.run.RunKind.TheVariants.{Data, Parent}
 use Rattle.sd_image.specs.Image.{Image}
 use Rattle.sd_image.specs.Shows.{IsNamed, IsNotAfter, IsRestorable, IsTip, ImagesShow}
+use Rattle.sd_image.proofs.Members.{contains_cases, contains_front, contains_later, contains_none}
 use Rattle.sd_store_laws.specs.Store.{IsNextDump, IsSound, IsTwin, Store, jobs}
 use Rattle.sd_store_laws.specs.Steps.{Adds, begun, committed, merging, opened}
 use Rattle.sd_store_laws.specs.Beliefs.{AreSlotsOf, Belief, Kept, Closing, Opening, IsAdded, image_at}
 use Rattle.sd_store_laws.specs.Worked.{MergeBesideRound, busy, busy_slots, memory_of, merged, unchanged, whole}
 use Rattle.sd_store_laws.proofs.Cuts.{needed_in}
-use Rattle.sd_store_laws.proofs.Members.{contains_cases, contains_front, contains_later, contains_none}
 use Rattle.sd_store_laws.proofs.OnePage.{page_memory}
 use Rattle.sd_store_laws.proofs.Slots.{left_images_show_lem}
 use Rattle.sd_store_laws.proofs.StepLemmas.{steps_keep_lem}

@@ -6,7 +6,7 @@ use Rattle.sd_image.specs.declared.header.Kind.TheVariants.{PreDump, Dump, Merge
 use Rattle.sd_image.specs.Image.{Image}
 use Rattle.sd_image.specs.Shows.{IsNamed, IsNotAfter, IsRestorable, IsTip}
 use Rattle.sd_image.specs.Laws.{SerialsDiffer}
-use Rattle.sd_store_laws.proofs.Members.{contains_cases, contains_front, contains_later, contains_none}
+use Rattle.sd_image.proofs.Members.{contains_cases, contains_front, contains_later, contains_none}
 
 -- ---- the image that a number names
 

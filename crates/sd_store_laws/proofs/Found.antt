@@ -3,12 +3,12 @@ use Rattle.std.proofs.Common.{◌≡◌, ℕ, zero, suc, nat_eq, List, [], ◌�
 use Rattle.std.specs.List.{AllZip, IsDistinct}
 use Rattle.std.proofs.lemmas.Option.{none-some, same_Some}
 use Rattle.sd_image.specs.Image.{Image, IsImage, OpenImages}
+use Rattle.sd_image.proofs.Members.{contains_cases, contains_front, contains_later, contains_none}
 use Rattle.sd_store_laws.specs.Steps.{opened}
 use Rattle.sd_store_laws.specs.Beliefs.{Belief, Closed, Kept, Closing, Opening, image_at}
 use Rattle.sd_store_laws.specs.SlotSteps.{IsFoundAs, SlotsAreFound}
 use Rattle.sd_store_laws.specs.Store.{jobs}
 use Rattle.sd_store_laws.proofs.Cuts.{needed_in}
-use Rattle.sd_store_laws.proofs.Members.{contains_cases, contains_front, contains_later, contains_none}
 use Rattle.sd_store_laws.proofs.Opens.{other_serials}
 
 abbrev Distinct : List Image → Type 0

@@ -7,6 +7,7 @@ use Rattle.sd_image.specs.declared.header.Header.{Header}
 use Rattle.sd_image.specs.Image.{Image, IsImage}
 use Rattle.sd_image.specs.Laws.{OneImage}
 use Rattle.sd_image.specs.Shows.{IsNamed}
+use Rattle.sd_image.proofs.Members.{contains_at, place_in}
 use Rattle.sd_chain.specs.Catalog.{Changes, IsSound as IsSoundCatalog, Names, Opened, Places, images, place_of, without_slot}
 use Rattle.sd_chain.specs.Reaches.{ReachesSerial}
 use Rattle.sd_chain.specs.Reaches as catalog
@@ -16,7 +17,7 @@ use Rattle.sd_store_laws.specs.Beliefs.{Belief, Closed, Kept, Closing, Opening}
 use Rattle.sd_store_laws.specs.SlotSteps.{IsFoundAs, with_belief}
 use Rattle.sd_store_laws.specs.InUse.{CatalogFollows, CatalogInUseTells, CatalogIsFound, HasImage, IsCatalogInUse, ToldReachesSo}
 use Rattle.sd_store_laws.proofs.Slots.{image_opens}
-use Rattle.sd_store_laws.proofs.SlotSteps.{at_contains, contains_at, set_other, set_same}
+use Rattle.sd_store_laws.proofs.SlotSteps.{set_other, set_same}
 
 serials : (o : Opened) (i : Image) → IsToldAs o i → i.header.serial ≡ o.header.serial
 serials o i told = ap (λ (h : Header). h.serial) told.header
@@ -29,14 +30,14 @@ tells_lem places sound s pending beliefs are held = record {
       let found = held.image o.header.serial o (sound.own o c) in
       (found.0, (are.catalog found.0).1 (has o.slot found.0 found.2), found.1);
   opened = λ i c. elim ((are.catalog i).0 c) [
-    | inl kept ↦ let k = contains_at beliefs (Kept i) kept in there i (held.opened k.0 i (inl k.1))
-    | inr closing ↦ let k = contains_at beliefs (Closing i) closing in there i (held.opened k.0 i (inr k.1))
+    | inl kept ↦ let k = place_in beliefs (Kept i) kept in there i (held.opened k.0 i (inl k.1))
+    | inr closing ↦ let k = place_in beliefs (Closing i) closing in there i (held.opened k.0 i (inr k.1))
   ];
 }
   where
     has : (slot : ℕ) (i : Image) → HasImage beliefs slot i → Contains beliefs (Kept i) ⊎ Contains beliefs (Closing i)
-    has slot i (inl e) = inl (at_contains beliefs slot (Kept i) e)
-    has slot i (inr e) = inr (at_contains beliefs slot (Closing i) e)
+    has slot i (inl e) = inl (contains_at beliefs slot (Kept i) e)
+    has slot i (inr e) = inr (contains_at beliefs slot (Closing i) e)
 
     there : (i : Image) {slot : ℕ} → (o : Opened) × (place_of places i.header.serial ≡ Some (Some o)) × IsToldAs o i × (o.slot ≡ slot)
         → (o : Opened) × Contains (images places) o × IsToldAs o i

@@ -3,12 +3,12 @@ use Rattle.std.proofs.Common.{◌≡◌, ◌⊎◌, ℕ, [], ◌∷◌, Option, 
 use Rattle.std.proofs.lemmas.List.Elements.{Contains-append_cases, Contains-append_left}
 use Rattle.sd_image.specs.Image.{Image}
 use Rattle.sd_image.specs.Shows.{IsNamed}
+use Rattle.sd_image.proofs.Members.{contains_cases, contains_none}
 use Rattle.sd_store_laws.specs.Needed.{IsReached}
 use Rattle.sd_store_laws.specs.Needs.{IsNeededIn}
 use Rattle.sd_store_laws.specs.Reached.{Reaches, itself, beyond}
 use Rattle.sd_store_laws.specs.Store.{IsSound, Store, jobs}
 use Rattle.sd_store_laws.specs.Kept.{HasItsWork, InUseIsNeeded, IsInUse, RetiresUnneeded, WorkStays}
-use Rattle.sd_store_laws.proofs.Members.{contains_cases, contains_none}
 use Rattle.sd_store_laws.proofs.Stays.{source_reaches_needed_lem}
 use Rattle.sd_store_laws.proofs.Walks.{needed_is_reached_lem}
 

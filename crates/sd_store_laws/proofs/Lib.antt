@@ -1,4 +1,3 @@
-pub mod Members
 pub mod Choose
 pub mod Walks
 pub mod Catalogs

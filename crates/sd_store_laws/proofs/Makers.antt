@@ -5,12 +5,12 @@ use Rattle.sd_areas.specs.Areas.{prot_in}
 use Rattle.sd_areas.specs.PlainMemory.{Page}
 use Rattle.sd_image.specs.Image.{Image}
 use Rattle.sd_image.specs.Shows.{Holds, by_data, by_zero, by_parent, page_in}
+use Rattle.sd_image.proofs.Members.{contains_none}
 use Rattle.sd_store_laws.specs.Needed.{by_job}
 use Rattle.sd_store_laws.specs.Store.{IsNextDump, IsSound, Store}
 use Rattle.sd_store_laws.specs.Makers.{AboveIsFresh, DumpShows, HasItself, HasOver, IsMergedOf, MergedRepeats}
 use Rattle.sd_store_laws.proofs.Below.{steps_give_lem}
 use Rattle.sd_store_laws.proofs.Growth.{new_tip}
-use Rattle.sd_store_laws.proofs.Members.{contains_none}
 use Rattle.sd_store_laws.proofs.Pending.{adds_front}
 
 -- ---- a merged image

@@ -7,8 +7,8 @@ use Rattle.sd_areas.specs.PlainMemory.{Page, PlainMemory}
 use Rattle.sd_image.specs.Image.{Image}
 use Rattle.sd_image.specs.Table.{Listed}
 use Rattle.sd_image.specs.Shows.{Holds, IsMemory, page_in}
+use Rattle.sd_image.proofs.Members.{contains_map, from_map}
 use Rattle.sd_store_laws.specs.Cut.{areas_of}
-use Rattle.sd_store_laws.proofs.Members.{contains_map, map_contains}
 
 spaces_any : (spaces : List Listed) (space : ℕ)
     → list_any (λ (s : Listed). eqb s.space space) spaces ≡ list_any (λ (p : ℕ × List Area). eqb p.0 space) (map (λ (s : Listed). (s.space, s.areas)) spaces)
@@ -36,9 +36,9 @@ memory_moves images others i twin memory areas holds is = record {
       ∙ sym (ap (list_any (λ (p : ℕ × List Area). eqb p.0 space)) areas) ∙ sym (spaces_any twin.spaces space);
   pages = λ t c page.
       let pair = subst (λ (ps : List (ℕ × List Area)). Contains ps (t.space, t.areas)) areas (contains_map (λ (s : Listed). (s.space, s.areas)) twin.spaces t c) in
-      let s = map_contains (λ (s : Listed). (s.space, s.areas)) i.spaces (t.space, t.areas) pair in
-      let space : s.0.space ≡ t.space = ap (λ (p : ℕ × List Area). p.0) s.2 in
+      let s = from_map (λ (s : Listed). (s.space, s.areas)) i.spaces (t.space, t.areas) pair in
+      let space : s.0.space ≡ t.space = ap (λ (p : ℕ × List Area). p.0) (sym s.2) in
       let there = is.pages s.0 s.1 page in
-      page_moves images others i twin s.0 t page (page_in memory t.space page) holds space (ap (λ (p : ℕ × List Area). p.1) s.2)
+      page_moves images others i twin s.0 t page (page_in memory t.space page) holds space (ap (λ (p : ℕ × List Area). p.1) (sym s.2))
       (subst (λ n. MatchOption (page_in memory n page) (prot_in s.0.areas page ≡ None) (λ p. (prot_in s.0.areas page ≡ Some p.prot) × Holds images s.0.space page p.bytes i)) space there);
 }

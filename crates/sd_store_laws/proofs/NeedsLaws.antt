@@ -1,12 +1,12 @@
 -- What isn't needed stays so.
 use Rattle.std.proofs.Common.{◌≡◌, ◌≢◌, ◌⊎◌, Contains, refl, ap, inl, inr}
 use Rattle.sd_image.specs.Image.{Image}
+use Rattle.sd_image.proofs.Members.{contains_none}
 use Rattle.sd_store_laws.specs.Needed.{IsCalled, by_tip, by_parent}
 use Rattle.sd_store_laws.specs.Needs.{IsNeededIn, IsUnneeded, NeedsNoMore, UnneededStays}
 use Rattle.sd_store_laws.specs.Store.{Store, jobs}
 use Rattle.sd_store_laws.specs.Steps.{Adds, added, committed, opened, replaced}
 use Rattle.sd_store_laws.proofs.Growth.{called_all}
-use Rattle.sd_store_laws.proofs.Members.{contains_none}
 use Rattle.sd_store_laws.proofs.Needs.{added_needs, begun_needs, cancelled_needs, committed_needs, merging_needs, replaced_needs, retired_needs, whole_needs}
 
 opened_needs : (s : Store) (i : Image) → IsNeededIn (opened s.catalog) i → IsNeededIn s i

@@ -16,8 +16,8 @@ use Rattle.sd_image.specs.declared.run.RunKind.{RunKind}
 use Rattle.sd_image.specs.Table.{Listed}
 use Rattle.sd_image.specs.Image.{Image}
 use Rattle.sd_image.specs.Shows.{Holds, IsMemory, page_in}
+use Rattle.sd_image.proofs.Members.{contains_cases, contains_none}
 use Rattle.sd_store_laws.specs.Worked.{memory_of, one_page, prot}
-use Rattle.sd_store_laws.proofs.Members.{contains_cases, contains_none}
 
 -- a number that finds a key is it
 tied : (q k : ℕ) → q ≡ k → eq_by_cmp nat_cmp q k ≡ true

@@ -11,13 +11,13 @@ use Rattle.sd_image.specs.Header.{AreNumbers}
 use Rattle.sd_image.specs.Image.{Image, OpenImages}
 use Rattle.sd_image.specs.Shows.{Holds, by_data, by_zero, by_parent, IsNamed, IsTip, ImagesShow}
 use Rattle.sd_image.specs.Laws.{SerialsDiffer}
+use Rattle.sd_image.proofs.Members.{contains_cases, contains_front, contains_later, contains_none}
 use Rattle.sd_store_laws.specs.Cut.{IsHarmless}
 use Rattle.sd_store_laws.specs.Store.{IsMerged, IsSound, IsTwin, Store, jobs}
 use Rattle.sd_store_laws.specs.Steps.{Adds}
 use Rattle.sd_store_laws.specs.Opens.{OpenedIsSound, OrderIsFree, StepsShow}
 use Rattle.sd_store_laws.proofs.Cuts.{cut_shows_the_same_lem, needed_in}
 use Rattle.sd_store_laws.proofs.Harmless.{pre_dump_is_harmless_lem, twin_is_harmless_lem}
-use Rattle.sd_store_laws.proofs.Members.{contains_cases, contains_front, contains_later, contains_none}
 use Rattle.sd_store_laws.proofs.Memories.{memory_moves}
 use Rattle.sd_store_laws.proofs.StepLemmas.{steps_keep_lem}
 

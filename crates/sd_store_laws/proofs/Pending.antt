@@ -3,10 +3,10 @@ use Rattle.std.proofs.Common.{◌≢◌, ℕ, List, ◌∷◌, Contains, Option,
 use Rattle.sd_areas.specs.PlainMemory.{PlainMemory}
 use Rattle.sd_image.specs.Image.{Image}
 use Rattle.sd_image.specs.Shows.{ImagesShow}
+use Rattle.sd_image.proofs.Members.{contains_cases, contains_front, contains_later}
 use Rattle.sd_store_laws.specs.Pending.{PendingShows}
 use Rattle.sd_store_laws.specs.Store.{IsNextDump, IsSound, IsTwin, Store}
 use Rattle.sd_store_laws.specs.Steps.{Adds, Retires, committed}
-use Rattle.sd_store_laws.proofs.Members.{contains_cases, contains_front, contains_later}
 use Rattle.sd_store_laws.proofs.Needs.{committed_needs}
 use Rattle.sd_store_laws.proofs.Opens.{steps_show_lem}
 use Rattle.sd_store_laws.proofs.Stays.{twin_stays_lem}

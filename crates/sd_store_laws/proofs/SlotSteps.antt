@@ -4,21 +4,16 @@ use Rattle.std.specs.Option.{option_and_then}
 use Rattle.std.proofs.lemmas.Bool.{cases_eq}
 use Rattle.std.proofs.lemmas.Option.{none-some, same_Some}
 use Rattle.sd_image.specs.Image.{Image}
+use Rattle.sd_image.proofs.Members.{contains_at, contains_cases, contains_front, contains_later, contains_none, place_in}
 use Rattle.sd_store_laws.specs.Needed.{IsNeeded}
 use Rattle.sd_store_laws.specs.Store.{IsFresh, IsNextDump, IsSound, IsTwin, Store, jobs, IsNextPreDump}
 use Rattle.sd_store_laws.specs.Steps.{Retires, begun, cancelled, merging, retired, Adds, added, committed, replaced}
 use Rattle.sd_store_laws.specs.Beliefs.{AreSlotsOf, Belief, Closed, Kept, Closing, Opening, IsAdded, image_at, image_in}
 use Rattle.sd_store_laws.specs.SlotSteps.{ClosingRetires, Lacks, SlotsDrop, SlotsFollowCalls, SlotsFollowImages, SlotsFollowJobs, with_belief}
-use Rattle.sd_store_laws.proofs.Members.{contains_cases, contains_front, contains_later, contains_none}
 use Rattle.sd_store_laws.proofs.Needs.{begun_needs, cancelled_needs, merging_needs, retired_needs, whole_needs, added_needs, committed_needs, replaced_needs}
 use Rattle.sd_store_laws.proofs.Stays.{dump_stays_lem, fresh_stays_lem, twin_stays_lem}
 
 -- ---- one place of a list
-
-pub at_contains : {X : Type 0} (xs : List X) (k : ℕ) (x : X) → slice_get xs k ≡ Some x → Contains xs x
-at_contains [] k x e = absurd cc
-at_contains (y ∷ xs) zero x e = let same : y ≡ x = cc in subst (Contains (y ∷ xs)) same (contains_front y xs)
-at_contains (y ∷ xs) (suc k) x e = contains_later y x xs (at_contains xs k x e)
 
 -- an element that stands somewhere else
 abbrev Elsewhere : {X : Type 0} → List X → ℕ → X → Type 0
@@ -27,19 +22,12 @@ Elsewhere xs slot x = (k : ℕ) × (k ≢ slot) × (slice_get xs k ≡ Some x)
 later_elsewhere : {X : Type 0} (y : X) (xs : List X) (slot : ℕ) (x : X) → Elsewhere xs slot x → Elsewhere (y ∷ xs) (suc slot) x
 later_elsewhere y xs slot x e = (suc e.0, λ same. e.1 (omega (arith, same)), e.2)
 
-pub contains_at : {X : Type 0} (xs : List X) (x : X) → Contains xs x → (k : ℕ) × (slice_get xs k ≡ Some x)
-contains_at [] x c = absurd (contains_none x c)
-contains_at (y ∷ xs) x c = elim (contains_cases y x xs c) [
-  | inl e ↦ (0, ap Some (sym e))
-  | inr d ↦ let rest = contains_at xs x d in (suc rest.0, rest.1)
-]
-
 -- what stands in a list with one place changed
 set_back : {X : Type 0} (xs : List X) (slot : ℕ) (y x : X) → Contains (slice_set xs slot y) x → (x ≡ y) ⊎ Elsewhere xs slot x
 set_back [] slot y x c = absurd (contains_none x c)
 set_back (z ∷ xs) zero y x c = elim (contains_cases y x xs c) [
   | inl e ↦ inl e
-  | inr d ↦ let rest = contains_at xs x d in inr (suc rest.0, λ same. omega (arith, same), rest.1)
+  | inr d ↦ let rest = place_in xs x d in inr (suc rest.0, λ same. omega (arith, same), rest.1)
 ]
 set_back (z ∷ xs) (suc slot) y x c = elim (contains_cases z x (slice_set xs slot y) c) [
   | inl e ↦ inr (0, λ same. omega (arith, same), ap Some (sym e))
@@ -68,21 +56,21 @@ module _ (beliefs : List Belief) (slot : ℕ) (was is : Belief) (there : slice_g
   new = with_belief beliefs slot is
 
   come : Contains new is
-  come = at_contains new slot is (set_same beliefs slot was is there)
+  come = contains_at new slot is (set_same beliefs slot was is there)
 
   move : (x : Belief) → Contains beliefs x → (x ≡ was) ⊎ Contains new x
   move x c =
-      let k = contains_at beliefs x c in
+      let k = place_in beliefs x c in
       elim (cases_eq k.0 slot) [
         | inl same ↦ inl (same_Some x was (sym k.1 ∙ ap (slice_get beliefs) same ∙ there))
-        | inr other ↦ inr (at_contains new k.0 x (set_other beliefs slot k.0 is other ∙ k.1))
+        | inr other ↦ inr (contains_at new k.0 x (set_other beliefs slot k.0 is other ∙ k.1))
       ]
 
   back : (x : Belief) → Contains new x → (x ≡ is) ⊎ Elsewhere beliefs slot x
   back x c = set_back beliefs slot is x c
 
   here : Elsewhere beliefs slot is → Contains beliefs is
-  here e = at_contains beliefs e.0 is e.2
+  here e = contains_at beliefs e.0 is e.2
 
   abbrev AreApart : List Belief → Type 0
   AreApart bs = (a b : ℕ) (i j : Image) → image_at bs a ≡ Some i → image_at bs b ≡ Some j → i.header.serial ≡ j.header.serial → a ≡ b
@@ -121,7 +109,7 @@ module _ (beliefs : List Belief) (slot : ℕ) (was is : Belief) (there : slice_g
   ]
 
 elsewhere_in : (beliefs : List Belief) (slot : ℕ) (x : Belief) → Elsewhere beliefs slot x → Contains beliefs x
-elsewhere_in beliefs slot x e = at_contains beliefs e.0 x e.2
+elsewhere_in beliefs slot x e = contains_at beliefs e.0 x e.2
 
 -- ---- calls
 
@@ -185,7 +173,7 @@ closes s pending beliefs slot i are there unneeded =
           | inl kept ↦ elim (before (Kept j) kept) [ inl e ↦ absurd cc | inr e ↦ (are.catalog j).1 (inl (elsewhere_in beliefs slot (Kept j) e)) ]
           | inr closing ↦ elim (before (Closing j) closing) [
             | inl e ↦ let same : j ≡ i = cc in
-                (are.catalog j).1 (inl (subst (λ (x : Image). Contains beliefs (Kept x)) (sym same) (at_contains beliefs slot (Kept i) there)))
+                (are.catalog j).1 (inl (subst (λ (x : Image). Contains beliefs (Kept x)) (sym same) (contains_at beliefs slot (Kept i) there)))
             | inr e ↦ (are.catalog j).1 (inr (elsewhere_in beliefs slot (Closing j) e))
           ]
         ],
@@ -266,7 +254,7 @@ closed s pending beliefs slot i new sound are there lacks = record {
     retires = record {
       needed = λ j n.
           let kept = are.needed j n in
-          let place = contains_at beliefs (Kept j) kept in
+          let place = place_in beliefs (Kept j) kept in
           (lacks j).1 ((are.catalog j).1 (inl kept), λ same. other j same place.0 place.1);
       within = λ j c. ((lacks j).0 c).0;
     }
@@ -282,7 +270,7 @@ nowhere : (beliefs : List Belief) (slot : ℕ) (i : Image) (was x : Belief)
     → ((a b : ℕ) (j k : Image) → image_at beliefs a ≡ Some j → image_at beliefs b ≡ Some k → j.header.serial ≡ k.header.serial → a ≡ b)
     → slice_get beliefs slot ≡ Some was → image_in was ≡ Some i → (x ≡ was → ⊥) → image_in x ≡ Some i → Contains beliefs x → ⊥
 nowhere beliefs slot i was x apart there mine other its c =
-    let k = contains_at beliefs x c in
+    let k = place_in beliefs x c in
     let same = apart k.0 slot i i (ap (option_and_then image_in) k.1 ∙ its) (ap (option_and_then image_in) there ∙ mine) refl in
     other (same_Some x was (sym k.1 ∙ ap (slice_get beliefs) same ∙ there))
 

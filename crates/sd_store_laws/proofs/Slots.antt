@@ -7,12 +7,12 @@ use Rattle.std.proofs.lemmas.List.Elements.{Contains-append_left}
 use Rattle.sd_areas.specs.PlainMemory.{PlainMemory}
 use Rattle.sd_image.specs.Image.{Image, IsImage, OpenImages, is_open}
 use Rattle.sd_image.specs.Shows.{Shows, ImagesShow}
+use Rattle.sd_image.proofs.Members.{contains_cases, contains_front, contains_later, contains_none}
 use Rattle.sd_store_laws.specs.Cut.{IsHarmless, IsPending}
 use Rattle.sd_store_laws.specs.Store.{IsMerged, IsNextDump, IsSound, Store, jobs}
 use Rattle.sd_store_laws.specs.Beliefs.{AreSlotsOf, Belief, Closed, Kept, Closing, Opening, ContentsShow, FitsBelief, IsAdded, IsLeft, LeftImagesShow, image_in, image_at}
 use Rattle.sd_store_laws.proofs.Cuts.{cut_shows_the_same_lem, cut_shows_last_or_pending_lem}
 use Rattle.sd_store_laws.proofs.Harmless.{dump_is_pending_lem, pre_dump_is_harmless_lem, twin_is_harmless_lem}
-use Rattle.sd_store_laws.proofs.Members.{contains_cases, contains_front, contains_later, contains_none}
 
 -- ---- sets of images
 

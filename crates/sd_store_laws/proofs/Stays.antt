@@ -4,6 +4,7 @@ use Rattle.std.specs.Prelude.{◌↔◌}
 use Rattle.std.proofs.lemmas.List.Elements.{Contains-append_cases, Contains-append_left, Contains-append_right}
 use Rattle.sd_image.specs.Image.{Image}
 use Rattle.sd_image.specs.Shows.{Holds, IsRestorable, IsTip}
+use Rattle.sd_image.proofs.Members.{contains_cases, contains_front, contains_none}
 use Rattle.sd_store_laws.specs.Needed.{IsCalled, by_job, by_parent}
 use Rattle.sd_store_laws.specs.Reached.{itself, beyond}
 use Rattle.sd_store_laws.specs.Cut.{KeepsItsNumber, Repeats}
@@ -13,7 +14,6 @@ use Rattle.sd_store_laws.specs.Stays.{DumpStays, FreshStays, SourceReachesNeeded
 use Rattle.sd_store_laws.proofs.Cuts.{cut_holds_the_same_lem, needed_in}
 use Rattle.sd_store_laws.proofs.Harmless.{unused_is_uncalled_lem}
 use Rattle.sd_store_laws.proofs.Walks.{reaches_called}
-use Rattle.sd_store_laws.proofs.Members.{contains_cases, contains_front, contains_none}
 
 -- ---- what holds of each image of a catalog, and of one more
 

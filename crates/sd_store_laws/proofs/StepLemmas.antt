@@ -6,12 +6,12 @@ use Rattle.sd_image.specs.Image.{Image}
 use Rattle.sd_image.specs.Shows.{IsNamed, IsNotAfter, IsRestorable, IsTip}
 use Rattle.sd_store_laws.specs.Needed.{IsCalled, by_tip, by_job, by_parent}
 use Rattle.sd_image.specs.Laws.{SerialsDiffer}
+use Rattle.sd_image.proofs.Members.{contains_cases, contains_front, contains_none}
 use Rattle.sd_store_laws.specs.Harmless.{IsSource}
 use Rattle.sd_store_laws.specs.Store.{IsMerged, IsNextDump, IsNextPreDump, IsSound, IsTwin, Store, jobs}
 use Rattle.sd_store_laws.specs.Steps.{Adds, Retires, StepsKeep, added, begun, cancelled, committed, merging, opened, replaced, retired}
 use Rattle.sd_store_laws.proofs.Choose.{one_named, one_tip, some_named, some_tip, tip_is}
 use Rattle.sd_store_laws.proofs.Growth.{called_all, falls_more, fewer_named, fewer_tip, more_named, more_tip, new_named, new_tip, serials_more}
-use Rattle.sd_store_laws.proofs.Members.{contains_cases, contains_front, contains_none}
 
 -- ---- called numbers
 

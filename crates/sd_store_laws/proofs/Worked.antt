@@ -13,12 +13,12 @@ use Rattle.sd_image.specs.Shows.{Holds, by_data, by_parent, IsNamed, IsNotAfter,
 use Rattle.sd_store_laws.specs.Reached.{Reaches, itself, beyond}
 use Rattle.sd_store_laws.specs.Needed.{by_job}
 use Rattle.sd_image.specs.Laws.{SerialsDiffer}
+use Rattle.sd_image.proofs.Members.{contains_cases, contains_front, contains_later, contains_none}
 use Rattle.sd_store_laws.specs.Cut.{HoldsAlike, Repeats}
 use Rattle.sd_store_laws.specs.Store.{IsSound}
 use Rattle.sd_store_laws.specs.Steps.{begun, opened}
 use Rattle.sd_store_laws.specs.Worked.{ChainRows, WhyItGrows, found, memory_of, merged, one_page, unchanged, whole, file_of}
 use Rattle.sd_store_laws.proofs.Choose.{one_named}
-use Rattle.sd_store_laws.proofs.Members.{contains_cases, contains_front, contains_later, contains_none}
 use Rattle.sd_store_laws.proofs.OnePage.{page_memory}
 use Rattle.sd_store_laws.proofs.StepLemmas.{steps_keep_lem}
 

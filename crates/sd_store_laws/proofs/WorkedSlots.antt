@@ -3,6 +3,7 @@ use Rattle.std.proofs.Common.{◌≡◌, ◌≢◌, ◌⊎◌, ◌<◌, ℕ, zer
 use Rattle.std.proofs.lemmas.Option.{same_Some, none-some}
 use Rattle.sd_image.specs.Image.{Image}
 use Rattle.sd_image.specs.Shows.{IsNamed, IsNotAfter, IsRestorable, IsTip}
+use Rattle.sd_image.proofs.Members.{contains_cases, contains_front, contains_later, contains_none}
 use Rattle.sd_store_laws.specs.Needed.{IsCalled}
 use Rattle.sd_store_laws.specs.Store.{IsFresh, IsNextDump, IsSound, IsTwin, jobs}
 use Rattle.sd_store_laws.specs.Steps.{cancelled, committed}
@@ -12,7 +13,6 @@ use Rattle.sd_store_laws.specs.WorkedSlots.{DumpInDoubt, MergeBehindTip, PreDump
 use Rattle.sd_store_laws.proofs.Busy.{a_tip, busy_are_slots, busy_sound, last, next, restores, saved_sound, second_dump, started, twin}
 use Rattle.sd_store_laws.proofs.Cuts.{needed_in}
 use Rattle.sd_store_laws.proofs.Growth.{called_all}
-use Rattle.sd_store_laws.proofs.Members.{contains_cases, contains_front, contains_later, contains_none}
 use Rattle.sd_store_laws.proofs.Pending.{adds_front}
 use Rattle.sd_store_laws.proofs.Slots.{left_images_show_lem}
 use Rattle.sd_store_laws.proofs.SlotSteps.{slots_drop_lem, slots_follow_calls_lem, slots_follow_images_lem, slots_follow_jobs_lem}

@@ -1,6 +1,7 @@
 use Rattle.std.proofs.Common.{Some, Contains, refl, subst, arith}
 use Rattle.std.proofs.lemmas.Option.{same_Some, slice_get-get_or}
-use Rattle.sd_free_slots.proofs.MarkLemmas.{among_all, among_more, at_contains, contains_at, takes_its}
+use Rattle.sd_image.proofs.Members.{at_contains, contains_at}
+use Rattle.sd_free_slots.proofs.MarkLemmas.{among_all, among_more, takes_its}
 use Rattle.sd_free_slots.proofs.marks.take_all.Goals as goal
 
 pub loop-slot-preserved : goal.loop-slot-preserved

@@ -1,8 +1,9 @@
 use Rattle.std.proofs.Common.{◌+◌, Some, get_or, refl, ap, arith}
 use Rattle.std.proofs.lemmas.Option.{same_Some, slice_get-get_or}
+use Rattle.sd_image.proofs.Members.{at_contains, contains_at}
 use Rattle.sd_merge.specs.declared.retired.Retired.{Retired}
 use Rattle.sd_free_slots.specs.Taken.{IsListed}
-use Rattle.sd_free_slots.proofs.MarkLemmas.{among_all, among_more, at_contains, contains_at, takes_its}
+use Rattle.sd_free_slots.proofs.MarkLemmas.{among_all, among_more, takes_its}
 use Rattle.sd_free_slots.proofs.taken.take_listed.Goals as goal
 
 abbrev nothing : Retired

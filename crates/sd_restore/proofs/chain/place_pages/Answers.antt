@@ -5,13 +5,14 @@ use Rattle.std.proofs.lemmas.List.Folds.{flat_map-map}
 use Rattle.sd_image.specs.declared.header.Header.{Header}
 use Rattle.sd_image.specs.declared.table.SpaceTable.{SpaceTable}
 use Rattle.sd_image.specs.Table.{listing_of, IsTable}
+use Rattle.sd_image.proofs.Members.{contains_map}
 use Rattle.sd_chain.specs.Catalog.{Opened, images, place_of}
 use Rattle.sd_restore.specs.Faulty.{Names}
 use Rattle.sd_restore.specs.Mapped.{space_mapped, mapped_pages}
 use Rattle.sd_restore.specs.Placed.{MeetsBreak, ArePlaced, placed_pages}
-use Rattle.sd_restore.proofs.MappedLemmas.{contains_map, has_page, space_of}
+use Rattle.sd_restore.proofs.MappedLemmas.{has_page, space_of}
 use Rattle.sd_restore.proofs.PlacedLemmas.{part_breaks}
-use Rattle.sd_restore.proofs.TakeLemmas.{contains_at, taken_all, split_parts}
+use Rattle.sd_restore.proofs.TakeLemmas.{contains_index, taken_all, split_parts}
 use Rattle.sd_restore.proofs.chain.place_pages.Goals as goal
 
 pub place_space-requires-clause-maximal : goal.place_space-requires-clause-maximal
@@ -19,7 +20,7 @@ place_space-requires-clause-maximal c =
     let tip = c.args.tip.now in
     let table = All-contains (λ (i : Opened). IsTable i.header i.spaces) (images c.args.catalog.now) tip c.requires.images.tables c.requires.newest.member in
     let items : List SpaceTable = c.deref-space-items.result.now in
-    let here : Contains items c.space-item.result = contains_at items c.loop-space.space-index c.space-item.result c.loop-space-test.true c.space-item.is in
+    let here : Contains items c.space-item.result = contains_index items c.loop-space.space-index c.space-item.result c.loop-space-test.true c.space-item.is in
     let spaces : map listing_of items ≡ tip.spaces = ap (map listing_of) c.deref-space-items.ensures.value ∙ c.table.ensures in
     (space_of tip.header 0 tip.spaces (listing_of c.space-item.result) table.each (subst (λ xs. Contains xs (listing_of c.space-item.result)) spaces (contains_map listing_of items c.space-item.result here))).1.areas
 
@@ -28,7 +29,7 @@ place_space-requires-clause-listed c = λ page among absent.
     let tip = c.args.tip.now in
     let table = All-contains (λ (i : Opened). IsTable i.header i.spaces) (images c.args.catalog.now) tip c.requires.images.tables c.requires.newest.member in
     let items : List SpaceTable = c.deref-space-items.result.now in
-    let here : Contains items c.space-item.result = contains_at items c.loop-space.space-index c.space-item.result c.loop-space-test.true c.space-item.is in
+    let here : Contains items c.space-item.result = contains_index items c.loop-space.space-index c.space-item.result c.loop-space-test.true c.space-item.is in
     let spaces : map listing_of items ≡ tip.spaces = ap (map listing_of) c.deref-space-items.ensures.value ∙ c.table.ensures in
     let there : Contains tip.spaces (listing_of c.space-item.result) = subst (λ xs. Contains xs (listing_of c.space-item.result)) spaces (contains_map listing_of items c.space-item.result here) in
     let space = space_of tip.header 0 tip.spaces (listing_of c.space-item.result) table.each there in

@@ -8,7 +8,7 @@ use Rattle.sd_chain.specs.Chains.{IsChainOf}
 use Rattle.sd_restore.specs.Placed.{MeetsBreak, ArePlaced, placed_pages}
 use Rattle.sd_restore.proofs.MappedLemmas.{area_within}
 use Rattle.sd_restore.proofs.PlacedLemmas.{part_breaks}
-use Rattle.sd_restore.proofs.TakeLemmas.{contains_at, taken_parts, taken_all, split_parts, among_parts}
+use Rattle.sd_restore.proofs.TakeLemmas.{contains_index, taken_parts, taken_all, split_parts, among_parts}
 use Rattle.sd_restore.proofs.chain.place_space.Goals as goal
 
 pub place_area-requires-clause-within : goal.place_area-requires-clause-within
@@ -16,7 +16,7 @@ place_area-requires-clause-within c =
     let areas = c.args.space.now.areas.items in
     let less : c.loop-area.area-index < length areas = rw c.deref-area-items.ensures.value at c.loop-area-test.true in
     let is : c.area-item.result ≡ slice_index_or areas c.loop-area.area-index c.area-item.result = rw c.deref-area-items.ensures.value at c.area-item.is in
-    area_within None areas c.area-item.result c.requires.maximal (contains_at areas c.loop-area.area-index c.area-item.result less is)
+    area_within None areas c.area-item.result c.requires.maximal (contains_index areas c.loop-area.area-index c.area-item.result less is)
 
 pub place_area-requires-clause-listed : goal.place_area-requires-clause-listed
 place_area-requires-clause-listed c = λ page among.

@@ -9,7 +9,7 @@ use Rattle.sd_restore.specs.declared.placed_run.PlacedRun.{PlacedRun}
 use Rattle.sd_restore.specs.Placed.{PlacedPage, IsInSlots, IsWithin, pages_in, placed_pages, with_pages}
 use Rattle.sd_restore.proofs.CallLemmas.{none_failed}
 use Rattle.sd_restore.proofs.RunLemmas.{length-first, with_both}
-use Rattle.sd_restore.proofs.TakeLemmas.{contains_at, split_parts, taken_parts}
+use Rattle.sd_restore.proofs.TakeLemmas.{contains_index, split_parts, taken_parts}
 use Rattle.sd_restore.proofs.pages.read_pages.Goals as goal
 
 pub read_run-requires-clause-alive : goal.read_run-requires-clause-alive
@@ -17,20 +17,20 @@ read_run-requires-clause-alive g c =
     let runs : List PlacedRun = c.args.runs.now in
     let r = c.run-item.result in
     c.loop-run.invariant.spaces r.space
-    ∙ All-contains (λ (r : PlacedRun). IsTrue (finmap.contains_key (memory_of c.args.snapshot.now) r.space)) runs r c.requires.alive (contains_at runs c.loop-run.run-index r c.loop-run-test.true c.run-item.is)
+    ∙ All-contains (λ (r : PlacedRun). IsTrue (finmap.contains_key (memory_of c.args.snapshot.now) r.space)) runs r c.requires.alive (contains_index runs c.loop-run.run-index r c.loop-run-test.true c.run-item.is)
 
 pub read_run-requires-clause-slots : goal.read_run-requires-clause-slots
 read_run-requires-clause-slots g c =
     let runs : List PlacedRun = c.args.runs.now in
     let r = c.run-item.result in
     subst (λ (contents : List (List ℕ)). IsInSlots (length contents) r.there) (sym c.loop-run.invariant.reads.same)
-    (All-contains (λ (r : PlacedRun). IsInSlots (length (g.D.Disk.contents c.args.disk.now)) r.there) runs r c.requires.slots (contains_at runs c.loop-run.run-index r c.loop-run-test.true c.run-item.is))
+    (All-contains (λ (r : PlacedRun). IsInSlots (length (g.D.Disk.contents c.args.disk.now)) r.there) runs r c.requires.slots (contains_index runs c.loop-run.run-index r c.loop-run-test.true c.run-item.is))
 
 pub read_run-requires-clause-within : goal.read_run-requires-clause-within
 read_run-requires-clause-within g c =
     let runs : List PlacedRun = c.args.runs.now in
     let r = c.run-item.result in
-    All-contains IsWithin runs r c.requires.within (contains_at runs c.loop-run.run-index r c.loop-run-test.true c.run-item.is)
+    All-contains IsWithin runs r c.requires.within (contains_index runs c.loop-run.run-index r c.loop-run-test.true c.run-item.is)
 
 pub loop-run-preserved : goal.loop-run-preserved
 loop-run-preserved g c =

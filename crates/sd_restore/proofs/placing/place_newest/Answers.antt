@@ -4,12 +4,13 @@ use Rattle.std.specs.Prelude.{Contains}
 use Rattle.sd_image.specs.declared.table.SpaceTable.{SpaceTable}
 use Rattle.sd_image.specs.Shows.{Shows}
 use Rattle.sd_image.specs.Table.{IsTable, listing_of}
+use Rattle.sd_image.proofs.Members.{contains_map}
 use Rattle.sd_chain.specs.Catalog.{Opened, images}
 use Rattle.sd_chain.specs.Store.{FindsTip}
 use Rattle.sd_restore.specs.Placed.{IsLaidOut, memory_at, placed_pages}
 use Rattle.sd_restore.proofs.LaidLemmas.{laid_tip}
 use Rattle.sd_restore.proofs.RunLemmas.{runs_in_slots}
-use Rattle.sd_restore.proofs.MappedLemmas.{contains_map, space_of}
+use Rattle.sd_restore.proofs.MappedLemmas.{space_of}
 use Rattle.sd_restore.proofs.ShowLemmas.{pages_in_slots, shows_tip}
 use Rattle.sd_restore.proofs.placing.place_newest.Goals as goal
 
