@@ -6,7 +6,7 @@ ghost use Rattle.std.specs.Cmp.{partial_equiv_from_equiv};
 use std::marker::Model;
 
 /// A string of bytes that is never changed. Contracts see the list of its bytes.
-#[derive(Debug, Drop)]
+#[derive(Clone, Debug, Drop)]
 pub struct Bytes {
     bytes: Vec<u8>,
 }

@@ -2,7 +2,7 @@ use crate::bytes::Bytes;
 use sd_areas::{Prot, SpaceId};
 
 /// What is asked of a memory. Addresses, lengths and counts are in bytes.
-#[derive(Debug, PartialEq, Eq, Drop)]
+#[derive(Clone, Debug, PartialEq, Eq, Drop)]
 pub enum Command {
     /// Maps whole pages of zeros over the range, whatever was there (POSIX.1-2017 `mmap` with `MAP_FIXED`).
     Mmap {

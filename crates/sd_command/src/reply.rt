@@ -1,11 +1,15 @@
+ghost use Rattle.std.specs.Prelude.{◌≡◌, ℕ, List, IsErr, IfOk};
+ghost use Rattle.sd_command.specs.declared.reply.Reply.TheVariants as told;
+
 use crate::bytes::Bytes;
 use crate::refusal::Refusal;
 use sd_areas::SpaceId;
 use sd_pagetable::Segv;
+use std::alloc::AllocError;
 use std::fmt;
 
 /// The reply to a command, to an order or to a step of a worker. It is printed as a line of a script's output has it.
-#[derive(Debug, PartialEq, Eq, Drop)]
+#[derive(Clone, Debug, PartialEq, Eq, Drop)]
 pub enum Reply {
     /// The command was carried out.
     Done,
@@ -33,6 +37,20 @@ pub enum Reply {
     Reopened(Option<u64>),
     /// Refused; nothing changed but what the refusal itself names.
     Refused(Refusal),
+}
+
+impl Reply {
+    /// A copy. Only that of what a load read takes memory.
+    ///
+    /// # Errors
+    ///
+    /// Out of memory where its bytes find no room.
+    pub fn try_clone(&self) -> Result<Reply, AllocError>
+        ensures copy { IfOk result (λ copy. copy ≡ self.now) }
+        ensures bytes { IsErr result → (bytes : List ℕ) × (self.now ≡ told.Bytes bytes) }
+    {
+        self.clone()
+    }
 }
 
 impl fmt::Display for Reply {

@@ -19,10 +19,10 @@ use Rattle.sd_core.proofs.SettledLemmas.{swept_answered}
 use Rattle.sd_core.proofs.WorkLemmas.{applied_numbers, applied_work}
 use Rattle.sd_core.proofs.state.Core.apply_owned.Goals as goal
 
-pub invariant_of-self-in_default-copy_reply : goal.invariant_of-self-in_default-copy_reply
-invariant_of-self-in_default-copy_reply c =
+pub invariant_of-self-in_default-try_clone : goal.invariant_of-self-in_default-try_clone
+invariant_of-self-in_default-try_clone c =
     let base : Base = base_of c.self.inside.base in
-    let bytes = c.in_default-copy_reply.ensures.bytes refl in
+    let bytes = c.in_default-try_clone.ensures.bytes refl in
     let same = bytes_pass c.is_some.result c.args.command c.in-Ok-answer.reply bytes.0 c.self.inside.memory c.answer.new.memory bytes.1 c.in-Ok-answer.ensures.answered in
     let before = c.reserve.ensures.grown.items in
     record {
@@ -43,9 +43,9 @@ invariant_of-self-in_default-copy_reply c =
       merging = c.self.invariant.merging;
     }
 
-pub returns-in_default-copy_reply : goal.returns-in_default-copy_reply
-returns-in_default-copy_reply c =
-    let bytes = c.in_default-copy_reply.ensures.bytes refl in
+pub returns-in_default-try_clone : goal.returns-in_default-try_clone
+returns-in_default-try_clone c =
+    let bytes = c.in_default-try_clone.ensures.bytes refl in
     let same = bytes_pass c.is_some.result c.args.command c.in-Ok-answer.reply bytes.0 c.self.inside.memory c.answer.new.memory bytes.1 c.in-Ok-answer.ensures.answered in
     record {
       applies = search rules;
