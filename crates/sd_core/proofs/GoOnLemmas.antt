@@ -13,7 +13,8 @@ use Rattle.sd_rounds.specs.Dumper.{Running, out_of_image, out_of_running, writes
 use Rattle.sd_rounds.specs.Making.{Making, out_of}
 use Rattle.sd_rounds.specs.Waits.{dumper_must_wait, image_must_wait, is_over}
 use Rattle.sd_opener.specs.Looking.{Looking}
-use Rattle.sd_rounds.specs.Writes.{are_all_out, is_any_out, no_writes}
+use Rattle.sd_gate.specs.Lanes.{is_any_out}
+use Rattle.sd_rounds.specs.Writes.{are_all_out, no_writes}
 use Rattle.sd_crash_safety.specs.View.{CoreView}
 use Rattle.sd_core.specs.Beginning.{first_of}
 use Rattle.sd_core.specs.GoingOn.{AreOwnLanes, CanGoOn, HasNoneOut, OpenerAsksAlone}

@@ -11,7 +11,8 @@ use Rattle.sd_rounds.specs.Making.{Making, out_of, is_passing}
 use Rattle.sd_rounds.specs.declared.stage.Stage.{Stage}
 use Rattle.sd_rounds.specs.declared.stage.Stage.TheVariants.{Format, Freeze, Pass as PassStage, Close}
 use Rattle.sd_rounds.specs.Pass.{data_pages}
-use Rattle.sd_rounds.specs.Writes.{IsPageWrite, is_any_out, no_writes}
+use Rattle.sd_gate.specs.Lanes.{is_any_out}
+use Rattle.sd_rounds.specs.Writes.{IsPageWrite, no_writes}
 use Rattle.sd_crash_safety.specs.Calls.{AreOtherPages}
 use Rattle.sd_crash_safety.specs.declared.standing.Standing.TheVariants.{NotOpen, Open}
 use Rattle.sd_crash_safety.specs.OpenerSteps.{nobody}

@@ -10,7 +10,7 @@ use Rattle.sd_journal.specs.History.{pending}
 use Rattle.sd_pagetable.specs.Contents.{plain_of}
 use Rattle.sd_rounds.specs.Dumper.{Running}
 use Rattle.sd_rounds.specs.Waits.{dumper_must_wait}
-use Rattle.sd_rounds.specs.Writes.{is_any_out}
+use Rattle.sd_gate.specs.Lanes.{is_any_out}
 use Rattle.sd_crash_safety.specs.declared.standing.Standing.TheVariants as standing
 use Rattle.sd_crash_safety.specs.OpenerSteps.{nobody}
 use Rattle.sd_crash_safety.specs.View.{CoreView, history_of, index}

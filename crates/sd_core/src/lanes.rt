@@ -1,10 +1,9 @@
 //! The requests that are out, each in a lane of its own: those of the three workers, and the writes of data pages.
-ghost use Rattle.std.specs.Prelude.{◌≡◌, ◌<◌, ◌↔◌, None, Some, IfSome, IsTrue, MatchOption, slice_get, slice_set};
-ghost use Rattle.sd_rounds.specs.Writes.{IsInLane, is_any_out};
+ghost use Rattle.std.specs.Prelude.{◌≡◌, ◌<◌, ◌↔◌, None, Some, IsTrue, slice_get, slice_set};
 ghost use Rattle.sd_crash_safety.specs.View.{index, page_lane};
 ghost use Rattle.sd_core.specs.Refusals.{are_resting, is_page_out, is_resting};
 
-use sd_gate::{RequestId, Worker};
+use sd_gate::{RequestId, Worker, is_any_out};
 
 /// How many requests may be out at once: one of each worker, and the writes of data pages.
 pub const LANES: usize = 3 + sd_rounds::LANES;
@@ -45,27 +44,6 @@ pub(crate) fn put_out(outs: &mut [Option<RequestId>; LANES], lane: usize, id: Op
     outs[lane] = id;
 }
 
-/// Whether this is the request that is out.
-fn is_this(out: &Option<RequestId>, id: &RequestId) -> bool
-    ensures { IsTrue result ↔ out.now ≡ Some id.now }
-{
-    *out == Some(*id)
-}
-
-/// The lane in which the request with this id is out.
-pub(crate) fn lane_of(outs: &[Option<RequestId>; LANES], id: &RequestId) -> Option<usize>
-    ensures found { MatchOption result (IsInLane outs.now id.now → ⊥)
-        (λ lane. slice_get outs.now lane ≡ Some (Some id.now)) }
-    ensures within { IfSome result (λ lane. lane < 11) }
-{
-    for (lane, out) in outs.iter().enumerate() {
-        if is_this(out, id) {
-            return Some(lane);
-        }
-    }
-    None
-}
-
 /// Whether a worker has no request out, but for writes of data pages.
 pub(crate) fn is_resting(outs: &[Option<RequestId>; LANES], worker: Worker) -> bool
     ensures none { IsTrue result ↔ slice_get outs.now (index worker) ≡ Some None }
@@ -79,13 +57,6 @@ pub(crate) fn is_page_out(outs: &[Option<RequestId>; LANES]) -> bool
     ensures { result ≡ is_page_out outs.now }
 {
     outs.iter().skip(3).any(|out| out.is_some())
-}
-
-/// Whether a request is out in some lane.
-fn is_any_out(outs: &[Option<RequestId>; LANES]) -> bool
-    ensures { result ≡ is_any_out outs.now }
-{
-    outs.iter().any(|out| out.is_some())
 }
 
 /// Whether no request is out.

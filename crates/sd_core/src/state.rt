@@ -14,7 +14,7 @@ ghost use Rattle.sd_core.specs.Starts.{IsStart, nothing_asked, shown_base};
 ghost use Rattle.sd_core.specs.Working.{left_by};
 
 use crate::base::CoreBase;
-use crate::lanes::{LANES, lane_of};
+use crate::lanes::LANES;
 use crate::numbers::Numbers;
 use crate::opening::left_of_opener;
 use crate::start::Start;
@@ -23,7 +23,7 @@ use sd_chain::Catalog;
 use sd_command::{Refusal, Reply};
 use sd_crash_safety::{Standing, core_steps, found_law};
 use sd_free_slots::ListRoom;
-use sd_gate::{Outcome, Phase, RequestId, Worker};
+use sd_gate::{Outcome, Phase, RequestId, Worker, lane_of};
 use sd_journal::{Journal, Origin};
 use sd_merge::Merger;
 use sd_opener::Opener;

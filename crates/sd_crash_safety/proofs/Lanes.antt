@@ -12,7 +12,8 @@ use Rattle.sd_gate.specs.Plans.{Planned}
 use Rattle.sd_rounds.specs.declared.stage.Stage.{Stage}
 use Rattle.sd_rounds.specs.declared.stage.Stage.TheVariants.{Format, Freeze, Pass as PassStage, Close}
 use Rattle.sd_rounds.specs.Making.{is_passing, plan_of}
-use Rattle.sd_rounds.specs.Writes.{is_any_out, no_writes}
+use Rattle.sd_gate.specs.Lanes.{is_any_out}
+use Rattle.sd_rounds.specs.Writes.{no_writes}
 use Rattle.sd_crash_safety.specs.InUse.{ArePagesOf, IsPageOf, body_written, ids_of, lanes_of}
 use Rattle.sd_crash_safety.specs.View.{page_lane}
 

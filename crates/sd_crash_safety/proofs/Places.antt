@@ -8,7 +8,7 @@ use Rattle.sd_gate.specs.Requests.{Asked}
 use Rattle.sd_image.specs.Image.{Image}
 use Rattle.sd_store_laws.specs.Steps.{Adds}
 use Rattle.sd_crash_safety.specs.Calls.{NoneOut}
-use Rattle.sd_rounds.specs.Writes.{is_any_out}
+use Rattle.sd_gate.specs.Lanes.{is_any_out}
 use Rattle.sd_crash_safety.specs.InUse.{id_of, ids_of}
 use Rattle.sd_crash_safety.specs.OpenerSteps.{nobody}
 use Rattle.std.specs.Option.{option_map}

@@ -1,6 +1,7 @@
 pub mod Calls
 pub mod Fits
 pub mod Inspections
+pub mod Lanes
 pub mod Laws
 pub mod Phases
 pub mod Looks

@@ -9,6 +9,7 @@ mod found;
 mod inspection;
 mod inspection_stage;
 mod job;
+mod lanes;
 mod laws;
 mod layout;
 mod order;
@@ -27,6 +28,7 @@ pub use answer::Answer;
 pub use call::Call;
 pub use device_call::perform;
 pub use found::Found;
+pub use lanes::{is_any_out, lane_of};
 pub use laws::{
     all_found_fit, bodies_fill, cuts_fit, found_fits, given_up_fits, image_whole_or_closed,
     inspection_finds, inspection_tells, plans_lead, plans_take, writes_commute,

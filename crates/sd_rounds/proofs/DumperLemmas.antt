@@ -23,8 +23,7 @@ use Rattle.std.specs.declared.alloc.AllocError.{AllocError}
 use Rattle.sd_rounds.specs.declared.stage.Stage.TheVariants.{Format, Freeze, Pass as PassStage, Close}
 use Rattle.sd_rounds.specs.Dumper.{AreRunning, AreCounted, Dumping, Hands, HandsTo, IsHanded, HasCounted, IsCounted, IsItsImage, IsRunning, Running, WorksOn, counted, ends, freezes, image_from, is_frozen_image, is_strange, order_of, running_of}
 use Rattle.sd_gate.specs.PlanUse.{outcomes_of}
-use Rattle.sd_rounds.specs.Making.{GoesOn, IsWritten, Making, Steps, closing, is_frozen, is_past_freeze, outcomes_left}
-use Rattle.sd_rounds.specs.Making.{plan_of, stage_after, stage_behind, with_plan}
+use Rattle.sd_rounds.specs.Making.{GoesOn, IsWritten, Making, Steps, closing, is_frozen, is_past_freeze, outcomes_left, plan_of, stage_after, stage_behind, with_plan}
 use Rattle.sd_rounds.specs.Pass.{data_pages}
 use Rattle.sd_rounds.specs.PlanSteps.{is_freeze, is_to_freeze}
 use Rattle.sd_rounds.specs.Writes.{writes_out}

@@ -25,8 +25,7 @@ use Rattle.sd_rounds.specs.declared.stage.Stage.TheVariants.{Format, Freeze, Pas
 use Rattle.sd_rounds.specs.declared.visit.Visit.{Visit}
 use Rattle.sd_rounds.specs.Dumper.{Dumping, Hands, HandsTo, IsHanded, Running, Works, WorksOn, ends, image_from, is_strange}
 use Rattle.sd_gate.specs.PlanUse.{plan_left}
-use Rattle.sd_rounds.specs.Left.{LeftLaws, image_left, left_of, making_left, next_left, pages_ahead, pass_left}
-use Rattle.sd_rounds.specs.Left.{running_left, stage_left, taking_left}
+use Rattle.sd_rounds.specs.Left.{LeftLaws, image_left, left_of, making_left, next_left, pages_ahead, pass_left, running_left, stage_left, taking_left}
 use Rattle.sd_rounds.specs.Making.{GoesOn, IsWritten, Making, Opens, Steps, closing, is_passing, plan_of, stage_after, stage_behind, with_plan}
 use Rattle.sd_rounds.specs.Pass.{Pass, begun_to_take, left_to_parent, opened, sector_of, visited}
 use Rattle.sd_rounds.specs.Rounds.{Copies, Tests}

@@ -14,7 +14,8 @@ use Rattle.sd_rounds.specs.Left.{pages_ahead}
 use Rattle.sd_rounds.specs.Making.{Making, out_of}
 use Rattle.sd_rounds.specs.Pass.{Pass, Place}
 use Rattle.sd_rounds.specs.Waits.{is_over, must_wait}
-use Rattle.sd_rounds.specs.Writes.{are_all_out, is_any_out, no_writes}
+use Rattle.sd_gate.specs.Lanes.{is_any_out}
+use Rattle.sd_rounds.specs.Writes.{are_all_out, no_writes}
 use Rattle.sd_rounds.proofs.AheadLemmas.{next_ahead, none_ahead}
 use Rattle.sd_rounds.proofs.WriteLemmas.{no_write}
 

@@ -8,7 +8,8 @@ use Rattle.sd_gate.specs.declared.call.Call.{Call}
 use Rattle.sd_gate.specs.declared.call.Call.TheVariants.{Write}
 use Rattle.sd_gate.specs.declared.request_id.RequestId.{RequestId}
 use Rattle.sd_gate.specs.Sequences.{data_place}
-use Rattle.sd_rounds.specs.Writes.{AreWrites, IsInLane, IsPageWrite, are_all_out, is_any_out, no_writes, writes_out}
+use Rattle.sd_gate.specs.Lanes.{IsInLane, is_any_out}
+use Rattle.sd_rounds.specs.Writes.{AreWrites, IsPageWrite, are_all_out, no_writes, writes_out}
 
 -- ---- a list with one element replaced
 

@@ -37,7 +37,8 @@ use Rattle.sd_rounds.specs.Made.{HasTheAreas, Lists}
 use Rattle.sd_rounds.specs.Pass.{Entry, Pass, data_pages, opened}
 use Rattle.sd_rounds.specs.Rises.{kind_at}
 use Rattle.sd_rounds.specs.Rounds.{Copies, TakesPage, Tests}
-use Rattle.sd_rounds.specs.Writes.{AreWrites, IsInLane, no_writes}
+use Rattle.sd_gate.specs.Lanes.{IsInLane}
+use Rattle.sd_rounds.specs.Writes.{AreWrites, no_writes}
 
 -- an image in the making: what is fixed of it, its pass, how far it is, the writes of its data pages that are out, and
 -- what was fed those that were taken

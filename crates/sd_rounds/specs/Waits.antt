@@ -5,7 +5,8 @@ use Rattle.sd_rounds.specs.Dumper.{Running}
 use Rattle.sd_rounds.specs.Left.{pages_ahead}
 use Rattle.sd_rounds.specs.Making.{Making, out_of}
 use Rattle.sd_rounds.specs.Pass.{Pass}
-use Rattle.sd_rounds.specs.Writes.{are_all_out, is_any_out}
+use Rattle.sd_gate.specs.Lanes.{is_any_out}
+use Rattle.sd_rounds.specs.Writes.{are_all_out}
 
 -- no page is mapped above the cursor, and none is being taken
 abbrev pub is_over : Pass → PlainMemory → Bool

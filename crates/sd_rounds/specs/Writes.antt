@@ -1,6 +1,6 @@
 -- The writes of data pages that are out, each in a lane of its own.
 use Rattle.std.specs.Prelude.{◌≡◌, ℕ, ◌<◌, Bool, List, [], ◌∷◌, length, Option, Some, None, is_some, slice_get}
-use Rattle.std.specs.List.{list_all, list_any, count_by}
+use Rattle.std.specs.List.{list_all, count_by}
 use Rattle.sd_gate.specs.declared.call.Call.TheVariants.{Write}
 use Rattle.sd_gate.specs.declared.request_id.RequestId.{RequestId}
 use Rattle.sd_gate.specs.declared.worker.Worker.TheVariants.{Dumper}
@@ -14,18 +14,9 @@ no_writes = None ∷ None ∷ None ∷ None ∷ None ∷ None ∷ None ∷ None 
 abbrev pub are_all_out : List (Option RequestId) → Bool
 are_all_out = list_all is_some
 
--- one is out in some lane
-abbrev pub is_any_out : List (Option RequestId) → Bool
-is_any_out = list_any is_some
-
 -- how many are out
 abbrev pub writes_out : List (Option RequestId) → ℕ
 writes_out = count_by is_some
-
--- the write with this id is out
-pub record IsInLane (writes : List (Option RequestId)) (id : RequestId) : Type 0 where
-  pub lane : ℕ
-  pub is : slice_get writes lane ≡ Some (Some id)
 
 -- the write of one of the first data pages of a slot
 pub record IsPageWrite (slot pages : ℕ) (id : RequestId) : Type 0 where

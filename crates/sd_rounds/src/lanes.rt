@@ -1,6 +1,6 @@
 //! The lanes of the writes of data pages that are out: each has one of its own.
-ghost use Rattle.std.specs.Prelude.{◌≡◌, ◌↔◌, ◌<◌, None, Some, true, IfSome, IsTrue, slice_get, MatchOption};
-ghost use Rattle.sd_rounds.specs.Writes.{IsInLane, are_all_out, is_any_out, writes_out};
+ghost use Rattle.std.specs.Prelude.{◌≡◌, ◌<◌, None, Some, true, IfSome, slice_get, MatchOption};
+ghost use Rattle.sd_rounds.specs.Writes.{are_all_out, writes_out};
 
 use sd_gate::RequestId;
 
@@ -19,34 +19,6 @@ pub(crate) fn free_lane(writes: &[Option<RequestId>; LANES]) -> Option<usize>
         }
     }
     None
-}
-
-/// Whether the write in a lane has this id.
-fn is_this(write: &Option<RequestId>, id: &RequestId) -> bool
-    ensures { IsTrue result ↔ write.now ≡ Some id.now }
-{
-    *write == Some(*id)
-}
-
-/// The lane in which the write with this id is out.
-pub(crate) fn lane_of(writes: &[Option<RequestId>; LANES], id: &RequestId) -> Option<usize>
-    ensures found { MatchOption result (IsInLane writes.now id.now → ⊥)
-        (λ lane. slice_get writes.now lane ≡ Some (Some id.now)) }
-    ensures within { IfSome result (λ lane. lane < 8) }
-{
-    for (lane, write) in writes.iter().enumerate() {
-        if is_this(write, id) {
-            return Some(lane);
-        }
-    }
-    None
-}
-
-/// Whether a write is out in some lane.
-pub(crate) fn is_any_out(writes: &[Option<RequestId>; LANES]) -> bool
-    ensures { result ≡ is_any_out writes.now }
-{
-    writes.iter().any(|write| write.is_some())
 }
 
 /// How many writes are out.

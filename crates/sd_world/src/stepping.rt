@@ -1,7 +1,7 @@
 //! What an event does to a core, a disk and what is kept.
 ghost use Rattle.std.specs.Prelude.{◌≡◌, ◌<◌, ℕ, List, Option, Some, length, slice_get};
 ghost use Rattle.sd_gate.specs.Requests.{Asked, Made};
-ghost use Rattle.sd_rounds.specs.Writes.{IsInLane};
+ghost use Rattle.sd_gate.specs.Lanes.{IsInLane};
 ghost use Rattle.sd_crash_safety.specs.Calls.{GoesOn};
 ghost use Rattle.sd_world.specs.Steps.{Does, HandsIn, HandsInIfAny, KeepsOutcome, KeepsRequest, Performs, TakesUp};
 ghost use Rattle.sd_world.specs.Steps.{Works, answer_of, reply_of};

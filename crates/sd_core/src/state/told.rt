@@ -6,7 +6,7 @@ ghost use Rattle.sd_chain.specs.Catalog.{Opened, place_of};
 ghost use Rattle.sd_journal.specs.History.{pending};
 ghost use Rattle.sd_journal.specs.Legal.{IsAbove};
 ghost use Rattle.sd_journal.specs.Marked.{IsTracked};
-ghost use Rattle.sd_rounds.specs.Writes.{IsInLane};
+ghost use Rattle.sd_gate.specs.Lanes.{IsInLane};
 ghost use Rattle.sd_crash_safety.specs.View.{history_of};
 ghost use Rattle.sd_core.specs.Beginning.{is_down};
 ghost use Rattle.sd_core.specs.GoingOn.{AreOwnLanes, CanGoOn, OpenerAsksAlone};
@@ -18,9 +18,9 @@ ghost use Rattle.sd_core.specs.Rounds.{HasFewOpen, LeavesPreDumps};
 
 use super::Core;
 use crate::beginning::is_down;
-use crate::lanes::{OPENER, lane_of};
+use crate::lanes::OPENER;
 use sd_areas::Snapshot;
-use sd_gate::RequestId;
+use sd_gate::{RequestId, lane_of};
 use sd_journal::Journal;
 use sd_pagetable::Memory;
 

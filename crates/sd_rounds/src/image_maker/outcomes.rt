@@ -9,12 +9,11 @@ ghost use Rattle.sd_rounds.specs.Writes.{no_writes};
 
 use super::{ImageMaker, behind_format};
 use crate::image_progress::ImageProgress;
-use crate::lanes::lane_of;
 use crate::new_image::NewImage;
 use crate::page_buffers::PageBuffers;
 use crate::stage::Stage;
 use sd_chain::PlacedTable;
-use sd_gate::{Outcome, Plan, RequestId, Settled, settle};
+use sd_gate::{Outcome, Plan, RequestId, Settled, lane_of, settle};
 use sd_image::Header;
 use std::mem;
 
