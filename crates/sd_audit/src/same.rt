@@ -2,8 +2,8 @@
 ghost use Rattle.std.specs.Prelude.{◌≡◌, ◌↔◌, IsTrue};
 ghost use Rattle.sd_areas.specs.Memory.{memory_of, page_of_snapshot, space_of};
 
-use crate::copying::Pages;
 use sd_areas::{Snapshot, SnapshotPage};
+use sd_journal::Pages;
 
 /// Whether two snapshots have the same spaces, pages, permissions and bytes.
 pub fn is_same_memory(one: &Snapshot, other: &Snapshot) -> bool

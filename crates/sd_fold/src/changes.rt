@@ -1,5 +1,5 @@
 //! What entries change of the pages of one space, kept beside the pages that are there.
-ghost use Rattle.std.specs.Prelude.{cond, nat_eq, ◌≡◌, ◌+◌, ◌-◌, ◌<◌, ◌≤◌, ◌^◌, ◌%◌, ℕ, Some, None, Option, length};
+ghost use Rattle.std.specs.Prelude.{cond, nat_eq, ◌≡◌, ◌+◌, ◌-◌, ◌<◌, ◌≤◌, ◌^◌, ℕ, Some, None, Option, length};
 ghost use Rattle.std.specs.Prelude.{OnOk, IfOk, IsSome, MatchOption};
 ghost use Rattle.std.specs.BTreeMap.{is_at};
 ghost use Rattle.std.specs.FinMap as finmap;
@@ -15,15 +15,13 @@ ghost use Rattle.sd_pagetable.specs.Nested.{change_within, remove_within, set_wi
 ghost use Rattle.sd_pagetable.specs.Page.{zeros};
 ghost use Rattle.sd_fold.specs.Overlay.{IsFilled, changes_of, pages_over};
 
-use crate::copying::{copy_of_found, copy_of_page, zero_page};
+use crate::copying::copy_of_found;
 use sd_areas::{PAGE_SIZE, PageNo, Prot, SnapshotPage};
+use sd_journal::{Pages, copy_of_page, zero_page};
 use std::alloc::{AllocError, Global};
 use std::collections::BTreeMap;
 use std::collections::btree_map::Range;
 use std::ops::Bound;
-
-/// The pages of a space by their numbers.
-pub(crate) type Pages = BTreeMap<PageNo, SnapshotPage>;
 
 /// The pages that were touched: with what they have now, or unmapped.
 pub(crate) type Changes = BTreeMap<PageNo, Option<SnapshotPage>>;

@@ -10,8 +10,9 @@ ghost use Rattle.sd_areas.specs.PlainMemory.{PlainMemory, Space};
 ghost use Rattle.sd_pagetable.specs.Nested.{inside, is_alive};
 ghost use Rattle.sd_fold.specs.Overlay.{memory_over, pages_over, with_space};
 
-use crate::changes::{Changes, Pages};
+use crate::changes::Changes;
 use sd_areas::{Snapshot, SpaceId};
+use sd_journal::Pages;
 use std::alloc::{AllocError, Global};
 use std::collections::BTreeMap;
 

@@ -14,7 +14,7 @@ ghost use Rattle.sd_journal.specs.History.{Base, memory_after};
 ghost use Rattle.sd_journal.specs.Legal.{IsLegal};
 
 use crate::entry::Entry;
-use crate::plain_pages::{Pages, copy_all, map_run, page_with, protect_run, store, unmap_run};
+use crate::plain_pages::{Pages, copy_of_pages, map_run, page_with, protect_run, store, unmap_run};
 use sd_areas::{PAGE_BYTES, PageNo, Prot, Snapshot, SpaceId};
 use sd_command::{Command, Reply};
 use std::alloc::{AllocError, Global};
@@ -130,7 +130,7 @@ fn copy_space(alloc: Global, memory: &Snapshot, space: SpaceId) -> Result<Pages,
     ensures { IfOk result (λ copy. space_of copy.entries ≡ inside (memory_of memory.now) space) }
 {
     match memory.spaces.get(&space) {
-        Some(pages) => copy_all(alloc, pages),
+        Some(pages) => copy_of_pages(alloc, pages),
         None => Ok(BTreeMap::new(alloc)),
     }
 }

@@ -17,7 +17,7 @@ use std::collections::BTreeMap;
 use std::ops::Bound;
 
 /// The pages of a space by their numbers.
-pub(crate) type Pages = BTreeMap<PageNo, SnapshotPage>;
+pub type Pages = BTreeMap<PageNo, SnapshotPage>;
 
 /// Puts a page, in place of what was there.
 fn put(pages: &mut Pages, page: PageNo, found: SnapshotPage) -> Result<(), AllocError>
@@ -60,7 +60,11 @@ pub(crate) fn page_with(pages: &Pages, number: u64) -> Option<PageNo>
 }
 
 /// A page of zeros.
-fn zero_page(alloc: Global, prot: Prot) -> Result<SnapshotPage, AllocError>
+///
+/// # Errors
+///
+/// Out of memory where it finds no room.
+pub fn zero_page(alloc: Global, prot: Prot) -> Result<SnapshotPage, AllocError>
     ensures { IfOk result (λ page. page_of_snapshot page ≡ record { prot = prot; bytes = zeros }) }
 {
     let bytes = Box::new(alloc, [0; PAGE_SIZE])?;
@@ -68,7 +72,11 @@ fn zero_page(alloc: Global, prot: Prot) -> Result<SnapshotPage, AllocError>
 }
 
 /// A copy of a page.
-fn copy_of(alloc: Global, page: &SnapshotPage) -> Result<SnapshotPage, AllocError>
+///
+/// # Errors
+///
+/// Out of memory where it finds no room.
+pub fn copy_of_page(alloc: Global, page: &SnapshotPage) -> Result<SnapshotPage, AllocError>
     ensures { IfOk result (λ copy. page_of_snapshot copy ≡ page_of_snapshot page.now) }
 {
     let bytes = Box::new(alloc, *page.bytes)?;
@@ -177,13 +185,17 @@ fn write(page: &mut [u8; PAGE_SIZE], offset: usize, bytes: &[u8])
     page[offset..offset + bytes.len()].copy_from_slice(bytes);
 }
 
-/// A copy of all pages.
-pub(crate) fn copy_all(alloc: Global, pages: &Pages) -> Result<Pages, AllocError>
+/// A copy of the pages of a space.
+///
+/// # Errors
+///
+/// Out of memory where one of them, or their map, finds no room.
+pub fn copy_of_pages(alloc: Global, pages: &Pages) -> Result<Pages, AllocError>
     ensures { IfOk result (λ copy. space_of copy.entries ≡ space_of pages.now.entries) }
 {
     let mut copy = BTreeMap::new(alloc);
     for (page, found) in pages {
-        put(&mut copy, *page, copy_of(alloc, found)?)?;
+        put(&mut copy, *page, copy_of_page(alloc, found)?)?;
     }
     Ok(copy)
 }
