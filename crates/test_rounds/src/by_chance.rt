@@ -2,10 +2,11 @@
 ghost use Rattle.std.specs.Prelude.{◌≤◌};
 
 use crate::calls::call_by_chance;
-use crate::chance::Chance;
+use crate::chance::below;
 use crate::drive::Drive;
 use crate::moment::Moment;
 use crate::stop::Stop;
+use rand_pcg::Pcg32;
 use sd_pagetable::Memory;
 use std::alloc::Global;
 
@@ -31,27 +32,27 @@ fn slots(alloc: Global, first: usize, end: usize) -> Result<Vec<usize>, Stop> {
 }
 
 /// Begins a checkpoint of no to three rounds. Those of a chain have slots of their own.
-fn begin(alloc: Global, drive: &mut Drive, chance: &mut Chance, number: u64) -> Result<(), Stop>
+fn begin(alloc: Global, drive: &mut Drive, chance: &mut Pcg32, number: u64) -> Result<(), Stop>
     requires { 1 ≤ number }
 {
     let place = (number - 1) % CHAIN;
     let first = (place * IMAGES) as usize;
-    let dump = first + chance.below(IMAGES) as usize;
+    let dump = first + below(chance, IMAGES) as usize;
     let rounds = slots(alloc, first, dump)?;
     let parent = if place == 0 { 0 } else { drive.serials() };
     drive.begin(number, rounds, dump, parent)
 }
 
 /// Makes no, one or two calls on a memory.
-fn call_some(memory: &mut Memory, chance: &mut Chance) -> Result<(), Stop> {
-    for _ in 0..chance.below(3) {
+fn call_some(memory: &mut Memory, chance: &mut Pcg32) -> Result<(), Stop> {
+    for _ in 0..below(chance, 3) {
         call_by_chance(memory, chance)?;
     }
     Ok(())
 }
 
 /// Makes the steps up to the freeze, with some calls before each.
-fn up_to_freeze(drive: &mut Drive, chance: &mut Chance) -> Result<(), Stop> {
+fn up_to_freeze(drive: &mut Drive, chance: &mut Pcg32) -> Result<(), Stop> {
     for _ in 0..MOST {
         call_some(&mut drive.memory, chance)?;
         if drive.step()? {
@@ -68,7 +69,7 @@ fn up_to_freeze(drive: &mut Drive, chance: &mut Chance) -> Result<(), Stop> {
 fn checkpoint(
     alloc: Global,
     drive: &mut Drive,
-    chance: &mut Chance,
+    chance: &mut Pcg32,
     number: u64,
 ) -> Result<bool, Stop>
     requires { 1 ≤ number }
@@ -84,7 +85,7 @@ fn checkpoint(
 /// Makes checkpoints by chance, up to the first that isn't restored. Returns whether there is none.
 pub(crate) fn checkpoints(alloc: Global, drive: &mut Drive, seed: u64) -> Result<bool, Stop> {
     drive.map(1)?;
-    let mut chance = Chance::new(seed);
+    let mut chance = Pcg32::new(seed, 0);
     for number in 1..=CHECKPOINTS {
         if !checkpoint(alloc, drive, &mut chance, number)? {
             return Ok(false);

@@ -1,6 +1,7 @@
 //! Calls on a memory by chance, over three pages of two spaces.
-use crate::chance::Chance;
+use crate::chance::below;
 use crate::drive::{FIRST, PAGE, PROT};
+use rand_pcg::Pcg32;
 use sd_areas::{Prot, SpaceId};
 use sd_pagetable::{Memory, MemoryError};
 
@@ -8,27 +9,27 @@ use sd_pagetable::{Memory, MemoryError};
 const PAGES: u64 = 3;
 
 /// Permissions by chance: in most cases those to read and to write.
-fn prot_by_chance(chance: &mut Chance) -> Prot {
-    let bits = chance.below(32) as u8;
+fn prot_by_chance(chance: &mut Pcg32) -> Prot {
+    let bits = below(chance, 32) as u8;
     Prot::from_bits(bits).unwrap_or(PROT)
 }
 
 /// An address by chance, where a sector begins.
-fn address_by_chance(chance: &mut Chance) -> u64 {
-    let page = FIRST + chance.below(PAGES) * PAGE;
-    page + chance.below(8) * 512
+fn address_by_chance(chance: &mut Pcg32) -> u64 {
+    let page = FIRST + below(chance, PAGES) * PAGE;
+    page + below(chance, 8) * 512
 }
 
 /// Makes a call on a range of pages: maps, unmaps or protects it.
 fn call_on_range(
     memory: &mut Memory,
     space: SpaceId,
-    chance: &mut Chance,
+    chance: &mut Pcg32,
 ) -> Result<(), MemoryError> {
-    let first = chance.below(PAGES);
+    let first = below(chance, PAGES);
     let address = FIRST + first * PAGE;
-    let bytes = (1 + chance.below(PAGES - first)) * PAGE;
-    match chance.below(3) {
+    let bytes = (1 + below(chance, PAGES - first)) * PAGE;
+    match below(chance, 3) {
         0 => memory.mmap(space, address, bytes, prot_by_chance(chance)),
         1 => memory.munmap(space, address, bytes),
         _ => memory.mprotect(space, address, bytes, prot_by_chance(chance)),
@@ -46,11 +47,11 @@ fn call_on_space(memory: &mut Memory, space: SpaceId) -> Result<(), MemoryError>
 }
 
 /// Makes a call by chance. It may be refused.
-fn call(memory: &mut Memory, chance: &mut Chance) -> Result<(), MemoryError> {
-    let space = SpaceId::new(1 + chance.below(2));
+fn call(memory: &mut Memory, chance: &mut Pcg32) -> Result<(), MemoryError> {
+    let space = SpaceId::new(1 + below(chance, 2));
     let address = address_by_chance(chance);
-    let byte = chance.below(3) as u8;
-    match chance.below(16) {
+    let byte = below(chance, 3) as u8;
+    match below(chance, 16) {
         0..=3 => call_on_range(memory, space, chance),
         4 => call_on_space(memory, space),
         5 => memory.fault(space, address),
@@ -67,7 +68,7 @@ fn call(memory: &mut Memory, chance: &mut Chance) -> Result<(), MemoryError> {
 /// # Errors
 ///
 /// Out of memory where a growth was refused.
-pub(crate) fn call_by_chance(memory: &mut Memory, chance: &mut Chance) -> Result<(), MemoryError> {
+pub(crate) fn call_by_chance(memory: &mut Memory, chance: &mut Pcg32) -> Result<(), MemoryError> {
     match call(memory, chance) {
         Err(MemoryError::OutOfMemory) => Err(MemoryError::OutOfMemory),
         Ok(()) | Err(MemoryError::Denied(_)) => Ok(()),
