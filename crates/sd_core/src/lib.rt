@@ -5,6 +5,7 @@
 mod answering;
 mod base;
 mod beginning;
+mod copies;
 mod dumping;
 mod lanes;
 mod merging;
