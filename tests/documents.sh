@@ -7,6 +7,7 @@ made_by() {  # made_by TOOL
 
 pictures_of_crates_are_up_to_date() { made_by crates; }
 words_are_up_to_date() { made_by words; }
+lines_are_short() { made_by wrap; }
 calls_are_up_to_date() { made_by api; }
 
 # Each file of the repository that a document names in backticks or by a link is there: in its crate, in the repository, or
@@ -48,6 +49,7 @@ each_crate_is_named() {
 
 try pictures_of_crates_are_up_to_date
 try words_are_up_to_date
+try lines_are_short
 try calls_are_up_to_date
 try documents_name_files_that_are_there
 try each_crate_is_named
